@@ -1,0 +1,4 @@
+pub mod Bitmap
+pub mod BitmapFlags
+pub mod LevelFalls
+pub mod Numbers
