@@ -1,0 +1,1 @@
+-- The list is its items: contracts speak of it as a `List`, with no word of its own.
