@@ -1,0 +1,65 @@
+-- The fields of an entry, as the code computes them.
+use Rattle.std.proofs.Common.{◌≡◌, ℕ, ◌+◌, ◌-◌, ◌*◌, ◌/◌, ◌%◌, ◌^◌, ◌<◌, Bool, true, false, not, eqb, nat_eq, ap, ◌∙◌, cond, arith}
+use Rattle.std.specs.Prelude.{bit_and, bit_or}
+use Rattle.std.proofs.lemmas.Nat.Bits.{and_pow, and_high}
+use Rattle.std.proofs.lemmas.Nat.{or_shifted, and_block, and_mask}
+use Rattle.std.proofs.lemmas.Bool.Decides.{nat_tests}
+use Rattle.paging_core.specs.Entry.{has_bit, frame_of, table_entry, page_entry}
+use Rattle.paging_core.specs.declared.page_table.Rights.{Rights}
+
+bit_test : (b p : ℕ) → b < 2 → 0 < p → not (nat_eq (b * p) 0) ≡ eqb b 1
+bit_test b p lt pos = grind (arith, nat_tests)
+
+-- the test `e & (1 << k) != 0`
+pub and_bit : (e k : ℕ) → 0 < 2 ^ k → not (nat_eq (bit_and e (2 ^ k)) 0) ≡ has_bit e k
+and_bit e k pos = rw (and_pow e k) (bit_test (e / 2 ^ k % 2) (2 ^ k) (omega arith) pos)
+
+-- `e & ADDRESS`
+pub and_address : (e : ℕ) → bit_and e 0xffffffffff000 / 4096 ≡ frame_of e
+and_address e = let h : bit_and e 0xffffffffff000 ≡ (e / 2 ^ 12 % 2 ^ 40) * 2 ^ 12 = and_high e 40 12 in rw h (omega arith)
+
+-- `n << 12 | low`
+low_word : (n low : ℕ) → n < 2 ^ 40 → low < 2 ^ 12 → bit_or (n * 4096 % 2 ^ 64) low ≡ n * 2 ^ 12 + low
+low_word n low lt small = let e : n * 4096 % 2 ^ 64 ≡ n * 2 ^ 12 = omega arith in rw e (or_shifted n 12 low small)
+
+pub table_word : (n : ℕ) → n < 2 ^ 40 → bit_or (n * 4096 % 2 ^ 64) 7 ≡ table_entry n
+table_word n lt = low_word n 7 lt (omega arith)
+
+-- with bit 63 set where it is to be
+with_high : (never : Bool) (x : ℕ) → x < 2 ^ 63 → bit_or (cond never 0x8000000000000000 0) x ≡ x + cond never (2 ^ 63) 0
+with_high true x lt = let h : bit_or (1 * 2 ^ 63) x ≡ 1 * 2 ^ 63 + x = or_shifted 1 63 x lt in h ∙ omega arith
+with_high false x lt = let h : bit_or (0 * 2 ^ 63) x ≡ 0 * 2 ^ 63 + x = or_shifted 0 63 x lt in h ∙ omega arith
+
+-- the word that the code makes
+abbrev made_word : ℕ → Bool → Bool → Bool → ℕ
+made_word n write user fetch = bit_or (cond (not fetch) 0x8000000000000000 0)
+    (bit_or (n * 4096 % 2 ^ 64) (bit_or (bit_or 1 (cond write 2 0)) (cond user 4 0)))
+
+made_low : (n low x : ℕ) (never : Bool) → n < 2 ^ 40 → low < 2 ^ 12 → x ≡ n * 2 ^ 12 + low →
+    bit_or (cond never 0x8000000000000000 0) (bit_or (n * 4096 % 2 ^ 64) low) ≡ x + cond never (2 ^ 63) 0
+made_low n low x never lt small e =
+    rw (low_word n low lt small, e) (with_high never (n * 2 ^ 12 + low) (omega arith))
+
+pub page_word : (n : ℕ) (rights : Rights) → n < 2 ^ 40 → made_word n rights.write rights.user rights.fetch ≡ page_entry n rights
+page_word n rights lt = go rights.write rights.user rights.fetch
+  where
+    go : (write user fetch : Bool) → made_word n write user fetch ≡ page_entry n (record { write = write; user = user; fetch = fetch })
+    go true true true = made_low n 7 (n * 2 ^ 12 + 1 + 2 + 4) false lt (omega arith) (omega arith)
+    go true true false = made_low n 7 (n * 2 ^ 12 + 1 + 2 + 4) true lt (omega arith) (omega arith)
+    go true false true = made_low n 3 (n * 2 ^ 12 + 1 + 2 + 0) false lt (omega arith) (omega arith)
+    go true false false = made_low n 3 (n * 2 ^ 12 + 1 + 2 + 0) true lt (omega arith) (omega arith)
+    go false true true = made_low n 5 (n * 2 ^ 12 + 1 + 0 + 4) false lt (omega arith) (omega arith)
+    go false true false = made_low n 5 (n * 2 ^ 12 + 1 + 0 + 4) true lt (omega arith) (omega arith)
+    go false false true = made_low n 1 (n * 2 ^ 12 + 1 + 0 + 0) false lt (omega arith) (omega arith)
+    go false false false = made_low n 1 (n * 2 ^ 12 + 1 + 0 + 0) true lt (omega arith) (omega arith)
+
+-- all but the address field
+pub and_flags : (e : ℕ) → e < 2 ^ 64 → bit_and e 0xfff0000000000fff ≡ e % 2 ^ 12 + e / 2 ^ 52 * 2 ^ 52
+and_flags e lt =
+    let split : e ≡ e / 2 ^ 52 * 2 ^ 52 + e % 2 ^ 52 = omega arith in
+    let b : bit_and (e / 2 ^ 52 * 2 ^ 52 + e % 2 ^ 52) ((2 ^ 12 - 1) * 2 ^ 52 + (2 ^ 12 - 1))
+    ≡ bit_and (e / 2 ^ 52) (2 ^ 12 - 1) * 2 ^ 52 + bit_and (e % 2 ^ 52) (2 ^ 12 - 1) =
+    and_block 52 (e / 2 ^ 52) (2 ^ 12 - 1) (e % 2 ^ 52) (2 ^ 12 - 1) (omega arith) (omega arith) in
+    let high : bit_and (e / 2 ^ 52) (2 ^ 12 - 1) ≡ e / 2 ^ 52 % 2 ^ 12 = and_mask (e / 2 ^ 52) 12 in
+    let low : bit_and (e % 2 ^ 52) (2 ^ 12 - 1) ≡ e % 2 ^ 52 % 2 ^ 12 = and_mask (e % 2 ^ 52) 12 in
+    ap (λ n. bit_and n 0xfff0000000000fff) split ∙ (b ∙ omega arith)

@@ -1,0 +1,17 @@
+pub mod Words
+pub mod Reach
+pub mod Prefixes
+pub mod EntryBits
+pub mod Addresses
+pub mod Link
+pub mod Made
+pub mod Prepare
+pub mod Counts
+pub mod LastEntry
+pub mod Reached
+pub mod Ranges
+pub mod NewPage
+pub mod RangeAdded
+pub mod Roots
+pub mod FreshFrame
+pub mod PrefixLists

@@ -1,0 +1,74 @@
+-- A write of one entry that adds one place to the tree.
+use Rattle.std.proofs.Common.{◌≡◌, ℕ, suc, ◌+◌, ◌*◌, ◌<◌, ◌≤◌, Bool, false, List, Some, None, sym, ap, ◌∙◌, ◌⊎◌, inl, inr, arith}
+use Rattle.std.proofs.lemmas.Bool.{cases_eq}
+use Rattle.paging_core.specs.Walk.{Place}
+use Rattle.paging_core.specs.Walk.{step, reach, next_from, top}
+use Rattle.paging_core.specs.Pool.{is_free}
+use Rattle.paging_core.specs.Tree.{IsTree}
+use Rattle.paging_core.proofs.Reach.{reach_there, reach_others}
+
+-- the entry `index` of the table at `at`, absent in `old`, leads to `to` in `new`, and no other step is changed
+pub record IsLink (old new : List ℕ) (root level prefix index : ℕ) (at to : Place) : Type 0 where
+  pub level_bound : level ≤ 3
+  pub index_bound : index < 512
+  pub here : reach old root level prefix ≡ Some at
+  pub elsewhere : (l : ℕ) (b : Place) (j : ℕ) → j < 512 → (b.frame ≡ at.frame → j ≡ index → ⊥) → step new l b j ≡ step old l b j
+  pub was : step old level at index ≡ None
+  pub is : step new level at index ≡ Some to
+  -- the new place is no table yet, or one with no entry
+  pub bare : level < 3 → (j : ℕ) → j < 512 → step new (suc level) to j ≡ None
+
+module _ (old new : List ℕ) (root level prefix index : ℕ) (at to : Place) (free : List Bool)
+    (link : IsLink old new root level prefix index at to)
+    (tree : IsTree old root free) where
+  alone : (l n : ℕ) (b : Place) → l < 4 → reach old root l n ≡ Some b → b.frame ≡ at.frame → (l ≡ level) × (n ≡ prefix)
+  alone l n b lt is e = tree.distinct l n level prefix b at (omega arith) (omega (arith, link.level_bound)) is link.here e
+
+  below : level < 3 → (j : ℕ) → j < 512 → next_from new (suc level) (step new level at index) j ≡ next_from old (suc level) (step old level at index) j
+  below lt j lj = rw (link.is, link.was) (link.bare lt j lj)
+
+  pub link_there : reach new root (suc level) (512 * prefix + index) ≡ Some to
+  link_there =
+      reach_there old new root level prefix index at link.index_bound link.here link.elsewhere alone below (omega (arith, link.level_bound)) ∙ link.is
+
+  pub link_others : (l n : ℕ) → l ≤ 4 → (l ≡ suc level → n ≡ 512 * prefix + index → ⊥) → reach new root l n ≡ reach old root l n
+  link_others = reach_others old new root level prefix index at link.index_bound link.here link.elsewhere alone below
+
+  -- what the new walk meets is the new place or an old one
+  met : (l n : ℕ) (b : Place) → l ≤ 4 → reach new root l n ≡ Some b →
+      ((l ≡ suc level) × (n ≡ 512 * prefix + index) × (b ≡ to)) ⊎ (reach old root l n ≡ Some b)
+  met l n b le is = go (cases_eq l (suc level)) (cases_eq n (512 * prefix + index))
+    where
+      go : (l ≡ suc level) ⊎ (l ≡ suc level → ⊥) → (n ≡ 512 * prefix + index) ⊎ (n ≡ 512 * prefix + index → ⊥) →
+          ((l ≡ suc level) × (n ≡ 512 * prefix + index) × (b ≡ to)) ⊎ (reach old root l n ≡ Some b)
+      go (inl x) (inl y) = inl (x, y, (let h : reach new root (suc level) (512 * prefix + index) ≡ Some b = rw (← x, ← y) is in let k = link_there in cc))
+      go (inl x) (inr y) = inr (sym (link_others l n le (λ _ z. y z)) ∙ is)
+      go (inr x) _ = inr (sym (link_others l n le (λ z _. x z)) ∙ is)
+
+  module _ (free' : List Bool)
+      (fresh : (l n : ℕ) (b : Place) → l ≤ 4 → reach old root l n ≡ Some b → b.frame ≡ to.frame → ⊥)
+      (rights : level < 3 → to ≡ top to.frame)
+      (taken : is_free free' to.frame ≡ false)
+      (fewer : (f : ℕ) → is_free free f ≡ false → is_free free' f ≡ false) where
+    pub tree_link : IsTree new root free'
+    tree_link = record {
+      rights = λ l n b lt is. rights_of l n b lt (met l n b (omega arith) is);
+      distinct = λ l n k j a b ll lk ia ib e. distinct_of l n k j a b ll lk e (met l n a ll ia) (met k j b lk ib);
+      used = λ l n b le is. used_of l n b le (met l n b le is);
+    }
+      where
+        rights_of : (l n : ℕ) (b : Place) → l < 4 → ((l ≡ suc level) × (n ≡ 512 * prefix + index) × (b ≡ to)) ⊎ (reach old root l n ≡ Some b) → b ≡ top b.frame
+        rights_of l n b lt (inl x) = let h : to ≡ top to.frame = rights (omega arith) in rw x.2 h
+        rights_of l n b lt (inr x) = tree.rights l n b lt x
+
+        used_of : (l n : ℕ) (b : Place) → l ≤ 4 → ((l ≡ suc level) × (n ≡ 512 * prefix + index) × (b ≡ to)) ⊎ (reach old root l n ≡ Some b) → is_free free' b.frame ≡ false
+        used_of l n b le (inl x) = rw x.2 taken
+        used_of l n b le (inr x) = fewer b.frame (tree.used l n b le x)
+
+        distinct_of : (l n k j : ℕ) (a b : Place) → l ≤ 4 → k ≤ 4 → a.frame ≡ b.frame →
+            ((l ≡ suc level) × (n ≡ 512 * prefix + index) × (a ≡ to)) ⊎ (reach old root l n ≡ Some a) →
+            ((k ≡ suc level) × (j ≡ 512 * prefix + index) × (b ≡ to)) ⊎ (reach old root k j ≡ Some b) → (l ≡ k) × (n ≡ j)
+        distinct_of l n k j a b ll lk e (inl x) (inl y) = (omega arith, omega arith)
+        distinct_of l n k j a b ll lk e (inl x) (inr y) = absurd (fresh k j b lk y (let h : a.frame ≡ to.frame = ap (λ m. m.frame) x.2 in sym e ∙ h))
+        distinct_of l n k j a b ll lk e (inr x) (inl y) = absurd (fresh l n a ll x (let h : b.frame ≡ to.frame = ap (λ m. m.frame) y.2 in e ∙ h))
+        distinct_of l n k j a b ll lk e (inr x) (inr y) = tree.distinct l n k j a b ll lk x y e

@@ -1,0 +1,190 @@
+-- A table that is made at an entry adds one place to the tree.
+use Rattle.std.proofs.Common.{◌≡◌, ℕ, zero, suc, ◌+◌, ◌*◌, ◌/◌, ◌%◌, ◌^◌, ◌<◌, ◌≤◌, Bool, true, false, cond, ltb, eqb, List, [], ◌∷◌, length, set, Option, Some, None, refl, sym, ap, ◌∙◌, ◌⊎◌, inl, inr, arith, length-set}
+use Rattle.std.proofs.lemmas.Bool.{cases_eq, cases_Bool, ltb-true, lt-ltb, and_parts, cases_lt}
+use Rattle.std.proofs.lemmas.Bool.Decides.{nat_tests}
+use Rattle.std.proofs.lemmas.List.{get_or-set_same, get_or-set_other, get_or_past}
+use Rattle.paging_core.specs.Entry.{has_bit, frame_of, table_entry}
+use Rattle.paging_core.specs.Memory.{word_at, frame_count, cleared}
+use Rattle.paging_core.specs.Walk.{Place, step, reach, next_from, top, is_present, named}
+use Rattle.paging_core.specs.Tree.{IsTree}
+use Rattle.paging_core.specs.Pool.{is_free, free_count, FreeBelow, AreLowestTaken}
+use Rattle.paging_core.specs.Tables.{IsTableMade}
+use Rattle.std.proofs.lemmas.List.Sums.{sum_by-set}
+use Rattle.paging_core.proofs.Reach.{step_same, reach_same, reach_zero, reach_suc}
+use Rattle.paging_core.proofs.Words.{length_cleared, word_at_cleared_same, word_at_cleared_other, word_at_set_same, word_at_set_other}
+use Rattle.paging_core.proofs.Link.{IsLink, link_there, link_others, tree_link}
+
+-- ---- one step
+
+pub step_zero : (words : List ℕ) (level : ℕ) (b : Place) (j : ℕ) → word_at words b.frame j ≡ 0 → step words level b j ≡ None
+unfolding step
+step_zero words level b j e = rw e refl
+
+table_bits : (f : ℕ) → f < 2 ^ 40 →
+    (frame_of (table_entry f) ≡ f) × (has_bit (table_entry f) 0 ≡ true) × (has_bit (table_entry f) 1 ≡ true) × (has_bit (table_entry f) 2 ≡ true) × (has_bit (table_entry f) 63 ≡ false)
+table_bits f lt = (omega arith, grind (arith, nat_tests), grind (arith, nat_tests), grind (arith, nat_tests), grind (arith, nat_tests))
+
+pub step_table : (words : List ℕ) (level t j f : ℕ) → f < 2 ^ 40 → f < frame_count words → word_at words t j ≡ table_entry f →
+    step words level (top t) j ≡ Some (top f)
+unfolding step
+step_table words level t j f lt within e =
+    let b = table_bits f lt in
+    let p : ltb f (frame_count words) ≡ true = lt-ltb f (frame_count words) within in
+    rw (e, b.0, b.1, b.2, b.3, b.4, p) refl
+
+pub some_of_cond : {A : Type 0} (c : Bool) (x y : A) → cond c (Some x) None ≡ Some y → (c ≡ true) × (x ≡ y)
+some_of_cond true x y e = (refl, cc)
+some_of_cond false x y e = absurd (cc)
+
+pub step_below : (words : List ℕ) (level : ℕ) (b m : Place) (j : ℕ) → step words level b j ≡ Some m → m.frame < frame_count words
+unfolding step
+step_below words level b m j e = bound (word_at words b.frame j) e
+  where
+    bound : (w : ℕ) → cond (is_present words w) (Some (named b w)) None ≡ Some m → m.frame < frame_count words
+    bound w e =
+        let p : (is_present words w ≡ true) × (named b w ≡ m) = some_of_cond (is_present words w) (named b w) m e in
+        let q : (has_bit w 0 ≡ true) × (ltb (frame_of w) (frame_count words) ≡ true) = and_parts (has_bit w 0) (ltb (frame_of w) (frame_count words)) p.0 in
+        let f : frame_of w ≡ m.frame = ap (λ x. x.frame) p.1 in
+        rw (← f) (ltb-true (frame_of w) (frame_count words) q.1)
+
+pub reach_below : (words : List ℕ) (root l n : ℕ) (m : Place) → root < frame_count words → reach words root l n ≡ Some m → m.frame < frame_count words
+reach_below words root zero n m lt e =
+    let p : (eqb n 0 ≡ true) × (top root ≡ m) = some_of_cond (eqb n 0) (top root) m (sym (reach_zero words root n) ∙ e) in
+    let f : root ≡ m.frame = ap (λ x. x.frame) p.1 in
+    rw (← f) lt
+reach_below words root (suc l) n m lt e = go (reach words root l (n / 512)) (sym (reach_suc words root l n) ∙ e)
+  where
+    go : (o : Option Place) → next_from words l o (n % 512) ≡ Some m → m.frame < frame_count words
+    go None x = absurd (cc)
+    go (Some b) x = step_below words l b m (n % 512) x
+
+-- ---- the flags
+
+pub free_below : (free : List Bool) (f : ℕ) → is_free free f ≡ true → f < length free
+free_below free f e = go (cases_lt f (length free))
+  where
+    go : (f < length free) ⊎ (length free ≤ f) → f < length free
+    go (inl h) = h
+    go (inr h) = let k = get_or_past free f false h in absurd (cc)
+
+pub taken_flag : (free : List Bool) (f : ℕ) → is_free free f ≡ true → is_free (set free f false) f ≡ false
+taken_flag free f e = get_or-set_same free f false false (free_below free f e)
+
+pub fewer_flags : (free : List Bool) (f g : ℕ) → is_free free g ≡ false → is_free (set free f false) g ≡ false
+fewer_flags free f g e = go (cases_lt f (length free)) (cases_eq g f)
+  where
+    go : (f < length free) ⊎ (length free ≤ f) → (g ≡ f) ⊎ (g ≡ f → ⊥) → is_free (set free f false) g ≡ false
+    go (inl h) (inl x) = rw x (get_or-set_same free f false false h)
+    go (inr h) (inl x) = get_or_past (set free f false) g false (simp length-set (omega arith))
+    go _ (inr x) = get_or-set_other free f g false false x ∙ e
+
+pub none_free : (free : List Bool) → ((f : ℕ) → is_free free f ≡ false) → free_count free ≡ 0
+none_free [] h = refl
+none_free (x ∷ xs) h = let e : x ≡ false = h 0 in rw e (none_free xs (λ f. h (suc f)))
+
+-- where frames are free, one is
+pub some_free : (free : List Bool) → 0 < free_count free → ((f : ℕ) → is_free free f ≡ false) → ⊥
+some_free free lt h = let z = none_free free h in omega arith
+
+-- frames are taken from the lowest on, and the next one is the lowest that is left
+pub lowest_more : (free freem : List Bool) (made : ℕ) → AreLowestTaken free freem → is_free freem made ≡ true →
+    ((g : ℕ) → g < made → is_free freem g ≡ false) → AreLowestTaken free (set freem made false)
+lowest_more free freem made before here lowest f g was now other = go (cases_Bool (is_free freem f)) (cases_eq g made) (cases_eq f made)
+  where
+    mine : is_free (set freem made false) made ≡ false
+    mine = taken_flag freem made here
+
+    go : (is_free freem f ≡ true) ⊎ (is_free freem f ≡ false) → (g ≡ made) ⊎ (g ≡ made → ⊥) → (f ≡ made) ⊎ (f ≡ made → ⊥) → f < g
+    go _ (inl e) _ = let x = rw e at other in let m = mine in absurd (cc)
+    go (inr gone) (inr ne) _ = before f g was gone (sym (get_or-set_other freem made g false false ne) ∙ other)
+    go (inl still) (inr ne) (inr nf) = let x = sym (get_or-set_other freem made f false false nf) ∙ now in absurd (cc)
+    go (inl still) (inr ne) (inl e) = past (cases_lt g made)
+      where
+        past : (g < made) ⊎ (made ≤ g) → f < g
+        past (inl lt) = let x = lowest g lt in let y = sym (get_or-set_other freem made g false false ne) ∙ other in absurd (cc)
+        past (inr le) = omega arith
+
+-- a frame that is taken is one free frame fewer
+pub taken_count : (free : List Bool) (f : ℕ) → is_free free f ≡ true → free_count (set free f false) + 1 ≡ free_count free
+taken_count free f e =
+    let h : free_count (set free f false) + cond (is_free free f) 1 0 ≡ free_count free + 0 =
+    sum_by-set (λ (x : Bool). cond x 1 0) free f false false (free_below free f e) in
+    let k : cond {A = ℕ} (is_free free f) 1 0 ≡ 1 = rw e refl in
+    omega arith
+
+pub tree_same : (old new : List ℕ) (root : ℕ) (free : List Bool) → ((l n : ℕ) → l ≤ 4 → reach new root l n ≡ reach old root l n) →
+    IsTree old root free → IsTree new root free
+tree_same old new root free same tree = record {
+  rights = λ l n m lt is. tree.rights l n m lt (sym (same l n (omega arith)) ∙ is);
+  distinct = λ l n k j a b ll lk x y e. tree.distinct l n k j a b ll lk (sym (same l n ll) ∙ x) (sym (same k j lk) ∙ y) e;
+  used = λ l n m le is. tree.used l n m le (sym (same l n le) ∙ is);
+}
+
+module _ (old new : List ℕ) (free free' : List Bool) (root level prefix table index made : ℕ)
+    (tree : IsTree old root free)
+    (low : level < 3)
+    (li : index < 512)
+    (root_in : root < frame_count old)
+    (known : FreeBelow free (frame_count old))
+    (met : reach old root level prefix ≡ Some (top table))
+    (missing : step old level (top table) index ≡ None)
+    (m : IsTableMade old new free free' table index made) where
+  made_in : made < frame_count old
+  made_in = known made m.was_free
+
+  table_in : table < frame_count old
+  table_in = reach_below old root level prefix (top table) root_in met
+
+  cleared_size : length (cleared old made) ≡ length old
+  cleared_size = length_cleared old made made_in
+
+  new_size : length new ≡ length (cleared old made)
+  new_size = rw m.words (length-set (cleared old made) (512 * table + index) (table_entry made))
+
+  unmet : (l n : ℕ) (b : Place) → l ≤ 4 → reach old root l n ≡ Some b → b.frame ≡ made → ⊥
+  unmet l n b le is e = let u : is_free free b.frame ≡ false = tree.used l n b le is in let w = m.was_free in let x = ap (λ f. is_free free f) e in cc
+
+  table_apart : table ≡ made → ⊥
+  table_apart e = unmet level prefix (top table) (omega arith) met e
+
+  mid_same : (l n : ℕ) → l ≤ 4 → reach (cleared old made) root l n ≡ reach old root l n
+  mid_same = reach_same old (cleared old made) root
+      (λ l n b j lt is lj. step_same old (cleared old made) l b j cleared_size
+      (word_at_cleared_other old made b.frame j made_in lj (unmet l n b (omega arith) is)))
+
+  mid_tree : IsTree (cleared old made) root free
+  mid_tree = tree_same old (cleared old made) root free mid_same tree
+
+  link : IsLink (cleared old made) new root level prefix index (top table) (top made)
+  link = record {
+    level_bound = omega arith;
+    index_bound = li;
+    here = mid_same level prefix (omega arith) ∙ met;
+    elsewhere = λ l b j lj ne. step_same (cleared old made) new l b j new_size
+        (ap (λ w. word_at w b.frame j) m.words ∙ word_at_set_other (cleared old made) table index (table_entry made) b.frame j li lj ne);
+    was = step_same old (cleared old made) level (top table) index cleared_size (word_at_cleared_other old made table index made_in li table_apart) ∙ missing;
+    is = step_table new level table index made m.bounded (let a = made_in in let b = cleared_size in let c = new_size in omega arith)
+        (ap (λ w. word_at w table index) m.words
+        ∙ word_at_set_same (cleared old made) table index (table_entry made) (let a = table_in in let b = cleared_size in omega arith) li);
+    bare = λ lt j lj. step_zero new (suc level) (top made) j
+        (ap (λ w. word_at w made j) m.words
+        ∙ (word_at_set_other (cleared old made) table index (table_entry made) made j li lj (λ e _. table_apart (sym e))
+        ∙ word_at_cleared_same old made j made_in lj));
+  }
+
+  pub made_there : reach new root (level + 1) (512 * prefix + index) ≡ Some (top made)
+  made_there = let e : level + 1 ≡ suc level = omega arith in rw e (link_there (cleared old made) new root level prefix index (top table) (top made) free link mid_tree)
+
+  pub made_others : (l n : ℕ) → l ≤ 4 → (l ≡ level + 1 → n ≡ 512 * prefix + index → ⊥) → reach new root l n ≡ reach old root l n
+  made_others l n le ne =
+      link_others (cleared old made) new root level prefix index (top table) (top made) free link mid_tree l n le (λ x y. ne (omega arith) y) ∙ mid_same l n le
+
+  pub made_tree : IsTree new root free'
+  made_tree = tree_link (cleared old made) new root level prefix index (top table) (top made) free link mid_tree free'
+      (λ l n b le is e. unmet l n b le (sym (mid_same l n le) ∙ is) e)
+      (λ _. refl)
+      (rw m.taken (taken_flag free made m.was_free))
+      (λ f e. rw m.taken (fewer_flags free made f e))
+
+  pub made_size : length new ≡ length old
+  made_size = new_size ∙ cleared_size

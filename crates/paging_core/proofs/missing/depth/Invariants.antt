@@ -1,0 +1,10 @@
+use Rattle.std.proofs.Common.{◌≡◌, ◌<◌, ◌-◌, ◌*◌, ◌/◌, ◌^◌, Some}
+use Rattle.paging_core.specs.Memory.{frame_count}
+use Rattle.paging_core.specs.Walk.{reach, place_of}
+use Rattle.paging_core.proofs.missing.depth.Given as goal
+
+abbrev pub invariant-loop-met : goal.invariant-loop-met
+invariant-loop-met l = record {
+  here : reach l.frames l.fn.root l.met (l.prefix / 2 ^ (9 * (l.level - l.met))) ≡ Some (place_of l.at);
+  below : l.at.frame < frame_count l.frames;
+}

@@ -1,0 +1,39 @@
+use Rattle.std.proofs.Common.{◌∙◌, ap, arith}
+use Rattle.paging_core.specs.Walk.{walk_of}
+use Rattle.paging_core.proofs.Ranges.{page_canonical}
+use Rattle.paging_core.proofs.RangeAdded.{range_start, next_room, next_unmapped, range_more, range_elsewhere, range_zeros}
+use Rattle.paging_core.proofs.range.map_range.Goals as goal
+
+pub loop-step-init : goal.loop-step-init
+loop-step-init c = range_start c.args.frames.now c.args.pool.now c.args.root c.args.first c.args.rights c.requires.tree
+
+pub after-requires : goal.after-requires
+after-requires c = page_canonical c.args.first c.args.pages c.loop-step.step c.requires.range (omega arith)
+
+pub map_new_page-requires-clause-unmapped : goal.map_new_page-requires-clause-unmapped
+map_new_page-requires-clause-unmapped c =
+    ap (walk_of c.loop-step.frames c.args.root) c.after.ensures
+    ∙ next_unmapped c.args.frames.now c.loop-step.frames c.args.pool.now c.loop-step.pool c.args.root c.args.first c.args.pages c.loop-step.step c.args.rights
+    c.requires.range c.loop-step-test.true c.loop-step.invariant (c.requires.unmapped c.loop-step.step c.loop-step-test.true)
+
+pub map_new_page-requires-clause-room : goal.map_new_page-requires-clause-room
+map_new_page-requires-clause-room c =
+    rw c.after.ensures
+    (next_room c.args.frames.now c.loop-step.frames c.args.pool.now c.loop-step.pool c.args.root c.args.first c.args.pages c.loop-step.step c.args.rights
+    c.requires.range c.loop-step-test.true c.loop-step.invariant c.requires.room)
+
+pub loop-step-preserved : goal.loop-step-preserved
+loop-step-preserved c =
+    range_more c.args.frames.now c.loop-step.frames c.args.pool.now c.loop-step.pool c.args.root c.args.first c.args.pages c.loop-step.step c.args.rights
+    c.requires.range c.loop-step-test.true c.loop-step.invariant
+    c.map_new_page.new.frames c.map_new_page.new.pool (rw c.after.ensures at c.map_new_page.ensures)
+
+pub returns-clause-elsewhere : goal.returns-clause-elsewhere
+returns-clause-elsewhere c = λ other canonical ne.
+    range_elsewhere c.args.frames.now c.loop-step.frames c.args.pool.now c.loop-step.pool c.args.root c.args.first c.args.pages c.loop-step.step c.args.rights
+    c.requires.range (omega arith) c.loop-step.invariant other canonical ne
+
+pub returns-clause-zeros : goal.returns-clause-zeros
+returns-clause-zeros c = λ address k lt at.
+    range_zeros c.args.frames.now c.loop-step.frames c.args.pool.now c.loop-step.pool c.args.root c.args.first c.args.pages c.loop-step.step c.args.rights
+    c.requires.range (omega arith) c.loop-step.invariant address k lt at

@@ -1,0 +1,20 @@
+-- The fields of a page table entry (AMD64 volume 2, "4-Kbyte Page Translation in Long Mode").
+use Rattle.std.specs.Prelude.{ℕ, ◌+◌, ◌*◌, ◌/◌, ◌%◌, ◌^◌, Bool, ◌==◌, if◌then◌else◌}
+use Rattle.paging_core.specs.declared.page_table.Rights.{Rights}
+
+abbrev pub has_bit : ℕ → ℕ → Bool
+has_bit word bit = word / 2 ^ bit % 2 == 1
+
+-- the frame that the address field names: bits 12 to 51
+abbrev pub frame_of : ℕ → ℕ
+frame_of entry = entry / 2 ^ 12 % 2 ^ 40
+
+-- the word that names a table: present (1), writable (2) and user (4)
+abbrev pub table_entry : ℕ → ℕ
+table_entry frame = frame * 2 ^ 12 + 7
+
+-- the word that maps a page: present, writable (2) and user (4) where they are granted, and
+-- no-execute (bit 63) where fetch is denied
+abbrev pub page_entry : ℕ → Rights → ℕ
+page_entry frame rights =
+    frame * 2 ^ 12 + 1 + (if rights.write then 2 else 0) + (if rights.user then 4 else 0) + (if rights.fetch then 0 else 2 ^ 63)

@@ -1,0 +1,46 @@
+-- What the walk and the tree rule mean: laws above the definitions.
+use Rattle.std.specs.Prelude.{◌≡◌, ℕ, ◌+◌, ◌/◌, ◌%◌, ◌^◌, ◌<◌, ◌↔◌, Bool, false, List, Some, Contains}
+use Rattle.paging_core.specs.Address.{IsCanonicalRange}
+use Rattle.paging_core.specs.Prefix.{prefix_of, prefixes_of}
+use Rattle.paging_core.specs.Pool.{is_free}
+use Rattle.paging_core.specs.Walk.{Place, step, next_from, walk_of, top}
+use Rattle.paging_core.specs.Tree.{IsTree}
+use Rattle.paging_core.specs.Mapping.{IsPageAdded}
+use Rattle.paging_core.specs.declared.page_table.Rights.{Rights}
+
+-- the walk takes four steps from the root, by the four indices of the page
+abbrev pub WalkTakesFourSteps : Type 0
+WalkTakesFourSteps =
+    (words : List ℕ) (root page : ℕ) →
+    let p4 = step words 0 (top root) (page / 2 ^ 27 % 512) in
+    let p3 = next_from words 1 p4 (page / 2 ^ 18 % 512) in
+    let p2 = next_from words 2 p3 (page / 2 ^ 9 % 512) in
+    walk_of words root page ≡ next_from words 3 p2 (page % 512)
+
+-- the prefixes of a range are those of its pages, of one, two and three indices
+abbrev pub PrefixesAreOfPages : Type 0
+PrefixesAreOfPages =
+    (first pages level number : ℕ) → IsCanonicalRange first pages →
+    Contains (prefixes_of first pages) (record { level = level; number = number })
+    ↔ ((0 < level) × (level < 4) × ((k : ℕ) × ((k < pages) × (number ≡ prefix_of (first + k) level))))
+
+-- no frame is reached by two pages
+abbrev pub OnePageForAFrame : Type 0
+OnePageForAFrame =
+    (words : List ℕ) (root : ℕ) (free : List Bool) (page other : ℕ) (place place' : Place) → IsTree words root free →
+    walk_of words root page ≡ Some place → walk_of words root other ≡ Some place' → place.frame ≡ place'.frame → page % 2 ^ 36 ≡ other % 2 ^ 36
+
+-- no free frame is reached by a page
+abbrev pub NoPageAtAFreeFrame : Type 0
+NoPageAtAFreeFrame =
+    (words : List ℕ) (root : ℕ) (free : List Bool) (page : ℕ) (place : Place) → IsTree words root free →
+    walk_of words root page ≡ Some place → is_free free place.frame ≡ false
+
+-- two pages that are mapped in either order leave the same walk of every page
+abbrev pub MappingCommutes : Type 0
+MappingCommutes =
+    (words first second first' second' : List ℕ) (free free1 free2 free1' free2' : List Bool) (root page other frame frame' : ℕ) (rights rights' : Rights) →
+    (page % 2 ^ 36 ≡ other % 2 ^ 36 → ⊥) →
+    IsPageAdded words first free free1 root page frame rights → IsPageAdded first second free1 free2 root other frame' rights' →
+    IsPageAdded words first' free free1' root other frame' rights' → IsPageAdded first' second' free1' free2' root page frame rights →
+    (any : ℕ) → walk_of second root any ≡ walk_of second' root any

@@ -1,0 +1,12 @@
+pub mod Address
+pub mod Memory
+pub mod Entry
+pub mod PageTableFlags
+pub mod Prefix
+pub mod Walk
+pub mod Pool
+pub mod Tree
+pub mod Tables
+pub mod Missing
+pub mod Mapping
+pub mod Laws

@@ -1,0 +1,37 @@
+-- The flags of a page table entry (AMD64 manual, volume 2, "Page-Translation-Table Entry Fields").
+use Rattle.std.specs.Prelude.{ℕ, ◌^◌, List, [], ◌∷◌, codes}
+use Rattle.bitflags.specs.Sets.{Row}
+use Rattle.paging_core.specs.declared.page_table_flags.PageTableFlags.{PageTableFlags}
+
+-- the bits of a value, as a number
+abbrev pub page_table_bits : PageTableFlags → ℕ
+page_table_bits flags = flags.0
+
+-- the name and the bit of each flag: bits 12 to 51 are the address field
+abbrev pub page_table_flags : List Row
+page_table_flags =
+    (codes "PRESENT", 2 ^ 0)
+    ∷ (codes "WRITABLE", 2 ^ 1)
+    ∷ (codes "USER_ACCESSIBLE", 2 ^ 2)
+    ∷ (codes "WRITE_THROUGH", 2 ^ 3)
+    ∷ (codes "NO_CACHE", 2 ^ 4)
+    ∷ (codes "ACCESSED", 2 ^ 5)
+    ∷ (codes "DIRTY", 2 ^ 6)
+    ∷ (codes "HUGE_PAGE", 2 ^ 7)
+    ∷ (codes "GLOBAL", 2 ^ 8)
+    ∷ (codes "BIT_9", 2 ^ 9)
+    ∷ (codes "BIT_10", 2 ^ 10)
+    ∷ (codes "BIT_11", 2 ^ 11)
+    ∷ (codes "BIT_52", 2 ^ 52)
+    ∷ (codes "BIT_53", 2 ^ 53)
+    ∷ (codes "BIT_54", 2 ^ 54)
+    ∷ (codes "BIT_55", 2 ^ 55)
+    ∷ (codes "BIT_56", 2 ^ 56)
+    ∷ (codes "BIT_57", 2 ^ 57)
+    ∷ (codes "BIT_58", 2 ^ 58)
+    ∷ (codes "BIT_59", 2 ^ 59)
+    ∷ (codes "BIT_60", 2 ^ 60)
+    ∷ (codes "BIT_61", 2 ^ 61)
+    ∷ (codes "BIT_62", 2 ^ 62)
+    ∷ (codes "NO_EXECUTE", 2 ^ 63)
+    ∷ []

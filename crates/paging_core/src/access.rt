@@ -1,0 +1,56 @@
+ghost use Rattle.std.specs.Prelude.{◌≡◌, ℕ, ◌+◌, ◌*◌, ◌/◌, ◌%◌, ◌^◌, ◌<◌, ◌≤◌, IsSome, IfSome, Some, length, List, Bool, set, IsTrue};
+ghost use Rattle.paging_core.specs.Address.{is_canonical};
+ghost use Rattle.paging_core.specs.Memory.{frame_count, word_at, byte_of};
+ghost use Rattle.paging_core.specs.Walk.{reach, walk_of, reached};
+ghost use Rattle.paging_core.specs.Tree.{IsTree};
+
+use crate::addr::VirtAddr;
+use crate::memory::Frames;
+use crate::page_walk::walk;
+use crate::pages::Page;
+use crate::phys_frames::PhysFrame;
+
+/// The index in its frame of the word that holds the byte at the address.
+fn word_index(address: VirtAddr) -> u16
+    ensures value { result ≡ address % 4096 / 8 }
+    ensures bounded { result < 512 }
+    ensures canonical { IsTrue (is_canonical address) }
+{
+    (address.as_u64() % 4096 / 8) as u16
+}
+
+/// The 8-byte word at the address, through the walk.
+///
+/// The address is a multiple of 8, and its page is mapped.
+pub fn load_word(frames: &Frames, root: PhysFrame, address: VirtAddr) -> u64
+    requires root { root < frame_count frames.now }
+    requires aligned { address % 8 ≡ 0 }
+    requires mapped { IsSome (walk_of frames.now root (address / 4096)) }
+    ensures word { IfSome (walk_of frames.now root (address / 4096)) (λ place. result ≡ word_at frames.now place.frame (address % 4096 / 8)) }
+    ensures bytes { (k : ℕ) → k < 8 → reached frames.now root (address + k) ≡ Some (byte_of result k) }
+{
+    let Some(page) = walk(frames, root, Page::containing_address(address)) else {
+        unreachable!()
+    };
+    frames.word(page.frame, word_index(address))
+}
+
+/// Writes the 8-byte word at the address, through the walk.
+///
+/// The address is a multiple of 8, and its page is mapped.
+pub fn store_word(frames: &mut Frames, root: PhysFrame, address: VirtAddr, value: u64)
+    requires root { root < frame_count frames.old }
+    requires aligned { address % 8 ≡ 0 }
+    requires mapped { IsSome (walk_of frames.old root (address / 4096)) }
+    ensures word { IfSome (walk_of frames.old root (address / 4096)) (λ place. frames.new ≡ set frames.old (512 * place.frame + address % 4096 / 8) value) }
+    ensures size { length frames.new ≡ length frames.old }
+    ensures walks { (free : List Bool) → IsTree frames.old root free → (level number : ℕ) → level ≤ 4 → reach frames.new root level number ≡ reach frames.old root level number }
+    ensures tree { (free : List Bool) → IsTree frames.old root free → IsTree frames.new root free }
+    ensures bytes { (free : List Bool) → IsTree frames.old root free → (k : ℕ) → k < 8 → reached frames.new root (address + k) ≡ Some (byte_of value k) }
+    ensures others { (free : List Bool) → IsTree frames.old root free → (other : ℕ) → IsTrue (is_canonical other) → (other / 8 ≡ address / 8 → ⊥) → reached frames.new root other ≡ reached frames.old root other }
+{
+    let Some(page) = walk(frames, root, Page::containing_address(address)) else {
+        unreachable!()
+    };
+    frames.set_word(page.frame, word_index(address), value);
+}

@@ -1,0 +1,29 @@
+//! Laws above the definitions of the walk and of the tree rule. Each function does nothing: its contract
+//! is the law.
+
+ghost use Rattle.paging_core.specs.Laws.{WalkTakesFourSteps, PrefixesAreOfPages, OnePageForAFrame, NoPageAtAFreeFrame, MappingCommutes};
+
+/// The walk of a page takes four steps from the root, by the page's four indices.
+pub fn walk_takes_four_steps()
+    ensures { WalkTakesFourSteps }
+{}
+
+/// The index prefixes of a range are those of its pages.
+pub fn prefixes_are_of_pages()
+    ensures { PrefixesAreOfPages }
+{}
+
+/// Under the tree rule no frame is reached by two pages.
+pub fn one_page_for_a_frame()
+    ensures { OnePageForAFrame }
+{}
+
+/// Under the tree rule no free frame is reached by a page.
+pub fn no_page_at_a_free_frame()
+    ensures { NoPageAtAFreeFrame }
+{}
+
+/// Two pages may be mapped in either order: every page's walk comes out the same.
+pub fn mapping_commutes()
+    ensures { MappingCommutes }
+{}

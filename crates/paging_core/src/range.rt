@@ -1,0 +1,70 @@
+ghost use Rattle.std.specs.Prelude.{◌≡◌, ℕ, ◌+◌, ◌*◌, ◌/◌, ◌%◌, ◌^◌, ◌<◌, ◌≤◌, None, Some, IsSome, IsTrue};
+ghost use Rattle.paging_core.specs.Address.{is_canonical, IsCanonicalRange};
+ghost use Rattle.paging_core.specs.Memory.{frame_count};
+ghost use Rattle.paging_core.specs.Walk.{walk_of, reached};
+ghost use Rattle.paging_core.specs.Pool.{free_count, FreeBelow};
+ghost use Rattle.paging_core.specs.Tree.{IsTree};
+ghost use Rattle.paging_core.specs.Missing.{missing_of};
+ghost use Rattle.paging_core.specs.Mapping.{IsRangeAdded};
+
+use crate::frame_allocator::FrameAllocator;
+use crate::mapping::map_page;
+use crate::memory::Frames;
+use crate::page_table::Rights;
+use crate::pages::Page;
+use crate::phys_frames::PhysFrame;
+use crate::pool::FramePool;
+
+/// Maps the page with the rights to a frame from the pool, which is cleared.
+fn map_new_page(
+    frames: &mut Frames,
+    pool: &mut FramePool,
+    root: PhysFrame,
+    page: Page,
+    rights: Rights,
+)
+    requires root { root < frame_count frames.old }
+    requires known { FreeBelow pool.old (frame_count frames.old) }
+    requires tree { IsTree frames.old root pool.old }
+    requires unmapped { walk_of frames.old root page ≡ None }
+    requires room { 1 + missing_of frames.old root page 1 ≤ free_count pool.old }
+    ensures { IsRangeAdded frames.old frames.new pool.old pool.new root page 1 rights }
+{
+    let Some(frame) = pool.allocate_frame() else {
+        unreachable!()
+    };
+    frames.clear_frame(frame);
+    map_page(frames, pool, root, page, frame, rights);
+}
+
+/// Maps the pages from `first` on, in ascending order, with the rights. Each goes to the lowest free
+/// frame, which is cleared; the tables that are missing for it come after it.
+///
+/// The range lies in one canonical half, and none of its pages is mapped. The pool has the frames for
+/// the pages and for the missing tables.
+pub fn map_range(
+    frames: &mut Frames,
+    pool: &mut FramePool,
+    root: PhysFrame,
+    first: Page,
+    pages: u64,
+    rights: Rights,
+)
+    requires root { root < frame_count frames.old }
+    requires known { FreeBelow pool.old (frame_count frames.old) }
+    requires tree { IsTree frames.old root pool.old }
+    requires range { IsCanonicalRange first pages }
+    requires unmapped { (k : ℕ) → k < pages → walk_of frames.old root (first + k) ≡ None }
+    requires room { pages + missing_of frames.old root first pages ≤ free_count pool.old }
+    ensures added { IsRangeAdded frames.old frames.new pool.old pool.new root first pages rights }
+    ensures known { FreeBelow pool.new (frame_count frames.new) }
+
+    // No other page's walk is changed, and no byte of a page that was mapped; each byte of the range is 0.
+    ensures elsewhere { (other : ℕ) → IsTrue (is_canonical (other * 4096)) → ((k : ℕ) → k < pages → other ≡ first + k → ⊥) → walk_of frames.new root other ≡ walk_of frames.old root other }
+    ensures zeros { (address k : ℕ) → k < pages → address / 4096 ≡ first + k → reached frames.new root address ≡ Some 0 }
+    ensures bytes { (address : ℕ) → IsSome (walk_of frames.old root (address / 4096)) → reached frames.new root address ≡ reached frames.old root address }
+{
+    for step in 0..pages {
+        map_new_page(frames, pool, root, first.after(step), rights);
+    }
+}
