@@ -1,0 +1,6 @@
+mod Examples
+pub mod Booleans
+pub mod Regions
+pub mod Tables
+pub mod Granted
+pub mod Placed

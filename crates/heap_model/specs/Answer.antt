@@ -1,0 +1,62 @@
+-- One call: which answers are allowed, and the state after each.
+use Rattle.std.specs.Prelude.{◌≡◌, ◌≢◌, ℕ, Bool, not, ◌==◌, ◌⊎◌, ⊤, List, [], ◌∷◌, ◌++◌, length, find, replicate, unwrap_or, Option, Some, None, MatchOption}
+use Rattle.std.specs.List.{list_any}
+use Rattle.heap_model.specs.declared.region.Region.{Region}
+use Rattle.heap_model.specs.declared.call.Call.{Call}
+use Rattle.heap_model.specs.declared.call.Call.TheVariants.{Malloc}
+use Rattle.heap_model.specs.declared.answer.Reply.{Reply}
+use Rattle.heap_model.specs.declared.answer.Reply.TheVariants.{Block as Placed, Refused}
+use Rattle.heap_model.specs.declared.answer.Answer.{Answer}
+use Rattle.paging_core.specs.Prefix.{Prefix}
+use Rattle.heap_model.specs.Request.{wanted, pages_for}
+use Rattle.heap_model.specs.State.{State, Cell, Fresh, Block}
+use Rattle.heap_model.specs.Tables.{with_tables}
+use Rattle.heap_model.specs.Room.{IsGrowth}
+use Rattle.heap_model.specs.Refusal.{must_refuse, MayRefuse, wanted_by}
+
+-- a block of whose bytes the same is known
+abbrev pub new_block : ℕ → ℕ → ℕ → Cell → Option Block
+new_block address size align cell = Some (record { address = address; size = size; align = align; cells = replicate size cell })
+
+-- what the reply alone changes; a refusal changes nothing
+abbrev pub changed : State → Call → Reply → State
+changed s (Malloc size align) (Placed number address) = record s { blocks = s.blocks ++ new_block address size align Fresh ∷ [] }
+changed s (Malloc size align) (Refused refusal) = s
+
+-- whether a region starts where none of these does
+abbrev pub is_new : List Region → Region → Bool
+is_new regions region = not (list_any (λ old. old.start == region.start) regions)
+
+-- the tables, with those of the pages that were granted for a chunk of n bytes
+abbrev pub granted_tables : State → Option ℕ → Option Region → List Prefix
+granted_tables s (Some n) (Some region) = with_tables s.tables region.start (pages_for n s.granularity)
+granted_tables s (Some n) None = s.tables
+granted_tables s None region = s.tables
+
+-- the state with the heap regions that the answer lists
+abbrev pub with_heap : State → Option ℕ → Option (List Region) → State
+with_heap s n None = s
+with_heap s n (Some list) = record s { heap = list; tables = granted_tables s n (find (is_new s.heap) list) }
+
+-- the state after the call, which the answer determines
+abbrev pub after : State → Call → Answer → State
+after s call answer = with_heap (changed s call answer.reply) (wanted_by s call) answer.regions
+
+-- the heap regions after the answer
+abbrev pub heap_after : State → Option (List Region) → List Region
+heap_after s regions = unwrap_or regions s.heap
+
+-- the replies other than refusals
+abbrev pub IsServed : State → Call → Reply → Option (List Region) → Type 0
+IsServed s (Malloc size align) (Placed number address) regions = (number ≡ length s.blocks) × IsGrowth s (wanted size align) (heap_after s regions)
+IsServed s (Malloc size align) (Refused refusal) regions = ⊥
+
+-- a refusal that must come comes; one that may come only where none must; and nothing else comes where one must
+abbrev pub IsReply : State → Call → Reply → Option (List Region) → Type 0
+IsReply s call (Refused refusal) regions = (regions ≡ None) × ((must_refuse s call ≡ Some refusal) ⊎ ((must_refuse s call ≡ None) × MayRefuse s (wanted_by s call) refusal))
+IsReply s call (Placed number address) regions = (must_refuse s call ≡ None) × IsServed s call (Placed number address) regions
+
+-- the answer is one that the call may have, and lists the heap regions exactly where they changed
+pub record IsAllowed (s : State) (call : Call) (answer : Answer) : Type 0 where
+  pub reply : IsReply s call answer.reply answer.regions
+  pub listed : MatchOption answer.regions ⊤ (λ list. list ≢ s.heap)

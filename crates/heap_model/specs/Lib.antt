@@ -1,0 +1,10 @@
+pub mod Request
+pub mod State
+pub mod Tables
+pub mod Place
+pub mod Room
+pub mod Refusal
+pub mod Answer
+pub mod Run
+pub mod Memory
+pub mod Machine

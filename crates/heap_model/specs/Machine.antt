@@ -1,0 +1,94 @@
+-- When a machine stands for a state.
+use Rattle.std.specs.Prelude.{◌≡◌, ℕ, ◌+◌, ◌*◌, ◌/◌, ◌<◌, ◌↔◌, Bool, IsTrue, List, ◌++◌, length, map, find, option_map, Option, Some, IsSome}
+use Rattle.std.specs.List.{list_any}
+use Rattle.paging_core.specs.declared.page_table.Rights.{Rights}
+use Rattle.paging_core.specs.Address.{is_canonical}
+use Rattle.paging_core.specs.Memory.{frame_count}
+use Rattle.paging_core.specs.Walk.{Place, reach, walk_of, reached}
+use Rattle.paging_core.specs.Pool.{free_count}
+use Rattle.paging_core.specs.Tree.{IsTree}
+use Rattle.paging_core.specs.Missing.{missing_of}
+use Rattle.paging_core.specs.Mapping.{IsRangeAdded}
+use Rattle.heap_model.specs.declared.live.Live.{Live}
+use Rattle.heap_model.specs.declared.region.Region.{Region}
+use Rattle.heap_model.specs.declared.call.Call.{Call}
+use Rattle.heap_model.specs.declared.answer.Answer.{Answer}
+use Rattle.heap_model.specs.State.{State, Block, is_within}
+use Rattle.heap_model.specs.Tables.{has_table, free_frames}
+use Rattle.heap_model.specs.Place.{all_regions}
+use Rattle.heap_model.specs.Room.{heap_rights}
+use Rattle.heap_model.specs.Memory.{HoldsBytes}
+use Rattle.heap_model.specs.Answer.{IsAllowed, after}
+use Rattle.heap_model.specs.Run.{IsGood}
+
+-- a block without what is known of its bytes
+abbrev pub outline : Block → Live
+outline block = record { address = block.address; size = block.size; align = block.align }
+
+-- what is seen of a paged system
+pub record Paged : Type 0 where
+  -- the window: its first address, and its pages
+  pub base : ℕ
+  pub pages : ℕ
+  -- physical memory, word by word, and the frame of the root table
+  pub words : List ℕ
+  pub root : ℕ
+  -- a flag for each frame, true where it is free
+  pub free : List Bool
+  -- the number of tables, with the root
+  pub tables : ℕ
+  -- the regions, by address
+  pub regions : List Region
+
+-- Pages of the heap were added to a system from an address on, each at a new frame, with the tables that they lacked.
+pub record IsPagedGrant (old new : Paged) (address pages : ℕ) : Type 0 where
+  pub base : new.base ≡ old.base
+  pub pages_is : new.pages ≡ old.pages
+  pub root : new.root ≡ old.root
+  pub tables : new.tables ≡ old.tables + missing_of old.words old.root (address / 4096) pages
+  pub added : IsRangeAdded old.words new.words old.free new.free old.root (address / 4096) pages heap_rights
+
+-- what is seen of a machine
+pub record Seen : Type 0 where
+  pub paged : Paged
+  pub granularity : ℕ
+  -- the live blocks, by number
+  pub blocks : List (Option Live)
+
+-- the region that holds an address
+abbrev pub region_at : State → ℕ → Option Region
+region_at s address = find (is_within address) (s.heap ++ s.users)
+
+-- what may be done at a page that the walk finds
+abbrev pub rights_of : Place → Rights
+rights_of place = record { write = place.write; user = place.user; fetch = place.fetch }
+
+-- The machine stands for the state.
+pub record Stands (m : Seen) (s : State) : Type 0 where
+  -- the tables form a tree, beside the free frames
+  pub tree : IsTree m.paged.words m.paged.root m.paged.free
+  pub free_frames : free_count m.paged.free ≡ free_frames s
+  pub table_count : m.paged.tables ≡ 1 + length s.tables
+  -- the walk finds a page exactly where a region holds it, with the region's rights
+  pub pages_found :
+      (page : ℕ) → IsTrue (is_canonical (4096 * page)) →
+      option_map rights_of (walk_of m.paged.words m.paged.root page) ≡ option_map (λ region. region.rights) (region_at s (4096 * page))
+  -- the walk meets a table below the root exactly at the prefixes of the state
+  pub tables_met :
+      (level number : ℕ) → 0 < level → level < 4 →
+      IsSome (reach m.paged.words m.paged.root level number) ↔ IsTrue (has_table s.tables (record { level = level; number = number }))
+  pub regions : m.paged.regions ≡ all_regions s
+  pub blocks : m.blocks ≡ map (option_map outline) s.blocks
+  pub base : m.paged.base ≡ s.base
+  pub pages : m.paged.pages ≡ s.pages
+  pub granularity : m.granularity ≡ s.granularity
+  pub frames : frame_count m.paged.words ≡ s.frames
+  -- each byte that is known is the one reached, and the bytes of user regions are 0
+  pub bytes : HoldsBytes (reached m.paged.words m.paged.root) s.blocks
+  pub zeros : (address : ℕ) → IsTrue (list_any (is_within address) s.users) → reached m.paged.words m.paged.root address ≡ Some 0
+
+-- from a state for which it stood, the machine gave an answer that is allowed there, and stands for the state after it
+pub record IsStep (s : State) (call : Call) (answer : Answer) (m : Seen) : Type 0 where
+  pub allowed : IsAllowed s call answer
+  pub good : IsGood (after s call answer)
+  pub stands : Stands m (after s call answer)

@@ -1,0 +1,61 @@
+-- The state of the machine, as the answers so far determine it. It says nothing of how the machine keeps it.
+use Rattle.std.specs.Prelude.{ℕ, ◌+◌, ◌*◌, max, Bool, ◌&&◌, nat_lt, nat_le, List, [], ◌∷◌, slice_index_or, Option, None}
+use Rattle.heap_model.specs.declared.region.Region.{Region}
+use Rattle.heap_model.specs.declared.config.Config.{Config}
+use Rattle.paging_core.specs.Prefix.{Prefix}
+
+-- what is known of a byte of a block: nothing, until it is written or seen
+pub data Cell : Type 0 where
+  Fresh : Cell
+  Known : ℕ → Cell
+
+-- a block that was handed out, with a cell for each byte
+pub record Block : Type 0 where
+  pub address : ℕ
+  pub size : ℕ
+  pub align : ℕ
+  pub cells : List Cell
+
+pub record State : Type 0 where
+  -- the window: its first address, and its pages
+  pub base : ℕ
+  pub pages : ℕ
+  pub granularity : ℕ
+  -- the frames of physical memory
+  pub frames : ℕ
+  -- by number, in the order given; None where the block has ended
+  pub blocks : List (Option Block)
+  -- the regions of the heap and of the user, by address
+  pub heap : List Region
+  pub users : List Region
+  -- the index prefixes that have a table below the root, in the order in which the tables came; a table stays
+  pub tables : List Prefix
+
+-- the state of a new machine
+abbrev pub start : Config → State
+start config = record { base = config.base; pages = config.pages; granularity = config.granularity; frames = config.frames; blocks = []; heap = []; users = []; tables = [] }
+
+-- the live block of a number
+abbrev pub block_at : List (Option Block) → ℕ → Option Block
+block_at blocks number = slice_index_or blocks number None
+
+-- what is known at an offset of a block
+abbrev pub cell_at : List Cell → ℕ → Cell
+cell_at cells offset = slice_index_or cells offset Fresh
+
+-- the bytes that a block has to itself: one where its size is 0
+abbrev pub cover : Block → ℕ
+cover block = max block.size 1
+
+-- the address after a region
+abbrev pub end_of : Region → ℕ
+end_of region = region.start + 4096 * region.pages
+
+-- whether an address lies in the region
+abbrev pub is_within : ℕ → Region → Bool
+is_within address region = nat_le region.start address && nat_lt address (end_of region)
+
+-- the pages of all of these regions
+abbrev pub total_pages : List Region → ℕ
+total_pages [] = 0
+total_pages (region ∷ rest) = region.pages + total_pages rest

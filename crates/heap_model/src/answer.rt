@@ -1,0 +1,28 @@
+use crate::RegionList;
+
+/// Why a call was refused. A refused call changes nothing.
+#[derive(Clone, Copy, PartialEq, Eq, Debug)]
+pub enum Refusal {
+    /// The size is so great that no heap of this granularity serves it.
+    TooLarge,
+    /// No heap region has room for the request, and the window has no place for its pages.
+    NoSpace,
+    /// No heap region has room for the request, and there are too few free frames for its pages and their tables.
+    NoFrames,
+}
+
+/// What a call answers.
+#[derive(Drop)]
+pub enum Reply {
+    /// The block of this number lies at this address. Blocks are numbered from 0 in the order given.
+    Block { number: u64, address: u64 },
+    /// The call was refused, and changed nothing.
+    Refused(Refusal),
+}
+
+/// A reply, and the heap regions after the call where the call changed them.
+#[derive(Drop)]
+pub struct Answer {
+    pub reply: Reply,
+    pub regions: Option<RegionList>,
+}
