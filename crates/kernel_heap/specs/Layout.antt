@@ -1,0 +1,60 @@
+-- What a paged system keeps, beside what its state says.
+use Rattle.std.specs.Prelude.{◌≡◌, ℕ, ◌+◌, ◌*◌, ◌/◌, ◌^◌, ◌<◌, ◌≤◌, List, [], ◌∷◌, ◌++◌, None}
+use Rattle.paging_core.specs.Memory.{frame_count}
+use Rattle.paging_core.specs.Pool.{FreeBelow, free_count}
+use Rattle.paging_core.specs.Walk.{reach, walk_of}
+use Rattle.paging_core.specs.Tree.{IsTree}
+use Rattle.paging_core.specs.Missing.{missing_of}
+use Rattle.heap_model.specs.declared.region.Region.{Region}
+use Rattle.heap_model.specs.State.{total_pages}
+use Rattle.heap_model.specs.Room.{heap_region}
+use Rattle.heap_model.specs.Machine.{Paged, IsPagedGrant}
+use Rattle.kernel_heap.specs.Config.{IsGoodWindow}
+
+-- regions of the heap one after the other, from one address to another
+abbrev pub AreConsecutive : ℕ → List Region → ℕ → Type 0
+AreConsecutive from [] to = from ≡ to
+AreConsecutive from (region ∷ rest) to = (region ≡ heap_region from region.pages) × (0 < region.pages) × AreConsecutive (from + 4096 * region.pages) rest to
+
+-- the address after the last region, and the address after the window
+abbrev pub regions_end : Paged → ℕ
+regions_end p = p.base + 4096 * total_pages p.regions
+
+abbrev pub window_end : Paged → ℕ
+window_end p = p.base + 4096 * p.pages
+
+-- The tables form a tree, the regions follow each other from the start of the window, and nothing of the window
+-- behind them is mapped.
+pub record IsKept (p : Paged) : Type 0 where
+  pub window : IsGoodWindow p.base p.pages
+  pub tree : IsTree p.words p.root p.free
+  pub flags : FreeBelow p.free (frame_count p.words)
+  pub root_in : p.root < frame_count p.words
+  pub few_frames : frame_count p.words < 2 ^ 32
+  pub held : p.tables + free_count p.free ≤ frame_count p.words
+  pub consecutive : AreConsecutive p.base p.regions (regions_end p)
+  pub inside : regions_end p ≤ window_end p
+  pub unmapped : (page : ℕ) → regions_end p ≤ 4096 * page → 4096 * page < window_end p → walk_of p.words p.root page ≡ None
+
+-- The system is new: nothing is mapped, and all frames but that of the root are free.
+pub record IsNew (p : Paged) (base pages frames : ℕ) : Type 0 where
+  pub kept : IsKept p
+  pub base_is : p.base ≡ base
+  pub pages_is : p.pages ≡ pages
+  pub regions_is : p.regions ≡ []
+  pub tables_is : p.tables ≡ 1
+  pub frames_are : frame_count p.words ≡ frames
+  pub free_frames : free_count p.free + 1 ≡ frames
+  pub no_tables : (level number : ℕ) → 0 < level → reach p.words p.root level number ≡ None
+  pub unmapped : (page : ℕ) → walk_of p.words p.root page ≡ None
+
+-- So many pages have a place behind the regions, and there are frames for them and the tables that they lack.
+pub record CanGrant (p : Paged) (pages : ℕ) : Type 0 where
+  pub some : 0 < pages
+  pub inside : regions_end p + 4096 * pages ≤ window_end p
+  pub frames : pages + missing_of p.words p.root (regions_end p / 4096) pages ≤ free_count p.free
+
+-- So many pages were granted behind the regions.
+pub record IsGranted (old new : Paged) (pages : ℕ) : Type 0 where
+  pub grant : IsPagedGrant old new (regions_end old) pages
+  pub regions : new.regions ≡ old.regions ++ heap_region (regions_end old) pages ∷ []

@@ -1,0 +1,4 @@
+pub mod Config
+pub mod Layout
+pub mod System
+pub mod Machine

@@ -1,0 +1,198 @@
+// The paged system: physical memory, its page tables, and the regions that are mapped.
+ghost use Rattle.std.specs.Prelude.{◌≡◌, ℕ, ◌+◌, ◌*◌, ◌/◌, ◌^◌, ◌<◌, ◌≤◌, IfOk, OnOk, OnErr, IsErrOf};
+ghost use Rattle.paging_core.specs.Pool.{free_count};
+ghost use Rattle.paging_core.specs.Missing.{missing_of};
+ghost use Rattle.heap_model.specs.Room.{heap_region as granted_region, heap_rights as granted_rights};
+ghost use Rattle.kernel_heap.specs.Config.{IsGoodWindow};
+
+use heap_model::{Region, RegionList, Rights};
+use paging_core::{
+    FramePool, Frames, Page, PageSize, PhysFrame, Size4KiB, VirtAddr, make_root, map_range,
+    missing_tables,
+};
+use std::alloc::{AllocError, Global};
+
+/// Why pages are not granted.
+#[derive(Clone, Copy, PartialEq, Eq, Debug)]
+pub enum GrantFault {
+    /// The window has no place for them.
+    NoSpace,
+    /// They have a place, but there are too few free frames for them and the tables that they lack.
+    NoFrames,
+}
+
+/// The rights of the heap: its pages may be written, and neither used by the user nor fetched from.
+fn heap_rights() -> Rights
+    ensures { result ≡ granted_rights }
+{
+    Rights {
+        write: true,
+        user: false,
+        fetch: false,
+    }
+}
+
+/// A region of the heap.
+pub fn heap_region(start: u64, pages: u64) -> Region
+    ensures { result ≡ granted_region start pages }
+{
+    Region {
+        start,
+        pages,
+        heap: true,
+        rights: heap_rights(),
+    }
+}
+
+/// Physical memory with its page tables and its free frames, and a window of virtual memory in which pages are
+/// granted, each with a frame of its own.
+#[derive(Drop)]
+pub struct PagedSystem {
+    base: u64,
+    pages: u64,
+    frames: Frames,
+    pool: FramePool,
+    root: PhysFrame,
+    tables: u64,
+    regions: Vec<Region>,
+}
+
+impl PagedSystem {
+    ghost use Rattle.kernel_heap.specs.Layout.{IsKept, IsNew, CanGrant, IsGranted, regions_end, window_end};
+    ghost use Rattle.kernel_heap.specs.System.{paged};
+
+    /// A system with a window of `pages` pages from the address `base` on, and with `frames` frames, of which one
+    /// holds the root table. Nothing is mapped.
+    pub fn new(alloc: Global, base: u64, pages: u64, frames: u32) -> Result<Self, AllocError>
+        requires window { IsGoodWindow base pages }
+        requires frames { 0 < frames }
+        ensures { IfOk result (λ system. IsNew (paged system) base pages frames) }
+    {
+        let mut memory = Frames::new(alloc, frames)?;
+        let mut pool = FramePool::new(alloc, frames)?;
+        let Some(root) = make_root(&mut memory, &mut pool) else {
+            unreachable!()
+        };
+        Ok(PagedSystem {
+            base,
+            pages,
+            frames: memory,
+            pool,
+            root,
+            tables: 1,
+            regions: Vec::new(alloc),
+        })
+    }
+
+    /// The regions, by ascending address.
+    pub fn regions(&self, alloc: Global) -> Result<RegionList, AllocError>
+        ensures { IfOk result (λ list. list ≡ (paged self.now).regions) }
+    {
+        Ok(RegionList::from_vec(Vec::from_slice(alloc, &self.regions)?))
+    }
+
+    /// The physical memory.
+    pub fn frames(&self) -> &Frames
+        ensures { result.now ≡ (paged self.now).words }
+    {
+        &self.frames
+    }
+
+    /// The frame of the root table.
+    pub fn root(&self) -> PhysFrame
+        ensures { result ≡ (paged self.now).root }
+    {
+        self.root
+    }
+
+    /// The number of free frames.
+    pub fn free_frames(&self) -> u64
+        ensures { result ≡ free_count (paged self.now).free }
+    {
+        self.pool.free_count()
+    }
+
+    /// The number of tables, with the root.
+    pub fn tables(&self) -> u64
+        ensures { result ≡ (paged self.now).tables }
+    {
+        self.tables
+    }
+
+    /// The first address of the window.
+    pub(crate) fn base(&self) -> u64
+        ensures { result ≡ (paged self.now).base }
+    {
+        self.base
+    }
+
+    /// The bytes of the window.
+    pub(crate) fn window_bytes(&self) -> u64
+        requires { IsKept (paged self.now) }
+        ensures bytes { result ≡ 4096 * (paged self.now).pages }
+        ensures small { result ≤ 2 ^ 47 }
+    {
+        self.pages * Size4KiB::SIZE
+    }
+
+    /// The address after the last region.
+    pub(crate) fn end(&self) -> u64
+        requires { IsKept (paged self.now) }
+        ensures end { result ≡ regions_end (paged self.now) }
+    {
+        match self.regions.last() {
+            Some(region) => region.start + region.pages * Size4KiB::SIZE,
+            None => self.base,
+        }
+    }
+
+    /// Whether so many pages can be granted behind the regions.
+    pub(crate) fn plan(&self, pages: u64) -> Result<(), GrantFault>
+        requires kept { IsKept (paged self.now) }
+        requires some { 0 < pages }
+        requires few { pages ≤ 2 ^ 40 }
+        ensures ok { OnOk result (CanGrant (paged self.now) pages) }
+        ensures no_space { IsErrOf result GrantFault.NoSpace → window_end (paged self.now) < regions_end (paged self.now) + 4096 * pages }
+        ensures no_frames { IsErrOf result GrantFault.NoFrames → (regions_end (paged self.now) + 4096 * pages ≤ window_end (paged self.now))
+            × (free_count (paged self.now).free < pages + missing_of (paged self.now).words (paged self.now).root (regions_end (paged self.now) / 4096) pages) }
+    {
+        let end = self.end();
+        if pages * Size4KiB::SIZE > self.window_bytes() - (end - self.base) {
+            return Err(GrantFault::NoSpace);
+        }
+        let free = self.pool.free_count();
+        if free < pages {
+            return Err(GrantFault::NoFrames);
+        }
+        let missing = missing_tables(&self.frames, self.root, end / Size4KiB::SIZE, pages);
+        if free - pages < missing {
+            return Err(GrantFault::NoFrames);
+        }
+        Ok(())
+    }
+
+    /// Grants so many pages behind the regions. An `Err` changes nothing.
+    pub(crate) fn grant(&mut self, pages: u64) -> Result<(), AllocError>
+        requires kept { IsKept (paged self.old) }
+        requires can { CanGrant (paged self.old) pages }
+        ensures kept { IsKept (paged self.new) }
+        ensures ok { OnOk result (IsGranted (paged self.old) (paged self.new) pages) }
+        ensures err { OnErr result (paged self.new ≡ paged self.old) }
+    {
+        let end = self.end();
+        let free = self.pool.free_count();
+        self.regions.reserve(1)?;
+        let first = Page::containing_address(VirtAddr::new(end));
+        map_range(
+            &mut self.frames,
+            &mut self.pool,
+            self.root,
+            first,
+            pages,
+            heap_rights(),
+        );
+        self.tables += free - pages - self.pool.free_count();
+        self.regions.push_reserved(heap_region(end, pages));
+        Ok(())
+    }
+}
