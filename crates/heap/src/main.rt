@@ -1,0 +1,90 @@
+//! The program `heap`: a kernel heap over four-level page tables, driven by lines of text.
+#![tactic(auto)]
+
+ghost use Rattle.std.specs.Prelude.{◌≤◌};
+
+use heap_program::{ReaderSource, WriterSink, heap_main, status_text};
+use std::process::ExitCode;
+use std::{env, io};
+
+const VERSION: &str = "heap 0.1.0\n";
+
+const HELP: &str = "\
+heap 0.1.0: a kernel heap over four-level page tables in a modelled memory
+
+Usage: heap COMMAND
+
+Commands:
+  run          answers each line of standard input on standard output, then
+               prints the regions, the free frames and the page tables
+  --help       prints this text
+  --version    prints the name and the version
+
+Lines:
+  malloc SIZE  asks for a block of SIZE bytes. The answer is `block NUMBER
+               ADDRESS`, or `refused` and one of too-large, no-space and
+               no-frames. Where pages were granted, a second line has `heap`
+               and each heap region as ADDRESS+PAGES.
+
+A number is decimal, or 0x and hexadecimal digits, and below 2^64. Words stand
+between single spaces. Any other line, and one of more than 8192 bytes, is
+answered `bad line`.
+
+Exit status: 0 ok, 1 usage, 5 out of memory, 6 read fault, 7 write fault,
+8 input too long (more than 2^30 bytes)
+";
+
+/// The words behind the program's own name.
+fn words(rt: &HostRuntime) -> io::Result<Vec<String>> {
+    let mut words = Vec::new(rt.alloc());
+    for word in env::args(rt)?.skip(1) {
+        words.push(word)?;
+    }
+    Ok(words)
+}
+
+/// The status after words that could not be read.
+fn status_of(error: &io::Error) -> u8
+    ensures { result ≤ 8 }
+{
+    if error.kind() == io::ErrorKind::OutOfMemory {
+        5
+    } else {
+        1
+    }
+}
+
+/// Prints a text, and answers the status.
+fn show(rt: &HostRuntime, text: &str) -> u8
+    ensures { result ≤ 8 }
+{
+    match rt.print(text) {
+        Ok(()) => 0,
+        Err(_) => 7,
+    }
+}
+
+fn status(rt: &HostRuntime, words: &[String]) -> u8
+    ensures { result ≤ 8 }
+{
+    match words {
+        [word] if word.as_str() == "--help" => show(rt, HELP),
+        [word] if word.as_str() == "--version" => show(rt, VERSION),
+        _ => {
+            let mut source = ReaderSource::new(rt.reader());
+            let mut sink = WriterSink::new(io::writer(rt));
+            heap_main(rt.alloc(), words, &mut source, &mut sink).status
+        }
+    }
+}
+
+fn main(rt: HostRuntime) -> io::Result<ExitCode> {
+    let status = match words(&rt) {
+        Ok(words) => status(&rt, &words),
+        Err(error) => status_of(&error),
+    };
+    if status != 0 {
+        eprintln!(rt; "{}", status_text(status))?;
+    }
+    Ok(ExitCode::from(status))
+}

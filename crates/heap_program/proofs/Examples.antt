@@ -1,0 +1,70 @@
+-- Worked values: the definitions computed on short inputs.
+use Rattle.std.proofs.Common.{◌≡◌, ◌^◌, ◌-◌, true, false, [], ◌∷◌, codes, refl, Some, None}
+use Rattle.heap_model.specs.declared.call.Call.TheVariants.{Malloc}
+use Rattle.heap_model.specs.declared.answer.Reply.TheVariants.{Block, Refused}
+use Rattle.heap_model.specs.declared.answer.Refusal.TheVariants.{NoFrames}
+use Rattle.std.specs.Fmt.{digits}
+use Rattle.heap_model.specs.Room.{heap_region}
+use Rattle.heap_model.specs.State.{start}
+use Rattle.heap_program.specs.Grammar.{item_of}
+use Rattle.heap_program.specs.Headline.{default_config}
+use Rattle.heap_program.specs.Lines.{items_of, lines_of}
+use Rattle.heap_program.specs.Number.{number_of}
+use Rattle.heap_program.specs.Status.{status_text_of}
+use Rattle.heap_program.specs.Text.{text_of, region_line, end_text_of}
+use Rattle.heap_program.specs.Words.{words_of}
+
+-- numbers
+
+number-decimal : number_of (codes "0024") ≡ Some 24
+number-decimal = refl
+
+number-hexadecimal : number_of (codes "0xFfffFFFFFFFFffff") ≡ Some (2 ^ 64 - 1)
+number-hexadecimal = refl
+
+number-21_digits : number_of (codes "000000000000000000001") ≡ None
+number-21_digits = refl
+
+number-too_large : number_of (codes "18446744073709551616") ≡ None
+number-too_large = refl
+
+number-upper_x : number_of (codes "0X10") ≡ None
+number-upper_x = refl
+
+number-no_digit : number_of (codes "0x") ≡ None
+number-no_digit = refl
+
+-- words and lines
+
+words-two_spaces : words_of (codes "malloc  3") ≡ codes "malloc" ∷ [] ∷ codes "3" ∷ []
+words-two_spaces = refl
+
+lines-last : lines_of (codes "a\n\nb") ≡ codes "a" ∷ [] ∷ codes "b" ∷ []
+lines-last = refl
+
+items-short : items_of (codes "malloc 24\nmalloc  3\nmalloc 0x10 16\nmalloc 0x1f") ≡ Some (Malloc 24 16) ∷ None ∷ None ∷ Some (Malloc 31 16) ∷ []
+unfolding items_of item_of
+items-short = refl
+
+-- texts
+
+text-block : text_of (record { reply = Block 2 0x40ffd0; regions = Some (heap_region 0x400000 16 ∷ heap_region 0x410000 16 ∷ []) }) ≡ codes "block 2 0x40ffd0\nheap 0x400000+16 0x410000+16\n"
+unfolding text_of digits
+text-block = refl
+
+text-none : text_of (record { reply = Refused NoFrames; regions = Some [] }) ≡ codes "refused no-frames\nheap none\n"
+unfolding text_of
+text-none = refl
+
+text-user_region : region_line (record { start = 0x410000; pages = 1; heap = false; rights = record { write = true; user = false; fetch = false } }) ≡ codes "region 0x410000+1 user rw--\n"
+unfolding digits
+text-user_region = refl
+
+text-start : end_text_of (start default_config) ≡ codes "frames 1023 tables 1\n"
+unfolding end_text_of digits
+text-start = refl
+
+-- statuses
+
+status-8 : status_text_of 8 ≡ codes "input too long"
+status-8 = refl

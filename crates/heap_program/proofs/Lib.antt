@@ -1,0 +1,14 @@
+pub mod Commands
+pub mod Defaults
+pub mod Errors
+mod Examples
+pub mod Known
+pub mod LineLemmas
+pub mod Numerals
+pub mod Runs
+pub mod Servable
+pub mod Sessions
+pub mod Spellings
+pub mod Texts
+pub mod Wholes
+pub mod WordLemmas

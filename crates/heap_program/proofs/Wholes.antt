@@ -1,0 +1,262 @@
+-- A whole run, piece after piece.
+use Rattle.std.proofs.Common.{◌≡◌, ◌<◌, ◌≤◌, ◌^◌, ◌+◌, ℕ, List, [], ◌++◌, length, take, drop, Option, None, Some, IfSome, Result, Ok, Err, IsErrOf, string_bytes, refl, sym, ◌∙◌, ap, subst, arith, append_assoc, length-append, take-append-drop, ◌⊎◌, inl, inr, ◌↔◌}
+use Rattle.std.proofs.lemmas.List.{append-nil}
+use Rattle.std.proofs.lemmas.Grind.{flat_map-append}
+use Rattle.std.specs.Prelude.{unwrap_or, IsErrAnd}
+use Rattle.std.specs.Io.KnownBytes.{Appends, Consumes, Keeps, IsAtEnd}
+use Rattle.heap_model.specs.declared.answer.Answer.{Answer}
+use Rattle.heap_model.specs.declared.call.Call.{Call}
+use Rattle.heap_model.specs.State.{State}
+use Rattle.kernel_heap.specs.declared.machine.Machine.{Machine}
+use Rattle.heap_program.specs.declared.session.Session.{Session}
+use Rattle.heap_program.specs.declared.run.Stop.{Stop}
+use Rattle.heap_program.specs.declared.run.Stop.TheVariants.{Memory, ReadFault, WriteFault, TooLong}
+use Rattle.heap_program.specs.Advanced.{Advanced}
+use Rattle.heap_program.specs.Flushed.{IsAllFlushed}
+use Rattle.heap_program.specs.Headline.{ending_of, IsFront, IsReadWhole, IsAnswered, IsStopped}
+use Rattle.heap_program.specs.Lines.{items_of}
+use Rattle.heap_program.specs.Progress.{RunsTo, texts_of, Answered, IsAt, IsEnd}
+use Rattle.heap_program.specs.Stop.{IsFresh, HasRead, HasClosed, HasPart, HasStopped}
+use Rattle.heap_program.specs.Text.{line_text, end_text_of}
+use Rattle.heap_program.proofs.Known.{appends_nothing, appends_more, consumes_nothing, consumes_more, consumes_keeps}
+use Rattle.heap_program.proofs.Runs.{runs_none, answered_none, answered_more, run_on}
+
+-- nothing went out
+pub front_none : (s : State) (bytes : List ℕ) → IsFront s bytes []
+front_none s bytes = record { items = []; others = items_of bytes; split = refl; answers = []; state = s; run = runs_none s; more = ending_of (items_of bytes) s; front = refl }
+
+-- a front of the texts of the answers
+pub front_texts : (s e : State) (before bytes told after front more : List ℕ) → Answered s before bytes told after e → front ++ more ≡ told → IsFront s (before ++ bytes) front
+front_texts s e before bytes told after front more a split =
+    let ending = ending_of (items_of (after ++ [])) e in
+    record {
+      items = a.items;
+      others = items_of (after ++ []);
+      split = ap (λ (l : List ℕ). items_of (before ++ l)) (sym (append-nil bytes)) ∙ a.read [];
+      answers = a.answers;
+      state = e;
+      run = a.run;
+      more = more ++ ending;
+      front = sym (append_assoc front more ending) ∙ ap (λ (l : List ℕ). l ++ ending) (split ∙ a.text);
+    }
+
+-- a front of the texts and the end text
+pub front_end : (s : State) (bytes whole : List ℕ) (machine : Machine) (front more : List ℕ) → IsEnd s bytes whole machine → front ++ more ≡ whole → IsFront s bytes front
+front_end s bytes whole machine front more k split = record {
+  items = items_of bytes;
+  others = [];
+  split = sym (append-nil (items_of bytes));
+  answers = k.answers;
+  state = k.state;
+  run = k.run;
+  more = more;
+  front = split ∙ k.text;
+}
+
+texts_more : (xs ys : List (Option Answer)) (t u last : List ℕ) → t ≡ texts_of xs → u ≡ texts_of ys ++ last → t ++ u ≡ texts_of (xs ++ ys) ++ last
+texts_more xs ys t u last p q =
+    (λ i. p i ++ q i)
+    ∙ sym (append_assoc (texts_of xs) (texts_of ys) last)
+    ∙ ap (λ (l : List ℕ). l ++ last) (sym (flat_map-append line_text xs ys))
+
+-- some bytes are answered, and then a front
+pub front_after : (s m : State) (bytes told line extra part : List ℕ) → Answered s [] bytes told line m → IsFront m (line ++ extra) part → IsFront s (bytes ++ extra) (told ++ part)
+front_after s m bytes told line extra part a k = record {
+  items = a.items ++ k.items;
+  others = k.others;
+  split = a.read extra ∙ ap (λ (l : List (Option Call)). a.items ++ l) k.split ∙ sym (append_assoc a.items k.items k.others);
+  answers = a.answers ++ k.answers;
+  state = k.state;
+  run = run_on s m k.state a.items k.items a.answers k.answers a.run k.run;
+  more = k.more;
+  front = append_assoc told part k.more ∙ texts_more a.answers k.answers told (part ++ k.more) (ending_of k.others k.state) a.text k.front;
+}
+
+-- the same, where nothing comes after the line
+front_last : (s m : State) (bytes told line part : List ℕ) → Answered s [] bytes told line m → IsFront m line part → IsFront s bytes (told ++ part)
+front_last s m bytes told line part a k =
+    subst (λ (b : List ℕ). IsFront s b (told ++ part)) (append-nil bytes)
+    (front_after s m bytes told line [] part a (subst (λ (b : List ℕ). IsFront m b part) (sym (append-nil line)) k))
+
+-- some bytes are answered, and then the rest
+end_after : (s m : State) (bytes told line last : List ℕ) (machine : Machine) → Answered s [] bytes told line m → IsEnd m line last machine → IsEnd s bytes (told ++ last) machine
+end_after s m bytes told line last machine a k =
+    let items : items_of bytes ≡ a.items ++ items_of line =
+    ap items_of (sym (append-nil bytes)) ∙ a.read [] ∙ ap (λ (l : List ℕ). a.items ++ items_of l) (append-nil line) in
+    record {
+      answers = a.answers ++ k.answers;
+      state = k.state;
+      run = subst (λ (l : List (Option Call)). RunsTo s l (a.answers ++ k.answers) k.state) (sym items) (run_on s m k.state a.items (items_of line) a.answers k.answers a.run k.run);
+      at = k.at;
+      text = texts_more a.answers k.answers told last (end_text_of k.state) a.text k.text;
+    }
+
+-- before the first piece
+pub read_none : (s : State) (session : Session) (left taken : Option (List ℕ)) → IsFresh session → IsAt session.machine s → HasRead s session.machine session.line left left taken taken 0
+read_none s session left taken fresh at = record {
+  bytes = [];
+  told = [];
+  state = s;
+  consumed = consumes_nothing left;
+  counted = refl;
+  appended = appends_nothing taken;
+  at = at;
+  answered = subst (λ (l : List ℕ). Answered s [] [] [] l s) (sym fresh.line) (answered_none s []);
+}
+
+-- one piece more
+pub read_more : (s : State) (old fed : Session) (l l1 l2 t t1 t2 : Option (List ℕ)) (n : ℕ) (piece : List ℕ) (h : HasRead s old.machine old.line l l1 t t1 n) → string_bytes old.output ≡ [] → Consumes l1 l2 piece → Advanced h.state old fed piece → Appends t1 t2 (string_bytes fed.output) → HasRead s fed.machine fed.line l l2 t t2 (n + length piece)
+read_more s old fed l l1 l2 t t1 t2 n piece h empty consumed a appended =
+    let output : string_bytes fed.output ≡ a.told = a.output ∙ ap (λ (o : List ℕ). o ++ a.told) empty in
+    record {
+      bytes = h.bytes ++ piece;
+      told = h.told ++ a.told;
+      state = a.state;
+      consumed = consumes_more l l1 l2 h.bytes piece h.consumed consumed;
+      counted = length-append h.bytes piece ∙ ap (λ (k : ℕ). k + length piece) h.counted;
+      appended = appends_more t t1 t2 h.told a.told h.appended (subst (Appends t1 t2) output appended);
+      at = a.at;
+      answered = answered_more s h.state a.state [] old.line fed.line h.bytes piece h.told a.told h.answered a.answered;
+    }
+
+-- the end of the input
+pub read_end : (s : State) (machine : Machine) (line : List ℕ) (l l1 l2 t t1 : Option (List ℕ)) (n : ℕ) (h : HasRead s machine line l l1 t t1 n) → Consumes l1 l2 [] → HasRead s machine line l l2 t t1 n
+read_end s machine line l l1 l2 t t1 n h none = record {
+  bytes = h.bytes;
+  told = h.told;
+  state = h.state;
+  consumed = subst (Consumes l l2) (append-nil h.bytes) (consumes_more l l1 l2 h.bytes [] h.consumed none);
+  counted = h.counted;
+  appended = h.appended;
+  at = h.at;
+  answered = h.answered;
+}
+
+-- a stop after these bytes, with part of the text that they call for
+pub stopped : (s : State) (machine : Machine) (line : List ℕ) (stop : Stop) (l l1 l2 t t1 t2 : Option (List ℕ)) (n : ℕ) (piece part : List ℕ) (h : HasRead s machine line l l1 t t1 n) → Consumes l1 l2 piece → Appends t1 t2 part → IsFront h.state (line ++ piece) part → (stop ≡ TooLong → 2 ^ 30 < n + length piece) → (2 ^ 30 < n + length piece → stop ≡ TooLong) → HasStopped s stop l l2 t t2
+stopped s machine line stop l l1 l2 t t1 t2 n piece part h consumed appended front there back =
+    let count : length (h.bytes ++ piece) ≡ n + length piece = length-append h.bytes piece ∙ ap (λ (k : ℕ). k + length piece) h.counted in
+    record {
+      bytes = h.bytes ++ piece;
+      told = h.told ++ part;
+      consumed = consumes_more l l1 l2 h.bytes piece h.consumed consumed;
+      appended = appends_more t t1 t2 h.told part h.appended appended;
+      front = front_after s h.state h.bytes h.told line piece part h.answered front;
+      too_long = (λ is. subst (λ (k : ℕ). 2 ^ 30 < k) (sym count) (there is), λ long. back (subst (λ (k : ℕ). 2 ^ 30 < k) count long));
+    }
+
+-- a front of the last texts went out
+pub part_written : (s : State) (line whole out : List ℕ) (machine : Machine) (t t1 : Option (List ℕ)) (n : ℕ) → out ≡ whole → IsEnd s line whole machine → Appends t t1 (take n out) → HasPart s line t t1
+part_written s line whole out machine t t1 n same end appended = record {
+  told = take n out;
+  appended = appended;
+  front = front_end s line whole machine (take n out) (drop n out) end (take-append-drop n out ∙ same);
+}
+
+-- all of them did
+pub closed : (s : State) (line whole out : List ℕ) (machine : Machine) (t t1 : Option (List ℕ)) → out ≡ whole → IsEnd s line whole machine → Appends t t1 out → HasClosed s machine line t t1
+closed s line whole out machine t t1 same end appended = record { told = whole; appended = subst (Appends t t1) same appended; end = end }
+
+-- a front of the texts of a piece
+pub piece_front : (s : State) (old fed : Session) (piece : List ℕ) (n : ℕ) (a : Advanced s old fed piece) → string_bytes old.output ≡ [] → IsFront s (old.line ++ piece) (take n (string_bytes fed.output))
+piece_front s old fed piece n a empty =
+    let output : string_bytes fed.output ≡ a.told = a.output ∙ ap (λ (o : List ℕ). o ++ a.told) empty in
+    front_texts s a.state old.line piece a.told fed.line (take n (string_bytes fed.output)) (drop n (string_bytes fed.output)) a.answered (take-append-drop n (string_bytes fed.output) ∙ output)
+
+-- a stop before a piece
+pub stopped_before : (s : State) (machine : Machine) (line : List ℕ) (stop : Stop) (l l1 l2 t t1 : Option (List ℕ)) (n : ℕ) (h : HasRead s machine line l l1 t t1 n) → Keeps l1 l2 → n ≤ 2 ^ 30 → (stop ≡ TooLong → ⊥) → HasStopped s stop l l2 t t1
+stopped_before s machine line stop l l1 l2 t t1 n h kept short isnt = record {
+  bytes = h.bytes;
+  told = h.told ++ [];
+  consumed = consumes_keeps l l1 l2 h.bytes h.consumed kept;
+  appended = appends_more t t1 t1 h.told [] h.appended (appends_nothing t1);
+  front = front_last s h.state h.bytes h.told line [] h.answered (front_none h.state line);
+  too_long = (λ is. absurd (isnt is), λ long. absurd (omega (arith, long, h.counted, short)));
+}
+
+-- a stop after a piece, of which nothing was written
+pub stopped_after : (s : State) (machine : Machine) (line : List ℕ) (stop : Stop) (l l1 l2 t t1 : Option (List ℕ)) (n k : ℕ) (piece : List ℕ) (h : HasRead s machine line l l1 t t1 n) → Consumes l1 l2 piece → length piece ≡ k → (stop ≡ TooLong → 2 ^ 30 < n + k) → (2 ^ 30 < n + k → stop ≡ TooLong) → HasStopped s stop l l2 t t1
+stopped_after s machine line stop l l1 l2 t t1 n k piece h consumed len there back =
+    stopped s machine line stop l l1 l2 t t1 t1 n piece [] h consumed (appends_nothing t1) (front_none h.state (line ++ piece))
+    (λ is. subst (λ (k : ℕ). 2 ^ 30 < n + k) (sym len) (there is))
+    (λ long. back (subst (λ (k : ℕ). 2 ^ 30 < n + k) len long))
+
+-- a stop that is not for a long input
+pub of_sink : (stop : Stop) → (stop ≡ Memory) ⊎ (stop ≡ WriteFault) → stop ≡ TooLong → ⊥
+of_sink stop (inl is) long = cc
+of_sink stop (inr is) long = cc
+
+pub read_isnt : (stop : Stop) → stop ≡ ReadFault → stop ≡ TooLong → ⊥
+read_isnt stop is long = cc
+
+read_whole : (l l1 : Option (List ℕ)) (bytes : List ℕ) → Consumes l l1 bytes → IsAtEnd l1 → IsReadWhole l l1 bytes
+read_whole None l1 bytes consumed end = tt
+read_whole (Some xs) None bytes consumed end = absurd consumed
+read_whole (Some xs) (Some ys) bytes consumed end =
+    (sym (consumed ∙ ap (λ (l : List ℕ). bytes ++ l) end ∙ append-nil bytes), ap (λ (l : List ℕ). Some l) end)
+
+-- the last line and the end text close the run
+pub answered : (s : State) (machine last : Machine) (line : List ℕ) (l l1 t t1 t2 : Option (List ℕ)) (flushed : Option ℕ) (n : ℕ) (h : HasRead s machine line l l1 t t1 n) → IsAtEnd l1 → HasClosed h.state last line t1 t2 → IsAllFlushed t2 flushed → IsAnswered s l l1 t t2 flushed last
+answered s machine last line l l1 t t1 t2 flushed n h end k all =
+    let e = end_after s h.state h.bytes h.told line k.told last h.answered k.end in
+    record {
+      input = h.bytes;
+      read = read_whole l l1 h.bytes h.consumed end;
+      answers = e.answers;
+      state = e.state;
+      run = e.run;
+      written = subst (Appends t t2) e.text (appends_more t t1 t2 h.told k.told h.appended k.appended);
+      flushed_all = all;
+      good = e.at.good;
+      stands = e.at.stands;
+    }
+
+-- what is seen of a stop
+pub seen_stopped : (s : State) (stop : Stop) (l l1 t t1 : Option (List ℕ)) → HasStopped s stop l l1 t t1 → IsStopped s l l1 t t1
+seen_stopped s stop l l1 t t1 h = record { input = h.bytes; read = h.consumed; text = h.told; written = h.appended; front = h.front }
+
+-- nothing was read or written
+pub seen_first : (s : State) (left taken : Option (List ℕ)) → IsStopped s left left taken taken
+seen_first s left taken = record { input = []; read = consumes_nothing left; text = []; written = appends_nothing taken; front = front_none s [] }
+
+pub seen_last : (s : State) (machine : Machine) (line : List ℕ) (l l1 t t1 t2 : Option (List ℕ)) (n : ℕ) (h : HasRead s machine line l l1 t t1 n) → HasPart h.state line t1 t2 → IsStopped s l l1 t t2
+seen_last s machine line l l1 t t1 t2 n h k = record {
+  input = h.bytes;
+  read = h.consumed;
+  text = h.told ++ k.told;
+  written = appends_more t t1 t2 h.told k.told h.appended k.appended;
+  front = front_last s h.state h.bytes h.told line k.told h.answered k.front;
+}
+
+-- the length of what came, by what was left
+abbrev IsLong : Option (List ℕ) → Option (List ℕ) → Type 0 → Type 0
+IsLong l l1 P = IfSome l (λ input. P ↔ (2 ^ 30 + length (unwrap_or l1 []) < length input))
+
+where_long : (l l1 : Option (List ℕ)) (bytes : List ℕ) (P : Type 0) → Consumes l l1 bytes → P ↔ (2 ^ 30 < length bytes) → IsLong l l1 P
+where_long None l1 bytes P consumed k = tt
+where_long (Some xs) None bytes P consumed k = absurd consumed
+where_long (Some xs) (Some ys) bytes P consumed k =
+    let len : length xs ≡ length bytes + length ys = ap length consumed ∙ length-append bytes ys in
+    (λ p. let long = k.0 p in omega (arith, long, len), λ more. k.1 (omega (arith, more, len)))
+
+-- of a result
+pub err_long : (l l1 : Option (List ℕ)) (bytes : List ℕ) (stop : Stop) → Consumes l l1 bytes → stop ≡ TooLong ↔ (2 ^ 30 < length bytes) → IsLong l l1 (IsErrOf {T = Machine} (Err stop) TooLong)
+err_long l l1 bytes stop consumed k = where_long l l1 bytes (IsErrOf {T = Machine} (Err stop) TooLong) consumed (λ is. k.0 (inside is), λ long. ap (λ (e : Stop). Err e) (k.1 long))
+  where
+    inside : IsErrOf {T = Machine} (Err stop) TooLong → stop ≡ TooLong
+    inside is = cc
+
+-- of a stop after the last piece
+pub late_long : (s : State) (machine : Machine) (line : List ℕ) (l l1 t t1 : Option (List ℕ)) (n : ℕ) (h : HasRead s machine line l l1 t t1 n) → n ≤ 2 ^ 30 → (stop : Stop) → (stop ≡ Memory) ⊎ (stop ≡ WriteFault) → IsLong l l1 (IsErrOf {T = Machine} (Err stop) TooLong)
+late_long s machine line l l1 t t1 n h short stop which =
+    err_long l l1 h.bytes stop h.consumed (λ is. absurd (of_sink stop which is), λ long. absurd (omega (arith, long, h.counted, short)))
+
+-- of a run that ended
+pub ok_long : (s : State) (machine last : Machine) (line : List ℕ) (l l1 t t1 : Option (List ℕ)) (n : ℕ) (h : HasRead s machine line l l1 t t1 n) → n ≤ 2 ^ 30 → IsLong l l1 (IsErrOf {E = Stop} (Ok last) TooLong)
+ok_long s machine last line l l1 t t1 n h short =
+    where_long l l1 h.bytes (IsErrOf {E = Stop} (Ok last) TooLong) h.consumed (λ is. cc, λ long. absurd (omega (arith, long, h.counted, short)))
+
+-- of a result that is this stop
+pub stop_long : (l l1 : Option (List ℕ)) (r : Result Machine Stop) (stop : Stop) → IsErrAnd r (λ e. e ≡ stop) → IsLong l l1 (IsErrOf {T = Machine} (Err stop) TooLong) → IsLong l l1 (IsErrOf r TooLong)
+stop_long l l1 (Ok machine) stop made long = absurd made
+stop_long l l1 (Err e) stop made long = subst (λ (x : Stop). IsLong l l1 (IsErrOf {T = Machine} (Err x) TooLong)) (sym made) long

@@ -1,0 +1,39 @@
+use Rattle.std.proofs.Common.{rules, ℕ, List, ◌∷◌, ◌++◌, [], Option, Some, None, string_bytes, refl, sym, ◌∙◌, ap, subst}
+use Rattle.std.proofs.lemmas.List.{append-nil}
+use Rattle.std.proofs.lemmas.Result.{on_ok_weaker}
+use Rattle.heap_model.specs.declared.call.Call.{Call}
+use Rattle.heap_model.specs.Answer.{after}
+use Rattle.heap_program.specs.Progress.{RunsTo}
+use Rattle.heap_program.specs.Text.{line_text}
+use Rattle.heap_program.proofs.Servable.{item_servable}
+use Rattle.heap_program.proofs.session.answer_line.Goals as goal
+
+pub step-requires-clause-servable : goal.step-requires-clause-servable
+step-requires-clause-servable c = item_servable c.args.line.now c.in-Some.call (sym c.in_ok-call.ensures ∙ c.in-Some.is)
+
+pub returns-in_ok-answer-in-Some-clause-answered : goal.returns-in_ok-answer-in-Some-clause-answered
+unfolding line_text
+returns-in_ok-answer-in-Some-clause-answered c =
+    let call = c.in-Some.call in
+    let answer = c.in_ok-answer-in-Some.answer in
+    on_ok_weaker c.push_answer.result (λ written s at.
+    let st = c.in_ok-answer-in-Some.ensures.ok s at.good at.stands in
+    record {
+      answers = Some answer ∷ [];
+      state = after s call answer;
+      run = subst (λ (item : Option Call). RunsTo s (item ∷ []) (Some answer ∷ []) (after s call answer)) (sym c.in-Some.is ∙ c.in_ok-call.ensures) (record { run = ((st.allowed, st.good), tt); last = refl });
+      at = record { good = st.good; stands = st.stands };
+      output = written ∙ ap (λ (l : List ℕ). string_bytes c.args.output.now ++ l) (sym (append-nil (line_text (Some answer))));
+    }) c.push_answer.ensures
+
+pub returns-in-None-clause-answered : goal.returns-in-None-clause-answered
+unfolding line_text
+returns-in-None-clause-answered c =
+    on_ok_weaker c.push_str.result (λ written s at.
+    record {
+      answers = None ∷ [];
+      state = s;
+      run = subst (λ (item : Option Call). RunsTo s (item ∷ []) (None ∷ []) s) (sym c.in-None.is ∙ c.in_ok-call.ensures) (record { run = (tt, tt); last = refl });
+      at = at;
+      output = written;
+    }) (search rules)

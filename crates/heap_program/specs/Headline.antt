@@ -1,0 +1,66 @@
+-- What a whole run has done.
+use Rattle.std.specs.Prelude.{◌≡◌, ⊤, ℕ, List, [], ◌∷◌, ◌++◌, Option, None, Some}
+use Rattle.std.specs.Io.KnownBytes.{Appends, Consumes}
+use Rattle.heap_model.specs.declared.answer.Answer.{Answer}
+use Rattle.heap_model.specs.declared.call.Call.{Call}
+use Rattle.heap_model.specs.declared.config.Config.{Config}
+use Rattle.heap_model.specs.State.{State}
+use Rattle.heap_model.specs.Run.{IsGood}
+use Rattle.heap_model.specs.Machine.{Stands}
+use Rattle.kernel_heap.specs.declared.machine.Machine.{Machine}
+use Rattle.kernel_heap.specs.Machine.{seen}
+use Rattle.heap_program.specs.Flushed.{IsAllFlushed}
+use Rattle.heap_program.specs.Lines.{items_of}
+use Rattle.heap_program.specs.Progress.{RunsTo, texts_of}
+use Rattle.heap_program.specs.Text.{end_text_of}
+
+-- the configuration of the command `run`
+abbrev pub default_config : Config
+default_config = record { base = 0x400000; pages = 1024; granularity = 65536; frames = 1024; rate = 4095 }
+
+-- the input is all that the source had, and none of it is left; nothing is said of a source that tells no bytes
+abbrev pub IsReadWhole : Option (List ℕ) → Option (List ℕ) → List ℕ → Type 0
+IsReadWhole (Some bytes) left input = (input ≡ bytes) × (left ≡ Some [])
+IsReadWhole None left input = ⊤
+
+-- A run that ended well. The source had the input and, after it, has `left`; the sink had taken `before`, and then
+-- `after`, of which `flushed` is flushed.
+pub record IsAnswered (s : State) (had left before after : Option (List ℕ)) (flushed : Option ℕ) (machine : Machine) : Type 0 where
+  -- the source is read to its end
+  pub input : List ℕ
+  pub read : IsReadWhole had left input
+  -- one answer a line, each allowed in the state that the answers before it determine
+  pub answers : List (Option Answer)
+  pub state : State
+  pub run : RunsTo s (items_of input) answers state
+  -- the texts of the answers and then the end text of the last state are written, and flushed
+  pub written : Appends before after (texts_of answers ++ end_text_of state)
+  pub flushed_all : IsAllFlushed after flushed
+  -- the machine stands for the last state, which is good
+  pub good : IsGood state
+  pub stands : Stands (seen machine) state
+
+-- what follows the answers to the first items of an input: the end text, where there are no others
+abbrev pub ending_of : List (Option Call) → State → List ℕ
+ending_of [] state = end_text_of state
+ending_of (other ∷ others) state = []
+
+-- The text is a front of the texts of a run over the first lines of the bytes and, where these are all, of the end
+-- text behind them.
+pub record IsFront (s : State) (bytes text : List ℕ) : Type 0 where
+  pub items : List (Option Call)
+  pub others : List (Option Call)
+  pub split : items_of bytes ≡ items ++ others
+  pub answers : List (Option Answer)
+  pub state : State
+  pub run : RunsTo s items answers state
+  pub more : List ℕ
+  pub front : text ++ more ≡ texts_of answers ++ ending_of others state
+
+-- A run that stopped before its end: the input that it took, and the text that it wrote.
+pub record IsStopped (s : State) (had left before after : Option (List ℕ)) : Type 0 where
+  pub input : List ℕ
+  pub read : Consumes had left input
+  pub text : List ℕ
+  pub written : Appends before after text
+  pub front : IsFront s input text

@@ -1,0 +1,13 @@
+pub mod Advanced
+pub mod Faults
+pub mod Flushed
+pub mod Grammar
+pub mod Headline
+pub mod Lines
+pub mod Number
+pub mod Progress
+pub mod Spelling
+pub mod Status
+pub mod Stop
+pub mod Text
+pub mod Words

@@ -1,0 +1,52 @@
+-- How far a run has come.
+use Rattle.std.specs.Prelude.{◌≡◌, ℕ, List, ◌++◌, Option}
+use Rattle.std.specs.List.{flat_map}
+use Rattle.heap_model.specs.declared.answer.Answer.{Answer}
+use Rattle.heap_model.specs.declared.call.Call.{Call}
+use Rattle.heap_model.specs.State.{State}
+use Rattle.heap_model.specs.Run.{IsGood, IsRun, last_state}
+use Rattle.heap_model.specs.Machine.{Stands}
+use Rattle.kernel_heap.specs.declared.machine.Machine.{Machine}
+use Rattle.kernel_heap.specs.Machine.{seen}
+use Rattle.heap_program.specs.Lines.{items_of}
+use Rattle.heap_program.specs.Text.{line_text, end_text_of}
+
+-- a run over the items from the state s ends in the state e: one answer an item, each allowed in the state that the
+-- answers before it determine
+pub record RunsTo (s : State) (items : List (Option Call)) (answers : List (Option Answer)) (e : State) : Type 0 where
+  pub run : IsRun s items answers
+  pub last : e ≡ last_state s items answers
+
+-- the texts of the answers, one after another
+abbrev pub texts_of : List (Option Answer) → List ℕ
+texts_of answers = flat_map line_text answers
+
+-- the machine stands for the state, which is good
+pub record IsAt (machine : Machine) (s : State) : Type 0 where
+  pub good : IsGood s
+  pub stands : Stands (seen machine) s
+
+-- From the state s, where the line `before` had begun, the bytes are answered by the text `told`. That leaves the
+-- state e, and the line `after` that has begun.
+pub record Answered (s : State) (before bytes told after : List ℕ) (e : State) : Type 0 where
+  pub items : List (Option Call)
+  pub answers : List (Option Answer)
+  pub read : (rest : List ℕ) → items_of (before ++ (bytes ++ rest)) ≡ items ++ items_of (after ++ rest)
+  pub run : RunsTo s items answers e
+  pub text : told ≡ texts_of answers
+
+-- From the state s the items are answered at the end of the output.
+pub record AreAnswered (s : State) (items : List (Option Call)) (machine : Machine) (before after : List ℕ) : Type 0 where
+  pub answers : List (Option Answer)
+  pub state : State
+  pub run : RunsTo s items answers state
+  pub at : IsAt machine state
+  pub output : after ≡ before ++ texts_of answers
+
+-- From the state s all the bytes are answered: the texts of the answers, and then the end text of the last state.
+pub record IsEnd (s : State) (bytes told : List ℕ) (machine : Machine) : Type 0 where
+  pub answers : List (Option Answer)
+  pub state : State
+  pub run : RunsTo s (items_of bytes) answers state
+  pub at : IsAt machine state
+  pub text : told ≡ texts_of answers ++ end_text_of state

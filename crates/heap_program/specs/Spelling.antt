@@ -1,0 +1,35 @@
+-- An output spells one list of answers.
+use Rattle.std.specs.Prelude.{◌≡◌, ◌<◌, ◌^◌, ⊤, List, ◌++◌, length, Option, None, Some}
+use Rattle.std.specs.List.{AllByRecursion}
+use Rattle.heap_model.specs.declared.answer.Answer.{Answer}
+use Rattle.heap_model.specs.declared.answer.Reply.{Reply}
+use Rattle.heap_model.specs.declared.answer.Reply.TheVariants.{Block, Refused}
+use Rattle.heap_model.specs.declared.region.Region.{Region}
+use Rattle.heap_model.specs.Room.{heap_region}
+use Rattle.heap_model.specs.State.{State}
+use Rattle.heap_program.specs.Progress.{texts_of}
+use Rattle.heap_program.specs.Text.{end_text_of}
+
+-- the numbers of a reply fit 64 bits
+abbrev pub ReplyFits : Reply → Type 0
+ReplyFits (Block number address) = (number < 2 ^ 64) × (address < 2 ^ 64)
+ReplyFits (Refused why) = ⊤
+
+-- a heap region, whose numbers fit 64 bits
+abbrev pub RegionFits : Region → Type 0
+RegionFits region = (region.start < 2 ^ 64) × (region.pages < 2 ^ 64) × (region ≡ heap_region region.start region.pages)
+
+abbrev pub RegionsFit : Option (List Region) → Type 0
+RegionsFit None = ⊤
+RegionsFit (Some regions) = AllByRecursion RegionFits regions
+
+-- an answer lists regions of the heap alone; a bad line is None
+abbrev pub AnswerFits : Option Answer → Type 0
+AnswerFits None = ⊤
+AnswerFits (Some answer) = ReplyFits answer.reply × RegionsFit answer.regions
+
+-- two lists of answers to the same number of lines that are printed alike, each before an end text, are the same list
+abbrev pub SpellsOne : Type 0
+SpellsOne =
+    (xs ys : List (Option Answer)) (d e : State) → length xs ≡ length ys → AllByRecursion AnswerFits xs → AllByRecursion AnswerFits ys
+    → texts_of xs ++ end_text_of d ≡ texts_of ys ++ end_text_of e → xs ≡ ys

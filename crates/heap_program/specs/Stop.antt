@@ -1,0 +1,61 @@
+-- Why a run stops before its end, and what it has read and written by then.
+use Rattle.std.specs.Prelude.{◌≡◌, ◌<◌, ◌^◌, ◌↔◌, ℕ, List, [], length, Option, string_bytes}
+use Rattle.std.specs.Io.KnownBytes.{Appends, Consumes}
+use Rattle.heap_model.specs.State.{State}
+use Rattle.kernel_heap.specs.declared.machine.Machine.{Machine}
+use Rattle.heap_program.specs.declared.run.Stop.{Stop}
+use Rattle.heap_program.specs.declared.run.Stop.TheVariants.{Memory, ReadFault, WriteFault, TooLong}
+use Rattle.heap_program.specs.declared.session.Session.{Session}
+use Rattle.heap_program.specs.declared.sink.SinkFault.{SinkFault}
+use Rattle.heap_program.specs.declared.sink.SinkFault.TheVariants.{Failed, OutOfMemory}
+use Rattle.heap_program.specs.Headline.{IsFront}
+use Rattle.heap_program.specs.Progress.{Answered, IsAt, IsEnd}
+
+-- what a fault of the sink stops a run for
+abbrev pub stop_of : SinkFault → Stop
+stop_of Failed = WriteFault
+stop_of OutOfMemory = Memory
+
+-- the status of each
+abbrev pub status_of : Stop → ℕ
+status_of Memory = 5
+status_of ReadFault = 6
+status_of WriteFault = 7
+status_of TooLong = 8
+
+-- nothing came yet
+pub record IsFresh (session : Session) : Type 0 where
+  pub line : session.line ≡ []
+  pub output : string_bytes session.output ≡ []
+
+-- From the state s, `count` bytes came from the source, and the texts of the answers to their lines went to the sink.
+pub record HasRead (s : State) (machine : Machine) (line : List ℕ) (had left before after : Option (List ℕ)) (count : ℕ) : Type 0 where
+  pub bytes : List ℕ
+  pub told : List ℕ
+  pub state : State
+  pub consumed : Consumes had left bytes
+  pub counted : length bytes ≡ count
+  pub appended : Appends before after told
+  pub at : IsAt machine state
+  pub answered : Answered s [] bytes told line state
+
+-- From the state s the line that had begun is answered, and the end text went to the sink too.
+pub record HasClosed (s : State) (machine : Machine) (line : List ℕ) (before after : Option (List ℕ)) : Type 0 where
+  pub told : List ℕ
+  pub appended : Appends before after told
+  pub end : IsEnd s line told machine
+
+-- Only a front of that went to the sink.
+pub record HasPart (s : State) (line : List ℕ) (before after : Option (List ℕ)) : Type 0 where
+  pub told : List ℕ
+  pub appended : Appends before after told
+  pub front : IsFront s line told
+
+-- What came and went before a stop.
+pub record HasStopped (s : State) (stop : Stop) (had left before after : Option (List ℕ)) : Type 0 where
+  pub bytes : List ℕ
+  pub told : List ℕ
+  pub consumed : Consumes had left bytes
+  pub appended : Appends before after told
+  pub front : IsFront s bytes told
+  pub too_long : stop ≡ TooLong ↔ 2 ^ 30 < length bytes

@@ -1,0 +1,72 @@
+-- What is printed.
+use Rattle.std.specs.Prelude.{ℕ, ◌+◌, Bool, List, [], ◌∷◌, ◌++◌, length, codes, Option, None, Some, decimal, if◌then◌else◌, false}
+use Rattle.std.specs.Fmt.{digits}
+use Rattle.std.specs.List.{flat_map}
+use Rattle.heap_model.specs.declared.answer.Answer.{Answer}
+use Rattle.heap_model.specs.declared.answer.Reply.{Reply}
+use Rattle.heap_model.specs.declared.answer.Reply.TheVariants.{Block, Refused}
+use Rattle.heap_model.specs.declared.answer.Refusal.{Refusal}
+use Rattle.heap_model.specs.declared.answer.Refusal.TheVariants.{TooLarge, NoSpace, NoFrames}
+use Rattle.heap_model.specs.declared.region.Region.{Region}
+use Rattle.heap_model.specs.State.{State}
+use Rattle.heap_model.specs.Place.{all_regions}
+use Rattle.heap_model.specs.Tables.{free_frames}
+use Rattle.paging_core.specs.declared.page_table.Rights.{Rights}
+
+-- an address, in lower case without leading zeros
+abbrev pub hexadecimal : ℕ → List ℕ
+hexadecimal n = codes "0x" ++ digits 16 false n
+
+abbrev pub refusal_word : Refusal → List ℕ
+refusal_word TooLarge = codes "too-large"
+refusal_word NoSpace = codes "no-space"
+refusal_word NoFrames = codes "no-frames"
+
+-- the line of a reply
+abbrev pub reply_text : Reply → List ℕ
+reply_text (Block number address) = codes "block " ++ (decimal number ++ (codes " " ++ (hexadecimal address ++ codes "\n")))
+reply_text (Refused why) = codes "refused " ++ (refusal_word why ++ codes "\n")
+
+-- where a region starts, and its pages
+abbrev pub extent_text : Region → List ℕ
+extent_text region = hexadecimal region.start ++ (codes "+" ++ decimal region.pages)
+
+-- the heap regions behind the word `heap`
+abbrev pub regions_text : List Region → List ℕ
+regions_text [] = codes " none"
+regions_text (region ∷ rest) = flat_map (λ r. codes " " ++ extent_text r) (region ∷ rest)
+
+-- the second line of an answer, where it lists the heap regions
+abbrev pub heap_line : Option (List Region) → List ℕ
+heap_line None = []
+heap_line (Some regions) = codes "heap" ++ (regions_text regions ++ codes "\n")
+
+-- the text of an answer
+unfoldable pub text_of : Answer → List ℕ
+text_of answer = reply_text answer.reply ++ heap_line answer.regions
+
+-- what is printed for a line; None is a bad line
+unfoldable pub line_text : Option Answer → List ℕ
+line_text None = codes "bad line\n"
+line_text (Some answer) = text_of answer
+
+-- a letter where the right is granted
+abbrev pub right_text : Bool → List ℕ → List ℕ
+right_text granted letter = if granted then letter else codes "-"
+
+-- reading is always granted; then writes, user accesses and fetches
+abbrev pub rights_text : Rights → List ℕ
+rights_text rights = codes "r" ++ (right_text rights.write (codes "w") ++ (right_text rights.user (codes "u") ++ right_text rights.fetch (codes "x")))
+
+abbrev pub kind_text : Region → List ℕ
+kind_text region = if region.heap then codes "heap" else codes "user " ++ rights_text region.rights
+
+abbrev pub region_line : Region → List ℕ
+region_line region = codes "region " ++ (extent_text region ++ (codes " " ++ (kind_text region ++ codes "\n")))
+
+abbrev pub counts_line : ℕ → ℕ → List ℕ
+counts_line frames tables = codes "frames " ++ (decimal frames ++ (codes " tables " ++ (decimal tables ++ codes "\n")))
+
+-- the text at the end: all regions by address, the free frames, and the tables with the root
+unfoldable pub end_text_of : State → List ℕ
+end_text_of s = flat_map region_line (all_regions s) ++ counts_line (free_frames s) (1 + length s.tables)

@@ -1,0 +1,9 @@
+// Laws of the definitions, which no call needs.
+ghost use Rattle.heap_program.specs.Spelling.{SpellsOne};
+
+/// An output spells one list of answers: where two lists of answers to the same number of lines are
+/// printed alike, each followed by an end text, the lists are equal. Only a `heap` line goes on with an
+/// answer.
+pub fn one_spelling()
+    ensures { SpellsOne }
+{}

@@ -1,0 +1,21 @@
+//! Lines in, text out: the program over the machine.
+#![tactic(auto)]
+
+mod command;
+mod grammar;
+mod laws;
+mod line;
+mod number;
+mod run;
+mod session;
+mod sink;
+mod source;
+mod text;
+mod words;
+
+pub use command::{Ended, heap_main, status_text};
+pub use grammar::parse_call;
+pub use laws::one_spelling;
+pub use sink::{Sink, SinkFault, SureSink, WriterSink};
+pub use source::{Failed, ReaderSource, Source, SureSource};
+pub use text::{end_text, text_of};

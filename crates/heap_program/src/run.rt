@@ -1,0 +1,184 @@
+// A whole run, from the source to the sink.
+ghost use Rattle.std.specs.Prelude.{◌≡◌, ◌≤◌, ◌<◌, ◌^◌, ◌+◌, ◌⊎◌, ◌↔◌, [], ℕ, length, take, unwrap_or, string_bytes, IfSome, IfOk, IfErr, OnOk, OnErr, IsErrOf};
+ghost use Rattle.std.specs.Io.KnownBytes.{Appends, IsAtEnd};
+ghost use Rattle.heap_model.specs.State.{State, start};
+ghost use Rattle.kernel_heap.specs.Config.{IsGoodConfig};
+ghost use Rattle.kernel_heap.specs.Machine.{IsSound};
+ghost use Rattle.heap_program.specs.Faults.{HasRisen};
+ghost use Rattle.heap_program.specs.Flushed.{IsAllFlushed};
+ghost use Rattle.heap_program.specs.Progress.{IsAt};
+ghost use Rattle.heap_program.specs.Stop.{stop_of, IsFresh, HasRead, HasClosed, HasPart, HasStopped};
+ghost use Rattle.heap_program.specs.Headline.{IsAnswered, IsStopped};
+ghost use Rattle.heap_program.specs.declared.run.Stop.TheVariants.{Memory, ReadFault, WriteFault, TooLong};
+
+use crate::session::Session;
+use crate::sink::{Sink, SinkFault};
+use crate::source::{Failed, Source};
+use kernel_heap::{Config, Machine, RunError};
+use std::alloc::{AllocError, Global};
+
+/// The greatest number of bytes that a run takes.
+const LONGEST_INPUT: u64 = 1 << 30;
+
+/// The greatest number of bytes that are asked for at once.
+const LONGEST_PIECE: usize = 4096;
+
+/// Why a run stopped before its end.
+#[derive(Clone, Copy, Debug, PartialEq, Eq)]
+pub enum Stop {
+    /// The host had too little memory.
+    Memory,
+    /// The source failed.
+    ReadFault,
+    /// The sink failed.
+    WriteFault,
+    /// More than 2^30 bytes came.
+    TooLong,
+}
+
+impl From<Failed> for Stop {
+    ghost from_gives = { λ _ stop. stop ≡ ReadFault };
+
+    fn from(_: Failed) -> Stop {
+        Stop::ReadFault
+    }
+}
+
+impl From<SinkFault> for Stop {
+    ghost from_gives = { λ fault stop. stop ≡ stop_of fault };
+
+    fn from(fault: SinkFault) -> Stop {
+        match fault {
+            SinkFault::Failed => Stop::WriteFault,
+            SinkFault::OutOfMemory => Stop::Memory,
+        }
+    }
+}
+
+impl From<AllocError> for Stop {
+    ghost from_gives = { λ _ stop. stop ≡ Memory };
+
+    fn from(_: AllocError) -> Stop {
+        Stop::Memory
+    }
+}
+
+impl From<RunError> for Stop {
+    ghost from_gives = { λ _ stop. stop ≡ Memory };
+
+    fn from(error: RunError) -> Stop {
+        match error {
+            RunError::OutOfMemory => Stop::Memory,
+        }
+    }
+}
+
+// Writes all the bytes, in as many calls as the sink wants.
+fn write_all<K: Sink>(sink: &mut K, bytes: &[u8]) -> Result<(), SinkFault>
+    ensures ok { OnOk result (Appends (K.taken sink.old) (K.taken sink.new) bytes.now) }
+    ensures err { OnErr result ((n : ℕ) × Appends (K.taken sink.old) (K.taken sink.new) (take n bytes.now)) }
+    ensures later { K.faults sink.old ≤ K.faults sink.new }
+    ensures cause { IsErrOf result SinkFault.Failed → HasRisen (K.faults sink.old) (K.faults sink.new) }
+{
+    let mut written = 0;
+    while written < bytes.len() {
+        written += sink.write(&bytes[written..])?;
+    }
+    Ok(())
+}
+
+// Writes the text that waits, and flushes it, so that whoever waits for it sees it.
+fn write_out<K: Sink>(output: &mut String, sink: &mut K) -> Result<(), Stop>
+    ensures ok { OnOk result (Appends (K.taken sink.old) (K.taken sink.new) (string_bytes output.old)) }
+    ensures emptied { OnOk result (string_bytes output.new ≡ []) }
+    ensures flushed { OnOk result (IsAllFlushed (K.taken sink.new) (K.flushed sink.new)) }
+    ensures err { OnErr result ((n : ℕ) × Appends (K.taken sink.old) (K.taken sink.new) (take n (string_bytes output.old))) }
+    ensures which { IfErr result (λ stop. (stop ≡ Memory) ⊎ (stop ≡ WriteFault)) }
+    ensures later { K.faults sink.old ≤ K.faults sink.new }
+    ensures cause { IsErrOf result WriteFault → HasRisen (K.faults sink.old) (K.faults sink.new) }
+{
+    write_all(sink, output.as_bytes())?;
+    output.clear();
+    sink.flush()?;
+    Ok(())
+}
+
+// Answers all of the input but a last line that has no line feed, and counts its bytes. The answers to a piece are
+// written before the next one is asked for.
+fn read_all<S: Source, K: Sink>(
+    session: &mut Session,
+    source: &mut S,
+    sink: &mut K,
+) -> Result<u64, Stop>
+    requires fresh { IsFresh session.old }
+    requires sound { IsSound session.old.machine }
+    ensures sound { IsSound session.new.machine }
+    ensures ok { IfOk result (λ count. (s : State) → IsAt session.old.machine s →
+        HasRead s session.new.machine session.new.line (S.left source.old) (S.left source.new) (K.taken sink.old) (K.taken sink.new) count) }
+    ensures short { IfOk result (λ count. count ≤ 2 ^ 30) }
+    ensures end { OnOk result (IsAtEnd (S.left source.new)) }
+    ensures empty { OnOk result (string_bytes session.new.output ≡ []) }
+    ensures err { IfErr result (λ stop. (s : State) → IsAt session.old.machine s →
+        HasStopped s stop (S.left source.old) (S.left source.new) (K.taken sink.old) (K.taken sink.new)) }
+    ensures read_later { S.faults source.old ≤ S.faults source.new }
+    ensures write_later { K.faults sink.old ≤ K.faults sink.new }
+    ensures read_cause { IsErrOf result ReadFault → HasRisen (S.faults source.old) (S.faults source.new) }
+    ensures write_cause { IsErrOf result WriteFault → HasRisen (K.faults sink.old) (K.faults sink.new) }
+{
+    let mut buffer = [0u8; LONGEST_PIECE];
+    let mut count: u64 = 0;
+    'pieces: loop {
+        let n = source.read(&mut buffer)?;
+        if n == 0 {
+            return Ok(count);
+        }
+        count += n as u64;
+        if count > LONGEST_INPUT {
+            return Err(Stop::TooLong);
+        }
+        session.feed(&buffer[..n])?;
+        write_out(&mut session.output, sink)?;
+    }
+}
+
+// Answers a last line that has no line feed, and writes the end text.
+fn close<K: Sink>(session: &mut Session, sink: &mut K) -> Result<(), Stop>
+    requires empty { string_bytes session.old.output ≡ [] }
+    requires sound { IsSound session.old.machine }
+    ensures sound { IsSound session.new.machine }
+    ensures ok { OnOk result ((s : State) → IsAt session.old.machine s →
+        HasClosed s session.new.machine session.old.line (K.taken sink.old) (K.taken sink.new)) }
+    ensures flushed { OnOk result (IsAllFlushed (K.taken sink.new) (K.flushed sink.new)) }
+    ensures err { OnErr result ((s : State) → IsAt session.old.machine s →
+        HasPart s session.old.line (K.taken sink.old) (K.taken sink.new)) }
+    ensures which { IfErr result (λ stop. (stop ≡ Memory) ⊎ (stop ≡ WriteFault)) }
+    ensures later { K.faults sink.old ≤ K.faults sink.new }
+    ensures cause { IsErrOf result WriteFault → HasRisen (K.faults sink.old) (K.faults sink.new) }
+{
+    session.finish()?;
+    write_out(&mut session.output, sink)
+}
+
+/// Runs a new machine over the source.
+pub fn run<S: Source, K: Sink>(
+    alloc: Global,
+    config: &Config,
+    source: &mut S,
+    sink: &mut K,
+) -> Result<Machine, Stop>
+    requires { IsGoodConfig config.now }
+    ensures sound { IfOk result (λ machine. IsSound machine) }
+    ensures answered { IfOk result (λ machine.
+        IsAnswered (start config.now) (S.left source.old) (S.left source.new) (K.taken sink.old) (K.taken sink.new) (K.flushed sink.new) machine) }
+    ensures stopped { OnErr result (IsStopped (start config.now) (S.left source.old) (S.left source.new) (K.taken sink.old) (K.taken sink.new)) }
+    ensures too_long { IfSome (S.left source.old) (λ input.
+        IsErrOf result TooLong ↔ (2 ^ 30 + length (unwrap_or (S.left source.new) []) < length input)) }
+    ensures read_cause { IsErrOf result ReadFault → HasRisen (S.faults source.old) (S.faults source.new) }
+    ensures write_cause { IsErrOf result WriteFault → HasRisen (K.faults sink.old) (K.faults sink.new) }
+{
+    let mut session = Session::new(alloc, Machine::new(alloc, config)?);
+    read_all(&mut session, source, sink)?;
+    close(&mut session, sink)?;
+    let Session { machine, .. } = session;
+    Ok(machine)
+}

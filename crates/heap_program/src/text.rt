@@ -1,0 +1,152 @@
+// What is printed.
+ghost use Rattle.std.specs.Prelude.{◌≡◌, ◌++◌, codes, IfOk, OnOk, string_bytes};
+ghost use Rattle.std.specs.List.{flat_map};
+ghost use Rattle.heap_model.specs.State.{State};
+ghost use Rattle.heap_model.specs.Machine.{Stands};
+ghost use Rattle.kernel_heap.specs.Machine.{seen};
+ghost use Rattle.heap_program.specs.Text.{text_of, reply_text, refusal_word, extent_text, regions_text, heap_line, right_text, rights_text, kind_text, region_line, counts_line, end_text_of};
+
+use kernel_heap::{Answer, Bytes, Machine, Refusal, Region, RegionList, Reply, Rights};
+use std::alloc::{AllocError, Global};
+
+fn refusal_word(why: Refusal) -> &'static str
+    ensures { result.now ≡ refusal_word why }
+{
+    match why {
+        Refusal::TooLarge => "too-large",
+        Refusal::NoSpace => "no-space",
+        Refusal::NoFrames => "no-frames",
+    }
+}
+
+fn push_reply(out: &mut String, reply: &Reply) -> Result<(), AllocError>
+    ensures { OnOk result (string_bytes out.new ≡ string_bytes out.old ++ reply_text reply.now) }
+{
+    match reply {
+        Reply::Block { number, address } => {
+            let (number, address) = (*number, *address);
+            writeln!(out, "block {number} 0x{address:x}")
+        }
+        Reply::Refused(why) => {
+            let word = refusal_word(*why);
+            writeln!(out, "refused {word}")
+        }
+    }
+}
+
+fn push_extent(out: &mut String, region: Region) -> Result<(), AllocError>
+    ensures { OnOk result (string_bytes out.new ≡ string_bytes out.old ++ extent_text region) }
+{
+    let start = region.start;
+    let pages = region.pages;
+    write!(out, "0x{start:x}+{pages}")
+}
+
+fn push_regions(out: &mut String, regions: &[Region]) -> Result<(), AllocError>
+    ensures { OnOk result (string_bytes out.new ≡ string_bytes out.old ++ regions_text regions.now) }
+{
+    if regions.is_empty() {
+        return out.push_str(" none");
+    }
+    for region in regions {
+        out.push_str(" ")?;
+        push_extent(out, *region)?;
+    }
+    Ok(())
+}
+
+// The second line of an answer, where it has one.
+fn push_heap_line(out: &mut String, regions: &Option<RegionList>) -> Result<(), AllocError>
+    ensures { OnOk result (string_bytes out.new ≡ string_bytes out.old ++ heap_line regions.now) }
+{
+    match regions {
+        None => Ok(()),
+        Some(regions) => {
+            out.push_str("heap")?;
+            push_regions(out, regions.as_slice())?;
+            out.push_str("\n")
+        }
+    }
+}
+
+/// Puts the text of an answer at the end.
+#[tactic(auto, unfolding(crate::specs::Text::text_of))]
+pub fn push_answer(out: &mut String, answer: &Answer) -> Result<(), AllocError>
+    ensures { OnOk result (string_bytes out.new ≡ string_bytes out.old ++ text_of answer.now) }
+{
+    push_reply(out, &answer.reply)?;
+    push_heap_line(out, &answer.regions)
+}
+
+/// The text of an answer: its reply, and the heap regions where they changed. An `Err` says that the host
+/// had too little memory.
+pub fn text_of(alloc: Global, answer: &Answer) -> Result<Bytes, AllocError>
+    ensures { IfOk result (λ text. text ≡ text_of answer.now) }
+{
+    let mut out = String::new(alloc);
+    push_answer(&mut out, answer)?;
+    Ok(Bytes::from_vec(out.into_bytes()))
+}
+
+fn right(granted: bool, letter: &'static str) -> &'static str
+    ensures { result.now ≡ right_text granted letter.now }
+{
+    if granted { letter } else { "-" }
+}
+
+fn push_kind(out: &mut String, region: Region) -> Result<(), AllocError>
+    ensures { OnOk result (string_bytes out.new ≡ string_bytes out.old ++ kind_text region) }
+{
+    if region.heap {
+        return out.push_str("heap");
+    }
+    let write = right(region.rights.write, "w");
+    let user = right(region.rights.user, "u");
+    let fetch = right(region.rights.fetch, "x");
+    write!(out, "user r{write}{user}{fetch}")
+}
+
+fn push_region_line(out: &mut String, region: Region) -> Result<(), AllocError>
+    ensures { OnOk result (string_bytes out.new ≡ string_bytes out.old ++ region_line region) }
+{
+    out.push_str("region ")?;
+    push_extent(out, region)?;
+    out.push_str(" ")?;
+    push_kind(out, region)?;
+    out.push_str("\n")
+}
+
+fn push_region_lines(out: &mut String, regions: &[Region]) -> Result<(), AllocError>
+    ensures { OnOk result (string_bytes out.new ≡ string_bytes out.old ++ flat_map region_line regions.now) }
+{
+    for region in regions {
+        push_region_line(out, *region)?;
+    }
+    Ok(())
+}
+
+fn push_counts(out: &mut String, frames: u64, tables: u64) -> Result<(), AllocError>
+    ensures { OnOk result (string_bytes out.new ≡ string_bytes out.old ++ counts_line frames tables) }
+{
+    writeln!(out, "frames {frames} tables {tables}")
+}
+
+/// Puts the end text of a machine at the end.
+pub fn push_end(alloc: Global, out: &mut String, machine: &Machine) -> Result<(), AllocError>
+    ensures { OnOk result ((s : State) → Stands (seen machine.now) s → string_bytes out.new ≡ string_bytes out.old ++ end_text_of s) }
+{
+    let system = machine.system();
+    let regions = system.regions(alloc)?;
+    push_region_lines(out, regions.as_slice())?;
+    push_counts(out, system.free_frames(), system.tables())
+}
+
+/// The end text of a machine: its regions by ascending address, its free frames and its tables. An `Err`
+/// says that the host had too little memory.
+pub fn end_text(alloc: Global, machine: &Machine) -> Result<Bytes, AllocError>
+    ensures { IfOk result (λ text. (s : State) → Stands (seen machine.now) s → text ≡ end_text_of s) }
+{
+    let mut out = String::new(alloc);
+    push_end(alloc, &mut out, machine)?;
+    Ok(Bytes::from_vec(out.into_bytes()))
+}
