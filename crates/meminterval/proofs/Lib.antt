@@ -1,0 +1,4 @@
+pub mod Ends
+pub mod Ordered
+pub mod Overlap
+pub mod Trees

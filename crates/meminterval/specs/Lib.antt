@@ -1,0 +1,6 @@
+pub mod Entries
+pub mod Entry
+pub mod Interval
+pub mod Query
+pub mod Subtree
+pub mod Tree

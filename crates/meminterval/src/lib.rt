@@ -1,0 +1,19 @@
+//! A balanced tree of intervals that means a finite map from intervals to values.
+#![tactic(auto)]
+
+mod deletion;
+mod entry;
+mod insertion;
+mod interval;
+mod iterators;
+mod node;
+mod rotation;
+mod shortening;
+#[cfg(test)]
+mod tests;
+mod tree;
+
+pub use entry::Entry;
+pub use interval::Interval;
+pub use iterators::IntervalTreeIterator;
+pub use tree::IntervalTree;

@@ -1,0 +1,273 @@
+//! The tree of intervals.
+ghost use Rattle.std.specs.Prelude.{◌≡◌, ◌+◌, ◌-◌, ◌^◌, ◌<◌, ◌≤◌, [], drop, length, map, take, IfOk, IsOk, IsSome, IsTrue, OnErr, OnOk, ◌↔◌};
+ghost use Rattle.std.specs.Option.{option_map, option_copied};
+ghost use Rattle.meminterval.specs.Entries.{AllItems, IsOrdered, first, last, value_at, with_entries, with_entry, without_key};
+ghost use Rattle.meminterval.specs.Entry.{pair_of};
+ghost use Rattle.meminterval.specs.Interval.{ClonesEqual, ClonesItself, HasOwnStart, by_ends, starts_below, starts_from, with_end};
+ghost use Rattle.meminterval.specs.Query.{overlapping};
+ghost use Rattle.meminterval.specs.Tree.{Leaf, entries, fibonacci, height, levels, map_pairs, IsBalanced};
+
+use crate::deletion::{delete_below, take_greatest, take_least};
+use crate::entry::Entry;
+use crate::insertion::insert_below;
+use crate::interval::Interval;
+use crate::iterators::IntervalTreeIterator;
+use crate::node::{Node, Subtree, clone_below};
+use crate::shortening::shorten_below;
+use std::alloc::{AllocError, Global};
+use std::cmp::Ordering;
+use std::marker::Model;
+use std::mem;
+
+/// A finite map from intervals to values, kept as a balanced tree.
+///
+/// Two intervals whose ends compare as equal are one key. Contracts see the tree as a plain binary
+/// tree of pairs, whose pairs from left to right stand in the order of their intervals.
+#[derive(Drop)]
+pub struct IntervalTree<T: Ord + Clone, V> {
+    root: Subtree<T, V>,
+}
+
+impl<T: Ord + Clone, V> Model for IntervalTree<T, V> {
+    ghost use Rattle.std.specs.Coded.{coded×};
+    ghost use Rattle.meminterval.specs.Interval.{interval_code};
+    ghost use Rattle.meminterval.specs.Tree.{Tree, tree_code};
+    ghost use Rattle.meminterval.specs.declared.interval.Interval.{Interval};
+
+    ghost Value = { Tree (Interval T × V) };
+
+    ghost coded = { tree_code (coded× (interval_code T.code) V.code) };
+
+    ghost use Rattle.meminterval.specs.Subtree.{tree_of, IsSound};
+
+    ghost view = { λ t. tree_of t.root };
+
+    ghost invariant = { λ t. IsSound T.cmp t.root };
+}
+
+impl<T: Ord + Clone, V> IntervalTree<T, V> {
+    /// Makes the empty tree.
+    pub fn new() -> Self
+        ensures { result ≡ Leaf }
+    {
+        IntervalTree {
+            root: Subtree::Empty,
+        }
+    }
+
+    /// Whether the tree has no pair.
+    pub fn is_empty(&self) -> bool
+        ensures { IsTrue result ↔ (self.now ≡ Leaf) }
+    {
+        match self.root {
+            Subtree::Empty => true,
+            Subtree::Fork(_) => false,
+        }
+    }
+
+    /// How many pairs the tree has.
+    pub fn size(&self) -> usize
+        ensures count { result ≡ length (entries self.now) }
+
+        // Each interval is below all that stand to the right of it.
+        ensures ordered { IsOrdered (by_ends T.cmp) (entries self.now) }
+    {
+        self.root.size()
+    }
+
+    /// The number of edges on the longest path down from the root: -1 where the tree is empty, and
+    /// 0 for one node.
+    pub fn height(&self) -> i64
+        ensures value { result ≡ height self.now }
+
+        // The heights of the two subtrees of each node differ by at most one, so a tree of height h
+        // has at least F(h + 3) - 1 pairs.
+        ensures balanced { IsBalanced self.now }
+        ensures bound { fibonacci (levels self.now + 2) ≤ length (entries self.now) + 1 }
+    {
+        match &self.root {
+            Subtree::Empty => -1,
+            Subtree::Fork(node) => (node.levels - 1) as i64,
+        }
+    }
+
+    /// The value at an interval.
+    pub fn find(&self, interval: &Interval<T>) -> Option<&V>
+        ensures { option_copied result ≡ value_at (by_ends T.cmp) interval.now (entries self.now) }
+    {
+        let mut at = &self.root;
+        while let Subtree::Fork(node) = at {
+            at = match interval.cmp(&node.interval) {
+                Ordering::Less => &node.left,
+                Ordering::Equal => return Some(&node.value),
+                Ordering::Greater => &node.right,
+            };
+        }
+        None
+    }
+
+    /// The least pair whose interval starts at `key` or above.
+    pub fn first_from(&self, key: &T) -> Option<Entry<'_, T, V>>
+        ensures { option_map pair_of result ≡ first (starts_from T.cmp key.now) (entries self.now) }
+    {
+        let mut least = None;
+        let mut at = &self.root;
+        while let Subtree::Fork(node) = at {
+            if node.interval.starts_below(key) {
+                at = &node.right;
+            } else {
+                least = Some(Entry {
+                    value: &node.value,
+                    interval: &node.interval,
+                });
+                at = &node.left;
+            }
+        }
+        least
+    }
+
+    /// The greatest pair whose interval starts below `key`.
+    pub fn last_before(&self, key: &T) -> Option<Entry<'_, T, V>>
+        ensures { option_map pair_of result ≡ last (starts_below T.cmp key.now) (entries self.now) }
+    {
+        let mut greatest = None;
+        let mut at = &self.root;
+        while let Subtree::Fork(pair) = at {
+            if pair.interval.starts_below(key) {
+                greatest = Some(Entry {
+                    value: &pair.value,
+                    interval: &pair.interval,
+                });
+                at = &pair.right;
+            } else {
+                at = &pair.left;
+            }
+        }
+        greatest
+    }
+
+    /// The pairs whose intervals overlap `interval`, each once, in the order node, right subtree,
+    /// left subtree.
+    pub fn query(
+        &self,
+        alloc: Global,
+        interval: Interval<T>,
+    ) -> Result<IntervalTreeIterator<'_, T, V>, AllocError>
+        ensures { IfOk result (λ pairs. pairs ≡ overlapping T.cmp interval self.now) }
+    {
+        IntervalTreeIterator::new(alloc, &self.root, interval)
+    }
+
+    /// Puts a pair in. Where its interval is there already, the old value stays, the new one is
+    /// dropped, and no memory is needed. An `Err` leaves the tree as it was, and drops the pair.
+    pub fn insert(
+        &mut self,
+        alloc: Global,
+        interval: Interval<T>,
+        value: V,
+    ) -> Result<(), AllocError>
+    where
+        V: Drop,
+        requires clones { ClonesItself T.is_clone T.is_infallible }
+        requires room { length (entries self.old) < 2 ^ 63 }
+        ensures ok { OnOk result (entries self.new ≡ with_entry (by_ends T.cmp) (interval, value) (entries self.old)) }
+        ensures err { OnErr result (self.new ≡ self.old) }
+        ensures there { IsSome (value_at (by_ends T.cmp) interval (entries self.old)) → IsOk result × (self.new ≡ self.old) }
+    {
+        if self.find(&interval).is_some() {
+            return Ok(());
+        }
+        let node = Box::new(alloc, Node::new(interval, value))?;
+        let root = mem::replace(&mut self.root, Subtree::Empty);
+        self.root = insert_below(root, node);
+        Ok(())
+    }
+
+    /// Takes the pair at an interval out, if it is there.
+    pub fn delete(&mut self, interval: &Interval<T>)
+    where
+        V: Drop,
+        requires { ClonesItself T.is_clone T.is_infallible }
+        ensures { entries self.new ≡ without_key (by_ends T.cmp) interval.now (entries self.old) }
+    {
+        let root = mem::replace(&mut self.root, Subtree::Empty);
+        self.root = delete_below(root, interval);
+    }
+
+    /// Takes the least pair out, if there is one.
+    pub fn delete_min(&mut self)
+    where
+        V: Drop,
+        requires { ClonesItself T.is_clone T.is_infallible }
+        ensures { entries self.new ≡ drop 1 (entries self.old) }
+    {
+        if let Subtree::Fork(node) = mem::replace(&mut self.root, Subtree::Empty) {
+            let (_least, rest) = take_least(node);
+            self.root = rest;
+        }
+    }
+
+    /// Takes the greatest pair out, if there is one.
+    pub fn delete_max(&mut self)
+    where
+        V: Drop,
+        requires { ClonesItself T.is_clone T.is_infallible }
+        ensures { entries self.new ≡ take (length (entries self.old) - 1) (entries self.old) }
+    {
+        if let Subtree::Fork(node) = mem::replace(&mut self.root, Subtree::Empty) {
+            let (rest, _greatest) = take_greatest(node);
+            self.root = rest;
+        }
+    }
+
+    /// Takes all pairs out.
+    pub fn clear(&mut self)
+    where
+        V: Drop,
+        ensures { self.new ≡ Leaf }
+    {
+        self.root = Subtree::Empty;
+    }
+
+    /// Gives the pair at `interval` the end `end`, in its place. No other pair may have its start.
+    pub fn shorten(&mut self, interval: &Interval<T>, end: T)
+    where
+        V: Drop,
+        requires clones { ClonesItself T.is_clone T.is_infallible }
+        requires alone { AllItems (HasOwnStart T.cmp interval.now) (entries self.old) }
+        ensures pairs { entries self.new ≡ map (with_end T.cmp interval.now end) (entries self.old) }
+        ensures tree { self.new ≡ map_pairs (with_end T.cmp interval.now end) self.old }
+    {
+        let root = mem::replace(&mut self.root, Subtree::Empty);
+        self.root = shorten_below(root, interval, end);
+    }
+
+    /// Makes the tree of these pairs, put in one after the other. Of two pairs at one interval the
+    /// first stays.
+    pub fn from_pairs(alloc: Global, pairs: Vec<(Interval<T>, V)>) -> Result<Self, AllocError>
+    where
+        V: Drop,
+        requires clones { ClonesItself T.is_clone T.is_infallible }
+        requires room { length pairs.items ≤ 2 ^ 63 }
+        ensures { IfOk result (λ tree. entries tree ≡ with_entries (by_ends T.cmp) pairs.items []) }
+    {
+        let mut tree = IntervalTree::new();
+        for (interval, value) in pairs {
+            tree.insert(alloc, interval, value)?;
+        }
+        Ok(tree)
+    }
+
+    /// Makes another tree of the same pairs, node for node.
+    pub fn clone(&self, alloc: Global) -> Result<Self, AllocError>
+    where
+        V: Clone,
+        requires keys { ClonesItself T.is_clone T.is_infallible }
+        requires values { ClonesEqual V.is_clone }
+        ensures { IfOk result (λ tree. tree ≡ self.now) }
+    {
+        Ok(IntervalTree {
+            root: clone_below(alloc, &self.root)?,
+        })
+    }
+}
