@@ -1,0 +1,2 @@
+pub mod Dr7
+pub mod Levels

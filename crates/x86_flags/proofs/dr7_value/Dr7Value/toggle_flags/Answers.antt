@@ -1,0 +1,6 @@
+use Rattle.x86_flags.specs.Dr7Value.{dr7_valid}
+use Rattle.x86_flags.proofs.Dr7.{mask-xor}
+use Rattle.x86_flags.proofs.dr7_value.Dr7Value.toggle_flags.Goals as goal
+
+pub invariant_of-self : goal.invariant_of-self
+invariant_of-self c = rw c.valid_bits.ensures (mask-xor dr7_valid c.self.inside.bits c.bits.result c.self.invariant)

@@ -1,0 +1,17 @@
+pub mod ApicBaseFlags
+pub mod BreakpointCondition
+pub mod BreakpointSize
+pub mod CetFlags
+pub mod Cr0Flags
+pub mod Cr3Flags
+pub mod Cr4Flags
+pub mod DebugAddressRegisterNumber
+pub mod Dr6Flags
+pub mod Dr7Flags
+pub mod EferFlags
+pub mod MxCsr
+pub mod PriorityClass
+pub mod PrivilegeLevel
+pub mod RFlags
+pub mod XCr0Flags
+pub mod Dr7Value

@@ -1,0 +1,107 @@
+//! The flags of the extended feature enable register.
+
+ghost use Rattle.std.specs.Prelude.{◌≡◌, ⊤};
+ghost use Rattle.std.specs.Int.RustNames.{bit_or};
+ghost use Rattle.x86_flags.specs.EferFlags.{efer_bits, efer_flags};
+
+use bitflags::{Flag, Flags};
+use std::ops::BitOr;
+
+/// Which extended features are on.
+///
+/// Source: AMD64 manual, volume 2, section 3.1.7.
+#[derive(Clone, Copy, PartialEq, Eq, PartialOrd, Ord, Hash, Debug)]
+pub struct EferFlags(u64);
+
+impl EferFlags {
+    /// `SYSCALL` and `SYSRET` work.
+    pub const SYSTEM_CALL_EXTENSIONS: Self = Self(1 << 0);
+
+    /// Long mode comes on once paging does.
+    pub const LONG_MODE_ENABLE: Self = Self(1 << 8);
+
+    /// Long mode is on; the processor sets it.
+    pub const LONG_MODE_ACTIVE: Self = Self(1 << 10);
+
+    /// A page-table entry may forbid running code.
+    pub const NO_EXECUTE_ENABLE: Self = Self(1 << 11);
+
+    /// The SVM instructions work.
+    pub const SECURE_VIRTUAL_MACHINE_ENABLE: Self = Self(1 << 12);
+
+    /// Segment limits are tested in 64-bit mode, too.
+    pub const LONG_MODE_SEGMENT_LIMIT_ENABLE: Self = Self(1 << 13);
+
+    /// `FXSAVE` and `FXRSTOR` leave the XMM registers out in ring 0 of 64-bit mode.
+    pub const FAST_FXSAVE_FXRSTOR: Self = Self(1 << 14);
+
+    /// `INVLPG` leaves cached upper entries of other pages alone.
+    pub const TRANSLATION_CACHE_EXTENSION: Self = Self(1 << 15);
+
+    const FLAGS: &'static [Flag<Self>] = &[
+        Flag {
+            name: "SYSTEM_CALL_EXTENSIONS",
+            value: Self::SYSTEM_CALL_EXTENSIONS,
+        },
+        Flag {
+            name: "LONG_MODE_ENABLE",
+            value: Self::LONG_MODE_ENABLE,
+        },
+        Flag {
+            name: "LONG_MODE_ACTIVE",
+            value: Self::LONG_MODE_ACTIVE,
+        },
+        Flag {
+            name: "NO_EXECUTE_ENABLE",
+            value: Self::NO_EXECUTE_ENABLE,
+        },
+        Flag {
+            name: "SECURE_VIRTUAL_MACHINE_ENABLE",
+            value: Self::SECURE_VIRTUAL_MACHINE_ENABLE,
+        },
+        Flag {
+            name: "LONG_MODE_SEGMENT_LIMIT_ENABLE",
+            value: Self::LONG_MODE_SEGMENT_LIMIT_ENABLE,
+        },
+        Flag {
+            name: "FAST_FXSAVE_FXRSTOR",
+            value: Self::FAST_FXSAVE_FXRSTOR,
+        },
+        Flag {
+            name: "TRANSLATION_CACHE_EXTENSION",
+            value: Self::TRANSLATION_CACHE_EXTENSION,
+        },
+    ];
+}
+
+impl Flags for EferFlags {
+    type Bits = u64;
+
+    ghost exact = { ⊤ };
+
+    ghost table = { efer_flags };
+
+    ghost set_of = { efer_bits };
+
+    fn flags<'a>() -> &'a [Flag<Self>] {
+        Self::FLAGS
+    }
+
+    fn bits(&self) -> u64 {
+        self.0
+    }
+
+    fn from_bits_retain(bits: u64) -> Self {
+        Self(bits)
+    }
+}
+
+impl BitOr for EferFlags {
+    type Output = Self;
+
+    ghost bitor_gives = { λ left right all. efer_bits all ≡ bit_or (efer_bits left) (efer_bits right) };
+
+    fn bitor(self, other: Self) -> Self {
+        Self(self.0 | other.0)
+    }
+}
