@@ -58,34 +58,39 @@ module _ (old new : List ℕ) (root address value : ℕ) (place : Place) (free :
   walks_stay : (page : ℕ) → walk_of new root page ≡ walk_of old root page
   walks_stay page = walk_reach new root page ∙ (stored_walks 4 (prefix_of page 4) (omega arith) ∙ sym (walk_reach old root page))
 
-  pub stored_bytes : (k : ℕ) → k < 8 → reached new root (address + k) ≡ Some (byte_of value k)
-  stored_bytes k lt =
+  pub stored_word : word_at new place.frame (address % 4096 / 8) ≡ value
+  stored_word =
       let below : place.frame < frame_count old = reach_below old root 4 (prefix_of (address / 4096) 4) place root_in at_reach in
-      let here : word_at new place.frame (address % 4096 / 8) ≡ value =
-      ap (λ w. word_at w place.frame (address % 4096 / 8)) written ∙ word_at_set_same old place.frame (address % 4096 / 8) value below (omega arith) in
-      reached_word new root address k place aligned lt (walks_stay (address / 4096) ∙ at) ∙ ap (λ w. Some (byte_of w k)) here
+      ap (λ w. word_at w place.frame (address % 4096 / 8)) written ∙ word_at_set_same old place.frame (address % 4096 / 8) value below (omega arith)
 
-  pub stored_others : (other : ℕ) → IsTrue (is_canonical other) → (other / 8 ≡ address / 8 → ⊥) → reached new root other ≡ reached old root other
-  stored_others other co ne =
-      ap (option_map (λ p. byte_of (word_at new p.frame (other % 4096 / 8)) (other % 8))) (walks_stay (other / 4096))
-      ∙ go (walk_of old root (other / 4096)) refl
+  pub stored_bytes : (k : ℕ) → k < 8 → reached new root (address + k) ≡ Some (byte_of value k)
+  stored_bytes k lt = reached_word new root address k place aligned lt (walks_stay (address / 4096) ∙ at) ∙ ap (λ w. Some (byte_of w k)) stored_word
+
+  -- every other word that a walk reaches stays
+  pub other_words : (other : ℕ) (p : Place) → IsTrue (is_canonical other) → (other / 8 ≡ address / 8 → ⊥) → walk_of old root (other / 4096) ≡ Some p →
+      word_at new p.frame (other % 4096 / 8) ≡ word_at old p.frame (other % 4096 / 8)
+  other_words other p co ne is =
+      ap (λ w. word_at w p.frame (other % 4096 / 8)) written
+      ∙ word_at_set_other old place.frame (address % 4096 / 8) value p.frame (other % 4096 / 8) (omega arith) (omega arith) apart
     where
-      apart : (p : Place) → walk_of old root (other / 4096) ≡ Some p → p.frame ≡ place.frame → other % 4096 / 8 ≡ address % 4096 / 8 → ⊥
-      apart p is e i =
+      apart : p.frame ≡ place.frame → other % 4096 / 8 ≡ address % 4096 / 8 → ⊥
+      apart e i =
           let d : prefix_of (other / 4096) 4 ≡ prefix_of (address / 4096) 4 =
           (tree.distinct 4 (prefix_of (other / 4096) 4) 4 (prefix_of (address / 4096) 4) p place (omega arith) (omega arith)
           (sym (walk_reach old root (other / 4096)) ∙ is) at_reach e).1 in
           let s : other / 4096 ≡ address / 4096 = same_page other address co canonical (omega arith) in
           ne (omega arith)
 
+  pub stored_others : (other : ℕ) → IsTrue (is_canonical other) → (other / 8 ≡ address / 8 → ⊥) → reached new root other ≡ reached old root other
+  stored_others other co ne =
+      ap (option_map (λ p. byte_of (word_at new p.frame (other % 4096 / 8)) (other % 8))) (walks_stay (other / 4096))
+      ∙ go (walk_of old root (other / 4096)) refl
+    where
       go : (o : Option Place) → walk_of old root (other / 4096) ≡ o →
           option_map (λ p. byte_of (word_at new p.frame (other % 4096 / 8)) (other % 8)) o
           ≡ option_map (λ p. byte_of (word_at old p.frame (other % 4096 / 8)) (other % 8)) o
       go None is = refl
-      go (Some p) is =
-          ap (λ w. Some (byte_of w (other % 8)))
-          (ap (λ w. word_at w p.frame (other % 4096 / 8)) written
-          ∙ word_at_set_other old place.frame (address % 4096 / 8) value p.frame (other % 4096 / 8) (omega arith) (omega arith) (apart p is))
+      go (Some p) is = ap (λ w. Some (byte_of w (other % 8))) (other_words other p co ne is)
 
 -- a page that no walk finds is not mapped
 pub not_mapped : (words : List ℕ) (root page : ℕ) → IsSome (walk_of words root page) → walk_of words root page ≡ None → ⊥

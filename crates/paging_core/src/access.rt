@@ -46,6 +46,9 @@ pub fn store_word(frames: &mut Frames, root: PhysFrame, address: VirtAddr, value
     ensures size { length frames.new ≡ length frames.old }
     ensures walks { (free : List Bool) → IsTree frames.old root free → (level number : ℕ) → level ≤ 4 → reach frames.new root level number ≡ reach frames.old root level number }
     ensures tree { (free : List Bool) → IsTree frames.old root free → IsTree frames.new root free }
+    ensures stored { (free : List Bool) → IsTree frames.old root free → IfSome (walk_of frames.old root (address / 4096)) (λ place. word_at frames.new place.frame (address % 4096 / 8) ≡ value) }
+    ensures other_words { (free : List Bool) → IsTree frames.old root free → (other : ℕ) → IsTrue (is_canonical other) → (other / 8 ≡ address / 8 → ⊥) →
+        IfSome (walk_of frames.old root (other / 4096)) (λ place. word_at frames.new place.frame (other % 4096 / 8) ≡ word_at frames.old place.frame (other % 4096 / 8)) }
     ensures bytes { (free : List Bool) → IsTree frames.old root free → (k : ℕ) → k < 8 → reached frames.new root (address + k) ≡ Some (byte_of value k) }
     ensures others { (free : List Bool) → IsTree frames.old root free → (other : ℕ) → IsTrue (is_canonical other) → (other / 8 ≡ address / 8 → ⊥) → reached frames.new root other ≡ reached frames.old root other }
 {

@@ -1,7 +1,11 @@
-use Rattle.std.proofs.Common.{◌≡◌, ◌∙◌, ◌+◌, ◌*◌, ◌/◌, ◌%◌, sym, ap, set, Some}
+use Rattle.std.proofs.Common.{◌≡◌, ◌∙◌, ℕ, ◌+◌, ◌*◌, ◌/◌, ◌%◌, Bool, List, refl, sym, ap, set, Option, Some, None}
+use Rattle.std.specs.Prelude.{IsTrue, IfSome}
+use Rattle.paging_core.specs.Address.{is_canonical}
+use Rattle.paging_core.specs.Memory.{word_at}
+use Rattle.paging_core.specs.Tree.{IsTree}
 use Rattle.std.specs.Option.{option_map}
-use Rattle.paging_core.specs.Walk.{walk_of, place_of}
-use Rattle.paging_core.proofs.Reached.{not_mapped, stored_walks, stored_tree, stored_bytes, stored_others}
+use Rattle.paging_core.specs.Walk.{Place, walk_of, place_of}
+use Rattle.paging_core.proofs.Reached.{not_mapped, stored_walks, stored_tree, stored_word, other_words, stored_bytes, stored_others}
 use Rattle.paging_core.proofs.access.store_word.Goals as goal
 
 pub unreachable-requires : goal.unreachable-requires
@@ -29,3 +33,14 @@ returns-clause-bytes c = λ free tree. stored_bytes c.args.frames.now c.set_word
 
 pub returns-clause-others : goal.returns-clause-others
 returns-clause-others c = λ free tree. stored_others c.args.frames.now c.set_word.new.self c.args.root c.args.address c.args.value (place_of c.in-Some.page) free c.requires.root c.requires.aligned c.word_index.ensures.canonical (at c) (written c) tree
+
+pub returns-clause-stored : goal.returns-clause-stored
+returns-clause-stored c = λ free tree. rw (at c) (stored_word c.args.frames.now c.set_word.new.self c.args.root c.args.address c.args.value (place_of c.in-Some.page) free c.requires.root c.requires.aligned c.word_index.ensures.canonical (at c) (written c) tree)
+
+pub returns-clause-other_words : goal.returns-clause-other_words
+returns-clause-other_words c = λ free tree other canonical apart. go free tree other canonical apart (walk_of c.args.frames.now c.args.root (other / 4096)) refl
+  where
+    go : (free : List Bool) → IsTree c.args.frames.now c.args.root free → (other : ℕ) → IsTrue (is_canonical other) → (other / 8 ≡ c.args.address / 8 → ⊥) → (o : Option Place) → walk_of c.args.frames.now c.args.root (other / 4096) ≡ o →
+        IfSome o (λ place. word_at c.set_word.new.self place.frame (other % 4096 / 8) ≡ word_at c.args.frames.now place.frame (other % 4096 / 8))
+    go free tree other canonical apart None is = tt
+    go free tree other canonical apart (Some place) is = other_words c.args.frames.now c.set_word.new.self c.args.root c.args.address c.args.value (place_of c.in-Some.page) free c.requires.root c.requires.aligned c.word_index.ensures.canonical (at c) (written c) tree other place canonical apart is
