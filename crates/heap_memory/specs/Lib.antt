@@ -1,0 +1,3 @@
+pub mod Words
+pub mod Regions
+pub mod Events

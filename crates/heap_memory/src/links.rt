@@ -1,0 +1,40 @@
+ghost use Rattle.std.specs.Prelude.{◌≡◌, ℕ, ◌+◌, List, [], ◌++◌};
+ghost use Rattle.heap_memory.specs.declared.grant.Grant.{Grant};
+ghost use Rattle.heap_memory.specs.Events.{Event};
+ghost use Rattle.heap_memory.specs.Regions.{IsWordOf};
+ghost use Rattle.heap_memory.specs.Words.{IsStored};
+
+use std::sync::ledger::Ledger;
+use step_count::Steps;
+
+/// Words at the multiples of 8 of the granted regions. Each load and store of them is counted.
+pub trait Links {
+    /// The granted regions, by ascending base.
+    ghost regions: { Self → List Grant };
+
+    /// The word at each granted multiple of 8.
+    ghost word: { Self → ℕ → ℕ };
+
+    /// What the system says of two moments between which these events came.
+    ghost follows: { Self → List Event → Self → Type 0 };
+
+    /// A system follows itself with no event.
+    ghost follows_none: { (x : Self) → follows x [] x };
+
+    /// Of two times one after the other, the events come one after the other.
+    ghost follows_on: { (x y z : Self) (a b c : List Event) → follows x a y → follows y b z → a ++ b ≡ c → follows x c z };
+
+    /// The word at an address. It is one step.
+    fn load_counted<L: Ledger>(&self, at: u64, steps: &mut Steps<L>) -> u64
+        requires { IsWordOf (regions self.now) at }
+        ensures value { result ≡ word self.now at }
+        ensures counted { steps.new ≡ steps.old + 1 };
+
+    /// Puts a word at an address, and changes nothing else. It is one step.
+    fn store_counted<L: Ledger>(&mut self, at: u64, value: u64, steps: &mut Steps<L>)
+        requires { IsWordOf (regions self.old) at }
+        ensures stored { IsStored (regions self.old) (word self.old) at value (word self.new) }
+        ensures regions { regions self.new ≡ regions self.old }
+        ensures follows { follows self.old [] self.new }
+        ensures counted { steps.new ≡ steps.old + 1 };
+}
