@@ -21,10 +21,17 @@ Commands:
   --version    prints the name and the version
 
 Lines:
-  malloc SIZE  asks for a block of SIZE bytes. The answer is `block NUMBER
-               ADDRESS`, or `refused` and one of too-large, no-space and
-               no-frames. Where pages were granted, a second line has `heap`
-               and each heap region as ADDRESS+PAGES.
+  malloc SIZE               asks for a block of SIZE bytes. The answer is
+                            `block NUMBER ADDRESS`. Where pages were granted,
+                            a second line has `heap` and each heap region as
+                            ADDRESS+PAGES.
+  write BLOCK OFFSET HEX    puts bytes, two hexadecimal digits each, into the
+                            block of this number. The answer is `done`.
+  read BLOCK OFFSET LENGTH  asks for bytes of a block. The answer is `bytes`
+                            and their digits.
+
+A refusal is `refused` and one of too-large, no-space, no-frames,
+unknown-block and out-of-block, and changes nothing.
 
 A number is decimal, or 0x and hexadecimal digits, and below 2^64. Words stand
 between single spaces. Any other line, and one of more than 8192 bytes, is

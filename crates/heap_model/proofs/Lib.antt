@@ -4,3 +4,5 @@ pub mod Regions
 pub mod Tables
 pub mod Granted
 pub mod Placed
+pub mod Known
+pub mod Written

@@ -1,12 +1,12 @@
 -- Regions that join a sorted list.
-use Rattle.std.proofs.Common.{◌≡◌, ℕ, ◌+◌, ◌*◌, ◌<◌, ◌≤◌, ◌⊎◌, inl, inr, ◌||◌, nat_lt, List, [], ◌∷◌, ◌++◌, find, refl, arith, Bool, true, false, cond, Some}
+use Rattle.std.proofs.Common.{◌≡◌, ℕ, ◌+◌, ◌*◌, ◌<◌, ◌≤◌, ◌⊎◌, inl, inr, ◌||◌, nat_lt, List, [], ◌∷◌, ◌++◌, find, fold, refl, sym, ap, ◌∙◌, arith, Bool, true, false, cond, Some}
 use Rattle.std.proofs.lemmas.Bool.Decides.{nat_tests}
 use Rattle.std.specs.List.{list_any, AllByRecursion}
 use Rattle.heap_model.specs.declared.region.Region.{Region}
 use Rattle.heap_model.specs.State.{end_of, is_within, total_pages}
 use Rattle.heap_model.specs.Place.{meets, meets_any, with_region}
 use Rattle.heap_model.specs.Run.{AreInOrder}
-use Rattle.heap_model.proofs.Booleans.{or_swap, neither_or}
+use Rattle.heap_model.proofs.Booleans.{or_false, or_swap, neither_or}
 
 -- ---- one region
 
@@ -60,6 +60,19 @@ any_with test region (first ∷ rest) = go (nat_lt region.start first.start) (an
         list_any test (cond b (region ∷ first ∷ rest) (first ∷ with_region region rest)) ≡ (test region || (test first || list_any test rest))
     go true later = refl
     go false later = rw later (or_swap (test first) (test region) (list_any test rest))
+
+-- a test passes in the joined lists where it passes in one of them
+pub any_all : (test : Region → Bool) (heap users : List Region) →
+    list_any test (fold (λ list region. with_region region list) heap users) ≡ (list_any test heap || list_any test users)
+any_all test heap [] = sym (or_false (list_any test heap))
+any_all test heap (first ∷ rest) =
+    any_all test (with_region first heap) rest
+    ∙ (ap (λ b. b || list_any test rest) (any_with test first heap) ∙ turn (test first) (list_any test heap) (list_any test rest))
+  where
+    turn : (a b c : Bool) → ((a || b) || c) ≡ (b || (a || c))
+    turn true true c = refl
+    turn true false c = refl
+    turn false b c = refl
 
 -- one that fails the test is passed over
 pub find_without : (test : Region → Bool) (region : Region) (list more : List Region) → test region ≡ false →

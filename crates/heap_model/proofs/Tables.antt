@@ -1,12 +1,12 @@
 -- Which tables there are after those of some pages joined, and how many were missing.
-use Rattle.std.proofs.Common.{◌≡◌, ℕ, zero, suc, ◌+◌, ◌-◌, ◌*◌, ◌/◌, ◌%◌, ◌^◌, ◌<◌, ◌≤◌, inl, inr, ◌||◌, not, List, [], ◌∷◌, ◌++◌, length, filter, Contains, refl, sym, ap, ◌∙◌, subst, arith, Bool, true, false, cond}
+use Rattle.std.proofs.Common.{◌≡◌, ℕ, zero, suc, ◌+◌, ◌/◌, ◌<◌, inl, inr, ◌||◌, not, List, [], ◌∷◌, length, filter, Contains, refl, sym, ap, ◌∙◌, arith, Bool, true, false, cond}
 use Rattle.std.proofs.lemmas.Bool.Decides.{nat_tests}
 use Rattle.std.proofs.lemmas.List.Folds.{list_any-append}
 use Rattle.std.proofs.lemmas.List.Sums.{length-filter}
 use Rattle.std.proofs.Common.{length-append}
 use Rattle.paging_core.specs.Address.{IsCanonicalRange}
 use Rattle.paging_core.proofs.PrefixLists.{prefixes_of_pages, pages_of_prefixes}
-use Rattle.paging_core.specs.Prefix.{Prefix, prefix_of, prefixes_from, prefixes_at, prefixes_of}
+use Rattle.paging_core.specs.Prefix.{Prefix, prefix_of, prefixes_of}
 use Rattle.heap_model.specs.Tables.{is_same, has_table, missing, with_tables}
 use Rattle.heap_model.proofs.Booleans.{or_left, or_right, or_cases}
 

@@ -1,15 +1,15 @@
 -- One call: which answers are allowed, and the state after each.
-use Rattle.std.specs.Prelude.{◌≡◌, ◌≢◌, ℕ, Bool, not, ◌==◌, ◌⊎◌, ⊤, List, [], ◌∷◌, ◌++◌, length, find, replicate, unwrap_or, Option, Some, None, MatchOption}
+use Rattle.std.specs.Prelude.{◌≡◌, ◌≢◌, ℕ, ◌+◌, ◌<◌, Bool, not, ◌==◌, ◌⊎◌, ⊤, List, [], ◌∷◌, ◌++◌, length, find, replicate, slice_index, slice_set, option_map, unwrap_or, Option, Some, None, MatchOption}
 use Rattle.std.specs.List.{list_any}
 use Rattle.heap_model.specs.declared.region.Region.{Region}
 use Rattle.heap_model.specs.declared.call.Call.{Call}
-use Rattle.heap_model.specs.declared.call.Call.TheVariants.{Malloc}
+use Rattle.heap_model.specs.declared.call.Call.TheVariants.{Malloc, Write, Read}
 use Rattle.heap_model.specs.declared.answer.Reply.{Reply}
-use Rattle.heap_model.specs.declared.answer.Reply.TheVariants.{Block as Placed, Refused}
+use Rattle.heap_model.specs.declared.answer.Reply.TheVariants.{Block as Placed, Done, Bytes, Refused}
 use Rattle.heap_model.specs.declared.answer.Answer.{Answer}
 use Rattle.paging_core.specs.Prefix.{Prefix}
 use Rattle.heap_model.specs.Request.{wanted, pages_for}
-use Rattle.heap_model.specs.State.{State, Cell, Fresh, Block}
+use Rattle.heap_model.specs.State.{State, Cell, Fresh, Known, Block, block_at, cell_at, with_bytes}
 use Rattle.heap_model.specs.Tables.{with_tables}
 use Rattle.heap_model.specs.Room.{IsGrowth}
 use Rattle.heap_model.specs.Refusal.{must_refuse, MayRefuse, wanted_by}
@@ -18,10 +18,20 @@ use Rattle.heap_model.specs.Refusal.{must_refuse, MayRefuse, wanted_by}
 abbrev pub new_block : ℕ → ℕ → ℕ → Cell → Option Block
 new_block address size align cell = Some (record { address = address; size = size; align = align; cells = replicate size cell })
 
--- what the reply alone changes; a refusal changes nothing
+-- the blocks, with another one at this number where it is live
+abbrev pub with_block : List (Option Block) → ℕ → (Block → Block) → List (Option Block)
+with_block blocks number change = slice_set blocks number (option_map change (block_at blocks number))
+
+-- the block, with these bytes known from an offset on
+abbrev pub known_block : ℕ → List ℕ → Block → Block
+known_block offset bytes block = record block { cells = with_bytes block.cells offset bytes }
+
+-- what the reply alone changes; every other reply, a refusal too, changes nothing
 abbrev pub changed : State → Call → Reply → State
 changed s (Malloc size align) (Placed number address) = record s { blocks = s.blocks ++ new_block address size align Fresh ∷ [] }
-changed s (Malloc size align) (Refused refusal) = s
+changed s (Write number offset bytes) Done = record s { blocks = with_block s.blocks number (known_block offset bytes) }
+changed s (Read number offset count) (Bytes bytes) = record s { blocks = with_block s.blocks number (known_block offset bytes) }
+changed s call reply = s
 
 -- whether a region starts where none of these does
 abbrev pub is_new : List Region → Region → Bool
@@ -46,15 +56,21 @@ after s call answer = with_heap (changed s call answer.reply) (wanted_by s call)
 abbrev pub heap_after : State → Option (List Region) → List Region
 heap_after s regions = unwrap_or regions s.heap
 
+-- a byte of which something is known is the one known
+abbrev pub AgreeWith : List Cell → ℕ → List ℕ → Type 0
+AgreeWith cells offset bytes = (k byte : ℕ) → k < length bytes → cell_at cells (offset + k) ≡ Known byte → slice_index bytes k ≡ byte
+
 -- the replies other than refusals
 abbrev pub IsServed : State → Call → Reply → Option (List Region) → Type 0
 IsServed s (Malloc size align) (Placed number address) regions = (number ≡ length s.blocks) × IsGrowth s (wanted size align) (heap_after s regions)
-IsServed s (Malloc size align) (Refused refusal) regions = ⊥
+IsServed s (Write number offset bytes) Done regions = regions ≡ None
+IsServed s (Read number offset count) (Bytes bytes) regions = (regions ≡ None) × (length bytes ≡ count) × ((block : Block) → block_at s.blocks number ≡ Some block → AgreeWith block.cells offset bytes)
+IsServed s call reply regions = ⊥
 
 -- a refusal that must come comes; one that may come only where none must; and nothing else comes where one must
 abbrev pub IsReply : State → Call → Reply → Option (List Region) → Type 0
 IsReply s call (Refused refusal) regions = (regions ≡ None) × ((must_refuse s call ≡ Some refusal) ⊎ ((must_refuse s call ≡ None) × MayRefuse s (wanted_by s call) refusal))
-IsReply s call (Placed number address) regions = (must_refuse s call ≡ None) × IsServed s call (Placed number address) regions
+IsReply s call reply regions = (must_refuse s call ≡ None) × IsServed s call reply regions
 
 -- the answer is one that the call may have, and lists the heap regions exactly where they changed
 pub record IsAllowed (s : State) (call : Call) (answer : Answer) : Type 0 where

@@ -1,5 +1,5 @@
 -- When a machine stands for a state.
-use Rattle.std.specs.Prelude.{◌≡◌, ℕ, ◌+◌, ◌*◌, ◌/◌, ◌<◌, ◌↔◌, Bool, IsTrue, List, ◌++◌, length, map, find, option_map, Option, Some, IsSome}
+use Rattle.std.specs.Prelude.{◌≡◌, ℕ, ◌+◌, ◌*◌, ◌/◌, ◌<◌, ◌≤◌, ◌↔◌, Bool, not, ◌&&◌, IsTrue, List, ◌++◌, length, map, find, option_map, Option, Some, IsSome}
 use Rattle.std.specs.List.{list_any}
 use Rattle.paging_core.specs.declared.page_table.Rights.{Rights}
 use Rattle.paging_core.specs.Address.{is_canonical}
@@ -47,6 +47,18 @@ pub record IsPagedGrant (old new : Paged) (address pages : ℕ) : Type 0 where
   pub root : new.root ≡ old.root
   pub tables : new.tables ≡ old.tables + missing_of old.words old.root (address / 4096) pages
   pub added : IsRangeAdded old.words new.words old.free new.free old.root (address / 4096) pages heap_rights
+
+-- whether an address lies in a region of the user
+abbrev pub is_of_user : List Region → ℕ → Bool
+is_of_user regions address = list_any (λ region. not region.heap && is_within address region) regions
+
+-- What stays of a system while nothing is granted, given back or mapped: all but the bytes of the heap's pages.
+pub record IsStill (old new : Paged) : Type 0 where
+  pub others : new ≡ record old { words = new.words }
+  pub size : length new.words ≡ length old.words
+  pub tree : IsTree old.words old.root old.free → IsTree new.words old.root old.free
+  pub walks : (level number : ℕ) → level ≤ 4 → reach new.words old.root level number ≡ reach old.words old.root level number
+  pub users : (address : ℕ) → IsTrue (is_of_user old.regions address) → reached new.words old.root address ≡ reached old.words old.root address
 
 -- what is seen of a machine
 pub record Seen : Type 0 where

@@ -1,5 +1,5 @@
 -- The state of the machine, as the answers so far determine it. It says nothing of how the machine keeps it.
-use Rattle.std.specs.Prelude.{ℕ, ◌+◌, ◌*◌, max, Bool, ◌&&◌, nat_lt, nat_le, List, [], ◌∷◌, slice_index_or, Option, None}
+use Rattle.std.specs.Prelude.{ℕ, zero, suc, ◌+◌, ◌*◌, max, Bool, ◌&&◌, nat_lt, nat_le, List, [], ◌∷◌, slice_index_or, Option, None}
 use Rattle.heap_model.specs.declared.region.Region.{Region}
 use Rattle.heap_model.specs.declared.config.Config.{Config}
 use Rattle.paging_core.specs.Prefix.{Prefix}
@@ -42,6 +42,13 @@ block_at blocks number = slice_index_or blocks number None
 -- what is known at an offset of a block
 abbrev pub cell_at : List Cell → ℕ → Cell
 cell_at cells offset = slice_index_or cells offset Fresh
+
+-- the cells, where these bytes are known from an offset on; bytes past the last cell are left out
+abbrev pub with_bytes : List Cell → ℕ → List ℕ → List Cell
+with_bytes [] offset bytes = []
+with_bytes (cell ∷ cells) (suc offset) bytes = cell ∷ with_bytes cells offset bytes
+with_bytes (cell ∷ cells) zero (byte ∷ bytes) = Known byte ∷ with_bytes cells zero bytes
+with_bytes (cell ∷ cells) zero [] = cell ∷ cells
 
 -- the bytes that a block has to itself: one where its size is 0
 abbrev pub cover : Block → ℕ

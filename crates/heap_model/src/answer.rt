@@ -1,4 +1,4 @@
-use crate::RegionList;
+use crate::{Bytes, RegionList};
 
 /// Why a call was refused. A refused call changes nothing.
 #[derive(Clone, Copy, PartialEq, Eq, Debug)]
@@ -9,6 +9,10 @@ pub enum Refusal {
     NoSpace,
     /// No heap region has room for the request, and there are too few free frames for its pages and their tables.
     NoFrames,
+    /// No live block has this number.
+    UnknownBlock,
+    /// The block is live, and the bytes reach past its end.
+    OutOfBlock,
 }
 
 /// What a call answers.
@@ -16,6 +20,10 @@ pub enum Refusal {
 pub enum Reply {
     /// The block of this number lies at this address. Blocks are numbered from 0 in the order given.
     Block { number: u64, address: u64 },
+    /// The call was served.
+    Done,
+    /// The bytes that were asked for.
+    Bytes(Bytes),
     /// The call was refused, and changed nothing.
     Refused(Refusal),
 }

@@ -1,6 +1,23 @@
-/// A call of the machine.
+use crate::Bytes;
+
+/// A call of the machine. A block is named by its number.
 #[derive(Drop)]
 pub enum Call {
     /// Asks for a new block of `size` bytes at a multiple of `align`.
-    Malloc { size: u64, align: u64 },
+    Malloc {
+        size: u64,
+        align: u64,
+    },
+    /// Puts the bytes into the block, the first of them at `offset` bytes from its start.
+    Write {
+        block: u64,
+        offset: u64,
+        bytes: Bytes,
+    },
+    /// Asks for `length` bytes of the block, the first of them at `offset` bytes from its start.
+    Read {
+        block: u64,
+        offset: u64,
+        length: u64,
+    },
 }

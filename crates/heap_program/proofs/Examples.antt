@@ -1,9 +1,10 @@
 -- Worked values: the definitions computed on short inputs.
 use Rattle.std.proofs.Common.{◌≡◌, ◌^◌, ◌-◌, true, false, [], ◌∷◌, codes, refl, Some, None}
-use Rattle.heap_model.specs.declared.call.Call.TheVariants.{Malloc}
-use Rattle.heap_model.specs.declared.answer.Reply.TheVariants.{Block, Refused}
+use Rattle.heap_model.specs.declared.call.Call.TheVariants.{Malloc, Write, Read}
+use Rattle.heap_model.specs.declared.answer.Reply.TheVariants.{Block, Bytes, Refused}
 use Rattle.heap_model.specs.declared.answer.Refusal.TheVariants.{NoFrames}
 use Rattle.std.specs.Fmt.{digits}
+use Rattle.hex.proofs.OnLiterals.{hex_on_literals}
 use Rattle.heap_model.specs.Room.{heap_region}
 use Rattle.heap_model.specs.State.{start}
 use Rattle.heap_program.specs.Grammar.{item_of}
@@ -46,7 +47,19 @@ items-short : items_of (codes "malloc 24\nmalloc  3\nmalloc 0x10 16\nmalloc 0x1f
 unfolding items_of item_of
 items-short = refl
 
+items-bytes : items_of (codes "write 0 1 fF00\nwrite 0 1 f\nread 5 0 2\nread 5 0") ≡ Some (Write 0 1 (255 ∷ 0 ∷ [])) ∷ None ∷ Some (Read 5 0 2) ∷ None ∷ []
+unfolding items_of item_of hex_on_literals
+items-bytes = refl
+
 -- texts
+
+text-bytes : text_of (record { reply = Bytes (0 ∷ 255 ∷ []); regions = None }) ≡ codes "bytes 00ff\n"
+unfolding text_of hex_on_literals
+text-bytes = refl
+
+text-no_bytes : text_of (record { reply = Bytes []; regions = None }) ≡ codes "bytes\n"
+unfolding text_of
+text-no_bytes = refl
 
 text-block : text_of (record { reply = Block 2 0x40ffd0; regions = Some (heap_region 0x400000 16 ∷ heap_region 0x410000 16 ∷ []) }) ≡ codes "block 2 0x40ffd0\nheap 0x400000+16 0x410000+16\n"
 unfolding text_of digits

@@ -6,7 +6,7 @@ use Rattle.std.specs.Option.{option_map}
 use Rattle.heap_model.specs.declared.call.Call.{Call}
 use Rattle.heap_model.specs.declared.call.Call.TheVariants.{Malloc}
 use Rattle.kernel_heap.specs.Machine.{IsServable}
-use Rattle.heap_program.specs.Grammar.{malloc_of, call_of, item_of}
+use Rattle.heap_program.specs.Grammar.{malloc_of, bytes_of, write_call, write_of, read_call, read_of, call_of, item_of}
 use Rattle.heap_program.specs.Number.{number_of}
 use Rattle.heap_program.specs.Words.{words_of}
 
@@ -24,18 +24,43 @@ words_servable [] = tt
 words_servable (size ∷ []) = malloc_servable (number_of size)
 words_servable (size ∷ word ∷ words) = tt
 
-guarded : (b : Bool) (o : Option Call) → IfCall IsServable o → IfCall IsServable (if b then o else None)
-guarded true o h = h
-guarded false o h = tt
+write_servable : (block offset : Option ℕ) (bytes : Option (List ℕ)) → IfCall IsServable (write_call block offset bytes)
+write_servable (Some block) (Some offset) (Some bytes) = tt
+write_servable (Some block) (Some offset) None = tt
+write_servable (Some block) None bytes = tt
+write_servable None offset bytes = tt
 
-refused : (b : Bool) (o : Option Call) → IfCall IsServable o → IfCall IsServable (if b then None else o)
-refused true o h = tt
-refused false o h = h
+write_words : (words : List (List ℕ)) → IfCall IsServable (write_of words)
+write_words [] = tt
+write_words (block ∷ []) = tt
+write_words (block ∷ offset ∷ []) = tt
+write_words (block ∷ offset ∷ bytes ∷ []) = write_servable (number_of block) (number_of offset) (bytes_of bytes)
+write_words (block ∷ offset ∷ bytes ∷ word ∷ words) = tt
+
+read_servable : (block offset count : Option ℕ) → IfCall IsServable (read_call block offset count)
+read_servable (Some block) (Some offset) (Some count) = tt
+read_servable (Some block) (Some offset) None = tt
+read_servable (Some block) None count = tt
+read_servable None offset count = tt
+
+read_words : (words : List (List ℕ)) → IfCall IsServable (read_of words)
+read_words [] = tt
+read_words (block ∷ []) = tt
+read_words (block ∷ offset ∷ []) = tt
+read_words (block ∷ offset ∷ count ∷ []) = read_servable (number_of block) (number_of offset) (number_of count)
+read_words (block ∷ offset ∷ count ∷ word ∷ words) = tt
+
+either : (b : Bool) (o p : Option Call) → IfCall IsServable o → IfCall IsServable p → IfCall IsServable (if b then o else p)
+either true o p first second = first
+either false o p first second = second
 
 call_servable : (words : List (List ℕ)) → IfCall IsServable (call_of words)
 call_servable [] = tt
-call_servable (name ∷ arguments) = guarded (bytes_eq name (codes "malloc")) (malloc_of arguments) (words_servable arguments)
+call_servable (name ∷ arguments) =
+    either (bytes_eq name (codes "malloc")) (malloc_of arguments) (if bytes_eq name (codes "write") then write_of arguments else if bytes_eq name (codes "read") then read_of arguments else None) (words_servable arguments)
+    (either (bytes_eq name (codes "write")) (write_of arguments) (if bytes_eq name (codes "read") then read_of arguments else None) (write_words arguments)
+    (either (bytes_eq name (codes "read")) (read_of arguments) None (read_words arguments) tt))
 
 pub item_servable : (line : List ℕ) (call : Call) → item_of line ≡ Some call → IsServable call
 unfolding item_of
-item_servable line call is = subst (IfCall IsServable) is (refused (nat_lt 8192 (length line)) (call_of (words_of line)) (call_servable (words_of line)))
+item_servable line call is = subst (IfCall IsServable) is (either (nat_lt 8192 (length line)) None (call_of (words_of line)) tt (call_servable (words_of line)))

@@ -1,16 +1,19 @@
 -- Texts that cannot be read in two ways.
-use Rattle.std.proofs.Common.{◌≡◌, ◌<◌, ◌≤◌, ◌^◌, ◌+◌, ℕ, List, [], ◌∷◌, ◌++◌, length, Option, None, Some, false, codes, decimal, refl, sym, ◌∙◌, ap, arith, append_assoc, lit≤}
+use Rattle.std.proofs.Common.{◌≡◌, ◌<◌, ◌≤◌, ◌^◌, ◌+◌, ◌/◌, ◌%◌, ℕ, zero, suc, ◌==◌, get_or, List, [], ◌∷◌, ◌++◌, length, Option, None, Some, false, codes, decimal, refl, sym, ◌∙◌, ap, arith, append_assoc, lit≤}
 use Rattle.std.proofs.lemmas.Fmt.{digits_is_IsNumeral}
 use Rattle.std.proofs.lemmas.List.{append_cancel_left}
+use Rattle.std.specs.Prelude.{if◌then◌else◌}
 use Rattle.std.specs.Fmt.{digits}
+use Rattle.hex.specs.Hex.{IsBytes, decode_of, encode_lower, encode_with, lower_digits}
+use Rattle.hex.proofs.HexLemmas.{decode_of-encode_lower, decode_of-same}
 use Rattle.std.specs.Char.{digit_value}
 use Rattle.std.specs.List.{flat_map, AllByRecursion}
 use Rattle.std.specs.Str.Parse.{AllDigits, digits_value}
 use Rattle.heap_model.specs.declared.answer.Answer.{Answer}
 use Rattle.heap_model.specs.declared.answer.Reply.{Reply}
-use Rattle.heap_model.specs.declared.answer.Reply.TheVariants.{Block, Refused}
+use Rattle.heap_model.specs.declared.answer.Reply.TheVariants.{Block, Done, Bytes, Refused}
 use Rattle.heap_model.specs.declared.answer.Refusal.{Refusal}
-use Rattle.heap_model.specs.declared.answer.Refusal.TheVariants.{TooLarge, NoSpace, NoFrames}
+use Rattle.heap_model.specs.declared.answer.Refusal.TheVariants.{TooLarge, NoSpace, NoFrames, UnknownBlock, OutOfBlock}
 use Rattle.heap_model.specs.declared.region.Region.{Region}
 use Rattle.heap_model.specs.Room.{heap_region}
 use Rattle.heap_model.specs.Place.{all_regions}
@@ -72,26 +75,102 @@ block_end m a n b r s fm fn h =
     let second = hex_end a b 10 10 r s fm.1 fn.1 (lit≤ tt) (lit≤ tt) (tail_of first.1) in
     ((λ i. Block (first.0 i) (second.0 i)), tail_of second.1)
 
--- two texts differ at the first byte after a front
-differ : (front : List ℕ) (x y : ℕ) (xs ys : List ℕ) → (x ≡ y → ⊥) → front ++ x ∷ xs ≡ front ++ y ∷ ys → ⊥
-differ front x y xs ys ne h = ne (head_of (append_cancel_left front (x ∷ xs) (y ∷ ys) h))
+-- the seventh letter tells the refusals apart
+abbrev seventh : Refusal → ℕ
+seventh TooLarge = 114
+seventh NoSpace = 99
+seventh NoFrames = 109
+seventh UnknownBlock = 110
+seventh OutOfBlock = 45
+
+abbrev with_seventh : ℕ → Refusal
+with_seventh letter = if letter == 114 then TooLarge else if letter == 99 then NoSpace else if letter == 109 then NoFrames else if letter == 110 then UnknownBlock else OutOfBlock
+
+told_apart : (why : Refusal) → with_seventh (seventh why) ≡ why
+told_apart TooLarge = refl
+told_apart NoSpace = refl
+told_apart NoFrames = refl
+told_apart UnknownBlock = refl
+told_apart OutOfBlock = refl
+
+seventh_is : (why : Refusal) (r : List ℕ) → get_or (reply_text (Refused why) ++ r) 14 0 ≡ seventh why
+seventh_is TooLarge r = refl
+seventh_is NoSpace r = refl
+seventh_is NoFrames r = refl
+seventh_is UnknownBlock r = refl
+seventh_is OutOfBlock r = refl
 
 refused_end : (v w : Refusal) (r s : List ℕ) → reply_text (Refused v) ++ r ≡ reply_text (Refused w) ++ s → (Refused v ≡ Refused w) × (r ≡ s)
-refused_end TooLarge TooLarge r s h = (refl, append_cancel_left (reply_text (Refused TooLarge)) r s h)
-refused_end NoSpace NoSpace r s h = (refl, append_cancel_left (reply_text (Refused NoSpace)) r s h)
-refused_end NoFrames NoFrames r s h = (refl, append_cancel_left (reply_text (Refused NoFrames)) r s h)
-refused_end TooLarge NoSpace r s h = absurd (differ (codes "refused ") 116 110 (codes "oo-large\n" ++ r) (codes "o-space\n" ++ s) (λ e. omega (arith, e)) h)
-refused_end TooLarge NoFrames r s h = absurd (differ (codes "refused ") 116 110 (codes "oo-large\n" ++ r) (codes "o-frames\n" ++ s) (λ e. omega (arith, e)) h)
-refused_end NoSpace TooLarge r s h = absurd (differ (codes "refused ") 110 116 (codes "o-space\n" ++ r) (codes "oo-large\n" ++ s) (λ e. omega (arith, e)) h)
-refused_end NoSpace NoFrames r s h = absurd (differ (codes "refused no-") 115 102 (codes "pace\n" ++ r) (codes "rames\n" ++ s) (λ e. omega (arith, e)) h)
-refused_end NoFrames TooLarge r s h = absurd (differ (codes "refused ") 110 116 (codes "o-frames\n" ++ r) (codes "oo-large\n" ++ s) (λ e. omega (arith, e)) h)
-refused_end NoFrames NoSpace r s h = absurd (differ (codes "refused no-") 102 115 (codes "rames\n" ++ r) (codes "pace\n" ++ s) (λ e. omega (arith, e)) h)
+refused_end v w r s h =
+    let letter : seventh v ≡ seventh w = sym (seventh_is v r) ∙ (ap (λ (l : List ℕ). get_or l 14 0) h ∙ seventh_is w s) in
+    let same : v ≡ w = sym (told_apart v) ∙ (ap with_seventh letter ∙ told_apart w) in
+    (ap Refused same, append_cancel_left (reply_text (Refused v)) r s (h ∙ ap (λ x. reply_text (Refused x) ++ s) (sym same)))
+
+-- the sixteen digits
+digits_at : (t : List ℕ) (k : ℕ) → AllDigits 16 t → k < length t → digit_value (get_or t k 0) < 16
+digits_at [] k all less = absurd (omega arith)
+digits_at (x ∷ xs) zero all less = all.0
+digits_at (x ∷ xs) (suc k) all less = digits_at xs k all.1 (omega arith)
+
+lower_all : AllDigits 16 lower_digits
+lower_all = (lit≤ tt, (lit≤ tt, (lit≤ tt, (lit≤ tt, (lit≤ tt, (lit≤ tt, (lit≤ tt, (lit≤ tt, (lit≤ tt, (lit≤ tt, (lit≤ tt, (lit≤ tt, (lit≤ tt, (lit≤ tt, (lit≤ tt, (lit≤ tt, tt))))))))))))))))
+
+encode_digits : (bytes : List ℕ) → IsBytes bytes → AllDigits 16 (encode_lower bytes)
+unfolding encode_with
+encode_digits [] small = tt
+encode_digits (byte ∷ bytes) small =
+    let first : byte < 256 = small 0 in
+    (digits_at lower_digits (byte / 16) lower_all (omega arith), (digits_at lower_digits (byte % 16) lower_all (omega arith), encode_digits bytes (λ i. small (suc i))))
+
+-- bytes up to the end of the line
+hexes_end : (xs ys : List ℕ) (r s : List ℕ) → IsBytes xs → IsBytes ys → encode_lower xs ++ 10 ∷ r ≡ encode_lower ys ++ 10 ∷ s → (xs ≡ ys) × (r ≡ s)
+hexes_end xs ys r s small_x small_y h =
+    let k = digits_end 16 (encode_lower xs) (encode_lower ys) 10 10 r s (encode_digits xs small_x) (encode_digits ys small_y) (lit≤ tt) (lit≤ tt) h in
+    (decode_of-same (encode_lower xs) xs ys (decode_of-encode_lower xs small_x) (ap decode_of k.0 ∙ decode_of-encode_lower ys small_y), tail_of k.1)
+
+bytes_end : (xs ys : List ℕ) (r s : List ℕ) → IsBytes xs → IsBytes ys → reply_text (Bytes xs) ++ r ≡ reply_text (Bytes ys) ++ s → (Bytes xs ≡ Bytes ys) × (r ≡ s)
+bytes_end [] [] r s fx fy h = (refl, append_cancel_left (codes "bytes\n") r s h)
+bytes_end [] (y ∷ ys) r s fx fy h = absurd (let k : 10 ≡ 32 = head_of (tail_of (tail_of (tail_of (tail_of (tail_of h))))) in omega (arith, k))
+bytes_end (x ∷ xs) [] r s fx fy h = absurd (let k : 32 ≡ 10 = head_of (tail_of (tail_of (tail_of (tail_of (tail_of h))))) in omega (arith, k))
+bytes_end (x ∷ xs) (y ∷ ys) r s fx fy h =
+    let onto : (zs t : List ℕ) → codes "bytes " ++ (encode_lower zs ++ 10 ∷ t) ≡ (codes "bytes " ++ (encode_lower zs ++ 10 ∷ [])) ++ t = λ zs t. ap (λ (l : List ℕ). codes "bytes " ++ l) (sym (append_assoc (encode_lower zs) (10 ∷ []) t)) in
+    let k = hexes_end (x ∷ xs) (y ∷ ys) r s fx fy
+    (append_cancel_left (codes "bytes ") (encode_lower (x ∷ xs) ++ 10 ∷ r) (encode_lower (y ∷ ys) ++ 10 ∷ s) (onto (x ∷ xs) r ∙ h ∙ sym (onto (y ∷ ys) s))) in
+    ((λ i. Bytes (k.0 i)), k.1)
+
+-- the second letter tells the kinds of replies apart
+abbrev second : Reply → ℕ
+second (Block number address) = 108
+second Done = 111
+second (Bytes bytes) = 121
+second (Refused why) = 101
+
+second_is : (p : Reply) (r : List ℕ) → get_or (reply_text p ++ r) 1 0 ≡ second p
+second_is (Block number address) r = refl
+second_is Done r = refl
+second_is (Bytes bytes) r = refl
+second_is (Refused why) r = refl
+
+second_same : (p q : Reply) (r s : List ℕ) → reply_text p ++ r ≡ reply_text q ++ s → second p ≡ second q
+second_same p q r s h = sym (second_is p r) ∙ (ap (λ (l : List ℕ). get_or l 1 0) h ∙ second_is q s)
 
 reply_end : (p q : Reply) (r s : List ℕ) → ReplyFits p → ReplyFits q → reply_text p ++ r ≡ reply_text q ++ s → (p ≡ q) × (r ≡ s)
 reply_end (Block m a) (Block n b) r s fp fq h = block_end m a n b r s fp fq h
+reply_end Done Done r s fp fq h = (refl, append_cancel_left (codes "done\n") r s h)
+reply_end (Bytes xs) (Bytes ys) r s fp fq h = bytes_end xs ys r s fp fq h
 reply_end (Refused v) (Refused w) r s fp fq h = refused_end v w r s h
-reply_end (Block m a) (Refused w) r s fp fq h = absurd (let k : 98 ≡ 114 = head_of h in omega (arith, k))
-reply_end (Refused v) (Block n b) r s fp fq h = absurd (let k : 114 ≡ 98 = head_of h in omega (arith, k))
+reply_end (Block m a) Done r s fp fq h = absurd (let k : 108 ≡ 111 = second_same (Block m a) Done r s h in omega (arith, k))
+reply_end (Block m a) (Bytes ys) r s fp fq h = absurd (let k : 108 ≡ 121 = second_same (Block m a) (Bytes ys) r s h in omega (arith, k))
+reply_end (Block m a) (Refused w) r s fp fq h = absurd (let k : 108 ≡ 101 = second_same (Block m a) (Refused w) r s h in omega (arith, k))
+reply_end Done (Block n b) r s fp fq h = absurd (let k : 111 ≡ 108 = second_same Done (Block n b) r s h in omega (arith, k))
+reply_end Done (Bytes ys) r s fp fq h = absurd (let k : 111 ≡ 121 = second_same Done (Bytes ys) r s h in omega (arith, k))
+reply_end Done (Refused w) r s fp fq h = absurd (let k : 111 ≡ 101 = second_same Done (Refused w) r s h in omega (arith, k))
+reply_end (Bytes xs) (Block n b) r s fp fq h = absurd (let k : 121 ≡ 108 = second_same (Bytes xs) (Block n b) r s h in omega (arith, k))
+reply_end (Bytes xs) Done r s fp fq h = absurd (let k : 121 ≡ 111 = second_same (Bytes xs) Done r s h in omega (arith, k))
+reply_end (Bytes xs) (Refused w) r s fp fq h = absurd (let k : 121 ≡ 101 = second_same (Bytes xs) (Refused w) r s h in omega (arith, k))
+reply_end (Refused v) (Block n b) r s fp fq h = absurd (let k : 101 ≡ 108 = second_same (Refused v) (Block n b) r s h in omega (arith, k))
+reply_end (Refused v) Done r s fp fq h = absurd (let k : 101 ≡ 111 = second_same (Refused v) Done r s h in omega (arith, k))
+reply_end (Refused v) (Bytes ys) r s fp fq h = absurd (let k : 101 ≡ 121 = second_same (Refused v) (Bytes ys) r s h in omega (arith, k))
 
 -- a region of a heap line
 abbrev spaced : Region → List ℕ
@@ -155,6 +234,8 @@ answer_end a b r s ra ha rb hb nr ns h =
 -- the first byte of a reply's text is no h, and its second no a
 reply_differs : (p : Reply) (r s t : List ℕ) → reply_text p ++ r ≡ codes "bad line\n" ++ s → ⊥
 reply_differs (Block m a) r s t h = let k : 108 ≡ 97 = head_of (tail_of h) in omega (arith, k)
+reply_differs Done r s t h = let k : 100 ≡ 98 = head_of h in omega (arith, k)
+reply_differs (Bytes bytes) r s t h = let k : 121 ≡ 97 = head_of (tail_of h) in omega (arith, k)
 reply_differs (Refused why) r s t h = let k : 114 ≡ 98 = head_of h in omega (arith, k)
 
 line_end : (x y : Option Answer) (r s : List ℕ) → AnswerFits x → AnswerFits y → NoHeap r → NoHeap s → line_text x ++ r ≡ line_text y ++ s → (x ≡ y) × (r ≡ s)
@@ -166,6 +247,8 @@ line_end (Some a) (Some b) r s fx fy nr ns h = let k = answer_end a b r s fx.0 f
 
 reply_head : (p : Reply) (r : List ℕ) → NoHeap (reply_text p ++ r)
 reply_head (Block m a) r t h = let k : 98 ≡ 104 = head_of h in omega (arith, k)
+reply_head Done r t h = let k : 100 ≡ 104 = head_of h in omega (arith, k)
+reply_head (Bytes bytes) r t h = let k : 98 ≡ 104 = head_of h in omega (arith, k)
 reply_head (Refused why) r t h = let k : 114 ≡ 104 = head_of h in omega (arith, k)
 
 line_head : (x : Option Answer) (r : List ℕ) → NoHeap (line_text x ++ r)

@@ -1,9 +1,11 @@
 -- The call that a line asks for.
-use Rattle.std.specs.Prelude.{ℕ, List, [], ◌∷◌, length, Option, None, if◌then◌else◌, nat_lt, codes}
+use Rattle.std.specs.Prelude.{ℕ, List, [], ◌∷◌, length, Option, Some, None, if◌then◌else◌, nat_lt, codes}
 use Rattle.std.specs.Option.{option_map}
+use Rattle.std.specs.Result.{result_ok}
 use Rattle.std.specs.Str.{bytes_eq}
+use Rattle.hex.specs.Hex.{decode_of}
 use Rattle.heap_model.specs.declared.call.Call.{Call}
-use Rattle.heap_model.specs.declared.call.Call.TheVariants.{Malloc}
+use Rattle.heap_model.specs.declared.call.Call.TheVariants.{Malloc, Write, Read}
 use Rattle.heap_program.specs.Number.{number_of}
 use Rattle.heap_program.specs.Words.{words_of}
 
@@ -13,10 +15,36 @@ malloc_of [] = None
 malloc_of (size ∷ []) = option_map (λ n. Malloc n 16) (number_of size)
 malloc_of (size ∷ word ∷ words) = None
 
+-- bytes as two hexadecimal digits each, of either case; at least one byte
+abbrev pub bytes_of : List ℕ → Option (List ℕ)
+bytes_of [] = None
+bytes_of (digit ∷ digits) = result_ok (decode_of (digit ∷ digits))
+
+abbrev pub write_call : Option ℕ → Option ℕ → Option (List ℕ) → Option Call
+write_call (Some block) (Some offset) (Some bytes) = Some (Write block offset bytes)
+write_call block offset bytes = None
+
+-- `write BLOCK OFFSET HEX`, with what stands behind the name
+abbrev pub write_of : List (List ℕ) → Option Call
+write_of (block ∷ offset ∷ bytes ∷ []) = write_call (number_of block) (number_of offset) (bytes_of bytes)
+write_of words = None
+
+abbrev pub read_call : Option ℕ → Option ℕ → Option ℕ → Option Call
+read_call (Some block) (Some offset) (Some count) = Some (Read block offset count)
+read_call block offset count = None
+
+-- `read BLOCK OFFSET LENGTH`, with what stands behind the name
+abbrev pub read_of : List (List ℕ) → Option Call
+read_of (block ∷ offset ∷ count ∷ []) = read_call (number_of block) (number_of offset) (number_of count)
+read_of words = None
+
 -- the call that the first word names
 abbrev pub call_of : List (List ℕ) → Option Call
 call_of [] = None
-call_of (name ∷ arguments) = if bytes_eq name (codes "malloc") then malloc_of arguments else None
+call_of (name ∷ arguments) =
+    if bytes_eq name (codes "malloc") then malloc_of arguments else
+    if bytes_eq name (codes "write") then write_of arguments else
+    if bytes_eq name (codes "read") then read_of arguments else None
 
 -- the call of a line of at most 8192 bytes; None is a bad line
 unfoldable pub item_of : List ℕ → Option Call

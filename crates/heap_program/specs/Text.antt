@@ -2,11 +2,12 @@
 use Rattle.std.specs.Prelude.{ℕ, ◌+◌, Bool, List, [], ◌∷◌, ◌++◌, length, codes, Option, None, Some, decimal, if◌then◌else◌, false}
 use Rattle.std.specs.Fmt.{digits}
 use Rattle.std.specs.List.{flat_map}
+use Rattle.hex.specs.Hex.{encode_lower}
 use Rattle.heap_model.specs.declared.answer.Answer.{Answer}
 use Rattle.heap_model.specs.declared.answer.Reply.{Reply}
-use Rattle.heap_model.specs.declared.answer.Reply.TheVariants.{Block, Refused}
+use Rattle.heap_model.specs.declared.answer.Reply.TheVariants.{Block, Done, Bytes, Refused}
 use Rattle.heap_model.specs.declared.answer.Refusal.{Refusal}
-use Rattle.heap_model.specs.declared.answer.Refusal.TheVariants.{TooLarge, NoSpace, NoFrames}
+use Rattle.heap_model.specs.declared.answer.Refusal.TheVariants.{TooLarge, NoSpace, NoFrames, UnknownBlock, OutOfBlock}
 use Rattle.heap_model.specs.declared.region.Region.{Region}
 use Rattle.heap_model.specs.State.{State}
 use Rattle.heap_model.specs.Place.{all_regions}
@@ -21,10 +22,19 @@ abbrev pub refusal_word : Refusal → List ℕ
 refusal_word TooLarge = codes "too-large"
 refusal_word NoSpace = codes "no-space"
 refusal_word NoFrames = codes "no-frames"
+refusal_word UnknownBlock = codes "unknown-block"
+refusal_word OutOfBlock = codes "out-of-block"
+
+-- bytes as two lower case digits each, behind a space where there are bytes
+abbrev pub bytes_text : List ℕ → List ℕ
+bytes_text [] = []
+bytes_text (byte ∷ bytes) = codes " " ++ encode_lower (byte ∷ bytes)
 
 -- the line of a reply
 abbrev pub reply_text : Reply → List ℕ
 reply_text (Block number address) = codes "block " ++ (decimal number ++ (codes " " ++ (hexadecimal address ++ codes "\n")))
+reply_text Done = codes "done\n"
+reply_text (Bytes bytes) = codes "bytes" ++ (bytes_text bytes ++ codes "\n")
 reply_text (Refused why) = codes "refused " ++ (refusal_word why ++ codes "\n")
 
 -- where a region starts, and its pages

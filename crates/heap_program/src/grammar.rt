@@ -1,11 +1,12 @@
 // The call that a line asks for.
-ghost use Rattle.std.specs.Prelude.{◌≡◌, IfOk};
-ghost use Rattle.heap_program.specs.Grammar.{malloc_of, call_of, item_of};
+ghost use Rattle.std.specs.Prelude.{◌≡◌, IfOk, MatchOption, Some, None};
+ghost use Rattle.heap_program.specs.Grammar.{malloc_of, bytes_of, write_call, write_of, read_of, call_of, item_of};
 ghost use Rattle.heap_program.specs.Words.{words_of};
 
 use crate::number::number;
 use crate::words::Words;
-use kernel_heap::Call;
+use hex::FromHexError;
+use kernel_heap::{Bytes, Call};
 use std::alloc::{AllocError, Global};
 
 /// The greatest number of bytes of a line, its line feed not counted.
@@ -27,27 +28,92 @@ fn malloc(words: &mut Words<'_>) -> Option<Call>
     }
 }
 
-fn call_of(line: &[u8]) -> Option<Call>
-    ensures { result ≡ call_of (words_of line.now) }
+fn read(words: &mut Words<'_>) -> Option<Call>
+    ensures { result ≡ read_of words.old }
+{
+    let block = number(words.next_word()?)?;
+    let offset = number(words.next_word()?)?;
+    let length = number(words.next_word()?)?;
+    match words.next_word() {
+        None => Some(Call::Read {
+            block,
+            offset,
+            length,
+        }),
+        Some(_) => None,
+    }
+}
+
+// The bytes that a word writes, two digits each.
+fn bytes(alloc: Global, word: &[u8]) -> Result<Option<Bytes>, AllocError>
+    ensures { IfOk result (λ bytes. bytes ≡ bytes_of word.now) }
+{
+    if word.is_empty() {
+        return Ok(None);
+    }
+    match hex::decode(alloc, word) {
+        Ok(bytes) => Ok(Some(Bytes::from_vec(bytes))),
+        Err(FromHexError::OutOfMemory) => Err(AllocError),
+        Err(_) => Ok(None),
+    }
+}
+
+// The words behind `write`, the first two as numbers.
+fn write_words<'a>(words: &mut Words<'a>) -> Option<(u64, u64, &'a [u8])>
+    ensures { MatchOption result (write_of words.old ≡ None) (λ found. write_of words.old ≡ write_call (Some found.0) (Some found.1) (bytes_of found.2.now)) }
+{
+    let block = number(words.next_word()?)?;
+    let offset = number(words.next_word()?)?;
+    let digits = words.next_word()?;
+    match words.next_word() {
+        None => Some((block, offset, digits)),
+        Some(_) => None,
+    }
+}
+
+fn write(alloc: Global, words: &mut Words<'_>) -> Result<Option<Call>, AllocError>
+    ensures { IfOk result (λ call. call ≡ write_of words.old) }
+{
+    let Some((block, offset, digits)) = write_words(words) else {
+        return Ok(None);
+    };
+    match bytes(alloc, digits)? {
+        Some(bytes) => Ok(Some(Call::Write {
+            block,
+            offset,
+            bytes,
+        })),
+        None => Ok(None),
+    }
+}
+
+fn call_of(alloc: Global, line: &[u8]) -> Result<Option<Call>, AllocError>
+    ensures { IfOk result (λ call. call ≡ call_of (words_of line.now)) }
 {
     let mut words = Words::new(line);
-    let name = words.next_word()?;
+    let Some(name) = words.next_word() else {
+        return Ok(None);
+    };
     if name == b"malloc".as_slice() {
-        malloc(&mut words)
+        Ok(malloc(&mut words))
+    } else if name == b"write".as_slice() {
+        write(alloc, &mut words)
+    } else if name == b"read".as_slice() {
+        Ok(read(&mut words))
     } else {
-        None
+        Ok(None)
     }
 }
 
 /// The call that a line asks for, without its line feed. `None` exactly where the line is outside the
-/// grammar or longer than 8192 bytes. An `Err` would say that the host had too little memory; no call so
-/// far needs any.
+/// grammar or longer than 8192 bytes. An `Err` says that the host had too little memory for the bytes of a
+/// `write`.
 #[tactic(auto, unfolding(crate::specs::Grammar::item_of))]
-pub fn parse_call(_alloc: Global, line: &[u8]) -> Result<Option<Call>, AllocError>
+pub fn parse_call(alloc: Global, line: &[u8]) -> Result<Option<Call>, AllocError>
     ensures { IfOk result (λ call. call ≡ item_of line.now) }
 {
     if line.len() > LONGEST_LINE {
         return Ok(None);
     }
-    Ok(call_of(line))
+    call_of(alloc, line)
 }

@@ -39,7 +39,7 @@ fn answer_line(
     match parse_call(alloc, line)? {
         Some(call) => {
             let answer = machine.step(&call)?;
-            push_answer(output, &answer)
+            push_answer(alloc, output, &answer)
         }
         None => output.push_str("bad line\n"),
     }

@@ -4,7 +4,7 @@ ghost use Rattle.std.specs.List.{flat_map};
 ghost use Rattle.heap_model.specs.State.{State};
 ghost use Rattle.heap_model.specs.Machine.{Stands};
 ghost use Rattle.kernel_heap.specs.Machine.{seen};
-ghost use Rattle.heap_program.specs.Text.{text_of, reply_text, refusal_word, extent_text, regions_text, heap_line, right_text, rights_text, kind_text, region_line, counts_line, end_text_of};
+ghost use Rattle.heap_program.specs.Text.{text_of, reply_text, bytes_text, refusal_word, extent_text, regions_text, heap_line, right_text, rights_text, kind_text, region_line, counts_line, end_text_of};
 
 use kernel_heap::{Answer, Bytes, Machine, Refusal, Region, RegionList, Reply, Rights};
 use std::alloc::{AllocError, Global};
@@ -16,16 +16,36 @@ fn refusal_word(why: Refusal) -> &'static str
         Refusal::TooLarge => "too-large",
         Refusal::NoSpace => "no-space",
         Refusal::NoFrames => "no-frames",
+        Refusal::UnknownBlock => "unknown-block",
+        Refusal::OutOfBlock => "out-of-block",
     }
 }
 
-fn push_reply(out: &mut String, reply: &Reply) -> Result<(), AllocError>
+// Bytes as two digits each, behind a space where there are bytes.
+fn push_bytes(alloc: Global, out: &mut String, bytes: &[u8]) -> Result<(), AllocError>
+    ensures { OnOk result (string_bytes out.new ≡ string_bytes out.old ++ bytes_text bytes.now) }
+{
+    if bytes.is_empty() {
+        return Ok(());
+    }
+    let digits = hex::encode(alloc, bytes)?;
+    out.push_str(" ")?;
+    out.push_str(digits.as_str())
+}
+
+fn push_reply(alloc: Global, out: &mut String, reply: &Reply) -> Result<(), AllocError>
     ensures { OnOk result (string_bytes out.new ≡ string_bytes out.old ++ reply_text reply.now) }
 {
     match reply {
         Reply::Block { number, address } => {
             let (number, address) = (*number, *address);
             writeln!(out, "block {number} 0x{address:x}")
+        }
+        Reply::Done => out.push_str("done\n"),
+        Reply::Bytes(bytes) => {
+            out.push_str("bytes")?;
+            push_bytes(alloc, out, bytes.as_slice())?;
+            out.push_str("\n")
         }
         Reply::Refused(why) => {
             let word = refusal_word(*why);
@@ -71,10 +91,10 @@ fn push_heap_line(out: &mut String, regions: &Option<RegionList>) -> Result<(), 
 
 /// Puts the text of an answer at the end.
 #[tactic(auto, unfolding(crate::specs::Text::text_of))]
-pub fn push_answer(out: &mut String, answer: &Answer) -> Result<(), AllocError>
+pub fn push_answer(alloc: Global, out: &mut String, answer: &Answer) -> Result<(), AllocError>
     ensures { OnOk result (string_bytes out.new ≡ string_bytes out.old ++ text_of answer.now) }
 {
-    push_reply(out, &answer.reply)?;
+    push_reply(alloc, out, &answer.reply)?;
     push_heap_line(out, &answer.regions)
 }
 
@@ -84,7 +104,7 @@ pub fn text_of(alloc: Global, answer: &Answer) -> Result<Bytes, AllocError>
     ensures { IfOk result (λ text. text ≡ text_of answer.now) }
 {
     let mut out = String::new(alloc);
-    push_answer(&mut out, answer)?;
+    push_answer(alloc, &mut out, answer)?;
     Ok(Bytes::from_vec(out.into_bytes()))
 }
 

@@ -19,7 +19,7 @@ mod tests {
         output: &'static str,
     }
 
-    const ROWS: [Row; 10] = [
+    const ROWS: [Row; 12] = [
         Row {
             input: "",
             output: "frames 1023 tables 1\n",
@@ -64,6 +64,16 @@ mod tests {
         Row {
             input: "malloc 00000000000000000024\nmalloc 0x000000000000001f\nmalloc 0x1F\n",
             output: "block 0 0x400010\nheap 0x400000+16\nblock 1 0x400030\nblock 2 0x400060\nregion 0x400000+16 heap\nframes 1004 tables 4\n",
+        },
+        // Bytes that were never written are those of cleared pages; a length of 0 is in every block.
+        Row {
+            input: "malloc 3\nread 0 0 3\nread 0 3 0\nread 0 0 4\nwrite 0 3 00\nwrite 0 1 ff\nread 0 0 3\nread 5 0 0\n",
+            output: "block 0 0x400010\nheap 0x400000+16\nbytes 000000\nbytes\nrefused out-of-block\nrefused out-of-block\ndone\nbytes 00ff00\nrefused unknown-block\nregion 0x400000+16 heap\nframes 1004 tables 4\n",
+        },
+        // No digits, an odd number of them, one that is none, a word more, and sums that would wrap.
+        Row {
+            input: "malloc 8\nwrite 0 0 \nwrite 0 0 abc\nwrite 0 0 0g\nwrite 0 0 00 00\nread 0 0\nread 0 1 0xffffffffffffffff\nread 0 0xffffffffffffffff 1\nwrite 0 0 aBcD\nread 0 0 2\n",
+            output: "block 0 0x400010\nheap 0x400000+16\nbad line\nbad line\nbad line\nbad line\nbad line\nrefused out-of-block\nrefused out-of-block\ndone\nbytes abcd\nregion 0x400000+16 heap\nframes 1004 tables 4\n",
         },
     ];
 

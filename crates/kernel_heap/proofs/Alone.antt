@@ -1,27 +1,14 @@
 -- Where a machine has regions of the heap alone, so has the state.
-use Rattle.std.proofs.Common.{◌≡◌, ℕ, ◌||◌, List, [], ◌∷◌, fold, refl, sym, ap, ◌∙◌, Bool, true, false, not}
+use Rattle.std.proofs.Common.{◌≡◌, ℕ, ◌||◌, List, [], ◌∷◌, fold, refl, sym, ap, ◌∙◌, true, false, not}
 use Rattle.std.specs.List.{list_any, AllByRecursion}
 use Rattle.heap_model.specs.declared.region.Region.{Region}
 use Rattle.heap_model.specs.State.{State}
 use Rattle.heap_model.specs.Place.{with_region, all_regions}
 use Rattle.heap_model.specs.Run.{IsGood, IsUserRegion}
-use Rattle.heap_model.proofs.Booleans.{or_false, or_left, or_right}
-use Rattle.heap_model.proofs.Regions.{any_with}
+use Rattle.heap_model.proofs.Booleans.{or_left, or_right}
+use Rattle.heap_model.proofs.Regions.{any_all}
 use Rattle.kernel_heap.specs.Layout.{AreConsecutive}
 use Rattle.kernel_heap.proofs.Consecutive.{all_heap}
-
--- a test passes in the joined lists where it passes in one of them
-any_all : (test : Region → Bool) (heap users : List Region) →
-    list_any test (fold (λ list region. with_region region list) heap users) ≡ (list_any test heap || list_any test users)
-any_all test heap [] = sym (or_false (list_any test heap))
-any_all test heap (first ∷ rest) =
-    any_all test (with_region first heap) rest
-    ∙ (ap (λ b. b || list_any test rest) (any_with test first heap) ∙ turn (test first) (list_any test heap) (list_any test rest))
-  where
-    turn : (a b c : Bool) → ((a || b) || c) ≡ (b || (a || c))
-    turn true true c = refl
-    turn true false c = refl
-    turn false b c = refl
 
 pub no_users : (s : State) (from to : ℕ) (list : List Region) → IsGood s → list ≡ all_regions s → AreConsecutive from list to → s.users ≡ []
 no_users s from to list good same all = go s.users refl good.users

@@ -63,6 +63,18 @@ covered from to address (first ∷ rest) all above below =
       | inr more ↦ or_right (is_within address first) (list_any (is_within address) rest) (covered (from + 4096 * first.pages) to address rest all.2 (omega arith) below)
     ]
 
+-- and one that lies in one of them lies between the ends
+pub inside : (from to address : ℕ) (list : List Region) → AreConsecutive from list to → list_any (is_within address) list ≡ true → (from ≤ address) × (address < to)
+inside from to address [] all is = cc
+inside from to address (first ∷ rest) all is = elim (or_cases (is_within address first) (list_any (is_within address) rest) is) [
+  | inl here ↦ (
+      let bounds = within_bounds address first here in
+      let start : first.start ≡ from = ap (λ r. r.start) all.0 in
+      let more = ends (from + 4096 * first.pages) to rest all.2 in
+      (omega arith, omega arith))
+  | inr later ↦ (let more = inside (from + 4096 * first.pages) to address rest all.2 later in (omega arith, more.1))
+]
+
 -- pages that begin in a region meet it
 pub met : (address pages : ℕ) (list : List Region) → 0 < pages → list_any (is_within address) list ≡ true → meets_any address pages list ≡ true
 met address pages [] some is = is

@@ -1,10 +1,10 @@
 -- Pages are granted behind the last region, and a block is handed out.
-use Rattle.std.proofs.Common.{◌≡◌, ◌≢◌, ℕ, ◌+◌, ◌*◌, ◌/◌, ◌%◌, ◌^◌, ◌<◌, ◌≤◌, inr, max, List, [], ◌∷◌, ◌++◌, length, length-append, fold, find, refl, sym, ap, ◌∙◌, subst, arith, nat_eq, ◌-◌, ◌||◌, true, false, Some, None}
+use Rattle.std.proofs.Common.{◌≡◌, ◌≢◌, ℕ, ◌+◌, ◌*◌, ◌/◌, ◌%◌, ◌^◌, ◌<◌, ◌≤◌, inl, inr, max, List, [], ◌∷◌, ◌++◌, length, length-append, fold, find, refl, sym, ap, ◌∙◌, subst, arith, nat_eq, ◌-◌, ◌||◌, true, false, Option, Some, None, IsSome}
 use Rattle.paging_core.specs.Address.{IsCanonicalRange}
 use Rattle.paging_core.specs.Memory.{frame_count}
 use Rattle.paging_core.specs.Pool.{is_free}
 use Rattle.paging_core.specs.Prefix.{Prefix}
-use Rattle.paging_core.specs.Walk.{walk_of}
+use Rattle.paging_core.specs.Walk.{Place, walk_of, granted as granted_place}
 use Rattle.paging_core.specs.Tree.{IsTree}
 use Rattle.heap_model.specs.declared.region.Region.{Region}
 use Rattle.heap_model.specs.declared.call.Call.TheVariants.{Malloc}
@@ -14,7 +14,7 @@ use Rattle.heap_model.specs.Request.{padded, limit, wanted, pages_for}
 use Rattle.heap_model.specs.State.{State, total_pages}
 use Rattle.heap_model.specs.Tables.{missing, with_tables, free_frames}
 use Rattle.heap_model.specs.Place.{meets_any, with_region, all_regions, IsPlace}
-use Rattle.heap_model.specs.Room.{heap_region}
+use Rattle.heap_model.specs.Room.{heap_region, heap_rights}
 use Rattle.heap_model.specs.Answer.{after, is_new, granted_tables}
 use Rattle.heap_model.specs.Run.{IsGood}
 use Rattle.heap_model.specs.Machine.{Paged, Seen, Stands, IsStep}
@@ -25,7 +25,7 @@ use Rattle.kernel_heap.specs.Layout.{AreConsecutive, regions_end, window_end, Is
 use Rattle.kernel_heap.specs.Machine.{served, IsLaidOut, IsPlaced}
 use Rattle.kernel_heap.proofs.Alone.{heap_alone}
 use Rattle.kernel_heap.proofs.Chunks.{IsPadded, padded-is, pages_enough}
-use Rattle.kernel_heap.proofs.Consecutive.{last_place, one_more, total_push}
+use Rattle.kernel_heap.proofs.Consecutive.{lt_or_le, last_place, one_more, total_push}
 use Rattle.kernel_heap.proofs.Places.{place_behind}
 use Rattle.kernel_heap.proofs.Refused.{consecutive, alone, whole, window, pages_same, full_state}
 use Rattle.kernel_heap.proofs.Served.{next_block, number_served, not_refused, good_served, stands_served}
@@ -61,6 +61,7 @@ kept_granted old new pages kept can is = record {
   consecutive = subst (λ e. AreConsecutive new.base new.regions e) (sym end) (subst (λ b. AreConsecutive b new.regions (regions_end old + 4096 * pages)) (sym is.grant.base)
       (subst (λ xs. AreConsecutive old.base xs (regions_end old + 4096 * pages)) (sym is.regions) (one_more old.base (regions_end old) pages old.regions can.some kept.consecutive)));
   inside = (let e = end in let w = can.inside in let b = is.grant.base in let p = is.grant.pages_is in omega arith);
+  mapped = λ page above below. mapped page (let b = is.grant.base in omega arith) (let e = end in omega arith);
   unmapped = λ page above below. unmapped page (let e = end in omega arith) (let b = is.grant.base in let p = is.grant.pages_is in omega arith);
 }
   where
@@ -75,6 +76,21 @@ kept_granted old new pages kept can is = record {
 
     range : IsCanonicalRange (regions_end old / 4096) pages
     range = range_behind old pages kept can.some can.inside
+
+    -- a page that was mapped stays, and each granted page was mapped
+    mapped : (page : ℕ) → old.base ≤ 4096 * page → 4096 * page < regions_end old + 4096 * pages → IsSome (walk_of new.words new.root page)
+    mapped page above below = subst (λ r. IsSome (walk_of new.words r page)) (sym is.grant.root) (elim (lt_or_le (4096 * page) (regions_end old)) [
+      | inl before ↦ was (walk_of old.words old.root page) refl (kept.mapped page above before)
+      | inr behind ↦ (let w = kept.window.whole in
+          let n = is.grant.added.mapped (page - regions_end old / 4096) (omega arith) in
+          let same : regions_end old / 4096 + (page - regions_end old / 4096) ≡ page = omega arith in
+          let found = subst (λ q. walk_of new.words old.root q ≡ Some (granted_place n.frame heap_rights)) same n.found in
+          rw found refl)
+    ])
+      where
+        was : (place : Option Place) → walk_of old.words old.root page ≡ place → IsSome place → IsSome (walk_of new.words old.root page)
+        was None is some = absurd (cc)
+        was (Some place) found some = (let stays = is.grant.added.pages_stay page place found in rw stays refl)
 
     apart : (page k : ℕ) → regions_end old + 4096 * pages ≤ 4096 * page → 4096 * page < window_end old → k < pages → page % 2 ^ 36 ≡ (regions_end old / 4096 + k) % 2 ^ 36 → ⊥
     apart page k above below less same =

@@ -3,6 +3,9 @@ pub mod Alone
 pub mod Chunks
 pub mod Places
 pub mod Served
+pub mod Still
+pub mod Bytes
+pub mod BlockBytes
 pub mod Refused
 pub mod Granted
 pub mod NewSystem

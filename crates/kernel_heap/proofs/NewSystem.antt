@@ -1,8 +1,6 @@
 -- A new system, and the start of a run.
-use Rattle.std.proofs.Common.{◌≡◌, ℕ, ◌+◌, ◌*◌, ◌^◌, ◌<◌, List, [], length, replicate, refl, sym, ap, ◌∙◌, arith, Bool, true, Option, Some, None, cond, option_map, subst}
+use Rattle.std.proofs.Common.{◌≡◌, ℕ, ◌+◌, ◌*◌, ◌^◌, ◌<◌, List, [], length, refl, sym, ap, ◌∙◌, arith, Bool, Option, Some, None, option_map, subst}
 use Rattle.std.specs.Prelude.{IsSome}
-use Rattle.std.proofs.lemmas.List.Folds.{sum_by-replicate}
-use Rattle.std.proofs.Math.ListN.{length-replicate}
 use Rattle.paging_core.specs.Memory.{frame_count}
 use Rattle.paging_core.specs.Pool.{FreeBelow, free_count}
 use Rattle.paging_core.specs.Walk.{reach, walk_of}
@@ -33,6 +31,7 @@ new_is p memory pool frames window few count_memory count_pool size count flags 
         held = omega arith;
         consecutive = (let t = ap total_pages regions in subst (λ xs. AreConsecutive p.base xs (p.base + 4096 * total_pages p.regions)) (sym regions) (omega arith));
         inside = (let t = ap total_pages regions in omega arith);
+        mapped = λ page above below. (let t = ap total_pages regions in absurd (omega arith));
         unmapped = λ page above below. nothing page;
       };
       base_is = refl;

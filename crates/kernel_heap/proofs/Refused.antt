@@ -7,13 +7,15 @@ use Rattle.heap_model.specs.declared.answer.Refusal.{Refusal}
 use Rattle.heap_model.specs.declared.answer.Refusal.TheVariants.{TooLarge, NoSpace, NoFrames}
 use Rattle.heap_model.specs.declared.answer.Reply.TheVariants.{Refused}
 use Rattle.heap_model.specs.declared.answer.Answer.{Answer}
-use Rattle.heap_model.specs.declared.call.Call.TheVariants.{Malloc}
+use Rattle.heap_model.specs.declared.call.Call.{Call}
+use Rattle.heap_model.specs.declared.call.Call.TheVariants.{Malloc, Write, Read}
 use Rattle.heap_model.specs.Request.{padded, limit, wanted, pages_for}
 use Rattle.heap_model.specs.State.{State}
 use Rattle.heap_model.specs.Tables.{missing, free_frames}
 use Rattle.heap_model.specs.Place.{IsPlace, HasNoPlace}
 use Rattle.heap_model.specs.Room.{HasRoom}
 use Rattle.heap_model.specs.Refusal.{must_refuse, MayRefuse}
+use Rattle.heap_model.specs.Answer.{changed}
 use Rattle.heap_model.specs.Run.{IsGood}
 use Rattle.heap_model.specs.Machine.{Seen, Stands, IsStep}
 use Rattle.heap_model.proofs.Granted.{missing_same}
@@ -27,15 +29,24 @@ use Rattle.kernel_heap.proofs.Served.{not_refused}
 abbrev pub refused_with : Refusal → Answer
 refused_with refusal = record { reply = Refused refusal; regions = None }
 
+-- a refusal changes nothing
+changed_refused : (s : State) (call : Call) (refusal : Refusal) → changed s call (Refused refusal) ≡ s
+changed_refused s (Malloc size align) refusal = refl
+changed_refused s (Write number offset bytes) refusal = refl
+changed_refused s (Read number offset count) refusal = refl
+
+-- the refusal that must come
+pub step_refused : (m : Seen) (s : State) (call : Call) (refusal : Refusal) → must_refuse s call ≡ Some refusal → IsGood s → Stands m s → IsStep s call (refused_with refusal) m
+step_refused m s call refusal must good stands = record {
+  allowed = record { reply = (refl, inl must); listed = tt };
+  good = subst IsGood (sym (changed_refused s call refusal)) good;
+  stands = subst (Stands m) (sym (changed_refused s call refusal)) stands;
+}
+
 -- from the limit on
 pub step_too_large : (m : Seen) (s : State) (size : ℕ) → limit m.granularity ≤ size → IsGood s → Stands m s → IsStep s (Malloc size 16) (refused_with TooLarge) m
 step_too_large m s size more good stands =
-    let least : limit s.granularity ≤ size = subst (λ g. limit g ≤ size) stands.granularity more in
-    record {
-      allowed = record { reply = (refl, inl (too_large s size least)); listed = tt };
-      good = good;
-      stands = stands;
-    }
+    step_refused m s (Malloc size 16) TooLarge (too_large s size (subst (λ g. limit g ≤ size) stands.granularity more)) good stands
   where
     too_large : (s : State) (size : ℕ) → limit s.granularity ≤ size → must_refuse s (Malloc size 16) ≡ Some TooLarge
     too_large s size least = let large : nat_le (limit s.granularity) size ≡ true = grind (arith, nat_tests) in rw large refl

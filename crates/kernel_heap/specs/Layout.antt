@@ -1,5 +1,5 @@
 -- What a paged system keeps, beside what its state says.
-use Rattle.std.specs.Prelude.{◌≡◌, ℕ, ◌+◌, ◌*◌, ◌/◌, ◌^◌, ◌<◌, ◌≤◌, List, [], ◌∷◌, ◌++◌, None}
+use Rattle.std.specs.Prelude.{◌≡◌, ℕ, ◌+◌, ◌*◌, ◌/◌, ◌^◌, ◌<◌, ◌≤◌, List, [], ◌∷◌, ◌++◌, None, IsSome}
 use Rattle.paging_core.specs.Memory.{frame_count}
 use Rattle.paging_core.specs.Pool.{FreeBelow, free_count}
 use Rattle.paging_core.specs.Walk.{reach, walk_of}
@@ -9,6 +9,7 @@ use Rattle.heap_model.specs.declared.region.Region.{Region}
 use Rattle.heap_model.specs.State.{total_pages}
 use Rattle.heap_model.specs.Room.{heap_region}
 use Rattle.heap_model.specs.Machine.{Paged, IsPagedGrant}
+use Rattle.std.proofs.Props.{props}
 use Rattle.kernel_heap.specs.Config.{IsGoodWindow}
 
 -- regions of the heap one after the other, from one address to another
@@ -23,8 +24,8 @@ regions_end p = p.base + 4096 * total_pages p.regions
 abbrev pub window_end : Paged → ℕ
 window_end p = p.base + 4096 * p.pages
 
--- The tables form a tree, the regions follow each other from the start of the window, and nothing of the window
--- behind them is mapped.
+-- The tables form a tree, the regions follow each other from the start of the window, and of the window their pages
+-- are mapped, and none behind them.
 pub record IsKept (p : Paged) : Type 0 where
   pub window : IsGoodWindow p.base p.pages
   pub tree : IsTree p.words p.root p.free
@@ -34,6 +35,7 @@ pub record IsKept (p : Paged) : Type 0 where
   pub held : p.tables + free_count p.free ≤ frame_count p.words
   pub consecutive : AreConsecutive p.base p.regions (regions_end p)
   pub inside : regions_end p ≤ window_end p
+  pub mapped : (page : ℕ) → p.base ≤ 4096 * page → 4096 * page < regions_end p → IsSome (walk_of p.words p.root page)
   pub unmapped : (page : ℕ) → regions_end p ≤ 4096 * page → 4096 * page < window_end p → walk_of p.words p.root page ≡ None
 
 -- The system is new: nothing is mapped, and all frames but that of the root are free.
@@ -58,3 +60,12 @@ pub record CanGrant (p : Paged) (pages : ℕ) : Type 0 where
 pub record IsGranted (old new : Paged) (pages : ℕ) : Type 0 where
   pub grant : IsPagedGrant old new (regions_end old) pages
   pub regions : new.regions ≡ old.regions ++ heap_region (regions_end old) pages ∷ []
+
+-- ---- a system keeps this in one way
+
+AreConsecutive-prop : (from : ℕ) (list : List Region) (to : ℕ) → IsProp (AreConsecutive from list to)
+AreConsecutive-prop from [] to = hlevel props
+AreConsecutive-prop from (region ∷ rest) to = hlevel (props, AreConsecutive-prop (from + 4096 * region.pages) rest to)
+
+pub IsKept-prop : (p : Paged) → IsProp (IsKept p)
+IsKept-prop p = hlevel (props, AreConsecutive-prop p.base p.regions (regions_end p))

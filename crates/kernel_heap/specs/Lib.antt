@@ -2,3 +2,6 @@ pub mod Config
 pub mod Layout
 pub mod System
 pub mod Machine
+pub mod Words
+pub mod Follows
+pub mod Written

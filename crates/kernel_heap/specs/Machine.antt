@@ -1,8 +1,10 @@
 -- What contracts see of a machine, and how it lays out its blocks.
-use Rattle.std.specs.Prelude.{◌≡◌, ℕ, ◌+◌, ◌%◌, ◌<◌, ◌≤◌, max, List, [], ◌∷◌, ◌++◌, slice_index_or, Option, Some, None}
+use Rattle.std.specs.Prelude.{◌≡◌, ℕ, ◌+◌, ◌%◌, ◌<◌, ◌≤◌, max, ⊤, List, [], ◌∷◌, ◌++◌, slice_index_or, Option, Some, None, nat_lt, if◌then◌else◌}
 use Rattle.heap_model.specs.declared.live.Live.{Live}
 use Rattle.heap_model.specs.declared.call.Call.{Call}
-use Rattle.heap_model.specs.declared.call.Call.TheVariants.{Malloc}
+use Rattle.heap_model.specs.declared.call.Call.TheVariants.{Malloc, Write, Read}
+use Rattle.heap_model.specs.declared.answer.Refusal.{Refusal}
+use Rattle.heap_model.specs.declared.answer.Refusal.TheVariants.{UnknownBlock, OutOfBlock}
 use Rattle.heap_model.specs.Machine.{Seen}
 use Rattle.kernel_heap.specs.Config.{IsGranularity}
 use Rattle.kernel_heap.specs.Layout.{IsKept, regions_end}
@@ -28,6 +30,18 @@ served m counter size = record m { blocks = m.blocks ++ Some (next_live counter 
 -- the live block of a number
 abbrev pub live_at : List (Option Live) → ℕ → Option Live
 live_at blocks number = slice_index_or blocks number None
+
+-- why bytes of a live block are out of reach, if they are
+abbrev pub refuse_live : Option Live → ℕ → ℕ → Option Refusal
+refuse_live None offset count = Some UnknownBlock
+refuse_live (Some live) offset count = if nat_lt live.size (offset + count) then Some OutOfBlock else None
+
+-- bytes of a live block, and the address of the first
+pub record HasBytes (blocks : List (Option Live)) (number offset count address : ℕ) : Type 0 where
+  pub live : Live
+  pub is : live_at blocks number ≡ Some live
+  pub within : offset + count ≤ live.size
+  pub place : address ≡ live.address + offset
 
 -- a block lies in the regions, and ends where the next chunk's size may stand
 pub record IsPlaced (base counter end : ℕ) (live : Live) : Type 0 where
@@ -60,3 +74,5 @@ IsSound machine = IsLaidOut (seen machine) machine.counter
 -- the calls that are served: blocks at a multiple of 16
 abbrev pub IsServable : Call → Type 0
 IsServable (Malloc size align) = align ≡ 16
+IsServable (Write number offset bytes) = ⊤
+IsServable (Read number offset count) = ⊤

@@ -1,5 +1,5 @@
 // The machine: a paged system, and the blocks that were handed out of it.
-ghost use Rattle.std.specs.Prelude.{◌≡◌, ℕ, ◌+◌, ◌*◌, ◌^◌, ◌<◌, ◌≤◌, IfOk, OnErr, length, vec_len, vec_capacity};
+ghost use Rattle.std.specs.Prelude.{◌≡◌, ℕ, ◌+◌, ◌*◌, ◌^◌, ◌<◌, ◌≤◌, IfOk, IsOk, OnErr, List, length, vec_len, vec_capacity};
 ghost use Rattle.heap_model.specs.State.{State, start};
 ghost use Rattle.heap_model.specs.Request.{padded, limit, pages_for};
 ghost use Rattle.heap_model.specs.Run.{IsGood};
@@ -19,7 +19,8 @@ const ALIGNMENT: u64 = 16;
 /// The foot of the heap's last chunk, in bytes: a chunk ends before it.
 const FOOT: u64 = 80;
 
-fn refused(refusal: Refusal) -> Answer
+/// The answer that refuses a call.
+pub(crate) fn refused(refusal: Refusal) -> Answer
     ensures { result ≡ record { reply = Reply.Refused refusal; regions = None } }
 {
     Answer {
@@ -31,10 +32,10 @@ fn refused(refusal: Refusal) -> Answer
 /// A machine that serves calls of a heap over page tables.
 #[derive(Drop)]
 pub struct Machine {
-    alloc: Global,
-    system: PagedSystem,
+    pub(crate) alloc: Global,
+    pub(crate) system: PagedSystem,
     granularity: u64,
-    blocks: Vec<Option<Live>>,
+    pub(crate) blocks: Vec<Option<Live>>,
     /// The address of the next chunk.
     counter: u64,
 }
@@ -70,16 +71,28 @@ impl Machine {
     }
 
     /// Serves a call. The answer is allowed in each good state for which the machine stands, and afterwards the
-    /// machine stands for the state that the answer leaves. An `Err` leaves the machine as it was.
+    /// machine stands for the state that the answer leaves. An `Err` leaves the machine as it was. A write takes no
+    /// memory, and is always answered.
     pub fn step(&mut self, call: &Call) -> Result<Answer, AllocError>
         requires sound { IsSound self.old }
         requires servable { IsServable call.now }
         ensures sound { IsSound self.new }
         ensures ok { (s : State) → IsGood s → Stands (seen self.old) s → IfOk result (λ answer. IsStep s call.now answer (seen self.new)) }
         ensures err { OnErr result (seen self.new ≡ seen self.old) }
+        ensures write { (number offset : ℕ) (bytes : List ℕ) → call.now ≡ Call.Write number offset bytes → IsOk result }
     {
         match call {
             Call::Malloc { size, .. } => self.malloc(*size),
+            Call::Write {
+                block,
+                offset,
+                bytes,
+            } => Ok(self.write(*block, *offset, bytes.as_slice())),
+            Call::Read {
+                block,
+                offset,
+                length,
+            } => self.read(*block, *offset, *length),
         }
     }
 

@@ -1,14 +1,15 @@
 // The paged system: physical memory, its page tables, and the regions that are mapped.
-ghost use Rattle.std.specs.Prelude.{◌≡◌, ℕ, ◌+◌, ◌*◌, ◌/◌, ◌^◌, ◌<◌, ◌≤◌, IfOk, OnOk, OnErr, IsErrOf};
+ghost use Rattle.std.specs.Prelude.{◌≡◌, ℕ, ◌+◌, ◌*◌, ◌/◌, ◌^◌, ◌<◌, ◌≤◌, ◌%◌, ◌≢◌, IfOk, OnOk, OnErr, IsErrOf};
 ghost use Rattle.paging_core.specs.Pool.{free_count};
 ghost use Rattle.paging_core.specs.Missing.{missing_of};
 ghost use Rattle.heap_model.specs.Room.{heap_region as granted_region, heap_rights as granted_rights};
 ghost use Rattle.kernel_heap.specs.Config.{IsGoodWindow};
+ghost use Rattle.kernel_heap.specs.Layout.{IsKept, IsKept-prop};
 
 use heap_model::{Region, RegionList, Rights};
 use paging_core::{
-    FramePool, Frames, Page, PageSize, PhysFrame, Size4KiB, VirtAddr, make_root, map_range,
-    missing_tables,
+    FramePool, Frames, Page, PageSize, PhysFrame, Size4KiB, VirtAddr, load_word, make_root,
+    map_range, missing_tables, store_word,
 };
 use std::alloc::{AllocError, Global};
 
@@ -55,11 +56,16 @@ pub struct PagedSystem {
     root: PhysFrame,
     tables: u64,
     regions: Vec<Region>,
+    ghost kept: { IsKept (record { base = base; pages = pages; words = frames; root = root; free = pool; tables = tables; regions = regions.items }) } by { IsKept-prop (record { base = base; pages = pages; words = frames; root = root; free = pool; tables = tables; regions = regions.items }) },
 }
 
 impl PagedSystem {
-    ghost use Rattle.kernel_heap.specs.Layout.{IsKept, IsNew, CanGrant, IsGranted, regions_end, window_end};
+    ghost use Rattle.kernel_heap.specs.Layout.{IsNew, CanGrant, IsGranted, regions_end, window_end};
     ghost use Rattle.kernel_heap.specs.System.{paged};
+    ghost use Rattle.kernel_heap.specs.Words.{grants_of, word_reached};
+    ghost use Rattle.heap_memory.specs.Regions.{IsWordOf};
+    ghost use Rattle.heap_memory.specs.Words.{IsStored};
+    ghost use Rattle.heap_model.specs.Machine.{IsStill};
 
     /// A system with a window of `pages` pages from the address `base` on, and with `frames` frames, of which one
     /// holds the root table. Nothing is mapped.
@@ -194,5 +200,22 @@ impl PagedSystem {
         self.tables += free - pages - self.pool.free_count();
         self.regions.push_reserved(heap_region(end, pages));
         Ok(())
+    }
+
+    /// The word at a multiple of 8 in the regions, by a walk.
+    pub(crate) fn word(&self, at: u64) -> u64
+        requires { IsWordOf (grants_of (paged self.now)) at }
+        ensures { result ≡ word_reached (paged self.now) at }
+    {
+        load_word(&self.frames, self.root, VirtAddr::new(at))
+    }
+
+    /// Puts a word at a multiple of 8 in the regions, by a walk, and changes nothing else.
+    pub(crate) fn set_word(&mut self, at: u64, value: u64)
+        requires { IsWordOf (grants_of (paged self.old)) at }
+        ensures still { IsStill (paged self.old) (paged self.new) }
+        ensures stored { IsStored (grants_of (paged self.old)) (word_reached (paged self.old)) at value (word_reached (paged self.new)) }
+    {
+        store_word(&mut self.frames, self.root, VirtAddr::new(at), value);
     }
 }

@@ -1,8 +1,6 @@
-use Rattle.std.proofs.Common.{◌≡◌, ◌+◌, ◌<◌, length, ap, sym, subst, ◌∙◌, arith}
-use Rattle.heap_model.specs.Request.{padded}
-use Rattle.heap_model.specs.Machine.{Seen}
+use Rattle.std.proofs.Common.{◌≡◌, ◌+◌, ◌<◌, ap, subst, ◌∙◌, arith}
 use Rattle.kernel_heap.specs.Layout.{regions_end}
-use Rattle.kernel_heap.specs.Machine.{seen, served, IsLaidOut}
+use Rattle.kernel_heap.specs.Machine.{seen, served}
 use Rattle.kernel_heap.proofs.Chunks.{padded-is, IsPadded}
 use Rattle.kernel_heap.proofs.Served.{laid_served, step_here}
 use Rattle.kernel_heap.proofs.machine.Machine.place.Goals as goal

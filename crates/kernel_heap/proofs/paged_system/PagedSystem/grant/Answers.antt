@@ -36,5 +36,5 @@ granted c =
           ∙ ap (λ r. c.args.self.now.regions.items ++ r ∷ []) (c.heap_region.ensures ∙ ap (λ a. heap_region a c.args.pages) c.end-end.ensures.end));
     }
 
-pub returns-clause-kept : goal.returns-clause-kept
-returns-clause-kept c = kept_granted (paged c.args.self.now) (after c) c.args.pages c.requires.kept c.requires.can (granted c)
+pub invariant_of-self-2 : goal.invariant_of-self-2
+invariant_of-self-2 c = record { kept = kept_granted (paged c.args.self.now) (after c) c.args.pages c.requires.kept c.requires.can (granted c) }

@@ -1,0 +1,59 @@
+// Bytes of live blocks.
+ghost use Rattle.std.specs.Prelude.{◌≡◌, IfOk, IfErr, IsOk, Some};
+ghost use Rattle.heap_model.specs.State.{State};
+ghost use Rattle.heap_model.specs.Run.{IsGood};
+ghost use Rattle.heap_model.specs.Machine.{Stands, IsStep};
+ghost use Rattle.kernel_heap.specs.Machine.{seen, live_at, refuse_live, HasBytes, IsSound};
+
+use crate::machine::{Machine, refused};
+use heap_model::{Answer, Call, Refusal, Reply};
+use std::alloc::AllocError;
+
+impl Machine {
+    /// The address of the byte at an offset of a live block, where so many bytes from there lie in the block.
+    fn find_bytes(&self, number: u64, offset: u64, count: u64) -> Result<u64, Refusal>
+        requires sound { IsSound self.now }
+        ensures ok { IfOk result (λ address. HasBytes (seen self.now).blocks number offset count address) }
+        ensures err { IfErr result (λ refusal. refuse_live (live_at (seen self.now).blocks number) offset count ≡ Some refusal) }
+    {
+        let Some(Some(live)) = self.blocks.get(number as usize) else {
+            return Err(Refusal::UnknownBlock);
+        };
+        if offset > live.size || count > live.size - offset {
+            return Err(Refusal::OutOfBlock);
+        }
+        Ok(live.address + offset)
+    }
+
+    /// Puts bytes into a block. It takes no memory.
+    pub(crate) fn write(&mut self, number: u64, offset: u64, bytes: &[u8]) -> Answer
+        requires sound { IsSound self.old }
+        ensures sound { IsSound self.new }
+        ensures ok { (s : State) → IsGood s → Stands (seen self.old) s → IsStep s (Call.Write number offset bytes.now) result (seen self.new) }
+    {
+        match self.find_bytes(number, offset, bytes.len() as u64) {
+            Ok(address) => {
+                self.system.write_bytes(address, bytes);
+                Answer {
+                    reply: Reply::Done,
+                    regions: None,
+                }
+            }
+            Err(refusal) => refused(refusal),
+        }
+    }
+
+    /// Reads bytes of a block.
+    pub(crate) fn read(&self, number: u64, offset: u64, count: u64) -> Result<Answer, AllocError>
+        requires sound { IsSound self.now }
+        ensures ok { (s : State) → IsGood s → Stands (seen self.now) s → IfOk result (λ answer. IsStep s (Call.Read number offset count) answer (seen self.now)) }
+    {
+        match self.find_bytes(number, offset, count) {
+            Ok(address) => Ok(Answer {
+                reply: Reply::Bytes(self.system.read_bytes(self.alloc, address, count)?),
+                regions: None,
+            }),
+            Err(refusal) => Ok(refused(refusal)),
+        }
+    }
+}
