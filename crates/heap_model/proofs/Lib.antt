@@ -6,3 +6,4 @@ pub mod Granted
 pub mod Placed
 pub mod Known
 pub mod Written
+pub mod Runs

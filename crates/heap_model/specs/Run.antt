@@ -70,3 +70,8 @@ abbrev pub last_state : State → List (Option Call) → List (Option Answer) �
 last_state s (item ∷ items) (answer ∷ answers) = last_state (next s item answer) items answers
 last_state s [] answers = s
 last_state s (item ∷ items) [] = s
+
+-- a run over the items from the state s ends in the state e
+pub record RunsTo (s : State) (items : List (Option Call)) (answers : List (Option Answer)) (e : State) : Type 0 where
+  pub run : IsRun s items answers
+  pub last : e ≡ last_state s items answers

@@ -1,4 +1,5 @@
 use crate::{Bytes, RegionList};
+use public_list::PublicList;
 
 /// Why a call was refused. A refused call changes nothing.
 #[derive(Clone, Copy, PartialEq, Eq, Debug)]
@@ -34,3 +35,6 @@ pub struct Answer {
     pub reply: Reply,
     pub regions: Option<RegionList>,
 }
+
+/// The answers to calls, one a call, in their order.
+pub type AnswerList = PublicList<Answer>;

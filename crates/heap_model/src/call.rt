@@ -1,4 +1,5 @@
 use crate::Bytes;
+use public_list::PublicList;
 
 /// A call of the machine. A block is named by its number.
 #[derive(Drop)]
@@ -21,3 +22,6 @@ pub enum Call {
         length: u64,
     },
 }
+
+/// Calls, in the order in which they are made.
+pub type CallList = PublicList<Call>;

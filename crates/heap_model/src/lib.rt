@@ -10,8 +10,8 @@ mod config;
 mod live;
 mod region;
 
-pub use answer::{Answer, Refusal, Reply};
-pub use call::Call;
+pub use answer::{Answer, AnswerList, Refusal, Reply};
+pub use call::{Call, CallList};
 pub use config::Config;
 pub use live::Live;
 pub use paging_core::Rights;

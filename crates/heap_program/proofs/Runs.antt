@@ -1,30 +1,18 @@
--- Runs, one after another.
+-- Answers to pieces of the input, one after another.
 use Rattle.std.proofs.Common.{◌≡◌, ℕ, List, [], ◌∷◌, ◌++◌, Option, refl, sym, ◌∙◌, ap, subst, append_assoc, ◌<◌, length, arith}
 use Rattle.std.proofs.lemmas.List.{append-nil}
 use Rattle.std.proofs.lemmas.Grind.{flat_map-append}
 use Rattle.heap_model.specs.declared.answer.Answer.{Answer}
 use Rattle.heap_model.specs.declared.call.Call.{Call}
 use Rattle.heap_model.specs.State.{State}
-use Rattle.heap_model.specs.Run.{next}
+use Rattle.heap_model.specs.Run.{RunsTo}
+use Rattle.heap_model.proofs.Runs.{runs_none, run_on}
 use Rattle.kernel_heap.specs.declared.machine.Machine.{Machine}
 use Rattle.heap_program.specs.Grammar.{item_of}
 use Rattle.heap_program.specs.Lines.{items_of, IsOneLine}
-use Rattle.heap_program.specs.Progress.{RunsTo, texts_of, Answered, IsAt, AreAnswered}
+use Rattle.heap_program.specs.Progress.{texts_of, Answered, IsAt, AreAnswered}
 use Rattle.heap_program.specs.Text.{line_text}
 use Rattle.heap_program.proofs.LineLemmas.{items-whole, items-last, items-none}
-
--- no item
-pub runs_none : (s : State) → RunsTo s [] [] s
-runs_none s = record { run = tt; last = refl }
-
--- a run, and then another from its last state
-pub run_on : (s m e : State) (xs ys : List (Option Call)) (us vs : List (Option Answer)) → RunsTo s xs us m → RunsTo m ys vs e → RunsTo s (xs ++ ys) (us ++ vs) e
-run_on s m e [] ys [] vs h k = subst (λ (q : State). RunsTo q ys vs e) h.last k
-run_on s m e (x ∷ xs) ys (u ∷ us) vs h k =
-    let r = run_on (next s x u) m e xs ys us vs (record { run = h.run.1; last = h.last }) k in
-    record { run = (h.run.0, r.run); last = r.last }
-run_on s m e [] ys (u ∷ us) vs h k = absurd h.run
-run_on s m e (x ∷ xs) ys [] vs h k = absurd h.run
 
 -- nothing came
 pub answered_none : (s : State) (line : List ℕ) → Answered s line [] [] line s

@@ -15,11 +15,13 @@ use Rattle.heap_program.specs.Advanced.{Advanced}
 use Rattle.heap_program.specs.Flushed.{IsAllFlushed}
 use Rattle.heap_program.specs.Headline.{ending_of, IsFront, IsReadWhole, IsAnswered, IsStopped}
 use Rattle.heap_program.specs.Lines.{items_of}
-use Rattle.heap_program.specs.Progress.{RunsTo, texts_of, Answered, IsAt, IsEnd}
+use Rattle.heap_model.specs.Run.{RunsTo}
+use Rattle.heap_program.specs.Progress.{texts_of, Answered, IsAt, IsEnd}
 use Rattle.heap_program.specs.Stop.{IsFresh, HasRead, HasClosed, HasPart, HasStopped}
 use Rattle.heap_program.specs.Text.{line_text, end_text_of}
 use Rattle.heap_program.proofs.Known.{appends_nothing, appends_more, consumes_nothing, consumes_more, consumes_keeps}
-use Rattle.heap_program.proofs.Runs.{runs_none, answered_none, answered_more, run_on}
+use Rattle.heap_model.proofs.Runs.{runs_none, run_on}
+use Rattle.heap_program.proofs.Runs.{answered_none, answered_more}
 
 -- nothing went out
 pub front_none : (s : State) (bytes : List ℕ) → IsFront s bytes []

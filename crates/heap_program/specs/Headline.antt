@@ -5,13 +5,13 @@ use Rattle.heap_model.specs.declared.answer.Answer.{Answer}
 use Rattle.heap_model.specs.declared.call.Call.{Call}
 use Rattle.heap_model.specs.declared.config.Config.{Config}
 use Rattle.heap_model.specs.State.{State}
-use Rattle.heap_model.specs.Run.{IsGood}
+use Rattle.heap_model.specs.Run.{IsGood, RunsTo}
 use Rattle.heap_model.specs.Machine.{Stands}
 use Rattle.kernel_heap.specs.declared.machine.Machine.{Machine}
 use Rattle.kernel_heap.specs.Machine.{seen}
 use Rattle.heap_program.specs.Flushed.{IsAllFlushed}
 use Rattle.heap_program.specs.Lines.{items_of}
-use Rattle.heap_program.specs.Progress.{RunsTo, texts_of}
+use Rattle.heap_program.specs.Progress.{texts_of}
 use Rattle.heap_program.specs.Text.{end_text_of}
 
 -- the configuration of the command `run`

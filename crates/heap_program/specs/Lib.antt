@@ -5,6 +5,7 @@ pub mod Grammar
 pub mod Headline
 pub mod Lines
 pub mod Number
+pub mod Planned
 pub mod Progress
 pub mod Spelling
 pub mod Status

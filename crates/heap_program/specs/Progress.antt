@@ -4,18 +4,12 @@ use Rattle.std.specs.List.{flat_map}
 use Rattle.heap_model.specs.declared.answer.Answer.{Answer}
 use Rattle.heap_model.specs.declared.call.Call.{Call}
 use Rattle.heap_model.specs.State.{State}
-use Rattle.heap_model.specs.Run.{IsGood, IsRun, last_state}
+use Rattle.heap_model.specs.Run.{IsGood, RunsTo}
 use Rattle.heap_model.specs.Machine.{Stands}
 use Rattle.kernel_heap.specs.declared.machine.Machine.{Machine}
 use Rattle.kernel_heap.specs.Machine.{seen}
 use Rattle.heap_program.specs.Lines.{items_of}
 use Rattle.heap_program.specs.Text.{line_text, end_text_of}
-
--- a run over the items from the state s ends in the state e: one answer an item, each allowed in the state that the
--- answers before it determine
-pub record RunsTo (s : State) (items : List (Option Call)) (answers : List (Option Answer)) (e : State) : Type 0 where
-  pub run : IsRun s items answers
-  pub last : e ≡ last_state s items answers
 
 -- the texts of the answers, one after another
 abbrev pub texts_of : List (Option Answer) → List ℕ

@@ -14,7 +14,7 @@ ghost use Rattle.heap_program.specs.declared.run.Stop.TheVariants.{Memory, ReadF
 use crate::session::Session;
 use crate::sink::{Sink, SinkFault};
 use crate::source::{Failed, Source};
-use kernel_heap::{Config, Machine, RunError};
+use kernel_heap::{Config, Machine};
 use std::alloc::{AllocError, Global};
 
 /// The greatest number of bytes that a run takes.
@@ -60,16 +60,6 @@ impl From<AllocError> for Stop {
 
     fn from(_: AllocError) -> Stop {
         Stop::Memory
-    }
-}
-
-impl From<RunError> for Stop {
-    ghost from_gives = { λ _ stop. stop ≡ Memory };
-
-    fn from(error: RunError) -> Stop {
-        match error {
-            RunError::OutOfMemory => Stop::Memory,
-        }
     }
 }
 
@@ -176,7 +166,11 @@ pub fn run<S: Source, K: Sink>(
     ensures read_cause { IsErrOf result ReadFault → HasRisen (S.faults source.old) (S.faults source.new) }
     ensures write_cause { IsErrOf result WriteFault → HasRisen (K.faults sink.old) (K.faults sink.new) }
 {
-    let mut session = Session::new(alloc, Machine::new(alloc, config)?);
+    // Of a good configuration memory alone can be wanting.
+    let Ok(machine) = Machine::new(alloc, config) else {
+        return Err(Stop::Memory);
+    };
+    let mut session = Session::new(alloc, machine);
     read_all(&mut session, source, sink)?;
     close(&mut session, sink)?;
     let Session { machine, .. } = session;

@@ -32,7 +32,7 @@ pub trait Source {
 }
 
 // Copies the first n bytes.
-fn copy_front(from: &[u8], to: &mut [u8], n: usize)
+pub(crate) fn copy_front(from: &[u8], to: &mut [u8], n: usize)
     requires from { n ≤ length from.now }
     requires to { n ≤ length to.old }
     ensures { from.now ≡ take n to.new ++ drop n from.now }

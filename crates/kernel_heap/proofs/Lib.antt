@@ -6,6 +6,8 @@ pub mod Served
 pub mod Still
 pub mod Bytes
 pub mod BlockBytes
+pub mod Calls
 pub mod Refused
 pub mod Granted
 pub mod NewSystem
+pub mod Powers

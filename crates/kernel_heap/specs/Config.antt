@@ -3,6 +3,8 @@ use Rattle.std.specs.Prelude.{◌≡◌, ℕ, ◌+◌, ◌-◌, ◌*◌, ◌/◌
 use Rattle.std.specs.Int.{IsPowerOfTwo}
 use Rattle.paging_core.specs.Address.{IsCanonicalRange}
 use Rattle.heap_model.specs.declared.config.Config.{Config}
+use Rattle.kernel_heap.specs.declared.run_error.RunError.{RunError}
+use Rattle.kernel_heap.specs.declared.run_error.RunError.TheVariants.{BadWindow, BadGranularity, TooFewFrames, OutOfMemory}
 
 -- a window of whole pages in one canonical half, without the first and the last page of the address space
 pub record IsGoodWindow (base pages : ℕ) : Type 0 where
@@ -20,3 +22,11 @@ pub record IsGoodConfig (config : Config) : Type 0 where
   pub window : IsGoodWindow config.base config.pages
   pub granularity : IsGranularity config.granularity
   pub frames : 0 < config.frames
+
+-- Why no machine is made from a configuration, the causes in their order; memory may be wanting where there is none
+-- of them.
+abbrev pub IsRefused : Config → RunError → Type 0
+IsRefused config BadWindow = ¬ (IsGoodWindow config.base config.pages)
+IsRefused config BadGranularity = IsGoodWindow config.base config.pages × ¬ (IsGranularity config.granularity)
+IsRefused config TooFewFrames = IsGoodWindow config.base config.pages × IsGranularity config.granularity × (config.frames ≡ 0)
+IsRefused config OutOfMemory = IsGoodConfig config

@@ -5,3 +5,4 @@ pub mod Machine
 pub mod Words
 pub mod Follows
 pub mod Written
+pub mod Runs

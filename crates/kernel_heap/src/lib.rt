@@ -2,16 +2,20 @@
 #![tactic(auto)]
 
 mod block_bytes;
+mod configuration;
 mod machine;
 mod paged_bytes;
 mod paged_memory;
 mod paged_system;
 mod request;
 mod run_error;
+mod runs;
 
 pub use heap_model::{
-    Answer, Bytes, Call, Config, PublicList, Refusal, Region, RegionList, Reply, Rights,
+    Answer, AnswerList, Bytes, Call, CallList, Config, PublicList, Refusal, Region, RegionList,
+    Reply, Rights,
 };
 pub use machine::Machine;
 pub use paged_system::PagedSystem;
 pub use run_error::RunError;
+pub use runs::{Run, run_calls};

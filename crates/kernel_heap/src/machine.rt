@@ -1,12 +1,13 @@
 // The machine: a paged system, and the blocks that were handed out of it.
-ghost use Rattle.std.specs.Prelude.{◌≡◌, ℕ, ◌+◌, ◌*◌, ◌^◌, ◌<◌, ◌≤◌, IfOk, IsOk, OnErr, List, length, vec_len, vec_capacity};
+ghost use Rattle.std.specs.Prelude.{◌≡◌, ℕ, ◌+◌, ◌*◌, ◌^◌, ◌<◌, ◌≤◌, IfOk, IfErr, IsOk, OnOk, OnErr, List, length, vec_len, vec_capacity};
 ghost use Rattle.heap_model.specs.State.{State, start};
 ghost use Rattle.heap_model.specs.Request.{padded, limit, pages_for};
 ghost use Rattle.heap_model.specs.Run.{IsGood};
 ghost use Rattle.heap_model.specs.Machine.{Stands, IsStep};
-ghost use Rattle.kernel_heap.specs.Config.{IsGoodConfig};
+ghost use Rattle.kernel_heap.specs.Config.{IsGoodConfig, IsRefused};
 ghost use Rattle.kernel_heap.specs.Layout.{regions_end, CanGrant};
 
+use crate::configuration::check;
 use crate::paged_system::{GrantFault, PagedSystem, heap_region};
 use crate::request::{max_request, padded_size, pages_of};
 use crate::run_error::RunError;
@@ -43,24 +44,24 @@ pub struct Machine {
 impl Machine {
     ghost use Rattle.kernel_heap.specs.Machine.{seen, served, system_of, IsSound, IsServable};
 
-    /// A machine with the configuration's window, granularity and frames. `OutOfMemory` says that the host has
-    /// too little memory for it.
+    /// A machine with the configuration's window, granularity and frames. A configuration from which none can be
+    /// made is refused before any memory is taken.
     pub fn new(alloc: Global, config: &Config) -> Result<Self, RunError>
-        requires { IsGoodConfig config.now }
         ensures sound { IfOk result (λ machine. IsSound machine) }
         ensures stands { IfOk result (λ machine. Stands (seen machine) (start config.now)) }
-        ensures good { IsGood (start config.now) }
+        ensures good { OnOk result (IsGood (start config.now)) }
+        ensures accepted { OnOk result (IsGoodConfig config.now) }
+        ensures refused { IfErr result (λ error. IsRefused config.now error) }
     {
-        match PagedSystem::new(alloc, config.base, config.pages, config.frames) {
-            Ok(system) => Ok(Machine {
-                alloc,
-                system,
-                granularity: config.granularity,
-                blocks: Vec::new(alloc),
-                counter: config.base,
-            }),
-            Err(AllocError) => Err(RunError::OutOfMemory),
-        }
+        check(config)?;
+        let system = PagedSystem::new(alloc, config.base, config.pages, config.frames)?;
+        Ok(Machine {
+            alloc,
+            system,
+            granularity: config.granularity,
+            blocks: Vec::new(alloc),
+            counter: config.base,
+        })
     }
 
     /// The system that the machine runs over.

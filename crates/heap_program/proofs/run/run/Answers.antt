@@ -1,31 +1,30 @@
-use Rattle.std.proofs.Common.{sym, subst}
 use Rattle.heap_model.specs.State.{start}
-use Rattle.heap_program.specs.Progress.{IsAt}
 use Rattle.heap_program.proofs.Errors.{on_err}
+use Rattle.heap_program.proofs.Sessions.{begun}
 use Rattle.heap_program.proofs.Wholes.{answered, seen_stopped, seen_first, seen_last, err_long, late_long, ok_long, stop_long}
 use Rattle.heap_program.proofs.run.run.Goals as goal
 
-pub returns-in_err-new-clause-stopped : goal.returns-in_err-new-clause-stopped
-returns-in_err-new-clause-stopped g c = on_err c.from_residual.result (seen_first (start c.args.config.now) (g.S.Source.left c.args.source.now) (g.K.Sink.taken c.args.sink.now))
+pub returns-in_default-clause-stopped : goal.returns-in_default-clause-stopped
+returns-in_default-clause-stopped g c = seen_first (start c.args.config.now) (g.S.Source.left c.args.source.now) (g.K.Sink.taken c.args.sink.now)
 
 pub returns-in_err-read_all-clause-stopped : goal.returns-in_err-read_all-clause-stopped
 returns-in_err-read_all-clause-stopped g c =
     let s = start c.args.config.now in
     let left = g.S.Source.left in
     let taken = g.K.Sink.taken in
-    let at = subst (λ m. IsAt m (start c.args.config.now)) (sym c.new-session.ensures.machine) (record { good = c.in_ok-new.ensures.good; stands = c.in_ok-new.ensures.stands }) in
+    let at = begun s c.new-session.result c.in-Ok.machine c.new-session.ensures.machine c.in-Ok.ensures.good c.in-Ok.ensures.stands in
     let stop = c.in_err-read_all.field-0.0 in
-    on_err c.from_residual-in_err-read_all.result
+    on_err c.from_residual.result
     (seen_stopped s stop (left c.args.source.now) (left c.read_all.new.source) (taken c.args.sink.now) (taken c.read_all.new.sink) (c.in_err-read_all.ensures.err s at))
 
 pub returns-in_err-read_all-clause-too_long : goal.returns-in_err-read_all-clause-too_long
 returns-in_err-read_all-clause-too_long g c =
     let s = start c.args.config.now in
     let left = g.S.Source.left in
-    let at = subst (λ m. IsAt m (start c.args.config.now)) (sym c.new-session.ensures.machine) (record { good = c.in_ok-new.ensures.good; stands = c.in_ok-new.ensures.stands }) in
+    let at = begun s c.new-session.result c.in-Ok.machine c.new-session.ensures.machine c.in-Ok.ensures.good c.in-Ok.ensures.stands in
     let stop = c.in_err-read_all.field-0.0 in
     let h = c.in_err-read_all.ensures.err s at in
-    stop_long (left c.args.source.now) (left c.read_all.new.source) c.from_residual-in_err-read_all.result stop c.from_residual-in_err-read_all.ensures.1
+    stop_long (left c.args.source.now) (left c.read_all.new.source) c.from_residual.result stop c.from_residual.ensures.1
     (err_long (left c.args.source.now) (left c.read_all.new.source) h.bytes stop h.consumed h.too_long)
 
 pub returns-in_err-close-clause-stopped : goal.returns-in_err-close-clause-stopped
@@ -33,7 +32,7 @@ returns-in_err-close-clause-stopped g c =
     let s = start c.args.config.now in
     let left = g.S.Source.left in
     let taken = g.K.Sink.taken in
-    let at = subst (λ m. IsAt m (start c.args.config.now)) (sym c.new-session.ensures.machine) (record { good = c.in_ok-new.ensures.good; stands = c.in_ok-new.ensures.stands }) in
+    let at = begun s c.new-session.result c.in-Ok.machine c.new-session.ensures.machine c.in-Ok.ensures.good c.in-Ok.ensures.stands in
     let h = c.in_ok-read_all.ensures.ok s at in
     on_err c.from_residual-in_err-close.result
     (seen_last s c.read_all.new.session.machine c.read_all.new.session.line (left c.args.source.now) (left c.read_all.new.source) (taken c.args.sink.now) (taken c.read_all.new.sink) (taken c.close.new.sink) c.in_ok-read_all.field-0
@@ -44,7 +43,7 @@ returns-in_err-close-clause-too_long g c =
     let s = start c.args.config.now in
     let left = g.S.Source.left in
     let taken = g.K.Sink.taken in
-    let at = subst (λ m. IsAt m (start c.args.config.now)) (sym c.new-session.ensures.machine) (record { good = c.in_ok-new.ensures.good; stands = c.in_ok-new.ensures.stands }) in
+    let at = begun s c.new-session.result c.in-Ok.machine c.new-session.ensures.machine c.in-Ok.ensures.good c.in-Ok.ensures.stands in
     let stop = c.in_err-close.field-0.0 in
     let h = c.in_ok-read_all.ensures.ok s at in
     stop_long (left c.args.source.now) (left c.read_all.new.source) c.from_residual-in_err-close.result stop c.from_residual-in_err-close.ensures.1
@@ -56,7 +55,7 @@ returns-clause-answered g c =
     let s = start c.args.config.now in
     let left = g.S.Source.left in
     let taken = g.K.Sink.taken in
-    let at = subst (λ m. IsAt m (start c.args.config.now)) (sym c.new-session.ensures.machine) (record { good = c.in_ok-new.ensures.good; stands = c.in_ok-new.ensures.stands }) in
+    let at = begun s c.new-session.result c.in-Ok.machine c.new-session.ensures.machine c.in-Ok.ensures.good c.in-Ok.ensures.stands in
     let h = c.in_ok-read_all.ensures.ok s at in
     answered s c.read_all.new.session.machine c.close.new.session.machine c.read_all.new.session.line (left c.args.source.now) (left c.read_all.new.source) (taken c.args.sink.now) (taken c.read_all.new.sink) (taken c.close.new.sink) (g.K.Sink.flushed c.close.new.sink) c.in_ok-read_all.field-0
     h c.in_ok-read_all.ensures.end (c.in_ok-close.ensures.ok h.state h.at) c.in_ok-close.ensures.flushed
@@ -66,7 +65,7 @@ returns-clause-too_long g c =
     let s = start c.args.config.now in
     let left = g.S.Source.left in
     let taken = g.K.Sink.taken in
-    let at = subst (λ m. IsAt m (start c.args.config.now)) (sym c.new-session.ensures.machine) (record { good = c.in_ok-new.ensures.good; stands = c.in_ok-new.ensures.stands }) in
+    let at = begun s c.new-session.result c.in-Ok.machine c.new-session.ensures.machine c.in-Ok.ensures.good c.in-Ok.ensures.stands in
     let h = c.in_ok-read_all.ensures.ok s at in
     ok_long s c.read_all.new.session.machine c.close.new.session.machine c.read_all.new.session.line (left c.args.source.now) (left c.read_all.new.source) (taken c.args.sink.now) (taken c.read_all.new.sink) c.in_ok-read_all.field-0
     h c.in_ok-read_all.ensures.short

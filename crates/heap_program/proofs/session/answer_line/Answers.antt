@@ -3,7 +3,7 @@ use Rattle.std.proofs.lemmas.List.{append-nil}
 use Rattle.std.proofs.lemmas.Result.{on_ok_weaker}
 use Rattle.heap_model.specs.declared.call.Call.{Call}
 use Rattle.heap_model.specs.Answer.{after}
-use Rattle.heap_program.specs.Progress.{RunsTo}
+use Rattle.heap_model.specs.Run.{RunsTo}
 use Rattle.heap_program.specs.Text.{line_text}
 use Rattle.heap_program.proofs.Servable.{item_servable}
 use Rattle.heap_program.proofs.session.answer_line.Goals as goal

@@ -1,7 +1,8 @@
 use Rattle.std.proofs.Common.{ℕ, List, ◌∷◌, [], string_bytes, sym, subst}
 use Rattle.std.proofs.lemmas.List.{append-nil}
 use Rattle.heap_program.specs.Grammar.{item_of}
-use Rattle.heap_program.specs.Progress.{RunsTo, texts_of}
+use Rattle.heap_model.specs.Run.{RunsTo}
+use Rattle.heap_program.specs.Progress.{texts_of}
 use Rattle.heap_program.proofs.Runs.{answered_line, answered_byte}
 use Rattle.heap_program.proofs.session.Session.feed_byte.Goals as goal
 

@@ -1,0 +1,421 @@
+ghost use Rattle.std.specs.Prelude.{All, IfOk};
+ghost use Rattle.kernel_heap.specs.Machine.{IsServable};
+
+use heap_program::{
+    Ended, MemorySink, MemorySource, ReaderSource, SureSink, SureSource, WriterSink, end_text,
+    heap_main, parse_call, text_of,
+};
+use kernel_heap::{
+    Answer, AnswerList, Call, CallList, Config, Machine, Refusal, Reply, RunError, run_calls,
+};
+use std::alloc::{AllocError, Global};
+use std::io;
+use std::io::Write;
+use std::test::Fail;
+
+/// What the command `run` prints for an input. Each run ends with status 0.
+struct Row {
+    input: &'static str,
+    output: &'static str,
+}
+
+const ROWS: [Row; 12] = [
+    Row {
+        input: "",
+        output: "frames 1023 tables 1\n",
+    },
+    Row {
+        input: "malloc 0\nmalloc 24\nmalloc 25\n",
+        output: "block 0 0x400010\nheap 0x400000+16\nblock 1 0x400030\nblock 2 0x400050\nregion 0x400000+16 heap\nframes 1004 tables 4\n",
+    },
+    Row {
+        input: "malloc 0xFFFFFFFFFFFEFF99\nmalloc 0xFFFFFFFFFFFEFF98\n",
+        output: "refused too-large\nrefused no-space\nframes 1023 tables 1\n",
+    },
+    Row {
+        input: "malloc 65432\nmalloc 8\nmalloc 100\n",
+        output: "block 0 0x400010\nheap 0x400000+16\nblock 1 0x40ffb0\nheap 0x400000+16 0x410000+16\nblock 2 0x40ffd0\nregion 0x400000+16 heap\nregion 0x410000+16 heap\nframes 988 tables 4\n",
+    },
+    Row {
+        input: "malloc 4194200\nmalloc 4194201\n",
+        output: "refused no-frames\nrefused no-space\nframes 1023 tables 1\n",
+    },
+    // The last line has no line feed.
+    Row {
+        input: "malloc 24",
+        output: "block 0 0x400010\nheap 0x400000+16\nregion 0x400000+16 heap\nframes 1004 tables 4\n",
+    },
+    // Two spaces, none, one at the end, a carriage return, and a word more.
+    Row {
+        input: "malloc  3\nmalloc3\nmalloc 3 \nmalloc 3\r\nmalloc 3 16\n",
+        output: "bad line\nbad line\nbad line\nbad line\nbad line\nframes 1023 tables 1\n",
+    },
+    // An empty line, another case, and a line that nothing ends.
+    Row {
+        input: "\nMALLOC 3\nx",
+        output: "bad line\nbad line\nbad line\nframes 1023 tables 1\n",
+    },
+    // No digit, a sign, 0X, 21 decimal digits, 17 hexadecimal ones, and 2^64.
+    Row {
+        input: "malloc 0x\nmalloc +1\nmalloc 0X1\nmalloc 000000000000000000001\nmalloc 0x00000000000000001\nmalloc 18446744073709551616\n",
+        output: "bad line\nbad line\nbad line\nbad line\nbad line\nbad line\nframes 1023 tables 1\n",
+    },
+    // Leading zeros, and hexadecimal digits of either case.
+    Row {
+        input: "malloc 00000000000000000024\nmalloc 0x000000000000001f\nmalloc 0x1F\n",
+        output: "block 0 0x400010\nheap 0x400000+16\nblock 1 0x400030\nblock 2 0x400060\nregion 0x400000+16 heap\nframes 1004 tables 4\n",
+    },
+    // Bytes that were never written are those of cleared pages; a length of 0 is in every block.
+    Row {
+        input: "malloc 3\nread 0 0 3\nread 0 3 0\nread 0 0 4\nwrite 0 3 00\nwrite 0 1 ff\nread 0 0 3\nread 5 0 0\n",
+        output: "block 0 0x400010\nheap 0x400000+16\nbytes 000000\nbytes\nrefused out-of-block\nrefused out-of-block\ndone\nbytes 00ff00\nrefused unknown-block\nregion 0x400000+16 heap\nframes 1004 tables 4\n",
+    },
+    // No digits, an odd number of them, one that is none, a word more, and sums that would wrap.
+    Row {
+        input: "malloc 8\nwrite 0 0 \nwrite 0 0 abc\nwrite 0 0 0g\nwrite 0 0 00 00\nread 0 0\nread 0 1 0xffffffffffffffff\nread 0 0xffffffffffffffff 1\nwrite 0 0 aBcD\nread 0 0 2\n",
+        output: "block 0 0x400010\nheap 0x400000+16\nbad line\nbad line\nbad line\nbad line\nbad line\nrefused out-of-block\nrefused out-of-block\ndone\nbytes abcd\nregion 0x400000+16 heap\nframes 1004 tables 4\n",
+    },
+];
+
+fn strings(alloc: Global, words: &[&str]) -> Result<Vec<String>, AllocError> {
+    let mut strings = Vec::new(alloc);
+    for word in words {
+        strings.push(String::from_str(alloc, word)?)?;
+    }
+    Ok(strings)
+}
+
+/// Runs a command over an input in memory.
+fn outcome(alloc: Global, words: &[&str], input: &[u8]) -> Result<(Ended, SureSink), AllocError> {
+    let mut source = SureSource::new(input.to_vec(alloc)?);
+    let mut sink = SureSink::new(alloc);
+    let ended = heap_main(alloc, &strings(alloc, words)?, &mut source, &mut sink);
+    Ok((ended, sink))
+}
+
+#[test]
+fn rows_are_printed(rt: HostRuntime) -> Result<(), Fail> {
+    for row in &ROWS {
+        let (ended, sink) = outcome(rt.alloc(), &["run"], row.input.as_bytes())?;
+        assert_eq!(rt; sink.written(), row.output.as_bytes(), "for {}", row.input);
+        assert_eq!(rt; ended.status, 0);
+    }
+    Ok(())
+}
+
+#[test]
+fn a_line_of_8193_bytes_is_bad(rt: HostRuntime) -> Result<(), Fail> {
+    let mut input = vec![in rt.alloc(); b'a'; 8193]?;
+    input.extend_from_slice(b"\nmalloc 24\n")?;
+    let (ended, sink) = outcome(rt.alloc(), &["run"], &input)?;
+    assert_eq!(rt; ended.status, 0);
+    assert_eq!(rt;
+        sink.written(),
+        b"bad line\nblock 0 0x400010\nheap 0x400000+16\nregion 0x400000+16 heap\nframes 1004 tables 4\n".as_slice()
+    );
+    Ok(())
+}
+
+#[test]
+fn other_words_are_no_command(rt: HostRuntime) -> Result<(), Fail> {
+    let commands: [&[&str]; 5] = [&[], &["Run"], &["run", "run"], &["--help"], &["run 1"]];
+    for words in commands {
+        let (ended, sink) = outcome(rt.alloc(), words, b"malloc 24\n")?;
+        assert_eq!(rt; ended.status, 1);
+        assert!(rt; ended.machine.is_none());
+        assert!(rt; sink.written().is_empty());
+    }
+    Ok(())
+}
+
+#[test]
+fn readers_and_writers_are_served(rt: HostRuntime) -> Result<(), Fail> {
+    let words = strings(rt.alloc(), &["run"])?;
+    let mut source = ReaderSource::new(b"malloc 24\n".as_slice());
+    let mut written = Vec::new(rt.alloc());
+    let mut sink = WriterSink::new(&mut written);
+    let ended = heap_main(rt.alloc(), &words, &mut source, &mut sink);
+    assert_eq!(rt; ended.status, 0);
+    assert_eq!(rt;
+        written.as_slice(),
+        b"block 0 0x400010\nheap 0x400000+16\nregion 0x400000+16 heap\nframes 1004 tables 4\n".as_slice()
+    );
+    Ok(())
+}
+
+/// A writer that marks each flush in what it holds.
+#[derive(Drop)]
+struct Transcript {
+    bytes: Vec<u8>,
+}
+
+impl Write for Transcript {
+    fn write(&mut self, buf: &[u8]) -> io::Result<usize> {
+        self.bytes.extend_from_slice(buf)?;
+        Ok(buf.len())
+    }
+
+    fn flush(&mut self) -> io::Result<()> {
+        self.bytes.push(b'|')?;
+        Ok(())
+    }
+}
+
+#[test]
+fn each_piece_is_flushed(rt: HostRuntime) -> Result<(), Fail> {
+    let words = strings(rt.alloc(), &["run"])?;
+    let mut source = ReaderSource::new(b"malloc 24\n".as_slice());
+    let mut transcript = Transcript {
+        bytes: Vec::new(rt.alloc()),
+    };
+    let mut sink = WriterSink::new(&mut transcript);
+    let ended = heap_main(rt.alloc(), &words, &mut source, &mut sink);
+    assert_eq!(rt; ended.status, 0);
+    assert_eq!(rt;
+        transcript.bytes.as_slice(),
+        b"block 0 0x400010\nheap 0x400000+16\n|region 0x400000+16 heap\nframes 1004 tables 4\n|".as_slice()
+    );
+    Ok(())
+}
+
+#[test]
+fn texts_are_made_alone(rt: HostRuntime) -> Result<(), Fail> {
+    let Some(Call::Malloc { size, align }) = parse_call(rt.alloc(), b"malloc 0x18")? else {
+        panic!(rt; "no call");
+    };
+    assert_eq!(rt; (size, align), (24, 16));
+    let answer = Answer {
+        reply: Reply::Refused(Refusal::NoFrames),
+        regions: None,
+    };
+    let text = text_of(rt.alloc(), &answer)?;
+    assert_eq!(rt; text.as_slice(), b"refused no-frames\n".as_slice());
+    let (ended, _sink) = outcome(rt.alloc(), &["run"], b"malloc 24\n")?;
+    let Some(machine) = ended.machine else {
+        panic!(rt; "no machine");
+    };
+    let text = end_text(rt.alloc(), &machine)?;
+    assert_eq!(rt;
+        text.as_slice(),
+        b"region 0x400000+16 heap\nframes 1004 tables 4\n".as_slice()
+    );
+    Ok(())
+}
+
+#[test]
+fn pieces_of_the_input_make_no_difference(rt: HostRuntime) -> Result<(), Fail> {
+    let words = strings(rt.alloc(), &["run"])?;
+    let row = &ROWS[10];
+    for piece in [1, 2, 3, 7, 4096] {
+        let input = row.input.as_bytes().to_vec(rt.alloc())?;
+        let mut source = MemorySource::new(input, piece, Vec::new(rt.alloc()));
+        let mut sink = MemorySink::new(rt.alloc(), piece, Vec::new(rt.alloc()));
+        let ended = heap_main(rt.alloc(), &words, &mut source, &mut sink);
+        assert_eq!(rt; ended.status, 0, "in pieces of {}", piece);
+        assert_eq!(rt;
+            sink.written(),
+            row.output.as_bytes(),
+            "in pieces of {}",
+            piece
+        );
+    }
+    Ok(())
+}
+
+/// A run of which one call of the source or of the sink fails. Reads are numbered from 0, and so are writes
+/// and flushes together.
+struct Fault {
+    failing_read: Option<u64>,
+    failing_write: Option<u64>,
+    status: u8,
+    output: &'static str,
+}
+
+const FAULTS: [Fault; 6] = [
+    Fault {
+        failing_read: Some(0),
+        failing_write: None,
+        status: 6,
+        output: "",
+    },
+    Fault {
+        failing_read: Some(1),
+        failing_write: None,
+        status: 6,
+        output: "block 0 0x400010\nheap 0x400000+16\nblock 1 0x400030\nblock 2 0x400050\n",
+    },
+    Fault {
+        failing_read: None,
+        failing_write: Some(0),
+        status: 7,
+        output: "",
+    },
+    // A flush that fails.
+    Fault {
+        failing_read: None,
+        failing_write: Some(1),
+        status: 7,
+        output: "block 0 0x400010\nheap 0x400000+16\nblock 1 0x400030\nblock 2 0x400050\n",
+    },
+    Fault {
+        failing_read: None,
+        failing_write: Some(2),
+        status: 7,
+        output: "block 0 0x400010\nheap 0x400000+16\nblock 1 0x400030\nblock 2 0x400050\n",
+    },
+    // Calls that never come.
+    Fault {
+        failing_read: Some(2),
+        failing_write: Some(4),
+        status: 0,
+        output: "block 0 0x400010\nheap 0x400000+16\nblock 1 0x400030\nblock 2 0x400050\nregion 0x400000+16 heap\nframes 1004 tables 4\n",
+    },
+];
+
+fn numbers(alloc: Global, number: Option<u64>) -> Result<Vec<u64>, AllocError> {
+    let mut numbers = Vec::new(alloc);
+    if let Some(number) = number {
+        numbers.push(number)?;
+    }
+    Ok(numbers)
+}
+
+#[test]
+fn failing_reads_and_writes_end_the_run(rt: HostRuntime) -> Result<(), Fail> {
+    let words = strings(rt.alloc(), &["run"])?;
+    for fault in &FAULTS {
+        let input = ROWS[1].input.as_bytes().to_vec(rt.alloc())?;
+        let mut source = MemorySource::new(input, 4096, numbers(rt.alloc(), fault.failing_read)?);
+        let mut sink = MemorySink::new(rt.alloc(), 4096, numbers(rt.alloc(), fault.failing_write)?);
+        let ended = heap_main(rt.alloc(), &words, &mut source, &mut sink);
+        assert_eq!(rt; ended.status, fault.status);
+        assert_eq!(rt; ended.machine.is_some(), fault.status == 0);
+        assert_eq!(rt; sink.written(), fault.output.as_bytes());
+    }
+    Ok(())
+}
+
+/// The configuration of the command `run`.
+const DEFAULT: Config = Config {
+    base: 0x40_0000,
+    pages: 1024,
+    granularity: 65536,
+    frames: 1024,
+    rate: 4095,
+};
+
+/// What `run_calls` answers to requests for blocks of these sizes over so many frames, and the end text of its
+/// machine.
+struct CallsRow {
+    frames: u32,
+    sizes: &'static [u64],
+    answers: &'static str,
+    end: &'static str,
+}
+
+const CALLS: [CallsRow; 4] = [
+    CallsRow {
+        frames: 1024,
+        sizes: &[0, 24, 25],
+        answers: "block 0 0x400010\nheap 0x400000+16\nblock 1 0x400030\nblock 2 0x400050\n",
+        end: "region 0x400000+16 heap\nframes 1004 tables 4\n",
+    },
+    CallsRow {
+        frames: 1024,
+        sizes: &[],
+        answers: "",
+        end: "frames 1023 tables 1\n",
+    },
+    // As many frames as one grant takes, and one frame less.
+    CallsRow {
+        frames: 20,
+        sizes: &[1],
+        answers: "block 0 0x400010\nheap 0x400000+16\n",
+        end: "region 0x400000+16 heap\nframes 0 tables 4\n",
+    },
+    CallsRow {
+        frames: 19,
+        sizes: &[1],
+        answers: "refused no-frames\n",
+        end: "frames 18 tables 1\n",
+    },
+];
+
+/// Requests for blocks of these sizes, at the alignment that is served.
+fn requests(alloc: Global, sizes: &[u64]) -> Result<CallList, AllocError>
+    ensures { IfOk result (λ calls. All IsServable calls) }
+{
+    let mut calls = CallList::new(alloc);
+    for size in sizes {
+        calls.push(Call::Malloc {
+            size: *size,
+            align: 16,
+        })?;
+    }
+    Ok(calls)
+}
+
+fn texts(alloc: Global, answers: &AnswerList) -> Result<Vec<u8>, AllocError> {
+    let mut texts = Vec::new(alloc);
+    for answer in answers.as_slice() {
+        texts.extend_from_slice(text_of(alloc, answer)?.as_slice())?;
+    }
+    Ok(texts)
+}
+
+#[test]
+fn calls_are_run_as_values(rt: HostRuntime) -> Result<(), Fail> {
+    for row in &CALLS {
+        let config = Config {
+            frames: row.frames,
+            ..DEFAULT
+        };
+        let calls = requests(rt.alloc(), row.sizes)?;
+        let Ok(run) = run_calls(rt.alloc(), &config, &calls) else {
+            panic!(rt; "no run");
+        };
+        let texts = texts(rt.alloc(), &run.answers)?;
+        assert_eq!(rt; texts.as_slice(), row.answers.as_bytes());
+        let end = end_text(rt.alloc(), &run.machine)?;
+        assert_eq!(rt; end.as_slice(), row.end.as_bytes());
+    }
+    Ok(())
+}
+
+/// Windows, granularities and frames from which no machine is made, and why.
+const REFUSED: [(u64, u64, u64, u32, RunError); 11] = [
+    // The window holds the first page of the address space.
+    (0, 1, 65536, 1, RunError::BadWindow),
+    // It reaches over the end of the lower half, begins off a page, has no pages, and begins in the gap.
+    (0x7fff_ffff_f000, 2, 65536, 1, RunError::BadWindow),
+    (0x40_0001, 1, 65536, 1, RunError::BadWindow),
+    (0x40_0000, 0, 65536, 1, RunError::BadWindow),
+    (0x8000_0000_0000, 1, 65536, 1, RunError::BadWindow),
+    // It holds the last page of the address space, and its bytes would wrap.
+    (0xffff_ffff_ffff_e000, 2, 65536, 1, RunError::BadWindow),
+    (0x40_0000, 1 << 52, 65536, 1, RunError::BadWindow),
+    // Each cause comes before the later ones.
+    (0, 1, 0, 0, RunError::BadWindow),
+    (0x40_0000, 1, 8, 1, RunError::BadGranularity),
+    (0x40_0000, 1, 3072, 0, RunError::BadGranularity),
+    (0x40_0000, 1, 16, 0, RunError::TooFewFrames),
+];
+
+#[test]
+fn bad_configurations_are_refused(rt: HostRuntime) -> Result<(), Fail> {
+    for (base, pages, granularity, frames, error) in REFUSED {
+        let config = Config {
+            base,
+            pages,
+            granularity,
+            frames,
+            rate: 4095,
+        };
+        let calls = requests(rt.alloc(), &[1])?;
+        let found = Machine::new(rt.alloc(), &config).err();
+        assert_eq!(rt; found, Some(error));
+        let found = run_calls(rt.alloc(), &config, &calls).err();
+        assert_eq!(rt; found, Some(error));
+    }
+    Ok(())
+}

@@ -1,0 +1,53 @@
+// Whether a machine can be made from a configuration.
+ghost use Rattle.std.specs.Prelude.{◌≡◌, ◌↔◌, IsTrue, IfErr, OnOk};
+ghost use Rattle.kernel_heap.specs.Config.{IsGoodWindow, IsGranularity, IsGoodConfig, IsRefused};
+
+use crate::run_error::RunError;
+use heap_model::Config;
+
+/// The bytes of a page.
+const PAGE: u64 = 4096;
+
+/// The end of the lower canonical half, in bytes.
+const LOWER_END: u64 = 1 << 47;
+
+/// The first address of the upper canonical half.
+const UPPER_START: u64 = 0xffff_8000_0000_0000;
+
+/// Whether a window of so many pages from an address may be used.
+fn is_good_window(base: u64, pages: u64) -> bool
+    ensures { IsTrue result ↔ IsGoodWindow base pages }
+{
+    let Some(bytes) = pages.checked_mul(PAGE) else {
+        return false;
+    };
+    // A window with the last page would end at 2^64.
+    let Some(end) = base.checked_add(bytes) else {
+        return false;
+    };
+    pages > 0 && base % PAGE == 0 && PAGE <= base && (end <= LOWER_END || UPPER_START <= base)
+}
+
+/// Whether heap regions may be asked for in multiples of this number of bytes.
+fn is_granularity(granularity: u64) -> bool
+    ensures { IsTrue result ↔ IsGranularity granularity }
+{
+    granularity.is_power_of_two() && granularity >= 16
+}
+
+/// Finds out why no machine can be made from the configuration. It takes no memory.
+pub(crate) fn check(config: &Config) -> Result<(), RunError>
+    ensures good { OnOk result (IsGoodConfig config.now) }
+    ensures refused { IfErr result (λ error. IsRefused config.now error) }
+{
+    if !is_good_window(config.base, config.pages) {
+        return Err(RunError::BadWindow);
+    }
+    if !is_granularity(config.granularity) {
+        return Err(RunError::BadGranularity);
+    }
+    if config.frames == 0 {
+        return Err(RunError::TooFewFrames);
+    }
+    Ok(())
+}

@@ -1,0 +1,35 @@
+// Calls as values, served one after the other.
+ghost use Rattle.std.specs.Prelude.{All, IfOk, IfErr, OnOk};
+ghost use Rattle.heap_model.specs.State.{start};
+ghost use Rattle.kernel_heap.specs.Config.{IsGoodConfig, IsRefused};
+ghost use Rattle.kernel_heap.specs.Machine.{IsSound, IsServable};
+ghost use Rattle.kernel_heap.specs.Runs.{AreServed};
+
+use crate::machine::Machine;
+use crate::run_error::RunError;
+use heap_model::{AnswerList, CallList, Config};
+use std::alloc::Global;
+
+/// The answers to a list of calls, one a call, and the machine after the last of them.
+#[derive(Drop)]
+pub struct Run {
+    pub answers: AnswerList,
+    pub machine: Machine,
+}
+
+/// Serves the calls with a new machine. Each answer is allowed in the state that the answers before it determine, and
+/// the machine stands for the last state.
+pub fn run_calls(alloc: Global, config: &Config, calls: &CallList) -> Result<Run, RunError>
+    requires servable { All IsServable calls.now }
+    ensures served { IfOk result (λ run. AreServed (start config.now) calls.now run.answers run.machine) }
+    ensures sound { IfOk result (λ run. IsSound run.machine) }
+    ensures accepted { OnOk result (IsGoodConfig config.now) }
+    ensures refused { IfErr result (λ error. IsRefused config.now error) }
+{
+    let mut machine = Machine::new(alloc, config)?;
+    let mut answers = AnswerList::new(alloc);
+    for call in calls.as_slice() {
+        answers.push(machine.step(call)?)?;
+    }
+    Ok(Run { answers, machine })
+}
