@@ -3,6 +3,9 @@ pub mod Reach
 pub mod Prefixes
 pub mod EntryBits
 pub mod Addresses
+pub mod Alignment
+pub mod FieldBits
+pub mod PageOrder
 pub mod Link
 pub mod Made
 pub mod Prepare

@@ -1,7 +1,8 @@
 -- What the walk and the tree rule mean: laws above the definitions.
-use Rattle.std.specs.Prelude.{◌≡◌, ℕ, ◌+◌, ◌/◌, ◌%◌, ◌^◌, ◌<◌, ◌↔◌, Bool, false, List, Some, Contains}
-use Rattle.paging_core.specs.Address.{IsCanonicalRange}
+use Rattle.std.specs.Prelude.{◌≡◌, ℕ, ◌+◌, ◌*◌, ◌/◌, ◌%◌, ◌^◌, ◌<◌, ◌↔◌, Bool, false, IsTrue, List, Some, Contains}
+use Rattle.paging_core.specs.Address.{IsCanonicalRange, is_canonical}
 use Rattle.paging_core.specs.Prefix.{prefix_of, prefixes_of}
+use Rattle.paging_core.specs.Steps.{position, pages_before}
 use Rattle.paging_core.specs.Pool.{is_free}
 use Rattle.paging_core.specs.Walk.{Place, step, next_from, walk_of, top}
 use Rattle.paging_core.specs.Tree.{IsTree}
@@ -44,3 +45,8 @@ MappingCommutes =
     IsPageAdded words first free free1 root page frame rights → IsPageAdded first second free1 free2 root other frame' rights' →
     IsPageAdded words first' free free1' root other frame' rights' → IsPageAdded first' second' free1' free2' root page frame rights →
     (any : ℕ) → walk_of second root any ≡ walk_of second' root any
+
+-- the place of a page in the order of addresses is the count of the pages below it
+abbrev pub PlacesCountPages : Type 0
+PlacesCountPages =
+    (size number : ℕ) → 0 < size → 2 ^ 47 % size ≡ 0 → IsTrue (is_canonical (number * size)) → position size number ≡ pages_before size number

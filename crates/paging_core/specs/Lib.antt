@@ -1,8 +1,11 @@
 pub mod Address
+pub mod Align
+pub mod Field
 pub mod Memory
 pub mod Entry
 pub mod PageTableFlags
 pub mod Prefix
+pub mod Steps
 pub mod Walk
 pub mod Pool
 pub mod Tree

@@ -1,5 +1,7 @@
-ghost use Rattle.std.specs.Prelude.{◌≡◌, ℕ, ◌%◌, ◌^◌, ◌<◌, ◌≤◌, ◌↔◌, IsTrue, IsOk, IfOk, IfErr};
+ghost use Rattle.std.specs.Prelude.{◌≡◌, ℕ, ◌+◌, ◌-◌, ◌%◌, ◌^◌, ◌<◌, ◌≤◌, ◌↔◌, IsTrue, IsOk, IfOk, IfErr};
+ghost use Rattle.std.specs.Int.{IsPowerOfTwo};
 ghost use Rattle.paging_core.specs.Address.{is_canonical, sign_extended};
+ghost use Rattle.paging_core.specs.Align.{aligned_down, aligned_up};
 
 use std::marker::Model;
 use thiserror::Error;
@@ -135,4 +137,26 @@ impl PhysAddr {
     {
         self.0
     }
+}
+
+/// The greatest multiple of `align` that is at most the address. `align` is a power of two.
+pub fn align_down(addr: u64, align: u64) -> u64
+    requires power { IsPowerOfTwo align }
+    ensures value { result ≡ aligned_down addr align }
+    ensures multiple { result % align ≡ 0 }
+    ensures near { (result ≤ addr) × (addr < result + align) }
+{
+    addr & !(align - 1)
+}
+
+/// The least multiple of `align` that is at least the address. `align` is a power of two, and the
+/// multiple is below 2^64.
+pub fn align_up(addr: u64, align: u64) -> u64
+    requires power { IsPowerOfTwo align }
+    requires fits { aligned_up addr align < 2 ^ 64 }
+    ensures value { result ≡ aligned_up addr align }
+    ensures multiple { result % align ≡ 0 }
+    ensures near { (addr ≤ result) × (result < addr + align) }
+{
+    align_down(addr + (align - 1), align)
 }

@@ -1,7 +1,7 @@
 //! Laws above the definitions of the walk and of the tree rule. Each function does nothing: its contract
 //! is the law.
 
-ghost use Rattle.paging_core.specs.Laws.{WalkTakesFourSteps, PrefixesAreOfPages, OnePageForAFrame, NoPageAtAFreeFrame, MappingCommutes};
+ghost use Rattle.paging_core.specs.Laws.{WalkTakesFourSteps, PrefixesAreOfPages, OnePageForAFrame, NoPageAtAFreeFrame, MappingCommutes, PlacesCountPages};
 
 /// The walk of a page takes four steps from the root, by the page's four indices.
 pub fn walk_takes_four_steps()
@@ -26,4 +26,9 @@ pub fn no_page_at_a_free_frame()
 /// Two pages may be mapped in either order: every page's walk comes out the same.
 pub fn mapping_commutes()
     ensures { MappingCommutes }
+{}
+
+/// The place of a page in the order of addresses is the count of the pages below it.
+pub fn places_count_pages()
+    ensures { PlacesCountPages }
 {}

@@ -7,6 +7,7 @@
 
 pub mod access;
 pub mod addr;
+pub mod bit_field;
 pub mod frame_allocator;
 pub mod laws;
 pub mod mapping;
@@ -24,7 +25,8 @@ mod tables;
 mod tests;
 
 pub use access::{load_word, store_word};
-pub use addr::{PhysAddr, PhysAddrNotValid, VirtAddr, VirtAddrNotValid};
+pub use addr::{PhysAddr, PhysAddrNotValid, VirtAddr, VirtAddrNotValid, align_down, align_up};
+pub use bit_field::{get_bits, set_bits};
 pub use frame_allocator::FrameAllocator;
 pub use mapping::map_page;
 pub use memory::Frames;
@@ -32,8 +34,11 @@ pub use missing::missing_tables;
 pub use page_table::{PageTableEntry, PageTableIndex, Rights};
 pub use page_table_flags::PageTableFlags;
 pub use page_walk::{Mapped, walk};
-pub use pages::{AddressNotAligned, Page, PageSize, Size4KiB};
-pub use phys_frames::PhysFrame;
+pub use pages::{
+    AddressNotAligned, NotGiantPageSize, Page, PageRange, PageRangeInclusive, PageSize, Size1GiB,
+    Size2MiB, Size4KiB,
+};
+pub use phys_frames::{PhysFrame, PhysFrameRange, PhysFrameRangeInclusive};
 pub use pool::FramePool;
 pub use range::map_range;
 pub use tables::make_root;

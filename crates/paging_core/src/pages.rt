@@ -1,6 +1,7 @@
-ghost use Rattle.std.specs.Prelude.{◌≡◌, ℕ, ◌+◌, ◌-◌, ◌*◌, ◌/◌, ◌%◌, ◌^◌, ◌<◌, ◌≤◌, ◌↔◌, IsTrue, IsOk, IfOk};
+ghost use Rattle.std.specs.Prelude.{◌≡◌, ℕ, ◌+◌, ◌-◌, ◌*◌, ◌/◌, ◌%◌, ◌^◌, ◌<◌, ◌≤◌, ◌↔◌, IsTrue, IsOk, IfOk, IsSome, IfSome};
 ghost use Rattle.paging_core.specs.Address.{is_canonical};
 ghost use Rattle.paging_core.specs.Prefix.{prefix_of};
+ghost use Rattle.paging_core.specs.Steps.{half_pages, gap_pages, position, page_at, steps};
 
 use crate::addr::VirtAddr;
 use crate::page_table::PageTableIndex;
@@ -37,6 +38,61 @@ impl PageSize for Size4KiB {
     ghost use Rattle.std.proofs.Common.{refl};
 
     ghost divides_half = { refl };
+}
+
+/// Pages of 2 MiB.
+#[derive(Clone, Copy, PartialEq, Eq, PartialOrd, Ord, Hash, Debug)]
+pub struct Size2MiB;
+
+impl PageSize for Size2MiB {
+    ghost SIZE = { 2 ^ 21 };
+
+    const SIZE: u64 = 1 << 21;
+
+    ghost use Rattle.std.proofs.Common.{arith};
+
+    ghost is_some = { Prim.omega arith };
+
+    ghost use Rattle.std.proofs.Common.{refl};
+
+    ghost divides_half = { refl };
+}
+
+/// Pages of 1 GiB.
+#[derive(Clone, Copy, PartialEq, Eq, PartialOrd, Ord, Hash, Debug)]
+pub struct Size1GiB;
+
+impl PageSize for Size1GiB {
+    ghost SIZE = { 2 ^ 30 };
+
+    const SIZE: u64 = 1 << 30;
+
+    ghost use Rattle.std.proofs.Common.{arith};
+
+    ghost is_some = { Prim.omega arith };
+
+    ghost use Rattle.std.proofs.Common.{refl};
+
+    ghost divides_half = { refl };
+}
+
+/// The size of pages that a table of level 2 or 1 maps: every size but 1 GiB.
+pub trait NotGiantPageSize: PageSize {
+    ghost use Rattle.std.specs.Prelude.{◌^◌, ◌<◌};
+
+    ghost below_giant: { Self.SIZE < 2 ^ 30 };
+}
+
+impl NotGiantPageSize for Size4KiB {
+    ghost use Rattle.std.proofs.Common.{arith};
+
+    ghost below_giant = { Prim.omega arith };
+}
+
+impl NotGiantPageSize for Size2MiB {
+    ghost use Rattle.std.proofs.Common.{arith};
+
+    ghost below_giant = { Prim.omega arith };
 }
 
 /// The address is no multiple of the size.
@@ -100,6 +156,148 @@ impl<S: PageSize> Page<S> {
     }
 }
 
+impl<S: PageSize> Page<S> {
+    /// How many pages a canonical half has.
+    fn half_pages() -> u64
+        ensures { result ≡ half_pages S.SIZE }
+    {
+        (1 << 47) / S::SIZE
+    }
+
+    /// How many numbers of pages the addresses between the canonical halves take up.
+    fn gap_pages() -> u64
+        ensures { result ≡ gap_pages S.SIZE }
+    {
+        ((1 << 17) - 2) * Self::half_pages()
+    }
+
+    /// How many pages come before the page.
+    fn position(self) -> u64
+        ensures place { result ≡ position S.SIZE self }
+        ensures bounded { result < 2 * half_pages S.SIZE }
+    {
+        if self.number < Self::half_pages() {
+            self.number
+        } else {
+            self.number - Self::gap_pages()
+        }
+    }
+
+    /// Whether the page comes before the other.
+    fn is_before(self, other: Self) -> bool
+        ensures number { IsTrue result ↔ (self < other) }
+        ensures place { IsTrue result ↔ (position S.SIZE self < position S.SIZE other) }
+    {
+        self.number() < other.number()
+    }
+
+    /// The number of the page before which so many pages come.
+    fn number_at(place: u64) -> u64
+        requires { place < 2 * half_pages S.SIZE }
+        ensures { result ≡ page_at S.SIZE place }
+    {
+        if place < Self::half_pages() {
+            place
+        } else {
+            place + Self::gap_pages()
+        }
+    }
+
+    /// The page before which so many pages come. None where there are no more than so many.
+    fn at(place: u64) -> Option<Self>
+        ensures some { IsSome result ↔ (place < 2 * half_pages S.SIZE) }
+        ensures page { IfSome result (λ page. page ≡ page_at S.SIZE place) }
+        ensures place { IfSome result (λ page. position S.SIZE page ≡ place) }
+    {
+        if place < 2 * Self::half_pages() {
+            Some(Page {
+                number: Self::number_at(place),
+                size: PhantomData,
+            })
+        } else {
+            None
+        }
+    }
+
+    /// The page so many pages on; the first page of the high half comes after the last of the low half.
+    /// None exactly where it would be past the last page (Rust's `Step::forward_checked`).
+    pub fn forward_checked(start: Self, count: usize) -> Option<Self>
+        ensures some { IsSome result ↔ (position S.SIZE start + count < 2 * half_pages S.SIZE) }
+        ensures page { IfSome result (λ page. page ≡ page_at S.SIZE (position S.SIZE start + count)) }
+        ensures place { IfSome result (λ page. position S.SIZE page ≡ position S.SIZE start + count) }
+    {
+        Self::at(start.position().checked_add(count as u64)?)
+    }
+
+    /// The page so many pages back; the last page of the low half comes before the first of the high
+    /// half. None exactly where it would be before the first page (Rust's `Step::backward_checked`).
+    pub fn backward_checked(start: Self, count: usize) -> Option<Self>
+        ensures some { IsSome result ↔ (count ≤ position S.SIZE start) }
+        ensures page { IfSome result (λ page. page ≡ page_at S.SIZE (position S.SIZE start - count)) }
+        ensures place { IfSome result (λ page. position S.SIZE page ≡ position S.SIZE start - count) }
+    {
+        Self::at(start.position().checked_sub(count as u64)?)
+    }
+
+    /// How many steps lead from one page to the other: `(n, Some(n))`, and `(0, None)` where `end` comes
+    /// before `start` (Rust's `Step::steps_between`).
+    pub fn steps_between(start: &Self, end: &Self) -> (usize, Option<usize>)
+        ensures { result ≡ steps (position S.SIZE start.now) (position S.SIZE end.now) }
+    {
+        match end.position().checked_sub(start.position()) {
+            Some(steps) => (steps as usize, Some(steps as usize)),
+            None => (0, None),
+        }
+    }
+
+    /// The pages from `start` up to `end`, `end` excluded.
+    pub fn range(start: Self, end: Self) -> PageRange<S>
+        ensures start { result.start ≡ start }
+        ensures end { result.end ≡ end }
+    {
+        PageRange { start, end }
+    }
+
+    /// The pages from `start` to `end`, both included.
+    pub fn range_inclusive(start: Self, end: Self) -> PageRangeInclusive<S>
+        ensures start { result.start ≡ start }
+        ensures end { result.end ≡ end }
+    {
+        PageRangeInclusive { start, end }
+    }
+
+    /// The 9 bits of the page's address from `low` on.
+    fn index_from(self, low: u32) -> PageTableIndex
+        requires { low < 64 }
+        ensures { result ≡ self * S.SIZE / 2 ^ low % 512 }
+    {
+        PageTableIndex::new((self.start_address().as_u64() >> low & 0x1ff) as u16)
+    }
+
+    /// The index of the page in the root table: bits 39 to 47 of its address.
+    pub fn p4_index(self) -> PageTableIndex
+        ensures { result ≡ self * S.SIZE / 2 ^ 39 % 512 }
+    {
+        self.index_from(39)
+    }
+
+    /// The index of the page in its table of level 3: bits 30 to 38 of its address.
+    pub fn p3_index(self) -> PageTableIndex
+        ensures { result ≡ self * S.SIZE / 2 ^ 30 % 512 }
+    {
+        self.index_from(30)
+    }
+}
+
+impl<S: NotGiantPageSize> Page<S> {
+    /// The index of the page in its table of level 2: bits 21 to 29 of its address.
+    pub fn p2_index(self) -> PageTableIndex
+        ensures { result ≡ self * S.SIZE / 2 ^ 21 % 512 }
+    {
+        self.index_from(21)
+    }
+}
+
 impl Page<Size4KiB> {
     /// The page so many pages on, which lies in the same canonical half.
     pub(crate) fn after(self, pages: u64) -> Self
@@ -112,32 +310,63 @@ impl Page<Size4KiB> {
         }
     }
 
-    /// The index of the page in the root table: bits 39 to 47 of its address.
-    pub fn p4_index(self) -> PageTableIndex
-        ensures { result ≡ self / 2 ^ 27 % 512 }
-    {
-        PageTableIndex::new((self.number >> 27 & 0x1ff) as u16)
-    }
-
-    /// The index of the page in its table of level 3: bits 30 to 38 of its address.
-    pub fn p3_index(self) -> PageTableIndex
-        ensures { result ≡ self / 2 ^ 18 % 512 }
-    {
-        PageTableIndex::new((self.number >> 18 & 0x1ff) as u16)
-    }
-
-    /// The index of the page in its table of level 2: bits 21 to 29 of its address.
-    pub fn p2_index(self) -> PageTableIndex
-        ensures { result ≡ self / 2 ^ 9 % 512 }
-    {
-        PageTableIndex::new((self.number >> 9 & 0x1ff) as u16)
-    }
-
     /// The index of the page in its last table: bits 12 to 20 of its address.
     pub fn p1_index(self) -> PageTableIndex
         ensures { result ≡ self % 512 }
     {
         PageTableIndex::new((self.number & 0x1ff) as u16)
+    }
+}
+
+/// The pages from `start` up to `end`, `end` excluded.
+#[derive(Clone, Copy, PartialEq, Eq, Hash, Debug)]
+pub struct PageRange<S: PageSize = Size4KiB> {
+    /// The first page.
+    pub start: Page<S>,
+    /// The page after the last one.
+    pub end: Page<S>,
+}
+
+impl<S: PageSize> PageRange<S> {
+    /// Whether the range has no page.
+    pub fn is_empty(&self) -> bool
+        ensures number { IsTrue result ↔ (self.now.end ≤ self.now.start) }
+        ensures place { IsTrue result ↔ (position S.SIZE self.now.end ≤ position S.SIZE self.now.start) }
+    {
+        !self.start.is_before(self.end)
+    }
+
+    /// How many pages the range has. The addresses between the canonical halves have none.
+    pub fn len(&self) -> u64
+        ensures { result ≡ position S.SIZE self.now.end - position S.SIZE self.now.start }
+    {
+        self.end.position().saturating_sub(self.start.position())
+    }
+}
+
+/// The pages from `start` to `end`, both included.
+#[derive(Clone, Copy, PartialEq, Eq, Hash, Debug)]
+pub struct PageRangeInclusive<S: PageSize = Size4KiB> {
+    /// The first page.
+    pub start: Page<S>,
+    /// The last page.
+    pub end: Page<S>,
+}
+
+impl<S: PageSize> PageRangeInclusive<S> {
+    /// Whether the range has no page.
+    pub fn is_empty(&self) -> bool
+        ensures number { IsTrue result ↔ (self.now.end < self.now.start) }
+        ensures place { IsTrue result ↔ (position S.SIZE self.now.end < position S.SIZE self.now.start) }
+    {
+        self.end.is_before(self.start)
+    }
+
+    /// How many pages the range has. The addresses between the canonical halves have none.
+    pub fn len(&self) -> u64
+        ensures { result ≡ position S.SIZE self.now.end + 1 - position S.SIZE self.now.start }
+    {
+        (self.end.position() + 1).saturating_sub(self.start.position())
     }
 }
 

@@ -1,4 +1,4 @@
-ghost use Rattle.std.specs.Prelude.{◌≡◌, ℕ, ◌+◌, ◌-◌, ◌*◌, ◌/◌, ◌%◌, ◌^◌, ◌<◌, ◌≤◌, ◌↔◌, IsOk, IfOk};
+ghost use Rattle.std.specs.Prelude.{◌≡◌, ℕ, ◌+◌, ◌-◌, ◌*◌, ◌/◌, ◌%◌, ◌^◌, ◌<◌, ◌≤◌, ◌↔◌, IsTrue, IsOk, IfOk};
 
 use crate::addr::PhysAddr;
 use crate::pages::{AddressNotAligned, PageSize, Size4KiB};
@@ -57,5 +57,55 @@ impl<S: PageSize> PhysFrame<S> {
         ensures fits { result * S.SIZE < 2 ^ 52 }
     {
         self.number
+    }
+}
+
+/// The frames from `start` up to `end`, `end` excluded.
+#[derive(Clone, Copy, PartialEq, Eq, Hash, Debug)]
+pub struct PhysFrameRange<S: PageSize = Size4KiB> {
+    /// The first frame.
+    pub start: PhysFrame<S>,
+    /// The frame after the last one.
+    pub end: PhysFrame<S>,
+}
+
+impl<S: PageSize> PhysFrameRange<S> {
+    /// Whether the range has no frame.
+    pub fn is_empty(&self) -> bool
+        ensures { IsTrue result ↔ (self.now.end ≤ self.now.start) }
+    {
+        self.end.number <= self.start.number
+    }
+
+    /// How many frames the range has.
+    pub fn len(&self) -> u64
+        ensures { result ≡ self.now.end - self.now.start }
+    {
+        self.end.number.saturating_sub(self.start.number)
+    }
+}
+
+/// The frames from `start` to `end`, both included.
+#[derive(Clone, Copy, PartialEq, Eq, Hash, Debug)]
+pub struct PhysFrameRangeInclusive<S: PageSize = Size4KiB> {
+    /// The first frame.
+    pub start: PhysFrame<S>,
+    /// The last frame.
+    pub end: PhysFrame<S>,
+}
+
+impl<S: PageSize> PhysFrameRangeInclusive<S> {
+    /// Whether the range has no frame.
+    pub fn is_empty(&self) -> bool
+        ensures { IsTrue result ↔ (self.now.end < self.now.start) }
+    {
+        self.end.number < self.start.number
+    }
+
+    /// How many frames the range has.
+    pub fn len(&self) -> u64
+        ensures { result ≡ self.now.end + 1 - self.now.start }
+    {
+        (self.end.number + 1).saturating_sub(self.start.number)
     }
 }

@@ -72,3 +72,188 @@ fn build(rt: &impl Abort, alloc: Global, count: u32) -> Result<(), Fail> {
 fn pages_are_mapped_in_order(rt: HostRuntime) -> Result<(), Fail> {
     build(&rt, rt.alloc(), 1024)
 }
+
+/// The page of the size that begins at the address.
+fn page_at<S: PageSize>(rt: &impl Abort, address: u64) -> Page<S> {
+    let Ok(start) = VirtAddr::try_new(address) else {
+        panic!(rt; "{address} is canonical");
+    };
+    let Ok(page) = Page::from_start_address(start) else {
+        panic!(rt; "{address} is a multiple of the size");
+    };
+    page
+}
+
+fn address_of<S: PageSize>(page: Option<Page<S>>) -> Option<u64> {
+    page.map(|page| page.start_address().as_u64())
+}
+
+/// Steps forward to a page, and back from it.
+fn steps_on<S: PageSize>(rt: &impl Abort, start: u64, count: usize, end: u64) {
+    let (first, last) = (page_at::<S>(rt, start), page_at::<S>(rt, end));
+    assert_eq!(rt; address_of(Page::forward_checked(first, count)), Some(end));
+    assert_eq!(rt;
+        address_of(Page::backward_checked(last, count)),
+        Some(start)
+    );
+    assert_eq!(rt; Page::steps_between(&first, &last), (count, Some(count)));
+    assert_eq!(rt; Page::range(first, last).len(), count as u64);
+    if count != 0 {
+        assert_eq!(rt; Page::steps_between(&last, &first), (0, None));
+    }
+}
+
+fn ends_at<S: PageSize>(rt: &impl Abort, start: u64, steps: usize) {
+    let page = page_at::<S>(rt, start);
+    assert_eq!(rt; address_of(Page::forward_checked(page, steps)), None);
+}
+
+fn begins_at<S: PageSize>(rt: &impl Abort, start: u64, steps: usize) {
+    let page = page_at::<S>(rt, start);
+    assert_eq!(rt; address_of(Page::backward_checked(page, steps)), None);
+}
+
+#[test]
+fn pages_of_4_kib_step_over_the_gap(rt: HostRuntime) -> Result<(), Fail> {
+    let steps = [
+        (0, 0, 0),
+        (0, 1, 0x1000),
+        (0x1000, 0, 0x1000),
+        (0x1000, 1, 0x2000),
+        (0x7fff_ffff_f000, 1, 0xffff_8000_0000_0000),
+        (0xffff_8000_0000_0000, 0, 0xffff_8000_0000_0000),
+        (0xffff_8000_0000_0000, 1, 0xffff_8000_0000_1000),
+        (0xffff_8000_0000_1000, 0, 0xffff_8000_0000_1000),
+        (0x7fff_ffff_f000, 0x1_2345_6789, 0xffff_9234_5678_8000),
+        (0x7fff_ffff_f000, 0x8_0000_0000, 0xffff_ffff_ffff_f000),
+        (0x7fff_fff0_0000, 0x8_0000_00ff, 0xffff_ffff_ffff_f000),
+        (0, 0x8_0000_0000, 0xffff_8000_0000_0000),
+        (0xff000, 0x7_ffff_ff01, 0xffff_8000_0000_0000),
+        (0, 0x10_0000, 0x1_0000_0000),
+        (0, 0x1_0000_0000, 0x1000_0000_0000),
+    ];
+    for (start, count, end) in steps {
+        steps_on::<Size4KiB>(&rt, start, count, end);
+    }
+    ends_at::<Size4KiB>(&rt, 0xffff_ffff_ffff_f000, 1);
+    ends_at::<Size4KiB>(&rt, 0x7fff_fff0_0000, 0x8_0000_0100);
+    ends_at::<Size4KiB>(&rt, 0x7fff_ffff_f000, 0x8_0000_0001);
+    ends_at::<Size4KiB>(&rt, 0, usize::MAX);
+    begins_at::<Size4KiB>(&rt, 0, 1);
+    begins_at::<Size4KiB>(&rt, 0xffff_8000_0000_0000, 0x8_0000_0001);
+    begins_at::<Size4KiB>(&rt, 0xffff_ffff_ffff_f000, usize::MAX);
+    Ok(())
+}
+
+#[test]
+fn larger_pages_step_over_the_gap(rt: HostRuntime) -> Result<(), Fail> {
+    steps_on::<Size2MiB>(&rt, 0x20_0000, 1, 0x40_0000);
+    steps_on::<Size2MiB>(&rt, 0x7fff_ffe0_0000, 1, 0xffff_8000_0000_0000);
+    steps_on::<Size2MiB>(&rt, 0, 0x7ff_ffff, 0xffff_ffff_ffe0_0000);
+    ends_at::<Size2MiB>(&rt, 0, 0x800_0000);
+    ends_at::<Size2MiB>(&rt, 0xffff_ffff_ffe0_0000, 1);
+    begins_at::<Size2MiB>(&rt, 0xffff_8000_0000_0000, 0x400_0001);
+    steps_on::<Size1GiB>(&rt, 0x4000_0000, 1, 0x8000_0000);
+    steps_on::<Size1GiB>(&rt, 0x7fff_c000_0000, 1, 0xffff_8000_0000_0000);
+    steps_on::<Size1GiB>(&rt, 0, 0x3_ffff, 0xffff_ffff_c000_0000);
+    ends_at::<Size1GiB>(&rt, 0, 0x4_0000);
+    ends_at::<Size1GiB>(&rt, 0xffff_ffff_c000_0000, 1);
+    begins_at::<Size1GiB>(&rt, 0xffff_8000_0000_0000, 0x2_0001);
+    Ok(())
+}
+
+/// A range of this many pages, and of one more where its end is included.
+fn has_pages<S: PageSize>(rt: &impl Abort, start: u64, end: u64, count: u64) {
+    let (start, end) = (page_at::<S>(rt, start), page_at::<S>(rt, end));
+    let range = Page::range(start, end);
+    assert_eq!(rt; (range.len(), range.is_empty()), (count, count == 0));
+    let inclusive = Page::range_inclusive(start, end);
+    assert_eq!(rt; (inclusive.len(), inclusive.is_empty()), (count + 1, false));
+}
+
+#[test]
+fn ranges_have_lengths(rt: HostRuntime) -> Result<(), Fail> {
+    has_pages::<Size4KiB>(&rt, 0xdead_b000, 0xdeb0_d000, 50);
+    has_pages::<Size4KiB>(&rt, 0x7fff_ffff_f000, 0xffff_8000_0000_1000, 2);
+    has_pages::<Size2MiB>(&rt, 0x7fff_ffc0_0000, 0xffff_8000_0000_0000, 2);
+    has_pages::<Size1GiB>(&rt, 0x7fff_c000_0000, 0xffff_8000_4000_0000, 2);
+    has_pages::<Size1GiB>(&rt, 0x4000_0000, 0x4000_0000, 0);
+    let (low, high) = (
+        page_at::<Size4KiB>(&rt, 0),
+        page_at(&rt, 0xffff_8000_0000_0000),
+    );
+    let back = Page::range(high, low);
+    assert_eq!(rt; (back.len(), back.is_empty()), (0, true));
+    let back = Page::range_inclusive(high, low);
+    assert_eq!(rt; (back.len(), back.is_empty()), (0, true));
+    Ok(())
+}
+
+#[test]
+fn ranges_of_frames_have_lengths(rt: HostRuntime) -> Result<(), Fail> {
+    let start = PhysFrame::<Size4KiB>::containing_address(PhysAddr::new(0xdead_beaf));
+    let end = PhysFrame::containing_address(PhysAddr::new(0xdeb0_deaf));
+    let range = PhysFrameRange { start, end };
+    assert_eq!(rt; (range.len(), range.is_empty()), (50, false));
+    let inclusive = PhysFrameRangeInclusive { start, end };
+    assert_eq!(rt; (inclusive.len(), inclusive.is_empty()), (51, false));
+    let back = PhysFrameRange {
+        start: end,
+        end: start,
+    };
+    assert_eq!(rt; (back.len(), back.is_empty()), (0, true));
+    let back = PhysFrameRangeInclusive {
+        start: end,
+        end: start,
+    };
+    assert_eq!(rt; (back.len(), back.is_empty()), (0, true));
+    Ok(())
+}
+
+#[test]
+fn pages_of_each_size_have_indices(rt: HostRuntime) -> Result<(), Fail> {
+    let page = page_at::<Size4KiB>(&rt, 0xffff_ff80_80c0_4000);
+    assert_eq!(rt;
+        (page.p4_index().value(), page.p3_index().value()),
+        (511, 2)
+    );
+    assert_eq!(rt; (page.p2_index().value(), page.p1_index().value()), (6, 4));
+    let page = page_at::<Size2MiB>(&rt, 0xffff_ff80_80c0_0000);
+    assert_eq!(rt;
+        (page.p4_index().value(), page.p3_index().value()),
+        (511, 2)
+    );
+    assert_eq!(rt; page.p2_index().value(), 6);
+    let page = page_at::<Size1GiB>(&rt, 0xffff_ff80_8000_0000);
+    assert_eq!(rt;
+        (page.p4_index().value(), page.p3_index().value()),
+        (511, 2)
+    );
+    Ok(())
+}
+
+#[test]
+fn addresses_are_aligned(rt: HostRuntime) -> Result<(), Fail> {
+    assert_eq!(rt; align_up(u64::MAX, 1), u64::MAX);
+    assert_eq!(rt; align_up(1233, 2), 1234);
+    assert_eq!(rt; align_up(0xffff_ffff_ffff_fffe, 2), 0xffff_ffff_ffff_fffe);
+    assert_eq!(rt; align_up(0, 0x8000_0000_0000_0000), 0);
+    assert_eq!(rt; align_up(0x1001, 0x1000), 0x2000);
+    assert_eq!(rt; align_down(0x1fff, 0x1000), 0x1000);
+    Ok(())
+}
+
+#[test]
+fn fields_are_read_and_replaced(rt: HostRuntime) -> Result<(), Fail> {
+    assert_eq!(rt; get_bits(0x000f_ffff_ffff_f000, 12, 52), 0xff_ffff_ffff);
+    assert_eq!(rt; get_bits(0xffff_8000_0000_0000, 47, 64), 0x1_ffff);
+    assert_eq!(rt; get_bits(u64::MAX, 0, 64), u64::MAX);
+    assert_eq!(rt; get_bits(0x8000_0000_0000_0000, 63, 64), 1);
+    assert_eq!(rt; set_bits(u64::MAX, 12, 52, 0), 0xfff0_0000_0000_0fff);
+    assert_eq!(rt;
+        set_bits(0x8000_0000_0000_0003, 12, 52, 0xdeadb),
+        0x8000_0000_dead_b003
+    );
+    assert_eq!(rt; set_bits(0, 0, 64, u64::MAX), u64::MAX);
+    Ok(())
+}
