@@ -1,3 +1,9 @@
 pub mod Words
 pub mod Regions
+pub mod RegionLaws
 pub mod Events
+pub mod Allocator
+pub mod FlatScript
+pub mod FlatWords
+pub mod Script
+pub mod FlatSystem

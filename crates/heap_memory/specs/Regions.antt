@@ -1,5 +1,5 @@
 -- Granted regions.
-use Rattle.std.specs.Prelude.{◌≡◌, ℕ, ◌+◌, ◌%◌, Bool, ◌&&◌, nat_le, nat_lt, List, IsTrue}
+use Rattle.std.specs.Prelude.{◌≡◌, ℕ, ◌+◌, ◌%◌, ◌^◌, ◌<◌, ◌≤◌, ◌⊎◌, Bool, true, ◌&&◌, ◌==◌, nat_le, nat_lt, if◌then◌else◌, List, [], ◌∷◌, IsTrue}
 use Rattle.std.specs.List.{list_any}
 use Rattle.heap_memory.specs.declared.grant.Grant.{Grant}
 
@@ -11,3 +11,27 @@ is_granted regions at = list_any (λ region. nat_le region.base at && nat_lt at 
 pub record IsWordOf (regions : List Grant) (at : ℕ) : Type 0 where
   pub granted : IsTrue (is_granted regions at)
   pub aligned : at % 8 ≡ 0
+
+-- the regions with a further one, by ascending base
+abbrev pub with_grant : Grant → List Grant → List Grant
+with_grant grant [] = grant ∷ []
+with_grant grant (region ∷ regions) =
+    if nat_lt grant.base region.base then grant ∷ region ∷ regions else region ∷ with_grant grant regions
+
+-- a region has no byte from low on and below high
+abbrev pub IsApart : ℕ → ℕ → Grant → Type 0
+IsApart low high region = (region.base + region.size ≤ low) ⊎ (high ≤ region.base)
+
+-- what every grant for so many bytes is
+pub record IsGoodGrant (asked : ℕ) (grant : Grant) : Type 0 where
+  pub long : asked ≤ grant.size
+  pub base_aligned : grant.base % 16 ≡ 0
+  pub size_aligned : grant.size % 16 ≡ 0
+  pub low : 4096 ≤ grant.base
+  pub high : grant.base + grant.size < 2 ^ 64
+
+-- whether a grant begins where the last region ends, if there is one
+abbrev pub is_next : Grant → List Grant → Bool
+is_next grant [] = true
+is_next grant (last ∷ []) = grant.base == last.base + last.size
+is_next grant (first ∷ region ∷ regions) = is_next grant (region ∷ regions)

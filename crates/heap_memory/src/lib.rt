@@ -1,12 +1,24 @@
 //! Memory that is granted in regions, and read and written by words and bytes.
 //!
-//! A heap is generic over `Links`: it sees the granted regions, and a word at each multiple of 8 in them.
+//! A heap is generic over `Links` and `Allocator`: it sees the granted regions, a word at each multiple of 8 in them,
+//! and grants that come one after the other. `FlatSystem` is such a system over plain words, with its grants in a
+//! script.
 #![tactic(auto)]
 
+mod allocator;
+mod flat_script;
+mod flat_system;
+mod flat_words;
 mod grant;
 mod links;
 mod memory;
 
-pub use grant::Grant;
+pub use allocator::Allocator;
+pub use flat_script::FlatStep;
+pub use flat_system::FlatSystem;
+pub use grant::{Grant, GrantFault};
 pub use links::Links;
 pub use memory::Memory;
+
+#[cfg(test)]
+mod tests;

@@ -1,0 +1,3 @@
+mod FlatWordsLemmas
+mod RegionsLemmas
+mod FlatScriptLemmas

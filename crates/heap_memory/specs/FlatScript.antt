@@ -1,0 +1,53 @@
+-- The script of a flat system: what each step of it grants or denies (own).
+use Rattle.std.specs.Prelude.{ℕ, ◌+◌, ◌%◌, ◌^◌, Bool, false, not, ◌&&◌, ◌||◌, ◌==◌, nat_le, nat_lt, if◌then◌else◌, List, [], ◌∷◌, ◌++◌, Result, Ok, Err}
+use Rattle.std.specs.List.{list_any}
+use Rattle.heap_memory.specs.Regions.{is_next}
+use Rattle.heap_memory.specs.declared.grant.Grant.{Grant}
+use Rattle.heap_memory.specs.declared.grant.GrantFault.{GrantFault}
+use Rattle.heap_memory.specs.declared.grant.GrantFault.TheVariants.{NoSpace}
+use Rattle.heap_memory.specs.declared.flat_script.FlatStep.{FlatStep}
+use Rattle.heap_memory.specs.declared.flat_script.FlatStep.TheVariants.{Give, Refuse}
+
+-- whether a step gives the byte at an address
+abbrev pub gives : ℕ → FlatStep → Bool
+gives at (Give base size flags) = nat_le base at && nat_lt at (base + size)
+gives at (Refuse fault) = false
+
+-- whether a step gives a byte that is also one of the grant
+abbrev pub overlaps : Grant → FlatStep → Bool
+overlaps grant (Give base size flags) =
+    nat_lt 0 size && nat_lt 0 grant.size && nat_lt base (grant.base + grant.size) && nat_lt grant.base (base + size)
+overlaps grant (Refuse fault) = false
+
+-- whether a grant is made of units of 16 bytes, from 4096 on and below 2 ^ 64
+abbrev pub is_in_bounds : Grant → Bool
+is_in_bounds grant =
+    grant.base % 16 == 0 && grant.size % 16 == 0 && nat_le 4096 grant.base && nat_lt (grant.base + grant.size) (2 ^ 64)
+
+-- whether a grant has a place of its own: in bounds, and with no byte of a Give before it, granted or not
+abbrev pub has_place : List FlatStep → Grant → Bool
+has_place before grant = is_in_bounds grant && not (list_any (λ step. overlaps grant step) before)
+
+-- whether a Give is granted for so many bytes, after these steps and with these regions granted
+abbrev pub is_given : List FlatStep → List Grant → ℕ → Grant → Bool
+is_given before regions asked grant =
+    nat_le asked grant.size && has_place before grant && grant.flags == 0 && is_next grant regions
+
+-- what the next of the steps that are left answers to a request for so many bytes: past the end it is no space
+abbrev pub next_answer : List FlatStep → List Grant → List FlatStep → ℕ → Result Grant GrantFault
+next_answer before regions [] asked = Err NoSpace
+next_answer before regions (Refuse fault ∷ left) asked = Err fault
+next_answer before regions (Give base size flags ∷ left) asked =
+    if is_given before regions asked (record { base = base; size = size; flags = flags })
+    then Ok (record { base = base; size = size; flags = flags }) else Err NoSpace
+
+-- whether a step is a Give that has a place of its own after these steps, and the byte at an address
+abbrev pub promises : List FlatStep → FlatStep → ℕ → Bool
+promises before (Refuse fault) at = false
+promises before (Give base size flags) at =
+    has_place before (record { base = base; size = size; flags = flags }) && gives at (Give base size flags)
+
+-- whether one of the steps that are left is
+abbrev pub is_promised : List FlatStep → List FlatStep → ℕ → Bool
+is_promised before [] at = false
+is_promised before (step ∷ left) at = promises before step at || is_promised (before ++ step ∷ []) left at

@@ -1,0 +1,35 @@
+-- What a flat system shows beside its script: its regions, its words, and what it denies (own).
+use Rattle.std.specs.Prelude.{◌≡◌, ℕ, List, Err, refl}
+use Rattle.std.proofs.Common.{◌∙◌}
+use Rattle.heap_memory.specs.declared.grant.Grant.{Grant}
+use Rattle.heap_memory.specs.declared.flat_system.FlatSystem.{FlatSystem}
+use Rattle.heap_memory.specs.declared.grant.GrantFault.{GrantFault}
+use Rattle.heap_memory.specs.Script.{taken_of, left_of}
+use Rattle.heap_memory.specs.FlatScript.{next_answer}
+use Rattle.heap_memory.specs.FlatWords.{word_in}
+
+abbrev pub regions_of : FlatSystem → List Grant
+regions_of system = system.regions.items
+
+abbrev pub word_of : FlatSystem → ℕ → ℕ
+word_of system at = word_in system.words.stretches.items system.words.words.items at
+
+-- what no call changes
+pub record IsSameKind (old new : FlatSystem) : Type 0 where
+  pub frees : new.frees ≡ old.frees
+  pub parts : new.parts ≡ old.parts
+  pub page : new.page ≡ old.page
+
+pub same_none : (system : FlatSystem) → IsSameKind system system
+same_none system = record { frees = refl; parts = refl; page = refl }
+
+pub same_on : (x y z : FlatSystem) → IsSameKind x y → IsSameKind y z → IsSameKind x z
+same_on x y z first second = record {
+  frees = second.frees ∙ first.frees;
+  parts = second.parts ∙ first.parts;
+  page = second.page ∙ first.page;
+}
+
+-- a request for so many bytes is denied with the fault that the next step answers
+abbrev pub DeniesNext : FlatSystem → ℕ → GrantFault → Type 0
+DeniesNext system asked fault = next_answer (taken_of system.script) (regions_of system) (left_of system.script) asked ≡ Err fault

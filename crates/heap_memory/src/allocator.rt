@@ -1,0 +1,49 @@
+ghost use Rattle.std.specs.Prelude.{◌≡◌, ◌≢◌, ℕ, ◌+◌, ◌%◌, ◌<◌, ◌≤◌, Bool, true, List, [], ◌∷◌, IsTrue, IfOk, IfErr, OnErr};
+ghost use Rattle.std.specs.List.{AllByRecursion};
+ghost use Rattle.std.specs.Int.{is_power_of_two};
+ghost use Rattle.heap_memory.specs.Events.{Granted};
+ghost use Rattle.heap_memory.specs.Regions.{IsWordOf, IsApart, IsGoodGrant, is_next, with_grant};
+ghost use Rattle.heap_memory.specs.Allocator.{IsFixed};
+
+use crate::{Grant, GrantFault, Links};
+
+/// A system that grants regions (dlmalloc: `Allocator`).
+pub trait Allocator: Links {
+    ghost use Rattle.heap_memory.specs.declared.grant.GrantFault.{GrantFault};
+    ghost use Rattle.heap_memory.specs.Events.{Event};
+
+    /// Whether the system, as it stands, denies a request for so many bytes with a fault.
+    ghost denies: { Self → ℕ → GrantFault → Type 0 };
+
+    /// Whether the words of a new grant are zero.
+    ghost zeros: { Self → Bool };
+
+    /// Grants a region of at least `size` bytes, apart from all others, and behind the last. An `Err` changes no granted
+    /// region and no word in one; what the system denies next may change.
+    fn alloc(&mut self, size: u64) -> Result<Grant, GrantFault>
+        requires some { 0 < size }
+        requires whole { size % 16 ≡ 0 }
+        ensures good { IfOk result (λ grant. IsGoodGrant size grant) }
+        ensures apart { IfOk result (λ grant. AllByRecursion (IsApart grant.base (grant.base + grant.size)) (Self.regions self.old)) }
+        ensures next { IfOk result (λ grant. IsTrue (is_next grant (Self.regions self.old))) }
+        ensures flags { IfOk result (λ grant. grant.flags ≡ 0) }
+        ensures regions { IfOk result (λ grant. Self.regions self.new ≡ with_grant grant (Self.regions self.old)) }
+        ensures zeros { IfOk result (λ grant. zeros self.old ≡ true →
+            (at : ℕ) → grant.base ≤ at → at < grant.base + grant.size → at % 8 ≡ 0 → Self.word self.new at ≡ 0) }
+        ensures follows { IfOk result (λ grant. Self.follows self.old (Granted size grant ∷ []) self.new) }
+        ensures words { (at : ℕ) → IsWordOf (Self.regions self.old) at → Self.word self.new at ≡ Self.word self.old at }
+        ensures err { OnErr result (Self.regions self.new ≡ Self.regions self.old) }
+        ensures err_follows { OnErr result (Self.follows self.old [] self.new) }
+        ensures denied { IfErr result (λ fault. fault ≢ GrantFault.OutOfMemory → denies self.old size fault) };
+
+    /// Whether the words of each new grant are zero.
+    fn allocates_zeros(&self) -> bool
+        ensures { result ≡ zeros self.now };
+
+    /// The size of the system's pages in bytes, a power of two.
+    fn page_size(&self) -> u64
+        ensures { IsTrue (is_power_of_two result) };
+
+    /// No call changes whether new grants are zero.
+    ghost fixed: { (x y : Self) (events : List Event) → Self.follows x events y → IsFixed zeros x y };
+}

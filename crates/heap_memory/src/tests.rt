@@ -1,0 +1,181 @@
+ghost use Rattle.std.specs.Prelude.{◌≡◌, ℕ, ◌+◌, ◌<◌, [], IsTrue};
+ghost use Rattle.heap_memory.specs.Regions.{IsWordOf};
+
+use super::*;
+use std::alloc::{AllocError, Global};
+use std::marker::Brand;
+use std::sync::ledger::{Blank, Ledger};
+use std::test::Fail;
+use step_count::Steps;
+
+const FIRST: FlatStep = FlatStep::Give {
+    base: 0x10000,
+    size: 4096,
+    flags: 0,
+};
+
+fn give(base: u64, size: u64, flags: u32) -> FlatStep {
+    FlatStep::Give { base, size, flags }
+}
+
+fn refuse(fault: GrantFault) -> FlatStep {
+    FlatStep::Refuse { fault }
+}
+
+fn granted(base: u64, size: u64) -> Result<Grant, GrantFault> {
+    Ok(Grant {
+        base,
+        size,
+        flags: 0,
+    })
+}
+
+/// The answer to the last of some requests for 4096 bytes each.
+fn last_answer(
+    alloc: Global,
+    steps: &[FlatStep],
+    requests: u32,
+) -> Result<Result<Grant, GrantFault>, AllocError> {
+    let mut system = FlatSystem::new(alloc, Vec::from_slice(alloc, steps)?, true, true, 4096)?;
+    let mut answer = Err(GrantFault::NoSpace);
+    for _ in 0..requests {
+        answer = system.alloc(4096);
+    }
+    Ok(answer)
+}
+
+#[test]
+fn each_step_is_answered(rt: HostRuntime) -> Result<(), Fail> {
+    let no_space = Err(GrantFault::NoSpace);
+    let rows = [
+        (
+            "the first",
+            granted(0x10000, 4096),
+            1,
+            [FIRST, FIRST, FIRST],
+        ),
+        (
+            "behind the first",
+            granted(0x11000, 4096),
+            2,
+            [FIRST, give(0x11000, 4096, 0), FIRST],
+        ),
+        (
+            "longer than asked",
+            granted(0x11000, 8192),
+            2,
+            [FIRST, give(0x11000, 8192, 0), FIRST],
+        ),
+        (
+            "too short",
+            no_space,
+            2,
+            [FIRST, give(0x11000, 4080, 0), FIRST],
+        ),
+        (
+            "no multiple of 16",
+            no_space,
+            2,
+            [FIRST, give(0x11000, 4104, 0), FIRST],
+        ),
+        ("below 4096", no_space, 1, [give(0, 4096, 0), FIRST, FIRST]),
+        (
+            "base no multiple of 16",
+            no_space,
+            1,
+            [give(0x10008, 4096, 0), FIRST, FIRST],
+        ),
+        (
+            "up to 2^64",
+            no_space,
+            2,
+            [FIRST, give(0x11000, 0xffff_ffff_fffe_f000, 0), FIRST],
+        ),
+        ("over a granted one", no_space, 2, [FIRST, FIRST, FIRST]),
+        (
+            "over a denied one",
+            no_space,
+            3,
+            [FIRST, give(0x11000, 4080, 0), give(0x11000, 4096, 0)],
+        ),
+        ("flags", no_space, 2, [FIRST, give(0x11000, 4096, 1), FIRST]),
+        (
+            "behind a gap",
+            no_space,
+            2,
+            [FIRST, give(0x20000, 4096, 0), FIRST],
+        ),
+        (
+            "refused",
+            no_space,
+            1,
+            [refuse(GrantFault::NoSpace), FIRST, FIRST],
+        ),
+        (
+            "refused for frames",
+            Err(GrantFault::NoFrames),
+            1,
+            [refuse(GrantFault::NoFrames), FIRST, FIRST],
+        ),
+        (
+            "refused for memory",
+            Err(GrantFault::OutOfMemory),
+            1,
+            [refuse(GrantFault::OutOfMemory), FIRST, FIRST],
+        ),
+        (
+            "after a refusal",
+            granted(0x10000, 4096),
+            2,
+            [refuse(GrantFault::NoSpace), FIRST, FIRST],
+        ),
+        (
+            "past the end",
+            no_space,
+            4,
+            [FIRST, give(0x11000, 4096, 0), give(0x12000, 4096, 0)],
+        ),
+    ];
+    for (name, answer, requests, steps) in rows {
+        assert_eq!(rt;
+            last_answer(rt.alloc(), &steps, requests)?,
+            answer,
+            "{name}"
+        );
+    }
+    Ok(())
+}
+
+/// Stores a word, and loads it again.
+fn counted<L: Ledger>(system: &mut FlatSystem, at: u64, value: u64, blank: Blank) -> u64
+    requires name { blank.name ≡ L.name }
+    requires parts { blank.parts ≡ L.parts }
+    requires some { 0 < blank.parts }
+    requires word { IsWordOf (⟦<FlatSystem as Links>⟧.regions system.old) at }
+    ensures regions { ⟦<FlatSystem as Links>⟧.regions system.new ≡ ⟦<FlatSystem as Links>⟧.regions system.old }
+{
+    let mut steps = Steps::<L>::new(blank);
+    system.store_counted(at, value, &mut steps);
+    system.load_counted(at, &mut steps)
+}
+
+#[test]
+fn words_and_bytes_are_kept(rt: HostRuntime) -> Result<(), Fail> {
+    let mut script = Vec::new(rt.alloc());
+    script.push(give(0x400000, 65536, 0))?;
+    let mut system = FlatSystem::new(rt.alloc(), script, true, false, 65536)?;
+    assert!(rt; system.allocates_zeros());
+    assert_eq!(rt; system.page_size(), 65536);
+    let grant = system.alloc(65536)?;
+    assert_eq!(rt; (grant.base, grant.size, grant.flags), (0x400000, 65536, 0));
+    assert_eq!(rt; system.load(0x400000), 0);
+    assert_eq!(rt;
+        counted::<Brand>(&mut system, 0x40fff8, 0x1122_3344_5566_7788, Blank::new(1)),
+        0x1122_3344_5566_7788
+    );
+    assert_eq!(rt; system.load_byte(0x40fff9), 0x77);
+    system.store_byte(0x40ffff, 0xaa);
+    assert_eq!(rt; system.load(0x40fff8), 0xaa22_3344_5566_7788);
+    assert_eq!(rt; system.load(0x40fff0), 0);
+    Ok(())
+}
