@@ -1,0 +1,6 @@
+pub mod Request
+pub mod Bins
+pub mod Head
+pub mod HeadLaws
+pub mod Chunk
+pub mod ChunkLaws
