@@ -48,7 +48,8 @@ impl From<Dr7Flags> for Dr7Value {
 }
 
 impl Dr7Value {
-    fn valid_bits() -> u64
+    /// The bits that a value may have: those of the flags and fields.
+    pub fn valid_bits() -> u64
         ensures { result ≡ dr7_valid }
     {
         Dr7Flags::all().bits() | 0xFFFF_0000

@@ -1,0 +1,10 @@
+pub mod Cpu
+pub mod Keeping
+pub mod Update
+pub mod Msr
+pub mod Debug
+pub mod Priority
+pub mod XCr0
+pub mod Cet
+pub mod Cr3
+pub mod Star
