@@ -2,3 +2,6 @@ pub mod Ends
 pub mod Ordered
 pub mod Overlap
 pub mod Trees
+pub mod Places
+pub mod Search
+pub mod Cursor

@@ -15,14 +15,17 @@ use Rattle.meminterval.specs.Interval.{by_ends, common, overlaps}
 use Rattle.meminterval.specs.Query.{to_visit, IsWalk, IsSoundNode}
 use Rattle.meminterval.specs.Subtree.{raised, greatest_end, tree_of_node}
 use Rattle.meminterval.specs.Tree.{Tree, Leaf, Fork, entries, levels, visited}
-use Rattle.meminterval.proofs.Ordered.{all_map, all_front, all_back, all_append, after}
+use Rattle.meminterval.proofs.Ordered.{all_map, all_append, after}
+use Rattle.meminterval.proofs.Trees.{visited_all, length_visited}
+use Rattle.meminterval.specs.Place.{place_from}
+use Rattle.meminterval.proofs.Search.{place_nowhere, place_past}
 
 module _ {T : Type 0} (cmp : T → T → Ordering) where
   -- x is at most y
   abbrev pub UpTo : T → T → Type 0
   UpTo x y = is_gt (cmp x y) ≡ false
 
-  -- x is at most y, if there is a y
+  -- there is a y, and x is at most that
   abbrev UpToSome : T → Option T → Type 0
   UpToSome x None = ⊥
   UpToSome x (Some y) = UpTo x y
@@ -106,44 +109,55 @@ module _ {T V : Type 0} (cmp : T → T → Ordering) (o : IsTotalOrder cmp) wher
             (λ f h. raised_keeps cmp o f.0.end m (greatest_end cmp r) h) (entries r) (ends_within r),
       )
 
-  visited_all : (P : Interval T × V → Type 0) (t : Tree (Interval T × V)) → AllItems P (entries t) → AllItems P (visited t)
-  visited_all P Leaf a = tt
-  visited_all P (Fork l e r) a =
-      let b = all_back P (entries l) (e ∷ entries r) a in
-      (b.0, all_append P (visited r) (visited l) (visited_all P r b.1) (visited_all P l (all_front P (entries l) (e ∷ entries r) a)))
-
   filter_none : (p : Interval T × V → Bool) (es : List (Interval T × V)) → AllItems (λ e. p e ≡ false) es → filter p es ≡ []
   filter_none p [] a = refl
   filter_none p (e ∷ es) a = rw a.0 (filter_none p es a.1)
 
   module _ (i : Interval T) (l : Tree (Interval T × V)) (e : Interval T × V) (r : Tree (Interval T × V)) where
     -- where nothing ends above the start
-    pub none_overlap : (g : T) → Some g ≡ greatest_end cmp (Fork l e r) → is_lt (cmp i.start g) ≡ false → filter (λ f. overlaps cmp f.0 i) (visited (Fork l e r)) ≡ []
-    none_overlap g p h = filter_none (λ f. overlaps cmp f.0 i) (visited (Fork l e r)) (visited_all (λ f. overlaps cmp f.0 i ≡ false) (Fork l e r)
+    pub nothing_overlaps : (g : T) → Some g ≡ greatest_end cmp (Fork l e r) → is_lt (cmp i.start g) ≡ false → AllItems (λ f. overlaps cmp f.0 i ≡ false) (visited (Fork l e r))
+    nothing_overlaps g p h = visited_all (λ f. overlaps cmp f.0 i ≡ false) (Fork l e r)
         (all_map (λ f. UpToSome cmp f.0.end (greatest_end cmp (Fork l e r))) (λ f. overlaps cmp f.0 i ≡ false)
         (λ f q. let q' = subst (UpToSome cmp f.0.end) (sym p) q in ends_before cmp o f.0 i (chain cmp o f.0.end g i.start q' (up_to cmp o i.start g h)))
-        (entries (Fork l e r)) (ends_within (Fork l e r))))
+        (entries (Fork l e r)) (ends_within (Fork l e r)))
 
     -- where the node starts at the end or above
-    pub left_overlaps : IsOrdered (by_ends cmp) (entries (Fork l e r)) → is_lt (cmp e.0.start i.end) ≡ false
-        → filter (λ f. overlaps cmp f.0 i) (visited (Fork l e r)) ≡ filter (λ f. overlaps cmp f.0 i) (visited l)
-    left_overlaps s h =
+    pub right_overlaps : IsOrdered (by_ends cmp) (entries (Fork l e r)) → is_lt (cmp e.0.start i.end) ≡ false → AllItems (λ f. overlaps cmp f.0 i ≡ false) (visited r)
+    right_overlaps s h =
         let far = up_to cmp o e.0.start i.end h in
-        let here = starts_after cmp o e.0 i far in
-        let right : filter (λ f. overlaps cmp f.0 i) (visited r) ≡ [] = filter_none (λ f. overlaps cmp f.0 i) (visited r) (visited_all (λ f. overlaps cmp f.0 i ≡ false) r
+        visited_all (λ f. overlaps cmp f.0 i ≡ false) r
         (all_map (λ f. by_ends cmp e.0 f.0 ≡ Less) (λ f. overlaps cmp f.0 i ≡ false)
         (λ f q. starts_after cmp o f.0 i (chain cmp o i.end e.0.start f.0.start far (start_up_to cmp o e.0 f.0 (cmp e.0.start f.0.start) (cmp e.0.end f.0.end) refl q)))
-        (entries r) (after (by_ends cmp) (entries l) e (entries r) s))) in
-        rw here (filter-append (λ f. overlaps cmp f.0 i) (visited r) (visited l) ∙ ap (λ es. es ++ filter (λ f. overlaps cmp f.0 i) (visited l)) right)
+        (entries r) (after (by_ends cmp) (entries l) e (entries r) s))
 
-    not_true : (b : Bool) → not b ≡ true → b ≡ false
+    pub node_overlaps : is_lt (cmp e.0.start i.end) ≡ false → overlaps cmp e.0 i ≡ false
+    node_overlaps h = starts_after cmp o e.0 i (up_to cmp o e.0.start i.end h)
+
+    left_overlaps : IsOrdered (by_ends cmp) (entries (Fork l e r)) → is_lt (cmp e.0.start i.end) ≡ false
+        → filter (λ f. overlaps cmp f.0 i) (visited (Fork l e r)) ≡ filter (λ f. overlaps cmp f.0 i) (visited l)
+    left_overlaps s h =
+        let right = filter_none (λ f. overlaps cmp f.0 i) (visited r) (right_overlaps s h) in
+        rw (node_overlaps h) (filter-append (λ f. overlaps cmp f.0 i) (visited r) (visited l) ∙ ap (λ es. es ++ filter (λ f. overlaps cmp f.0 i) (visited l)) right)
+
+    pub not_true : (b : Bool) → not b ≡ true → b ≡ false
     not_true true h = absurd (true≢false (sym h))
     not_true false h = refl
+
+    -- no place in a tree below which nothing ends above the start
+    pub no_place : (g : T) → Some g ≡ greatest_end cmp (Fork l e r) → not (is_lt (cmp i.start g)) ≡ true → (k : ℕ) → place_from (λ f. overlaps cmp f.0 i) k (visited (Fork l e r)) ≡ None
+    no_place g p h k = place_nowhere (λ f. overlaps cmp f.0 i) (visited (Fork l e r)) k (nothing_overlaps g p (not_true (is_lt (cmp i.start g)) h))
+
+    -- nor in the right subtree where the node starts at the end or above
+    pub no_place_right : IsOrdered (by_ends cmp) (entries (Fork l e r)) → is_lt (cmp e.0.start i.end) ≡ false → (n k : ℕ) → n ≡ length (entries r)
+        → place_from (λ f. overlaps cmp f.0 i) n (visited r) ≡ place_from (λ f. overlaps cmp f.0 i) k (visited r)
+    no_place_right s h n k q =
+        place_past (λ f. overlaps cmp f.0 i) (visited r) n (omega (arith, q, length_visited r))
+        ∙ sym (place_nowhere (λ f. overlaps cmp f.0 i) (visited r) k (right_overlaps s h))
 
     -- the tree is passed over
     pub pruned : (g : T) → Some g ≡ greatest_end cmp (Fork l e r) → not (is_lt (cmp i.start g)) ≡ true → (rest : List (Interval T × V))
         → filter (λ f. overlaps cmp f.0 i) (visited (Fork l e r) ++ rest) ≡ filter (λ f. overlaps cmp f.0 i) rest
-    pruned g p h rest = filter-append (λ f. overlaps cmp f.0 i) (visited (Fork l e r)) rest ∙ ap (λ es. es ++ filter (λ f. overlaps cmp f.0 i) rest) (none_overlap g p (not_true (is_lt (cmp i.start g)) h))
+    pruned g p h rest = filter-append (λ f. overlaps cmp f.0 i) (visited (Fork l e r)) rest ∙ ap (λ es. es ++ filter (λ f. overlaps cmp f.0 i) rest) (filter_none (λ f. overlaps cmp f.0 i) (visited (Fork l e r)) (nothing_overlaps g p (not_true (is_lt (cmp i.start g)) h)))
 
     -- the right subtree is passed over
     pub pruned_right : IsOrdered (by_ends cmp) (entries (Fork l e r)) → is_lt (cmp e.0.start i.end) ≡ false → (rest : List (Interval T × V))

@@ -1,11 +1,23 @@
--- The levels of a tree against its number of pairs.
+-- The levels of a tree against its number of pairs, and its pairs in the order of a query.
 use Rattle.std.proofs.Common.{◌≡◌, ℕ, suc, ◌+◌, ◌≤◌, max, ◌∷◌, length, refl, ap, inl, inr, arith, length-append, ◌*◌}
 use Rattle.std.proofs.lemmas.Bool.{cases_lt}
-use Rattle.meminterval.specs.Tree.{Tree, Leaf, Fork, entries, levels, IsBalanced, fibonacci, DifferByAtMost}
+use Rattle.meminterval.specs.Entries.{AllItems}
+use Rattle.meminterval.specs.Tree.{Tree, Leaf, Fork, entries, levels, visited, IsBalanced, fibonacci, DifferByAtMost}
+use Rattle.meminterval.proofs.Ordered.{all_front, all_back, all_append}
 
 module _ {E : Type 0} where
   pub length_fork : (l : Tree E) (e : E) (r : Tree E) → length (entries (Fork l e r)) ≡ length (entries l) + length (entries r) + 1
   length_fork l e r = omega (arith, length-append (entries l) (e ∷ entries r))
+
+  pub length_visited : (t : Tree E) → length (visited t) ≡ length (entries t)
+  length_visited Leaf = refl
+  length_visited (Fork l e r) = omega (arith, length_visited l, length_visited r, length-append (visited r) (visited l), length_fork l e r)
+
+  pub visited_all : (P : E → Type 0) (t : Tree E) → AllItems P (entries t) → AllItems P (visited t)
+  visited_all P Leaf a = tt
+  visited_all P (Fork l e r) a =
+      let b = all_back P (entries l) (e ∷ entries r) a in
+      (b.0, all_append P (visited r) (visited l) (visited_all P r b.1) (visited_all P l (all_front P (entries l) (e ∷ entries r) a)))
 
   -- a tree has a pair on each level
   pub levels_within : (t : Tree E) → levels t ≤ length (entries t)

@@ -1,6 +1,9 @@
 pub mod Entries
 pub mod Entry
 pub mod Interval
+pub mod Lending
+pub mod Place
 pub mod Query
+pub mod QueryMut
 pub mod Subtree
 pub mod Tree

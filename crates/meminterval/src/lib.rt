@@ -3,10 +3,13 @@
 
 mod deletion;
 mod entry;
+mod entry_mut;
 mod insertion;
 mod interval;
 mod iterators;
+mod iterators_mut;
 mod node;
+mod opening;
 mod rotation;
 mod shortening;
 #[cfg(test)]
@@ -14,6 +17,8 @@ mod tests;
 mod tree;
 
 pub use entry::Entry;
+pub use entry_mut::EntryMut;
 pub use interval::Interval;
 pub use iterators::IntervalTreeIterator;
+pub use iterators_mut::{IntervalTreeIteratorMut, Reclose};
 pub use tree::IntervalTree;

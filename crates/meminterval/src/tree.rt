@@ -1,17 +1,20 @@
 //! The tree of intervals.
-ghost use Rattle.std.specs.Prelude.{◌≡◌, ◌+◌, ◌-◌, ◌^◌, ◌<◌, ◌≤◌, [], drop, length, map, take, IfOk, IsOk, IsSome, IsTrue, OnErr, OnOk, ◌↔◌};
+ghost use Rattle.std.specs.Prelude.{◌≡◌, ◌+◌, ◌-◌, ◌^◌, ◌<◌, ◌≤◌, [], drop, length, map, take, IfOk, IfSome, IsOk, IsSome, IsTrue, OnErr, OnOk, ◌↔◌};
 ghost use Rattle.std.specs.Option.{option_map, option_copied};
 ghost use Rattle.meminterval.specs.Entries.{AllItems, IsOrdered, first, last, value_at, with_entries, with_entry, without_key};
 ghost use Rattle.meminterval.specs.Entry.{pair_of};
-ghost use Rattle.meminterval.specs.Interval.{ClonesEqual, ClonesItself, HasOwnStart, by_ends, starts_below, starts_from, with_end};
+ghost use Rattle.meminterval.specs.Interval.{ClonesEqual, ClonesItself, HasOwnStart, by_ends, overlaps, starts_below, starts_from, with_end};
+ghost use Rattle.meminterval.specs.Place.{place_from};
 ghost use Rattle.meminterval.specs.Query.{overlapping};
-ghost use Rattle.meminterval.specs.Tree.{Leaf, entries, fibonacci, height, levels, map_pairs, IsBalanced};
+ghost use Rattle.meminterval.specs.Tree.{Leaf, entries, fibonacci, height, levels, map_pairs, visited, IsBalanced};
 
 use crate::deletion::{delete_below, take_greatest, take_least};
 use crate::entry::Entry;
+use crate::entry_mut::EntryMut;
 use crate::insertion::insert_below;
 use crate::interval::Interval;
 use crate::iterators::IntervalTreeIterator;
+use crate::iterators_mut::{IntervalTreeIteratorMut, place_below};
 use crate::node::{Node, Subtree, clone_below};
 use crate::shortening::shorten_below;
 use std::alloc::{AllocError, Global};
@@ -46,6 +49,8 @@ impl<T: Ord + Clone, V> Model for IntervalTree<T, V> {
 }
 
 impl<T: Ord + Clone, V> IntervalTree<T, V> {
+    ghost use Rattle.meminterval.specs.QueryMut.{left_of, whole};
+
     /// Makes the empty tree.
     pub fn new() -> Self
         ensures { result ≡ Leaf }
@@ -156,6 +161,53 @@ impl<T: Ord + Clone, V> IntervalTree<T, V> {
         ensures { IfOk result (λ pairs. pairs ≡ overlapping T.cmp interval self.now) }
     {
         IntervalTreeIterator::new(alloc, &self.root, interval)
+    }
+
+    /// A cursor over the pairs whose intervals overlap `interval`, which lends their values to be
+    /// changed.
+    pub fn query_mut(
+        &mut self,
+        interval: Interval<T>,
+    ) -> IntervalTreeIteratorMut<'_, T, V, EntryMut<T, V>>
+    where
+        V: Drop,
+        ensures same { result.tree.ghost_name ≡ self.entry.ghost_name }
+        ensures whole { whole result ≡ self.old }
+        ensures pairs { left_of T.cmp result ≡ overlapping T.cmp interval self.old }
+    {
+        IntervalTreeIteratorMut::new(self, interval)
+    }
+
+    /// The least place from `passed` on, in the order of a query, at which a pair overlaps
+    /// `interval`.
+    pub(crate) fn place_from(&self, passed: usize, interval: &Interval<T>) -> Option<usize>
+        ensures place { result ≡ place_from (λ e. overlaps T.cmp e.0 interval.now) passed (visited self.now) }
+        ensures within { IfSome result (λ k. k < length (visited self.now)) }
+        ensures few { length (visited self.now) ≤ 2 ^ 63 }
+    {
+        place_below(&self.root, passed, interval)
+    }
+
+    /// Opens the tree at a place, and leaves the empty one.
+    pub(crate) fn open(&mut self, place: usize) -> EntryMut<T, V>
+    where
+        V: Drop,
+        requires { place < length (visited self.old) }
+        ensures whole { result.tree ≡ self.old }
+        ensures place { result.place ≡ place }
+        ensures empty { self.new ≡ Leaf }
+    {
+        let root = mem::replace(&mut self.root, Subtree::Empty);
+        EntryMut::new(root, place)
+    }
+
+    /// Puts the tree of an entry in place of this one.
+    pub(crate) fn close(&mut self, entry: EntryMut<T, V>)
+    where
+        V: Drop,
+        ensures { self.new ≡ entry.tree }
+    {
+        self.root = entry.close();
     }
 
     /// Puts a pair in. Where its interval is there already, the old value stays, the new one is
