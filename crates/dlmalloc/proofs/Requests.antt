@@ -1,0 +1,114 @@
+-- Requests: their sizes, and the blocks that they are given.
+use Rattle.std.proofs.Common.{◌≡◌, ℕ, ◌+◌, ◌-◌, ◌*◌, ◌/◌, ◌%◌, ◌^◌, ◌<◌, ◌≤◌, Bool, true, false, ◌==◌, ◌||◌, if◌then◌else◌, List, [], ◌∷◌, ◌++◌, Option, Some, None, Result, Ok, Err, OnErr, refl, sym, ◌∙◌, ap, subst, arith, nat_lt, nat_le, pow_mono}
+use native.Mathlib.Decide.{dec_lt}
+use Rattle.std.specs.Prelude.{unwrap_or}
+use Rattle.std.specs.Int.{IsPowerOfTwo}
+use Rattle.std.specs.List.{flat_map}
+use Rattle.std.proofs.lemmas.Grind.{flat_map-append}
+use Rattle.std.proofs.lemmas.Bool.Decides.{nat_tests}
+use Rattle.heap_memory.specs.declared.grant.Grant.{Grant}
+use Rattle.dlmalloc_chunks.specs.Request.{padded, limit}
+use Rattle.dlmalloc_chunks.specs.declared.extent.Extent.{Extent}
+use Rattle.dlmalloc_chunks.specs.declared.extent.Kind.TheVariants.{Used}
+use Rattle.dlmalloc.specs.Extents.{extent_at}
+use Rattle.dlmalloc.specs.State.{HeapState, Segment, extents_in, is_top}
+use Rattle.dlmalloc.specs.Blocks.{IsBlock}
+use Rattle.dlmalloc.specs.Choice.{chosen}
+use Rattle.dlmalloc.specs.Heap.{state_of}
+use Rattle.dlmalloc.specs.declared.heap.Dlmalloc.{Dlmalloc}
+use Rattle.dlmalloc.specs.Taken.{replaced, cut, leaves_rest, taken, in_segments}
+use Rattle.dlmalloc.proofs.Places.{nat_is}
+use Rattle.dlmalloc.proofs.Chosen.{nat_same}
+use Rattle.dlmalloc.proofs.Growing.{granularity_whole, no_segments}
+
+-- a power of two below 2 ^ 64 is at most 2 ^ 63
+granularity_bound : (g : ℕ) → IsPowerOfTwo g → g < 2 ^ 64 → g ≤ 2 ^ 63
+granularity_bound g power less =
+    elim (dec_lt 63 power.0) [
+      | yes more ↦ absurd (let k : 64 ≤ power.0 = omega arith in let high : 2 ^ 64 ≤ 2 ^ power.0 = pow_mono k in let is = power.1 in omega arith)
+      | no few ↦ (let k : power.0 ≤ 63 = omega arith in let low : 2 ^ power.0 ≤ 2 ^ 63 = pow_mono k in let is = power.1 in omega arith)
+    ]
+
+-- a request that is not too large leaves room for the grant that it may need
+pub request_small : (g size n : ℕ) → IsPowerOfTwo g → 16 ≤ g → size < limit g → n % 16 ≡ 0 → n ≤ size + 32 → n ≡ padded size → n + 96 + g ≤ 2 ^ 64
+unfolding padded limit
+request_small g size n power least less whole near is = go (g == 16) refl (nat_lt size 23) refl less is
+  where
+    units : g % 16 ≡ 0
+    units = granularity_whole g power least
+
+    go : (b : Bool) → (g == 16) ≡ b → (s : Bool) → nat_lt size 23 ≡ s → size < (if b then 2 ^ 64 - 135 else 2 ^ 64 - g - 103) → n ≡ (if s then 32 else (size + 8 + (16 - 1)) / 16 * 16) → n + 96 + g ≤ 2 ^ 64
+    go true sixteen true small bound is = let sixteen' = nat_is sixteen in omega arith
+    go true sixteen false large bound is = let sixteen' = nat_is sixteen in omega arith
+    go false other true small bound is = let most = granularity_bound g power (omega arith) in omega arith
+    go false other false large bound is = let u = units in let most = granularity_bound g power (omega arith) in omega arith
+
+-- ---- the block that is cut
+
+replaced_segments : (at : ℕ) (others : Extent → List Extent) (segments : List Segment) → flat_map (λ segment. segment.extents) (in_segments (replaced at others) segments) ≡ replaced at others (flat_map (λ segment. segment.extents) segments)
+replaced_segments at others [] = refl
+replaced_segments at others (segment ∷ segments) =
+    ap (λ (l : List Extent). replaced at others segment.extents ++ l) (replaced_segments at others segments)
+    ∙ sym (flat_map-append (λ (extent : Extent). if extent.at == at then others extent else extent ∷ []) segment.extents (flat_map (λ segment. segment.extents) segments))
+
+replaced_found : (at : ℕ) (others : Extent → List Extent) (extents : List Extent) (extent first : Extent) (rest : List Extent) → extent_at at extents ≡ Some extent → others extent ≡ first ∷ rest → first.at ≡ at → extent_at at (replaced at others extents) ≡ Some first
+replaced_found at others [] extent first rest found is place = absurd (cc)
+replaced_found at others (one ∷ extents) extent first rest found is place = go (one.at == at) refl found (replaced_found at others extents extent first rest)
+  where
+    here : (first.at == at) ≡ true
+    here = subst (λ (k : ℕ). (first.at == k) ≡ true) place (nat_same first.at)
+
+    go : (b : Bool) → (one.at == at) ≡ b → (if b then Some one else extent_at at extents) ≡ Some extent →
+        (extent_at at extents ≡ Some extent → others extent ≡ first ∷ rest → first.at ≡ at → extent_at at (replaced at others extents) ≡ Some first) →
+        extent_at at ((if b then others one else one ∷ []) ++ replaced at others extents) ≡ Some first
+    go true test found later =
+        let same : one ≡ extent = ap (λ (o : Option Extent). unwrap_or o one) found in
+        subst (λ (l : List Extent). extent_at at (l ++ replaced at others extents) ≡ Some first) (sym (ap others same ∙ is)) (rw here refl)
+    go false test found later = rw test (later found is place)
+
+or_false : (a b : Bool) → (a || b) ≡ false → b ≡ false
+or_false true b h = absurd (cc)
+or_false false b h = h
+
+-- what is cut holds the block, and little more
+pub taken_block : (old : HeapState) (extent : Extent) (n size : ℕ) → extent_at extent.at (extents_in old) ≡ Some extent → n ≤ extent.size → size + 8 ≤ n → n ≤ size + 32 → IsBlock (taken old extent n) (extent.at + 16) size
+taken_block old extent n size there fits holds near = go (leaves_rest n extent) refl
+  where
+    back : extent.at + 16 - 16 ≡ extent.at
+    back = omega arith
+
+    found : (first : Extent) (rest : List Extent) → cut n extent ≡ first ∷ rest → first.at ≡ extent.at → extent_at (extent.at + 16 - 16) (extents_in (taken old extent n)) ≡ Some first
+    found first rest is place =
+        (λ i. extent_at (back i) (replaced_segments extent.at (cut n) old.segments i)) ∙ replaced_found extent.at (cut n) (extents_in old) extent first rest there is place
+
+    go : (b : Bool) → leaves_rest n extent ≡ b → IsBlock (taken old extent n) (extent.at + 16) size
+    go true test = record {
+      extent = record { at = extent.at; size = n; kind = Used };
+      there = found (record { at = extent.at; size = n; kind = Used }) ((record { at = extent.at + n; size = extent.size - n; kind = extent.kind }) ∷ []) (rw test refl) refl;
+      low = omega arith;
+      used = refl;
+      holds = holds;
+      little = omega arith;
+    }
+    go false test =
+        let whole : nat_le (n + 32) extent.size ≡ false = or_false (is_top extent.kind) (nat_le (n + 32) extent.size) test in
+        let less : extent.size < n + 32 = grind (arith, nat_tests) in
+        record {
+          extent = record extent { kind = Used };
+          there = found (record extent { kind = Used }) [] (rw test refl) refl;
+          low = omega arith;
+          used = refl;
+          holds = omega arith;
+          little = omega arith;
+        }
+
+pub on_err : {T E : Type 0} (r : Result T E) {P : Type 0} → P → OnErr r P
+on_err (Ok x) holds = tt
+on_err (Err e) holds = holds
+
+-- nothing is chosen in a heap with no segment
+pub none_chosen_empty : {A : Type 0} (regions : A → List Grant) (word : A → ℕ → ℕ) (heap : Dlmalloc A) → heap.size ≡ 0 → (n : ℕ) → 32 ≤ n → chosen (state_of word heap) n ≡ None
+none_chosen_empty regions word heap none n least =
+    let some : nat_le n 0 ≡ false = grind (arith, nat_tests) in
+    let more : nat_lt n 0 ≡ false = grind (arith, nat_tests) in
+    ap (λ (l : List Segment). chosen (record (state_of word heap) { segments = l }) n) (no_segments word heap none) ∙ rw (some, more) refl

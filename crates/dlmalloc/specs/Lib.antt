@@ -1,0 +1,11 @@
+pub mod Regions
+pub mod Extents
+pub mod State
+pub mod Choice
+pub mod Taken
+pub mod Freed
+pub mod Granted
+pub mod Heap
+pub mod Blocks
+pub mod Grown
+pub mod Served

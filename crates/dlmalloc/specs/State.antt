@@ -1,0 +1,67 @@
+-- The state of a heap: its segments with their extents, and the numbers that steer it.
+use Rattle.std.specs.Prelude.{ℕ, ◌-◌, ◌^◌, Bool, true, false, not, ◌&&◌, ◌==◌, if◌then◌else◌, List, [], flat_map, find, unwrap_or, option_map}
+use Rattle.dlmalloc_chunks.specs.declared.extent.Extent.{Extent}
+use Rattle.dlmalloc_chunks.specs.declared.extent.Kind.{Kind}
+use Rattle.dlmalloc_chunks.specs.declared.extent.Kind.TheVariants.{Used, Free, Victim, Top, Record, Foot}
+
+-- a run of granted bytes, and the extents that tile it
+pub record Segment : Type 0 where
+  pub base : ℕ
+  pub size : ℕ
+  pub flags : ℕ
+  pub extents : List Extent
+
+pub record HeapState : Type 0 where
+  -- the head first; it ends with the top and its foot
+  pub segments : List Segment
+  -- where the free extent begins that is cut first for small requests, 0 where there is none
+  pub victim : ℕ
+  -- regions are asked for in multiples of this number of bytes
+  pub granularity : ℕ
+  -- how many large chunks are freed between two release passes, and how many are still to come
+  pub rate : ℕ
+  pub countdown : ℕ
+
+-- the extents of all segments
+abbrev pub extents_in : HeapState → List Extent
+extents_in heap = flat_map (λ segment. segment.extents) heap.segments
+
+abbrev pub is_top : Kind → Bool
+is_top Used = false
+is_top Free = false
+is_top Victim = false
+is_top Top = true
+is_top Record = false
+is_top Foot = false
+
+-- whether an extent is free and not the top
+abbrev pub is_plain : Kind → Bool
+is_plain Used = false
+is_plain Free = true
+is_plain Victim = true
+is_plain Top = false
+is_plain Record = false
+is_plain Foot = false
+
+-- whether it is the victim, or else in a bin
+abbrev pub is_victim : HeapState → Extent → Bool
+is_victim heap extent = is_plain extent.kind && extent.at == heap.victim
+
+abbrev pub is_binned : HeapState → Extent → Bool
+is_binned heap extent = is_plain extent.kind && not (extent.at == heap.victim)
+
+-- an extent, where the victim is told from the other free ones
+abbrev pub shown : HeapState → Extent → Extent
+shown heap extent = if is_victim heap extent then record extent { kind = Victim } else extent
+
+-- the size of the first extent that is of some sort, 0 where none is
+abbrev pub size_where : (Extent → Bool) → List Extent → ℕ
+size_where is extents = unwrap_or (option_map (λ extent. extent.size) (find is extents)) 0
+
+-- a countdown that begins: a rate of 0 never comes to its end
+abbrev pub countdown_from : ℕ → ℕ
+countdown_from rate = if rate == 0 then 2 ^ 64 - 1 else rate
+
+-- a new heap (dlmalloc: `Dlmalloc::new`)
+abbrev pub new_heap : HeapState
+new_heap = record { segments = []; victim = 0; granularity = 65536; rate = 4095; countdown = 0 }

@@ -1,0 +1,150 @@
+// Freeing a block.
+ghost use Rattle.std.specs.Prelude.{◌≡◌, ◌≢◌, ℕ, ◌+◌, ◌-◌, ◌^◌, ◌<◌, ◌≤◌, ◌%◌, ◌==◌, true, false, if◌then◌else◌, [], ◌∷◌, Some, IfSome, IfNone};
+ghost use Rattle.dlmalloc_chunks.specs.declared.extent.Kind.TheVariants.{Used};
+ghost use Rattle.dlmalloc_chunks.specs.Chunk.{HasHead, HasFoot, AreStored};
+ghost use Rattle.dlmalloc_chunks.specs.Head.{size_of, pinuse_of, free_of, head_of, without_pinuse};
+ghost use Rattle.dlmalloc.specs.Extents.{extent_at};
+ghost use Rattle.dlmalloc.specs.State.{extents_in};
+ghost use Rattle.dlmalloc.specs.Freed.{freed};
+ghost use Rattle.dlmalloc.specs.Blocks.{IsBlock, KeepsBlocks};
+ghost use Rattle.dlmalloc.specs.Heap.{chunks_of, state_of, IsSound};
+
+use crate::heap::Dlmalloc;
+use crate::layout::{BLOCK, HEAD, PINUSE};
+use dlmalloc_chunks::chunk;
+use heap_memory::{Allocator, Links};
+use std::sync::ledger::Ledger;
+use step_count::Steps;
+
+impl<A: Allocator> Dlmalloc<A> {
+    /// Frees the block at an address, of the bytes that were asked for (dlmalloc: `Dlmalloc::free`). Its chunk joins the
+    /// free chunks beside it. The size and the alignment are not read: the chunk's head tells its size.
+    pub fn free<L: Ledger>(&mut self, ptr: u64, size: u64, align: u64, steps: &mut Steps<L>)
+        requires sound { IsSound A.regions A.word self.old }
+        requires block { IsBlock (state_of A.word self.old) ptr size }
+        ensures state { state_of A.word self.new ≡ freed (state_of A.word self.old) (ptr - 16) }
+        ensures sound { IsSound A.regions A.word self.new }
+        ensures blocks { KeepsBlocks (extents_in (state_of A.word self.new)) (A.word self.old.system) (A.word self.new.system) }
+        ensures regions { A.regions self.new.system ≡ A.regions self.old.system }
+        ensures follows { A.follows self.old.system [] self.new.system }
+    {
+        self.free_block(ptr, steps);
+    }
+
+    /// Frees a block whose size is not told; nothing where there is none (dlmalloc: `c_free`).
+    pub fn c_free<L: Ledger>(&mut self, ptr: Option<u64>, steps: &mut Steps<L>)
+        requires sound { IsSound A.regions A.word self.old }
+        requires block { IfSome ptr (λ address. (size : ℕ) × IsBlock (state_of A.word self.old) address size) }
+        ensures state { IfSome ptr (λ address. state_of A.word self.new ≡ freed (state_of A.word self.old) (address - 16)) }
+        ensures none { IfNone ptr (self.new ≡ self.old) }
+        ensures sound { IsSound A.regions A.word self.new }
+        ensures blocks { KeepsBlocks (extents_in (state_of A.word self.new)) (A.word self.old.system) (A.word self.new.system) }
+        ensures regions { A.regions self.new.system ≡ A.regions self.old.system }
+        ensures follows { A.follows self.old.system [] self.new.system }
+    {
+        if let Some(address) = ptr {
+            self.free_block(address, steps);
+        }
+    }
+
+    /// Frees a block of some size.
+    fn free_block<L: Ledger>(&mut self, ptr: u64, steps: &mut Steps<L>)
+        requires sound { IsSound A.regions A.word self.old }
+        requires block { (size : ℕ) × IsBlock (state_of A.word self.old) ptr size }
+        ensures state { state_of A.word self.new ≡ freed (state_of A.word self.old) (ptr - 16) }
+        ensures sound { IsSound A.regions A.word self.new }
+        ensures blocks { KeepsBlocks (extents_in (state_of A.word self.new)) (A.word self.old.system) (A.word self.new.system) }
+        ensures regions { A.regions self.new.system ≡ A.regions self.old.system }
+        ensures follows { A.follows self.old.system [] self.new.system }
+    {
+        let at = ptr - BLOCK;
+        let size = chunk::size(&self.system, at, steps);
+        self.dispose_chunk(at, size, steps);
+    }
+
+    /// Frees a chunk in use, with the free chunks beside it: they become the top where it follows, else one free chunk,
+    /// which is the victim where one of them was.
+    pub(crate) fn dispose_chunk<L: Ledger>(&mut self, at: u64, size: u64, steps: &mut Steps<L>)
+        requires sound { IsSound A.regions A.word self.old }
+        requires there { 0 < self.old.size }
+        requires chunk { extent_at at (chunks_of A.word self.old) ≡ Some (record { at = at; size = size; kind = Used }) }
+        ensures state { state_of A.word self.new ≡ freed (state_of A.word self.old) at }
+        ensures sound { IsSound A.regions A.word self.new }
+        ensures blocks { KeepsBlocks (extents_in (state_of A.word self.new)) (A.word self.old.system) (A.word self.new.system) }
+        ensures regions { A.regions self.new.system ≡ A.regions self.old.system }
+        ensures follows { A.follows self.old.system [] self.new.system }
+    {
+        let from = self.free_begin(at, steps);
+        let to = self.free_end(at + size, steps);
+        if to == self.top {
+            self.top_size += to - from;
+            self.top = from;
+            self.system
+                .store_counted(from + HEAD, self.top_size + PINUSE, steps);
+            if from <= self.victim {
+                self.victim = 0;
+                self.victim_size = 0;
+            }
+        } else {
+            make_free(&mut self.system, from, to - from, to != at + size, steps);
+            if from <= self.victim && self.victim < to {
+                self.victim = from;
+                self.victim_size = to - from;
+            }
+        }
+    }
+
+    /// Where the free chunk before a chunk begins; the chunk's own address where none stands there.
+    fn free_begin<L: Ledger>(&self, at: u64, steps: &mut Steps<L>) -> u64
+        requires head { HasHead (A.regions self.now.system) at }
+        requires foot { HasFoot (A.regions self.now.system) at }
+        requires fits { pinuse_of (A.word self.now.system (at + 8)) ≡ false → A.word self.now.system at ≤ at }
+        ensures { result ≡ (if pinuse_of (A.word self.now.system (at + 8)) then at else at - A.word self.now.system at) }
+    {
+        if chunk::pinuse(&self.system, at, steps) {
+            at
+        } else {
+            chunk::prev(&self.system, at, steps)
+        }
+    }
+
+    /// Where the free chunk at an address ends; the address where none stands there, and at the top.
+    fn free_end<L: Ledger>(&self, at: u64, steps: &mut Steps<L>) -> u64
+        requires head { HasHead (A.regions self.now.system) at }
+        requires fits { at ≢ self.now.top → free_of (A.word self.now.system (at + 8)) ≡ true → at + size_of (A.word self.now.system (at + 8)) < 2 ^ 64 }
+        ensures { result ≡ (if at == self.now.top then at else
+            if free_of (A.word self.now.system (at + 8)) then at + size_of (A.word self.now.system (at + 8)) else at) }
+    {
+        if at == self.top || chunk::inuse(&self.system, at, steps) {
+            at
+        } else {
+            chunk::next(&self.system, at, steps)
+        }
+    }
+}
+
+/// Makes a free chunk; the chunk before it is in use. The chunk behind it is told, where it does not say so already.
+fn make_free<M: Links, L: Ledger>(
+    memory: &mut M,
+    chunk: u64,
+    size: u64,
+    is_told: bool,
+    steps: &mut Steps<L>,
+)
+    requires size { size % 8 ≡ 0 }
+    requires long { 32 ≤ size }
+    requires head { HasHead (M.regions memory.old) chunk }
+    requires foot { HasFoot (M.regions memory.old) (chunk + size) }
+    requires next { HasHead (M.regions memory.old) (chunk + size) }
+    requires told { is_told ≡ true → pinuse_of (M.word memory.old (chunk + size + 8)) ≡ false }
+    ensures stored { AreStored (M.regions memory.old) (M.word memory.old)
+        ((chunk + size + 8, without_pinuse (M.word memory.old (chunk + size + 8))) ∷ (chunk + 8, head_of size true false) ∷ (chunk + size, size) ∷ []) (M.word memory.new) }
+    ensures regions { M.regions memory.new ≡ M.regions memory.old }
+    ensures follows { M.follows memory.old [] memory.new }
+{
+    if is_told {
+        chunk::set_size_and_pinuse_of_free_chunk(memory, chunk, size, steps);
+    } else {
+        chunk::set_free_with_pinuse(memory, chunk, size, chunk + size, steps);
+    }
+}

@@ -1,0 +1,123 @@
+ghost use Rattle.std.specs.Prelude.{◌≡◌, ◌↔◌, ◌≢◌, ℕ, ◌+◌, ◌≤◌, if◌then◌else◌, IsTrue};
+ghost use Rattle.dlmalloc.specs.Regions.{are_ordered};
+ghost use Rattle.dlmalloc.specs.State.{new_heap, countdown_from};
+ghost use Rattle.dlmalloc.specs.Heap.{state_of, IsSound, IsGranularity};
+
+use heap_memory::Allocator;
+
+/// The size of the heap's requests of a new heap, in bytes.
+const DEFAULT_GRANULARITY: u64 = 65536;
+
+/// The number of large chunks that a new heap frees between two release passes.
+const DEFAULT_RATE: u64 = 4095;
+
+/// A heap over a system (dlmalloc: `Dlmalloc`).
+#[derive(Drop)]
+pub struct Dlmalloc<A: Allocator> {
+    pub(crate) system: A,
+    /// The head segment: its first address, its bytes, of which there are none before the first grant, and its flags.
+    pub(crate) base: u64,
+    pub(crate) size: u64,
+    pub(crate) flags: u32,
+    /// The free chunk at the end of the head segment.
+    pub(crate) top: u64,
+    pub(crate) top_size: u64,
+    /// The free chunk that is cut first for small requests. It has no bytes where there is none.
+    pub(crate) victim: u64,
+    pub(crate) victim_size: u64,
+    pub(crate) granularity: u64,
+    pub(crate) rate: u64,
+    pub(crate) countdown: u64,
+}
+
+/// A countdown that begins.
+pub(crate) fn countdown_from(rate: u64) -> u64
+    ensures { result ≡ countdown_from rate }
+{
+    if rate == 0 { u64::MAX } else { rate }
+}
+
+/// Whether a system may be asked for multiples of this number of bytes.
+fn is_granularity(granularity: u64) -> bool
+    ensures { IsTrue result ↔ IsGranularity granularity }
+{
+    granularity.is_power_of_two() && granularity >= 16
+}
+
+impl<A: Allocator> Dlmalloc<A> {
+    ghost use Rattle.std.specs.Borrow.{Lends, sem};
+    ghost use Rattle.dlmalloc.specs.contracts.heap.Dlmalloc.{the_row};
+
+    /// An empty heap over a system whose regions stand by ascending base (dlmalloc: `Dlmalloc::new_with_allocator`).
+    pub fn new_with_allocator(system: A) -> Dlmalloc<A>
+        requires { IsTrue (are_ordered (A.regions system)) }
+        ensures state { state_of A.word result ≡ new_heap }
+        ensures system { result.system ≡ system }
+        ensures sound { IsSound A.regions A.word result }
+    {
+        Dlmalloc {
+            system,
+            base: 0,
+            size: 0,
+            flags: 0,
+            top: 0,
+            top_size: 0,
+            victim: 0,
+            victim_size: 0,
+            granularity: DEFAULT_GRANULARITY,
+            rate: DEFAULT_RATE,
+            countdown: 0,
+        }
+    }
+
+    /// Sets how many large chunks are freed between two release passes, and begins to count them anew. With 0 there is no
+    /// such pass.
+    pub fn set_max_release_check_rate(&mut self, rate: u64)
+        requires sound { IsSound A.regions A.word self.old }
+        ensures state { state_of A.word self.new ≡ record (state_of A.word self.old) { rate = rate; countdown = countdown_from rate } }
+        ensures system { self.new.system ≡ self.old.system }
+        ensures sound { IsSound A.regions A.word self.new }
+    {
+        self.rate = rate;
+        self.countdown = countdown_from(rate);
+    }
+
+    /// Sets the granularity: the system is asked for multiples of it. True exactly for a power of two of at least 16;
+    /// any other number changes nothing.
+    pub fn set_granularity(&mut self, granularity: u64) -> bool
+        requires sound { IsSound A.regions A.word self.old }
+        ensures answer { IsTrue result ↔ IsGranularity granularity }
+        ensures state { state_of A.word self.new ≡ record (state_of A.word self.old) { granularity = if result then granularity else self.old.granularity } }
+        ensures system { self.new.system ≡ self.old.system }
+        ensures sound { IsSound A.regions A.word self.new }
+    {
+        let accepted = is_granularity(granularity);
+        if accepted {
+            self.granularity = granularity;
+        }
+        accepted
+    }
+
+    /// The system, to be changed. The heap stays sound where what is done leaves the regions of its segment, and every
+    /// byte of them that is outside of blocks.
+    pub fn allocator_mut(&mut self) -> &mut A
+        ensures* lends { sem 𝓛 (Lends (the_row A.row) A.row self.entry result (λ w. record self.old { system = w })) }
+        ensures value { result.now ≡ self.old.system }
+    {
+        &mut self.system
+    }
+
+    /// The system.
+    pub fn allocator(&self) -> &A
+        ensures { result.now ≡ self.now.system }
+    {
+        &self.system
+    }
+
+    /// The granularity, in bytes.
+    pub fn granularity(&self) -> u64
+        ensures { result ≡ self.now.granularity }
+    {
+        self.granularity
+    }
+}

@@ -1,0 +1,22 @@
+//! Where things stand in the heap's memory. All numbers are bytes.
+
+/// The place of the head in a chunk.
+pub(crate) const HEAD: u64 = 8;
+
+/// The place of a block in its chunk.
+pub(crate) const BLOCK: u64 = 16;
+
+/// The size of the least chunk.
+pub(crate) const LEAST_CHUNK: u64 = 32;
+
+/// The sizes from here on are large.
+pub(crate) const LEAST_LARGE: u64 = 256;
+
+/// The size of the foot behind the top.
+pub(crate) const FOOT: u64 = 80;
+
+/// What a grant has beside the chunk that it is asked for: the foot, and a least rest of the top.
+pub(crate) const OVERHEAD: u64 = 96;
+
+/// The bit of a head that says that the chunk before is in use.
+pub(crate) const PINUSE: u64 = 1;

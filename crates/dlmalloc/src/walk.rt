@@ -1,0 +1,204 @@
+// Walking over the chunks before the top, and choosing the one that serves a request.
+ghost use Rattle.std.specs.Prelude.{◌≡◌, ◌≢◌, ◌+◌, ◌<◌, ◌≤◌, ◌&&◌, nat_le, if◌then◌else◌, map, option_map, Some, None, IsTrue, IfSome, IsSome, ◌^◌, ◌↔◌, ◌++◌, OnOk, IfOk};
+ghost use Rattle.dlmalloc_chunks.specs.declared.extent.Kind.TheVariants.{Used, Free, Top};
+ghost use Rattle.dlmalloc.specs.Extents.{extent_at};
+ghost use Rattle.dlmalloc.specs.State.{is_plain, is_binned, shown, extents_in};
+ghost use Rattle.dlmalloc.specs.Choice.{least_fit, goes_first, chosen, IsChosen};
+ghost use Rattle.dlmalloc.specs.declared.walk.Place.{Place};
+ghost use Rattle.dlmalloc.specs.declared.walk.Choice.TheVariants.{Chunk, Top as OfTop};
+ghost use Rattle.dlmalloc.specs.Heap.{chunks_of, state_of, IsSound};
+
+use crate::heap::Dlmalloc;
+use crate::layout::{FOOT, LEAST_LARGE};
+use dlmalloc_chunks::{Extent, ExtentList, Kind, chunk};
+use heap_memory::Allocator;
+use std::alloc::{AllocError, Global};
+use std::sync::ledger::Ledger;
+use step_count::Steps;
+
+/// A free chunk before the top.
+#[derive(Clone, Copy)]
+pub(crate) struct Place {
+    /// Its address.
+    pub(crate) at: u64,
+    /// The number of its bytes.
+    pub(crate) size: u64,
+}
+
+/// What serves a request.
+#[derive(Clone, Copy)]
+pub(crate) enum Choice {
+    /// A free chunk before the top: one in a bin, or the victim.
+    Chunk(Place),
+    /// The top.
+    Top,
+}
+
+/// What a chunk is that is in use, or is not.
+fn kind_where(inuse: bool) -> Kind
+    ensures { result ≡ (if inuse then Used else Free) }
+{
+    if inuse { Kind::Used } else { Kind::Free }
+}
+
+/// Whether an extent is free and not the top.
+fn is_plain(kind: Kind) -> bool
+    ensures { result ≡ is_plain kind }
+{
+    matches!(kind, Kind::Free | Kind::Victim)
+}
+
+/// Whether a chunk of this size is smaller than the best one so far, if there is one.
+fn is_better(size: u64, best: Option<Place>) -> bool
+    ensures { IsTrue result ↔ IfSome best (λ place. size < place.size) }
+{
+    best.is_none_or(|place| size < place.size)
+}
+
+impl<A: Allocator> Dlmalloc<A> {
+    /// The chunk that begins at an address, as its head tells it.
+    fn chunk_at<L: Ledger>(&self, at: u64, steps: &mut Steps<L>) -> Extent
+        requires sound { IsSound A.regions A.word self.now }
+        requires there { 0 < self.now.size }
+        requires chunk { IsSome (extent_at at (chunks_of A.word self.now)) }
+        ensures value { extent_at at (chunks_of A.word self.now) ≡ Some result }
+        ensures long { 32 ≤ result.size }
+        ensures within { at + result.size ≤ self.now.top }
+        ensures below { self.now.top < 2 ^ 64 }
+    {
+        Extent {
+            at,
+            size: chunk::size(&self.system, at, steps),
+            kind: kind_where(chunk::inuse(&self.system, at, steps)),
+        }
+    }
+
+    /// Whether a chunk is in a bin and has at least `n` bytes.
+    fn is_fit(&self, n: u64, chunk: &Extent) -> bool
+        ensures { result ≡ (is_binned (state_of A.word self.now) chunk.now && nat_le n chunk.now.size) }
+    {
+        is_plain(chunk.kind) && chunk.at != self.victim && n <= chunk.size
+    }
+
+    /// The least chunk in a bin that has at least `n` bytes.
+    pub(crate) fn find_free<L: Ledger>(&self, n: u64, steps: &mut Steps<L>) -> Option<Place>
+        requires sound { IsSound A.regions A.word self.now }
+        requires there { 0 < self.now.size }
+        ensures least { least_fit (state_of A.word self.now) n ≡ option_map (λ place. place.size) result }
+        ensures there { IfSome result (λ place. extent_at place.at (chunks_of A.word self.now) ≡ Some (record { at = place.at; size = place.size; kind = Free })) }
+        ensures other { IfSome result (λ place. place.at ≢ self.now.victim) }
+        ensures fits { IfSome result (λ place. n ≤ place.size) }
+    {
+        let mut best: Option<Place> = None;
+        let mut at = self.base;
+        while at < self.top {
+            let chunk = self.chunk_at(at, steps);
+            if self.is_fit(n, &chunk) && is_better(chunk.size, best) {
+                best = Some(Place {
+                    at,
+                    size: chunk.size,
+                });
+            }
+            at += chunk.size;
+        }
+        best
+    }
+
+    /// Whether a chunk in a bin that is the least for `n` bytes goes before the victim: where the victim is too small;
+    /// else where it fits exactly, and for a large request where it is smaller.
+    fn goes_first(&self, n: u64, size: u64) -> bool
+        ensures { result ≡ goes_first n self.now.victim_size size }
+    {
+        self.victim_size < n
+            || if n < LEAST_LARGE {
+                size == n
+            } else {
+                size < self.victim_size
+            }
+    }
+
+    /// What serves a request of `n` bytes (dlmalloc: `malloc`).
+    pub(crate) fn choose<L: Ledger>(&self, n: u64, steps: &mut Steps<L>) -> Option<Choice>
+        requires sound { IsSound A.regions A.word self.now }
+        requires there { 0 < self.now.size }
+        requires least { 32 ≤ n }
+        ensures none { result ≡ None → chosen (state_of A.word self.now) n ≡ None }
+        ensures chunk { (place : Place) → result ≡ Some (Chunk place) → IsChosen (state_of A.word self.now) n (record { at = place.at; size = place.size; kind = Free }) }
+        ensures there { (place : Place) → result ≡ Some (Chunk place) → extent_at place.at (chunks_of A.word self.now) ≡ Some (record { at = place.at; size = place.size; kind = Free }) }
+        ensures fits { (place : Place) → result ≡ Some (Chunk place) → n ≤ place.size }
+        ensures top { result ≡ Some OfTop → IsChosen (state_of A.word self.now) n (record { at = self.now.top; size = self.now.top_size; kind = Top }) }
+        ensures top_fits { result ≡ Some OfTop → n < self.now.top_size }
+    {
+        let victim = Place {
+            at: self.victim,
+            size: self.victim_size,
+        };
+        match self.find_free(n, steps) {
+            Some(place) if self.goes_first(n, place.size) => Some(Choice::Chunk(place)),
+            Some(_) => Some(Choice::Chunk(victim)),
+            None if n <= victim.size => Some(Choice::Chunk(victim)),
+            None if n < self.top_size => Some(Choice::Top),
+            None => None,
+        }
+    }
+
+    /// An extent, where the victim is told from the other free ones.
+    fn shown(&self, extent: Extent) -> Extent
+        ensures { result ≡ shown (state_of A.word self.now) extent }
+    {
+        if is_plain(extent.kind) && extent.at == self.victim {
+            Extent {
+                kind: Kind::Victim,
+                ..extent
+            }
+        } else {
+            extent
+        }
+    }
+
+    /// Adds the chunks before the top to a list.
+    fn push_chunks<L: Ledger>(
+        &self,
+        extents: &mut ExtentList,
+        steps: &mut Steps<L>,
+    ) -> Result<(), AllocError>
+        requires sound { IsSound A.regions A.word self.now }
+        requires there { 0 < self.now.size }
+        ensures ok { OnOk result (extents.new ≡ extents.old ++ map (shown (state_of A.word self.now)) (chunks_of A.word self.now)) }
+    {
+        let mut at = self.base;
+        while at < self.top {
+            let chunk = self.chunk_at(at, steps);
+            extents.push(self.shown(chunk))?;
+            at += chunk.size;
+        }
+        Ok(())
+    }
+
+    /// All extents, by ascending address: the chunks, as their heads tell them, and behind them the top and its foot. A heap
+    /// with no segment has none. An `Err` means that memory ran out (own).
+    pub fn extents<L: Ledger>(
+        &self,
+        alloc: Global,
+        steps: &mut Steps<L>,
+    ) -> Result<ExtentList, AllocError>
+        requires sound { IsSound A.regions A.word self.now }
+        ensures extents { IfOk result (λ list. list ≡ map (shown (state_of A.word self.now)) (extents_in (state_of A.word self.now))) }
+    {
+        let mut extents = ExtentList::new(alloc);
+        if self.size > 0 {
+            self.push_chunks(&mut extents, steps)?;
+            extents.push(Extent {
+                at: self.top,
+                size: self.top_size,
+                kind: Kind::Top,
+            })?;
+            extents.push(Extent {
+                at: self.top + self.top_size,
+                size: FOOT,
+                kind: Kind::Foot,
+            })?;
+        }
+        Ok(extents)
+    }
+}
