@@ -1,6 +1,6 @@
 -- Granted regions.
 use Rattle.std.specs.Prelude.{◌≡◌, ℕ, ◌+◌, ◌%◌, ◌^◌, ◌<◌, ◌≤◌, ◌⊎◌, Bool, true, ◌&&◌, ◌==◌, nat_le, nat_lt, if◌then◌else◌, List, [], ◌∷◌, IsTrue}
-use Rattle.std.specs.List.{list_any}
+use Rattle.std.specs.List.{list_any, list_all}
 use Rattle.heap_memory.specs.declared.grant.Grant.{Grant}
 
 -- whether the byte at an address is granted
@@ -35,3 +35,8 @@ abbrev pub is_next : Grant → List Grant → Bool
 is_next grant [] = true
 is_next grant (last ∷ []) = grant.base == last.base + last.size
 is_next grant (first ∷ region ∷ regions) = is_next grant (region ∷ regions)
+
+-- whether each region ends before every later one begins
+abbrev pub are_ordered : List Grant → Bool
+are_ordered [] = true
+are_ordered (region ∷ regions) = list_all (λ later. nat_le (region.base + region.size) later.base) regions && are_ordered regions

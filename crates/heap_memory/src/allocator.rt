@@ -11,12 +11,16 @@ use crate::{Grant, GrantFault, Links};
 pub trait Allocator: Links {
     ghost use Rattle.heap_memory.specs.declared.grant.GrantFault.{GrantFault};
     ghost use Rattle.heap_memory.specs.Events.{Event};
+    ghost use Rattle.heap_memory.specs.Regions.{are_ordered};
 
     /// Whether the system, as it stands, denies a request for so many bytes with a fault.
     ghost denies: { Self → ℕ → GrantFault → Type 0 };
 
     /// Whether the words of a new grant are zero.
     ghost zeros: { Self → Bool };
+
+    /// What the system says of two moments between which it did nothing but refuse a request.
+    ghost refuses: { Self → Self → Type 0 };
 
     /// Grants a region of at least `size` bytes, apart from all others, and behind the last. An `Err` changes no granted
     /// region and no word in one; what the system denies next may change.
@@ -34,6 +38,7 @@ pub trait Allocator: Links {
         ensures words { (at : ℕ) → IsWordOf (Self.regions self.old) at → Self.word self.new at ≡ Self.word self.old at }
         ensures err { OnErr result (Self.regions self.new ≡ Self.regions self.old) }
         ensures err_follows { OnErr result (Self.follows self.old [] self.new) }
+        ensures err_refuses { OnErr result (refuses self.old self.new) }
         ensures denied { IfErr result (λ fault. fault ≢ GrantFault.OutOfMemory → denies self.old size fault) };
 
     /// Whether the words of each new grant are zero.
@@ -43,6 +48,12 @@ pub trait Allocator: Links {
     /// The size of the system's pages in bytes, a power of two.
     fn page_size(&self) -> u64
         ensures { IsTrue (is_power_of_two result) };
+
+    /// A system that did nothing is as one that refused.
+    ghost refuses_none: { (x : Self) → refuses x x };
+
+    /// Each region ends before every later one begins.
+    ghost ordered: { (x : Self) → IsTrue (are_ordered (Self.regions x)) };
 
     /// No call changes whether new grants are zero.
     ghost fixed: { (x y : Self) (events : List Event) → Self.follows x events y → IsFixed zeros x y };

@@ -2,7 +2,7 @@
 ghost use Rattle.std.specs.Prelude.{◌≡◌, ℕ, ◌+◌, ◌-◌, ◌%◌, ◌<◌, ◌≤◌, Bool, true, false, ◌&&◌, nat_lt, [], ◌++◌, IsTrue, IfOk, OnErr, refl, length, take, drop, position, vec_len, vec_capacity};
 ghost use Rattle.std.specs.List.{AllByRecursion, list_any, list_all};
 ghost use Rattle.std.specs.Int.{is_power_of_two};
-ghost use Rattle.heap_memory.specs.Regions.{is_granted, with_grant};
+ghost use Rattle.heap_memory.specs.Regions.{is_granted, with_grant, are_ordered};
 ghost use Rattle.heap_memory.specs.FlatScript.{gives, is_promised};
 ghost use Rattle.heap_memory.specs.Script.{taken_of, left_of};
 ghost use Rattle.heap_memory.specs.FlatWords.{is_held, word_in, are_aligned};
@@ -35,6 +35,7 @@ pub struct FlatSystem {
     ghost given: { (at : ℕ) → IsTrue (is_granted regions.items at) → IsTrue (list_any (λ step. gives at step) (taken_of script)) },
     ghost zero: { (at : ℕ) → at % 8 ≡ 0 → IsTrue (is_held words.stretches.items at) → list_any (λ step. gives at step) (taken_of script) ≡ false
         → word_in words.stretches.items words.words.items at ≡ 0 },
+    ghost ordered: { IsTrue (are_ordered regions.items) },
     ghost some: { IsTrue (list_all (λ region. nat_lt 0 region.size) regions.items) },
     ghost power: { IsTrue (is_power_of_two page) },
 }
@@ -181,11 +182,17 @@ impl Allocator for FlatSystem {
     ghost use Rattle.heap_memory.specs.FlatSystem.{DeniesNext, regions_of, word_of};
     ghost use Rattle.heap_memory.specs.FlatScript.{next_answer};
     ghost use Rattle.heap_memory.specs.Regions.{IsWordOf, IsApart, IsGoodGrant, is_next};
-    ghost use Rattle.heap_memory.specs.FlatSystem.{IsSameKind};
+    ghost use Rattle.heap_memory.specs.FlatSystem.{IsSameKind, IsRefused, refused_none};
 
     ghost denies = { λ system size fault. DeniesNext system size fault };
 
     ghost zeros = { λ system. true };
+
+    ghost refuses = { λ old new. IsRefused old new };
+
+    ghost refuses_none = { λ system. refused_none system };
+
+    ghost ordered = { λ system. system.ordered };
 
     ghost fixed = { λ x y events follows. record { zeros_same = refl } };
 

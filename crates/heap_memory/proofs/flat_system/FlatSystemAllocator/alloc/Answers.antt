@@ -3,6 +3,7 @@ use Rattle.std.specs.List.{list_any}
 use Rattle.heap_memory.specs.Script.{taken_of, left_of}
 use Rattle.heap_memory.specs.FlatScript.{gives}
 use Rattle.heap_memory.specs.FlatWords.{is_held}
+use Rattle.heap_memory.specs.RegionLaws.{ordered_with}
 use Rattle.heap_memory.proofs.FlatScriptLemmas.{regions_apart, some_with, promised_next, given_next, not_given_next, served, IsServed, granted_all, not_given}
 use Rattle.heap_memory.proofs.flat_system.FlatSystemAllocator.alloc.Goals as goal
 use Rattle.heap_memory.proofs.flat_system.FlatSystemAllocator.alloc.Goals.{In_ok-grant}
@@ -47,6 +48,11 @@ invariant_of-self-2-clause-given c =
 pub invariant_of-self-2-clause-zero : goal.invariant_of-self-2-clause-zero
 invariant_of-self-2-clause-zero c = λ at whole held none.
     c.args.self.now.zero at whole held (not_given_next (taken_of c.args.self.now.script) (left_of c.args.self.now.script) (taken_of c.advance.new.self) at c.advance.ensures.taken none)
+
+pub invariant_of-self-2-clause-ordered : goal.invariant_of-self-2-clause-ordered
+invariant_of-self-2-clause-ordered c =
+    let s = served_here (goal.at.invariant_of-self-2-clause-ordered c).In_ok-grant in
+    rw c.add_region.ensures.items (ordered_with c.in_ok-grant.grant c.args.self.now.regions.items c.args.self.now.ordered s.next)
 
 pub invariant_of-self-2-clause-some : goal.invariant_of-self-2-clause-some
 invariant_of-self-2-clause-some c =
