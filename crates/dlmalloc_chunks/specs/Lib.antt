@@ -4,3 +4,5 @@ pub mod Head
 pub mod HeadLaws
 pub mod Chunk
 pub mod ChunkLaws
+pub mod Kinds
+pub mod Tiling
