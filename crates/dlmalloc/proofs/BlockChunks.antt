@@ -1,5 +1,5 @@
 -- The chunks of blocks.
-use Rattle.std.proofs.Common.{◌≡◌, ℕ, ◌+◌, ◌-◌, ◌%◌, ◌<◌, ◌≤◌, ◌⊎◌, inl, inr, Bool, true, false, ◌==◌, nat_lt, if◌then◌else◌, List, [], ◌∷◌, ◌++◌, Option, Some, None, refl, sym, ◌∙◌, ap, arith}
+use Rattle.std.proofs.Common.{◌≡◌, ℕ, ◌+◌, ◌-◌, ◌<◌, ◌≤◌, ◌⊎◌, inl, inr, Bool, true, false, ◌==◌, nat_lt, if◌then◌else◌, List, [], ◌∷◌, ◌++◌, Option, Some, None, refl, sym, ◌∙◌, ap, arith}
 use Rattle.std.specs.Prelude.{unwrap_or}
 use Rattle.std.specs.List.{flat_map}
 use Rattle.std.proofs.lemmas.List.{append-nil}
@@ -10,7 +10,7 @@ use Rattle.dlmalloc_chunks.specs.declared.extent.Kind.TheVariants.{Used, Free, T
 use Rattle.dlmalloc.specs.Extents.{is_used, extent_at}
 use Rattle.dlmalloc.specs.State.{Segment, extents_in}
 use Rattle.dlmalloc.specs.Granted.{top_and_foot}
-use Rattle.dlmalloc.specs.Heap.{chunks_of, segments_of, state_of, IsSound}
+use Rattle.dlmalloc.specs.Heap.{chunks_of, segments_of, state_of, IsSound, IsInside}
 use Rattle.dlmalloc.specs.declared.heap.Dlmalloc.{Dlmalloc}
 use Rattle.dlmalloc.proofs.Taking.{one_segment}
 use Rattle.dlmalloc.proofs.Chosen.{stands, from_base, at_whole, to_top, none_inside}
@@ -56,27 +56,21 @@ block_chunk word heap at chunk h used = go (heap.size == 0) refl
               ∙ (sym (ap (λ (ss : List Segment). extent_at at (flat_map (λ (s : Segment). s.extents) ss)) one) ∙ h)),
         )
 
--- where the chunk of a block stands
-pub record Placed {A : Type 0} (word : A → ℕ → ℕ) (heap : Dlmalloc A) (chunk : Extent) : Type 0 where
-  pub some : 0 < heap.size
-  pub there : extent_at chunk.at (chunks_of word heap) ≡ Some chunk
-  pub low : heap.base ≤ chunk.at
-  pub whole : chunk.at % 16 ≡ 0
-  pub long : 32 ≤ chunk.size
-  pub high : chunk.at + chunk.size ≤ heap.top
-
-pub placed : {A : Type 0} (regions : A → List Grant) (word : A → ℕ → ℕ) (heap : Dlmalloc A) → IsSound regions word heap → (chunk : Extent) →
-    extent_at chunk.at (extents_in (state_of word heap)) ≡ Some chunk → chunk.kind ≡ Used → Placed word heap chunk
-placed regions word heap sound chunk is used =
-    let c = block_chunk word heap chunk.at chunk is used in
-    let stands = stands regions word heap (sound.some c.0) chunk c.1 in
+-- where an extent in use stands
+pub placed : {A : Type 0} (regions : A → List Grant) (word : A → ℕ → ℕ) (heap : Dlmalloc A) → IsSound regions word heap → (used : Extent) → used.kind ≡ Used →
+    extent_at used.at (extents_in (state_of word heap)) ≡ Some used → IsInside heap used
+placed regions word heap sound used is found =
+    let c = block_chunk word heap used.at used found is in
+    let h = sound.some c.0 in
+    let stands = stands regions word heap h used c.1 in
     record {
-      some = c.0;
-      there = c.1;
-      low = from_base regions word heap (sound.some c.0) chunk c.1;
-      whole = at_whole regions word heap (sound.some c.0) chunk c.1;
+      there = c.0;
+      from = from_base regions word heap h used c.1;
+      to = to_top regions word heap h used c.1;
+      behind = (let ends = h.ends in let long = h.top_long in omega arith);
+      whole = at_whole regions word heap h used c.1;
+      size_whole = stands.whole;
       long = stands.long;
-      high = to_top regions word heap (sound.some c.0) chunk c.1;
     }
 
 -- two chunks of one segment are apart

@@ -15,8 +15,7 @@ use Rattle.dlmalloc.specs.Heap.{chunks_of, state_of, HasSegment, IsSound}
 use Rattle.dlmalloc.specs.declared.walk.Place.{Place}
 use Rattle.dlmalloc.specs.declared.walk.Choice.TheVariants.{Chunk}
 use Rattle.dlmalloc.specs.declared.heap.Dlmalloc.{Dlmalloc}
-use Rattle.dlmalloc.proofs.Places.{found_behind, found_before}
-use Rattle.dlmalloc.proofs.Chosen.{nat_same}
+use Rattle.dlmalloc.proofs.Places.{nat_same, found_behind, found_none}
 use Rattle.dlmalloc.proofs.Walking.{chunk_kind}
 use Rattle.dlmalloc.proofs.AllExtents.{ending, extents_are, found_among_all}
 
@@ -83,7 +82,7 @@ module _ {A : Type 0} (regions : A → List Grant) (word : A → ℕ → ℕ) (h
           let zero : heap.victim_size ≡ 0 = grind (arith, nat_tests) in
           let low = segment.low in
           let at = sound.no_victim zero in
-          ap (λ (o : Option Extent). size_of_first (option_or o None)) (no_victim state (chunks_of word heap) (found_before (word heap.system) true heap.base (chunks_of word heap) heap.top heap.victim (omega arith) segment.chunks)) ∙ sym zero
+          ap (λ (o : Option Extent). size_of_first (option_or o None)) (no_victim state (chunks_of word heap) (found_none (word heap.system) true heap.base (chunks_of word heap) heap.top heap.victim (inl (omega arith)) segment.chunks)) ∙ sym zero
       by_size false test =
           let some : heap.victim_size ≢ 0 = grind (arith, nat_tests) in
           ap (λ (o : Option Extent). size_of_first (option_or o None)) (find_victim state (chunks_of word heap) (record { at = heap.victim; size = heap.victim_size; kind = Free }) (segment.victim some) refl)
@@ -107,7 +106,7 @@ module _ {A : Type 0} (regions : A → List Grant) (word : A → ℕ → ℕ) (h
       ∙ top_is
 
   module _ (n : ℕ) where
-    chosen_is : (fit : Option ℕ) → least_fit state n ≡ fit → chosen state n ≡ choose n fit heap.victim_size heap.top_size
+    pub chosen_is : (fit : Option ℕ) → least_fit state n ≡ fit → chosen state n ≡ choose n fit heap.victim_size heap.top_size
     chosen_is fit is = λ i. choose n (is i) (victim_size_is i) (top_size_is i)
 
     -- a binned chunk goes first

@@ -1,7 +1,6 @@
 -- One chunk of a sound heap, among the others.
 use Rattle.std.proofs.Common.{◌≡◌, ℕ, ◌+◌, ◌-◌, ◌%◌, ◌^◌, ◌<◌, ◌≤◌, inl, inr, Bool, true, false, ◌==◌, if◌then◌else◌, List, [], ◌∷◌, ◌++◌, Some, None, IsTrue, refl, sym, ◌∙◌, ap, subst, arith}
 use Rattle.std.proofs.lemmas.Grind.{flat_map-append}
-use Rattle.std.proofs.lemmas.Bool.Decides.{nat_tests}
 use Rattle.heap_memory.specs.declared.grant.Grant.{Grant}
 use Rattle.dlmalloc_chunks.specs.declared.extent.Extent.{Extent}
 use Rattle.dlmalloc_chunks.specs.declared.extent.Kind.TheVariants.{Free}
@@ -12,10 +11,7 @@ use Rattle.dlmalloc.specs.Heap.{chunks_of, HasSegment}
 use Rattle.dlmalloc.specs.declared.heap.Dlmalloc.{Dlmalloc}
 use Rattle.dlmalloc.proofs.Tiling.{Split, tiles_le, tiles_split, tiles_whole}
 use Rattle.dlmalloc.proofs.Cut.{free_unused, used_after_append}
-use Rattle.dlmalloc.proofs.Places.{Found, found, nat_isnt, replaced_none, found_behind, found_before}
-
-pub nat_same : (n : ℕ) → (n == n) ≡ true
-nat_same n = grind (arith, nat_tests)
+use Rattle.dlmalloc.proofs.Places.{Found, found, nat_same, nat_isnt, replaced_none, found_behind, found_none}
 
 -- an extent is replaced among others, where none else begins at its address
 pub replaced_one : (words : ℕ → ℕ) (used : Bool) (from : ℕ) (front : List Extent) (chunk : Extent) (back : List Extent) (to : ℕ) (others : Extent → List Extent) →
@@ -82,7 +78,7 @@ module _ {A : Type 0} (regions : A → List Grant) (word : A → ℕ → ℕ) (h
       let test : (chunk.at == k) ≡ false = nat_isnt (inl low) in
       ap (extent_at k) among.is
       ∙ found_behind (word heap.system) true heap.base among.front split.middle (chunk ∷ among.back) k (omega arith) split.first
-      ∙ rw test (found_before (word heap.system) (is_used chunk.kind) (split.middle + chunk.size) among.back heap.top k (omega arith) split.second.2)
+      ∙ rw test (found_none (word heap.system) (is_used chunk.kind) (split.middle + chunk.size) among.back heap.top k (inl (omega arith)) split.second.2)
 
   -- the extents of the segment, with others for the chunk
   pub replaced_chunk : (others : Extent → List Extent) →

@@ -13,6 +13,7 @@ use Rattle.dlmalloc.specs.Extents.{is_used, used_after, extent_at}
 use Rattle.dlmalloc.specs.State.{extents_in}
 use Rattle.dlmalloc.specs.Freed.{freed}
 use Rattle.dlmalloc.specs.Blocks.{IsBlock, KeepsBlocks}
+use Rattle.dlmalloc.specs.Boundaries.{OnlyBoundariesChange}
 use Rattle.dlmalloc.specs.Heap.{chunks_of, state_of, HasSegment, IsSound}
 use Rattle.dlmalloc.specs.declared.heap.Dlmalloc.{Dlmalloc}
 use Rattle.dlmalloc.proofs.Places.{found, nat_is}
@@ -20,13 +21,15 @@ use Rattle.dlmalloc.proofs.Sound.{head_inside, foot_inside}
 use Rattle.dlmalloc.proofs.Chosen.{among, stands}
 use Rattle.dlmalloc.proofs.BlockChunks.{block_chunk}
 use Rattle.dlmalloc.proofs.Joining.{extent, same_extent, end_of}
-use Rattle.dlmalloc.proofs.Freeing.{from_inside, from_whole, from_at, chunk_whole, size_whole, size_long, chunk_below, top_victim, top_other, top_blocks, to_at, to_whole, to_below, next_told, free_victim, free_other, free_blocks}
+use Rattle.dlmalloc.proofs.Freeing.{from_inside, from_whole, from_at, chunk_whole, size_whole, size_long, chunk_below, top_victim, top_other, top_blocks, to_at, to_whole, to_below, next_told, free_victim, free_other, joint_there, free_blocks}
+use Rattle.dlmalloc.proofs.Boundaries.{top_written, free_written}
 
 -- the heap in which a chunk is freed
 pub record Outcome {A : Type 0} (regions : A → List Grant) (word : A → ℕ → ℕ) (old : Dlmalloc A) (at : ℕ) (new : Dlmalloc A) : Type 0 where
   pub sound : IsSound regions word new
   pub state : state_of word new ≡ freed (state_of word old) at
   pub blocks : KeepsBlocks (extents_in (state_of word new)) (word old.system) (word new.system)
+  pub words : OnlyBoundariesChange (regions old.system) (state_of word new) (word old.system) (word new.system)
 
 module _ {A : Type 0} (regions : A → List Grant) (word : A → ℕ → ℕ) (heap : Dlmalloc A) (sound : IsSound regions word heap) (some : 0 < heap.size) (at size : ℕ)
     (there : extent_at at (chunks_of word heap) ≡ Some (extent at size Used)) (from : ℕ)
@@ -133,6 +136,7 @@ module _ {A : Type 0} (regions : A → List Grant) (word : A → ℕ → ℕ) (h
             sound = done.0;
             state = done.1;
             blocks = top_blocks regions word heap sound some at size there from from_is (touches touch) system same stored.elsewhere new_size sized headed 0 0 done.0;
+            words = top_written regions word (record heap { system = system; top = from; top_size = new_size; victim = 0; victim_size = 0 }) done.0 some (regions heap.system) words stored.elsewhere;
           }
 
       pub as_top_other : heap.victim < from → Outcome regions word heap at (record heap { system = system; top = from; top_size = new_size })
@@ -142,6 +146,7 @@ module _ {A : Type 0} (regions : A → List Grant) (word : A → ℕ → ℕ) (h
             sound = done.0;
             state = done.1;
             blocks = top_blocks regions word heap sound some at size there from from_is (touches touch) system same stored.elsewhere new_size sized headed heap.victim heap.victim_size done.0;
+            words = top_written regions word (record heap { system = system; top = from; top_size = new_size }) done.0 some (regions heap.system) words stored.elsewhere;
           }
 
     -- ---- it becomes one free chunk
@@ -192,6 +197,13 @@ module _ {A : Type 0} (regions : A → List Grant) (word : A → ℕ → ℕ) (h
         next : word system (to + 8) ≡ without_pinuse (words (to + 8))
         next = subst (λ (k : ℕ). word system (k + 8) ≡ without_pinuse (words (k + 8))) whole_end (stored.here.0 ((λ is. omega (arith, long_size)), ((λ is. omega (arith, is)), tt)))
 
+        written : (victim victim_size : ℕ) → IsSound regions word (record heap { system = system; victim = victim; victim_size = victim_size }) →
+            OnlyBoundariesChange (regions heap.system) (state_of word (record heap { system = system; victim = victim; victim_size = victim_size })) words (word system)
+        written victim victim_size new =
+            free_written regions word (record heap { system = system; victim = victim; victim_size = victim_size }) new some (regions heap.system) words from (to - from)
+            (joint_there regions word heap sound some at size there from from_is more to ended system same elsewhere head foot next victim victim_size)
+            (λ k inside one two three. stored.elsewhere k inside (three, (one, (two, tt))))
+
         pub as_free_victim : from ≤ heap.victim → heap.victim < to → Outcome regions word heap at (record heap { system = system; victim = from; victim_size = to - from })
         as_free_victim reached within =
             let done = free_victim regions word heap sound some at size there from from_is more to ended system same elsewhere head foot next reached within in
@@ -199,6 +211,7 @@ module _ {A : Type 0} (regions : A → List Grant) (word : A → ℕ → ℕ) (h
               sound = done.0;
               state = done.1;
               blocks = free_blocks regions word heap sound some at size there from from_is more to ended system same elsewhere head foot next from (to - from) done.0;
+              words = written from (to - from) done.0;
             }
 
         pub as_free_other : (heap.victim < from) ⊎ (to ≤ heap.victim) → Outcome regions word heap at (record heap { system = system })
@@ -208,6 +221,7 @@ module _ {A : Type 0} (regions : A → List Grant) (word : A → ℕ → ℕ) (h
               sound = done.0;
               state = done.1;
               blocks = free_blocks regions word heap sound some at size there from from_is more to ended system same elsewhere head foot next heap.victim heap.victim_size done.0;
+              words = written heap.victim heap.victim_size done.0;
             }
 
 -- ---- the chunk of a block

@@ -18,15 +18,14 @@ use Rattle.dlmalloc.specs.Freed.{freed_in, has, victim_in, freed}
 use Rattle.dlmalloc.specs.Blocks.{KeepsBlocks}
 use Rattle.dlmalloc.specs.Heap.{chunks_of, segments_of, state_of, HasSegment, IsSound}
 use Rattle.dlmalloc.specs.declared.heap.Dlmalloc.{Dlmalloc}
-use Rattle.dlmalloc.proofs.Regions.{still_ordered}
-use Rattle.dlmalloc.proofs.Tiling.{tiles_le, tiles_whole, tiles_kept, tiles_split}
+use Rattle.dlmalloc.proofs.Tiling.{tiles_le, none_left, tiles_whole, tiles_kept, tiles_split}
 use Rattle.dlmalloc.proofs.Cut.{used_after_append}
-use Rattle.dlmalloc.proofs.Places.{found, nat_is, nat_isnt, found_outside}
+use Rattle.dlmalloc.proofs.Places.{found, nat_is, nat_same, nat_isnt, found_outside}
 use Rattle.dlmalloc.proofs.Sound.{word_inside, top_above, top_whole, chunks_are, segment_kept}
-use Rattle.dlmalloc.proofs.Chosen.{nat_same, among, tiled, last_used}
+use Rattle.dlmalloc.proofs.Chosen.{among, tiled, last_used}
 use Rattle.dlmalloc.proofs.Taking.{one_segment}
 use Rattle.dlmalloc.proofs.Merging.{has_none, has_here, has_end}
-use Rattle.dlmalloc.proofs.BlockChunks.{Placed, placed, apart}
+use Rattle.dlmalloc.proofs.BlockChunks.{block_chunk, placed, apart}
 use Rattle.dlmalloc.proofs.Joining.{extent, Before, join_before, Behind, end_of, join_behind, chunk_stands, tiles_front, tiles_back, last_back, joined_chunks, joined_top, joined_tiles}
 
 -- a free chunk is found by its first byte
@@ -103,12 +102,11 @@ module _ {A : Type 0} (regions : A → List Grant) (word : A → ℕ → ℕ) (h
       after ∙ (ap (victim_in heap.victim) (sym (append-nil list)) ∙ ap (λ (ss : List Segment). victim_in heap.victim (flat_map (λ (s : Segment). s.extents) ss)) (sym old)) in (
         record {
           granularity = sound.granularity;
-          ordered = still_ordered (regions heap.system) (regions system) same sound.ordered;
           none = λ empty. absurd (omega (arith, some, empty));
           no_victim = none;
           some = λ more. kept;
         },
-        λ i. record { segments = segments i; victim = whole i; granularity = heap.granularity; rate = heap.rate; countdown = heap.countdown },
+        λ i. record { segments = segments i; victim = whole i; granularity = heap.granularity; rate = heap.rate; countdown = heap.countdown; trim_check = heap.trim_check },
       )
 
   -- The chunk, and the free chunk before it.
@@ -201,14 +199,7 @@ module _ {A : Type 0} (regions : A → List Grant) (word : A → ℕ → ℕ) (h
         (elsewhere : (k : ℕ) → IsWordOf (regions heap.system) k → k ≢ from + 8 → word system k ≡ words k) (size_new : ℕ) (size_is : size_new ≡ heap.top_size + (at + size - from))
         (head : word system (from + 8) ≡ head_of size_new true false) where
       none_behind : back ≡ []
-      none_behind = go back behind
-        where
-          go : (back : List Extent) → Tiles words true (at + size) back heap.top → back ≡ []
-          go [] tiles = refl
-          go (next ∷ back) tiles =
-              let long = tiles.1.long in
-              let above = tiles_le words (is_used next.kind) (at + size + next.size) back heap.top tiles.2 in
-              absurd (omega arith)
+      none_behind = none_left words true (at + size) back heap.top (omega arith) behind
 
       top_list : freed_in at (chunks_of word heap ++ top_and_foot heap.top end) ≡ joins.front ++ top_and_foot from end
       top_list = ap (λ (cs : List Extent). freed_in at (cs ++ top_and_foot heap.top end)) among_is
@@ -258,11 +249,11 @@ module _ {A : Type 0} (regions : A → List Grant) (word : A → ℕ → ℕ) (h
       pub top_blocks : (victim victim_size : ℕ) → IsSound regions word (with_top victim victim_size) → KeepsBlocks (extents_in (state_of word (with_top victim victim_size))) words (word system)
       top_blocks victim victim_size new = record {
         words = λ block is used k above below m.
-            let p = placed regions word (with_top victim victim_size) new block is used in
-            elsewhere k (inside k (omega (arith, p.low, above)) (omega (arith, p.high, below, from_at, chunk_below)) m) (λ is. omega (arith, p.high, below));
+            let p = placed regions word (with_top victim victim_size) new block used is in
+            elsewhere k (inside k (omega (arith, p.from, above)) (omega (arith, p.to, below, from_at, chunk_below)) m) (λ is. omega (arith, p.to, below));
         heads = λ block is used.
-            let p = placed regions word (with_top victim victim_size) new block is used in
-            ap (λ (w : ℕ). w / 2) (elsewhere (block.at + 8) (inside (block.at + 8) (omega (arith, p.low)) (omega (arith, p.high, p.long, from_at, chunk_below)) (omega (arith, p.whole))) (λ is. omega (arith, p.high, p.long)));
+            let p = placed regions word (with_top victim victim_size) new block used is in
+            ap (λ (w : ℕ). w / 2) (elsewhere (block.at + 8) (inside (block.at + 8) (omega (arith, p.from)) (omega (arith, p.to, p.long, from_at, chunk_below)) (omega (arith, p.whole))) (λ is. omega (arith, p.to, p.long)));
       }
 
     -- it becomes one free chunk, with what stands before and behind it
@@ -377,37 +368,43 @@ module _ {A : Type 0} (regions : A → List Grant) (word : A → ℕ → ℕ) (h
                 found_after heap.victim joins.front (joint ∷ rest) (joins.middle ++ chunk ∷ back) (new ∙ sym old)
                 ∙ (ap (extent_at heap.victim) (sym in_parts) ∙ segment.victim some)
 
-        -- a block stands before it or behind it
-        block_apart : (victim victim_size : ℕ) (new : IsSound regions word (with_free victim victim_size)) (block : Extent) → Placed word (with_free victim victim_size) block → block.kind ≡ Used →
-            (block.at + block.size ≤ from) ⊎ (to ≤ block.at)
-        block_apart victim victim_size new block p used =
+        -- it is one of the chunks
+        pub joint_there : (victim victim_size : ℕ) → extent_at from (chunks_of word (with_free victim victim_size)) ≡ Some joint
+        joint_there victim victim_size =
             let read : chunks_of word (with_free victim victim_size) ≡ joins.front ++ joint ∷ rest =
             chunks_are regions word heap segment (word system) (joins.front ++ joint ∷ rest) heap.top (let e = segment.ends in omega arith) free_tiles in
+            ap (extent_at from) read ∙ joint_found
+
+        -- a block stands before it or behind it
+        block_apart : (victim victim_size : ℕ) (new : IsSound regions word (with_free victim victim_size)) (block : Extent) → block.kind ≡ Used → extent_at block.at (extents_in (state_of word (with_free victim victim_size))) ≡ Some block →
+            (block.at + block.size ≤ from) ⊎ (to ≤ block.at)
+        block_apart victim victim_size new block used is =
             let low = from_at in
             let later = to_at in
-            let sides = apart regions word (with_free victim victim_size) new some block joint p.there (ap (extent_at from) read ∙ joint_found) used refl in
+            let sides = apart regions word (with_free victim victim_size) new some block joint (block_chunk word (with_free victim victim_size) block.at block is used).1 (joint_there victim victim_size) used refl in
             grind arith
 
         -- the blocks keep their words
         pub free_blocks : (victim victim_size : ℕ) → IsSound regions word (with_free victim victim_size) → KeepsBlocks (extents_in (state_of word (with_free victim victim_size))) words (word system)
         free_blocks victim victim_size new = record {
           words = λ block is used k above below m.
-              let p = placed regions word (with_free victim victim_size) new block is used in
-              let beside = block_apart victim victim_size new block p used in
+              let p = placed regions word (with_free victim victim_size) new block used is in
+              let beside = block_apart victim victim_size new block used is in
               let long = joint_long in
-              elsewhere k (inside k (omega (arith, p.low, above)) (omega (arith, p.high, below)) m) (λ is. grind arith) (λ is. grind arith) (λ is. grind arith);
-          heads = λ block is used. head_kept block (placed regions word (with_free victim victim_size) new block is used) used (block.at == to) refl;
+              elsewhere k (inside k (omega (arith, p.from, above)) (omega (arith, p.to, below)) m) (λ is. grind arith) (λ is. grind arith) (λ is. grind arith);
+          heads = λ block is used. head_kept block used is (block.at == to) refl;
         }
           where
-            head_kept : (block : Extent) → Placed word (with_free victim victim_size) block → block.kind ≡ Used → (b : Bool) → (block.at == to) ≡ b → word system (block.at + 8) / 2 ≡ words (block.at + 8) / 2
-            head_kept block p used true is =
+            head_kept : (block : Extent) → block.kind ≡ Used → extent_at block.at (extents_in (state_of word (with_free victim victim_size))) ≡ Some block → (b : Bool) → (block.at == to) ≡ b → word system (block.at + 8) / 2 ≡ words (block.at + 8) / 2
+            head_kept block used is true same =
                 let after : word system (to + 8) / 2 ≡ words (to + 8) / 2 = ap (λ (w : ℕ). w / 2) next ∙ omega arith in
-                subst (λ (a : ℕ). word system (a + 8) / 2 ≡ words (a + 8) / 2) (sym (nat_is is)) after
-            head_kept block p used false isnt =
+                subst (λ (a : ℕ). word system (a + 8) / 2 ≡ words (a + 8) / 2) (sym (nat_is same)) after
+            head_kept block used is false isnt =
+                let p = placed regions word (with_free victim victim_size) new block used is in
                 let whole = p.whole in
                 let long = p.long in
                 let joint = joint_long in
                 let other : block.at ≢ to = grind (arith, nat_tests) in
-                let beside = block_apart victim victim_size new block p used in
-                ap (λ (w : ℕ). w / 2) (elsewhere (block.at + 8) (inside (block.at + 8) (omega (arith, p.low)) (omega (arith, p.high, long)) (omega (arith, whole)))
+                let beside = block_apart victim victim_size new block used is in
+                ap (λ (w : ℕ). w / 2) (elsewhere (block.at + 8) (inside (block.at + 8) (omega (arith, p.from)) (omega (arith, p.to, long)) (omega (arith, whole)))
                 (λ is. grind arith) (λ is. grind arith) (λ is. grind arith))

@@ -1,5 +1,5 @@
 -- A region is granted: the heap stays sound, and is in the state that the grant leaves.
-use Rattle.std.proofs.Common.{◌≡◌, ◌≢◌, ℕ, ◌+◌, ◌-◌, ◌*◌, ◌/◌, ◌%◌, ◌^◌, ◌<◌, ◌≤◌, Bool, true, ◌==◌, List, [], ◌∷◌, ◌++◌, map, Some, IsTrue, refl, sym, ◌∙◌, ap, subst, arith, pow_mono}
+use Rattle.std.proofs.Common.{◌≡◌, ◌≢◌, ℕ, ◌+◌, ◌-◌, ◌*◌, ◌/◌, ◌%◌, ◌^◌, ◌<◌, ◌≤◌, Bool, true, ◌==◌, List, [], ◌∷◌, ◌++◌, map, Some, None, IsTrue, refl, sym, ◌∙◌, ap, subst, arith, pow_mono}
 use native.Mathlib.Decide.{dec_lt}
 use Rattle.std.proofs.lemmas.Bool.Decides.{nat_tests}
 use Rattle.std.proofs.lemmas.Nat.{pow-add}
@@ -7,24 +7,24 @@ use Rattle.std.proofs.Math.Nat.{mul-mod_left, mul_assoc}
 use Rattle.std.specs.Int.{IsPowerOfTwo}
 use Rattle.std.proofs.lemmas.List.{map-append}
 use Rattle.heap_memory.specs.declared.grant.Grant.{Grant}
-use Rattle.heap_memory.specs.Regions.{IsWordOf, IsGoodGrant, is_granted, is_next, with_grant}
-use Rattle.heap_memory.specs.RegionLaws.{granted_kept, granted_new}
+use Rattle.heap_memory.specs.Regions.{IsWordOf, IsGoodGrant, is_granted, is_next, with_grant, are_ordered}
+use Rattle.heap_memory.specs.RegionLaws.{granted_kept, granted_new, with_next}
 use Rattle.dlmalloc_chunks.specs.declared.extent.Extent.{Extent}
 use Rattle.dlmalloc_chunks.specs.declared.extent.Kind.{Kind}
 use Rattle.dlmalloc_chunks.specs.declared.extent.Kind.TheVariants.{Used, Free, Victim, Top, Record, Foot}
 use Rattle.dlmalloc.specs.Extents.{is_used, IsChunk, Tiles, used_after, extent_at}
-use Rattle.dlmalloc.specs.Regions.{are_ordered}
-use Rattle.dlmalloc.specs.State.{Segment, extents_in, countdown_from}
+use Rattle.dlmalloc.specs.State.{Segment, extents_in, countdown_from, trim_threshold}
 use Rattle.dlmalloc.specs.Blocks.{KeepsBlocks}
 use Rattle.dlmalloc.specs.Granted.{top_and_foot, grown, opened, granted}
 use Rattle.dlmalloc.specs.Heap.{chunks_of, segments_of, state_of, HasSegment, IsSound}
 use Rattle.dlmalloc.specs.declared.heap.Dlmalloc.{Dlmalloc}
-use Rattle.dlmalloc.proofs.Regions.{next_last, next_after, ordered_next, still_ordered}
+use Rattle.dlmalloc.proofs.Regions.{next_after, word_kept}
 use Rattle.dlmalloc.proofs.Tiling.{tiles_kept, tiles_read}
-use Rattle.dlmalloc.proofs.Sound.{word_inside, top_above, top_whole, chunks_are, segment_kept}
+use Rattle.dlmalloc.proofs.Sound.{word_inside}
 use Rattle.dlmalloc.proofs.Taking.{one_segment}
 use Rattle.dlmalloc.proofs.Places.{found_more}
-use Rattle.dlmalloc.proofs.AllExtents.{extents_are}
+use Rattle.dlmalloc.proofs.AllExtents.{extents_are, found_among_all}
+use Rattle.dlmalloc.proofs.BlockChunks.{block_chunk}
 use Rattle.dlmalloc.proofs.BlocksKept.{keeps_below, block_among}
 
 -- a granularity is made of units of 16
@@ -104,10 +104,7 @@ module _ {A : Type 0} (regions : A → List Grant) (word : A → ℕ → ℕ) (h
     (with_it : regions middle ≡ with_grant grant (regions heap.system)) (same : regions system ≡ regions middle) (ordered : IsTrue (are_ordered (regions heap.system)))
     (next : IsTrue (is_next grant (regions heap.system))) (words : (k : ℕ) → IsWordOf (regions heap.system) k → word middle k ≡ word heap.system k) where
   regions_are : regions system ≡ regions heap.system ++ grant ∷ []
-  regions_are = same ∙ with_it ∙ next_last grant (regions heap.system) ordered next
-
-  now_ordered : IsTrue (are_ordered (regions system))
-  now_ordered = still_ordered (regions heap.system ++ grant ∷ []) (regions system) regions_are (ordered_next grant (regions heap.system) ordered next)
+  regions_are = same ∙ with_it ∙ with_next grant (regions heap.system) ordered next
 
   granted_still : (k : ℕ) → IsTrue (is_granted (regions heap.system) k) → IsTrue (is_granted (regions system) k)
   granted_still k was = subst (λ (rs : List Grant). IsTrue (is_granted rs k)) (sym (same ∙ with_it)) (granted_kept grant (regions heap.system) k was)
@@ -121,7 +118,7 @@ module _ {A : Type 0} (regions : A → List Grant) (word : A → ℕ → ℕ) (h
   -- the first grant is the head segment
   module _ (none : heap.size ≡ 0) (head : word system (grant.base + 8) ≡ grant.base + grant.size - 80 - grant.base + 1) (foot : word system (grant.base + grant.size - 72) ≡ 80) where
     abbrev pub opened_heap : ℕ → Dlmalloc A
-    opened_heap countdown = record heap { system = system; base = grant.base; size = grant.size; flags = grant.flags; top = grant.base; top_size = grant.base + grant.size - 80 - grant.base; countdown = countdown }
+    opened_heap countdown = record heap { system = system; base = grant.base; size = grant.size; flags = grant.flags; top = grant.base; top_size = grant.base + grant.size - 80 - grant.base; countdown = countdown; trim_check = trim_threshold }
 
     made : (countdown : ℕ) → HasSegment regions word (opened_heap countdown) × (chunks_of word (opened_heap countdown) ≡ [])
     made countdown =
@@ -132,7 +129,6 @@ module _ {A : Type 0} (regions : A → List Grant) (word : A → ℕ → ℕ) (h
     pub opened_sound : (countdown : ℕ) → IsSound regions word (opened_heap countdown)
     opened_sound countdown = record {
       granularity = sound.granularity;
-      ordered = now_ordered;
       none = λ empty. absurd (let long = good.long in omega arith);
       no_victim = sound.no_victim;
       some = λ more. (made countdown).0;
@@ -142,7 +138,7 @@ module _ {A : Type 0} (regions : A → List Grant) (word : A → ℕ → ℕ) (h
     opened_state =
         let long = good.long in
         let segments : segments_of word (opened_heap (countdown_from heap.rate)) ≡ opened grant ∷ [] = one_segment word (opened_heap (countdown_from heap.rate)) [] (omega arith) (made (countdown_from heap.rate)).1 in
-        (λ i. record { segments = segments i; victim = heap.victim; granularity = heap.granularity; rate = heap.rate; countdown = countdown_from heap.rate })
+        (λ i. record { segments = segments i; victim = heap.victim; granularity = heap.granularity; rate = heap.rate; countdown = countdown_from heap.rate; trim_check = trim_threshold })
         ∙ ap (λ (l : List Segment). granted grant (record (state_of word heap) { segments = l })) (sym (no_segments word heap none))
 
     pub opened_blocks : KeepsBlocks (extents_in (state_of word heap)) (word heap.system) (word system)
@@ -155,6 +151,13 @@ module _ {A : Type 0} (regions : A → List Grant) (word : A → ℕ → ℕ) (h
         let none : extent_at block.at [] ≡ Some block = subst (λ (l : List Segment). extent_at block.at (extents_in (record (state_of word heap) { segments = l })) ≡ Some block) (no_segments word heap none) found in
         absurd (cc)
 
+    pub opened_only : (countdown : ℕ) (block : Extent) → extent_at block.at (extents_in (state_of word (opened_heap countdown))) ≡ Some block → block.kind ≡ Used →
+        extent_at block.at (extents_in (state_of word heap)) ≡ Some block
+    opened_only countdown block found used =
+        let among = (block_chunk word (opened_heap countdown) block.at block found used).1 in
+        let none : None ≡ Some block = ap (extent_at block.at) (sym (made countdown).1) ∙ among in
+        absurd (cc)
+
   -- a further one makes the top longer
   module _ (some : 0 < heap.size) (grant_base : grant.base ≡ heap.base + heap.size)
       (head : word system (heap.top + 8) ≡ heap.base + (heap.size + grant.size) - 80 - heap.top + 1) (foot : word system (heap.base + (heap.size + grant.size) - 72) ≡ 80)
@@ -163,11 +166,11 @@ module _ {A : Type 0} (regions : A → List Grant) (word : A → ℕ → ℕ) (h
     segment = sound.some some
 
     abbrev pub extended_heap : Dlmalloc A
-    extended_heap = record heap { system = system; size = heap.size + grant.size; top_size = heap.base + (heap.size + grant.size) - 80 - heap.top }
+    extended_heap = record heap { system = system; size = heap.size + grant.size; top_size = heap.base + (heap.size + grant.size) - 80 - heap.top; trim_check = trim_threshold }
 
     still : (k : ℕ) → IsWordOf (regions heap.system) k → k ≢ heap.top + 8 → k ≢ heap.base + (heap.size + grant.size) - 72 → word system k ≡ word heap.system k
     still k inside a b =
-        elsewhere k (record { granted = subst (λ (rs : List Grant). IsTrue (is_granted rs k)) (sym with_it) (granted_kept grant (regions heap.system) k inside.granted); aligned = inside.aligned }) a b
+        elsewhere k (word_kept grant (regions heap.system) (regions middle) with_it k inside) a b
         ∙ words k inside
 
     tiles : Tiles (word system) true heap.base (chunks_of word heap) heap.top
@@ -187,7 +190,6 @@ module _ {A : Type 0} (regions : A → List Grant) (word : A → ℕ → ℕ) (h
     pub extended_sound : IsSound regions word extended_heap
     extended_sound = record {
       granularity = sound.granularity;
-      ordered = now_ordered;
       none = λ empty. absurd (omega (arith, some, empty));
       no_victim = sound.no_victim;
       some = λ more. extended_made.0;
@@ -206,7 +208,7 @@ module _ {A : Type 0} (regions : A → List Grant) (word : A → ℕ → ℕ) (h
         let segments : segments_of word extended_heap ≡ (record { base = heap.base; size = heap.size + more; flags = heap.flags; extents = map (grown more) (chunks_of word heap ++ top_and_foot heap.top (heap.base + heap.size)) }) ∷ [] =
         one_segment word extended_heap (chunks_of word heap) (omega arith) extended_made.1
         ∙ ap (λ (l : List Extent). (record { base = heap.base; size = heap.size + more; flags = heap.flags; extents = l }) ∷ []) extents in
-        (λ i. record { segments = segments i; victim = heap.victim; granularity = heap.granularity; rate = heap.rate; countdown = heap.countdown })
+        (λ i. record { segments = segments i; victim = heap.victim; granularity = heap.granularity; rate = heap.rate; countdown = heap.countdown; trim_check = trim_threshold })
         ∙ ap (λ (l : List Segment). granted grant (record (state_of word heap) { segments = l })) (sym (one_segment word heap (chunks_of word heap) some refl))
 
     pub extended_blocks : KeepsBlocks (extents_in (state_of word heap)) (word heap.system) (word system)
@@ -220,41 +222,9 @@ module _ {A : Type 0} (regions : A → List Grant) (word : A → ℕ → ℕ) (h
         ap (extent_at block.at) (extents_are word extended_heap (omega arith))
         ∙ found_more block.at (chunks_of word extended_heap) (top_and_foot heap.top (heap.base + (heap.size + grant.size))) block among'
 
--- a heap whose system was asked in vain is as it was
-module _ {A : Type 0} (regions : A → List Grant) (word : A → ℕ → ℕ) (heap : Dlmalloc A) (sound : IsSound regions word heap) (some : 0 < heap.size) (system : A) (same : regions system ≡ regions heap.system)
-    (words : (k : ℕ) → IsWordOf (regions heap.system) k → word system k ≡ word heap.system k) where
-  abbrev pub whole_segment : HasSegment regions word heap
-  whole_segment = sound.some some
-
-  same_inside : (k : ℕ) → heap.base < k → k < heap.base + heap.size → k % 8 ≡ 0 → word system k ≡ word heap.system k
-  same_inside k low high m = words k (word_inside regions word heap whole_segment k (omega arith) high m)
-
-  same_tiles : Tiles (word system) true heap.base (chunks_of word heap) heap.top
-  same_tiles =
-      let ends = whole_segment.ends in
-      tiles_kept (word heap.system) (word system) true heap.base (chunks_of word heap) heap.top (λ k low high m. same_inside k low (omega arith) m) whole_segment.base_whole whole_segment.chunks
-
-  pub as_it_was_sound : IsSound regions word (record heap { system = system })
-  as_it_was_sound =
-      let ends = whole_segment.ends in let long = whole_segment.top_long in let base = whole_segment.base_whole in let size = whole_segment.size_whole in
-      let above = top_above regions word heap whole_segment in let whole = top_whole regions word heap whole_segment in
-      record {
-        granularity = sound.granularity;
-        ordered = still_ordered (regions heap.system) (regions system) same sound.ordered;
-        none = sound.none;
-        no_victim = sound.no_victim;
-        some = λ more. segment_kept regions word heap whole_segment system heap.top heap.top_size heap.victim heap.victim_size (chunks_of word heap) same same_tiles whole_segment.behind_used
-            (same_inside (heap.top + 8) (omega arith) (omega arith) (omega arith) ∙ whole_segment.top_head) whole_segment.top_long refl
-            (same_inside (heap.top + heap.top_size + 8) (omega arith) (omega arith) (omega arith) ∙ whole_segment.foot_head) whole_segment.victim;
-      }
-
-  pub as_it_was_state : state_of word (record heap { system = system }) ≡ state_of word heap
-  as_it_was_state =
-      let ends = whole_segment.ends in
-      let read = chunks_are regions word heap whole_segment (word system) (chunks_of word heap) heap.top (omega arith) same_tiles in
-      let segments : segments_of word (record heap { system = system }) ≡ segments_of word heap =
-      one_segment word (record heap { system = system }) (chunks_of word heap) some read ∙ sym (one_segment word heap (chunks_of word heap) some refl) in
-      λ i. record { segments = segments i; victim = heap.victim; granularity = heap.granularity; rate = heap.rate; countdown = heap.countdown }
+    pub extended_only : (block : Extent) → extent_at block.at (extents_in (state_of word extended_heap)) ≡ Some block → block.kind ≡ Used → extent_at block.at (extents_in (state_of word heap)) ≡ Some block
+    extended_only block found used =
+        found_among_all word heap some block.at block (ap (extent_at block.at) (sym extended_made.1) ∙ (block_chunk word extended_heap block.at block found used).1)
 
 -- where every granted word stays, the blocks are kept
 pub words_keep_blocks : {A : Type 0} (regions : A → List Grant) (word : A → ℕ → ℕ) (heap : Dlmalloc A) → IsSound regions word heap → (system : A) → ((k : ℕ) → IsWordOf (regions heap.system) k → word system k ≡ word heap.system k) →

@@ -11,8 +11,7 @@ use Rattle.dlmalloc.specs.Granted.{top_and_foot}
 use Rattle.dlmalloc.specs.Freed.{before, merged, set_free, freed_in}
 use Rattle.dlmalloc.proofs.Tiling.{Split, tiles_le, tiles_split, tiles_whole, tiles_kept, tiles_append}
 use Rattle.dlmalloc.proofs.Cut.{behind_used, used_behind, used_after_append}
-use Rattle.dlmalloc.proofs.Places.{nat_isnt}
-use Rattle.dlmalloc.proofs.Chosen.{nat_same}
+use Rattle.dlmalloc.proofs.Places.{nat_same, nat_isnt, HasNoneUsed, none_used, one_unused}
 use Rattle.dlmalloc.proofs.Merging.{before_free, before_next_used, kind_of_chunk, merged_front, merged_whole, set_free_none, Last, last_free}
 
 -- an extent of this place, size and kind
@@ -30,6 +29,7 @@ pub record Before (words : ℕ → ℕ) (base : ℕ) (chunks : List Extent) (at 
   pub last : used_after true front ≡ true
   pub tiles : Tiles words true base front from
   pub joined : Tiles words true from middle at
+  pub free : HasNoneUsed middle
   pub join : (rest : List Extent) (next : Extent) (more : List Extent) → merged rest ≡ next ∷ more → is_free next.kind ≡ true → next.at ≡ at →
       merged (middle ++ rest) ≡ (record { at = from; size = at - from + next.size; kind = next.kind }) ∷ more
 
@@ -56,6 +56,7 @@ join_before words base chunks at h = go (used_after true chunks) refl
           last = used;
           tiles = s.first;
           joined = subst (λ (u : Bool). Tiles words u s.middle (l.chunk ∷ []) at) used s.second;
+          free = one_unused l.chunk (ap is_used free);
           join = λ rest next more is other begins.
               ap (before l.chunk) is ∙ (before_free l.chunk next more (ap is_free free) other
               ∙ ap (λ (e : Extent). e ∷ more) (same_extent place (omega arith) refl));
@@ -73,6 +74,7 @@ join_before words base chunks at h = go (used_after true chunks) refl
       last = used;
       tiles = h;
       joined = refl;
+      free = none_used;
       join = λ rest next more is other begins. is ∙ ap (λ (e : Extent). e ∷ more) (same_extent begins (omega arith) refl);
     }
     go false unused = from_last (last_free chunks unused)
@@ -85,6 +87,7 @@ pub record Behind (words : ℕ → ℕ) (at : ℕ) (chunks : List Extent) (top t
   pub is : chunks ≡ middle ++ next ∷ back
   pub used : next.kind ≡ Used
   pub joined : Tiles words true at middle to
+  pub free : HasNoneUsed middle
   pub told : to ≢ at → used_after true middle ≡ false
   pub tiles : Tiles words (used_after true middle) to (next ∷ back) top
   pub join : (chunk : Extent) (rest : List Extent) → chunk.kind ≡ Free → chunk.at + chunk.size ≡ at →
@@ -120,6 +123,7 @@ join_behind words at (chunk ∷ chunks) top h last more = by_kind (kind_of_chunk
           is = refl;
           used = used;
           joined = refl;
+          free = none_used;
           told = λ more. absurd (more refl);
           tiles = h;
           join = λ first rest free touch. before_next_used first chunk (chunks ++ rest) (ap is_free used)
@@ -142,6 +146,7 @@ join_behind words at (chunk ∷ chunks) top h last more = by_kind (kind_of_chunk
           is = refl;
           used = used_behind next.kind (subst (λ (u : Bool). IsChunk u next.kind) (ap is_used free) tiles.1.kind);
           joined = (place, h.1, refl);
+          free = one_unused chunk (ap is_used free);
           told = λ more. ap is_used free;
           tiles = tiles;
           join = λ first rest free_first touch. before_free first chunk (next ∷ (more ++ rest)) (ap is_free free_first) (ap is_free free)

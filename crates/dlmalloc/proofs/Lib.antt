@@ -1,3 +1,4 @@
+mod Examples
 pub mod Tiling
 pub mod Cut
 pub mod Places
@@ -14,9 +15,19 @@ pub mod Requests
 pub mod Walking
 pub mod Least
 pub mod AllExtents
+pub mod Shown
+pub mod Tiled
+pub mod AllTiled
 pub mod Choosing
 pub mod Merging
 pub mod Joining
 pub mod BlockChunks
 pub mod Freeing
 pub mod Disposing
+pub mod OneMore
+pub mod TakenMore
+pub mod Boundaries
+pub mod FreedLess
+pub mod Outside
+pub mod Full
+pub mod Laws

@@ -17,8 +17,7 @@ use Rattle.dlmalloc.specs.Choice.{chosen}
 use Rattle.dlmalloc.specs.Heap.{state_of}
 use Rattle.dlmalloc.specs.declared.heap.Dlmalloc.{Dlmalloc}
 use Rattle.dlmalloc.specs.Taken.{replaced, cut, leaves_rest, taken, in_segments}
-use Rattle.dlmalloc.proofs.Places.{nat_is}
-use Rattle.dlmalloc.proofs.Chosen.{nat_same}
+use Rattle.dlmalloc.proofs.Places.{nat_is, nat_same}
 use Rattle.dlmalloc.proofs.Growing.{granularity_whole, no_segments}
 
 -- a power of two below 2 ^ 64 is at most 2 ^ 63
@@ -45,7 +44,7 @@ request_small g size n power least less whole near is = go (g == 16) refl (nat_l
 
 -- ---- the block that is cut
 
-replaced_segments : (at : ℕ) (others : Extent → List Extent) (segments : List Segment) → flat_map (λ segment. segment.extents) (in_segments (replaced at others) segments) ≡ replaced at others (flat_map (λ segment. segment.extents) segments)
+pub replaced_segments : (at : ℕ) (others : Extent → List Extent) (segments : List Segment) → flat_map (λ segment. segment.extents) (in_segments (replaced at others) segments) ≡ replaced at others (flat_map (λ segment. segment.extents) segments)
 replaced_segments at others [] = refl
 replaced_segments at others (segment ∷ segments) =
     ap (λ (l : List Extent). replaced at others segment.extents ++ l) (replaced_segments at others segments)

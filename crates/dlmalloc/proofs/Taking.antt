@@ -13,11 +13,10 @@ use Rattle.dlmalloc.specs.Granted.{top_and_foot}
 use Rattle.dlmalloc.specs.Taken.{replaced, cut, victim_after, taken, in_segments}
 use Rattle.dlmalloc.specs.Heap.{chunks_of, segments_of, state_of, HasSegment, IsSound}
 use Rattle.dlmalloc.specs.declared.heap.Dlmalloc.{Dlmalloc}
-use Rattle.dlmalloc.proofs.Regions.{still_ordered}
 use Rattle.dlmalloc.proofs.Cut.{cut_whole, cut_split, used_after_append}
-use Rattle.dlmalloc.proofs.Places.{nat_is, nat_isnt, found_behind}
+use Rattle.dlmalloc.proofs.Places.{nat_is, nat_same, nat_isnt, found_behind}
 use Rattle.dlmalloc.proofs.Sound.{word_inside, top_whole, chunks_are, segment_kept}
-use Rattle.dlmalloc.proofs.Chosen.{nat_same, among, tiled, last_used, from_base, free_below, replaced_chunk, none_inside, split, FreePlace, free_place}
+use Rattle.dlmalloc.proofs.Chosen.{among, tiled, last_used, from_base, free_below, replaced_chunk, none_inside, split, FreePlace, free_place}
 
 -- a chunk that is put in the place of another is found where it begins, and the others as before
 found_beside : (at : ℕ) (front : List Extent) (old : Extent) (new back : List Extent) → old.at ≢ at → extent_at at (new ++ back) ≡ extent_at at back → extent_at at (front ++ (new ++ back)) ≡ extent_at at (front ++ old ∷ back)
@@ -75,12 +74,11 @@ module _ {A : Type 0} (regions : A → List Grant) (word : A → ℕ → ℕ) (h
       ∙ sym (ap (in_segments (replaced at (cut n))) (one_segment word heap (chunks_of word heap) some refl)) in (
         record {
           granularity = sound.granularity;
-          ordered = still_ordered (regions heap.system) (regions system) same sound.ordered;
           none = λ empty. absurd (omega (arith, some, empty));
           no_victim = none;
           some = λ more. kept;
         },
-        λ i. record { segments = segments i; victim = after i; granularity = heap.granularity; rate = heap.rate; countdown = heap.countdown },
+        λ i. record { segments = segments i; victim = after i; granularity = heap.granularity; rate = heap.rate; countdown = heap.countdown; trim_check = heap.trim_check },
       )
 
   place : FreePlace heap at size

@@ -1,17 +1,23 @@
 -- Chunks that tile a range, and the list that is read off their heads.
-use Rattle.std.proofs.Common.{◌≡◌, ℕ, zero, suc, ◌+◌, ◌*◌, ◌%◌, ◌<◌, ◌≤◌, Bool, true, false, List, [], ◌∷◌, ◌++◌, refl, sym, ◌∙◌, ap, subst, arith}
+use Rattle.std.proofs.Common.{◌≡◌, ℕ, zero, suc, ◌+◌, ◌*◌, ◌%◌, ◌<◌, ◌≤◌, Bool, true, false, List, [], ◌∷◌, ◌++◌, IsTrue, refl, sym, ◌∙◌, ap, subst, arith}
 use Rattle.std.proofs.lemmas.Bool.{le-ltb, lt-ltb}
 use Rattle.dlmalloc_chunks.specs.declared.extent.Extent.{Extent}
 use Rattle.dlmalloc_chunks.specs.declared.extent.Kind.{Kind}
 use Rattle.dlmalloc_chunks.specs.declared.extent.Kind.TheVariants.{Used, Free, Victim, Top, Record, Foot}
 use Rattle.dlmalloc_chunks.specs.Head.{size_of, head_of}
 use Rattle.dlmalloc_chunks.specs.HeadLaws.{size_of-head_of, pinuse_of-head_of, cinuse_of-head_of}
-use Rattle.dlmalloc.specs.Extents.{kind_of, chunks_from, is_used, IsChunk, Stands, Tiles, used_after}
+use Rattle.dlmalloc.specs.Extents.{kind_of, chunks_from, is_used, is_free, IsChunk, Stands, Tiles, used_after}
 
 -- a list of chunks ends behind its beginning
 pub tiles_le : (words : ℕ → ℕ) (used : Bool) (at : ℕ) (chunks : List Extent) (end : ℕ) → Tiles words used at chunks end → at ≤ end
 tiles_le words used at [] end h = omega (arith, h)
 tiles_le words used at (chunk ∷ chunks) end h = let rest = tiles_le words (is_used chunk.kind) (at + chunk.size) chunks end h.2 in omega arith
+
+-- nothing tiles an empty range
+pub none_left : (words : ℕ → ℕ) (used : Bool) (at : ℕ) (chunks : List Extent) (end : ℕ) → end ≤ at → Tiles words used at chunks end → chunks ≡ []
+none_left words used at [] end empty h = refl
+none_left words used at (chunk ∷ chunks) end empty h =
+    absurd (let long = h.1.long in let later = tiles_le words (is_used chunk.kind) (at + chunk.size) chunks end h.2 in omega arith)
 
 -- the kind of a chunk is the one that its head tells
 kind_told : (kind : Kind) (used : Bool) (size : ℕ) → size % 8 ≡ 0 → IsChunk used kind → kind_of (head_of size used (is_used kind)) ≡ kind
@@ -49,15 +55,15 @@ tiles_read words used (suc most) at (chunk ∷ chunks) end few h =
 
 -- ---- what chunks rest on
 
--- a chunk rests on its head and on the word behind it
+-- a chunk rests on its head, and a free one on the word behind it
 pub stands_kept : (words words' : ℕ → ℕ) (used : Bool) (chunk : Extent) →
-    words' (chunk.at + 8) ≡ words (chunk.at + 8) → words' (chunk.at + chunk.size) ≡ words (chunk.at + chunk.size) → Stands words used chunk → Stands words' used chunk
+    words' (chunk.at + 8) ≡ words (chunk.at + 8) → (IsTrue (is_free chunk.kind) → words' (chunk.at + chunk.size) ≡ words (chunk.at + chunk.size)) → Stands words used chunk → Stands words' used chunk
 stands_kept words words' used chunk head foot h = record {
   whole = h.whole;
   long = h.long;
   kind = h.kind;
   head = head ∙ h.head;
-  foot = λ free. foot ∙ h.foot free;
+  foot = λ free. foot free ∙ h.foot free;
 }
 
 -- chunks rest on the words behind the beginning of their range
@@ -69,7 +75,7 @@ tiles_kept words words' used at (chunk ∷ chunks) end same whole h =
     let place = h.0 in
     let later = tiles_le words (is_used chunk.kind) (at + chunk.size) chunks end h.2 in (
       h.0,
-      stands_kept words words' used chunk (same (chunk.at + 8) (omega arith) (omega arith) (omega arith)) (same (chunk.at + chunk.size) (omega arith) (omega arith) (omega arith)) h.1,
+      stands_kept words words' used chunk (same (chunk.at + 8) (omega arith) (omega arith) (omega arith)) (λ free. same (chunk.at + chunk.size) (omega arith) (omega arith) (omega arith)) h.1,
       tiles_kept words words' (is_used chunk.kind) (at + chunk.size) chunks end (λ k low high multiple. same k (omega arith) high multiple) (omega arith) h.2,
     )
 

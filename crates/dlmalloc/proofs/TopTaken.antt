@@ -14,17 +14,15 @@ use Rattle.dlmalloc.specs.Granted.{top_and_foot}
 use Rattle.dlmalloc.specs.Taken.{replaced, cut, taken, in_segments}
 use Rattle.dlmalloc.specs.Heap.{chunks_of, segments_of, state_of, HasSegment, IsSound}
 use Rattle.dlmalloc.specs.declared.heap.Dlmalloc.{Dlmalloc}
-use Rattle.dlmalloc.proofs.Regions.{still_ordered}
 use Rattle.dlmalloc.proofs.Tiling.{tiles_kept, tiles_append}
 use Rattle.dlmalloc.proofs.Cut.{used_after_append}
-use Rattle.dlmalloc.proofs.Places.{nat_isnt, replaced_none, found_more}
+use Rattle.dlmalloc.proofs.Places.{nat_same, nat_isnt, replaced_none, found_more}
 use Rattle.dlmalloc.proofs.Sound.{word_inside, top_above, top_whole, chunks_are, segment_kept}
-use Rattle.dlmalloc.proofs.Chosen.{nat_same}
 use Rattle.dlmalloc.proofs.Taking.{one_segment}
 use Rattle.dlmalloc.proofs.BlocksKept.{keeps_below}
 
 -- the top is cut among the extents
-cut_top : (words : ℕ → ℕ) (base : ℕ) (chunks : List Extent) (top n end : ℕ) → Tiles words true base chunks top → top + n + 96 ≤ end →
+pub cut_top : (words : ℕ → ℕ) (base : ℕ) (chunks : List Extent) (top n end : ℕ) → Tiles words true base chunks top → top + 80 < end →
     replaced top (cut n) (chunks ++ top_and_foot top end) ≡ (chunks ++ (record { at = top; size = n; kind = Used }) ∷ []) ++ top_and_foot (top + n) end
 cut_top words base chunks top n end tiles room =
     let here : (top == top) ≡ true = nat_same top in
@@ -104,7 +102,6 @@ module _ {A : Type 0} (regions : A → List Grant) (word : A → ℕ → ℕ) (h
   pub top_sound : IsSound regions word after
   top_sound = record {
     granularity = sound.granularity;
-    ordered = still_ordered (regions heap.system) (regions system) same sound.ordered;
     none = λ empty. absurd (omega (arith, some, empty));
     no_victim = sound.no_victim;
     some = λ more. kept;
@@ -119,7 +116,7 @@ module _ {A : Type 0} (regions : A → List Grant) (word : A → ℕ → ℕ) (h
       ∙ ap (λ (l : List Extent). (record { base = heap.base; size = heap.size; flags = heap.flags; extents = l }) ∷ [])
       (sym (cut_top (word heap.system) heap.base (chunks_of word heap) heap.top n (heap.base + heap.size) segment.chunks (omega arith)))
       ∙ sym (ap (in_segments (replaced heap.top (cut n))) (one_segment word heap (chunks_of word heap) some refl)) in
-      λ i. record { segments = segments i; victim = heap.victim; granularity = heap.granularity; rate = heap.rate; countdown = heap.countdown }
+      λ i. record { segments = segments i; victim = heap.victim; granularity = heap.granularity; rate = heap.rate; countdown = heap.countdown; trim_check = heap.trim_check }
 
   pub top_blocks : KeepsBlocks (extents_in (state_of word heap)) (word heap.system) (word system)
   top_blocks = keeps_below regions word heap some segment system (λ k inside low. top_elsewhere k inside (λ is. omega arith) (λ is. omega arith))

@@ -11,10 +11,10 @@ use Rattle.dlmalloc_chunks.specs.Head.{size_of}
 use Rattle.dlmalloc.specs.Extents.{kind_of, is_used, IsChunk, Stands, Tiles, used_after, extent_at}
 use Rattle.dlmalloc.specs.Heap.{chunks_of, HasSegment}
 use Rattle.dlmalloc.specs.declared.heap.Dlmalloc.{Dlmalloc}
-use Rattle.dlmalloc.proofs.Tiling.{tiles_le, tiles_append, told}
-use Rattle.dlmalloc.proofs.Places.{found, found_behind}
+use Rattle.dlmalloc.proofs.Tiling.{none_left, tiles_append, told}
+use Rattle.dlmalloc.proofs.Places.{nat_same, found, found_behind}
 use Rattle.dlmalloc.proofs.Sound.{head_inside}
-use Rattle.dlmalloc.proofs.Chosen.{nat_same, among, stands, from_base, at_whole, to_top}
+use Rattle.dlmalloc.proofs.Chosen.{among, stands, from_base, at_whole, to_top}
 
 -- the chunks of a range up to an address, of which something is known
 pub record Passed (words : ℕ → ℕ) (base : ℕ) (chunks : List Extent) (top at : ℕ) (known : List Extent → Type 0) : Type 0 where
@@ -51,11 +51,7 @@ begun words base chunks top known h so_far = record { front = []; back = chunks;
 
 -- all is passed at the top
 pub all_passed : (words : ℕ → ℕ) (base : ℕ) (chunks : List Extent) (top at : ℕ) (known : List Extent → Type 0) → top ≤ at → Passed words base chunks top at known → known chunks
-all_passed words base chunks top at known end p = subst known (sym (p.is ∙ (ap (λ (cs : List Extent). p.front ++ cs) (none_left (used_after true p.front) p.back p.behind) ∙ append-nil p.front))) p.so_far
-  where
-    none_left : (used : Bool) (back : List Extent) → Tiles words used at back top → back ≡ []
-    none_left used [] h = refl
-    none_left used (chunk ∷ rest) h = absurd (let long = h.1.long in let later = tiles_le words (is_used chunk.kind) (at + chunk.size) rest top h.2 in omega arith)
+all_passed words base chunks top at known end p = subst known (sym (p.is ∙ (ap (λ (cs : List Extent). p.front ++ cs) (none_left words (used_after true p.front) at p.back top end p.behind) ∙ append-nil p.front))) p.so_far
 
 -- the kind of a chunk is one of two
 pub chunk_kind : (used : Bool) (kind : Kind) → IsChunk used kind → (kind ≡ Used) ⊎ (kind ≡ Free)

@@ -1,9 +1,11 @@
 -- The chunks of a segment, as their head words tell them, and the extents that they are.
-use Rattle.std.specs.Prelude.{◌≡◌, ℕ, zero, suc, ◌+◌, ◌%◌, ◌≤◌, ⊤, Bool, true, false, ◌==◌, nat_lt, if◌then◌else◌, List, [], ◌∷◌, find, Option, IsTrue}
+use Rattle.std.specs.Prelude.{◌≡◌, ℕ, zero, suc, ◌+◌, ◌%◌, ◌≤◌, ⊤, Bool, true, false, nat_lt, if◌then◌else◌, List, [], ◌∷◌, IsTrue}
 use Rattle.dlmalloc_chunks.specs.declared.extent.Extent.{Extent}
 use Rattle.dlmalloc_chunks.specs.declared.extent.Kind.{Kind}
 use Rattle.dlmalloc_chunks.specs.declared.extent.Kind.TheVariants.{Used, Free, Victim, Top, Record, Foot}
 use Rattle.dlmalloc_chunks.specs.Head.{size_of, free_of, head_of}
+pub use Rattle.dlmalloc_chunks.specs.Kinds.{is_free}
+pub use Rattle.dlmalloc_chunks.specs.Tiling.{extent_at}
 
 -- what a head says of its chunk
 abbrev pub kind_of : ℕ → Kind
@@ -25,15 +27,6 @@ is_used Victim = false
 is_used Top = false
 is_used Record = true
 is_used Foot = false
-
--- whether it is free
-abbrev pub is_free : Kind → Bool
-is_free Used = false
-is_free Free = true
-is_free Victim = true
-is_free Top = true
-is_free Record = false
-is_free Foot = false
 
 -- a chunk in use may stand anywhere, and a free one behind a chunk in use
 abbrev pub IsChunk : Bool → Kind → Type 0
@@ -63,7 +56,3 @@ Tiles words used at (chunk ∷ chunks) end =
 abbrev pub used_after : Bool → List Extent → Bool
 used_after used [] = used
 used_after used (chunk ∷ chunks) = used_after (is_used chunk.kind) chunks
-
--- the extent that begins at an address
-abbrev pub extent_at : ℕ → List Extent → Option Extent
-extent_at at extents = find (λ extent. extent.at == at) extents

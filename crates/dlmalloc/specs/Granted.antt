@@ -4,7 +4,7 @@ use Rattle.heap_memory.specs.declared.grant.Grant.{Grant}
 use Rattle.dlmalloc_chunks.specs.declared.extent.Extent.{Extent}
 use Rattle.dlmalloc_chunks.specs.declared.extent.Kind.{Kind}
 use Rattle.dlmalloc_chunks.specs.declared.extent.Kind.TheVariants.{Top, Foot}
-use Rattle.dlmalloc.specs.State.{HeapState, Segment, countdown_from}
+use Rattle.dlmalloc.specs.State.{HeapState, Segment, countdown_from, trim_threshold}
 
 -- the top up to 80 bytes before an address, and the foot behind it
 abbrev pub top_and_foot : ℕ → ℕ → List Extent
@@ -27,10 +27,10 @@ abbrev pub extended : ℕ → Segment → Segment
 extended more segment = record segment { size = segment.size + more; extents = map (grown more) segment.extents }
 
 -- The first grant is the head segment, and begins the countdown; a grant at the end of the head segment makes its top
--- longer.
+-- longer. Both set the trim check.
 abbrev pub granted : Grant → HeapState → HeapState
 granted grant heap = granted_to heap.segments
   where
     granted_to : List Segment → HeapState
-    granted_to [] = record heap { segments = opened grant ∷ []; countdown = countdown_from heap.rate }
-    granted_to (head ∷ rest) = record heap { segments = extended grant.size head ∷ rest }
+    granted_to [] = record heap { segments = opened grant ∷ []; countdown = countdown_from heap.rate; trim_check = trim_threshold }
+    granted_to (head ∷ rest) = record heap { segments = extended grant.size head ∷ rest; trim_check = trim_threshold }

@@ -1,7 +1,7 @@
 -- A heap before and after it asked its system for a region.
-use Rattle.std.specs.Prelude.{◌≡◌, ℕ, ◌+◌, ◌<◌, List, [], ◌∷◌, Some}
+use Rattle.std.specs.Prelude.{◌≡◌, ◌≢◌, ℕ, ◌+◌, ◌%◌, ◌<◌, ◌≤◌, Bool, true, List, [], ◌∷◌, Some}
 use Rattle.heap_memory.specs.declared.grant.Grant.{Grant}
-use Rattle.heap_memory.specs.Regions.{IsWordOf}
+use Rattle.heap_memory.specs.Regions.{IsWordOf, with_grant}
 use Rattle.heap_memory.specs.Events.{Event, Granted}
 use Rattle.dlmalloc_chunks.specs.Request.{round_up}
 use Rattle.dlmalloc_chunks.specs.declared.extent.Extent.{Extent}
@@ -14,7 +14,7 @@ use Rattle.dlmalloc.specs.Heap.{state_of, IsSound}
 use Rattle.dlmalloc.specs.declared.heap.Dlmalloc.{Dlmalloc}
 
 -- A region was granted, with room for a chunk of n bytes at the top.
-pub record IsGrown {A : Type 0} (regions : A → List Grant) (word : A → ℕ → ℕ) (follows : A → List Event → A → Type 0) (old : Dlmalloc A) (n : ℕ) (new : Dlmalloc A) : Type 0 where
+pub record IsGrown {A : Type 0} (regions : A → List Grant) (word : A → ℕ → ℕ) (zeros : A → Bool) (follows : A → List Event → A → Type 0) (old : Dlmalloc A) (n : ℕ) (new : Dlmalloc A) : Type 0 where
   pub grant : Grant
   pub followed : follows old.system (Granted (round_up (n + 96) old.granularity) grant ∷ []) new.system
   pub state : state_of word new ≡ granted grant (state_of word old)
@@ -22,11 +22,17 @@ pub record IsGrown {A : Type 0} (regions : A → List Grant) (word : A → ℕ �
   pub there : 0 < new.size
   pub room : n < new.top_size
   pub blocks : KeepsBlocks (extents_in (state_of word old)) (word old.system) (word new.system)
+  pub with_it : regions new.system ≡ with_grant grant (regions old.system)
   pub blocks_there : (block : Extent) → extent_at block.at (extents_in (state_of word old)) ≡ Some block → block.kind ≡ Used → extent_at block.at (extents_in (state_of word new)) ≡ Some block
+  pub blocks_only : (block : Extent) → extent_at block.at (extents_in (state_of word new)) ≡ Some block → block.kind ≡ Used → extent_at block.at (extents_in (state_of word old)) ≡ Some block
+  -- the heads of the top and of its foot alone are written
+  pub words : (k : ℕ) → IsWordOf (regions old.system) k → k ≢ new.top + 8 → k ≢ new.top + new.top_size + 8 → word new.system k ≡ word old.system k
+  pub new_words : zeros old.system ≡ true → (k : ℕ) → grant.base ≤ k → k < grant.base + grant.size → k % 8 ≡ 0 → k ≢ new.top + 8 → k ≢ new.top + new.top_size + 8 → word new.system k ≡ 0
 
 -- Nothing was granted, and all is as it was.
-pub record IsAsItWas {A : Type 0} (regions : A → List Grant) (word : A → ℕ → ℕ) (follows : A → List Event → A → Type 0) (old new : Dlmalloc A) : Type 0 where
+pub record IsAsItWas {A : Type 0} (regions : A → List Grant) (word : A → ℕ → ℕ) (follows : A → List Event → A → Type 0) (refuses : A → A → Type 0) (old new : Dlmalloc A) : Type 0 where
   pub followed : follows old.system [] new.system
+  pub refused : refuses old.system new.system
   pub state : state_of word new ≡ state_of word old
   pub sound : IsSound regions word new
   pub regions_same : regions new.system ≡ regions old.system

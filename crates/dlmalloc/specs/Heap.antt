@@ -7,7 +7,6 @@ use Rattle.dlmalloc_chunks.specs.declared.extent.Extent.{Extent}
 use Rattle.dlmalloc_chunks.specs.declared.extent.Kind.TheVariants.{Free}
 use Rattle.dlmalloc_chunks.specs.Head.{head_of}
 use Rattle.dlmalloc.specs.Extents.{chunks_from, Tiles, used_after, extent_at}
-use Rattle.dlmalloc.specs.Regions.{are_ordered}
 use Rattle.dlmalloc.specs.State.{HeapState, Segment}
 use Rattle.dlmalloc.specs.Granted.{top_and_foot}
 use Rattle.dlmalloc.specs.declared.heap.Dlmalloc.{Dlmalloc}
@@ -23,7 +22,7 @@ segments_of word heap =
 
 -- the state of a heap
 abbrev pub state_of : {A : Type 0} → (A → ℕ → ℕ) → Dlmalloc A → HeapState
-state_of word heap = record { segments = segments_of word heap; victim = heap.victim; granularity = heap.granularity; rate = heap.rate; countdown = heap.countdown }
+state_of word heap = record { segments = segments_of word heap; victim = heap.victim; granularity = heap.granularity; rate = heap.rate; countdown = heap.countdown; trim_check = heap.trim_check }
 
 -- a granularity is a power of two of at least 16
 abbrev pub IsGranularity : ℕ → Type 0
@@ -46,10 +45,19 @@ pub record HasSegment {A : Type 0} (regions : A → List Grant) (word : A → �
   pub ends : heap.top + heap.top_size + 80 ≡ heap.base + heap.size
   pub victim : heap.victim_size ≢ 0 → extent_at heap.victim (chunks_of word heap) ≡ Some (record { at = heap.victim; size = heap.victim_size; kind = Free })
 
--- The heap keeps to its rules over a system whose regions are ordered: nothing is there before the first grant, and then one segment.
+-- The heap keeps to its rules: nothing is there before the first grant, and then one segment.
 pub record IsSound {A : Type 0} (regions : A → List Grant) (word : A → ℕ → ℕ) (heap : Dlmalloc A) : Type 0 where
   pub granularity : IsGranularity heap.granularity
-  pub ordered : IsTrue (are_ordered (regions heap.system))
   pub none : heap.size ≡ 0 → (heap.top_size ≡ 0) × (heap.victim_size ≡ 0)
   pub no_victim : heap.victim_size ≡ 0 → heap.victim ≡ 0
   pub some : 0 < heap.size → HasSegment regions word heap
+
+-- Where an extent in use stands: before the top, behind which there are 96 bytes at least.
+pub record IsInside {A : Type 0} (heap : Dlmalloc A) (used : Extent) : Type 0 where
+  pub there : 0 < heap.size
+  pub from : heap.base ≤ used.at
+  pub to : used.at + used.size ≤ heap.top
+  pub behind : heap.top + 96 ≤ heap.base + heap.size
+  pub whole : used.at % 16 ≡ 0
+  pub size_whole : used.size % 16 ≡ 0
+  pub long : 32 ≤ used.size

@@ -1,4 +1,3 @@
-pub mod Regions
 pub mod Extents
 pub mod State
 pub mod Choice
@@ -7,5 +6,6 @@ pub mod Freed
 pub mod Granted
 pub mod Heap
 pub mod Blocks
+pub mod Boundaries
 pub mod Grown
 pub mod Served

@@ -4,6 +4,7 @@ use Rattle.heap_memory.specs.declared.grant.Grant.{Grant}
 use Rattle.heap_memory.specs.declared.grant.GrantFault.{GrantFault}
 use Rattle.heap_memory.specs.declared.grant.GrantFault.TheVariants.{OutOfMemory}
 use Rattle.heap_memory.specs.Events.{Event, Granted}
+use Rattle.heap_memory.specs.Regions.{with_grant}
 use Rattle.dlmalloc_chunks.specs.Request.{padded, limit, round_up}
 use Rattle.dlmalloc_chunks.specs.declared.extent.Extent.{Extent}
 use Rattle.dlmalloc.specs.Extents.{extent_at}
@@ -30,11 +31,12 @@ pub record IsTakenNew (old : HeapState) (n at : ℕ) (grant : Grant) (new : Heap
   pub place : at ≡ top.at
   pub state : new ≡ taken (granted grant old) top n
 
--- a chunk of n bytes was cut at an address, with what the system says of the time
-abbrev pub IsCut : {A : Type 0} → (A → List Event → A → Type 0) → A → HeapState → ℕ → ℕ → A → HeapState → Type 0
-IsCut follows system old n at system' new =
-    (IsTaken old n at new × follows system [] system')
-    ⊎ ((grant : Grant) × IsTakenNew old n at grant new × follows system (Granted (round_up (n + 96) old.granularity) grant ∷ []) system')
+-- a chunk of n bytes was cut at an address, with what the system says of the time, and its regions at the end
+abbrev pub IsCut : {A : Type 0} → (A → List Event → A → Type 0) → (A → List Grant) → A → HeapState → ℕ → ℕ → A → HeapState → Type 0
+IsCut follows regions system old n at system' new =
+    (IsTaken old n at new × follows system [] system' × (regions system' ≡ regions system))
+    ⊎ ((grant : Grant) × IsTakenNew old n at grant new × follows system (Granted (round_up (n + 96) old.granularity) grant ∷ []) system'
+    × (regions system' ≡ with_grant grant (regions system)))
 
 -- The system denied what the heap asked it for, since nothing was chosen. Want of memory is free.
 pub record IsDenied {A : Type 0} (denies : A → ℕ → GrantFault → Type 0) (system : A) (old : HeapState) (n : ℕ) (fault : GrantFault) : Type 0 where

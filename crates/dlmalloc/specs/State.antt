@@ -3,6 +3,7 @@ use Rattle.std.specs.Prelude.{ℕ, ◌-◌, ◌^◌, Bool, true, false, not, ◌
 use Rattle.dlmalloc_chunks.specs.declared.extent.Extent.{Extent}
 use Rattle.dlmalloc_chunks.specs.declared.extent.Kind.{Kind}
 use Rattle.dlmalloc_chunks.specs.declared.extent.Kind.TheVariants.{Used, Free, Victim, Top, Record, Foot}
+pub use Rattle.dlmalloc_chunks.specs.Kinds.{is_top}
 
 -- a run of granted bytes, and the extents that tile it
 pub record Segment : Type 0 where
@@ -21,18 +22,12 @@ pub record HeapState : Type 0 where
   -- how many large chunks are freed between two release passes, and how many are still to come
   pub rate : ℕ
   pub countdown : ℕ
+  -- a free that leaves the top longer than this many bytes gives some of it back
+  pub trim_check : ℕ
 
 -- the extents of all segments
 abbrev pub extents_in : HeapState → List Extent
 extents_in heap = flat_map (λ segment. segment.extents) heap.segments
-
-abbrev pub is_top : Kind → Bool
-is_top Used = false
-is_top Free = false
-is_top Victim = false
-is_top Top = true
-is_top Record = false
-is_top Foot = false
 
 -- whether an extent is free and not the top
 abbrev pub is_plain : Kind → Bool
@@ -62,6 +57,10 @@ size_where is extents = unwrap_or (option_map (λ extent. extent.size) (find is 
 abbrev pub countdown_from : ℕ → ℕ
 countdown_from rate = if rate == 0 then 2 ^ 64 - 1 else rate
 
+-- the trim check of a heap that was granted a region, in bytes (dlmalloc: DEFAULT_TRIM_THRESHOLD)
+abbrev pub trim_threshold : ℕ
+trim_threshold = 2097152
+
 -- a new heap (dlmalloc: `Dlmalloc::new`)
 abbrev pub new_heap : HeapState
-new_heap = record { segments = []; victim = 0; granularity = 65536; rate = 4095; countdown = 0 }
+new_heap = record { segments = []; victim = 0; granularity = 65536; rate = 4095; countdown = 0; trim_check = 0 }

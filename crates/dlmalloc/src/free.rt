@@ -6,7 +6,8 @@ ghost use Rattle.dlmalloc_chunks.specs.Head.{size_of, pinuse_of, free_of, head_o
 ghost use Rattle.dlmalloc.specs.Extents.{extent_at};
 ghost use Rattle.dlmalloc.specs.State.{extents_in};
 ghost use Rattle.dlmalloc.specs.Freed.{freed};
-ghost use Rattle.dlmalloc.specs.Blocks.{IsBlock, KeepsBlocks};
+ghost use Rattle.dlmalloc.specs.Boundaries.{OnlyBoundariesChange};
+ghost use Rattle.dlmalloc.specs.Blocks.{IsBlock, HasOneMore, KeepsBlocks};
 ghost use Rattle.dlmalloc.specs.Heap.{chunks_of, state_of, IsSound};
 
 use crate::heap::Dlmalloc;
@@ -18,13 +19,16 @@ use step_count::Steps;
 
 impl<A: Allocator> Dlmalloc<A> {
     /// Frees the block at an address, of the bytes that were asked for (dlmalloc: `Dlmalloc::free`). Its chunk joins the
-    /// free chunks beside it. The size and the alignment are not read: the chunk's head tells its size.
+    /// free chunks beside it. The size and the alignment are not read: the chunk's head tells its size. It writes the words
+    /// at boundaries of extents alone.
     pub fn free<L: Ledger>(&mut self, ptr: u64, size: u64, align: u64, steps: &mut Steps<L>)
         requires sound { IsSound A.regions A.word self.old }
         requires block { IsBlock (state_of A.word self.old) ptr size }
         ensures state { state_of A.word self.new ≡ freed (state_of A.word self.old) (ptr - 16) }
+        ensures less { HasOneMore (state_of A.word self.new) (state_of A.word self.old) (ptr - 16) }
         ensures sound { IsSound A.regions A.word self.new }
         ensures blocks { KeepsBlocks (extents_in (state_of A.word self.new)) (A.word self.old.system) (A.word self.new.system) }
+        ensures words { OnlyBoundariesChange (A.regions self.old.system) (state_of A.word self.new) (A.word self.old.system) (A.word self.new.system) }
         ensures regions { A.regions self.new.system ≡ A.regions self.old.system }
         ensures follows { A.follows self.old.system [] self.new.system }
     {
@@ -36,9 +40,11 @@ impl<A: Allocator> Dlmalloc<A> {
         requires sound { IsSound A.regions A.word self.old }
         requires block { IfSome ptr (λ address. (size : ℕ) × IsBlock (state_of A.word self.old) address size) }
         ensures state { IfSome ptr (λ address. state_of A.word self.new ≡ freed (state_of A.word self.old) (address - 16)) }
+        ensures less { IfSome ptr (λ address. HasOneMore (state_of A.word self.new) (state_of A.word self.old) (address - 16)) }
         ensures none { IfNone ptr (self.new ≡ self.old) }
         ensures sound { IsSound A.regions A.word self.new }
         ensures blocks { KeepsBlocks (extents_in (state_of A.word self.new)) (A.word self.old.system) (A.word self.new.system) }
+        ensures words { OnlyBoundariesChange (A.regions self.old.system) (state_of A.word self.new) (A.word self.old.system) (A.word self.new.system) }
         ensures regions { A.regions self.new.system ≡ A.regions self.old.system }
         ensures follows { A.follows self.old.system [] self.new.system }
     {
@@ -52,8 +58,10 @@ impl<A: Allocator> Dlmalloc<A> {
         requires sound { IsSound A.regions A.word self.old }
         requires block { (size : ℕ) × IsBlock (state_of A.word self.old) ptr size }
         ensures state { state_of A.word self.new ≡ freed (state_of A.word self.old) (ptr - 16) }
+        ensures less { HasOneMore (state_of A.word self.new) (state_of A.word self.old) (ptr - 16) }
         ensures sound { IsSound A.regions A.word self.new }
         ensures blocks { KeepsBlocks (extents_in (state_of A.word self.new)) (A.word self.old.system) (A.word self.new.system) }
+        ensures words { OnlyBoundariesChange (A.regions self.old.system) (state_of A.word self.new) (A.word self.old.system) (A.word self.new.system) }
         ensures regions { A.regions self.new.system ≡ A.regions self.old.system }
         ensures follows { A.follows self.old.system [] self.new.system }
     {
@@ -71,6 +79,7 @@ impl<A: Allocator> Dlmalloc<A> {
         ensures state { state_of A.word self.new ≡ freed (state_of A.word self.old) at }
         ensures sound { IsSound A.regions A.word self.new }
         ensures blocks { KeepsBlocks (extents_in (state_of A.word self.new)) (A.word self.old.system) (A.word self.new.system) }
+        ensures words { OnlyBoundariesChange (A.regions self.old.system) (state_of A.word self.new) (A.word self.old.system) (A.word self.new.system) }
         ensures regions { A.regions self.new.system ≡ A.regions self.old.system }
         ensures follows { A.follows self.old.system [] self.new.system }
     {

@@ -1,5 +1,4 @@
 ghost use Rattle.std.specs.Prelude.{◌≡◌, ◌↔◌, ◌≢◌, ℕ, ◌+◌, ◌≤◌, if◌then◌else◌, IsTrue};
-ghost use Rattle.dlmalloc.specs.Regions.{are_ordered};
 ghost use Rattle.dlmalloc.specs.State.{new_heap, countdown_from};
 ghost use Rattle.dlmalloc.specs.Heap.{state_of, IsSound, IsGranularity};
 
@@ -28,6 +27,8 @@ pub struct Dlmalloc<A: Allocator> {
     pub(crate) granularity: u64,
     pub(crate) rate: u64,
     pub(crate) countdown: u64,
+    /// The bytes of the top above which a free is to give some of it back.
+    pub(crate) trim_check: u64,
 }
 
 /// A countdown that begins.
@@ -37,8 +38,8 @@ pub(crate) fn countdown_from(rate: u64) -> u64
     if rate == 0 { u64::MAX } else { rate }
 }
 
-/// Whether a system may be asked for multiples of this number of bytes.
-fn is_granularity(granularity: u64) -> bool
+/// Whether a system may be asked for multiples of this number of bytes (own).
+pub fn is_granularity(granularity: u64) -> bool
     ensures { IsTrue result ↔ IsGranularity granularity }
 {
     granularity.is_power_of_two() && granularity >= 16
@@ -48,9 +49,8 @@ impl<A: Allocator> Dlmalloc<A> {
     ghost use Rattle.std.specs.Borrow.{Lends, sem};
     ghost use Rattle.dlmalloc.specs.contracts.heap.Dlmalloc.{the_row};
 
-    /// An empty heap over a system whose regions stand by ascending base (dlmalloc: `Dlmalloc::new_with_allocator`).
+    /// An empty heap over a system (dlmalloc: `Dlmalloc::new_with_allocator`).
     pub fn new_with_allocator(system: A) -> Dlmalloc<A>
-        requires { IsTrue (are_ordered (A.regions system)) }
         ensures state { state_of A.word result ≡ new_heap }
         ensures system { result.system ≡ system }
         ensures sound { IsSound A.regions A.word result }
@@ -67,16 +67,16 @@ impl<A: Allocator> Dlmalloc<A> {
             granularity: DEFAULT_GRANULARITY,
             rate: DEFAULT_RATE,
             countdown: 0,
+            trim_check: 0,
         }
     }
 
     /// Sets how many large chunks are freed between two release passes, and begins to count them anew. With 0 there is no
     /// such pass.
     pub fn set_max_release_check_rate(&mut self, rate: u64)
-        requires sound { IsSound A.regions A.word self.old }
         ensures state { state_of A.word self.new ≡ record (state_of A.word self.old) { rate = rate; countdown = countdown_from rate } }
         ensures system { self.new.system ≡ self.old.system }
-        ensures sound { IsSound A.regions A.word self.new }
+        ensures sound { IsSound A.regions A.word self.old → IsSound A.regions A.word self.new }
     {
         self.rate = rate;
         self.countdown = countdown_from(rate);
@@ -85,11 +85,10 @@ impl<A: Allocator> Dlmalloc<A> {
     /// Sets the granularity: the system is asked for multiples of it. True exactly for a power of two of at least 16;
     /// any other number changes nothing.
     pub fn set_granularity(&mut self, granularity: u64) -> bool
-        requires sound { IsSound A.regions A.word self.old }
         ensures answer { IsTrue result ↔ IsGranularity granularity }
         ensures state { state_of A.word self.new ≡ record (state_of A.word self.old) { granularity = if result then granularity else self.old.granularity } }
         ensures system { self.new.system ≡ self.old.system }
-        ensures sound { IsSound A.regions A.word self.new }
+        ensures sound { IsSound A.regions A.word self.old → IsSound A.regions A.word self.new }
     {
         let accepted = is_granularity(granularity);
         if accepted {
@@ -98,8 +97,8 @@ impl<A: Allocator> Dlmalloc<A> {
         accepted
     }
 
-    /// The system, to be changed. The heap stays sound where what is done leaves the regions of its segment, and every
-    /// byte of them that is outside of blocks.
+    /// The system, to be changed. The heap stays sound, and in its state, where what is done leaves the regions and every
+    /// word outside of blocks: `sound_outside` and `state_outside` of proofs/Laws.antt.
     pub fn allocator_mut(&mut self) -> &mut A
         ensures* lends { sem 𝓛 (Lends (the_row A.row) A.row self.entry result (λ w. record self.old { system = w })) }
         ensures value { result.now ≡ self.old.system }

@@ -18,5 +18,8 @@ pub(crate) const FOOT: u64 = 80;
 /// What a grant has beside the chunk that it is asked for: the foot, and a least rest of the top.
 pub(crate) const OVERHEAD: u64 = 96;
 
+/// The bytes of the top above which a free is to give some of it back, once a region was granted.
+pub(crate) const TRIM_THRESHOLD: u64 = 2 * 1024 * 1024;
+
 /// The bit of a head that says that the chunk before is in use.
 pub(crate) const PINUSE: u64 = 1;

@@ -14,7 +14,7 @@ mod top;
 mod walk;
 
 pub use dlmalloc_chunks::{Extent, ExtentList, Kind};
-pub use heap::Dlmalloc;
+pub use heap::{Dlmalloc, is_granularity};
 pub use malloc_error::MallocError;
 
 #[cfg(test)]

@@ -3,6 +3,7 @@ ghost use Rattle.std.specs.Prelude.{◌≡◌, ◌≢◌, ℕ, ◌+◌, ◌%◌,
 ghost use Rattle.dlmalloc_chunks.specs.declared.extent.Kind.TheVariants.{Free};
 ghost use Rattle.dlmalloc.specs.Extents.{extent_at};
 ghost use Rattle.dlmalloc.specs.State.{extents_in};
+ghost use Rattle.dlmalloc.specs.Boundaries.{OnlyBoundariesChange};
 ghost use Rattle.dlmalloc.specs.Blocks.{KeepsBlocks};
 ghost use Rattle.dlmalloc.specs.Taken.{taken};
 ghost use Rattle.dlmalloc.specs.Heap.{chunks_of, state_of, IsSound};
@@ -26,6 +27,7 @@ impl<A: Allocator> Dlmalloc<A> {
         ensures state { state_of A.word self.new ≡ taken (state_of A.word self.old) (record { at = at; size = size; kind = Free }) n }
         ensures sound { IsSound A.regions A.word self.new }
         ensures blocks { KeepsBlocks (extents_in (state_of A.word self.old)) (A.word self.old.system) (A.word self.new.system) }
+        ensures words { OnlyBoundariesChange (A.regions self.old.system) (state_of A.word self.new) (A.word self.old.system) (A.word self.new.system) }
         ensures regions { A.regions self.new.system ≡ A.regions self.old.system }
         ensures follows { A.follows self.old.system [] self.new.system }
     {

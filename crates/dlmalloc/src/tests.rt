@@ -1,4 +1,5 @@
-ghost use Rattle.std.specs.Prelude.{◌≡◌, ◌<◌, IfOk};
+ghost use Rattle.std.specs.Prelude.{◌≡◌, ◌<◌, IfOk, option_map};
+ghost use Rattle.dlmalloc.specs.Extents.{extent_at};
 ghost use Rattle.dlmalloc.specs.Heap.{IsSound};
 
 use super::*;
@@ -10,117 +11,332 @@ use std::sync::ledger::{Blank, Ledger};
 use std::test::Fail;
 use step_count::Steps;
 
-/// A heap whose system gives one region.
-fn flat_heap(alloc: Global, size: u64) -> Result<Dlmalloc<FlatSystem>, AllocError>
+/// A heap whose system gives one region, of 65536 bytes at 0x400000.
+fn flat_heap(alloc: Global) -> Result<Dlmalloc<FlatSystem>, AllocError>
     ensures { IfOk result (λ heap. IsSound ⟦<FlatSystem as Links>⟧.regions ⟦<FlatSystem as Links>⟧.word heap) }
 {
     let mut script = Vec::new(alloc);
     script.push(FlatStep::Give {
         base: 0x40_0000,
-        size,
+        size: 65536,
         flags: 0,
     })?;
     let system = FlatSystem::new(alloc, script, true, true, 4096)?;
     Ok(Dlmalloc::new_with_allocator(system))
 }
 
-/// A request of a new heap, and its extents afterwards.
+/// A call of a heap.
+#[derive(Clone, Copy)]
+enum Call {
+    /// Asks for a block of a size, and is given this answer.
+    Malloc(u64, Result<u64, MallocError>),
+    /// Frees the block at an address.
+    Free(u64),
+}
+
+/// What the extent is that begins at an address, if one does.
+fn kind_at(extents: &[Extent], at: u64) -> Option<Kind>
+    ensures { result ≡ option_map (λ extent. extent.kind) (extent_at at extents.now) }
+{
+    extents
+        .iter()
+        .find(|extent| extent.at == at)
+        .map(|extent| extent.kind)
+}
+
+/// Makes a call.
+fn apply<L: Ledger, R: Abort>(
+    rt: &R,
+    alloc: Global,
+    heap: &mut Dlmalloc<FlatSystem>,
+    call: Call,
+    steps: &mut Steps<L>,
+) -> Result<(), Fail>
+    requires sound { IsSound ⟦<FlatSystem as Links>⟧.regions ⟦<FlatSystem as Links>⟧.word heap.old }
+    ensures sound { IsSound ⟦<FlatSystem as Links>⟧.regions ⟦<FlatSystem as Links>⟧.word heap.new }
+{
+    match call {
+        Call::Malloc(size, answer) => {
+            assert_eq!(rt; heap.malloc(size, 16, steps), answer);
+        }
+        Call::Free(address) => {
+            let extents = heap.extents(alloc, steps)?;
+            assert!(rt; address >= 16);
+            match kind_at(extents.as_slice(), address - 16) {
+                Some(Kind::Used) => heap.c_free(Some(address), steps),
+                _ => panic!(rt; "no block at {address:#x}"),
+            }
+        }
+    }
+    Ok(())
+}
+
+/// An extent, by its kind, its address and its size.
+type Run = (Kind, u64, u64);
+
+/// The foot at the end of the region.
+const FOOT: Run = (Kind::Foot, 0x40_ffb0, 80);
+
+const NO_SPACE: Result<u64, MallocError> = Err(MallocError::System(GrantFault::NoSpace));
+
+/// The calls of a new heap.
+const NEW: &[Call] = &[];
+
+/// Calls of a new heap that leave a victim of 976 bytes, and chunks of 208, 512 and 976 bytes in bins.
+const BINS: &[Call] = &[
+    Call::Malloc(1000, Ok(0x40_0010)),
+    Call::Malloc(8, Ok(0x40_0400)),
+    Call::Malloc(200, Ok(0x40_0420)),
+    Call::Malloc(8, Ok(0x40_04f0)),
+    Call::Malloc(500, Ok(0x40_0510)),
+    Call::Malloc(8, Ok(0x40_0710)),
+    Call::Malloc(968, Ok(0x40_0730)),
+    Call::Malloc(8, Ok(0x40_0b00)),
+    Call::Free(0x40_0010),
+    Call::Malloc(24, Ok(0x40_0010)),
+    Call::Free(0x40_0420),
+    Call::Free(0x40_0510),
+    Call::Free(0x40_0730),
+];
+
+/// Calls of a heap, behind those that came before, and its extents behind them.
 #[derive(Drop)]
 struct Row {
-    size: u64,
-    answer: Result<u64, MallocError>,
-    extents: &'static [Extent],
+    rule: &'static str,
+    before: &'static [Call],
+    calls: &'static [Call],
+    extents: &'static [Run],
 }
 
-const fn extent(at: u64, size: u64, kind: Kind) -> Extent {
-    Extent { at, size, kind }
-}
-
-/// Serves one request over one region of 65536 bytes, and frees the block.
+/// Makes the calls of a row.
 fn serve<L: Ledger, R: Abort>(rt: &R, alloc: Global, row: &Row, blank: Blank) -> Result<(), Fail>
     requires name { blank.name ≡ L.name }
     requires parts { blank.parts ≡ L.parts }
     requires some { 0 < blank.parts }
 {
     let mut steps = Steps::<L>::new(blank);
-    let mut heap = flat_heap(alloc, 65536)?;
-    let answer = heap.c_malloc(row.size, &mut steps);
-    assert_eq!(rt; answer, row.answer);
-    let extents = heap.extents(alloc, &mut steps)?;
-    assert_eq!(rt; extents.as_slice(), row.extents);
-    if let Ok(address) = answer {
-        heap.c_free(Some(address), &mut steps);
-        let extents = heap.extents(alloc, &mut steps)?;
-        let whole = [
-            extent(0x40_0000, 65456, Kind::Top),
-            extent(0x40_ffb0, 80, Kind::Foot),
-        ];
-        assert_eq!(rt; extents.as_slice(), whole.as_slice());
+    let mut heap = flat_heap(alloc)?;
+    for &call in row.before.iter().chain(row.calls) {
+        apply(rt, alloc, &mut heap, call, &mut steps)?;
     }
+    let mut expected = ExtentList::new(alloc);
+    for &(kind, at, size) in row.extents {
+        expected.push(Extent { at, size, kind })?;
+    }
+    let extents = heap.extents(alloc, &mut steps)?;
+    assert_eq!(rt; extents.as_slice(), expected.as_slice(), "{}", row.rule);
     Ok(())
 }
 
 #[test]
-fn a_block_is_cut_from_the_top_and_goes_back(rt: HostRuntime) -> Result<(), Fail> {
+fn calls_leave_these_extents(rt: HostRuntime) -> Result<(), Fail> {
     let rows = [
         Row {
-            size: 24,
-            answer: Ok(0x40_0010),
+            rule: "a block is cut from the top",
+            before: NEW,
+            calls: &[Call::Malloc(24, Ok(0x40_0010))],
             extents: &[
-                Extent {
-                    at: 0x40_0000,
-                    size: 32,
-                    kind: Kind::Used,
-                },
-                Extent {
-                    at: 0x40_0020,
-                    size: 65424,
-                    kind: Kind::Top,
-                },
-                Extent {
-                    at: 0x40_ffb0,
-                    size: 80,
-                    kind: Kind::Foot,
-                },
+                (Kind::Used, 0x40_0000, 32),
+                (Kind::Top, 0x40_0020, 65424),
+                FOOT,
             ],
         },
-        // The top keeps 16 bytes, and is never used up.
         Row {
-            size: 65432,
-            answer: Ok(0x40_0010),
+            rule: "and goes back",
+            before: NEW,
+            calls: &[Call::Malloc(24, Ok(0x40_0010)), Call::Free(0x40_0010)],
+            extents: &[(Kind::Top, 0x40_0000, 65456), FOOT],
+        },
+        Row {
+            rule: "the top keeps 16 bytes",
+            before: NEW,
+            calls: &[Call::Malloc(65432, Ok(0x40_0010))],
             extents: &[
-                Extent {
-                    at: 0x40_0000,
-                    size: 65440,
-                    kind: Kind::Used,
-                },
-                Extent {
-                    at: 0x40_ffa0,
-                    size: 16,
-                    kind: Kind::Top,
-                },
-                Extent {
-                    at: 0x40_ffb0,
-                    size: 80,
-                    kind: Kind::Foot,
-                },
+                (Kind::Used, 0x40_0000, 65440),
+                (Kind::Top, 0x40_ffa0, 16),
+                FOOT,
             ],
         },
-        // The next size asks for two granularities, which the region does not have.
         Row {
-            size: 65433,
-            answer: Err(MallocError::System(GrantFault::NoSpace)),
+            rule: "and is never used up",
+            before: NEW,
+            calls: &[
+                Call::Malloc(24, Ok(0x40_0010)),
+                Call::Malloc(65416, NO_SPACE),
+            ],
+            extents: &[
+                (Kind::Used, 0x40_0000, 32),
+                (Kind::Top, 0x40_0020, 65424),
+                FOOT,
+            ],
+        },
+        Row {
+            rule: "one byte more asks for two granularities, which the region does not have",
+            before: NEW,
+            calls: &[Call::Malloc(65433, NO_SPACE)],
             extents: &[],
         },
         Row {
-            size: 0xffff_ffff_fffe_ff98,
-            answer: Err(MallocError::System(GrantFault::NoSpace)),
+            rule: "the greatest size that is not too large",
+            before: NEW,
+            calls: &[Call::Malloc(0xffff_ffff_fffe_ff98, NO_SPACE)],
             extents: &[],
         },
         Row {
-            size: 0xffff_ffff_fffe_ff99,
-            answer: Err(MallocError::TooLarge),
+            rule: "the least that is",
+            before: NEW,
+            calls: &[Call::Malloc(0xffff_ffff_fffe_ff99, Err(MallocError::TooLarge))],
             extents: &[],
+        },
+        Row {
+            rule: "an older block is freed, and its chunk is cut twice",
+            before: NEW,
+            calls: &[
+                Call::Malloc(1000, Ok(0x40_0010)),
+                Call::Malloc(8, Ok(0x40_0400)),
+                Call::Free(0x40_0010),
+                Call::Malloc(24, Ok(0x40_0010)),
+                Call::Malloc(24, Ok(0x40_0030)),
+            ],
+            extents: &[
+                (Kind::Used, 0x40_0000, 32),
+                (Kind::Used, 0x40_0020, 32),
+                (Kind::Victim, 0x40_0040, 944),
+                (Kind::Used, 0x40_03f0, 32),
+                (Kind::Top, 0x40_0410, 64416),
+                FOOT,
+            ],
+        },
+        Row {
+            rule: "a freed chunk joins the free ones on both sides",
+            before: NEW,
+            calls: &[
+                Call::Malloc(24, Ok(0x40_0010)),
+                Call::Malloc(24, Ok(0x40_0030)),
+                Call::Malloc(24, Ok(0x40_0050)),
+                Call::Malloc(24, Ok(0x40_0070)),
+                Call::Free(0x40_0010),
+                Call::Free(0x40_0050),
+                Call::Free(0x40_0030),
+            ],
+            extents: &[
+                (Kind::Free, 0x40_0000, 96),
+                (Kind::Used, 0x40_0060, 32),
+                (Kind::Top, 0x40_0080, 65328),
+                FOOT,
+            ],
+        },
+        Row {
+            rule: "a rest of 16 bytes stays with the block",
+            before: NEW,
+            calls: &[
+                Call::Malloc(200, Ok(0x40_0010)),
+                Call::Malloc(8, Ok(0x40_00e0)),
+                Call::Free(0x40_0010),
+                Call::Malloc(184, Ok(0x40_0010)),
+            ],
+            extents: &[
+                (Kind::Used, 0x40_0000, 208),
+                (Kind::Used, 0x40_00d0, 32),
+                (Kind::Top, 0x40_00f0, 65216),
+                FOOT,
+            ],
+        },
+        Row {
+            rule: "one of 32 is split off",
+            before: NEW,
+            calls: &[
+                Call::Malloc(200, Ok(0x40_0010)),
+                Call::Malloc(8, Ok(0x40_00e0)),
+                Call::Free(0x40_0010),
+                Call::Malloc(168, Ok(0x40_0010)),
+            ],
+            extents: &[
+                (Kind::Used, 0x40_0000, 176),
+                (Kind::Victim, 0x40_00b0, 32),
+                (Kind::Used, 0x40_00d0, 32),
+                (Kind::Top, 0x40_00f0, 65216),
+                FOOT,
+            ],
+        },
+        Row {
+            rule: "below 256 the victim goes before a bin",
+            before: BINS,
+            calls: &[Call::Malloc(40, Ok(0x40_0030))],
+            extents: &[
+                (Kind::Used, 0x40_0000, 32),
+                (Kind::Used, 0x40_0020, 48),
+                (Kind::Victim, 0x40_0050, 928),
+                (Kind::Used, 0x40_03f0, 32),
+                (Kind::Free, 0x40_0410, 208),
+                (Kind::Used, 0x40_04e0, 32),
+                (Kind::Free, 0x40_0500, 512),
+                (Kind::Used, 0x40_0700, 32),
+                (Kind::Free, 0x40_0720, 976),
+                (Kind::Used, 0x40_0af0, 32),
+                (Kind::Top, 0x40_0b10, 62624),
+                FOOT,
+            ],
+        },
+        Row {
+            rule: "and an exact fit before the victim",
+            before: BINS,
+            calls: &[Call::Malloc(200, Ok(0x40_0420))],
+            extents: &[
+                (Kind::Used, 0x40_0000, 32),
+                (Kind::Victim, 0x40_0020, 976),
+                (Kind::Used, 0x40_03f0, 32),
+                (Kind::Used, 0x40_0410, 208),
+                (Kind::Used, 0x40_04e0, 32),
+                (Kind::Free, 0x40_0500, 512),
+                (Kind::Used, 0x40_0700, 32),
+                (Kind::Free, 0x40_0720, 976),
+                (Kind::Used, 0x40_0af0, 32),
+                (Kind::Top, 0x40_0b10, 62624),
+                FOOT,
+            ],
+        },
+        Row {
+            rule: "from 256 on a smaller bin goes before the victim, and its rest is in a bin",
+            before: BINS,
+            calls: &[Call::Malloc(300, Ok(0x40_0510))],
+            extents: &[
+                (Kind::Used, 0x40_0000, 32),
+                (Kind::Victim, 0x40_0020, 976),
+                (Kind::Used, 0x40_03f0, 32),
+                (Kind::Free, 0x40_0410, 208),
+                (Kind::Used, 0x40_04e0, 32),
+                (Kind::Used, 0x40_0500, 320),
+                (Kind::Free, 0x40_0640, 192),
+                (Kind::Used, 0x40_0700, 32),
+                (Kind::Free, 0x40_0720, 976),
+                (Kind::Used, 0x40_0af0, 32),
+                (Kind::Top, 0x40_0b10, 62624),
+                FOOT,
+            ],
+        },
+        Row {
+            rule: "and the victim before a bin of its size, or of a greater one",
+            before: BINS,
+            calls: &[
+                Call::Malloc(600, Ok(0x40_0030)),
+                Call::Malloc(260, Ok(0x40_0290)),
+            ],
+            extents: &[
+                (Kind::Used, 0x40_0000, 32),
+                (Kind::Used, 0x40_0020, 608),
+                (Kind::Used, 0x40_0280, 272),
+                (Kind::Victim, 0x40_0390, 96),
+                (Kind::Used, 0x40_03f0, 32),
+                (Kind::Free, 0x40_0410, 208),
+                (Kind::Used, 0x40_04e0, 32),
+                (Kind::Free, 0x40_0500, 512),
+                (Kind::Used, 0x40_0700, 32),
+                (Kind::Free, 0x40_0720, 976),
+                (Kind::Used, 0x40_0af0, 32),
+                (Kind::Top, 0x40_0b10, 62624),
+                FOOT,
+            ],
         },
     ];
     for row in &rows {
@@ -131,7 +347,7 @@ fn a_block_is_cut_from_the_top_and_goes_back(rt: HostRuntime) -> Result<(), Fail
 
 #[test]
 fn settings_are_kept(rt: HostRuntime) -> Result<(), Fail> {
-    let mut heap = flat_heap(rt.alloc(), 65536)?;
+    let mut heap = flat_heap(rt.alloc())?;
     assert_eq!(rt; heap.granularity(), 65536);
     assert!(rt;
         !heap.set_granularity(3072) && !heap.set_granularity(0) && !heap.set_granularity(8)

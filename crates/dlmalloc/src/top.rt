@@ -4,13 +4,14 @@ ghost use Rattle.dlmalloc_chunks.specs.declared.extent.Kind.TheVariants.{Top};
 ghost use Rattle.dlmalloc_chunks.specs.Request.{round_up};
 ghost use Rattle.heap_memory.specs.Regions.{IsWordOf};
 ghost use Rattle.dlmalloc.specs.State.{extents_in};
+ghost use Rattle.dlmalloc.specs.Boundaries.{OnlyBoundariesChange};
 ghost use Rattle.dlmalloc.specs.Blocks.{KeepsBlocks};
 ghost use Rattle.dlmalloc.specs.Taken.{taken};
 ghost use Rattle.dlmalloc.specs.Heap.{state_of, IsSound, IsGranularity};
 ghost use Rattle.dlmalloc.specs.Grown.{IsGrown, IsAsItWas};
 
 use crate::heap::{Dlmalloc, countdown_from};
-use crate::layout::{FOOT, HEAD, OVERHEAD, PINUSE};
+use crate::layout::{FOOT, HEAD, OVERHEAD, PINUSE, TRIM_THRESHOLD};
 use dlmalloc_chunks::chunk;
 use heap_memory::{Allocator, GrantFault};
 use std::sync::ledger::Ledger;
@@ -28,6 +29,7 @@ impl<A: Allocator> Dlmalloc<A> {
         ensures state { state_of A.word self.new ≡ taken (state_of A.word self.old) (record { at = self.old.top; size = self.old.top_size; kind = Top }) n }
         ensures sound { IsSound A.regions A.word self.new }
         ensures blocks { KeepsBlocks (extents_in (state_of A.word self.old)) (A.word self.old.system) (A.word self.new.system) }
+        ensures words { OnlyBoundariesChange (A.regions self.old.system) (state_of A.word self.new) (A.word self.old.system) (A.word self.new.system) }
         ensures regions { A.regions self.new.system ≡ A.regions self.old.system }
         ensures follows { A.follows self.old.system [] self.new.system }
     {
@@ -58,8 +60,8 @@ impl<A: Allocator> Dlmalloc<A> {
         requires sound { IsSound A.regions A.word self.old }
         requires whole { n % 16 ≡ 0 }
         requires small { n + 96 + self.old.granularity ≤ 2 ^ 64 }
-        ensures ok { OnOk result (IsGrown A.regions A.word A.follows self.old n self.new) }
-        ensures err { OnErr result (IsAsItWas A.regions A.word A.follows self.old self.new) }
+        ensures ok { OnOk result (IsGrown A.regions A.word A.zeros A.follows self.old n self.new) }
+        ensures err { OnErr result (IsAsItWas A.regions A.word A.follows A.refuses self.old self.new) }
         ensures denied { IfErr result (λ fault. fault ≢ GrantFault.OutOfMemory → A.denies self.old.system (round_up (n + 96) self.old.granularity) fault) }
     {
         if self.size == 0 {
@@ -75,8 +77,8 @@ impl<A: Allocator> Dlmalloc<A> {
         requires none { self.old.size ≡ 0 }
         requires whole { n % 16 ≡ 0 }
         requires small { n + 96 + self.old.granularity ≤ 2 ^ 64 }
-        ensures ok { OnOk result (IsGrown A.regions A.word A.follows self.old n self.new) }
-        ensures err { OnErr result (IsAsItWas A.regions A.word A.follows self.old self.new) }
+        ensures ok { OnOk result (IsGrown A.regions A.word A.zeros A.follows self.old n self.new) }
+        ensures err { OnErr result (IsAsItWas A.regions A.word A.follows A.refuses self.old self.new) }
         ensures denied { IfErr result (λ fault. fault ≢ GrantFault.OutOfMemory → A.denies self.old.system (round_up (n + 96) self.old.granularity) fault) }
     {
         let asked = self.asked(n);
@@ -86,6 +88,7 @@ impl<A: Allocator> Dlmalloc<A> {
         self.flags = grant.flags;
         self.top = grant.base;
         self.countdown = countdown_from(self.rate);
+        self.trim_check = TRIM_THRESHOLD;
         self.close_top(steps);
         Ok(())
     }
@@ -96,13 +99,14 @@ impl<A: Allocator> Dlmalloc<A> {
         requires there { 0 < self.old.size }
         requires whole { n % 16 ≡ 0 }
         requires small { n + 96 + self.old.granularity ≤ 2 ^ 64 }
-        ensures ok { OnOk result (IsGrown A.regions A.word A.follows self.old n self.new) }
-        ensures err { OnErr result (IsAsItWas A.regions A.word A.follows self.old self.new) }
+        ensures ok { OnOk result (IsGrown A.regions A.word A.zeros A.follows self.old n self.new) }
+        ensures err { OnErr result (IsAsItWas A.regions A.word A.follows A.refuses self.old self.new) }
         ensures denied { IfErr result (λ fault. fault ≢ GrantFault.OutOfMemory → A.denies self.old.system (round_up (n + 96) self.old.granularity) fault) }
     {
         let asked = self.asked(n);
         let grant = self.system.alloc(asked)?;
         self.size += grant.size;
+        self.trim_check = TRIM_THRESHOLD;
         self.close_top(steps);
         Ok(())
     }

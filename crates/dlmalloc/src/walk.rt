@@ -1,6 +1,8 @@
 // Walking over the chunks before the top, and choosing the one that serves a request.
-ghost use Rattle.std.specs.Prelude.{◌≡◌, ◌≢◌, ◌+◌, ◌<◌, ◌≤◌, ◌&&◌, nat_le, if◌then◌else◌, map, option_map, Some, None, IsTrue, IfSome, IsSome, ◌^◌, ◌↔◌, ◌++◌, OnOk, IfOk};
+ghost use Rattle.std.specs.Prelude.{◌≡◌, ◌≢◌, ℕ, ◌+◌, ◌<◌, ◌≤◌, ◌&&◌, nat_le, nat_lt, if◌then◌else◌, map, option_map, Some, None, IsTrue, IfSome, IsSome, ◌^◌, ◌↔◌, ◌++◌, OnOk, IfOk};
+ghost use Rattle.std.specs.List.{list_any};
 ghost use Rattle.dlmalloc_chunks.specs.declared.extent.Kind.TheVariants.{Used, Free, Top};
+ghost use Rattle.dlmalloc_chunks.specs.Tiling.{AreExtents, has_byte};
 ghost use Rattle.dlmalloc.specs.Extents.{extent_at};
 ghost use Rattle.dlmalloc.specs.State.{is_plain, is_binned, shown, extents_in};
 ghost use Rattle.dlmalloc.specs.Choice.{least_fit, goes_first, chosen, IsChosen};
@@ -175,8 +177,9 @@ impl<A: Allocator> Dlmalloc<A> {
         Ok(())
     }
 
-    /// All extents, by ascending address: the chunks, as their heads tell them, and behind them the top and its foot. A heap
-    /// with no segment has none. An `Err` means that memory ran out (own).
+    /// All extents, by ascending address: the chunks, as their heads tell them, and behind them the top and its foot. They tile
+    /// the segment: the first begins where it does, and each other one where the one before ends. A heap with no segment has
+    /// none. An `Err` means that memory ran out (own).
     pub fn extents<L: Ledger>(
         &self,
         alloc: Global,
@@ -184,6 +187,10 @@ impl<A: Allocator> Dlmalloc<A> {
     ) -> Result<ExtentList, AllocError>
         requires sound { IsSound A.regions A.word self.now }
         ensures extents { IfOk result (λ list. list ≡ map (shown (state_of A.word self.now)) (extents_in (state_of A.word self.now))) }
+        ensures tiled { IfOk result (λ list. AreExtents list) }
+        ensures bytes { IfOk result (λ list. (address : ℕ) → list_any (has_byte address) list ≡ (nat_le self.now.base address && nat_lt address (self.now.base + self.now.size))) }
+        // the search of the list and that of the state find the same
+        ensures found { IfOk result (λ list. (at : ℕ) → extent_at at list ≡ option_map (shown (state_of A.word self.now)) (extent_at at (extents_in (state_of A.word self.now)))) }
     {
         let mut extents = ExtentList::new(alloc);
         if self.size > 0 {

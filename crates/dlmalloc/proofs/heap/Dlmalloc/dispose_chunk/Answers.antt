@@ -47,21 +47,21 @@ make_free-requires-clause-head g c = from_there g.A.Links.regions g.A.Links.word
 pub returns-then-from-self : goal.returns-then-from-self
 returns-then-from-self g c =
     let o = as_top_victim g.A.Links.regions g.A.Links.word c.args.self.now c.requires.sound c.requires.there c.args.at c.args.size c.requires.chunk c.free_begin-from.result c.free_begin-from.ensures c.free_end-to.result c.free_end-to.ensures c.if-to-self.true c.store_counted.new.self c.store_counted.ensures.regions c.store_counted.ensures.stored c.if-from-self.true in
-    record { state = o.state; sound = o.sound; blocks = o.blocks; regions = search rules; follows = search rules }
+    record { state = o.state; sound = o.sound; blocks = o.blocks; words = o.words; regions = search rules; follows = search rules }
 
 pub returns-else-from-self : goal.returns-else-from-self
 returns-else-from-self g c =
     let o = as_top_other g.A.Links.regions g.A.Links.word c.args.self.now c.requires.sound c.requires.there c.args.at c.args.size c.requires.chunk c.free_begin-from.result c.free_begin-from.ensures c.free_end-to.result c.free_end-to.ensures c.if-to-self.true c.store_counted.new.self c.store_counted.ensures.regions c.store_counted.ensures.stored c.if-from-self.false in
-    record { state = o.state; sound = o.sound; blocks = o.blocks; regions = search rules; follows = search rules }
+    record { state = o.state; sound = o.sound; blocks = o.blocks; words = o.words; regions = search rules; follows = search rules }
 
 pub returns-then-self-to : goal.returns-then-self-to
 returns-then-self-to g c =
     let o = as_free_victim g.A.Links.regions g.A.Links.word c.args.self.now c.requires.sound c.requires.there c.args.at c.args.size c.requires.chunk c.free_begin-from.result c.free_begin-from.ensures c.free_end-to.result c.free_end-to.ensures c.if-to-self.false c.make_free.new.memory c.make_free.ensures.regions c.make_free.ensures.stored c.if-from-self-2.true c.if-self-to.true in
-    record { state = o.state; sound = o.sound; blocks = o.blocks; regions = search rules; follows = search rules }
+    record { state = o.state; sound = o.sound; blocks = o.blocks; words = o.words; regions = search rules; follows = search rules }
 
 pub returns-else-from-self-2 : goal.returns-else-from-self-2
 returns-else-from-self-2 g c =
     let beside : (c.args.self.now.victim < c.free_begin-from.result) ⊎ (c.free_end-to.result ≤ c.args.self.now.victim) =
     elim c.else-from-self-2.branch [ else-from-self-2-via-then-from-self-2+else-self-to w ↦ inr w.if-self-to.false | else-from-self-2-via-else-from-self-2 w ↦ inl w.if-from-self-2.false ] in
     let o = as_free_other g.A.Links.regions g.A.Links.word c.args.self.now c.requires.sound c.requires.there c.args.at c.args.size c.requires.chunk c.free_begin-from.result c.free_begin-from.ensures c.free_end-to.result c.free_end-to.ensures c.if-to-self.false c.make_free.new.memory c.make_free.ensures.regions c.make_free.ensures.stored beside in
-    record { state = o.state; sound = o.sound; blocks = o.blocks; regions = search rules; follows = search rules }
+    record { state = o.state; sound = o.sound; blocks = o.blocks; words = o.words; regions = search rules; follows = search rules }

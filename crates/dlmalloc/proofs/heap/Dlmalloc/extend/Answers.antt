@@ -1,14 +1,14 @@
-use Rattle.std.proofs.Common.{◌≡◌, ℕ, ◌+◌, ◌-◌, ◌<◌, List, Result, Ok, Err, OnErr, IsTrue, [], ◌∷◌, refl, sym, subst, arith}
+use Rattle.std.proofs.Common.{◌≡◌, ℕ, ◌+◌, ◌-◌, ◌<◌, ◌∙◌, List, Result, Ok, Err, OnErr, IsTrue, [], ◌∷◌, refl, sym, subst, arith}
 use Rattle.heap_memory.specs.declared.grant.Grant.{Grant}
-use Rattle.heap_memory.specs.Regions.{is_granted, is_next}
+use Rattle.heap_memory.specs.Regions.{is_next}
 use Rattle.heap_memory.specs.Events.{Granted}
-use Rattle.heap_memory.specs.RegionLaws.{granted_kept, granted_new}
 use Rattle.dlmalloc.specs.Heap.{HasSegment}
 use Rattle.dlmalloc.specs.Grown.{IsGrown}
 use Rattle.dlmalloc.specs.declared.heap.Dlmalloc.{Dlmalloc}
-use Rattle.dlmalloc.proofs.Regions.{next_same}
-use Rattle.dlmalloc.proofs.Sound.{top_above, top_whole}
-use Rattle.dlmalloc.proofs.Growing.{extended_sound, extended_state, extended_blocks, extended_there, as_it_was_sound, as_it_was_state}
+use Rattle.dlmalloc.proofs.Regions.{next_same, word_kept, word_new}
+use Rattle.dlmalloc.proofs.Sound.{word_inside, top_above, top_whole}
+use Rattle.dlmalloc.proofs.Growing.{extended_sound, extended_state, extended_blocks, extended_there, extended_only}
+use Rattle.dlmalloc.proofs.Outside.{still_sound, still_state}
 use Rattle.dlmalloc.proofs.heap.Dlmalloc.extend.Goals as goal
 
 on_err : {T E : Type 0} (r : Result T E) {P : Type 0} → P → OnErr r P
@@ -29,8 +29,9 @@ returns-in_err-grant-clause-err g c =
     let denied = c.in_err-grant.ensures in
     on_err c.from_residual.result (record {
       followed = denied.err_follows;
-      state = as_it_was_state regions word heap c.requires.sound c.requires.there system denied.err denied.words;
-      sound = as_it_was_sound regions word heap c.requires.sound c.requires.there system denied.err denied.words;
+      refused = denied.err_refuses;
+      state = still_state regions word heap c.requires.sound system denied.err (λ k inside apart. denied.words k inside);
+      sound = still_sound regions word heap c.requires.sound system denied.err (λ k inside apart. denied.words k inside);
       regions_same = denied.err;
       words = denied.words;
     })
@@ -59,10 +60,8 @@ close_top-requires-clause-top g c =
     let above = top_above g.A.Links.regions g.A.Links.word heap h in
     let whole = top_whole g.A.Links.regions g.A.Links.word heap h in
     let ends = h.ends in
-    record {
-      granted = subst (λ rs. IsTrue (is_granted rs (heap.top + 8))) (sym c.in_ok-grant.ensures.regions) (granted_kept c.in_ok-grant.grant (g.A.Links.regions heap.system) (heap.top + 8) (h.granted (heap.top + 8) (omega arith) (omega arith)));
-      aligned = omega arith;
-    }
+    word_kept c.in_ok-grant.grant (g.A.Links.regions heap.system) (g.A.Links.regions c.alloc.new.self) c.in_ok-grant.ensures.regions (heap.top + 8)
+    (word_inside g.A.Links.regions g.A.Links.word heap h (heap.top + 8) (omega arith) (omega arith) (omega arith))
 
 pub close_top-requires-clause-foot : goal.close_top-requires-clause-foot
 close_top-requires-clause-foot g c =
@@ -75,11 +74,7 @@ close_top-requires-clause-foot g c =
     let heap_base = h.base_whole in
     let heap_size = h.size_whole in
     let size = c.in_ok-grant.ensures.good.size_aligned in
-    record {
-      granted = subst (λ rs. IsTrue (is_granted rs (heap.base + (heap.size + grant.size) - 72))) (sym c.in_ok-grant.ensures.regions)
-          (granted_new grant (g.A.Links.regions heap.system) (heap.base + (heap.size + grant.size) - 72) (omega arith) (omega arith));
-      aligned = omega arith;
-    }
+    word_new grant (g.A.Links.regions heap.system) (g.A.Links.regions c.alloc.new.self) c.in_ok-grant.ensures.regions (heap.base + (heap.size + grant.size) - 72) (omega arith) (omega arith) (omega arith)
 
 pub returns-clause-ok : goal.returns-clause-ok
 returns-clause-ok g c =
@@ -95,14 +90,14 @@ returns-clause-ok g c =
     let closed = c.close_top.ensures in
     let h = c.requires.sound.some c.requires.there in
     let base = grant_base regions word heap h c.requires.there grant given.next in
-    let ordered = c.requires.sound.ordered in
+    let ordered = g.met.A.Allocator.ordered heap.system in
     let followed = g.A.Links.follows_on heap.system middle new.system (Granted asked grant ∷ []) [] (Granted asked grant ∷ []) given.follows closed.follows refl in
     let long = given.good.long in
     let ends = h.ends in
     let there = c.requires.there in
     let fits : c.args.n < heap.base + (heap.size + grant.size) - 80 - heap.top = omega arith in
     let some : 0 < heap.size + grant.size = omega arith in
-    subst (IsGrown regions word g.A.Links.follows heap c.args.n) (sym closed.fields) (record {
+    subst (IsGrown regions word g.A.Allocator.zeros g.A.Links.follows heap c.args.n) (sym closed.fields) (record {
       grant = grant;
       followed = subst (λ (bytes : ℕ). g.A.Links.follows heap.system (Granted bytes grant ∷ []) new.system) c.asked-asked.ensures.asked followed;
       state = extended_state regions word heap c.requires.sound c.args.n asked enough grant given.good middle new.system given.regions closed.regions ordered given.next given.words there base closed.head closed.foot_head closed.elsewhere;
@@ -110,5 +105,9 @@ returns-clause-ok g c =
       there = some;
       room = fits;
       blocks = extended_blocks regions word heap c.requires.sound c.args.n asked enough grant given.good middle new.system given.regions closed.regions ordered given.next given.words there base closed.head closed.foot_head closed.elsewhere;
+      with_it = closed.regions ∙ given.regions;
       blocks_there = extended_there regions word heap c.requires.sound c.args.n asked enough grant given.good middle new.system given.regions closed.regions ordered given.next given.words there base closed.head closed.foot_head closed.elsewhere;
+      blocks_only = extended_only regions word heap c.requires.sound c.args.n asked enough grant given.good middle new.system given.regions closed.regions ordered given.next given.words there base closed.head closed.foot_head closed.elsewhere;
+      words = λ k inside a b. closed.elsewhere k (word_kept grant (regions heap.system) (regions middle) given.regions k inside) a (λ is. b (omega arith)) ∙ given.words k inside;
+      new_words = λ zeros k low high multiple a b. closed.elsewhere k (word_new grant (regions heap.system) (regions middle) given.regions k low high multiple) a (λ is. b (omega arith)) ∙ given.zeros zeros k low high multiple;
     })

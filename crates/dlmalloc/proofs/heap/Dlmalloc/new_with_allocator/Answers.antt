@@ -4,7 +4,6 @@ use Rattle.dlmalloc.proofs.heap.Dlmalloc.new_with_allocator.Goals as goal
 pub returns-clause-sound : goal.returns-clause-sound
 returns-clause-sound g c = record {
   granularity = ((16, refl), omega arith);
-  ordered = c.requires;
   none = λ empty. (refl, refl);
   no_victim = λ none. refl;
   some = λ more. absurd (omega (arith, more));

@@ -1,8 +1,11 @@
 use Rattle.std.proofs.Common.{rules, ◌+◌, ◌-◌, ◌<◌, ◌≤◌, inl, inr, sym, subst, ◌∙◌, arith}
 use Rattle.dlmalloc_chunks.specs.Chunk.{HasHead, HasFoot}
+use Rattle.dlmalloc.specs.State.{HeapState}
+use Rattle.dlmalloc.specs.Boundaries.{OnlyBoundariesChange}
 use Rattle.dlmalloc.proofs.Sound.{head_inside, foot_inside}
 use Rattle.dlmalloc.proofs.Chosen.{free_place}
 use Rattle.dlmalloc.proofs.TakenBlocks.{whole_blocks, split_blocks}
+use Rattle.dlmalloc.proofs.Boundaries.{whole_written, split_written}
 use Rattle.dlmalloc.proofs.Taking.{whole_victim, whole_other, split_victim, split_other}
 use Rattle.dlmalloc.proofs.heap.Dlmalloc.take.Goals.{then-at-self-2-via-then-at-self-2, then-at-self-2-via-else-at-self-2+then-n-lt-LEAST_LARGE}
 use Rattle.dlmalloc.proofs.heap.Dlmalloc.take.Goals as goal
@@ -79,6 +82,8 @@ returns-then-at-self g c =
       state = took.1;
       sound = took.0;
       blocks = whole_blocks g.A.Links.regions g.A.Links.word heap c.requires.sound c.requires.there c.args.at c.args.size c.args.n c.requires.chunk c.set_inuse_and_pinuse.new.memory e.regions small e.stored;
+      words = subst (λ (s : HeapState). OnlyBoundariesChange (g.A.Links.regions heap.system) s (g.A.Links.word heap.system) (g.A.Links.word c.set_inuse_and_pinuse.new.memory)) (sym took.1)
+          (whole_written g.A.Links.regions g.A.Links.word heap c.requires.sound c.requires.there c.args.at c.args.size c.args.n c.requires.chunk c.set_inuse_and_pinuse.new.memory e.regions small e.stored);
       regions = e.regions;
       follows = e.follows;
     }
@@ -94,6 +99,8 @@ returns-else-at-self g c =
       state = took.1;
       sound = took.0;
       blocks = whole_blocks g.A.Links.regions g.A.Links.word heap c.requires.sound c.requires.there c.args.at c.args.size c.args.n c.requires.chunk c.set_inuse_and_pinuse.new.memory e.regions small e.stored;
+      words = subst (λ (s : HeapState). OnlyBoundariesChange (g.A.Links.regions heap.system) s (g.A.Links.word heap.system) (g.A.Links.word c.set_inuse_and_pinuse.new.memory)) (sym took.1)
+          (whole_written g.A.Links.regions g.A.Links.word heap c.requires.sound c.requires.there c.args.at c.args.size c.args.n c.requires.chunk c.set_inuse_and_pinuse.new.memory e.regions small e.stored);
       regions = e.regions;
       follows = e.follows;
     }
@@ -115,6 +122,8 @@ returns-then-at-self-2 g c =
       state = took.1;
       sound = took.0;
       blocks = split_blocks g.A.Links.regions g.A.Links.word heap c.requires.sound c.requires.there c.args.at c.args.size c.args.n c.requires.chunk middle system first.regions same c.requires.whole c.requires.least room first.stored second.stored;
+      words = subst (λ (s : HeapState). OnlyBoundariesChange (g.A.Links.regions heap.system) s (g.A.Links.word heap.system) (g.A.Links.word system)) (sym took.1)
+          (split_written g.A.Links.regions g.A.Links.word heap c.requires.sound c.requires.there c.args.at c.args.size c.args.n c.requires.chunk middle system first.regions same c.requires.whole c.requires.least room first.stored second.stored);
       regions = same;
       follows = search rules;
     }
@@ -136,6 +145,8 @@ returns-else-n-lt-LEAST_LARGE g c =
       state = took.1;
       sound = took.0;
       blocks = split_blocks g.A.Links.regions g.A.Links.word heap c.requires.sound c.requires.there c.args.at c.args.size c.args.n c.requires.chunk middle system first.regions same c.requires.whole c.requires.least room first.stored second.stored;
+      words = subst (λ (s : HeapState). OnlyBoundariesChange (g.A.Links.regions heap.system) s (g.A.Links.word heap.system) (g.A.Links.word system)) (sym took.1)
+          (split_written g.A.Links.regions g.A.Links.word heap c.requires.sound c.requires.there c.args.at c.args.size c.args.n c.requires.chunk middle system first.regions same c.requires.whole c.requires.least room first.stored second.stored);
       regions = same;
       follows = search rules;
     }

@@ -1,7 +1,10 @@
-use Rattle.std.proofs.Common.{rules, ◌+◌, sym, subst, ◌∙◌, arith}
+use Rattle.std.proofs.Common.{rules, ◌+◌, ◌-◌, sym, subst, ◌∙◌, arith}
 use Rattle.heap_memory.specs.Regions.{IsWordOf}
+use Rattle.dlmalloc.specs.Heap.{state_of}
+use Rattle.dlmalloc.specs.declared.heap.Dlmalloc.{Dlmalloc}
 use Rattle.dlmalloc.proofs.Sound.{head_inside, word_inside, top_above, top_whole}
-use Rattle.dlmalloc.proofs.TopTaken.{top_sound, top_state, top_blocks}
+use Rattle.dlmalloc.proofs.TopTaken.{top_sound, top_state, top_elsewhere, top_blocks}
+use Rattle.dlmalloc.proofs.Boundaries.{old_heads, top_head}
 use Rattle.dlmalloc.proofs.heap.Dlmalloc.take_top.Goals as goal
 
 pub set_size_and_pinuse_of_inuse_chunk-requires-clause-head : goal.set_size_and_pinuse_of_inuse_chunk-requires-clause-head
@@ -31,11 +34,18 @@ returns g c =
     let first = c.set_size_and_pinuse_of_inuse_chunk.ensures in
     let second = c.store_counted.ensures in
     let same = second.regions ∙ first.regions in
+    let after : Dlmalloc _ = record heap { system = system; top = heap.top + c.args.n; top_size = heap.top_size - c.args.n } in
+    let state = top_state g.A.Links.regions g.A.Links.word heap c.requires.sound c.requires.there c.args.n c.requires.whole c.requires.least c.requires.fits middle system first.regions same first.stored second.stored in
+    let sound = top_sound g.A.Links.regions g.A.Links.word heap c.requires.sound c.requires.there c.args.n c.requires.whole c.requires.least c.requires.fits middle system first.regions same first.stored second.stored in
     record {
       chunk = search rules;
-      state = top_state g.A.Links.regions g.A.Links.word heap c.requires.sound c.requires.there c.args.n c.requires.whole c.requires.least c.requires.fits middle system first.regions same first.stored second.stored;
-      sound = top_sound g.A.Links.regions g.A.Links.word heap c.requires.sound c.requires.there c.args.n c.requires.whole c.requires.least c.requires.fits middle system first.regions same first.stored second.stored;
+      state = state;
+      sound = sound;
       blocks = top_blocks g.A.Links.regions g.A.Links.word heap c.requires.sound c.requires.there c.args.n c.requires.whole c.requires.least c.requires.fits middle system first.regions same first.stored second.stored;
+      words = λ k inside apart.
+          top_elsewhere g.A.Links.regions g.A.Links.word heap c.requires.sound c.requires.there c.args.n c.requires.whole c.requires.least c.requires.fits middle system first.regions same first.stored second.stored k inside
+          (old_heads g.A.Links.regions g.A.Links.word heap c.requires.sound c.requires.there c.args.n (state_of g.A.Links.word after) state k apart).0
+          (top_head g.A.Links.regions g.A.Links.word after sound c.requires.there k apart);
       regions = same;
       follows = search rules;
     }

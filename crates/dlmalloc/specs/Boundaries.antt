@@ -1,0 +1,23 @@
+-- The words in which a heap tells its extents.
+use Rattle.std.specs.Prelude.{◌≡◌, ℕ, ◌+◌, ◌⊎◌, List, Some, IsTrue}
+use Rattle.heap_memory.specs.declared.grant.Grant.{Grant}
+use Rattle.heap_memory.specs.Regions.{IsWordOf}
+use Rattle.dlmalloc_chunks.specs.declared.extent.Extent.{Extent}
+use Rattle.dlmalloc.specs.Extents.{extent_at}
+use Rattle.dlmalloc.specs.State.{HeapState, extents_in, is_plain}
+
+-- A word at a boundary of an extent: its head; or the word behind it, where it is free and not the top, since its size
+-- stands there (dlmalloc: `head` and `prev_foot`).
+pub record IsBoundary (heap : HeapState) (k : ℕ) : Type 0 where
+  pub extent : Extent
+  pub there : extent_at extent.at (extents_in heap) ≡ Some extent
+  pub is : (k ≡ extent.at + 8) ⊎ (IsTrue (is_plain extent.kind) × (k ≡ extent.at + extent.size))
+
+-- Each granted word stays, unless it stands at a boundary of the heap: nothing is written into blocks, into free extents or
+-- into the top.
+abbrev pub OnlyBoundariesChange : List Grant → HeapState → (ℕ → ℕ) → (ℕ → ℕ) → Type 0
+OnlyBoundariesChange regions heap old new = (k : ℕ) → IsWordOf regions k → (IsBoundary heap k → ⊥) → new k ≡ old k
+
+-- Each word that a call was granted is 0, unless it stands at a boundary of the heap.
+abbrev pub NewWordsAreZero : List Grant → List Grant → HeapState → (ℕ → ℕ) → Type 0
+NewWordsAreZero old new heap words = (k : ℕ) → IsWordOf new k → (IsWordOf old k → ⊥) → (IsBoundary heap k → ⊥) → words k ≡ 0
