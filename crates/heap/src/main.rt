@@ -25,10 +25,13 @@ Lines:
                             `block NUMBER ADDRESS`. Where pages were granted,
                             a second line has `heap` and each heap region as
                             ADDRESS+PAGES.
+  free BLOCK                ends the block of this number. The answer is `done`.
   write BLOCK OFFSET HEX    puts bytes, two hexadecimal digits each, into the
                             block of this number. The answer is `done`.
   read BLOCK OFFSET LENGTH  asks for bytes of a block. The answer is `bytes`
                             and their digits.
+  extents                   asks for the extents of the heap. The answer is
+                            `extents` and each extent as KIND:ADDRESS+SIZE.
 
 A refusal is `refused` and one of too-large, no-space, no-frames,
 unknown-block and out-of-block, and changes nothing.

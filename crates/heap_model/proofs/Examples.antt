@@ -6,7 +6,8 @@ use Rattle.heap_model.specs.declared.answer.Reply.TheVariants.{Block as Placed}
 use Rattle.heap_model.specs.declared.answer.Refusal.TheVariants.{TooLarge}
 use Rattle.heap_model.specs.declared.answer.Answer.{Answer}
 use Rattle.paging_core.specs.Prefix.{prefix_of, prefixes_from, prefixes_of}
-use Rattle.heap_model.specs.Request.{padded, enlarged, wanted, limit, pages_for}
+use Rattle.dlmalloc_chunks.specs.Request.{padded, limit}
+use Rattle.heap_model.specs.Request.{enlarged, wanted, pages_in, pages_for}
 use Rattle.heap_model.specs.State.{State, start, block_at}
 use Rattle.heap_model.specs.Tables.{missing, with_tables, free_frames}
 use Rattle.heap_model.specs.Place.{place}
@@ -55,23 +56,23 @@ limit-16 = refl
 -- pages
 
 pages-small : pages_for (padded 1) 65536 ≡ 16
-unfolding pages_for padded
+unfolding pages_for padded pages_in
 pages-small = refl
 
 pages-65440 : pages_for (padded 65432) 65536 ≡ 16
-unfolding pages_for padded
+unfolding pages_for padded pages_in
 pages-65440 = refl
 
 pages-65456 : pages_for (padded 65433) 65536 ≡ 32
-unfolding pages_for padded
+unfolding pages_for padded pages_in
 pages-65456 = refl
 
 pages-large : pages_for (padded 3000000) 65536 ≡ 736
-unfolding pages_for padded
+unfolding pages_for padded pages_in
 pages-large = refl
 
 pages-odd : pages_for (padded 20000) 4096 ≡ 5
-unfolding pages_for padded
+unfolding pages_for padded pages_in
 pages-odd = refl
 
 -- index prefixes and tables
@@ -117,11 +118,11 @@ unfolding config
 no-frames-used = refl
 
 one-frames : free_frames one ≡ 1004
-unfolding one first config prefixes_of prefixes_from pages_for wanted padded
+unfolding one first config prefixes_of prefixes_from pages_for wanted padded pages_in
 one-frames = refl
 
 one-tables : length one.tables ≡ 3
-unfolding one first config prefixes_of prefixes_from pages_for wanted padded
+unfolding one first config prefixes_of prefixes_from pages_for wanted padded pages_in
 one-tables = refl
 
 one-block : block_at one.blocks 0 ≡ Some (record { address = 0x400010; size = 0; align = 16; cells = [] })

@@ -5,5 +5,7 @@ pub mod Tables
 pub mod Granted
 pub mod Placed
 pub mod Known
+pub mod Moved
+pub mod Ended
 pub mod Written
 pub mod Runs

@@ -3,15 +3,16 @@ use Rattle.std.specs.Prelude.{◌≡◌, ◌≢◌, ℕ, ◌+◌, ◌<◌, Bool,
 use Rattle.std.specs.List.{list_any}
 use Rattle.heap_model.specs.declared.region.Region.{Region}
 use Rattle.heap_model.specs.declared.call.Call.{Call}
-use Rattle.heap_model.specs.declared.call.Call.TheVariants.{Malloc, Write, Read}
+use Rattle.heap_model.specs.declared.call.Call.TheVariants.{Malloc, Free, Write, Read, Extents}
 use Rattle.heap_model.specs.declared.answer.Reply.{Reply}
-use Rattle.heap_model.specs.declared.answer.Reply.TheVariants.{Block as Placed, Done, Bytes, Refused}
+use Rattle.heap_model.specs.declared.answer.Reply.TheVariants.{Block as Placed, Done, Bytes, Extents as Listed, Refused}
 use Rattle.heap_model.specs.declared.answer.Answer.{Answer}
 use Rattle.paging_core.specs.Prefix.{Prefix}
 use Rattle.heap_model.specs.Request.{wanted, pages_for}
 use Rattle.heap_model.specs.State.{State, Cell, Fresh, Known, Block, block_at, cell_at, with_bytes}
 use Rattle.heap_model.specs.Tables.{with_tables}
 use Rattle.heap_model.specs.Room.{IsGrowth}
+use Rattle.heap_model.specs.Extents.{IsTiling}
 use Rattle.heap_model.specs.Refusal.{must_refuse, MayRefuse, wanted_by}
 
 -- a block of whose bytes the same is known
@@ -22,6 +23,10 @@ new_block address size align cell = Some (record { address = address; size = siz
 abbrev pub with_block : List (Option Block) → ℕ → (Block → Block) → List (Option Block)
 with_block blocks number change = slice_set blocks number (option_map change (block_at blocks number))
 
+-- the blocks, without the one at this number; its number stays
+abbrev pub without_block : List (Option Block) → ℕ → List (Option Block)
+without_block blocks number = slice_set blocks number None
+
 -- the block, with these bytes known from an offset on
 abbrev pub known_block : ℕ → List ℕ → Block → Block
 known_block offset bytes block = record block { cells = with_bytes block.cells offset bytes }
@@ -29,6 +34,7 @@ known_block offset bytes block = record block { cells = with_bytes block.cells o
 -- what the reply alone changes; every other reply, a refusal too, changes nothing
 abbrev pub changed : State → Call → Reply → State
 changed s (Malloc size align) (Placed number address) = record s { blocks = s.blocks ++ new_block address size align Fresh ∷ [] }
+changed s (Free number) Done = record s { blocks = without_block s.blocks number }
 changed s (Write number offset bytes) Done = record s { blocks = with_block s.blocks number (known_block offset bytes) }
 changed s (Read number offset count) (Bytes bytes) = record s { blocks = with_block s.blocks number (known_block offset bytes) }
 changed s call reply = s
@@ -63,8 +69,10 @@ AgreeWith cells offset bytes = (k byte : ℕ) → k < length bytes → cell_at c
 -- the replies other than refusals
 abbrev pub IsServed : State → Call → Reply → Option (List Region) → Type 0
 IsServed s (Malloc size align) (Placed number address) regions = (number ≡ length s.blocks) × IsGrowth s (wanted size align) (heap_after s regions)
+IsServed s (Free number) Done regions = regions ≡ None
 IsServed s (Write number offset bytes) Done regions = regions ≡ None
 IsServed s (Read number offset count) (Bytes bytes) regions = (regions ≡ None) × (length bytes ≡ count) × ((block : Block) → block_at s.blocks number ≡ Some block → AgreeWith block.cells offset bytes)
+IsServed s Extents (Listed extents) regions = (regions ≡ None) × IsTiling s extents
 IsServed s call reply regions = ⊥
 
 -- a refusal that must come comes; one that may come only where none must; and nothing else comes where one must

@@ -3,6 +3,7 @@ pub mod State
 pub mod Tables
 pub mod Place
 pub mod Room
+pub mod Extents
 pub mod Refusal
 pub mod Answer
 pub mod Run

@@ -3,7 +3,7 @@ use Rattle.std.specs.Prelude.{◌≡◌, ℕ, ◌+◌, ◌*◌, ◌/◌, ◌<◌
 use Rattle.std.specs.List.{list_any}
 use Rattle.paging_core.specs.declared.page_table.Rights.{Rights}
 use Rattle.paging_core.specs.Address.{is_canonical}
-use Rattle.paging_core.specs.Memory.{frame_count}
+use Rattle.paging_core.specs.Memory.{frame_count, word_at}
 use Rattle.paging_core.specs.Walk.{Place, reach, walk_of, reached}
 use Rattle.paging_core.specs.Pool.{free_count}
 use Rattle.paging_core.specs.Tree.{IsTree}
@@ -52,12 +52,16 @@ pub record IsPagedGrant (old new : Paged) (address pages : ℕ) : Type 0 where
 abbrev pub is_of_user : List Region → ℕ → Bool
 is_of_user regions address = list_any (λ region. not region.heap && is_within address region) regions
 
--- What stays of a system while nothing is granted, given back or mapped: all but the bytes of the heap's pages.
+-- What stays of a system while nothing is granted, given back or mapped: all but the bytes of the heap's pages. No word
+-- of a table is changed.
 pub record IsStill (old new : Paged) : Type 0 where
   pub others : new ≡ record old { words = new.words }
   pub size : length new.words ≡ length old.words
   pub tree : IsTree old.words old.root old.free → IsTree new.words old.root old.free
   pub walks : (level number : ℕ) → level ≤ 4 → reach new.words old.root level number ≡ reach old.words old.root level number
+  pub tables :
+      (level number index : ℕ) (met : Place) → level < 4 → index < 512 → reach old.words old.root level number ≡ Some met →
+      word_at new.words met.frame index ≡ word_at old.words met.frame index
   pub users : (address : ℕ) → IsTrue (is_of_user old.regions address) → reached new.words old.root address ≡ reached old.words old.root address
 
 -- what is seen of a machine

@@ -1,10 +1,11 @@
 -- When a call is refused.
 use Rattle.std.specs.Prelude.{ℕ, ◌+◌, ◌<◌, Bool, nat_lt, nat_le, length, Option, Some, None, if◌then◌else◌}
 use Rattle.heap_model.specs.declared.call.Call.{Call}
-use Rattle.heap_model.specs.declared.call.Call.TheVariants.{Malloc, Write, Read}
+use Rattle.heap_model.specs.declared.call.Call.TheVariants.{Malloc, Free, Write, Read, Extents}
 use Rattle.heap_model.specs.declared.answer.Refusal.{Refusal}
 use Rattle.heap_model.specs.declared.answer.Refusal.TheVariants.{TooLarge, NoSpace, NoFrames, UnknownBlock, OutOfBlock}
-use Rattle.heap_model.specs.Request.{limit, enlarged, wanted, pages_for}
+use Rattle.dlmalloc_chunks.specs.Request.{limit}
+use Rattle.heap_model.specs.Request.{enlarged, wanted, pages_for}
 use Rattle.heap_model.specs.State.{State, Block, block_at}
 use Rattle.heap_model.specs.Tables.{missing, free_frames}
 use Rattle.heap_model.specs.Place.{IsPlace, HasNoPlace}
@@ -14,6 +15,11 @@ use Rattle.heap_model.specs.Room.{HasRoom}
 abbrev pub is_too_large : ℕ → ℕ → ℕ → Bool
 is_too_large granularity size align = if nat_le align 16 then nat_le (limit granularity) size else nat_le (limit granularity) (enlarged size align)
 
+-- why a block cannot be freed, if it cannot
+abbrev pub refuse_block : Option Block → Option Refusal
+refuse_block None = Some UnknownBlock
+refuse_block (Some block) = None
+
 -- why bytes of a block are out of reach, if they are; the sum is a whole number, and never wraps
 abbrev pub refuse_bytes : Option Block → ℕ → ℕ → Option Refusal
 refuse_bytes None offset count = Some UnknownBlock
@@ -22,14 +28,18 @@ refuse_bytes (Some block) offset count = if nat_lt block.size (offset + count) t
 -- the refusal that must come, if any: it depends on the call and the state alone
 abbrev pub must_refuse : State → Call → Option Refusal
 must_refuse s (Malloc size align) = if is_too_large s.granularity size align then Some TooLarge else None
+must_refuse s (Free number) = refuse_block (block_at s.blocks number)
 must_refuse s (Write number offset bytes) = refuse_bytes (block_at s.blocks number) offset (length bytes)
 must_refuse s (Read number offset count) = refuse_bytes (block_at s.blocks number) offset count
+must_refuse s Extents = None
 
 -- the chunk that a heap call wants, if it is one
 abbrev pub wanted_by : State → Call → Option ℕ
 wanted_by s (Malloc size align) = Some (wanted size align)
+wanted_by s (Free number) = None
 wanted_by s (Write number offset bytes) = None
 wanted_by s (Read number offset count) = None
+wanted_by s Extents = None
 
 -- a heap call that has no room may be refused where its pages have no place, or where frames are lacking at their place
 abbrev pub MayRefuse : State → Option ℕ → Refusal → Type 0

@@ -1,13 +1,6 @@
 -- What a request for bytes takes of the heap. All numbers are whole and never wrap.
-use Rattle.std.specs.Prelude.{ℕ, ◌+◌, ◌-◌, ◌*◌, ◌/◌, ◌^◌, nat_lt, nat_le, ◌==◌, if◌then◌else◌}
-
--- the least multiple of a unit that is at least n
-abbrev pub round_up : ℕ → ℕ → ℕ
-round_up n unit = (n + (unit - 1)) / unit * unit
-
--- the size of a chunk for n bytes: with its head word, in units of 16 bytes, and at least 32 (dlmalloc: request2size)
-unfoldable pub padded : ℕ → ℕ
-padded n = if nat_lt n 23 then 32 else round_up (n + 8) 16
+use Rattle.std.specs.Prelude.{ℕ, ◌+◌, ◌/◌, nat_le, if◌then◌else◌}
+use Rattle.dlmalloc_chunks.specs.Request.{round_up, padded}
 
 -- what is asked for where an aligned place above 16 has to be found in it (dlmalloc: memalign)
 unfoldable pub enlarged : ℕ → ℕ → ℕ
@@ -17,10 +10,10 @@ enlarged n align = padded n + align + 24
 unfoldable pub wanted : ℕ → ℕ → ℕ
 wanted n align = if nat_le align 16 then padded n else padded n + align + 32
 
--- the least size that is refused whatever is free (dlmalloc: max_request)
-unfoldable pub limit : ℕ → ℕ
-limit granularity = if granularity == 16 then 2 ^ 64 - 135 else 2 ^ 64 - granularity - 103
+-- the pages that hold n bytes
+unfoldable pub pages_in : ℕ → ℕ
+pages_in n = round_up n 4096 / 4096
 
 -- the pages that are granted for a chunk of n bytes, with the 96 bytes of the heap's own words beside it
 unfoldable pub pages_for : ℕ → ℕ → ℕ
-pages_for n granularity = round_up (round_up (n + 96) granularity) 4096 / 4096
+pages_for n granularity = pages_in (round_up (n + 96) granularity)

@@ -1,4 +1,5 @@
 use crate::{Bytes, RegionList};
+use dlmalloc_chunks::ExtentList;
 use public_list::PublicList;
 
 /// Why a call was refused. A refused call changes nothing.
@@ -25,6 +26,8 @@ pub enum Reply {
     Done,
     /// The bytes that were asked for.
     Bytes(Bytes),
+    /// The extents of the heap, by ascending address.
+    Extents(ExtentList),
     /// The call was refused, and changed nothing.
     Refused(Refusal),
 }

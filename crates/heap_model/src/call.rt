@@ -9,6 +9,10 @@ pub enum Call {
         size: u64,
         align: u64,
     },
+    /// Ends the block.
+    Free {
+        block: u64,
+    },
     /// Puts the bytes into the block, the first of them at `offset` bytes from its start.
     Write {
         block: u64,
@@ -21,6 +25,8 @@ pub enum Call {
         offset: u64,
         length: u64,
     },
+    /// Asks for the extents of the heap.
+    Extents,
 }
 
 /// Calls, in the order in which they are made.

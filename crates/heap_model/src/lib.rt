@@ -13,6 +13,7 @@ mod region;
 pub use answer::{Answer, AnswerList, Refusal, Reply};
 pub use call::{Call, CallList};
 pub use config::Config;
+pub use dlmalloc_chunks::{Extent, ExtentList, Kind};
 pub use live::Live;
 pub use paging_core::Rights;
 pub use public_list::PublicList;

@@ -1,7 +1,8 @@
 -- Worked values: the definitions computed on short inputs.
 use Rattle.std.proofs.Common.{◌≡◌, ◌^◌, ◌-◌, true, false, [], ◌∷◌, codes, refl, Some, None}
-use Rattle.heap_model.specs.declared.call.Call.TheVariants.{Malloc, Write, Read}
-use Rattle.heap_model.specs.declared.answer.Reply.TheVariants.{Block, Bytes, Refused}
+use Rattle.dlmalloc_chunks.specs.declared.extent.Kind.TheVariants.{Used, Free as Binned, Victim, Top, Record, Foot}
+use Rattle.heap_model.specs.declared.call.Call.TheVariants.{Malloc, Free, Write, Read, Extents}
+use Rattle.heap_model.specs.declared.answer.Reply.TheVariants.{Block, Bytes, Extents as Listed, Refused}
 use Rattle.heap_model.specs.declared.answer.Refusal.TheVariants.{NoFrames}
 use Rattle.std.specs.Fmt.{digits}
 use Rattle.hex.proofs.OnLiterals.{hex_on_literals}
@@ -51,6 +52,14 @@ items-bytes : items_of (codes "write 0 1 fF00\nwrite 0 1 f\nread 5 0 2\nread 5 0
 unfolding items_of item_of hex_on_literals
 items-bytes = refl
 
+items-free : items_of (codes "free 0\nfree 0x10\nfree\nfree 0 \nfree 0 0\nFree 0\n free 0") ≡ Some (Free 0) ∷ Some (Free 16) ∷ None ∷ None ∷ None ∷ None ∷ None ∷ []
+unfolding items_of item_of
+items-free = refl
+
+items-extents : items_of (codes "extents\nextents \nextents 0") ≡ Some Extents ∷ None ∷ None ∷ []
+unfolding items_of item_of
+items-extents = refl
+
 -- texts
 
 text-bytes : text_of (record { reply = Bytes (0 ∷ 255 ∷ []); regions = None }) ≡ codes "bytes 00ff\n"
@@ -64,6 +73,18 @@ text-no_bytes = refl
 text-block : text_of (record { reply = Block 2 0x40ffd0; regions = Some (heap_region 0x400000 16 ∷ heap_region 0x410000 16 ∷ []) }) ≡ codes "block 2 0x40ffd0\nheap 0x400000+16 0x410000+16\n"
 unfolding text_of digits
 text-block = refl
+
+text-extents : text_of (record { reply = Listed (record { at = 0x400000; size = 65440; kind = Used } ∷ record { at = 0x40ffa0; size = 16; kind = Top } ∷ record { at = 0x40ffb0; size = 80; kind = Foot } ∷ []); regions = None }) ≡ codes "extents used:0x400000+65440 top:0x40ffa0+16 foot:0x40ffb0+80\n"
+unfolding text_of digits
+text-extents = refl
+
+text-other_extents : text_of (record { reply = Listed (record { at = 0; size = 32; kind = Binned } ∷ record { at = 32; size = 0; kind = Victim } ∷ record { at = 255; size = 1; kind = Record } ∷ []); regions = None }) ≡ codes "extents free:0x0+32 victim:0x20+0 record:0xff+1\n"
+unfolding text_of digits
+text-other_extents = refl
+
+text-no_extents : text_of (record { reply = Listed []; regions = None }) ≡ codes "extents\n"
+unfolding text_of
+text-no_extents = refl
 
 text-none : text_of (record { reply = Refused NoFrames; regions = Some [] }) ≡ codes "refused no-frames\nheap none\n"
 unfolding text_of

@@ -1,5 +1,6 @@
 pub mod Commands
 pub mod Defaults
+pub mod Endings
 pub mod Errors
 mod Examples
 pub mod Known

@@ -4,9 +4,9 @@ use Rattle.std.specs.Prelude.{if◌then◌else◌, nat_lt}
 use Rattle.std.specs.Str.{bytes_eq}
 use Rattle.std.specs.Option.{option_map}
 use Rattle.heap_model.specs.declared.call.Call.{Call}
-use Rattle.heap_model.specs.declared.call.Call.TheVariants.{Malloc}
+use Rattle.heap_model.specs.declared.call.Call.TheVariants.{Malloc, Free}
 use Rattle.kernel_heap.specs.Machine.{IsServable}
-use Rattle.heap_program.specs.Grammar.{malloc_of, bytes_of, write_call, write_of, read_call, read_of, call_of, item_of}
+use Rattle.heap_program.specs.Grammar.{one_number, bytes_of, write_call, write_of, read_call, read_of, extents_of, call_of, item_of}
 use Rattle.heap_program.specs.Number.{number_of}
 use Rattle.heap_program.specs.Words.{words_of}
 
@@ -19,10 +19,9 @@ malloc_servable : (o : Option ℕ) → IfCall IsServable (option_map (λ n. Mall
 malloc_servable None = tt
 malloc_servable (Some n) = refl
 
-words_servable : (words : List (List ℕ)) → IfCall IsServable (malloc_of words)
-words_servable [] = tt
-words_servable (size ∷ []) = malloc_servable (number_of size)
-words_servable (size ∷ word ∷ words) = tt
+free_servable : (o : Option ℕ) → IfCall IsServable (option_map Free o)
+free_servable None = tt
+free_servable (Some n) = tt
 
 write_servable : (block offset : Option ℕ) (bytes : Option (List ℕ)) → IfCall IsServable (write_call block offset bytes)
 write_servable (Some block) (Some offset) (Some bytes) = tt
@@ -50,6 +49,10 @@ read_words (block ∷ offset ∷ []) = tt
 read_words (block ∷ offset ∷ count ∷ []) = read_servable (number_of block) (number_of offset) (number_of count)
 read_words (block ∷ offset ∷ count ∷ word ∷ words) = tt
 
+extents_words : (words : List (List ℕ)) → IfCall IsServable (extents_of words)
+extents_words [] = tt
+extents_words (word ∷ words) = tt
+
 either : (b : Bool) (o p : Option Call) → IfCall IsServable o → IfCall IsServable p → IfCall IsServable (if b then o else p)
 either true o p first second = first
 either false o p first second = second
@@ -57,9 +60,11 @@ either false o p first second = second
 call_servable : (words : List (List ℕ)) → IfCall IsServable (call_of words)
 call_servable [] = tt
 call_servable (name ∷ arguments) =
-    either (bytes_eq name (codes "malloc")) (malloc_of arguments) (if bytes_eq name (codes "write") then write_of arguments else if bytes_eq name (codes "read") then read_of arguments else None) (words_servable arguments)
-    (either (bytes_eq name (codes "write")) (write_of arguments) (if bytes_eq name (codes "read") then read_of arguments else None) (write_words arguments)
-    (either (bytes_eq name (codes "read")) (read_of arguments) None (read_words arguments) tt))
+    either (bytes_eq name (codes "malloc")) _ _ (malloc_servable (one_number arguments))
+    (either (bytes_eq name (codes "free")) _ _ (free_servable (one_number arguments))
+    (either (bytes_eq name (codes "write")) _ _ (write_words arguments)
+    (either (bytes_eq name (codes "read")) _ _ (read_words arguments)
+    (either (bytes_eq name (codes "extents")) _ _ (extents_words arguments) tt))))
 
 pub item_servable : (line : List ℕ) (call : Call) → item_of line ≡ Some call → IsServable call
 unfolding item_of

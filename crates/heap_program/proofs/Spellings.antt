@@ -1,17 +1,18 @@
 -- Texts that cannot be read in two ways.
-use Rattle.std.proofs.Common.{◌≡◌, ◌<◌, ◌≤◌, ◌^◌, ◌+◌, ◌/◌, ◌%◌, ℕ, zero, suc, ◌==◌, get_or, List, [], ◌∷◌, ◌++◌, length, Option, None, Some, false, codes, decimal, refl, sym, ◌∙◌, ap, arith, append_assoc, lit≤}
-use Rattle.std.proofs.lemmas.Fmt.{digits_is_IsNumeral}
+use Rattle.std.proofs.Common.{◌≡◌, ◌<◌, ◌+◌, ◌/◌, ◌%◌, ℕ, zero, suc, ◌==◌, get_or, List, [], ◌∷◌, ◌++◌, length, Option, None, Some, codes, decimal, refl, sym, ◌∙◌, ap, arith, append_assoc, lit≤}
 use Rattle.std.proofs.lemmas.List.{append_cancel_left}
 use Rattle.std.specs.Prelude.{if◌then◌else◌}
-use Rattle.std.specs.Fmt.{digits}
 use Rattle.hex.specs.Hex.{IsBytes, decode_of, encode_lower, encode_with, lower_digits}
 use Rattle.hex.proofs.HexLemmas.{decode_of-encode_lower, decode_of-same}
 use Rattle.std.specs.Char.{digit_value}
 use Rattle.std.specs.List.{flat_map, AllByRecursion}
-use Rattle.std.specs.Str.Parse.{AllDigits, digits_value}
+use Rattle.std.specs.Str.Parse.{AllDigits}
+use Rattle.dlmalloc_chunks.specs.declared.extent.Extent.{Extent}
+use Rattle.dlmalloc_chunks.specs.declared.extent.Kind.{Kind}
+use Rattle.dlmalloc_chunks.specs.declared.extent.Kind.TheVariants.{Used, Free, Victim, Top, Record, Foot}
 use Rattle.heap_model.specs.declared.answer.Answer.{Answer}
 use Rattle.heap_model.specs.declared.answer.Reply.{Reply}
-use Rattle.heap_model.specs.declared.answer.Reply.TheVariants.{Block, Done, Bytes, Refused}
+use Rattle.heap_model.specs.declared.answer.Reply.TheVariants.{Block, Done, Bytes, Extents, Refused}
 use Rattle.heap_model.specs.declared.answer.Refusal.{Refusal}
 use Rattle.heap_model.specs.declared.answer.Refusal.TheVariants.{TooLarge, NoSpace, NoFrames, UnknownBlock, OutOfBlock}
 use Rattle.heap_model.specs.declared.region.Region.{Region}
@@ -20,43 +21,9 @@ use Rattle.heap_model.specs.Place.{all_regions}
 use Rattle.heap_model.specs.Tables.{free_frames}
 use Rattle.heap_model.specs.State.{State}
 use Rattle.heap_program.specs.Progress.{texts_of}
-use Rattle.heap_program.specs.Spelling.{ReplyFits, RegionFits, RegionsFit, AnswerFits, SpellsOne}
-use Rattle.heap_program.specs.Text.{hexadecimal, reply_text, extent_text, regions_text, region_line, heap_line, text_of, line_text, counts_line, end_text_of}
-
-head_of : {x y : ℕ} {xs ys : List ℕ} → x ∷ xs ≡ y ∷ ys → x ≡ y
-head_of h = cc
-
-tail_of : {x y : ℕ} {xs ys : List ℕ} → x ∷ xs ≡ y ∷ ys → xs ≡ ys
-tail_of h = cc
-
--- digits end at the first byte that is none
-digits_end : (base : ℕ) (xs ys : List ℕ) (c d : ℕ) (r s : List ℕ) → AllDigits base xs → AllDigits base ys → base ≤ digit_value c → base ≤ digit_value d → xs ++ c ∷ r ≡ ys ++ d ∷ s → (xs ≡ ys) × (c ∷ r ≡ d ∷ s)
-digits_end base [] [] c d r s ax ay nc nd h = (refl, h)
-digits_end base [] (y ∷ ys) c d r s ax ay nc nd h = absurd (omega (arith, ay.0, nc, ap digit_value (head_of h)))
-digits_end base (x ∷ xs) [] c d r s ax ay nc nd h = absurd (omega (arith, ax.0, nd, ap digit_value (head_of h)))
-digits_end base (x ∷ xs) (y ∷ ys) c d r s ax ay nc nd h =
-    let k = digits_end base xs ys c d r s ax.1 ay.1 nc nd (tail_of h) in
-    ((λ i. head_of h i ∷ k.0 i), k.1)
-
--- numbers in a base, each before a byte that is no digit
-number_end : (base : ℕ) → 2 ≤ base → base ≤ 16 → (m n : ℕ) (c d : ℕ) (r s : List ℕ) → m < base ^ 64 → n < base ^ 64 → base ≤ digit_value c → base ≤ digit_value d → digits base false m ++ c ∷ r ≡ digits base false n ++ d ∷ s → (m ≡ n) × (c ∷ r ≡ d ∷ s)
-number_end base low high m n c d r s fm fn nc nd h =
-    let p = digits_is_IsNumeral base false low high m fm in
-    let q = digits_is_IsNumeral base false low high n fn in
-    let k = digits_end base (digits base false m) (digits base false n) c d r s p.0.1 q.0.1 nc nd h in
-    (sym p.1 ∙ ap (digits_value base) k.0 ∙ q.1, k.1)
-
-wide_10 : (n : ℕ) → n < 2 ^ 64 → n < 10 ^ 64
-wide_10 n h = omega (arith, h)
-
-wide_16 : (n : ℕ) → n < 2 ^ 64 → n < 16 ^ 64
-wide_16 n h = omega (arith, h)
-
-decimal_end : (m n c d : ℕ) (r s : List ℕ) → m < 2 ^ 64 → n < 2 ^ 64 → 10 ≤ digit_value c → 10 ≤ digit_value d → decimal m ++ c ∷ r ≡ decimal n ++ d ∷ s → (m ≡ n) × (c ∷ r ≡ d ∷ s)
-decimal_end m n c d r s fm fn nc nd h = number_end 10 (lit≤ tt) (lit≤ tt) m n c d r s (wide_10 m fm) (wide_10 n fn) nc nd h
-
-hex_end : (m n c d : ℕ) (r s : List ℕ) → m < 2 ^ 64 → n < 2 ^ 64 → 16 ≤ digit_value c → 16 ≤ digit_value d → hexadecimal m ++ c ∷ r ≡ hexadecimal n ++ d ∷ s → (m ≡ n) × (c ∷ r ≡ d ∷ s)
-hex_end m n c d r s fm fn nc nd h = number_end 16 (lit≤ tt) (lit≤ tt) m n c d r s (wide_16 m fm) (wide_16 n fn) nc nd (tail_of (tail_of h))
+use Rattle.heap_program.specs.Spelling.{ExtentFits, ReplyFits, RegionFits, RegionsFit, AnswerFits, SpellsOne}
+use Rattle.heap_program.specs.Text.{hexadecimal, span_text, kind_word, extent_text, reply_text, pages_text, regions_text, region_line, heap_line, text_of, line_text, counts_line, end_text_of}
+use Rattle.heap_program.proofs.Endings.{head_of, tail_of, told_end, digits_end, decimal_end, hex_end, span_end, Ends, items_end}
 
 -- the two numbers of a block, and what follows
 abbrev block_onto : ℕ → ℕ → List ℕ → List ℕ
@@ -76,35 +43,20 @@ block_end m a n b r s fm fn h =
     ((λ i. Block (first.0 i) (second.0 i)), tail_of second.1)
 
 -- the seventh letter tells the refusals apart
-abbrev seventh : Refusal → ℕ
-seventh TooLarge = 114
-seventh NoSpace = 99
-seventh NoFrames = 109
-seventh UnknownBlock = 110
-seventh OutOfBlock = 45
+abbrev refusal_of : List ℕ → Refusal
+refusal_of text =
+    let letter = get_or text 14 0 in
+    if letter == 114 then TooLarge else if letter == 99 then NoSpace else if letter == 109 then NoFrames else if letter == 110 then UnknownBlock else OutOfBlock
 
-abbrev with_seventh : ℕ → Refusal
-with_seventh letter = if letter == 114 then TooLarge else if letter == 99 then NoSpace else if letter == 109 then NoFrames else if letter == 110 then UnknownBlock else OutOfBlock
-
-told_apart : (why : Refusal) → with_seventh (seventh why) ≡ why
-told_apart TooLarge = refl
-told_apart NoSpace = refl
-told_apart NoFrames = refl
-told_apart UnknownBlock = refl
-told_apart OutOfBlock = refl
-
-seventh_is : (why : Refusal) (r : List ℕ) → get_or (reply_text (Refused why) ++ r) 14 0 ≡ seventh why
-seventh_is TooLarge r = refl
-seventh_is NoSpace r = refl
-seventh_is NoFrames r = refl
-seventh_is UnknownBlock r = refl
-seventh_is OutOfBlock r = refl
+refusal_told : (why : Refusal) (r : List ℕ) → refusal_of (reply_text (Refused why) ++ r) ≡ why
+refusal_told TooLarge r = refl
+refusal_told NoSpace r = refl
+refusal_told NoFrames r = refl
+refusal_told UnknownBlock r = refl
+refusal_told OutOfBlock r = refl
 
 refused_end : (v w : Refusal) (r s : List ℕ) → reply_text (Refused v) ++ r ≡ reply_text (Refused w) ++ s → (Refused v ≡ Refused w) × (r ≡ s)
-refused_end v w r s h =
-    let letter : seventh v ≡ seventh w = sym (seventh_is v r) ∙ (ap (λ (l : List ℕ). get_or l 14 0) h ∙ seventh_is w s) in
-    let same : v ≡ w = sym (told_apart v) ∙ (ap with_seventh letter ∙ told_apart w) in
-    (ap Refused same, append_cancel_left (reply_text (Refused v)) r s (h ∙ ap (λ x. reply_text (Refused x) ++ s) (sym same)))
+refused_end v w r s h = let k = told_end (λ why. reply_text (Refused why)) refusal_of refusal_told v w r s h in (ap Refused k.0, k.1)
 
 -- the sixteen digits
 digits_at : (t : List ℕ) (k : ℕ) → AllDigits 16 t → k < length t → digit_value (get_or t k 0) < 16
@@ -138,17 +90,43 @@ bytes_end (x ∷ xs) (y ∷ ys) r s fx fy h =
     (append_cancel_left (codes "bytes ") (encode_lower (x ∷ xs) ++ 10 ∷ r) (encode_lower (y ∷ ys) ++ 10 ∷ s) (onto (x ∷ xs) r ∙ h ∙ sym (onto (y ∷ ys) s))) in
     ((λ i. Bytes (k.0 i)), k.1)
 
+-- the first two letters tell the kinds of extents apart, and so does their sum
+abbrev kind_of : List ℕ → Kind
+kind_of text =
+    let sum = get_or text 0 0 + get_or text 1 0 in
+    if sum == 232 then Used else if sum == 216 then Free else if sum == 223 then Victim else if sum == 227 then Top else if sum == 215 then Record else Foot
+
+kind_told : (kind : Kind) (r : List ℕ) → kind_of (kind_word kind ++ r) ≡ kind
+kind_told Used r = refl
+kind_told Free r = refl
+kind_told Victim r = refl
+kind_told Top r = refl
+kind_told Record r = refl
+kind_told Foot r = refl
+
+-- an extent, before a byte that is no digit
+extent_onto : (x : Extent) (c : ℕ) (r : List ℕ) → extent_text x ++ c ∷ r ≡ kind_word x.kind ++ 58 ∷ (span_text x.at x.size ++ c ∷ r)
+extent_onto x c r = append_assoc (kind_word x.kind) (58 ∷ span_text x.at x.size) (c ∷ r)
+
+extent_end : Ends Extent extent_text ExtentFits
+extent_end x y c d r s fx fy nc nd h =
+    let kind = told_end kind_word kind_of kind_told x.kind y.kind (58 ∷ (span_text x.at x.size ++ c ∷ r)) (58 ∷ (span_text y.at y.size ++ d ∷ s)) (sym (extent_onto x c r) ∙ h ∙ extent_onto y d s) in
+    let span = span_end x.at x.size y.at y.size c d r s fx fy nc nd (tail_of kind.1) in
+    ((λ i. record { at = span.0 i; size = span.1 i; kind = kind.0 i }), span.2)
+
 -- the second letter tells the kinds of replies apart
 abbrev second : Reply → ℕ
 second (Block number address) = 108
 second Done = 111
 second (Bytes bytes) = 121
+second (Extents extents) = 120
 second (Refused why) = 101
 
 second_is : (p : Reply) (r : List ℕ) → get_or (reply_text p ++ r) 1 0 ≡ second p
 second_is (Block number address) r = refl
 second_is Done r = refl
 second_is (Bytes bytes) r = refl
+second_is (Extents extents) r = refl
 second_is (Refused why) r = refl
 
 second_same : (p q : Reply) (r s : List ℕ) → reply_text p ++ r ≡ reply_text q ++ s → second p ≡ second q
@@ -158,52 +136,15 @@ reply_end : (p q : Reply) (r s : List ℕ) → ReplyFits p → ReplyFits q → r
 reply_end (Block m a) (Block n b) r s fp fq h = block_end m a n b r s fp fq h
 reply_end Done Done r s fp fq h = (refl, append_cancel_left (codes "done\n") r s h)
 reply_end (Bytes xs) (Bytes ys) r s fp fq h = bytes_end xs ys r s fp fq h
+reply_end (Extents xs) (Extents ys) r s fp fq h = let k = items_end extent_text ExtentFits extent_end (codes "extents") xs ys r s fp fq h in ((λ i. Extents (k.0 i)), k.1)
 reply_end (Refused v) (Refused w) r s fp fq h = refused_end v w r s h
-reply_end (Block m a) Done r s fp fq h = absurd (let k : 108 ≡ 111 = second_same (Block m a) Done r s h in omega (arith, k))
-reply_end (Block m a) (Bytes ys) r s fp fq h = absurd (let k : 108 ≡ 121 = second_same (Block m a) (Bytes ys) r s h in omega (arith, k))
-reply_end (Block m a) (Refused w) r s fp fq h = absurd (let k : 108 ≡ 101 = second_same (Block m a) (Refused w) r s h in omega (arith, k))
-reply_end Done (Block n b) r s fp fq h = absurd (let k : 111 ≡ 108 = second_same Done (Block n b) r s h in omega (arith, k))
-reply_end Done (Bytes ys) r s fp fq h = absurd (let k : 111 ≡ 121 = second_same Done (Bytes ys) r s h in omega (arith, k))
-reply_end Done (Refused w) r s fp fq h = absurd (let k : 111 ≡ 101 = second_same Done (Refused w) r s h in omega (arith, k))
-reply_end (Bytes xs) (Block n b) r s fp fq h = absurd (let k : 121 ≡ 108 = second_same (Bytes xs) (Block n b) r s h in omega (arith, k))
-reply_end (Bytes xs) Done r s fp fq h = absurd (let k : 121 ≡ 111 = second_same (Bytes xs) Done r s h in omega (arith, k))
-reply_end (Bytes xs) (Refused w) r s fp fq h = absurd (let k : 121 ≡ 101 = second_same (Bytes xs) (Refused w) r s h in omega (arith, k))
-reply_end (Refused v) (Block n b) r s fp fq h = absurd (let k : 101 ≡ 108 = second_same (Refused v) (Block n b) r s h in omega (arith, k))
-reply_end (Refused v) Done r s fp fq h = absurd (let k : 101 ≡ 111 = second_same (Refused v) Done r s h in omega (arith, k))
-reply_end (Refused v) (Bytes ys) r s fp fq h = absurd (let k : 101 ≡ 121 = second_same (Refused v) (Bytes ys) r s h in omega (arith, k))
+reply_end p q r s fp fq h = absurd (let k : second p ≡ second q = second_same p q r s h in omega (arith, k))
 
--- a region of a heap line
-abbrev spaced : Region → List ℕ
-spaced r = codes " " ++ extent_text r
-
--- one region, before a space or the end of the line
-region_onto : (x : Region) (c : ℕ) (r : List ℕ) → spaced x ++ c ∷ r ≡ codes " " ++ (hexadecimal x.start ++ 43 ∷ (decimal x.pages ++ c ∷ r))
-region_onto x c r = ap (λ (l : List ℕ). codes " " ++ l) (append_assoc (hexadecimal x.start) (43 ∷ decimal x.pages) (c ∷ r))
-
-region_end : (x y : Region) (c d : ℕ) (r s : List ℕ) → RegionFits x → RegionFits y → 10 ≤ digit_value c → 10 ≤ digit_value d → spaced x ++ c ∷ r ≡ spaced y ++ d ∷ s → (x ≡ y) × (c ∷ r ≡ d ∷ s)
+-- a region of a heap line, before a byte that is no digit
+region_end : Ends Region pages_text RegionFits
 region_end x y c d r s fx fy nc nd h =
-    let k = tail_of (sym (region_onto x c r) ∙ h ∙ region_onto y d s) in
-    let first = hex_end x.start y.start 43 43 (decimal x.pages ++ c ∷ r) (decimal y.pages ++ d ∷ s) fx.0 fy.0 (lit≤ tt) (lit≤ tt) k in
-    let second = decimal_end x.pages y.pages c d r s fx.1 fy.1 nc nd (tail_of first.1) in
-    (fx.2 ∙ (λ i. heap_region (first.0 i) (second.0 i)) ∙ sym fy.2, second.1)
-
--- what stands behind a region begins with no digit
-behind : (xs : List Region) (r : List ℕ) → (c : ℕ) × (t : List ℕ) × (flat_map spaced xs ++ 10 ∷ r ≡ c ∷ t) × (10 ≤ digit_value c)
-behind [] r = (10, r, refl, lit≤ tt)
-behind (x ∷ xs) r = (32, (extent_text x ++ flat_map spaced xs) ++ 10 ∷ r, refl, lit≤ tt)
-
--- all regions up to the end of the line: each begins with a space
-regions_end : (xs ys : List Region) (r s : List ℕ) → AllByRecursion RegionFits xs → AllByRecursion RegionFits ys → flat_map spaced xs ++ 10 ∷ r ≡ flat_map spaced ys ++ 10 ∷ s → (xs ≡ ys) × (r ≡ s)
-regions_end [] [] r s fx fy h = (refl, tail_of h)
-regions_end [] (y ∷ ys) r s fx fy h = absurd (let k : 10 ≡ 32 = head_of h in omega (arith, k))
-regions_end (x ∷ xs) [] r s fx fy h = absurd (let k : 32 ≡ 10 = head_of h in omega (arith, k))
-regions_end (x ∷ xs) (y ∷ ys) r s fx fy h =
-    let p = behind xs r in
-    let q = behind ys s in
-    let apart = ap (λ (l : List ℕ). spaced x ++ l) (sym p.2) ∙ sym (append_assoc (spaced x) (flat_map spaced xs) (10 ∷ r)) ∙ h ∙ append_assoc (spaced y) (flat_map spaced ys) (10 ∷ s) ∙ ap (λ (l : List ℕ). spaced y ++ l) q.2 in
-    let k = region_end x y p.0 q.0 p.1 q.1 fx.0 fy.0 p.3 q.3 apart in
-    let rest = regions_end xs ys r s fx.1 fy.1 (p.2 ∙ k.1 ∙ sym q.2) in
-    ((λ i. k.0 i ∷ rest.0 i), rest.1)
+    let span = span_end x.start x.pages y.start y.pages c d r s (fx.0, fx.1) (fy.0, fy.1) nc nd h in
+    (fx.2 ∙ (λ i. heap_region (span.0 i) (span.1 i)) ∙ sym fy.2, span.2)
 
 -- no heap line begins there
 abbrev NoHeap : List ℕ → Type 0
@@ -213,10 +154,7 @@ some_end : (xs ys : List Region) (r s : List ℕ) → AllByRecursion RegionFits 
 some_end [] [] r s fx fy h = (refl, append_cancel_left (codes "heap none\n") r s h)
 some_end [] (y ∷ ys) r s fx fy h = absurd (let k : 110 ≡ 48 = head_of (tail_of (tail_of (tail_of (tail_of (tail_of h))))) in omega (arith, k))
 some_end (x ∷ xs) [] r s fx fy h = absurd (let k : 48 ≡ 110 = head_of (tail_of (tail_of (tail_of (tail_of (tail_of h))))) in omega (arith, k))
-some_end (x ∷ xs) (y ∷ ys) r s fx fy h =
-    let onto : (zs : List Region) (t : List ℕ) → codes "heap" ++ (flat_map spaced zs ++ 10 ∷ t) ≡ (codes "heap" ++ (flat_map spaced zs ++ 10 ∷ [])) ++ t = λ zs t. ap (λ (l : List ℕ). codes "heap" ++ l) (sym (append_assoc (flat_map spaced zs) (10 ∷ []) t)) in
-    regions_end (x ∷ xs) (y ∷ ys) r s fx fy
-    (append_cancel_left (codes "heap") (flat_map spaced (x ∷ xs) ++ 10 ∷ r) (flat_map spaced (y ∷ ys) ++ 10 ∷ s) (onto (x ∷ xs) r ∙ h ∙ sym (onto (y ∷ ys) s)))
+some_end (x ∷ xs) (y ∷ ys) r s fx fy h = items_end pages_text RegionFits region_end (codes "heap") (x ∷ xs) (y ∷ ys) r s fx fy h
 
 heap_end : (p q : Option (List Region)) (r s : List ℕ) → RegionsFit p → RegionsFit q → NoHeap r → NoHeap s → heap_line p ++ r ≡ heap_line q ++ s → (p ≡ q) × (r ≡ s)
 heap_end None None r s fp fq nr ns h = (refl, h)
@@ -236,6 +174,7 @@ reply_differs : (p : Reply) (r s t : List ℕ) → reply_text p ++ r ≡ codes "
 reply_differs (Block m a) r s t h = let k : 108 ≡ 97 = head_of (tail_of h) in omega (arith, k)
 reply_differs Done r s t h = let k : 100 ≡ 98 = head_of h in omega (arith, k)
 reply_differs (Bytes bytes) r s t h = let k : 121 ≡ 97 = head_of (tail_of h) in omega (arith, k)
+reply_differs (Extents extents) r s t h = let k : 101 ≡ 98 = head_of h in omega (arith, k)
 reply_differs (Refused why) r s t h = let k : 114 ≡ 98 = head_of h in omega (arith, k)
 
 line_end : (x y : Option Answer) (r s : List ℕ) → AnswerFits x → AnswerFits y → NoHeap r → NoHeap s → line_text x ++ r ≡ line_text y ++ s → (x ≡ y) × (r ≡ s)
@@ -249,6 +188,7 @@ reply_head : (p : Reply) (r : List ℕ) → NoHeap (reply_text p ++ r)
 reply_head (Block m a) r t h = let k : 98 ≡ 104 = head_of h in omega (arith, k)
 reply_head Done r t h = let k : 100 ≡ 104 = head_of h in omega (arith, k)
 reply_head (Bytes bytes) r t h = let k : 98 ≡ 104 = head_of h in omega (arith, k)
+reply_head (Extents extents) r t h = let k : 101 ≡ 104 = head_of h in omega (arith, k)
 reply_head (Refused why) r t h = let k : 114 ≡ 104 = head_of h in omega (arith, k)
 
 line_head : (x : Option Answer) (r : List ℕ) → NoHeap (line_text x ++ r)

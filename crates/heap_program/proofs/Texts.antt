@@ -1,13 +1,13 @@
 -- What is printed of regions, and at the end.
-use Rattle.std.proofs.Common.{◌≡◌, ℕ, ◌<◌, List, [], ◌∷◌, ◌++◌, codes, length, refl, ◌∙◌, arith}
+use Rattle.std.proofs.Common.{◌≡◌, ℕ, ◌<◌, List, [], ◌∷◌, ◌++◌, length, refl, ◌∙◌, arith}
 use Rattle.std.specs.List.{flat_map}
 use Rattle.heap_model.specs.declared.region.Region.{Region}
 use Rattle.heap_model.specs.State.{State}
 use Rattle.heap_model.specs.Machine.{Seen, Stands}
 use Rattle.paging_core.specs.Pool.{free_count}
-use Rattle.heap_program.specs.Text.{extent_text, regions_text, region_line, counts_line, end_text_of}
+use Rattle.heap_program.specs.Text.{spaced, pages_text, regions_text, region_line, counts_line, end_text_of}
 
-pub regions_some : (rs : List Region) → 0 < length rs → regions_text rs ≡ flat_map (λ r. codes " " ++ extent_text r) rs
+pub regions_some : (rs : List Region) → 0 < length rs → regions_text rs ≡ spaced pages_text rs
 regions_some [] some = absurd (omega (arith, some))
 regions_some (r ∷ rs) some = refl
 

@@ -5,15 +5,22 @@ use Rattle.std.specs.Result.{result_ok}
 use Rattle.std.specs.Str.{bytes_eq}
 use Rattle.hex.specs.Hex.{decode_of}
 use Rattle.heap_model.specs.declared.call.Call.{Call}
-use Rattle.heap_model.specs.declared.call.Call.TheVariants.{Malloc, Write, Read}
+use Rattle.heap_model.specs.declared.call.Call.TheVariants.{Malloc, Free, Write, Read, Extents}
 use Rattle.heap_program.specs.Number.{number_of}
 use Rattle.heap_program.specs.Words.{words_of}
 
+-- one number, and no word behind it
+abbrev pub one_number : List (List ℕ) → Option ℕ
+one_number (word ∷ []) = number_of word
+one_number words = None
+
 -- `malloc SIZE`, with what stands behind the name
 abbrev pub malloc_of : List (List ℕ) → Option Call
-malloc_of [] = None
-malloc_of (size ∷ []) = option_map (λ n. Malloc n 16) (number_of size)
-malloc_of (size ∷ word ∷ words) = None
+malloc_of words = option_map (λ size. Malloc size 16) (one_number words)
+
+-- `free BLOCK`, with what stands behind the name
+abbrev pub free_of : List (List ℕ) → Option Call
+free_of words = option_map Free (one_number words)
 
 -- bytes as two hexadecimal digits each, of either case; at least one byte
 abbrev pub bytes_of : List ℕ → Option (List ℕ)
@@ -38,13 +45,20 @@ abbrev pub read_of : List (List ℕ) → Option Call
 read_of (block ∷ offset ∷ count ∷ []) = read_call (number_of block) (number_of offset) (number_of count)
 read_of words = None
 
+-- `extents`, with what stands behind the name: nothing
+abbrev pub extents_of : List (List ℕ) → Option Call
+extents_of [] = Some Extents
+extents_of words = None
+
 -- the call that the first word names
 abbrev pub call_of : List (List ℕ) → Option Call
 call_of [] = None
 call_of (name ∷ arguments) =
     if bytes_eq name (codes "malloc") then malloc_of arguments else
+    if bytes_eq name (codes "free") then free_of arguments else
     if bytes_eq name (codes "write") then write_of arguments else
-    if bytes_eq name (codes "read") then read_of arguments else None
+    if bytes_eq name (codes "read") then read_of arguments else
+    if bytes_eq name (codes "extents") then extents_of arguments else None
 
 -- the call of a line of at most 8192 bytes; None is a bad line
 unfoldable pub item_of : List ℕ → Option Call

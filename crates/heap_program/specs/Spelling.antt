@@ -2,20 +2,26 @@
 use Rattle.std.specs.Prelude.{◌≡◌, ◌<◌, ◌^◌, ⊤, List, ◌++◌, length, Option, None, Some}
 use Rattle.std.specs.List.{AllByRecursion}
 use Rattle.hex.specs.Hex.{IsBytes}
+use Rattle.dlmalloc_chunks.specs.declared.extent.Extent.{Extent}
 use Rattle.heap_model.specs.declared.answer.Answer.{Answer}
 use Rattle.heap_model.specs.declared.answer.Reply.{Reply}
-use Rattle.heap_model.specs.declared.answer.Reply.TheVariants.{Block, Done, Bytes, Refused}
+use Rattle.heap_model.specs.declared.answer.Reply.TheVariants.{Block, Done, Bytes, Extents, Refused}
 use Rattle.heap_model.specs.declared.region.Region.{Region}
 use Rattle.heap_model.specs.Room.{heap_region}
 use Rattle.heap_model.specs.State.{State}
 use Rattle.heap_program.specs.Progress.{texts_of}
 use Rattle.heap_program.specs.Text.{end_text_of}
 
+-- the numbers of an extent fit 64 bits
+abbrev pub ExtentFits : Extent → Type 0
+ExtentFits extent = (extent.at < 2 ^ 64) × (extent.size < 2 ^ 64)
+
 -- the numbers of a reply fit 64 bits, and its bytes are bytes
 abbrev pub ReplyFits : Reply → Type 0
 ReplyFits (Block number address) = (number < 2 ^ 64) × (address < 2 ^ 64)
 ReplyFits Done = ⊤
 ReplyFits (Bytes bytes) = IsBytes bytes
+ReplyFits (Extents extents) = AllByRecursion ExtentFits extents
 ReplyFits (Refused why) = ⊤
 
 -- a heap region, whose numbers fit 64 bits

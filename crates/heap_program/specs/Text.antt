@@ -3,9 +3,12 @@ use Rattle.std.specs.Prelude.{ℕ, ◌+◌, Bool, List, [], ◌∷◌, ◌++◌,
 use Rattle.std.specs.Fmt.{digits}
 use Rattle.std.specs.List.{flat_map}
 use Rattle.hex.specs.Hex.{encode_lower}
+use Rattle.dlmalloc_chunks.specs.declared.extent.Extent.{Extent}
+use Rattle.dlmalloc_chunks.specs.declared.extent.Kind.{Kind}
+use Rattle.dlmalloc_chunks.specs.declared.extent.Kind.TheVariants.{Used, Free, Victim, Top, Record, Foot}
 use Rattle.heap_model.specs.declared.answer.Answer.{Answer}
 use Rattle.heap_model.specs.declared.answer.Reply.{Reply}
-use Rattle.heap_model.specs.declared.answer.Reply.TheVariants.{Block, Done, Bytes, Refused}
+use Rattle.heap_model.specs.declared.answer.Reply.TheVariants.{Block, Done, Bytes, Extents, Refused}
 use Rattle.heap_model.specs.declared.answer.Refusal.{Refusal}
 use Rattle.heap_model.specs.declared.answer.Refusal.TheVariants.{TooLarge, NoSpace, NoFrames, UnknownBlock, OutOfBlock}
 use Rattle.heap_model.specs.declared.region.Region.{Region}
@@ -17,6 +20,14 @@ use Rattle.paging_core.specs.declared.page_table.Rights.{Rights}
 -- an address, in lower case without leading zeros
 abbrev pub hexadecimal : ℕ → List ℕ
 hexadecimal n = codes "0x" ++ digits 16 false n
+
+-- the first address of something, and how many bytes or pages it has
+abbrev pub span_text : ℕ → ℕ → List ℕ
+span_text start size = hexadecimal start ++ (codes "+" ++ decimal size)
+
+-- the texts of the items, a space before each
+abbrev pub spaced : {A : Type 0} → (A → List ℕ) → List A → List ℕ
+spaced text items = flat_map (λ item. codes " " ++ text item) items
 
 abbrev pub refusal_word : Refusal → List ℕ
 refusal_word TooLarge = codes "too-large"
@@ -30,21 +41,34 @@ abbrev pub bytes_text : List ℕ → List ℕ
 bytes_text [] = []
 bytes_text (byte ∷ bytes) = codes " " ++ encode_lower (byte ∷ bytes)
 
+abbrev pub kind_word : Kind → List ℕ
+kind_word Used = codes "used"
+kind_word Free = codes "free"
+kind_word Victim = codes "victim"
+kind_word Top = codes "top"
+kind_word Record = codes "record"
+kind_word Foot = codes "foot"
+
+-- what an extent is used for, the address of its chunk, and its bytes
+abbrev pub extent_text : Extent → List ℕ
+extent_text extent = kind_word extent.kind ++ (codes ":" ++ span_text extent.at extent.size)
+
 -- the line of a reply
 abbrev pub reply_text : Reply → List ℕ
 reply_text (Block number address) = codes "block " ++ (decimal number ++ (codes " " ++ (hexadecimal address ++ codes "\n")))
 reply_text Done = codes "done\n"
 reply_text (Bytes bytes) = codes "bytes" ++ (bytes_text bytes ++ codes "\n")
+reply_text (Extents extents) = codes "extents" ++ (spaced extent_text extents ++ codes "\n")
 reply_text (Refused why) = codes "refused " ++ (refusal_word why ++ codes "\n")
 
 -- where a region starts, and its pages
-abbrev pub extent_text : Region → List ℕ
-extent_text region = hexadecimal region.start ++ (codes "+" ++ decimal region.pages)
+abbrev pub pages_text : Region → List ℕ
+pages_text region = span_text region.start region.pages
 
 -- the heap regions behind the word `heap`
 abbrev pub regions_text : List Region → List ℕ
 regions_text [] = codes " none"
-regions_text (region ∷ rest) = flat_map (λ r. codes " " ++ extent_text r) (region ∷ rest)
+regions_text (region ∷ rest) = spaced pages_text (region ∷ rest)
 
 -- the second line of an answer, where it lists the heap regions
 abbrev pub heap_line : Option (List Region) → List ℕ
@@ -68,11 +92,12 @@ right_text granted letter = if granted then letter else codes "-"
 abbrev pub rights_text : Rights → List ℕ
 rights_text rights = codes "r" ++ (right_text rights.write (codes "w") ++ (right_text rights.user (codes "u") ++ right_text rights.fetch (codes "x")))
 
-abbrev pub kind_text : Region → List ℕ
-kind_text region = if region.heap then codes "heap" else codes "user " ++ rights_text region.rights
+-- whose pages they are; of the user's, the rights too
+abbrev pub owner_text : Region → List ℕ
+owner_text region = if region.heap then codes "heap" else codes "user " ++ rights_text region.rights
 
 abbrev pub region_line : Region → List ℕ
-region_line region = codes "region " ++ (extent_text region ++ (codes " " ++ (kind_text region ++ codes "\n")))
+region_line region = codes "region " ++ (pages_text region ++ (codes " " ++ (owner_text region ++ codes "\n")))
 
 abbrev pub counts_line : ℕ → ℕ → List ℕ
 counts_line frames tables = codes "frames " ++ (decimal frames ++ (codes " tables " ++ (decimal tables ++ codes "\n")))

@@ -1,6 +1,6 @@
 // The call that a line asks for.
 ghost use Rattle.std.specs.Prelude.{◌≡◌, IfOk, MatchOption, Some, None};
-ghost use Rattle.heap_program.specs.Grammar.{malloc_of, bytes_of, write_call, write_of, read_of, call_of, item_of};
+ghost use Rattle.heap_program.specs.Grammar.{one_number, malloc_of, free_of, bytes_of, write_call, write_of, read_of, extents_of, call_of, item_of};
 ghost use Rattle.heap_program.specs.Words.{words_of};
 
 use crate::number::number;
@@ -15,17 +15,32 @@ pub const LONGEST_LINE: usize = 8192;
 /// The alignment of a block where the line gives none.
 const DEFAULT_ALIGNMENT: u64 = 16;
 
+// The number that is left where it is the only word.
+fn one_number(words: &mut Words<'_>) -> Option<u64>
+    ensures { result ≡ one_number words.old }
+{
+    let number = number(words.next_word()?)?;
+    match words.next_word() {
+        None => Some(number),
+        Some(_) => None,
+    }
+}
+
 fn malloc(words: &mut Words<'_>) -> Option<Call>
     ensures { result ≡ malloc_of words.old }
 {
-    let size = number(words.next_word()?)?;
-    match words.next_word() {
-        None => Some(Call::Malloc {
-            size,
-            align: DEFAULT_ALIGNMENT,
-        }),
-        Some(_) => None,
-    }
+    let size = one_number(words)?;
+    Some(Call::Malloc {
+        size,
+        align: DEFAULT_ALIGNMENT,
+    })
+}
+
+fn free(words: &mut Words<'_>) -> Option<Call>
+    ensures { result ≡ free_of words.old }
+{
+    let block = one_number(words)?;
+    Some(Call::Free { block })
 }
 
 fn read(words: &mut Words<'_>) -> Option<Call>
@@ -87,6 +102,15 @@ fn write(alloc: Global, words: &mut Words<'_>) -> Result<Option<Call>, AllocErro
     }
 }
 
+fn extents(words: &mut Words<'_>) -> Option<Call>
+    ensures { result ≡ extents_of words.old }
+{
+    match words.next_word() {
+        None => Some(Call::Extents),
+        Some(_) => None,
+    }
+}
+
 fn call_of(alloc: Global, line: &[u8]) -> Result<Option<Call>, AllocError>
     ensures { IfOk result (λ call. call ≡ call_of (words_of line.now)) }
 {
@@ -96,10 +120,14 @@ fn call_of(alloc: Global, line: &[u8]) -> Result<Option<Call>, AllocError>
     };
     if name == b"malloc".as_slice() {
         Ok(malloc(&mut words))
+    } else if name == b"free".as_slice() {
+        Ok(free(&mut words))
     } else if name == b"write".as_slice() {
         write(alloc, &mut words)
     } else if name == b"read".as_slice() {
         Ok(read(&mut words))
+    } else if name == b"extents".as_slice() {
+        Ok(extents(&mut words))
     } else {
         Ok(None)
     }

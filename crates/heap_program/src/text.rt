@@ -4,9 +4,11 @@ ghost use Rattle.std.specs.List.{flat_map};
 ghost use Rattle.heap_model.specs.State.{State};
 ghost use Rattle.heap_model.specs.Machine.{Stands};
 ghost use Rattle.kernel_heap.specs.Machine.{seen};
-ghost use Rattle.heap_program.specs.Text.{text_of, reply_text, bytes_text, refusal_word, extent_text, regions_text, heap_line, right_text, rights_text, kind_text, region_line, counts_line, end_text_of};
+ghost use Rattle.heap_program.specs.Text.{text_of, reply_text, bytes_text, refusal_word, span_text, spaced, kind_word, extent_text, pages_text, regions_text, heap_line, right_text, rights_text, owner_text, region_line, counts_line, end_text_of};
 
-use kernel_heap::{Answer, Bytes, Machine, Refusal, Region, RegionList, Reply, Rights};
+use kernel_heap::{
+    Answer, Bytes, Extent, Kind, Machine, Refusal, Region, RegionList, Reply, Rights,
+};
 use std::alloc::{AllocError, Global};
 
 fn refusal_word(why: Refusal) -> &'static str
@@ -21,6 +23,26 @@ fn refusal_word(why: Refusal) -> &'static str
     }
 }
 
+fn kind_word(kind: Kind) -> &'static str
+    ensures { result.now ≡ kind_word kind }
+{
+    match kind {
+        Kind::Used => "used",
+        Kind::Free => "free",
+        Kind::Victim => "victim",
+        Kind::Top => "top",
+        Kind::Record => "record",
+        Kind::Foot => "foot",
+    }
+}
+
+// The first address of something, and how many bytes or pages it has.
+fn push_span(out: &mut String, start: u64, size: u64) -> Result<(), AllocError>
+    ensures { OnOk result (string_bytes out.new ≡ string_bytes out.old ++ span_text start size) }
+{
+    write!(out, "0x{start:x}+{size}")
+}
+
 // Bytes as two digits each, behind a space where there are bytes.
 fn push_bytes(alloc: Global, out: &mut String, bytes: &[u8]) -> Result<(), AllocError>
     ensures { OnOk result (string_bytes out.new ≡ string_bytes out.old ++ bytes_text bytes.now) }
@@ -31,6 +53,25 @@ fn push_bytes(alloc: Global, out: &mut String, bytes: &[u8]) -> Result<(), Alloc
     let digits = hex::encode(alloc, bytes)?;
     out.push_str(" ")?;
     out.push_str(digits.as_str())
+}
+
+fn push_extent(out: &mut String, extent: Extent) -> Result<(), AllocError>
+    ensures { OnOk result (string_bytes out.new ≡ string_bytes out.old ++ extent_text extent) }
+{
+    let kind = kind_word(extent.kind);
+    write!(out, "{kind}:")?;
+    push_span(out, extent.at, extent.size)
+}
+
+// The extents, a space before each.
+fn push_extents(out: &mut String, extents: &[Extent]) -> Result<(), AllocError>
+    ensures { OnOk result (string_bytes out.new ≡ string_bytes out.old ++ spaced extent_text extents.now) }
+{
+    for extent in extents {
+        out.push_str(" ")?;
+        push_extent(out, *extent)?;
+    }
+    Ok(())
 }
 
 fn push_reply(alloc: Global, out: &mut String, reply: &Reply) -> Result<(), AllocError>
@@ -47,6 +88,11 @@ fn push_reply(alloc: Global, out: &mut String, reply: &Reply) -> Result<(), Allo
             push_bytes(alloc, out, bytes.as_slice())?;
             out.push_str("\n")
         }
+        Reply::Extents(extents) => {
+            out.push_str("extents")?;
+            push_extents(out, extents.as_slice())?;
+            out.push_str("\n")
+        }
         Reply::Refused(why) => {
             let word = refusal_word(*why);
             writeln!(out, "refused {word}")
@@ -54,12 +100,10 @@ fn push_reply(alloc: Global, out: &mut String, reply: &Reply) -> Result<(), Allo
     }
 }
 
-fn push_extent(out: &mut String, region: Region) -> Result<(), AllocError>
-    ensures { OnOk result (string_bytes out.new ≡ string_bytes out.old ++ extent_text region) }
+fn push_pages(out: &mut String, region: Region) -> Result<(), AllocError>
+    ensures { OnOk result (string_bytes out.new ≡ string_bytes out.old ++ pages_text region) }
 {
-    let start = region.start;
-    let pages = region.pages;
-    write!(out, "0x{start:x}+{pages}")
+    push_span(out, region.start, region.pages)
 }
 
 fn push_regions(out: &mut String, regions: &[Region]) -> Result<(), AllocError>
@@ -70,7 +114,7 @@ fn push_regions(out: &mut String, regions: &[Region]) -> Result<(), AllocError>
     }
     for region in regions {
         out.push_str(" ")?;
-        push_extent(out, *region)?;
+        push_pages(out, *region)?;
     }
     Ok(())
 }
@@ -114,8 +158,8 @@ fn right(granted: bool, letter: &'static str) -> &'static str
     if granted { letter } else { "-" }
 }
 
-fn push_kind(out: &mut String, region: Region) -> Result<(), AllocError>
-    ensures { OnOk result (string_bytes out.new ≡ string_bytes out.old ++ kind_text region) }
+fn push_owner(out: &mut String, region: Region) -> Result<(), AllocError>
+    ensures { OnOk result (string_bytes out.new ≡ string_bytes out.old ++ owner_text region) }
 {
     if region.heap {
         return out.push_str("heap");
@@ -130,9 +174,9 @@ fn push_region_line(out: &mut String, region: Region) -> Result<(), AllocError>
     ensures { OnOk result (string_bytes out.new ≡ string_bytes out.old ++ region_line region) }
 {
     out.push_str("region ")?;
-    push_extent(out, region)?;
+    push_pages(out, region)?;
     out.push_str(" ")?;
-    push_kind(out, region)?;
+    push_owner(out, region)?;
     out.push_str("\n")
 }
 

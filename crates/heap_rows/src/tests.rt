@@ -6,7 +6,8 @@ use heap_program::{
     heap_main, parse_call, text_of,
 };
 use kernel_heap::{
-    Answer, AnswerList, Call, CallList, Config, Machine, Refusal, Reply, RunError, run_calls,
+    Answer, AnswerList, Call, CallList, Config, Extent, ExtentList, Kind, Machine, Refusal, Reply,
+    RunError, run_calls,
 };
 use std::alloc::{AllocError, Global};
 use std::io;
@@ -19,7 +20,7 @@ struct Row {
     output: &'static str,
 }
 
-const ROWS: [Row; 12] = [
+const ROWS: [Row; 16] = [
     Row {
         input: "",
         output: "frames 1023 tables 1\n",
@@ -75,6 +76,26 @@ const ROWS: [Row; 12] = [
         input: "malloc 8\nwrite 0 0 \nwrite 0 0 abc\nwrite 0 0 0g\nwrite 0 0 00 00\nread 0 0\nread 0 1 0xffffffffffffffff\nread 0 0xffffffffffffffff 1\nwrite 0 0 aBcD\nread 0 0 2\n",
         output: "block 0 0x400010\nheap 0x400000+16\nbad line\nbad line\nbad line\nbad line\nbad line\nrefused out-of-block\nrefused out-of-block\ndone\nbytes abcd\nregion 0x400000+16 heap\nframes 1004 tables 4\n",
     },
+    // The first block comes again from the victim, and what is left of it stays the victim.
+    Row {
+        input: "malloc 1000\nmalloc 8\nfree 0\nmalloc 24\nmalloc 24\nextents\n",
+        output: "block 0 0x400010\nheap 0x400000+16\nblock 1 0x400400\ndone\nblock 2 0x400010\nblock 3 0x400030\nextents used:0x400000+32 used:0x400020+32 victim:0x400040+944 used:0x4003f0+32 top:0x400410+64416 foot:0x40ffb0+80\nregion 0x400000+16 heap\nframes 1004 tables 4\n",
+    },
+    // A request past what the window holds, beside a free chunk.
+    Row {
+        input: "malloc 256\nmalloc 256\nfree 0\nmalloc 0xFFFFFFFFFFFEFF98\n",
+        output: "block 0 0x400010\nheap 0x400000+16\nblock 1 0x400120\ndone\nrefused no-space\nregion 0x400000+16 heap\nframes 1004 tables 4\n",
+    },
+    // A heap without regions has no extents.
+    Row {
+        input: "extents\n",
+        output: "extents\nframes 1023 tables 1\n",
+    },
+    // No number, a space at the end, a word more, no digit, another case, and a space at the start.
+    Row {
+        input: "free\nfree 0 \nfree 0 0\nfree x\nextents 0\nextents \nFree 0\n free 0\n",
+        output: "bad line\nbad line\nbad line\nbad line\nbad line\nbad line\nbad line\nbad line\nframes 1023 tables 1\n",
+    },
 ];
 
 fn strings(alloc: Global, words: &[&str]) -> Result<Vec<String>, AllocError> {
@@ -103,16 +124,37 @@ fn rows_are_printed(rt: HostRuntime) -> Result<(), Fail> {
     Ok(())
 }
 
+/// What `run` prints for a line of 8193 letters with text before and behind it.
+struct LongLine {
+    before: &'static str,
+    behind: &'static str,
+    output: &'static str,
+}
+
+const LONG_LINES: [LongLine; 2] = [
+    LongLine {
+        before: "",
+        behind: "\nmalloc 24\n",
+        output: "bad line\nblock 0 0x400010\nheap 0x400000+16\nregion 0x400000+16 heap\nframes 1004 tables 4\n",
+    },
+    // A block that is freed again, and one that was never given.
+    LongLine {
+        before: "malloc 3\nread 0 0 3\nread 0 0 3\nread 0 3 0\nread 0 0 4\nwrite 0 3 00\nfree 0\nfree 0\nfree 5\n",
+        behind: "\n",
+        output: "block 0 0x400010\nheap 0x400000+16\nbytes 000000\nbytes 000000\nbytes\nrefused out-of-block\nrefused out-of-block\ndone\nrefused unknown-block\nrefused unknown-block\nbad line\nregion 0x400000+16 heap\nframes 1004 tables 4\n",
+    },
+];
+
 #[test]
 fn a_line_of_8193_bytes_is_bad(rt: HostRuntime) -> Result<(), Fail> {
-    let mut input = vec![in rt.alloc(); b'a'; 8193]?;
-    input.extend_from_slice(b"\nmalloc 24\n")?;
-    let (ended, sink) = outcome(rt.alloc(), &["run"], &input)?;
-    assert_eq!(rt; ended.status, 0);
-    assert_eq!(rt;
-        sink.written(),
-        b"bad line\nblock 0 0x400010\nheap 0x400000+16\nregion 0x400000+16 heap\nframes 1004 tables 4\n".as_slice()
-    );
+    for line in &LONG_LINES {
+        let mut input = line.before.as_bytes().to_vec(rt.alloc())?;
+        input.extend_from_slice(&vec![in rt.alloc(); b'a'; 8193]?)?;
+        input.extend_from_slice(line.behind.as_bytes())?;
+        let (ended, sink) = outcome(rt.alloc(), &["run"], &input)?;
+        assert_eq!(rt; sink.written(), line.output.as_bytes());
+        assert_eq!(rt; ended.status, 0);
+    }
     Ok(())
 }
 
@@ -198,6 +240,70 @@ fn texts_are_made_alone(rt: HostRuntime) -> Result<(), Fail> {
     assert_eq!(rt;
         text.as_slice(),
         b"region 0x400000+16 heap\nframes 1004 tables 4\n".as_slice()
+    );
+    Ok(())
+}
+
+#[test]
+fn calls_without_sizes_are_parsed(rt: HostRuntime) -> Result<(), Fail> {
+    let Some(Call::Free { block }) = parse_call(rt.alloc(), b"free 0x10")? else {
+        panic!(rt; "no free");
+    };
+    assert_eq!(rt; block, 16);
+    let Some(Call::Extents) = parse_call(rt.alloc(), b"extents")? else {
+        panic!(rt; "no extents");
+    };
+    Ok(())
+}
+
+/// An extent of each kind.
+const EXTENTS: [Extent; 6] = [
+    Extent {
+        at: 0x40_0000,
+        size: 112,
+        kind: Kind::Used,
+    },
+    Extent {
+        at: 0x40_0070,
+        size: 3904,
+        kind: Kind::Free,
+    },
+    Extent {
+        at: 0x40_0fb0,
+        size: 80,
+        kind: Kind::Record,
+    },
+    Extent {
+        at: 0x40_1f50,
+        size: 176,
+        kind: Kind::Victim,
+    },
+    Extent {
+        at: 0x40_3390,
+        size: 3104,
+        kind: Kind::Top,
+    },
+    Extent {
+        at: 0x40_3fb0,
+        size: 80,
+        kind: Kind::Foot,
+    },
+];
+
+#[test]
+fn each_kind_of_extent_is_printed(rt: HostRuntime) -> Result<(), Fail> {
+    let mut extents = ExtentList::new(rt.alloc());
+    for extent in EXTENTS {
+        extents.push(extent)?;
+    }
+    let answer = Answer {
+        reply: Reply::Extents(extents),
+        regions: None,
+    };
+    let text = text_of(rt.alloc(), &answer)?;
+    assert_eq!(rt;
+        text.as_slice(),
+        b"extents used:0x400000+112 free:0x400070+3904 record:0x400fb0+80 victim:0x401f50+176 top:0x403390+3104 foot:0x403fb0+80\n".as_slice()
     );
     Ok(())
 }
@@ -304,45 +410,74 @@ const DEFAULT: Config = Config {
     rate: 4095,
 };
 
-/// What `run_calls` answers to requests for blocks of these sizes over so many frames, and the end text of its
-/// machine.
+/// What `run_calls` answers to requests for blocks of these sizes in a window of so many pages and over so many
+/// frames, and the end text of its machine.
 struct CallsRow {
+    pages: u64,
     frames: u32,
     sizes: &'static [u64],
+    /// Whether the extents are asked for at the end.
+    extents: bool,
     answers: &'static str,
     end: &'static str,
 }
 
-const CALLS: [CallsRow; 4] = [
+const CALLS: [CallsRow; 6] = [
     CallsRow {
+        pages: 1024,
         frames: 1024,
         sizes: &[0, 24, 25],
+        extents: false,
         answers: "block 0 0x400010\nheap 0x400000+16\nblock 1 0x400030\nblock 2 0x400050\n",
         end: "region 0x400000+16 heap\nframes 1004 tables 4\n",
     },
     CallsRow {
+        pages: 1024,
         frames: 1024,
         sizes: &[],
+        extents: false,
         answers: "",
         end: "frames 1023 tables 1\n",
     },
     // As many frames as one grant takes, and one frame less.
     CallsRow {
+        pages: 1024,
         frames: 20,
         sizes: &[1],
+        extents: false,
         answers: "block 0 0x400010\nheap 0x400000+16\n",
         end: "region 0x400000+16 heap\nframes 0 tables 4\n",
     },
     CallsRow {
+        pages: 1024,
         frames: 19,
         sizes: &[1],
+        extents: false,
         answers: "refused no-frames\n",
         end: "frames 18 tables 1\n",
     },
+    // The greatest block of a window that holds one grant, and one byte more.
+    CallsRow {
+        pages: 16,
+        frames: 1024,
+        sizes: &[65432],
+        extents: true,
+        answers: "block 0 0x400010\nheap 0x400000+16\nextents used:0x400000+65440 top:0x40ffa0+16 foot:0x40ffb0+80\n",
+        end: "region 0x400000+16 heap\nframes 1004 tables 4\n",
+    },
+    CallsRow {
+        pages: 16,
+        frames: 1024,
+        sizes: &[65433],
+        extents: false,
+        answers: "refused no-space\n",
+        end: "frames 1023 tables 1\n",
+    },
 ];
 
-/// Requests for blocks of these sizes, at the alignment that is served.
-fn requests(alloc: Global, sizes: &[u64]) -> Result<CallList, AllocError>
+/// Requests for blocks of these sizes, at the alignment that is served, and then for the extents where these are
+/// wanted.
+fn requests(alloc: Global, sizes: &[u64], extents: bool) -> Result<CallList, AllocError>
     ensures { IfOk result (λ calls. All IsServable calls) }
 {
     let mut calls = CallList::new(alloc);
@@ -351,6 +486,9 @@ fn requests(alloc: Global, sizes: &[u64]) -> Result<CallList, AllocError>
             size: *size,
             align: 16,
         })?;
+    }
+    if extents {
+        calls.push(Call::Extents)?;
     }
     Ok(calls)
 }
@@ -367,10 +505,11 @@ fn texts(alloc: Global, answers: &AnswerList) -> Result<Vec<u8>, AllocError> {
 fn calls_are_run_as_values(rt: HostRuntime) -> Result<(), Fail> {
     for row in &CALLS {
         let config = Config {
+            pages: row.pages,
             frames: row.frames,
             ..DEFAULT
         };
-        let calls = requests(rt.alloc(), row.sizes)?;
+        let calls = requests(rt.alloc(), row.sizes, row.extents)?;
         let Ok(run) = run_calls(rt.alloc(), &config, &calls) else {
             panic!(rt; "no run");
         };
@@ -411,7 +550,7 @@ fn bad_configurations_are_refused(rt: HostRuntime) -> Result<(), Fail> {
             frames,
             rate: 4095,
         };
-        let calls = requests(rt.alloc(), &[1])?;
+        let calls = requests(rt.alloc(), &[1], false)?;
         let found = Machine::new(rt.alloc(), &config).err();
         assert_eq!(rt; found, Some(error));
         let found = run_calls(rt.alloc(), &config, &calls).err();

@@ -14,7 +14,7 @@ use Rattle.kernel_heap.specs.Layout.{IsKept, regions_end}
 use Rattle.kernel_heap.specs.Words.{grants_of, word_reached}
 use Rattle.kernel_heap.specs.Written.{AreInside, AreRead, IsWritten}
 use Rattle.kernel_heap.specs.Follows.{still_on}
-use Rattle.kernel_heap.proofs.Consecutive.{lt_or_le, covered}
+use Rattle.kernel_heap.proofs.Consecutive.{lt_or_le, same_or_other, covered}
 use Rattle.kernel_heap.proofs.Still.{granted_same, region_mapped, kept_still, place_at, word_at_place}
 
 -- ---- bytes of a word
@@ -117,13 +117,7 @@ module _ (p new : Paged) (at byte : ℕ) (kept : IsKept p) (still : IsStill p ne
   pub bytes_stay : (other : ℕ) → AreInside p other 1 → other ≢ at → reached new.words new.root other ≡ reached p.words p.root other
   bytes_stay other there apart =
       reached_byte new other (kept_still p new kept still) (moved other there)
-      ∙ (ap Some (same_bytes other apart (decide (other - other % 8) (at - at % 8)) there) ∙ sym (reached_byte p other kept there))
-    where
-      decide : (a b : ℕ) → (a ≡ b) ⊎ (a ≢ b)
-      decide a b = elim (lt_or_le a b) [
-        | inl below ↦ inr (λ e. absurd (omega arith))
-        | inr from ↦ elim (lt_or_le b a) [ inl above ↦ inr (λ e. absurd (omega arith)) | inr to ↦ inl (omega arith) ]
-      ]
+      ∙ (ap Some (same_bytes other apart (same_or_other (other - other % 8) (at - at % 8)) there) ∙ sym (reached_byte p other kept there))
 
 -- one more byte was put
 pub written_more : (old mid new : Paged) (address : ℕ) (bytes : List ℕ) (n : ℕ) → IsKept old → AreInside old address (n + 1) → IsWritten old mid address bytes n →
@@ -145,6 +139,10 @@ written_more old mid new address bytes n kept there before small still stored = 
       let last = there.before in
       bytes_stay mid new (address + n) (slice_index bytes n) kept_mid still (mid_in (address + n) (omega arith) (omega arith)) small stored other (mid_in other from end) (differs other beside)
       ∙ before.elsewhere other is (elim beside [ inl below ↦ inl below | inr above ↦ inr (omega arith) ]));
+  words = λ k word beside. (
+      let same : grants_of mid ≡ grants_of old = ap grants_of before.still.others in
+      stored.elsewhere k (subst (λ gs. IsWordOf gs k) (sym same) word) (λ e. elim beside [ inl below ↦ omega arith | inr above ↦ omega arith ])
+      ∙ before.words k word (elim beside [ inl below ↦ inl below | inr above ↦ inr (omega arith) ]));
 }
   where
     kept_mid : IsKept mid

@@ -1,5 +1,5 @@
 -- Regions one after the other.
-use Rattle.std.proofs.Common.{◌≡◌, ℕ, zero, suc, ◌+◌, ◌*◌, ◌<◌, ◌≤◌, ◌⊎◌, inl, inr, nat_lt, List, [], ◌∷◌, ◌++◌, length, get_or, refl, sym, ap, ◌∙◌, arith, Contains, true, false, not, ◌-◌, Some}
+use Rattle.std.proofs.Common.{◌≡◌, ◌≢◌, ℕ, zero, suc, ◌+◌, ◌*◌, ◌<◌, ◌≤◌, ◌⊎◌, inl, inr, nat_lt, List, [], ◌∷◌, ◌++◌, length, get_or, refl, sym, ap, ◌∙◌, arith, Contains, true, false, not, ◌-◌, Some}
 use Rattle.std.proofs.lemmas.Bool.{le-ltb}
 use native.Mathlib.Decide.{dec_lt}
 use Rattle.std.specs.List.{list_any, slice_get}
@@ -13,6 +13,12 @@ use Rattle.kernel_heap.specs.Layout.{AreConsecutive}
 
 pub lt_or_le : (a b : ℕ) → (a < b) ⊎ (b ≤ a)
 lt_or_le a b = elim (dec_lt a b) [ yes less ↦ inl less | no more ↦ inr (omega arith) ]
+
+pub same_or_other : (a b : ℕ) → (a ≡ b) ⊎ (a ≢ b)
+same_or_other a b = elim (lt_or_le a b) [
+  | inl below ↦ inr (λ e. absurd (omega arith))
+  | inr from ↦ elim (lt_or_le b a) [ inl above ↦ inr (λ e. absurd (omega arith)) | inr to ↦ inl (omega arith) ]
+]
 
 -- they end where their pages end
 pub ends : (from to : ℕ) (list : List Region) → AreConsecutive from list to → to ≡ from + 4096 * total_pages list

@@ -1,5 +1,5 @@
 -- A new system, and the start of a run.
-use Rattle.std.proofs.Common.{◌≡◌, ℕ, ◌+◌, ◌*◌, ◌^◌, ◌<◌, List, [], length, refl, sym, ap, ◌∙◌, arith, Bool, Option, Some, None, option_map, subst}
+use Rattle.std.proofs.Common.{◌≡◌, ℕ, ◌+◌, ◌*◌, ◌^◌, ◌<◌, List, [], length, refl, sym, ap, ◌∙◌, arith, Bool, Option, None, option_map, subst}
 use Rattle.std.specs.Prelude.{IsSome}
 use Rattle.paging_core.specs.Memory.{frame_count}
 use Rattle.paging_core.specs.Pool.{FreeBelow, free_count}
@@ -9,9 +9,8 @@ use Rattle.heap_model.specs.declared.config.Config.{Config}
 use Rattle.heap_model.specs.State.{start, total_pages}
 use Rattle.heap_model.specs.Machine.{Paged, Seen, Stands, rights_of}
 use Rattle.heap_model.specs.Run.{IsGood}
-use Rattle.kernel_heap.specs.Config.{IsGoodWindow, IsGranularity, IsGoodConfig}
+use Rattle.kernel_heap.specs.Config.{IsGoodWindow, IsGoodConfig}
 use Rattle.kernel_heap.specs.Layout.{AreConsecutive, IsNew}
-use Rattle.kernel_heap.specs.Machine.{IsLaidOut, live_at}
 
 -- where the root is alone, nothing is mapped, and the other frames are free
 pub new_is : (p : Paged) (memory : List ℕ) (pool : List Bool) (frames : ℕ) → IsGoodWindow p.base p.pages → frames < 2 ^ 32 →
@@ -75,14 +74,3 @@ start_stands m config new granularity blocks = record {
   where
     not_some : {A : Type 0} {o : Option A} → o ≡ None → IsSome o → ⊥
     not_some {A} e is = let n = subst IsSome e is in absurd (cc)
-
-pub start_laid : (m : Seen) (config : Config) → IsGoodConfig config → IsNew m.paged config.base config.pages config.frames → m.granularity ≡ config.granularity → m.blocks ≡ [] → IsLaidOut m config.base
-start_laid m config good new granularity blocks = record {
-  kept = new.kept;
-  granularity = subst IsGranularity (sym granularity) good.granularity;
-  aligned = (let w = good.window.whole in omega arith);
-  from = (let b = new.base_is in omega arith);
-  before = (let b = new.base_is in omega arith);
-  placed = λ number live is. absurd (let e = subst (λ bs. live_at bs number ≡ Some live) blocks is in cc);
-  dense = λ address above below. absurd (let b = new.base_is in omega arith);
-}

@@ -1,6 +1,7 @@
 -- A word of a page of the heap is stored: what a system keeps stays, and so does every other word.
 use Rattle.std.proofs.Common.{◌≡◌, ◌≢◌, ℕ, ◌+◌, ◌-◌, ◌*◌, ◌/◌, ◌%◌, ◌^◌, ◌<◌, ◌≤◌, nat_eq, ◌||◌, Bool, true, false, List, [], ◌∷◌, length, map, refl, sym, ap, ◌∙◌, subst, arith, Option, Some, None, IsTrue, IsSome}
-use Rattle.std.specs.Prelude.{IfSome}
+use Rattle.std.specs.Prelude.{IfSome, slice_set}
+use Rattle.std.proofs.lemmas.List.{get_or-set_other}
 use Rattle.std.specs.List.{list_any}
 use Rattle.paging_core.specs.Address.{is_canonical}
 use Rattle.paging_core.specs.Memory.{word_at}
@@ -85,19 +86,30 @@ place_at p at some = go (walk_of p.words p.root (at / 4096)) some
 module _ (p : Paged) (words : List ℕ) (at value a : ℕ)
     (kept : IsKept p) (word : IsWordOf (grants_of p) at) (at_is : a ≡ at)
     (size : length words ≡ length p.words)
+    (set : IfSome (walk_of p.words p.root (a / 4096)) (λ place. words ≡ slice_set p.words (512 * place.frame + a % 4096 / 8) value))
     (walks : (free : List Bool) → IsTree p.words p.root free → (level number : ℕ) → level ≤ 4 → reach words p.root level number ≡ reach p.words p.root level number)
     (tree : (free : List Bool) → IsTree p.words p.root free → IsTree words p.root free)
     (stored : (free : List Bool) → IsTree p.words p.root free → IfSome (walk_of p.words p.root (a / 4096)) (λ place. word_at words place.frame (a % 4096 / 8) ≡ value))
     (others : (free : List Bool) → IsTree p.words p.root free → (other : ℕ) → IsTrue (is_canonical other) → (other / 8 ≡ a / 8 → ⊥) →
     IfSome (walk_of p.words p.root (other / 4096)) (λ place. word_at words place.frame (other % 4096 / 8) ≡ word_at p.words place.frame (other % 4096 / 8))) where
   pub still_stored : IsStill p (record p { words = words })
+  unfolding walk_of
   still_stored = record {
     others = refl;
     size = size;
     tree = tree p.free;
     walks = walks p.free kept.tree;
+    tables = tables;
     users = λ address user. absurd (let none = none_of_user p.base (regions_end p) p.regions address kept.consecutive in cc);
   }
+    where
+      -- the word lies in the frame of a page, and that is no table's
+      tables : (level number index : ℕ) (met : Place) → level < 4 → index < 512 → reach p.words p.root level number ≡ Some met → word_at words met.frame index ≡ word_at p.words met.frame index
+      tables level number index met low small is =
+          let place = place_at p a (granted_mapped p at a kept word.granted at_is) in
+          let is_set : words ≡ slice_set p.words (512 * place.0.frame + a % 4096 / 8) value = subst (λ o. IfSome o (λ q. words ≡ slice_set p.words (512 * q.frame + a % 4096 / 8) value)) place.1 set in
+          let apart : met.frame ≢ place.0.frame = λ same. (let both = kept.tree.distinct level number 4 (a / 4096 % 2 ^ 36) met place.0 (omega arith) (omega arith) is place.1 same in omega (arith, both.0)) in
+          ap (λ ws. word_at ws met.frame index) is_set ∙ get_or-set_other p.words (512 * place.0.frame + a % 4096 / 8) (512 * met.frame + index) value 0 (λ e. apart (omega arith))
 
   pub kept_stored : IsKept (record p { words = words })
   kept_stored = kept_still p (record p { words = words }) kept still_stored

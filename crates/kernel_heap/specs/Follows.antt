@@ -1,17 +1,19 @@
 -- What is said of a paged system over a time.
 use Rattle.std.specs.Prelude.{◌≡◌, List, [], ◌∷◌, ◌++◌, refl}
-use Rattle.std.proofs.Common.{ap, ◌∙◌, subst, sym}
-use Rattle.heap_memory.specs.Events.{Event}
+use Rattle.std.proofs.Common.{ap, ◌∙◌, subst, sym, arith}
+use Rattle.heap_memory.specs.Events.{Event, Granted, Released}
 use Rattle.paging_core.specs.Walk.{reach, reached}
 use Rattle.heap_model.specs.Machine.{Paged, IsStill}
+use Rattle.kernel_heap.specs.Layout.{IsGrantedFor}
 
--- with no event, all but the bytes of the heap's pages stays; no event comes yet
+-- With no event all but the bytes of the heap's pages stays. A request is granted as the system stands at its moment.
 abbrev pub Follows : Paged → List Event → Paged → Type 0
 Follows old [] new = IsStill old new
-Follows old (event ∷ events) new = ⊥
+Follows old (Granted asked grant ∷ events) new = (at : Paged) × (later : Paged) × IsStill old at × IsGrantedFor at later asked grant × Follows later events new
+Follows old (Released at size left ∷ events) new = ⊥
 
 pub still_none : (p : Paged) → IsStill p p
-still_none p = record { others = refl; size = refl; tree = λ t. t; walks = λ level number low. refl; users = λ address user. refl }
+still_none p = record { others = refl; size = refl; tree = λ t. t; walks = λ level number low. refl; tables = λ level number index met low small is. refl; users = λ address user. refl }
 
 pub still_on : (x y z : Paged) → IsStill x y → IsStill y z → IsStill x z
 still_on x y z first second =
@@ -24,10 +26,16 @@ still_on x y z first second =
       size = second.size ∙ first.size;
       tree = λ t. rw (← root, ← free) (second.tree (rw (root, free) (first.tree t)));
       walks = λ level number low. ap (λ r. reach z.words r level number) (sym root) ∙ (second.walks level number low ∙ (ap (λ r. reach y.words r level number) root ∙ first.walks level number low));
+      tables = λ level number index met low small is.
+          second.tables level number index met low small (ap (λ r. reach y.words r level number) root ∙ (first.walks level number (omega arith) ∙ is)) ∙ first.tables level number index met low small is;
       users = λ address user. ap (λ r. reached z.words r address) (sym root) ∙ (second.users address (rw regions user) ∙ (ap (λ r. reached y.words r address) root ∙ first.users address user));
     }
 
 pub follows_on : (x y z : Paged) (a b c : List Event) → Follows x a y → Follows y b z → a ++ b ≡ c → Follows x c z
 follows_on x y z [] [] c first second is = subst (λ events. Follows x events z) is (still_on x y z first second)
-follows_on x y z [] (event ∷ b) c first second is = absurd second
-follows_on x y z (event ∷ a) b c first second is = absurd first
+follows_on x y z [] (Granted asked grant ∷ b) c first second is =
+    subst (λ events. Follows x events z) is (second.0, second.1, still_on x y second.0 first second.2, second.3, second.4)
+follows_on x y z [] (Released at size left ∷ b) c first second is = absurd second
+follows_on x y z (Granted asked grant ∷ a) b c first second is =
+    subst (λ events. Follows x events z) is (first.0, first.1, first.2, first.3, follows_on first.1 y z a b (a ++ b) first.4 second refl)
+follows_on x y z (Released at size left ∷ a) b c first second is = absurd first

@@ -5,7 +5,11 @@ use Rattle.paging_core.specs.Pool.{FreeBelow, free_count}
 use Rattle.paging_core.specs.Walk.{reach, walk_of}
 use Rattle.paging_core.specs.Tree.{IsTree}
 use Rattle.paging_core.specs.Missing.{missing_of}
+use Rattle.heap_memory.specs.declared.grant.Grant.{Grant}
+use Rattle.heap_memory.specs.declared.grant.GrantFault.{GrantFault}
+use Rattle.heap_memory.specs.declared.grant.GrantFault.TheVariants.{NoSpace, NoFrames, OutOfMemory}
 use Rattle.heap_model.specs.declared.region.Region.{Region}
+use Rattle.heap_model.specs.Request.{pages_in}
 use Rattle.heap_model.specs.State.{total_pages}
 use Rattle.heap_model.specs.Room.{heap_region}
 use Rattle.heap_model.specs.Machine.{Paged, IsPagedGrant}
@@ -56,10 +60,23 @@ pub record CanGrant (p : Paged) (pages : ℕ) : Type 0 where
   pub inside : regions_end p + 4096 * pages ≤ window_end p
   pub frames : pages + missing_of p.words p.root (regions_end p / 4096) pages ≤ free_count p.free
 
+-- Why so many pages cannot be granted: they have no place behind the regions; or they have one, and there are too few
+-- free frames for them and the tables that they lack.
+abbrev pub Lacks : Paged → ℕ → GrantFault → Type 0
+Lacks p pages NoSpace = window_end p < regions_end p + 4096 * pages
+Lacks p pages NoFrames = (regions_end p + 4096 * pages ≤ window_end p) × (free_count p.free < pages + missing_of p.words p.root (regions_end p / 4096) pages)
+Lacks p pages OutOfMemory = ⊥
+
 -- So many pages were granted behind the regions.
 pub record IsGranted (old new : Paged) (pages : ℕ) : Type 0 where
   pub grant : IsPagedGrant old new (regions_end old) pages
   pub regions : new.regions ≡ old.regions ++ heap_region (regions_end old) pages ∷ []
+
+-- A request of so many bytes was granted: its pages had a place and frames, and they are the grant.
+pub record IsGrantedFor (old new : Paged) (asked : ℕ) (grant : Grant) : Type 0 where
+  pub can : CanGrant old (pages_in asked)
+  pub granted : IsGranted old new (pages_in asked)
+  pub is : grant ≡ record { base = regions_end old; size = 4096 * pages_in asked; flags = 0 }
 
 -- ---- a system keeps this in one way
 

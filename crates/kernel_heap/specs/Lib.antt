@@ -1,8 +1,10 @@
 pub mod Config
 pub mod Layout
 pub mod System
-pub mod Machine
 pub mod Words
 pub mod Follows
+pub mod Ordered
+pub mod Heap
+pub mod Machine
 pub mod Written
 pub mod Runs

@@ -1,31 +1,38 @@
 -- What contracts see of a machine, and how it lays out its blocks.
-use Rattle.std.specs.Prelude.{◌≡◌, ℕ, ◌+◌, ◌%◌, ◌<◌, ◌≤◌, max, ⊤, List, [], ◌∷◌, ◌++◌, slice_index_or, Option, Some, None, nat_lt, if◌then◌else◌}
+use Rattle.std.specs.Prelude.{◌≡◌, ◌≢◌, ℕ, ◌+◌, ◌-◌, ◌≤◌, ⊤, List, [], ◌∷◌, slice_index_or, Option, Some, None, MatchOption, nat_lt, if◌then◌else◌}
+use Rattle.dlmalloc_chunks.specs.declared.extent.Extent.{Extent}
+use Rattle.dlmalloc_chunks.specs.declared.extent.Kind.TheVariants.{Used}
+use Rattle.dlmalloc.specs.Extents.{extent_at}
+use Rattle.dlmalloc.specs.State.{HeapState, Segment, extents_in}
+use Rattle.dlmalloc_chunks.specs.Request.{padded}
+use Rattle.dlmalloc.specs.Blocks.{IsBlock}
+use Rattle.dlmalloc.specs.Freed.{freed}
+use Rattle.dlmalloc.specs.Served.{IsCut}
+use Rattle.dlmalloc.specs.declared.heap.Dlmalloc.{Dlmalloc}
 use Rattle.heap_model.specs.declared.live.Live.{Live}
 use Rattle.heap_model.specs.declared.call.Call.{Call}
-use Rattle.heap_model.specs.declared.call.Call.TheVariants.{Malloc, Write, Read}
+use Rattle.heap_model.specs.declared.call.Call.TheVariants.{Malloc, Free, Write, Read, Extents}
+use Rattle.heap_model.specs.declared.answer.Reply.{Reply}
+use Rattle.heap_model.specs.declared.answer.Reply.TheVariants.{Block as Placed, Done}
 use Rattle.heap_model.specs.declared.answer.Refusal.{Refusal}
 use Rattle.heap_model.specs.declared.answer.Refusal.TheVariants.{UnknownBlock, OutOfBlock}
-use Rattle.heap_model.specs.Machine.{Seen}
-use Rattle.kernel_heap.specs.Config.{IsGranularity}
-use Rattle.kernel_heap.specs.Layout.{IsKept, regions_end}
+use Rattle.heap_model.specs.Machine.{Paged, Seen}
+use Rattle.kernel_heap.specs.Layout.{regions_end}
 use Rattle.kernel_heap.specs.System.{paged}
+use Rattle.kernel_heap.specs.Heap.{regions, follows, heap_state, IsHeap}
 use Rattle.kernel_heap.specs.declared.paged_system.PagedSystem.{PagedSystem}
 use Rattle.kernel_heap.specs.declared.machine.Machine.{Machine}
 
 -- the system that the machine runs over
 abbrev pub system_of : Machine → PagedSystem
-system_of machine = machine.system
+system_of machine = machine.heap.system
 
 abbrev pub seen : Machine → Seen
-seen machine = record { paged = paged machine.system; granularity = machine.granularity; blocks = machine.blocks.items }
+seen machine = record { paged = paged machine.heap.system; granularity = machine.heap.granularity; blocks = machine.blocks.items }
 
--- the block that is handed out at a chunk
-abbrev pub next_live : ℕ → ℕ → Live
-next_live counter size = record { address = counter + 16; size = size; align = 16 }
-
--- a machine after it was
-abbrev pub served : Seen → ℕ → ℕ → Seen
-served m counter size = record m { blocks = m.blocks ++ Some (next_live counter size) ∷ [] }
+-- the state of the machine's heap
+abbrev pub heap_of : Machine → HeapState
+heap_of machine = heap_state machine.heap
 
 -- the live block of a number
 abbrev pub live_at : List (Option Live) → ℕ → Option Live
@@ -43,36 +50,48 @@ pub record HasBytes (blocks : List (Option Live)) (number offset count address :
   pub within : offset + count ≤ live.size
   pub place : address ≡ live.address + offset
 
--- a block lies in the regions, and ends where the next chunk's size may stand
-pub record IsPlaced (base counter end : ℕ) (live : Live) : Type 0 where
-  pub from : base ≤ live.address
-  pub before : live.address + max live.size 1 ≤ counter + 8
-  pub within : live.address + max live.size 1 ≤ end
+-- the one segment of the heap has the bytes of the regions
+abbrev pub Spans : List Segment → Paged → Type 0
+Spans [] p = p.regions ≡ []
+Spans (segment ∷ []) p = (segment.base ≡ p.base) × (segment.base + segment.size ≡ regions_end p)
+Spans (first ∷ second ∷ segments) p = ⊥
 
--- some live block has one of 48 bytes
-pub record IsMet (blocks : List (Option Live)) (address : ℕ) : Type 0 where
+-- a live block is one of the heap's
+pub record IsLive (heap : HeapState) (live : Live) : Type 0 where
+  pub block : IsBlock heap live.address live.size
+  pub align : live.align ≡ 16
+
+-- an extent in use is that of a live block
+pub record HasLive (blocks : List (Option Live)) (extent : Extent) : Type 0 where
   pub number : ℕ
   pub live : Live
   pub is : live_at blocks number ≡ Some live
-  pub ends : address < live.address + max live.size 1
-  pub begins : live.address < address + 48
+  pub place : live.address ≡ extent.at + 16
 
--- The system is kept, and the blocks lie one after the other from the start of the window, up to the next chunk.
-pub record IsLaidOut (m : Seen) (counter : ℕ) : Type 0 where
-  pub kept : IsKept m.paged
-  pub granularity : IsGranularity m.granularity
-  pub aligned : counter % 16 ≡ 0
-  pub from : m.paged.base ≤ counter
-  pub before : counter ≤ regions_end m.paged
-  pub placed : (number : ℕ) (live : Live) → live_at m.blocks number ≡ Some live → IsPlaced m.paged.base counter (regions_end m.paged) live
-  pub dense : (address : ℕ) → m.paged.base ≤ address → address + 48 ≤ counter + 16 → IsMet m.blocks address
+-- The heap is sound and has the bytes of the regions, and its extents in use and the live blocks correspond to one
+-- another.
+pub record IsLaidOut (heap : Dlmalloc PagedSystem) (blocks : List (Option Live)) : Type 0 where
+  pub heap_sound : IsHeap heap
+  pub spans : Spans (heap_state heap).segments (paged heap.system)
+  pub lives : (number : ℕ) (live : Live) → live_at blocks number ≡ Some live → IsLive (heap_state heap) live
+  pub used : (extent : Extent) → extent.kind ≡ Used → extent_at extent.at (extents_in (heap_state heap)) ≡ Some extent → HasLive blocks extent
+  pub distinct : (i j : ℕ) (a b : Live) → live_at blocks i ≡ Some a → live_at blocks j ≡ Some b → i ≢ j → a.address ≢ b.address
 
 -- what a machine keeps: each machine that was made is sound, and stays so
 abbrev pub IsSound : Machine → Type 0
-IsSound machine = IsLaidOut (seen machine) machine.counter
+IsSound machine = IsLaidOut machine.heap machine.blocks.items
 
 -- the calls that are served: blocks at a multiple of 16
 abbrev pub IsServable : Call → Type 0
 IsServable (Malloc size align) = align ≡ 16
+IsServable (Free number) = ⊤
 IsServable (Write number offset bytes) = ⊤
 IsServable (Read number offset count) = ⊤
+IsServable Extents = ⊤
+
+-- How the state of the heap moves in a step: a block is cut, a block is freed, and nothing else changes it.
+abbrev pub HeapMoves : Machine → Call → Reply → Machine → Type 0
+HeapMoves old (Malloc size align) (Placed number address) new =
+    IsCut follows regions (system_of old) (heap_of old) (padded size) (address - 16) (system_of new) (heap_of new)
+HeapMoves old (Free number) Done new = MatchOption (live_at old.blocks.items number) ⊥ (λ live. heap_of new ≡ freed (heap_of old) (live.address - 16))
+HeapMoves old call reply new = heap_of new ≡ heap_of old

@@ -3,7 +3,7 @@ ghost use Rattle.std.specs.Prelude.{◌≡◌, IfOk, IfErr, IsOk, Some};
 ghost use Rattle.heap_model.specs.State.{State};
 ghost use Rattle.heap_model.specs.Run.{IsGood};
 ghost use Rattle.heap_model.specs.Machine.{Stands, IsStep};
-ghost use Rattle.kernel_heap.specs.Machine.{seen, live_at, refuse_live, HasBytes, IsSound};
+ghost use Rattle.kernel_heap.specs.Machine.{seen, heap_of, live_at, refuse_live, HasBytes, IsSound};
 
 use crate::machine::{Machine, refused};
 use heap_model::{Answer, Call, Refusal, Reply};
@@ -30,10 +30,11 @@ impl Machine {
         requires sound { IsSound self.old }
         ensures sound { IsSound self.new }
         ensures ok { (s : State) → IsGood s → Stands (seen self.old) s → IsStep s (Call.Write number offset bytes.now) result (seen self.new) }
+        ensures heap { heap_of self.new ≡ heap_of self.old }
     {
         match self.find_bytes(number, offset, bytes.len() as u64) {
             Ok(address) => {
-                self.system.write_bytes(address, bytes);
+                self.heap.allocator_mut().write_bytes(address, bytes);
                 Answer {
                     reply: Reply::Done,
                     regions: None,
@@ -50,7 +51,11 @@ impl Machine {
     {
         match self.find_bytes(number, offset, count) {
             Ok(address) => Ok(Answer {
-                reply: Reply::Bytes(self.system.read_bytes(self.alloc, address, count)?),
+                reply: Reply::Bytes(
+                    self.heap
+                        .allocator()
+                        .read_bytes(self.alloc, address, count)?,
+                ),
                 regions: None,
             }),
             Err(refusal) => Ok(refused(refusal)),

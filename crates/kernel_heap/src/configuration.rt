@@ -1,8 +1,9 @@
 // Whether a machine can be made from a configuration.
 ghost use Rattle.std.specs.Prelude.{◌≡◌, ◌↔◌, IsTrue, IfErr, OnOk};
-ghost use Rattle.kernel_heap.specs.Config.{IsGoodWindow, IsGranularity, IsGoodConfig, IsRefused};
+ghost use Rattle.kernel_heap.specs.Config.{IsGoodWindow, IsGoodConfig, IsRefused};
 
 use crate::run_error::RunError;
+use dlmalloc::is_granularity;
 use heap_model::Config;
 
 /// The bytes of a page.
@@ -26,13 +27,6 @@ fn is_good_window(base: u64, pages: u64) -> bool
         return false;
     };
     pages > 0 && base % PAGE == 0 && PAGE <= base && (end <= LOWER_END || UPPER_START <= base)
-}
-
-/// Whether heap regions may be asked for in multiples of this number of bytes.
-fn is_granularity(granularity: u64) -> bool
-    ensures { IsTrue result ↔ IsGranularity granularity }
-{
-    granularity.is_power_of_two() && granularity >= 16
 }
 
 /// Finds out why no machine can be made from the configuration. It takes no memory.

@@ -3,17 +3,18 @@
 
 mod block_bytes;
 mod configuration;
+mod heap_calls;
 mod machine;
+mod paged_allocator;
 mod paged_bytes;
 mod paged_memory;
 mod paged_system;
-mod request;
 mod run_error;
 mod runs;
 
 pub use heap_model::{
-    Answer, AnswerList, Bytes, Call, CallList, Config, PublicList, Refusal, Region, RegionList,
-    Reply, Rights,
+    Answer, AnswerList, Bytes, Call, CallList, Config, Extent, ExtentList, Kind, PublicList,
+    Refusal, Region, RegionList, Reply, Rights,
 };
 pub use machine::Machine;
 pub use paged_system::PagedSystem;

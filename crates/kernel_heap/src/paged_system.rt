@@ -1,26 +1,20 @@
 // The paged system: physical memory, its page tables, and the regions that are mapped.
-ghost use Rattle.std.specs.Prelude.{◌≡◌, ℕ, ◌+◌, ◌*◌, ◌/◌, ◌^◌, ◌<◌, ◌≤◌, ◌%◌, ◌≢◌, IfOk, OnOk, OnErr, IsErrOf};
+ghost use Rattle.std.specs.Prelude.{◌≡◌, ℕ, ◌+◌, ◌*◌, ◌/◌, ◌^◌, ◌<◌, ◌≤◌, ◌%◌, ◌≢◌, IfOk, IfErr, OnOk, OnErr, length, vec_capacity, []};
 ghost use Rattle.paging_core.specs.Pool.{free_count};
 ghost use Rattle.paging_core.specs.Missing.{missing_of};
 ghost use Rattle.heap_model.specs.Room.{heap_region as granted_region, heap_rights as granted_rights};
 ghost use Rattle.kernel_heap.specs.Config.{IsGoodWindow};
+ghost use Rattle.heap_memory.specs.declared.grant.GrantFault.TheVariants.{OutOfMemory};
+ghost use Rattle.heap_model.specs.Request.{pages_in};
 ghost use Rattle.kernel_heap.specs.Layout.{IsKept, IsKept-prop};
 
+use heap_memory::{Grant, GrantFault};
 use heap_model::{Region, RegionList, Rights};
 use paging_core::{
     FramePool, Frames, Page, PageSize, PhysFrame, Size4KiB, VirtAddr, load_word, make_root,
     map_range, missing_tables, store_word,
 };
 use std::alloc::{AllocError, Global};
-
-/// Why pages are not granted.
-#[derive(Clone, Copy, PartialEq, Eq, Debug)]
-pub enum GrantFault {
-    /// The window has no place for them.
-    NoSpace,
-    /// They have a place, but there are too few free frames for them and the tables that they lack.
-    NoFrames,
-}
 
 /// The rights of the heap: its pages may be written, and neither used by the user nor fetched from.
 fn heap_rights() -> Rights
@@ -33,8 +27,16 @@ fn heap_rights() -> Rights
     }
 }
 
+/// The pages that hold so many bytes.
+#[tactic(auto, unfolding(heap_model::specs::Request::pages_in))]
+fn pages_in(size: u64) -> u64
+    ensures { result ≡ pages_in size }
+{
+    size.div_ceil(Size4KiB::SIZE)
+}
+
 /// A region of the heap.
-pub fn heap_region(start: u64, pages: u64) -> Region
+fn heap_region(start: u64, pages: u64) -> Region
     ensures { result ≡ granted_region start pages }
 {
     Region {
@@ -60,7 +62,7 @@ pub struct PagedSystem {
 }
 
 impl PagedSystem {
-    ghost use Rattle.kernel_heap.specs.Layout.{IsNew, CanGrant, IsGranted, regions_end, window_end};
+    ghost use Rattle.kernel_heap.specs.Layout.{IsNew, CanGrant, Lacks, IsGranted, IsGrantedFor, regions_end};
     ghost use Rattle.kernel_heap.specs.System.{paged};
     ghost use Rattle.kernel_heap.specs.Words.{grants_of, word_reached};
     ghost use Rattle.heap_memory.specs.Regions.{IsWordOf};
@@ -125,25 +127,8 @@ impl PagedSystem {
         self.tables
     }
 
-    /// The first address of the window.
-    pub(crate) fn base(&self) -> u64
-        ensures { result ≡ (paged self.now).base }
-    {
-        self.base
-    }
-
-    /// The bytes of the window.
-    pub(crate) fn window_bytes(&self) -> u64
-        requires { IsKept (paged self.now) }
-        ensures bytes { result ≡ 4096 * (paged self.now).pages }
-        ensures small { result ≤ 2 ^ 47 }
-    {
-        self.pages * Size4KiB::SIZE
-    }
-
     /// The address after the last region.
     pub(crate) fn end(&self) -> u64
-        requires { IsKept (paged self.now) }
         ensures end { result ≡ regions_end (paged self.now) }
     {
         match self.regions.last() {
@@ -152,18 +137,33 @@ impl PagedSystem {
         }
     }
 
+    /// The number of regions.
+    pub(crate) fn region_count(&self) -> usize
+        ensures { result ≡ length (paged self.now).regions }
+    {
+        self.regions.len()
+    }
+
+    /// Puts the regions into a list that has places for them.
+    pub(crate) fn list_regions(&self, mut list: Vec<Region>) -> RegionList
+        requires empty { list.items ≡ [] }
+        requires places { length (paged self.now).regions ≤ vec_capacity list }
+        ensures { result ≡ (paged self.now).regions }
+    {
+        for i in 0..self.regions.len() {
+            list.push_reserved(self.regions[i]);
+        }
+        RegionList::from_vec(list)
+    }
+
     /// Whether so many pages can be granted behind the regions.
-    pub(crate) fn plan(&self, pages: u64) -> Result<(), GrantFault>
-        requires kept { IsKept (paged self.now) }
+    fn plan(&self, pages: u64) -> Result<(), GrantFault>
         requires some { 0 < pages }
-        requires few { pages ≤ 2 ^ 40 }
         ensures ok { OnOk result (CanGrant (paged self.now) pages) }
-        ensures no_space { IsErrOf result GrantFault.NoSpace → window_end (paged self.now) < regions_end (paged self.now) + 4096 * pages }
-        ensures no_frames { IsErrOf result GrantFault.NoFrames → (regions_end (paged self.now) + 4096 * pages ≤ window_end (paged self.now))
-            × (free_count (paged self.now).free < pages + missing_of (paged self.now).words (paged self.now).root (regions_end (paged self.now) / 4096) pages) }
+        ensures lacks { IfErr result (λ fault. Lacks (paged self.now) pages fault) }
     {
         let end = self.end();
-        if pages * Size4KiB::SIZE > self.window_bytes() - (end - self.base) {
+        if pages > self.pages - (end - self.base) / Size4KiB::SIZE {
             return Err(GrantFault::NoSpace);
         }
         let free = self.pool.free_count();
@@ -178,10 +178,8 @@ impl PagedSystem {
     }
 
     /// Grants so many pages behind the regions. An `Err` changes nothing.
-    pub(crate) fn grant(&mut self, pages: u64) -> Result<(), AllocError>
-        requires kept { IsKept (paged self.old) }
+    fn grant(&mut self, pages: u64) -> Result<(), AllocError>
         requires can { CanGrant (paged self.old) pages }
-        ensures kept { IsKept (paged self.new) }
         ensures ok { OnOk result (IsGranted (paged self.old) (paged self.new) pages) }
         ensures err { OnErr result (paged self.new ≡ paged self.old) }
     {
@@ -200,6 +198,26 @@ impl PagedSystem {
         self.tables += free - pages - self.pool.free_count();
         self.regions.push_reserved(heap_region(end, pages));
         Ok(())
+    }
+
+    /// Grants the pages that hold so many bytes. An `Err` changes nothing.
+    pub(crate) fn grant_bytes(&mut self, size: u64) -> Result<Grant, GrantFault>
+        requires some { 0 < size }
+        ensures ok { IfOk result (λ grant. IsGrantedFor (paged self.old) (paged self.new) size grant) }
+        ensures err { OnErr result (paged self.new ≡ paged self.old) }
+        ensures lacks { IfErr result (λ fault. fault ≢ OutOfMemory → Lacks (paged self.old) (pages_in size) fault) }
+    {
+        let pages = pages_in(size);
+        self.plan(pages)?;
+        let base = self.end();
+        match self.grant(pages) {
+            Ok(()) => Ok(Grant {
+                base,
+                size: pages * Size4KiB::SIZE,
+                flags: 0,
+            }),
+            Err(_) => Err(GrantFault::OutOfMemory),
+        }
     }
 
     /// The word at a multiple of 8 in the regions, by a walk.

@@ -37,4 +37,4 @@ granted c =
     }
 
 pub invariant_of-self-2 : goal.invariant_of-self-2
-invariant_of-self-2 c = record { kept = kept_granted (paged c.args.self.now) (after c) c.args.pages c.requires.kept c.requires.can (granted c) }
+invariant_of-self-2 c = record { kept = kept_granted (paged c.args.self.now) (after c) c.args.pages c.args.self.now.kept c.requires.can (granted c) }

@@ -1,0 +1,75 @@
+-- While nothing is granted, given back or mapped, a machine stands for the state with what it holds of its blocks.
+use Rattle.std.proofs.Common.{◌≡◌, ℕ, ◌/◌, ◌%◌, ◌^◌, ◌≤◌, List, map, refl, ap, ◌∙◌, arith, Option, option_map, Bool, true, false, not, ◌&&◌, ◌||◌, [], ◌∷◌}
+use Rattle.std.specs.List.{list_any, AllByRecursion}
+use Rattle.paging_core.specs.Walk.{reach, walk_of, reached}
+use Rattle.heap_model.specs.declared.live.Live.{Live}
+use Rattle.heap_model.specs.declared.region.Region.{Region}
+use Rattle.heap_model.specs.State.{State, Block, is_within}
+use Rattle.heap_model.specs.Memory.{HoldsBytes}
+use Rattle.heap_model.specs.Machine.{Paged, IsStill, is_of_user, Seen, Stands, rights_of, outline}
+use Rattle.heap_model.specs.Run.{IsGood, IsUserRegion}
+use Rattle.heap_model.proofs.Booleans.{or_right}
+use Rattle.heap_model.proofs.Regions.{any_all}
+
+-- ---- bytes of the user
+
+of_user : (heap users : List Region) (address : ℕ) → AllByRecursion (IsUserRegion heap) users → list_any (is_within address) users ≡ true → is_of_user users address ≡ true
+of_user heap [] address all is = cc
+of_user heap (region ∷ rest) address all is = go (is_within address region) is (of_user heap rest address all.1)
+  where
+    go : (b : Bool) → (b || list_any (is_within address) rest) ≡ true → (list_any (is_within address) rest ≡ true → is_of_user rest address ≡ true) →
+        (not region.heap && b || is_of_user rest address) ≡ true
+    go true any later = rw all.0.0 refl
+    go false any later = (let l = later any in rw all.0.0 l)
+
+-- a byte of a user region of the state is the user's in a machine that stands for it
+user_of_machine : (m : Seen) (s : State) (address : ℕ) → IsGood s → Stands m s → list_any (is_within address) s.users ≡ true → is_of_user m.paged.regions address ≡ true
+user_of_machine m s address good stands is =
+    ap (λ regions. is_of_user regions address) stands.regions
+    ∙ (any_all (λ region. not region.heap && is_within address region) s.heap s.users
+    ∙ or_right (list_any (λ region. not region.heap && is_within address region) s.heap) (is_of_user s.users address) (of_user s.heap s.users address good.users is))
+
+-- ---- the machine
+
+pub stands_moved : (m : Seen) (s : State) (new : Paged) (lives : List (Option Live)) (blocks : List (Option Block)) → IsGood s → Stands m s → IsStill m.paged new →
+    lives ≡ map (option_map outline) blocks → HoldsBytes (reached new.words new.root) blocks →
+    Stands (record m { paged = new; blocks = lives }) (record s { blocks = blocks })
+unfolding walk_of
+stands_moved m s new lives blocks good stands still same holds =
+    let root : new.root ≡ m.paged.root = ap (λ p. p.root) still.others in
+    let free : new.free ≡ m.paged.free = ap (λ p. p.free) still.others in
+    let same_reach : (level n : ℕ) → level ≤ 4 → reach new.words new.root level n ≡ reach m.paged.words m.paged.root level n =
+    λ level n low. ap (λ r. reach new.words r level n) root ∙ still.walks level n low in
+    let same_reached : (a : ℕ) → reached new.words new.root a ≡ reached new.words m.paged.root a = λ a. ap (λ r. reached new.words r a) root in
+    record {
+      tree = rw (root, free) (still.tree stands.tree);
+      free_frames = rw free stands.free_frames;
+      table_count = ap (λ p. p.tables) still.others ∙ stands.table_count;
+      pages_found = λ page canonical. ap (option_map rights_of) (same_reach 4 (page % 2 ^ 36) (omega arith)) ∙ stands.pages_found page canonical;
+      tables_met = λ level n some less. rw (same_reach level n (omega arith)) (stands.tables_met level n some less);
+      regions = ap (λ p. p.regions) still.others ∙ stands.regions;
+      blocks = same;
+      base = ap (λ p. p.base) still.others ∙ stands.base;
+      pages = ap (λ p. p.pages) still.others ∙ stands.pages;
+      granularity = stands.granularity;
+      frames = ap (λ n. n / 512) still.size ∙ stands.frames;
+      bytes = holds;
+      zeros = λ address user. same_reached address ∙ (still.users address (user_of_machine m s address good stands user) ∙ stands.zeros address user);
+    }
+
+-- ---- without blocks
+
+-- a good state without its blocks is good
+pub good_bare : (s : State) → IsGood s → IsGood (record s { blocks = [] })
+good_bare s good = record {
+  each = λ number block is. absurd (cc);
+  apart = λ i j a b is_a is_b differ. absurd (cc);
+  heap_order = good.heap_order;
+  user_order = good.user_order;
+  heap = good.heap;
+  users = good.users;
+  frames = good.frames;
+}
+
+pub holds_none : (reached : ℕ → Option ℕ) → HoldsBytes reached []
+holds_none reached = record { known = λ number k byte block is cell. absurd (cc) }

@@ -1,0 +1,34 @@
+-- The extents of the heap of a state.
+use Rattle.std.specs.Prelude.{◌≡◌, ℕ, ◌+◌, ◌≤◌, List, Some}
+use Rattle.std.specs.List.{list_any}
+use Rattle.dlmalloc_chunks.specs.declared.extent.Extent.{Extent}
+use Rattle.dlmalloc_chunks.specs.declared.extent.Kind.TheVariants.{Used}
+use Rattle.dlmalloc_chunks.specs.Tiling.{AreExtents, has_byte, extent_at}
+use Rattle.heap_model.specs.State.{State, Block, block_at, is_within}
+
+-- A block's extent: the block begins 16 bytes behind it, and reaches into the 8 bytes behind its end at most. Of the
+-- extent's bytes 79 at most are not the block's.
+pub record IsExtentOf (block : Block) (extent : Extent) : Type 0 where
+  pub used : extent.kind ≡ Used
+  pub place : block.address ≡ extent.at + 16
+  pub holds : block.size + 8 ≤ extent.size
+  pub little : extent.size ≤ block.size + 79
+
+pub record HasExtent (extents : List Extent) (block : Block) : Type 0 where
+  pub extent : Extent
+  pub there : extent_at extent.at extents ≡ Some extent
+  pub is : IsExtentOf block extent
+
+pub record HasBlock (s : State) (extent : Extent) : Type 0 where
+  pub number : ℕ
+  pub block : Block
+  pub there : block_at s.blocks number ≡ Some block
+  pub is : IsExtentOf block extent
+
+-- These are all extents by address: their bytes are those of the heap's regions, and the extents in use and the live
+-- blocks correspond to one another.
+pub record IsTiling (s : State) (extents : List Extent) : Type 0 where
+  pub extents_are : AreExtents extents
+  pub bytes : (address : ℕ) → list_any (has_byte address) extents ≡ list_any (is_within address) s.heap
+  pub blocks : (number : ℕ) (block : Block) → block_at s.blocks number ≡ Some block → HasExtent extents block
+  pub used : (extent : Extent) → extent_at extent.at extents ≡ Some extent → extent.kind ≡ Used → HasBlock s extent

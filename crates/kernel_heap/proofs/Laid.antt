@@ -1,0 +1,248 @@
+-- The blocks of a machine and the extents of its heap, before and after a call of the heap.
+use Rattle.std.proofs.Common.{◌≡◌, ◌≢◌, ℕ, ◌+◌, ◌-◌, ◌<◌, ◌≤◌, ◌⊎◌, inl, inr, List, [], ◌∷◌, ◌++◌, length, slice_set, refl, sym, ap, ◌∙◌, subst, arith, Option, Some, None}
+use Rattle.heap_memory.specs.declared.grant.Grant.{Grant}
+use Rattle.heap_memory.specs.Regions.{IsWordOf}
+use Rattle.dlmalloc_chunks.specs.declared.extent.Extent.{Extent}
+use Rattle.dlmalloc_chunks.specs.declared.extent.Kind.TheVariants.{Used}
+use Rattle.dlmalloc.specs.Extents.{extent_at}
+use Rattle.dlmalloc.specs.State.{HeapState, Segment, extents_in}
+use Rattle.dlmalloc.specs.Granted.{granted as granted_state}
+use Rattle.dlmalloc.specs.Taken.{in_segments}
+use Rattle.dlmalloc.specs.Blocks.{IsBlock}
+use Rattle.dlmalloc.specs.declared.heap.Dlmalloc.{Dlmalloc}
+use Rattle.dlmalloc.specs.declared.malloc_error.MallocError.{MallocError}
+use Rattle.dlmalloc.proofs.BlockChunks.{the_extent}
+use Rattle.dlmalloc.proofs.Places.{found}
+use Rattle.dlmalloc.proofs.Laws.{sound_outside, state_outside}
+use Rattle.heap_model.specs.declared.live.Live.{Live}
+use Rattle.heap_model.specs.State.{total_pages}
+use Rattle.heap_model.specs.Machine.{Paged, IsStill, Seen}
+use Rattle.heap_model.proofs.Placed.{appended, stays, last_at}
+use Rattle.heap_model.proofs.Ended.{left_at, stays_at}
+use Rattle.kernel_heap.specs.Layout.{IsGrantedFor, regions_end}
+use Rattle.kernel_heap.specs.Words.{grants_of}
+use Rattle.kernel_heap.specs.System.{paged}
+use Rattle.kernel_heap.specs.Heap.{regions, word, heap_state, IsHeap, IsHandedOut, IsDeniedBy, IsGivenBack}
+use Rattle.kernel_heap.specs.Machine.{live_at, Spans, IsLive, IsLaidOut}
+use Rattle.kernel_heap.specs.declared.paged_system.PagedSystem.{PagedSystem}
+use Rattle.kernel_heap.proofs.Consecutive.{same_or_other}
+use Rattle.kernel_heap.proofs.Granted.{granted_end}
+
+-- ---- a block and its extent
+
+module _ (heap : HeapState) (address size : ℕ) (block : IsBlock heap address size) where
+  -- the block stands 16 bytes behind the beginning of its extent
+  pub block_place : address ≡ block.extent.at + 16
+  block_place = let low = block.low in let at = (found (address - 16) block.extent (extents_in heap) block.there).place in omega arith
+
+  pub block_there : extent_at block.extent.at (extents_in heap) ≡ Some block.extent
+  block_there = subst (λ (at : ℕ). extent_at at (extents_in heap) ≡ Some block.extent) (sym (found (address - 16) block.extent (extents_in heap) block.there).place) block.there
+
+  -- the extent that begins there is the block's
+  pub block_is : (extent : Extent) → address ≡ extent.at + 16 → extent_at extent.at (extents_in heap) ≡ Some extent → block.extent ≡ extent
+  block_is extent place there = the_extent (sym block_there ∙ (ap (λ at. extent_at at (extents_in heap)) (let p = block_place in omega arith) ∙ there))
+
+  -- a heap that has its extent has the block
+  pub block_moved : (new : HeapState) → extent_at block.extent.at (extents_in new) ≡ Some block.extent → IsBlock new address size
+  block_moved new there = record {
+    extent = block.extent;
+    there = ap (λ (at : ℕ). extent_at at (extents_in new)) (sym (found (address - 16) block.extent (extents_in heap) block.there).place) ∙ there;
+    low = block.low;
+    used = block.used;
+    holds = block.holds;
+    little = block.little;
+  }
+
+-- ---- the segment has the bytes of the regions
+
+pub spans_changed : (change : List Extent → List Extent) (segments : List Segment) (p : Paged) → Spans segments p → Spans (in_segments change segments) p
+spans_changed change [] p spans = spans
+spans_changed change (segment ∷ []) p spans = spans
+spans_changed change (first ∷ second ∷ segments) p spans = spans
+
+pub spans_still : (segments : List Segment) (old new : Paged) → IsStill old new → Spans segments old → Spans segments new
+spans_still segments old new still spans = subst (Spans segments) (sym still.others) (same segments spans)
+  where
+    same : (segments : List Segment) → Spans segments old → Spans segments (record old { words = new.words })
+    same [] spans = spans
+    same (segment ∷ []) spans = spans
+    same (first ∷ second ∷ segments) spans = spans
+
+pub spans_granted : (segments : List Segment) (victim granularity rate countdown trim_check : ℕ) (old new : Paged) (asked : ℕ) (grant : Grant) → IsGrantedFor old new asked grant → Spans segments old →
+    Spans (granted_state grant (record { segments = segments; victim = victim; granularity = granularity; rate = rate; countdown = countdown; trim_check = trim_check })).segments new
+spans_granted [] victim granularity rate countdown trim_check old new asked grant is spans =
+    let none : total_pages old.regions ≡ 0 = ap total_pages spans in
+    let base : grant.base ≡ regions_end old = ap (λ (g : Grant). g.base) is.is in
+    let size = ap (λ (g : Grant). g.size) is.is in
+    let same = is.granted.grant.base in
+    let end = granted_end old new _ is.granted in
+    (omega arith, omega arith)
+spans_granted (segment ∷ []) victim granularity rate countdown trim_check old new asked grant is spans =
+    let size = ap (λ (g : Grant). g.size) is.is in
+    let same = is.granted.grant.base in
+    let end = granted_end old new _ is.granted in
+    (omega (arith, spans.0), omega (arith, spans.1))
+spans_granted (first ∷ second ∷ segments) victim granularity rate countdown trim_check old new asked grant is spans = absurd spans
+
+granularity_granted : (segments : List Segment) (victim granularity rate countdown trim_check : ℕ) (grant : Grant) →
+    (granted_state grant (record { segments = segments; victim = victim; granularity = granularity; rate = rate; countdown = countdown; trim_check = trim_check })).granularity ≡ granularity
+granularity_granted [] victim granularity rate countdown trim_check grant = refl
+granularity_granted (segment ∷ segments) victim granularity rate countdown trim_check grant = refl
+
+-- ---- a block more
+
+-- the block as the machine keeps it
+abbrev pub next_live : ℕ → ℕ → Live
+next_live address size = record { address = address; size = size; align = 16 }
+
+module _ (heap new : Dlmalloc PagedSystem) (blocks : List (Option Live)) (size address : ℕ) (laid : IsLaidOut heap blocks) (out : IsHandedOut heap size address new) where
+  spans_handed : Spans (heap_state new).segments (paged new.system)
+  spans_handed = elim out.cut [
+    | inl here ↦ subst (λ (h : HeapState). Spans h.segments (paged new.system)) (sym here.0.state)
+        (spans_changed _ (heap_state heap).segments (paged new.system) (spans_still (heap_state heap).segments (paged heap.system) (paged new.system) here.1 laid.spans))
+    | inr there ↦ (
+        let h = heap_state heap in
+        let followed = there.2 in
+        subst (λ (h : HeapState). Spans h.segments (paged new.system)) (sym there.1.state)
+        (spans_changed _ (granted_state there.0 h).segments (paged new.system)
+        (spans_still (granted_state there.0 h).segments followed.1 (paged new.system) followed.4
+        (spans_granted h.segments h.victim h.granularity h.rate h.countdown h.trim_check followed.0 followed.1 _ there.0 followed.3
+        (spans_still h.segments (paged heap.system) followed.0 followed.2 laid.spans)))))
+  ]
+
+  pub granularity_handed : new.granularity ≡ heap.granularity
+  granularity_handed = elim out.cut [
+    | inl here ↦ ap (λ (h : HeapState). h.granularity) here.0.state
+    | inr there ↦ (let h = heap_state heap in ap (λ (h : HeapState). h.granularity) there.1.state ∙ granularity_granted h.segments h.victim h.granularity h.rate h.countdown h.trim_check there.0)
+  ]
+
+  -- a live block has its extent still
+  pub live_kept : (number : ℕ) (live : Live) → live_at blocks number ≡ Some live → IsLive (heap_state new) live
+  live_kept number live is =
+      let was = laid.lives number live is in
+      let b = was.block in
+      record {
+        block = block_moved (heap_state heap) live.address live.size b (heap_state new) (out.more.kept b.extent b.used (block_there (heap_state heap) live.address live.size b));
+        align = was.align;
+      }
+
+  -- and another place than the new one
+  pub live_apart : (number : ℕ) (live : Live) → live_at blocks number ≡ Some live → live.address ≢ address
+  live_apart number live is same =
+      let b = (laid.lives number live is).block in
+      let place = block_place (heap_state heap) live.address live.size b in
+      out.more.new b.extent b.used (block_there (heap_state heap) live.address live.size b) (omega arith)
+
+  pub laid_handed : IsLaidOut new (blocks ++ Some (next_live address size) ∷ [])
+  laid_handed = record {
+    heap_sound = out.sound;
+    spans = spans_handed;
+    lives = λ number live is. elim (appended blocks (Some (next_live address size)) number live is) [
+      | inl old ↦ live_kept number live old
+      | inr last ↦ (let same : next_live address size ≡ live = cc in subst (λ (l : Live). IsLive (heap_state new) l) same (record { block = out.block; align = refl }))
+    ];
+    used = λ extent used there. elim (same_or_other extent.at (address - 16)) [
+      | inl same ↦ (let low = out.low in record { number = length blocks; live = next_live address size; is = last_at blocks (Some (next_live address size)); place = omega arith })
+      | inr other ↦ (let was = laid.used extent used (out.more.only extent used there other) in
+          record { number = was.number; live = was.live; is = stays blocks (Some (next_live address size)) was.number was.live was.is; place = was.place })
+    ];
+    distinct = λ i j a b is_a is_b differ. elim (appended blocks (Some (next_live address size)) i a is_a) [
+      | inl old_a ↦ elim (appended blocks (Some (next_live address size)) j b is_b) [
+        | inl old_b ↦ laid.distinct i j a b old_a old_b differ
+        | inr new_b ↦ (let same : next_live address size ≡ b = cc in let at : address ≡ b.address = ap (λ (l : Live). l.address) same in λ e. live_apart i a old_a (e ∙ sym at))
+      ]
+      | inr new_a ↦ elim (appended blocks (Some (next_live address size)) j b is_b) [
+        | inl old_b ↦ (let same : next_live address size ≡ a = cc in let at : address ≡ a.address = ap (λ (l : Live). l.address) same in λ e. live_apart j b old_b (sym e ∙ sym at))
+        | inr new_b ↦ absurd (differ (new_a.0 ∙ sym new_b.0))
+      ]
+    ];
+  }
+
+-- ---- no block more
+
+module _ (heap new : Dlmalloc PagedSystem) (blocks : List (Option Live)) (size : ℕ) (error : MallocError) (denied : IsDeniedBy heap size error new) where
+  -- what is seen of a machine with a heap
+  abbrev seen_of : Dlmalloc PagedSystem → Seen
+  seen_of heap = record { paged = paged heap.system; granularity = heap.granularity; blocks = blocks }
+
+  -- a refused request leaves the machine as it was
+  pub seen_denied : seen_of new ≡ seen_of heap
+  seen_denied i = record { paged = denied.same.refused i; granularity = (ap (λ (h : HeapState). h.granularity) denied.same.state) i; blocks = blocks }
+
+  pub laid_denied : IsLaidOut heap blocks → IsLaidOut new blocks
+  laid_denied laid = record {
+    heap_sound = denied.same.sound;
+    spans = subst (λ (h : HeapState). Spans h.segments (paged new.system)) (sym denied.same.state) (subst (Spans (heap_state heap).segments) (sym denied.same.refused) laid.spans);
+    lives = λ number live is. subst (λ (h : HeapState). IsLive h live) (sym denied.same.state) (laid.lives number live is);
+    used = λ extent used there. laid.used extent used (subst (λ (h : HeapState). extent_at extent.at (extents_in h) ≡ Some extent) denied.same.state there);
+    distinct = laid.distinct;
+  }
+
+-- ---- a block less
+
+module _ (heap new : Dlmalloc PagedSystem) (blocks : List (Option Live)) (number : ℕ) (live : Live) (laid : IsLaidOut heap blocks)
+    (is : live_at blocks number ≡ Some live) (back : IsGivenBack heap live.address new) where
+  pub granularity_ended : new.granularity ≡ heap.granularity
+  granularity_ended = ap (λ (h : HeapState). h.granularity) back.state
+
+  -- every other live block has its extent still
+  pub live_left : (other : ℕ) (it : Live) → other ≢ number → live_at blocks other ≡ Some it → IsLive (heap_state new) it
+  live_left other it differ at =
+      let was = laid.lives other it at in
+      let b = was.block in
+      let place = block_place (heap_state heap) it.address it.size b in
+      let low = (laid.lives number live is).block.low in
+      let apart = laid.distinct other number it live at is differ in
+      record {
+        block = block_moved (heap_state heap) it.address it.size b (heap_state new)
+            (back.less.only b.extent b.used (block_there (heap_state heap) it.address it.size b) (λ e. apart (omega arith)));
+        align = was.align;
+      }
+
+  pub laid_ended : IsLaidOut new (slice_set blocks number None)
+  laid_ended = record {
+    heap_sound = back.sound;
+    spans = subst (λ (h : HeapState). Spans h.segments (paged new.system)) (sym back.state)
+        (spans_changed _ (heap_state heap).segments (paged new.system) (spans_still (heap_state heap).segments (paged heap.system) (paged new.system) back.followed laid.spans));
+    lives = λ other it at. (let was = left_at blocks number other it at in live_left other it was.0 was.1);
+    used = λ extent used there. (
+        let was = laid.used extent used (back.less.kept extent used there) in
+        let place = was.place in
+        let apart = back.less.new extent used there in
+        record {
+          number = was.number;
+          live = was.live;
+          is = stays_at blocks number was.number was.live (λ e. (let same : was.live ≡ live = cc (was.is, is, e) in let at = ap (λ (l : Live). l.address) same in apart (omega arith))) was.is;
+          place = was.place;
+        });
+    distinct = λ i j a b is_a is_b differ. laid.distinct i j a b (left_at blocks number i a is_a).1 (left_at blocks number j b is_b).1 differ;
+  }
+
+-- ---- bytes of blocks
+
+-- the blocks stay laid out where words of blocks alone are changed
+pub laid_outside : (heap : Dlmalloc PagedSystem) (blocks : List (Option Live)) (system : PagedSystem) → IsLaidOut heap blocks → IsStill (paged heap.system) (paged system) →
+    ((k : ℕ) → IsWordOf (regions heap.system) k →
+    ((used : Extent) → used.kind ≡ Used → extent_at used.at (extents_in (heap_state heap)) ≡ Some used → (k < used.at + 16) ⊎ (used.at + used.size + 8 ≤ k)) →
+    word system k ≡ word heap.system k) → IsLaidOut (record heap { system = system }) blocks
+laid_outside heap blocks system laid still outside =
+    let same : regions system ≡ regions heap.system = ap grants_of still.others in
+    let state : heap_state (record heap { system = system }) ≡ heap_state heap = state_outside regions word heap laid.heap_sound system same outside in
+    record {
+      heap_sound = sound_outside regions word heap laid.heap_sound system same outside;
+      spans = subst (λ (h : HeapState). Spans h.segments (paged system)) (sym state) (spans_still (heap_state heap).segments (paged heap.system) (paged system) still laid.spans);
+      lives = λ number live is. subst (λ (h : HeapState). IsLive h live) (sym state) (laid.lives number live is);
+      used = λ extent used there. laid.used extent used (subst (λ (h : HeapState). extent_at extent.at (extents_in h) ≡ Some extent) state there);
+      distinct = laid.distinct;
+    }
+
+-- ---- no block
+
+pub laid_new : (heap : Dlmalloc PagedSystem) → IsHeap heap → (heap_state heap).segments ≡ [] → (paged heap.system).regions ≡ [] → IsLaidOut heap []
+laid_new heap sound none empty = record {
+  heap_sound = sound;
+  spans = subst (λ (segments : List Segment). Spans segments (paged heap.system)) (sym none) empty;
+  lives = λ number live is. absurd (cc);
+  used = λ extent used there. absurd (let gone : extent_at extent.at [] ≡ Some extent = subst (λ (segments : List Segment). extent_at extent.at (Rattle.std.specs.List.flat_map (λ (segment : Segment). segment.extents) segments) ≡ Some extent) none there in cc);
+  distinct = λ i j a b is_a is_b differ. absurd (cc);
+}

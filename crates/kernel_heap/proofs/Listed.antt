@@ -1,0 +1,115 @@
+-- The extents of the heap tile the regions of the state.
+use Rattle.std.proofs.Common.{◌≡◌, ℕ, ◌+◌, ◌<◌, ◌≤◌, ◌&&◌, inl, inr, nat_le, nat_lt, Bool, true, false, if◌then◌else◌, List, refl, sym, ap, ◌∙◌, subst, arith, Option, Some, None, option_map}
+use Rattle.std.specs.List.{list_any}
+use Rattle.std.proofs.lemmas.Bool.Decides.{nat_tests}
+use Rattle.dlmalloc_chunks.specs.declared.extent.Extent.{Extent}
+use Rattle.dlmalloc_chunks.specs.declared.extent.Kind.TheVariants.{Used, Victim}
+use Rattle.dlmalloc_chunks.specs.Tiling.{extent_at}
+use Rattle.dlmalloc.specs.Extents.{is_used}
+use Rattle.dlmalloc.specs.State.{HeapState, extents_in, is_plain, is_victim, shown}
+use Rattle.dlmalloc.specs.declared.heap.Dlmalloc.{Dlmalloc}
+use Rattle.dlmalloc.proofs.BlockChunks.{the_extent}
+use Rattle.heap_model.specs.declared.live.Live.{Live}
+use Rattle.heap_model.specs.declared.call.Call.TheVariants.{Extents}
+use Rattle.heap_model.specs.declared.answer.Reply.TheVariants.{Extents as Listed}
+use Rattle.heap_model.specs.State.{State, Block, block_at, is_within}
+use Rattle.heap_model.specs.Extents.{HasExtent, HasBlock, IsTiling}
+use Rattle.heap_model.specs.Run.{IsGood}
+use Rattle.heap_model.specs.Machine.{Paged, Seen, Stands, IsStep, outline}
+use Rattle.heap_model.proofs.Placed.{outline_of}
+use Rattle.kernel_heap.specs.Layout.{IsKept, regions_end}
+use Rattle.kernel_heap.specs.System.{paged}
+use Rattle.kernel_heap.specs.Heap.{heap_state, IsListed}
+use Rattle.kernel_heap.specs.Machine.{IsLaidOut}
+use Rattle.kernel_heap.specs.declared.paged_system.PagedSystem.{PagedSystem}
+use Rattle.kernel_heap.proofs.Consecutive.{lt_or_le, covered, inside}
+use Rattle.kernel_heap.proofs.Full.{spans_empty, spans_some, behind}
+use Rattle.kernel_heap.proofs.Laid.{block_place, block_there, block_is}
+use Rattle.kernel_heap.proofs.Refused.{regions_are}
+
+-- an extent in use is shown as it is, and what is shown as one in use is one
+shown_used : (heap : HeapState) (extent : Extent) → extent.kind ≡ Used → shown heap extent ≡ extent
+shown_used heap extent used = let plain : is_plain extent.kind ≡ false = ap is_plain used in rw plain refl
+
+used_shown : (heap : HeapState) (found : Option Extent) (extent : Extent) → option_map (shown heap) found ≡ Some extent → extent.kind ≡ Used → found ≡ Some extent
+used_shown heap None extent is used = cc
+used_shown heap (Some one) extent is used = go (is_victim heap one) (the_extent is)
+  where
+    go : (b : Bool) → (if b then record one { kind = Victim } else one) ≡ extent → Some one ≡ Some extent
+    go true same = absurd (let k : Victim ≡ extent.kind = ap (λ (e : Extent). e.kind) same in let u = ap is_used (k ∙ used) in cc)
+    go false same = ap Some same
+
+-- the regions have the bytes between their ends
+within_same : (p : Paged) → IsKept p → (address : ℕ) → list_any (is_within address) p.regions ≡ (nat_le p.base address && nat_lt address (regions_end p))
+within_same p kept address = elim (lt_or_le address p.base) [
+  | inl before ↦ outside (list_any (is_within address) p.regions) refl (inl before) ∙ (grind (arith, nat_tests))
+  | inr from ↦ elim (lt_or_le address (regions_end p)) [
+    | inl below ↦ covered p.base (regions_end p) address p.regions kept.consecutive from below ∙ (grind (arith, nat_tests))
+    | inr above ↦ outside (list_any (is_within address) p.regions) refl (inr above) ∙ (grind (arith, nat_tests))
+  ]
+]
+  where
+    outside : (b : Bool) → list_any (is_within address) p.regions ≡ b → Rattle.std.specs.Prelude.◌⊎◌ (address < p.base) (regions_end p ≤ address) → list_any (is_within address) p.regions ≡ false
+    outside false is beside = is
+    outside true is beside = (let both = inside p.base (regions_end p) address p.regions kept.consecutive is in elim beside [ inl before ↦ absurd (omega (arith, both.0)) | inr above ↦ absurd (omega (arith, both.1)) ])
+
+module _ (heap : Dlmalloc PagedSystem) (blocks : List (Option Live)) (laid : IsLaidOut heap blocks) (s : State) (good : IsGood s)
+    (stands : Stands (record { paged = paged heap.system; granularity = heap.granularity; blocks = blocks }) s)
+    (list : List Extent) (listed : IsListed heap list) where
+  abbrev m : Seen
+  m = record { paged = paged heap.system; granularity = heap.granularity; blocks = blocks }
+
+  -- the segment has the bytes of the regions
+  segment_bytes : (address : ℕ) → (nat_le heap.base address && nat_lt address (heap.base + heap.size)) ≡ list_any (is_within address) (paged heap.system).regions
+  segment_bytes address = elim (lt_or_le 0 heap.size) [
+    | inl some ↦ (let span = spans_some heap some laid.spans in
+        ap (λ base. nat_le base address && nat_lt address (heap.base + heap.size)) span.base
+        ∙ (ap (λ end. nat_le (paged heap.system).base address && nat_lt address end) span.end ∙ sym (within_same (paged heap.system) heap.system.kept address)))
+    | inr none ↦ (let zero : heap.size ≡ 0 = omega arith in
+        let empty = spans_empty heap zero laid.spans in
+        let nothing : list_any (is_within address) (paged heap.system).regions ≡ false = ap (list_any (is_within address)) empty in
+        (grind (arith, nat_tests)) ∙ sym nothing)
+  ]
+
+  block_has : (number : ℕ) (block : Block) → block_at s.blocks number ≡ Some block → HasExtent list block
+  block_has number block is =
+      let b = (laid.lives number (outline block) (outline_of s.blocks blocks (sym stands.blocks) number block is)).block in
+      let there = block_there (heap_state heap) block.address block.size b in
+      record {
+        extent = b.extent;
+        there = listed.found b.extent.at ∙ (ap (option_map (shown (heap_state heap))) there ∙ ap Some (shown_used (heap_state heap) b.extent b.used));
+        is = record { used = b.used; place = block_place (heap_state heap) block.address block.size b; holds = b.holds; little = b.little };
+      }
+
+  extent_has : (extent : Extent) → extent_at extent.at list ≡ Some extent → extent.kind ≡ Used → HasBlock s extent
+  extent_has extent there used =
+      let found = used_shown (heap_state heap) (extent_at extent.at (extents_in (heap_state heap))) extent (sym (listed.found extent.at) ∙ there) used in
+      let hit = laid.used extent used found in
+      let b = (laid.lives hit.number hit.live hit.is).block in
+      let same = block_is (heap_state heap) hit.live.address hit.live.size b extent hit.place found in
+      let old = behind heap blocks laid s good stands hit.number hit.live hit.is in
+      let address : old.0.address ≡ hit.live.address = ap (λ (l : Live). l.address) old.2 in
+      let size : old.0.size ≡ hit.live.size = ap (λ (l : Live). l.size) old.2 in
+      let holds : hit.live.size + 8 ≤ extent.size = subst (λ (e : Extent). hit.live.size + 8 ≤ e.size) same b.holds in
+      let little : extent.size ≤ hit.live.size + 79 = subst (λ (e : Extent). e.size ≤ hit.live.size + 79) same b.little in
+      record {
+        number = hit.number;
+        block = old.0;
+        there = old.1;
+        is = record { used = used; place = address ∙ hit.place; holds = omega arith; little = omega arith };
+      }
+
+  tiling : IsTiling s list
+  tiling = record {
+    extents_are = listed.tiled;
+    bytes = λ address. listed.bytes address ∙ (segment_bytes address ∙ sym (ap (list_any (is_within address)) (regions_are heap.system m refl s good stands)));
+    blocks = block_has;
+    used = extent_has;
+  }
+
+  pub step_listed : IsStep s Extents (record { reply = Listed list; regions = None }) m
+  step_listed = record {
+    allowed = record { reply = (refl, (refl, tiling)); listed = tt };
+    good = good;
+    stands = stands;
+  }

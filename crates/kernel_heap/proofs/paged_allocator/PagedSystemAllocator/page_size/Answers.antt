@@ -1,0 +1,7 @@
+use lib.Count.{ones}
+use Rattle.std.proofs.Common.{refl}
+use Rattle.kernel_heap.proofs.paged_allocator.PagedSystemAllocator.page_size.Goals as goal
+
+pub returns : goal.returns
+unfolding ones
+returns c = refl
