@@ -1,0 +1,111 @@
+//! Ports with no device behind them.
+
+ghost use Rattle.std.specs.Prelude.{◌≡◌, ◌%◌, ◌^◌, None, Some};
+ghost use Rattle.x86_instructions.specs.Ports.{was_read, was_written};
+
+use crate::port::ports::{PortAccessed, Ports};
+
+/// Ports that answer each read with the low bits of one value, and keep the last access.
+#[derive(Debug, Drop)]
+pub struct MemoryPorts {
+    value: u32,
+    last: Option<PortAccessed>,
+}
+
+impl MemoryPorts {
+    ghost use Rattle.x86_instructions.specs.Ports.{answer_of, last_of};
+
+    /// Ports that answer the low bits of `value`, with no access yet.
+    pub fn new(value: u32) -> MemoryPorts
+        ensures answer { answer_of result ≡ value }
+        ensures last { last_of result ≡ None }
+    {
+        MemoryPorts { value, last: None }
+    }
+
+    /// The last access. None before the first.
+    pub fn last(&self) -> Option<PortAccessed>
+        ensures { result ≡ last_of self.now }
+    {
+        self.last
+    }
+
+    /// Keeps a read as the last access, and answers its value.
+    fn read(&mut self, port: u16, width: u8, value: u32) -> u32
+        ensures value { result ≡ value }
+        ensures answer { answer_of self.new ≡ answer_of self.old }
+        ensures last { last_of self.new ≡ Some (was_read port width value) }
+    {
+        self.last = Some(PortAccessed {
+            port,
+            width,
+            write: false,
+            value,
+        });
+        value
+    }
+
+    /// Keeps a write as the last access.
+    fn write(&mut self, port: u16, width: u8, value: u32)
+        ensures answer { answer_of self.new ≡ answer_of self.old }
+        ensures last { last_of self.new ≡ Some (was_written port width value) }
+    {
+        self.last = Some(PortAccessed {
+            port,
+            width,
+            write: true,
+            value,
+        });
+    }
+}
+
+impl Ports for MemoryPorts {
+    ghost use Rattle.x86_instructions.specs.Ports.{answer_of, last_of};
+
+    ghost last = { last_of };
+
+    fn read_u8(&mut self, port: u16) -> u8
+        ensures value { result ≡ answer_of self.old % 2 ^ 8 }
+        ensures answer { answer_of self.new ≡ answer_of self.old }
+        ensures last { last_of self.new ≡ Some (was_read port 8 result) }
+    {
+        self.read(port, 8, self.value & 0xFF) as u8
+    }
+
+    fn read_u16(&mut self, port: u16) -> u16
+        ensures value { result ≡ answer_of self.old % 2 ^ 16 }
+        ensures answer { answer_of self.new ≡ answer_of self.old }
+        ensures last { last_of self.new ≡ Some (was_read port 16 result) }
+    {
+        self.read(port, 16, self.value & 0xFFFF) as u16
+    }
+
+    fn read_u32(&mut self, port: u16) -> u32
+        ensures value { result ≡ answer_of self.old }
+        ensures answer { answer_of self.new ≡ answer_of self.old }
+        ensures last { last_of self.new ≡ Some (was_read port 32 result) }
+    {
+        self.read(port, 32, self.value)
+    }
+
+    fn write_u8(&mut self, port: u16, value: u8)
+        ensures answer { answer_of self.new ≡ answer_of self.old }
+        ensures last { last_of self.new ≡ Some (was_written port 8 value) }
+    {
+        self.write(port, 8, u32::from(value));
+    }
+
+    fn write_u16(&mut self, port: u16, value: u16)
+        ensures answer { answer_of self.new ≡ answer_of self.old }
+        ensures last { last_of self.new ≡ Some (was_written port 16 value) }
+    {
+        self.write(port, 16, u32::from(value));
+    }
+
+    fn write_u32(&mut self, port: u16, value: u32)
+        ensures answer { answer_of self.new ≡ answer_of self.old }
+        ensures last { last_of self.new ≡ Some (was_written port 32 value) }
+    {
+        self.write(port, 32, value);
+    }
+}
