@@ -1,0 +1,4 @@
+pub mod GateBits
+pub mod GateLists
+pub mod GatesMemory
+pub mod TssBytes

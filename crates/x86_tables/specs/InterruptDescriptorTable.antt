@@ -1,0 +1,106 @@
+-- The table of gates (AMD64 manual, volume 2, sections 4.6.5 and 8.2).
+use Rattle.std.specs.Prelude.{ℕ, ◌-◌, ◌≤◌, List, Option, Some, None, nat_le, ◌==◌, if◌then◌else◌, replicate, slice_get, slice_set, slice_range}
+use Rattle.std.specs.Borrow.{Lends, LendsIf, MutBor, Fml, Array, RattleType}
+use Rattle.x86_tables.specs.Entry.{missing}
+use Rattle.x86_tables.specs.declared.idt.entry.Entry.{Entry}
+use Rattle.x86_tables.specs.declared.idt.handler.HandlerFunc.{HandlerFunc}
+use Rattle.x86_tables.specs.declared.idt.interrupt_descriptor_table.InterruptDescriptorTable.{InterruptDescriptorTable}
+use Rattle.x86_tables.specs.contracts.idt.interrupt_descriptor_table.InterruptDescriptorTable.{the_row}
+use Rattle.x86_tables.specs.Gates.{with_part}
+use Rattle.x86_tables.specs.contracts.idt.entry.Entry.{the_row as entry_row}
+use Rattle.x86_tables.specs.contracts.idt.handler.HandlerFunc.{the_row as handler_row}
+
+-- the type of a gate, as a loan names it
+abbrev pub gate_row : RattleType
+gate_row = entry_row handler_row
+
+-- no gate is present
+abbrev pub new_table : InterruptDescriptorTable
+new_table = record {
+  divide_error = missing;
+  debug = missing;
+  non_maskable_interrupt = missing;
+  breakpoint = missing;
+  overflow = missing;
+  bound_range_exceeded = missing;
+  invalid_opcode = missing;
+  device_not_available = missing;
+  double_fault = missing;
+  coprocessor_segment_overrun = missing;
+  invalid_tss = missing;
+  segment_not_present = missing;
+  stack_segment_fault = missing;
+  general_protection_fault = missing;
+  page_fault = missing;
+  reserved_1 = missing;
+  x87_floating_point = missing;
+  alignment_check = missing;
+  machine_check = missing;
+  simd_floating_point = missing;
+  virtualization = missing;
+  cp_protection_exception = missing;
+  reserved_2 = replicate 6 missing;
+  hv_injection_exception = missing;
+  vmm_communication_exception = missing;
+  security_exception = missing;
+  reserved_3 = missing;
+  interrupts = record { gates = replicate 224 missing };
+}
+
+-- the gate of a vector whose handler takes no error code and returns; no other vector has one here
+abbrev pub entry_of : InterruptDescriptorTable → ℕ → Option (Entry HandlerFunc)
+entry_of table vector =
+    if vector == 0 then Some table.divide_error
+    else if vector == 1 then Some table.debug
+    else if vector == 2 then Some table.non_maskable_interrupt
+    else if vector == 3 then Some table.breakpoint
+    else if vector == 4 then Some table.overflow
+    else if vector == 5 then Some table.bound_range_exceeded
+    else if vector == 6 then Some table.invalid_opcode
+    else if vector == 7 then Some table.device_not_available
+    else if vector == 9 then Some table.coprocessor_segment_overrun
+    else if vector == 16 then Some table.x87_floating_point
+    else if vector == 19 then Some table.simd_floating_point
+    else if vector == 20 then Some table.virtualization
+    else if vector == 28 then Some table.hv_injection_exception
+    else if nat_le 32 vector then slice_get table.interrupts.gates (vector - 32)
+    else None
+
+-- the table with another gate at such a vector
+abbrev pub with_entry : InterruptDescriptorTable → ℕ → Entry HandlerFunc → InterruptDescriptorTable
+with_entry table vector entry =
+    if vector == 0 then record table { divide_error = entry }
+    else if vector == 1 then record table { debug = entry }
+    else if vector == 2 then record table { non_maskable_interrupt = entry }
+    else if vector == 3 then record table { breakpoint = entry }
+    else if vector == 4 then record table { overflow = entry }
+    else if vector == 5 then record table { bound_range_exceeded = entry }
+    else if vector == 6 then record table { invalid_opcode = entry }
+    else if vector == 7 then record table { device_not_available = entry }
+    else if vector == 9 then record table { coprocessor_segment_overrun = entry }
+    else if vector == 16 then record table { x87_floating_point = entry }
+    else if vector == 19 then record table { simd_floating_point = entry }
+    else if vector == 20 then record table { virtualization = entry }
+    else if vector == 28 then record table { hv_injection_exception = entry }
+    else record table { interrupts = record { gates = slice_set table.interrupts.gates (vector - 32) entry } }
+
+-- the vectors from `lower` up to `upper`, `upper` excluded, are vectors of interrupts
+abbrev pub has_slice : ℕ → ℕ → Type 0
+has_slice lower upper = (32 ≤ lower) × (lower ≤ upper) × (upper ≤ 256)
+
+abbrev pub slice_of : InterruptDescriptorTable → ℕ → ℕ → List (Entry HandlerFunc)
+slice_of table lower upper = slice_range table.interrupts.gates (lower - 32) (upper - 32)
+
+-- the table with other gates at these vectors
+abbrev pub with_slice : InterruptDescriptorTable → ℕ → ℕ → List (Entry HandlerFunc) → InterruptDescriptorTable
+with_slice table lower upper entries =
+    record table { interrupts = record { gates = with_part table.interrupts.gates (lower - 32) (upper - 32) entries } }
+
+-- the table ends with the last gate behind the reference at the vector, and unchanged where there is none
+abbrev pub lends_entry : MutBor InterruptDescriptorTable → ℕ → Option (MutBor (Entry HandlerFunc)) → Fml
+lends_entry table vector entry = LendsIf the_row gate_row table entry (with_entry table.now vector) table.now
+
+-- the same with the gates of a slice
+abbrev pub lends_slice : MutBor InterruptDescriptorTable → ℕ → ℕ → MutBor (List (Entry HandlerFunc)) → Fml
+lends_slice table lower upper entries =
+    Lends the_row (Array gate_row 0) table entries (with_slice table.now lower upper)

@@ -1,0 +1,13 @@
+pub mod Descriptor
+pub mod DescriptorFlags
+pub mod Entry
+pub mod EntryOptions
+pub mod ExceptionVector
+pub mod InterruptDescriptorTable
+pub mod Gates
+pub mod IoMap
+pub mod MemEncrypt
+pub mod PageFaultErrorCode
+pub mod SelectorErrorCode
+pub mod StackFrame
+pub mod TaskStateSegment

@@ -1,0 +1,399 @@
+//! Worked rows of the layouts, the texts of the errors, and each call once.
+
+use crate::gdt::{Descriptor, DescriptorFlags, GlobalDescriptorTable};
+use crate::idt::{
+    DescriptorTable, Entry, ExceptionVector, HandlerFunc, InterruptDescriptorTable,
+    InterruptStackFrame, InterruptStackFrameValue, InvalidExceptionVectorNumber,
+    PageFaultErrorCode, PageFaultHandlerFunc, SelectorErrorCode,
+};
+use crate::mem_encrypt::{EncryptionBits, MemoryEncryptionConfiguration, enable_memory_encryption};
+use crate::tss::{InvalidIoMap, TaskStateSegment};
+use crate::{default_segments, selector_gives_back};
+use bitflags::Flags;
+use paging_core::{PageTableFlags, VirtAddr};
+use std::mem::size_of;
+use std::test::Fail;
+use x86_flags::{PrivilegeLevel, RFlags, SegmentSelector};
+use x86_registers::Cpu;
+
+/// The values of an old Linux, which `SYSCALL` and `SYSENTER` want too.
+#[test]
+fn segments_of_kernels(rt: HostRuntime) {
+    default_segments();
+    let rows = [
+        (
+            "KERNEL_CODE64",
+            DescriptorFlags::KERNEL_CODE64,
+            0x00af_9b00_0000_ffff,
+        ),
+        (
+            "KERNEL_CODE32",
+            DescriptorFlags::KERNEL_CODE32,
+            0x00cf_9b00_0000_ffff,
+        ),
+        (
+            "KERNEL_DATA",
+            DescriptorFlags::KERNEL_DATA,
+            0x00cf_9300_0000_ffff,
+        ),
+        (
+            "USER_CODE64",
+            DescriptorFlags::USER_CODE64,
+            0x00af_fb00_0000_ffff,
+        ),
+        (
+            "USER_CODE32",
+            DescriptorFlags::USER_CODE32,
+            0x00cf_fb00_0000_ffff,
+        ),
+        (
+            "USER_DATA",
+            DescriptorFlags::USER_DATA,
+            0x00cf_f300_0000_ffff,
+        ),
+        ("all", DescriptorFlags::all(), 0xffff_ffff_ffff_ffff),
+        (
+            "BASE_0_23",
+            DescriptorFlags::BASE_0_23,
+            0x0000_00ff_ffff_0000,
+        ),
+    ];
+    for (name, flags, wanted) in rows {
+        assert_eq!(rt; flags.bits(), wanted, "{name}");
+    }
+    let levels = [
+        (Descriptor::kernel_code_segment(), PrivilegeLevel::Ring0),
+        (Descriptor::kernel_data_segment(), PrivilegeLevel::Ring0),
+        (Descriptor::user_code_segment(), PrivilegeLevel::Ring3),
+        (Descriptor::user_data_segment(), PrivilegeLevel::Ring3),
+    ];
+    for (descriptor, level) in levels {
+        assert_eq!(rt; descriptor.dpl(), level);
+    }
+    assert_eq!(rt;
+        selector_gives_back(8191, PrivilegeLevel::Ring2),
+        (8191, PrivilegeLevel::Ring2)
+    );
+}
+
+#[test]
+fn a_table_is_filled(rt: HostRuntime) -> Result<(), Fail> {
+    let mut gdt = GlobalDescriptorTable::<8>::new();
+    let user_code32 = Descriptor::UserSegment(DescriptorFlags::USER_CODE32.bits());
+    assert_eq!(rt; gdt.append(Descriptor::kernel_code_segment()).0, 0x08);
+    assert_eq!(rt; gdt.append(Descriptor::kernel_data_segment()).0, 0x10);
+    assert_eq!(rt; gdt.append(user_code32).0, 0x1b);
+    assert_eq!(rt; gdt.append(Descriptor::user_data_segment()).0, 0x23);
+    assert_eq!(rt; gdt.append(Descriptor::user_code_segment()).0, 0x2b);
+    assert_eq!(rt; gdt.entries().len(), 6);
+    let seventh = gdt.clone()?.try_append(Descriptor::user_data_segment());
+    assert_eq!(rt; seventh, Some(SegmentSelector(0x33)));
+    let tss = TaskStateSegment::new();
+    let segment = Descriptor::tss_segment(VirtAddr::new(0x1000), &tss);
+    assert_eq!(rt; gdt.append(segment).0, 0x30);
+    assert_eq!(rt; gdt.entries().len(), 8);
+    assert_eq!(rt; gdt.limit(), 63);
+    assert_eq!(rt; gdt.try_append(segment), None);
+    assert_eq!(rt; gdt.try_append(user_code32), None);
+    let mut cpu = Cpu::new();
+    gdt.load(&mut cpu, VirtAddr::new(0x5000));
+    assert_eq!(rt; cpu.gdtr.to_bytes(), [63, 0, 0, 0x50, 0, 0, 0, 0, 0, 0]);
+    let raw = [0, 0x00af_9b00_0000_ffff, 0x00cf_9300_0000_ffff];
+    let given = GlobalDescriptorTable::<3>::from_raw_entries(&raw);
+    let words = given.entries();
+    assert_eq!(rt; words.len(), 3);
+    assert_eq!(rt; words[1].raw(), 0x00af_9b00_0000_ffff);
+    given.load_unsafe(&mut cpu, VirtAddr::new(0x6000));
+    assert_eq!(rt; cpu.gdtr.limit, 23);
+    assert_eq!(rt; GlobalDescriptorTable::<8>::default().limit(), 7);
+    Ok(())
+}
+
+#[test]
+fn a_task_state_segment(rt: HostRuntime) {
+    let mut tss = TaskStateSegment::default();
+    let bytes = tss.to_bytes();
+    assert_eq!(rt; bytes.len(), 0x68);
+    assert_eq!(rt; &bytes[102..], [0x68, 0].as_slice());
+    match Descriptor::tss_segment(VirtAddr::new(0x1000), &tss) {
+        Descriptor::SystemSegment(low, high) => {
+            assert_eq!(rt; low, 0x0000_8900_1000_0067);
+            assert_eq!(rt; high, 0);
+        }
+        Descriptor::UserSegment(_) => assert!(rt; false),
+    }
+    match Descriptor::tss_segment(VirtAddr::new(0xffff_8000_1234_5678), &tss) {
+        Descriptor::SystemSegment(low, high) => {
+            assert_eq!(rt; low, 0x1200_8934_5678_0067);
+            assert_eq!(rt; high, 0xffff_8000);
+        }
+        Descriptor::UserSegment(_) => assert!(rt; false),
+    }
+    tss.privilege_stack_table[0] = VirtAddr::new(0x1122_3344_5566);
+    tss.interrupt_stack_table[6] = VirtAddr::new(0xffff_8000_0000_0001);
+    tss.iomap_base = 0x1234;
+    let bytes = tss.to_bytes();
+    assert_eq!(rt;
+        &bytes[..12],
+        [0, 0, 0, 0, 0x66, 0x55, 0x44, 0x33, 0x22, 0x11, 0, 0].as_slice()
+    );
+    assert_eq!(rt;
+        &bytes[84..92],
+        [1, 0, 0, 0, 0, 0x80, 0xff, 0xff].as_slice()
+    );
+    assert_eq!(rt;
+        &bytes[92..],
+        [0, 0, 0, 0, 0, 0, 0, 0, 0, 0, 0x34, 0x12].as_slice()
+    );
+}
+
+#[test]
+fn maps_of_ports(rt: HostRuntime) -> Result<(), Fail> {
+    let mut tss = TaskStateSegment::new();
+    tss.iomap_base = 0x100;
+    let at = VirtAddr::new(0x1000);
+    let map = [0xff, 0, 0x80, 0xff];
+    match Descriptor::tss_segment_with_iomap(at, &tss, VirtAddr::new(0x1100), &map) {
+        Ok(Descriptor::SystemSegment(low, _)) => assert_eq!(rt; low, 0x0000_8900_1000_0103),
+        _ => assert!(rt; false),
+    }
+    let long = [0xff; 8194];
+    let rows: [(u64, &[u8], InvalidIoMap, &str); 6] = [
+        (
+            0,
+            &long,
+            InvalidIoMap::TooLong { len: 8194 },
+            "The IO permissions bitmap exceeds the maximum length (8194 > 8193)",
+        ),
+        (
+            0xfff,
+            &map[..3],
+            InvalidIoMap::IoMapBeforeTss,
+            "the IO permissions bitmap is before the TSS",
+        ),
+        (
+            0xf000,
+            &map[..3],
+            InvalidIoMap::TooFarFromTss { distance: 0xe000 },
+            "the IO permissions bitmap is too far from the TSS (distance 57344)",
+        ),
+        (
+            0xefff,
+            &map[..3],
+            InvalidIoMap::InvalidTerminatingByte { byte: 0x80 },
+            "The final byte of the IO permissions bitmap was not 0xff (128",
+        ),
+        (
+            0xefff,
+            &map,
+            InvalidIoMap::InvalidBase {
+                expected: 0xdfff,
+                got: 0x100,
+            },
+            "the `iomap_base` in the `TaskStateSegment` struct was not what was expected (expected 57343, got 256)",
+        ),
+        (
+            0x10ff,
+            &map[..0],
+            InvalidIoMap::InvalidBase {
+                expected: 0xff,
+                got: 0x100,
+            },
+            "the `iomap_base` in the `TaskStateSegment` struct was not what was expected (expected 255, got 256)",
+        ),
+    ];
+    for (iomap_at, iomap, wanted, text) in rows {
+        let iomap_at = VirtAddr::new_truncate(iomap_at);
+        match Descriptor::tss_segment_with_iomap(at, &tss, iomap_at, iomap) {
+            Err(error) => {
+                assert_eq!(rt; error, wanted);
+                let shown = format!(in rt.alloc(); "{error}")?;
+                assert_eq!(rt; shown.as_str(), text);
+            }
+            Ok(_) => assert!(rt; false, "{text}"),
+        }
+    }
+    Ok(())
+}
+
+#[test]
+fn a_gate_and_its_options(rt: HostRuntime) {
+    let mut cpu = Cpu::new();
+    cpu.cs = 8;
+    let mut entry = Entry::<PageFaultHandlerFunc>::missing();
+    assert_eq!(rt;
+        entry.to_bytes(),
+        [0, 0, 0, 0, 0, 0x0e, 0, 0, 0, 0, 0, 0, 0, 0, 0, 0]
+    );
+    let handler = VirtAddr::new(0xffff_8000_1234_5678);
+    entry.set_handler_addr(&cpu, handler);
+    assert_eq!(rt;
+        entry.to_bytes(),
+        [
+            0x78, 0x56, 0x08, 0x00, 0x00, 0x8e, 0x34, 0x12, 0x00, 0x80, 0xff, 0xff, 0, 0, 0, 0
+        ]
+    );
+    assert_eq!(rt; entry.handler_addr(), handler);
+    assert_eq!(rt; entry.options().stack_index(), None);
+    entry
+        .set_handler_addr(&cpu, handler)
+        .set_code_selector(SegmentSelector(0x33))
+        .set_privilege_level(PrivilegeLevel::Ring3)
+        .set_stack_index(6)
+        .disable_interrupts(false)
+        .set_present(false);
+    assert_eq!(rt;
+        entry.to_bytes(),
+        [
+            0x78, 0x56, 0x33, 0x00, 0x07, 0x6f, 0x34, 0x12, 0x00, 0x80, 0xff, 0xff, 0, 0, 0, 0
+        ]
+    );
+    let options = entry.options();
+    assert_eq!(rt; options.code_selector(), SegmentSelector(0x33));
+    assert_eq!(rt; options.privilege_level(), PrivilegeLevel::Ring3);
+    assert_eq!(rt; options.stack_index(), Some(6));
+    assert!(rt; !options.present() && entry == entry);
+}
+
+#[test]
+fn a_table_of_gates(rt: HostRuntime) -> Result<(), Fail> {
+    assert_eq!(rt; size_of::<Entry<HandlerFunc>>(), 16);
+    assert_eq!(rt; size_of::<InterruptDescriptorTable>(), 256 * 16);
+    let mut cpu = Cpu::new();
+    let handler = VirtAddr::new(0x4000);
+    let mut idt = InterruptDescriptorTable::default();
+    for vector in 0..=255u8 {
+        let none = matches!(vector, 8 | 10..=15 | 17 | 18 | 21..=27 | 29..=31);
+        assert_eq!(rt; idt.entry(vector).is_none(), none, "{vector}");
+        assert_eq!(rt; idt.entry_mut(vector).is_none(), none, "{vector}");
+    }
+    idt.double_fault
+        .set_handler_addr(&cpu, handler)
+        .set_stack_index(0);
+    assert_eq!(rt; idt.double_fault.options().stack_index(), Some(0));
+    if let Some(entry) = idt.entry_mut(3) {
+        entry.set_handler_addr(&cpu, handler);
+    }
+    assert!(rt; idt.breakpoint.options().present());
+    idt.load(&mut cpu, VirtAddr::new(0x7000));
+    assert_eq!(rt;
+        cpu.idtr.to_bytes(),
+        [0xff, 0x0f, 0, 0x70, 0, 0, 0, 0, 0, 0]
+    );
+    idt.load_unsafe(&mut cpu, VirtAddr::new(0x8000));
+    assert_eq!(rt; cpu.idtr.limit, 4095);
+    Ok(())
+}
+
+#[test]
+fn slices_of_gates(rt: HostRuntime) {
+    let cpu = Cpu::new();
+    let mut idt = InterruptDescriptorTable::new();
+    let rows = [
+        (32, 256, Some(224)),
+        (32, 64, Some(32)),
+        (256, 256, Some(0)),
+        (31, 64, None),
+        (32, 257, None),
+        (65, 64, None),
+    ];
+    for (lower, upper, wanted) in rows {
+        assert_eq!(rt; idt.slice(lower, upper).map(|part| part.len()), wanted);
+        assert_eq!(rt; idt.slice_mut(lower, upper).map(|part| part.len()), wanted);
+    }
+    for entry in idt.interrupts_mut(32, 64) {
+        entry.set_handler_addr(&cpu, VirtAddr::new(0x4000));
+    }
+    assert_eq!(rt; present(&idt, 63), Some(true));
+    assert_eq!(rt; present(&idt, 64), Some(false));
+}
+
+#[test]
+fn a_table_is_copied_and_reset(rt: HostRuntime) -> Result<(), Fail> {
+    let mut idt = InterruptDescriptorTable::new();
+    idt.breakpoint
+        .set_handler_addr(&Cpu::new(), VirtAddr::new(0x4000));
+    let copy = idt.clone()?;
+    idt.reset();
+    for (table, wanted) in [(copy, Some(true)), (idt, Some(false))] {
+        assert_eq!(rt; present(&table, 3), wanted);
+    }
+    Ok(())
+}
+
+fn present(idt: &InterruptDescriptorTable, vector: u8) -> Option<bool> {
+    idt.entry(vector).map(|entry| entry.options().present())
+}
+
+#[test]
+fn error_codes(rt: HostRuntime) -> Result<(), Fail> {
+    let code = SelectorErrorCode::new(0x1b).ok_or("0x1b")?;
+    assert!(rt; code.external() && !code.is_null());
+    assert_eq!(rt; code.descriptor_table(), DescriptorTable::Idt);
+    assert_eq!(rt; code.index(), 3);
+    assert_eq!(rt; SelectorErrorCode::new(0x10000), None);
+    let tables = [
+        (0xfff8, DescriptorTable::Gdt),
+        (0xfffa, DescriptorTable::Idt),
+        (0xfffc, DescriptorTable::Ldt),
+        (0xfffe, DescriptorTable::Idt),
+    ];
+    for (value, table) in tables {
+        let code = SelectorErrorCode::new_truncate(0xabcd_0000 + value);
+        assert_eq!(rt; code.descriptor_table(), table);
+        assert_eq!(rt; code.index(), 0x1fff);
+        assert!(rt; !code.external());
+    }
+    assert!(rt; SelectorErrorCode::new_truncate(0x10000).is_null());
+    assert_eq!(rt; PageFaultErrorCode::all().bits(), 0x8000_80ff);
+    let write = PageFaultErrorCode::CAUSED_BY_WRITE | PageFaultErrorCode::USER_MODE;
+    assert_eq!(rt; write.bits(), 6);
+    Ok(())
+}
+
+#[test]
+fn vectors_and_their_error(rt: HostRuntime) -> Result<(), Fail> {
+    assert_eq!(rt; ExceptionVector::try_from(0x0e)?, ExceptionVector::Page);
+    assert_eq!(rt; ExceptionVector::Security as u8, 0x1e);
+    match ExceptionVector::try_from(9) {
+        Err(error) => {
+            assert_eq!(rt; error, InvalidExceptionVectorNumber(9));
+            let text = format!(in rt.alloc(); "{error}")?;
+            assert_eq!(rt; text.as_str(), "9 is not a valid exception vector");
+        }
+        Ok(_) => assert!(rt; false),
+    }
+    Ok(())
+}
+
+#[test]
+fn a_frame_is_changed(rt: HostRuntime) {
+    assert_eq!(rt; size_of::<InterruptStackFrame>(), 40);
+    assert_eq!(rt; size_of::<InterruptStackFrameValue>(), 40);
+    let mut frame = InterruptStackFrame::new(
+        VirtAddr::new(0x1000),
+        SegmentSelector(8),
+        RFlags::INTERRUPT_FLAG,
+        VirtAddr::new(0x2000),
+        SegmentSelector(0x10),
+    );
+    frame.as_mut().instruction_pointer = VirtAddr::new(0x1002);
+    assert_eq!(rt; frame.value().instruction_pointer, VirtAddr::new(0x1002));
+    assert_eq!(rt; frame.value().stack_segment, SegmentSelector(0x10));
+}
+
+#[test]
+fn encryption_of_a_page(rt: HostRuntime) {
+    let encrypted = enable_memory_encryption(MemoryEncryptionConfiguration::EncryptedBit(47));
+    assert_eq!(rt; encrypted.mask, 0x8000_0000_0000);
+    assert_eq!(rt; encrypted.address_mask, 0x000f_7fff_ffff_f000);
+    let shared = enable_memory_encryption(MemoryEncryptionConfiguration::SharedBit(51));
+    let mut flags = PageTableFlags::PRESENT;
+    assert!(rt; !encrypted.is_encrypted(&flags) && shared.is_encrypted(&flags));
+    encrypted.set_encrypted(&mut flags, true);
+    shared.set_encrypted(&mut flags, false);
+    assert_eq!(rt; flags.bits(), 0x0008_8000_0000_0001);
+    assert!(rt; encrypted.is_encrypted(&flags) && !shared.is_encrypted(&flags));
+    assert!(rt; !EncryptionBits::none().is_encrypted(&flags));
+    assert_eq!(rt; EncryptionBits::none().address_mask, 0x000f_ffff_ffff_f000);
+}
