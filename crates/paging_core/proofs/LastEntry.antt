@@ -44,7 +44,7 @@ page_bits n lt rights = go rights.write rights.user rights.fetch
     go false false true = record { names = omega arith; present = grind (arith, nat_tests); writable = grind (arith, nat_tests); usable = grind (arith, nat_tests); executable = grind (arith, nat_tests) }
     go false false false = record { names = omega arith; present = grind (arith, nat_tests); writable = grind (arith, nat_tests); usable = grind (arith, nat_tests); executable = grind (arith, nat_tests) }
 
-step_page : (words : List ℕ) (level t j frame : ℕ) (rights : Rights) → frame < 2 ^ 40 → frame < frame_count words →
+pub step_page : (words : List ℕ) (level t j frame : ℕ) (rights : Rights) → frame < 2 ^ 40 → frame < frame_count words →
     word_at words t j ≡ page_entry frame rights → step words level (top t) j ≡ Some (granted frame rights)
 unfolding step
 step_page words level t j frame rights small within e =

@@ -11,8 +11,13 @@ pub mod Made
 pub mod Prepare
 pub mod Counts
 pub mod LastEntry
+pub mod Given
 pub mod Reached
 pub mod Ranges
+pub mod PageWritten
+pub mod PageChanged
+pub mod RangeChanged
+pub mod Freed
 pub mod NewPage
 pub mod RangeAdded
 pub mod Roots

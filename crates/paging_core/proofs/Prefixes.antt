@@ -37,7 +37,7 @@ pub walk_reach : (words : List ℕ) (root page : ℕ) → walk_of words root pag
 unfolding walk_of
 walk_reach words root page = let e : page % 2 ^ 36 ≡ prefix_of page 4 = omega arith in ap (reach words root 4) e
 
-none_more : (words : List ℕ) (root page level : ℕ) → level < 4 → reach words root level (prefix_of page level) ≡ None →
+pub none_more : (words : List ℕ) (root page level : ℕ) → level < 4 → reach words root level (prefix_of page level) ≡ None →
     reach words root (level + 1) (prefix_of page (level + 1)) ≡ None
 none_more words root page level lt e = reach_prefix words root page level lt ∙ ap (λ o. next_from words level o (prefix_of page (level + 1) % 512)) e
 

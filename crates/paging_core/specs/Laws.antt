@@ -1,10 +1,10 @@
 -- What the walk and the tree rule mean: laws above the definitions.
-use Rattle.std.specs.Prelude.{◌≡◌, ℕ, ◌+◌, ◌*◌, ◌/◌, ◌%◌, ◌^◌, ◌<◌, ◌↔◌, Bool, false, IsTrue, List, Some, Contains}
+use Rattle.std.specs.Prelude.{◌≡◌, ℕ, ◌+◌, ◌*◌, ◌/◌, ◌%◌, ◌^◌, ◌<◌, ◌≤◌, ◌↔◌, Bool, false, IsTrue, List, Some, Contains}
 use Rattle.paging_core.specs.Address.{IsCanonicalRange, is_canonical}
 use Rattle.paging_core.specs.Prefix.{prefix_of, prefixes_of}
 use Rattle.paging_core.specs.Steps.{position, pages_before}
-use Rattle.paging_core.specs.Pool.{is_free}
-use Rattle.paging_core.specs.Walk.{Place, step, next_from, walk_of, top}
+use Rattle.paging_core.specs.Pool.{is_free, IsFrameGiven}
+use Rattle.paging_core.specs.Walk.{Place, step, next_from, reach, walk_of, top}
 use Rattle.paging_core.specs.Tree.{IsTree}
 use Rattle.paging_core.specs.Mapping.{IsPageAdded}
 use Rattle.paging_core.specs.declared.page_table.Rights.{Rights}
@@ -50,3 +50,9 @@ MappingCommutes =
 abbrev pub PlacesCountPages : Type 0
 PlacesCountPages =
     (size number : ℕ) → 0 < size → 2 ^ 47 % size ≡ 0 → IsTrue (is_canonical (number * size)) → position size number ≡ pages_before size number
+
+-- A frame that no walk meets may be given back.
+abbrev pub GivingKeepsTheTree : Type 0
+GivingKeepsTheTree =
+    (words : List ℕ) (root : ℕ) (free free' : List Bool) (frame : ℕ) → IsTree words root free → IsFrameGiven free free' frame →
+    ((level number : ℕ) (met : Place) → level ≤ 4 → reach words root level number ≡ Some met → met.frame ≡ frame → ⊥) → IsTree words root free'

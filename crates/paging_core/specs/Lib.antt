@@ -12,4 +12,5 @@ pub mod Tree
 pub mod Tables
 pub mod Missing
 pub mod Mapping
+pub mod PageChanges
 pub mod Laws

@@ -19,3 +19,11 @@ IsFrameTaken free free' (Some frame) = (is_free free frame ≡ true) × (free' �
 -- the frames that were taken are the lowest that were free
 abbrev pub AreLowestTaken : List Bool → List Bool → Type 0
 AreLowestTaken free free' = (f g : ℕ) → is_free free f ≡ true → is_free free' f ≡ false → is_free free' g ≡ true → f < g
+
+-- a frame was handed out
+abbrev pub IsOut : List Bool → ℕ → Type 0
+IsOut free frame = slice_index_or free frame true ≡ false
+
+-- it is free again, and every other flag stays
+abbrev pub IsFrameGiven : List Bool → List Bool → ℕ → Type 0
+IsFrameGiven free free' frame = free' ≡ set free frame true

@@ -15,3 +15,7 @@ pub record IsTree (words : List ℕ) (root : ℕ) (free : List Bool) : Type 0 wh
   -- no frame that is met is free
   pub used :
       (level number : ℕ) (met : Place) → level ≤ 4 → reach words root level number ≡ Some met → is_free free met.frame ≡ false
+
+-- the tables are a tree beside some free frames
+abbrev pub HasTree : List ℕ → ℕ → Type 0
+HasTree words root = (free : List Bool) × IsTree words root free

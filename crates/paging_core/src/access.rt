@@ -1,12 +1,12 @@
-ghost use Rattle.std.specs.Prelude.{◌≡◌, ℕ, ◌+◌, ◌*◌, ◌/◌, ◌%◌, ◌^◌, ◌<◌, ◌≤◌, IsSome, IfSome, Some, length, List, Bool, set, IsTrue};
+ghost use Rattle.std.specs.Prelude.{◌≡◌, ℕ, ◌+◌, ◌-◌, ◌*◌, ◌/◌, ◌%◌, ◌^◌, ◌<◌, ◌≤◌, IsSome, IfSome, Some, length, List, Bool, set, IsTrue, slice_index};
 ghost use Rattle.paging_core.specs.Address.{is_canonical};
-ghost use Rattle.paging_core.specs.Memory.{frame_count, word_at, byte_of};
+ghost use Rattle.paging_core.specs.Memory.{frame_count, word_at, byte_of, IsFrameCopied, AreWordsWritten, AreWordsOf};
 ghost use Rattle.paging_core.specs.Walk.{reach, walk_of, reached};
 ghost use Rattle.paging_core.specs.Tree.{IsTree};
 
 use crate::addr::VirtAddr;
 use crate::memory::Frames;
-use crate::page_walk::walk;
+use crate::page_walk::{LastEntry, last_entry, walk};
 use crate::pages::Page;
 use crate::phys_frames::PhysFrame;
 
@@ -56,4 +56,59 @@ pub fn store_word(frames: &mut Frames, root: PhysFrame, address: VirtAddr, value
         unreachable!()
     };
     frames.set_word(page.frame, word_index(address), value);
+}
+
+/// Reads the words of the page from `index` on, by one walk.
+///
+/// The page is mapped, and has as many.
+pub fn load_words(frames: &Frames, root: PhysFrame, page: Page, index: u16, words: &mut [u64])
+    requires root { root < frame_count frames.now }
+    requires mapped { IsSome (walk_of frames.now root page) }
+    requires fits { index + length words.old ≤ 512 }
+    ensures words { IfSome (walk_of frames.now root page) (λ place. AreWordsOf frames.now place.frame index words.new) }
+    ensures length { length words.new ≡ length words.old }
+    ensures bytes { (address : ℕ) → address / 4096 ≡ page → index ≤ address % 4096 / 8 → address % 4096 / 8 < index + length words.new →
+        reached frames.now root address ≡ Some (byte_of (slice_index words.new (address % 4096 / 8 - index)) (address % 8)) }
+{
+    let LastEntry { frame, .. } = last_entry(frames, root, page);
+    frames.read_words(frame, index, words);
+}
+
+/// Writes the words to the page, from `index` on, by one walk.
+///
+/// The page is mapped, and has as many.
+pub fn store_words(frames: &mut Frames, root: PhysFrame, page: Page, index: u16, words: &[u64])
+    requires root { root < frame_count frames.old }
+    requires mapped { IsSome (walk_of frames.old root page) }
+    requires fits { index + length words.now ≤ 512 }
+    ensures words { IfSome (walk_of frames.old root page) (λ place. AreWordsWritten frames.old frames.new place.frame index words.now) }
+    ensures size { length frames.new ≡ length frames.old }
+    ensures walks { (free : List Bool) → IsTree frames.old root free → (level number : ℕ) → level ≤ 4 → reach frames.new root level number ≡ reach frames.old root level number }
+    ensures tree { (free : List Bool) → IsTree frames.old root free → IsTree frames.new root free }
+    ensures bytes { (free : List Bool) → IsTree frames.old root free → (address : ℕ) → address / 4096 ≡ page → index ≤ address % 4096 / 8 → address % 4096 / 8 < index + length words.now →
+        reached frames.new root address ≡ Some (byte_of (slice_index words.now (address % 4096 / 8 - index)) (address % 8)) }
+    ensures others { (free : List Bool) → IsTree frames.old root free → (address : ℕ) → IsTrue (is_canonical address) →
+        (address / 4096 ≡ page → index ≤ address % 4096 / 8 → address % 4096 / 8 < index + length words.now → ⊥) → reached frames.new root address ≡ reached frames.old root address }
+{
+    let LastEntry { frame, .. } = last_entry(frames, root, page);
+    frames.write_words(frame, index, words);
+}
+
+/// Copies the bytes of one page to another.
+///
+/// Both are mapped.
+pub fn copy_page(frames: &mut Frames, root: PhysFrame, from: Page, to: Page)
+    requires root { root < frame_count frames.old }
+    requires source { IsSome (walk_of frames.old root from) }
+    requires target { IsSome (walk_of frames.old root to) }
+    ensures words { IfSome (walk_of frames.old root from) (λ source. IfSome (walk_of frames.old root to) (λ target. IsFrameCopied frames.old frames.new source.frame target.frame)) }
+    ensures size { length frames.new ≡ length frames.old }
+    ensures walks { (free : List Bool) → IsTree frames.old root free → (level number : ℕ) → level ≤ 4 → reach frames.new root level number ≡ reach frames.old root level number }
+    ensures tree { (free : List Bool) → IsTree frames.old root free → IsTree frames.new root free }
+    ensures bytes { (free : List Bool) → IsTree frames.old root free → (k : ℕ) → k < 4096 → reached frames.new root (4096 * to + k) ≡ reached frames.old root (4096 * from + k) }
+    ensures others { (free : List Bool) → IsTree frames.old root free → (address : ℕ) → IsTrue (is_canonical address) → (address / 4096 ≡ to → ⊥) → reached frames.new root address ≡ reached frames.old root address }
+{
+    let source = last_entry(frames, root, from);
+    let target = last_entry(frames, root, to);
+    frames.copy_frame(source.frame, target.frame);
 }

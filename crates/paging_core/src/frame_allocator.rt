@@ -13,3 +13,29 @@ pub trait FrameAllocator<S: PageSize> {
     fn allocate_frame(&mut self) -> Option<PhysFrame<S>>
         ensures { IsFrameTaken (free self.old) (free self.new) result };
 }
+
+/// What takes frames of a size back.
+pub trait FrameDeallocator<S: PageSize> {
+    ghost use Rattle.std.specs.Prelude.{ℕ};
+
+    /// The frame was handed out.
+    ghost is_out: { Self → ℕ → Type 0 };
+
+    /// The frame is free again, and all else is as before.
+    ghost given: { Self → ℕ → Self → Type 0 };
+
+    /// The frame with this number is free again. It is out.
+    fn deallocate_number(&mut self, number: u64)
+        requires { is_out self.old number }
+        ensures { given self.old number self.new };
+
+    /// The frame is free again.
+    ///
+    /// It is out.
+    final fn deallocate_frame(&mut self, frame: PhysFrame<S>)
+        requires { is_out self.old frame }
+        ensures { given self.old frame self.new }
+    {
+        self.deallocate_number(frame.number());
+    }
+}

@@ -1,7 +1,7 @@
 //! Laws above the definitions of the walk and of the tree rule. Each function does nothing: its contract
 //! is the law.
 
-ghost use Rattle.paging_core.specs.Laws.{WalkTakesFourSteps, PrefixesAreOfPages, OnePageForAFrame, NoPageAtAFreeFrame, MappingCommutes, PlacesCountPages};
+ghost use Rattle.paging_core.specs.Laws.{WalkTakesFourSteps, PrefixesAreOfPages, OnePageForAFrame, NoPageAtAFreeFrame, MappingCommutes, PlacesCountPages, GivingKeepsTheTree};
 
 /// The walk of a page takes four steps from the root, by the page's four indices.
 pub fn walk_takes_four_steps()
@@ -31,4 +31,9 @@ pub fn mapping_commutes()
 /// The place of a page in the order of addresses is the count of the pages below it.
 pub fn places_count_pages()
     ensures { PlacesCountPages }
+{}
+
+/// Under the tree rule a frame that no walk meets may be given back.
+pub fn giving_keeps_the_tree()
+    ensures { GivingKeepsTheTree }
 {}

@@ -1,7 +1,7 @@
 //! Four-level page tables in a modelled physical memory: addresses, pages, frames, a pool of frames,
-//! the walk, and the calls that map pages.
+//! the walk, and the calls that map pages, unmap them and change their rights.
 //!
-//! What a walk finds is defined over the raw words of the memory. Each call that maps keeps the tables
+//! What a walk finds is defined over the raw words of the memory. Each of these calls keeps the tables
 //! a tree: no frame is met twice on walks, and no free frame is met.
 #![tactic(auto)]
 
@@ -9,6 +9,8 @@ pub mod access;
 pub mod addr;
 pub mod bit_field;
 pub mod frame_allocator;
+#[cfg(test)]
+mod key_tests;
 pub mod laws;
 pub mod mapping;
 pub mod memory;
@@ -19,15 +21,17 @@ pub mod page_walk;
 pub mod pages;
 pub mod phys_frames;
 pub mod pool;
+pub mod protecting;
 mod range;
 mod tables;
 #[cfg(test)]
 mod tests;
+pub mod unmapping;
 
-pub use access::{load_word, store_word};
+pub use access::{copy_page, load_word, load_words, store_word, store_words};
 pub use addr::{PhysAddr, PhysAddrNotValid, VirtAddr, VirtAddrNotValid, align_down, align_up};
 pub use bit_field::{get_bits, set_bits};
-pub use frame_allocator::FrameAllocator;
+pub use frame_allocator::{FrameAllocator, FrameDeallocator};
 pub use mapping::map_page;
 pub use memory::Frames;
 pub use missing::missing_tables;
@@ -40,5 +44,7 @@ pub use pages::{
 };
 pub use phys_frames::{PhysFrame, PhysFrameRange, PhysFrameRangeInclusive};
 pub use pool::FramePool;
+pub use protecting::{protect_page, protect_range};
 pub use range::map_range;
 pub use tables::make_root;
+pub use unmapping::{unmap_page, unmap_range};

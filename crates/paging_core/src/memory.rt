@@ -1,5 +1,5 @@
 ghost use Rattle.std.specs.Prelude.{◌≡◌, ℕ, ◌+◌, ◌*◌, ◌/◌, ◌^◌, ◌<◌, ◌≤◌, IfOk, length, replicate, List, set};
-ghost use Rattle.paging_core.specs.Memory.{word_at, frame_count, cleared};
+ghost use Rattle.paging_core.specs.Memory.{word_at, frame_count, cleared, IsFrameCopied, AreWordsWritten, AreWordsOf};
 
 use crate::phys_frames::PhysFrame;
 use std::alloc::{AllocError, Global};
@@ -63,5 +63,41 @@ impl Frames {
     {
         let base = 512 * frame.number() as usize;
         self.words[base..base + 512].copy_from_slice(&[0; 512]);
+    }
+
+    /// Copies the words of one frame to another.
+    pub fn copy_frame(&mut self, from: PhysFrame, to: PhysFrame)
+        requires from { from < frame_count self.old }
+        requires to { to < frame_count self.old }
+        ensures { IsFrameCopied self.old self.new from to }
+    {
+        let source = 512 * from.number() as usize;
+        let target = 512 * to.number() as usize;
+        self.words.copy_within(source..source + 512, target);
+    }
+
+    /// Reads the words of the frame from `index` on.
+    ///
+    /// The frame has as many.
+    pub fn read_words(&self, frame: PhysFrame, index: u16, words: &mut [u64])
+        requires frame { frame < frame_count self.now }
+        requires fits { index + length words.old ≤ 512 }
+        ensures read { AreWordsOf self.now frame index words.new }
+        ensures length { length words.new ≡ length words.old }
+    {
+        let base = 512 * frame.number() as usize + index as usize;
+        words.copy_from_slice(&self.words[base..base + words.len()]);
+    }
+
+    /// Writes the words to the frame, from `index` on.
+    ///
+    /// The frame has as many.
+    pub fn write_words(&mut self, frame: PhysFrame, index: u16, words: &[u64])
+        requires frame { frame < frame_count self.old }
+        requires fits { index + length words.now ≤ 512 }
+        ensures { AreWordsWritten self.old self.new frame index words.now }
+    {
+        let base = 512 * frame.number() as usize + index as usize;
+        self.words[base..base + words.len()].copy_from_slice(words);
     }
 }

@@ -1,9 +1,16 @@
-ghost use Rattle.std.specs.Prelude.{◌≡◌, ⊤};
+ghost use Rattle.std.specs.Prelude.{◌≡◌, ⊤, [], ◌∷◌, codes};
 ghost use Rattle.std.specs.Int.RustNames.{bit_or};
 ghost use Rattle.paging_core.specs.PageTableFlags.{page_table_bits, page_table_flags};
 
 use bitflags::{Flag, Flags};
 use std::ops::BitOr;
+
+// Each constant of these names as a row of its name and its value.
+macro_rules! flag_rows {
+    ($($name:ident),* $(,)?) => {
+        &[$(Flag { name: stringify!($name), value: Self::$name },)*]
+    };
+}
 
 /// The flags of a page table entry: all its bits but those of the address field.
 ///
@@ -84,104 +91,62 @@ impl PageTableFlags {
     /// Instruction fetches are denied.
     pub const NO_EXECUTE: Self = Self(1 << 63);
 
-    const FLAGS: &'static [Flag<Self>] = &[
-        Flag {
-            name: "PRESENT",
-            value: Self::PRESENT,
-        },
-        Flag {
-            name: "WRITABLE",
-            value: Self::WRITABLE,
-        },
-        Flag {
-            name: "USER_ACCESSIBLE",
-            value: Self::USER_ACCESSIBLE,
-        },
-        Flag {
-            name: "WRITE_THROUGH",
-            value: Self::WRITE_THROUGH,
-        },
-        Flag {
-            name: "NO_CACHE",
-            value: Self::NO_CACHE,
-        },
-        Flag {
-            name: "ACCESSED",
-            value: Self::ACCESSED,
-        },
-        Flag {
-            name: "DIRTY",
-            value: Self::DIRTY,
-        },
-        Flag {
-            name: "HUGE_PAGE",
-            value: Self::HUGE_PAGE,
-        },
-        Flag {
-            name: "GLOBAL",
-            value: Self::GLOBAL,
-        },
-        Flag {
-            name: "BIT_9",
-            value: Self::BIT_9,
-        },
-        Flag {
-            name: "BIT_10",
-            value: Self::BIT_10,
-        },
-        Flag {
-            name: "BIT_11",
-            value: Self::BIT_11,
-        },
-        Flag {
-            name: "BIT_52",
-            value: Self::BIT_52,
-        },
-        Flag {
-            name: "BIT_53",
-            value: Self::BIT_53,
-        },
-        Flag {
-            name: "BIT_54",
-            value: Self::BIT_54,
-        },
-        Flag {
-            name: "BIT_55",
-            value: Self::BIT_55,
-        },
-        Flag {
-            name: "BIT_56",
-            value: Self::BIT_56,
-        },
-        Flag {
-            name: "BIT_57",
-            value: Self::BIT_57,
-        },
-        Flag {
-            name: "BIT_58",
-            value: Self::BIT_58,
-        },
-        Flag {
-            name: "BIT_59",
-            value: Self::BIT_59,
-        },
-        Flag {
-            name: "BIT_60",
-            value: Self::BIT_60,
-        },
-        Flag {
-            name: "BIT_61",
-            value: Self::BIT_61,
-        },
-        Flag {
-            name: "BIT_62",
-            value: Self::BIT_62,
-        },
-        Flag {
-            name: "NO_EXECUTE",
-            value: Self::NO_EXECUTE,
-        },
+    const FLAGS: &'static [Flag<Self>] = flag_rows![
+        PRESENT,
+        WRITABLE,
+        USER_ACCESSIBLE,
+        WRITE_THROUGH,
+        NO_CACHE,
+        ACCESSED,
+        DIRTY,
+        HUGE_PAGE,
+        GLOBAL,
+        BIT_9,
+        BIT_10,
+        BIT_11,
+        BIT_52,
+        BIT_53,
+        BIT_54,
+        BIT_55,
+        BIT_56,
+        BIT_57,
+        BIT_58,
+        BIT_59,
+        BIT_60,
+        BIT_61,
+        BIT_62,
+        NO_EXECUTE,
     ];
+
+    /// Each name of the table has the bits of the constant of that name.
+    pub fn constants()
+        ensures { page_table_flags
+            ≡ (codes "PRESENT", page_table_bits Self.PRESENT)
+            ∷ (codes "WRITABLE", page_table_bits Self.WRITABLE)
+            ∷ (codes "USER_ACCESSIBLE", page_table_bits Self.USER_ACCESSIBLE)
+            ∷ (codes "WRITE_THROUGH", page_table_bits Self.WRITE_THROUGH)
+            ∷ (codes "NO_CACHE", page_table_bits Self.NO_CACHE)
+            ∷ (codes "ACCESSED", page_table_bits Self.ACCESSED)
+            ∷ (codes "DIRTY", page_table_bits Self.DIRTY)
+            ∷ (codes "HUGE_PAGE", page_table_bits Self.HUGE_PAGE)
+            ∷ (codes "GLOBAL", page_table_bits Self.GLOBAL)
+            ∷ (codes "BIT_9", page_table_bits Self.BIT_9)
+            ∷ (codes "BIT_10", page_table_bits Self.BIT_10)
+            ∷ (codes "BIT_11", page_table_bits Self.BIT_11)
+            ∷ (codes "BIT_52", page_table_bits Self.BIT_52)
+            ∷ (codes "BIT_53", page_table_bits Self.BIT_53)
+            ∷ (codes "BIT_54", page_table_bits Self.BIT_54)
+            ∷ (codes "BIT_55", page_table_bits Self.BIT_55)
+            ∷ (codes "BIT_56", page_table_bits Self.BIT_56)
+            ∷ (codes "BIT_57", page_table_bits Self.BIT_57)
+            ∷ (codes "BIT_58", page_table_bits Self.BIT_58)
+            ∷ (codes "BIT_59", page_table_bits Self.BIT_59)
+            ∷ (codes "BIT_60", page_table_bits Self.BIT_60)
+            ∷ (codes "BIT_61", page_table_bits Self.BIT_61)
+            ∷ (codes "BIT_62", page_table_bits Self.BIT_62)
+            ∷ (codes "NO_EXECUTE", page_table_bits Self.NO_EXECUTE)
+            ∷ [] }
+    {}
 }
 
 impl Flags for PageTableFlags {

@@ -1,8 +1,10 @@
-ghost use Rattle.std.specs.Prelude.{◌≡◌, ℕ, ◌+◌, ◌*◌, ◌/◌, ◌%◌, ◌^◌, ◌<◌, ◌≤◌, IfSome, true};
+ghost use Rattle.std.specs.Prelude.{◌≡◌, ℕ, ◌+◌, ◌*◌, ◌/◌, ◌%◌, ◌^◌, ◌<◌, ◌≤◌, IsSome, IfSome, IsTrue, true};
 ghost use Rattle.std.specs.Option.{option_map};
 ghost use Rattle.paging_core.specs.Memory.{frame_count};
 ghost use Rattle.paging_core.specs.Prefix.{prefix_of};
 ghost use Rattle.paging_core.specs.Walk.{step, reach, walk_of, place_of};
+ghost use Rattle.paging_core.specs.Address.{is_canonical};
+ghost use Rattle.paging_core.specs.PageChanges.{IsLastEntry};
 
 use crate::memory::Frames;
 use crate::page_table::PageTableEntry;
@@ -81,4 +83,37 @@ pub fn walk(frames: &Frames, root: PhysFrame, page: Page) -> Option<Mapped>
     ensures below { IfSome result (λ mapped. mapped.frame < frame_count frames.now) }
 {
     descend(frames, root, page, 4)
+}
+
+/// The entry that maps a page: its table, its index there, and the frame that it names.
+#[derive(Clone, Copy)]
+pub(crate) struct LastEntry {
+    pub(crate) table: PhysFrame,
+    pub(crate) index: u16,
+    pub(crate) frame: PhysFrame,
+}
+
+/// The last entry of the page, which is mapped.
+pub(crate) fn last_entry(frames: &Frames, root: PhysFrame, page: Page) -> LastEntry
+    requires root { root < frame_count frames.now }
+    requires mapped { IsSome (walk_of frames.now root page) }
+    ensures entry { IsLastEntry frames.now root page result.table result.index result.frame }
+    ensures table { result.table < frame_count frames.now }
+    ensures index { result.index < 512 }
+    ensures frame { result.frame < frame_count frames.now }
+    ensures canonical { IsTrue (is_canonical (page * 4096)) }
+{
+    let Some(at) = descend(frames, root, page, 3) else {
+        unreachable!()
+    };
+    let table = at.frame;
+    let index = index_after(page, 3);
+    let Some(met) = next(frames, 3, at, index) else {
+        unreachable!()
+    };
+    LastEntry {
+        table,
+        index,
+        frame: met.frame,
+    }
 }

@@ -5,21 +5,25 @@ ghost use Rattle.paging_core.specs.Steps.{half_pages, gap_pages, position, page_
 
 use crate::addr::VirtAddr;
 use crate::page_table::PageTableIndex;
+use std::hash::Hash;
 use std::marker::{Model, PhantomData};
 use thiserror::Error;
 
-/// The size of pages and frames, in bytes.
-pub trait PageSize: Copy {
+/// The size of pages and frames, in bytes. Sizes compare and hash, so that pages, frames and ranges do at every size.
+pub trait PageSize: Copy + Ord + Hash {
     ghost use Rattle.std.specs.Prelude.{◌≡◌, ℕ, ◌%◌, ◌^◌, ◌<◌};
 
     ghost SIZE: { ℕ };
 
-    /// The size in bytes. A canonical half of the address space is a whole number of pages.
+    /// The size in bytes. It is a multiple of 4096, and a canonical half of the address space is a whole number
+    /// of pages.
     const SIZE: u64;
 
     ghost is_some: { 0 < SIZE };
 
     ghost divides_half: { 2 ^ 47 % SIZE ≡ 0 };
+
+    ghost is_aligned: { SIZE % 4096 ≡ 0 };
 }
 
 /// Pages of 4096 bytes.
@@ -38,6 +42,8 @@ impl PageSize for Size4KiB {
     ghost use Rattle.std.proofs.Common.{refl};
 
     ghost divides_half = { refl };
+
+    ghost is_aligned = { refl };
 }
 
 /// Pages of 2 MiB.
@@ -56,6 +62,8 @@ impl PageSize for Size2MiB {
     ghost use Rattle.std.proofs.Common.{refl};
 
     ghost divides_half = { refl };
+
+    ghost is_aligned = { refl };
 }
 
 /// Pages of 1 GiB.
@@ -74,6 +82,8 @@ impl PageSize for Size1GiB {
     ghost use Rattle.std.proofs.Common.{refl};
 
     ghost divides_half = { refl };
+
+    ghost is_aligned = { refl };
 }
 
 /// The size of pages that a table of level 2 or 1 maps: every size but 1 GiB.

@@ -1,8 +1,8 @@
-ghost use Rattle.std.specs.Prelude.{◌≡◌, ℕ, ◌+◌, ◌*◌, ◌/◌, ◌<◌, ◌≤◌, IfOk, IfSome, MatchOption, replicate, List, Bool, true, false};
-ghost use Rattle.paging_core.specs.Pool.{is_free, free_count, FreeBelow, IsFrameTaken};
+ghost use Rattle.std.specs.Prelude.{◌≡◌, ℕ, ◌+◌, ◌*◌, ◌/◌, ◌<◌, ◌≤◌, ◌^◌, IfOk, IfSome, MatchOption, replicate, List, Bool, true, false, length, set};
+ghost use Rattle.paging_core.specs.Pool.{is_free, free_count, FreeBelow, IsFrameTaken, IsOut, IsFrameGiven};
 
 use crate::addr::PhysAddr;
-use crate::frame_allocator::FrameAllocator;
+use crate::frame_allocator::{FrameAllocator, FrameDeallocator};
 use crate::pages::Size4KiB;
 use crate::phys_frames::PhysFrame;
 use number_set::NumberSet;
@@ -19,6 +19,8 @@ impl Model for FramePool {
     ghost Value = { List Bool };
 
     ghost view = { λ p. p.free };
+
+    ghost invariant = { λ p. length p.free < 2 ^ 32 };
 }
 
 impl FramePool {
@@ -52,5 +54,19 @@ impl FrameAllocator<Size4KiB> for FramePool {
         let number = self.free.lowest()?;
         self.free.remove(number);
         Some(PhysFrame::containing_address(PhysAddr::new(u64::from(number) << 12)))
+    }
+}
+
+impl FrameDeallocator<Size4KiB> for FramePool {
+    ghost is_out = { λ p frame. IsOut p frame };
+
+    ghost given = { λ p frame p'. IsFrameGiven p p' frame };
+
+    fn deallocate_number(&mut self, number: u64)
+        requires out { IsOut self.old number }
+        ensures given { IsFrameGiven self.old self.new number }
+        ensures count { free_count self.new ≡ free_count self.old + 1 }
+    {
+        self.free.insert(number as u32);
     }
 }

@@ -20,6 +20,7 @@ use crate::pool::FramePool;
 pub fn make_root(frames: &mut Frames, pool: &mut FramePool) -> Option<PhysFrame>
     requires { FreeBelow pool.old (frame_count frames.old) }
     ensures taken { IsFrameTaken pool.old pool.new result }
+    ensures flags { length pool.new ≡ length pool.old }
     ensures lowest { IfSome result (λ root. (lower : ℕ) → lower < root → is_free pool.old lower ≡ false) }
     ensures count { MatchOption result (free_count pool.old ≡ 0) (λ _. free_count pool.new + 1 ≡ free_count pool.old) }
     ensures known { FreeBelow pool.new (frame_count frames.new) }

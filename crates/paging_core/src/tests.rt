@@ -1,4 +1,4 @@
-ghost use Rattle.std.specs.Prelude.{◌≡◌, ℕ, ◌+◌, ◌*◌, ◌<◌, ◌≤◌, IfOk, None};
+ghost use Rattle.std.specs.Prelude.{◌≡◌, ℕ, ◌+◌, ◌*◌, ◌<◌, ◌≤◌, IfOk, None, length};
 ghost use Rattle.paging_core.specs.Memory.{frame_count};
 ghost use Rattle.paging_core.specs.Pool.{FreeBelow};
 ghost use Rattle.paging_core.specs.Tree.{IsTree};
@@ -13,6 +13,12 @@ const DATA: Rights = Rights {
     write: true,
     user: false,
     fetch: false,
+};
+
+const CODE: Rights = Rights {
+    write: false,
+    user: true,
+    fetch: true,
 };
 
 #[test]
@@ -71,6 +77,67 @@ fn build(rt: &impl Abort, alloc: Global, count: u32) -> Result<(), Fail> {
 #[test]
 fn pages_are_mapped_in_order(rt: HostRuntime) -> Result<(), Fail> {
     build(&rt, rt.alloc(), 1024)
+}
+
+/// Maps three pages, gives them other rights, and unmaps them. The three tables stay.
+fn change_three(rt: &impl Abort, frames: &mut Frames, pool: &mut FramePool, root: PhysFrame)
+    requires root { root < frame_count frames.old }
+    requires known { FreeBelow pool.old (frame_count frames.old) }
+    requires flags { frame_count frames.old ≤ length pool.old }
+    requires tree { IsTree frames.old root pool.old }
+    requires unmapped { (page : ℕ) → walk_of frames.old root page ≡ None }
+{
+    let free = pool.free_count();
+    let missing = missing_tables(frames, root, 0x400, 3);
+    assert!(rt; missing + 3 <= free);
+    let first = Page::containing_address(VirtAddr::new(0x400000));
+    map_range(frames, pool, root, first, 3, DATA);
+    protect_range(frames, root, first, 3, CODE);
+    for (address, frame) in [(0x400000, 1), (0x401000, 5), (0x402000, 6)] {
+        let found = walk(frames, root, page_at(rt, address));
+        let rights = found.map(|mapped| (
+            mapped.frame.number(),
+            mapped.write,
+            mapped.user,
+            mapped.fetch,
+        ));
+        assert_eq!(rt; rights, Some((frame, false, true, true)));
+    }
+    unmap_range(frames, pool, root, first, 3);
+    assert_eq!(rt; walk(frames, root, first), None);
+    assert_eq!(rt; missing_tables(frames, root, 0x400, 3), 0);
+    assert_eq!(rt; free - pool.free_count(), 3);
+}
+
+#[test]
+fn pages_get_rights_and_leave(rt: HostRuntime) -> Result<(), Fail> {
+    let mut frames = Frames::new(rt.alloc(), 64)?;
+    let mut pool = FramePool::new(rt.alloc(), 64)?;
+    let Some(root) = make_root(&mut frames, &mut pool) else {
+        return Err(Fail::from("no root"));
+    };
+    change_three(&rt, &mut frames, &mut pool, root);
+    Ok(())
+}
+
+/// Gives a frame back that was handed out.
+fn give_back<D: FrameDeallocator<Size4KiB>>(frames: &mut D, frame: PhysFrame)
+    requires { D.is_out frames.old frame }
+    ensures { D.given frames.old frame frames.new }
+{
+    frames.deallocate_frame(frame);
+}
+
+#[test]
+fn frames_come_back(rt: HostRuntime) -> Result<(), Fail> {
+    let mut pool = FramePool::new(rt.alloc(), 4)?;
+    let Some(frame) = pool.allocate_frame() else {
+        return Err(Fail::from("no frame"));
+    };
+    assert_eq!(rt; pool.free_count(), 3);
+    give_back(&mut pool, frame);
+    assert_eq!(rt; pool.free_count(), 4);
+    Ok(())
 }
 
 /// The page of the size that begins at the address.

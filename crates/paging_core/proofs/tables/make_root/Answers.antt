@@ -1,4 +1,4 @@
-use Rattle.std.proofs.Common.{arith}
+use Rattle.std.proofs.Common.{arith, ap, ◌∙◌, length, length-set, false}
 use Rattle.paging_core.proofs.FreshFrame.{fresh_in, fresh_size, fresh_known, fresh_zero, fresh_used}
 use Rattle.paging_core.proofs.Roots.{tree_start, none_past, nothing_mapped}
 use Rattle.paging_core.proofs.tables.make_root.Goals as goal
@@ -32,3 +32,6 @@ pub returns-clause-unmapped : goal.returns-clause-unmapped
 returns-clause-unmapped c =
     nothing_mapped c.clear_frame.new.self c.in_ok-root.root
     (fresh_zero c.args.frames.now c.clear_frame.new.self c.args.pool.now c.allocate_frame.new.self c.in_ok-root.root c.requires c.in_ok-root.ensures.taken.0 c.in_ok-root.ensures.taken.1 c.clear_frame.ensures)
+
+pub returns-clause-flags : goal.returns-clause-flags
+returns-clause-flags c = ap length c.in_ok-root.ensures.taken.1 ∙ length-set c.args.pool.now c.in_ok-root.root false

@@ -1,0 +1,285 @@
+-- The last entries of pages are written, one page after the other.
+use Rattle.std.proofs.Common.{◌≡◌, ℕ, ◌+◌, ◌*◌, ◌/◌, ◌%◌, ◌^◌, ◌<◌, ◌≤◌, Bool, true, false, ◌||◌, List, length, set, Option, Some, None, refl, sym, ap, ◌∙◌, ◌⊎◌, inl, inr, arith, length-set}
+use Rattle.std.proofs.lemmas.Bool.{cases_eq, cases_Bool}
+use Rattle.std.proofs.lemmas.Bool.Decides.{nat_tests}
+use Rattle.std.specs.Prelude.{IsSome}
+use Rattle.paging_core.specs.Memory.{word_at, frame_count, byte_of}
+use Rattle.paging_core.specs.Prefix.{prefix_of}
+use Rattle.paging_core.specs.Walk.{Place, step, reach, top, walk_of, granted, reached}
+use Rattle.paging_core.specs.Tree.{IsTree}
+use Rattle.paging_core.specs.PageChanges.{Change, removal, regrant, IsLastEntry, IsPageChanged, ArePagesChanged, only}
+use Rattle.paging_core.specs.declared.page_table.Rights.{Rights}
+use Rattle.paging_core.proofs.Reach.{step_same, reach_there, reach_others}
+use Rattle.paging_core.proofs.Words.{word_at_set_same, word_at_set_other}
+use Rattle.paging_core.proofs.Prefixes.{walk_reach, prefix_more}
+use Rattle.paging_core.proofs.Made.{reach_below, step_zero}
+use Rattle.paging_core.proofs.LastEntry.{step_page, some_or_none}
+
+-- ---- what a change does to the frame
+
+-- the page leads to the frame to which it led, or nowhere
+pub record KeepsFrame (change : Change) : Type 0 where
+  pub same : (place now : Place) → change.leads place ≡ Some now → now.frame ≡ place.frame
+
+pub removal_keeps : KeepsFrame removal
+removal_keeps = record { same = λ place now e. absurd (cc) }
+
+pub regrant_keeps : (rights : Rights) → KeepsFrame (regrant rights)
+regrant_keeps rights = record {
+  same = λ place now e. let q : granted place.frame rights ≡ now = cc in sym (ap (λ p. p.frame) q);
+}
+
+pub some_place : (o : Option Place) → IsSome o → (place : Place) × (o ≡ Some place)
+some_place None h = absurd (cc)
+some_place (Some place) h = (place, refl)
+
+-- ---- one page
+
+-- a write to the last entry of the page
+pub entry_written : (old new : List ℕ) (root page : ℕ) (change : Change) (table index frame : ℕ) (entry : IsLastEntry old root page table index frame) →
+    new ≡ set old (512 * table + index) (change.entry entry.place) → IsPageChanged old new root page change
+entry_written old new root page change table index frame entry written = record {
+  place = entry.place;
+  table = entry.met;
+  was = entry.found;
+  met = entry.reached;
+  words = written ∙ (ap (λ t. set old (512 * t + index) (change.entry entry.place)) (sym entry.in_table)
+      ∙ ap (λ i. set old (512 * entry.met.frame + i) (change.entry entry.place)) entry.at_index);
+}
+
+module _ (old new : List ℕ) (root page : ℕ) (change : Change)
+    (root_in : root < frame_count old)
+    (one : IsPageChanged old new root page change) where
+  size : length new ≡ length old
+  size = rw one.words (length-set old (512 * one.table.frame + prefix_of page 4 % 512) (change.entry one.place))
+
+  table_in : one.table.frame < frame_count old
+  table_in = reach_below old root 3 (prefix_of page 3) one.table root_in one.met
+
+  pub place_in : one.place.frame < frame_count new
+  place_in = let s = size in
+      let b = reach_below old root 4 (prefix_of page 4) one.place root_in (sym (walk_reach old root page) ∙ one.was) in omega arith
+
+  place : 512 * prefix_of page 3 + prefix_of page 4 % 512 ≡ prefix_of page 4
+  place = prefix_more page 3 (omega arith)
+
+  word_stays : (f i : ℕ) → i < 512 → (f ≡ one.table.frame → i ≡ prefix_of page 4 % 512 → ⊥) → word_at new f i ≡ word_at old f i
+  word_stays f i li ne =
+      ap (λ w. word_at w f i) one.words
+      ∙ word_at_set_other old one.table.frame (prefix_of page 4 % 512) (change.entry one.place) f i (omega arith) li ne
+
+  entry_here : word_at new one.table.frame (prefix_of page 4 % 512) ≡ change.entry one.place
+  entry_here =
+      ap (λ w. word_at w one.table.frame (prefix_of page 4 % 512)) one.words
+      ∙ word_at_set_same old one.table.frame (prefix_of page 4 % 512) (change.entry one.place) table_in (omega arith)
+
+  module _ (free : List Bool)
+      (tree : IsTree old root free)
+      (leads : step new 3 one.table (prefix_of page 4 % 512) ≡ change.leads one.place) where
+    alone : (l n : ℕ) (b : Place) → l < 4 → reach old root l n ≡ Some b → b.frame ≡ one.table.frame → (l ≡ 3) × (n ≡ prefix_of page 3)
+    alone l n b lt is e = tree.distinct l n 3 (prefix_of page 3) b one.table (omega arith) (omega arith) is one.met e
+
+    there : reach new root 4 (prefix_of page 4) ≡ change.leads one.place
+    there =
+        rw (← place)
+        (reach_there old new root 3 (prefix_of page 3) (prefix_of page 4 % 512) one.table (omega arith) one.met
+        (λ l b j lj ne. step_same old new l b j size (word_stays b.frame j lj ne)) alone (λ lt j lj. absurd (omega arith)) (omega arith)
+        ∙ leads)
+
+    others : (l n : ℕ) → l ≤ 4 → (l ≡ 4 → n ≡ prefix_of page 4 → ⊥) → reach new root l n ≡ reach old root l n
+    others l n le ne =
+        reach_others old new root 3 (prefix_of page 3) (prefix_of page 4 % 512) one.table (omega arith) one.met
+        (λ l b j lj ne. step_same old new l b j size (word_stays b.frame j lj ne)) alone (λ lt j lj. absurd (omega arith)) l n le
+        (λ x y. ne x (y ∙ place))
+
+    is_table : one.table ≡ top one.table.frame
+    is_table = tree.rights 3 (prefix_of page 3) one.table (omega arith) one.met
+
+    at : reach old root 4 (prefix_of page 4) ≡ Some one.place
+    at = sym (walk_reach old root page) ∙ one.was
+
+    same_place : (n : ℕ) (p : Place) → n ≡ prefix_of page 4 → reach old root 4 n ≡ Some p → one.place ≡ p
+    same_place n p e is = let q : Some one.place ≡ Some p = sym at ∙ (ap (reach old root 4) (sym e) ∙ is) in cc
+
+    pub page_changed : ArePagesChanged old new root change (only page)
+    page_changed = record {
+      size = size;
+      mapped = λ n g. let e : n ≡ prefix_of page 4 = grind (arith, nat_tests) in (one.place, ap (reach old root 4) e ∙ at);
+      changed = λ n p g is.
+          let e : n ≡ prefix_of page 4 = grind (arith, nat_tests) in
+          ap (reach new root 4) e ∙ (there ∙ ap change.leads (same_place n p e is));
+      stayed = λ l n le ne. others l n le (λ x y. let z = ne x in grind (arith, nat_tests));
+      entries = λ n i f p li g here is.
+          let e : 512 * n + i ≡ prefix_of page 4 = grind (arith, nat_tests) in
+          let en : n ≡ prefix_of page 3 = omega (arith, place) in
+          let ei : i ≡ prefix_of page 4 % 512 = omega arith in
+          let q : Some (top f) ≡ Some one.table = sym here ∙ (ap (reach old root 3) en ∙ one.met) in
+          let r : top f ≡ one.table = cc in
+          let s : f ≡ one.table.frame = ap (λ p. p.frame) r in
+          rw (s, ei) (entry_here ∙ ap change.entry (same_place (512 * n + i) p e is));
+      words = λ f i li apart.
+          word_stays f i li (λ x y.
+          let g = apart (prefix_of page 3) (one.met ∙ ap Some (is_table ∙ ap top (sym x))) in
+          let e : 512 * prefix_of page 3 + i ≡ prefix_of page 4 = ap (λ k. 512 * prefix_of page 3 + k) y ∙ place in
+          grind (arith, nat_tests));
+    }
+
+pub page_removed : (old new : List ℕ) (root page : ℕ) (free : List Bool) → root < frame_count old → IsPageChanged old new root page removal →
+    IsTree old root free → ArePagesChanged old new root removal (only page)
+page_removed old new root page free root_in one tree =
+    page_changed old new root page removal root_in one free tree
+    (step_zero new 3 one.table (prefix_of page 4 % 512) (entry_here old new root page removal root_in one))
+
+pub page_regranted : (old new : List ℕ) (root page : ℕ) (rights : Rights) (free : List Bool) → root < frame_count old →
+    (one : IsPageChanged old new root page (regrant rights)) → one.place.frame < 2 ^ 40 → IsTree old root free → ArePagesChanged old new root (regrant rights) (only page)
+page_regranted old new root page rights free root_in one small tree =
+    let is_top : one.table ≡ top one.table.frame = tree.rights 3 (prefix_of page 3) one.table (omega arith) one.met in
+    page_changed old new root page (regrant rights) root_in one free tree
+    (ap (λ t. step new 3 t (prefix_of page 4 % 512)) is_top
+    ∙ step_page new 3 one.table.frame (prefix_of page 4 % 512) one.place.frame rights small (place_in old new root page (regrant rights) root_in one)
+    (entry_here old new root page (regrant rights) root_in one))
+
+-- ---- any pages
+
+module _ (old new : List ℕ) (root : ℕ) (change : Change) (chosen : ℕ → Bool)
+    (all : ArePagesChanged old new root change chosen) where
+  -- what is met was met before, at the same frame
+  pub met_before : KeepsFrame change → (l n : ℕ) (b : Place) → l ≤ 4 → reach new root l n ≡ Some b →
+      (p : Place) × (reach old root l n ≡ Some p) × (p.frame ≡ b.frame)
+  met_before keeps l n b le is = go (cases_eq l 4) (cases_Bool (chosen n))
+    where
+      go : (l ≡ 4) ⊎ (l ≡ 4 → ⊥) → (chosen n ≡ true) ⊎ (chosen n ≡ false) → (p : Place) × (reach old root l n ≡ Some p) × (p.frame ≡ b.frame)
+      go (inr ne) _ = (b, sym (all.stayed l n le (λ e. absurd (ne e))) ∙ is, refl)
+      go (inl e) (inr x) = (b, sym (all.stayed l n le (λ _. x)) ∙ is, refl)
+      go (inl e) (inl x) =
+          let m = all.mapped n x in
+          let was : reach old root l n ≡ Some m.0 = rw e m.1 in
+          let now : reach new root 4 n ≡ Some b = rw (← e) is in
+          (m.0, was, sym (keeps.same m.0 b (sym (all.changed n m.0 x m.1) ∙ now)))
+
+  pub changed_tree : KeepsFrame change → (free : List Bool) → IsTree old root free → IsTree new root free
+  changed_tree keeps free tree = record {
+    rights = λ l n m lt is. tree.rights l n m lt (sym (all.stayed l n (omega arith) (λ e. absurd (omega arith))) ∙ is);
+    distinct = λ l n k j a b ll lk x y e.
+        let p = met_before keeps l n a ll x in
+        let q = met_before keeps k j b lk y in
+        tree.distinct l n k j p.0 q.0 ll lk p.1 q.1 (p.2 ∙ (e ∙ sym q.2));
+    used = λ l n m le is. let p = met_before keeps l n m le is in rw (← p.2) (tree.used l n p.0 le p.1);
+  }
+
+  -- a page keeps its words
+  pub words_stay : (free : List Bool) → IsTree old root free → (n i : ℕ) (place : Place) → i < 512 → reach old root 4 n ≡ Some place →
+      word_at new place.frame i ≡ word_at old place.frame i
+  words_stay free tree n i place li at =
+      all.words place.frame i li (λ m here.
+      let d : (3 ≡ 4) × (m ≡ n) = tree.distinct 3 m 4 n (top place.frame) place (omega arith) (omega arith) here at refl in absurd (omega (arith, d.0)))
+
+  -- and its bytes, where it is met still
+  pub bytes_stay : KeepsFrame change → (free : List Bool) → IsTree old root free → (address : ℕ) → (now : Place) → walk_of new root (address / 4096) ≡ Some now →
+      reached new root address ≡ reached old root address
+  bytes_stay keeps free tree address now is =
+      let at : reach new root 4 (prefix_of (address / 4096) 4) ≡ Some now = sym (walk_reach new root (address / 4096)) ∙ is in
+      let p = met_before keeps 4 (prefix_of (address / 4096) 4) now (omega arith) at in
+      let was : walk_of old root (address / 4096) ≡ Some p.0 = walk_reach old root (address / 4096) ∙ p.1 in
+      let w = words_stay free tree (prefix_of (address / 4096) 4) (address % 4096 / 8) p.0 (omega arith) p.1 in
+      rw (is, was) (ap (λ f. Some (byte_of (word_at new f (address % 4096 / 8)) (address % 8))) (sym p.2) ∙ ap (λ v. Some (byte_of v (address % 8))) w)
+
+-- where pages get rights, no byte is changed
+pub regranted_bytes : (old new : List ℕ) (root : ℕ) (rights : Rights) (chosen : ℕ → Bool) (free : List Bool) →
+    ArePagesChanged old new root (regrant rights) chosen → IsTree old root free → (address : ℕ) → reached new root address ≡ reached old root address
+regranted_bytes old new root rights chosen free all tree address = go (some_or_none (walk_of new root (address / 4096)))
+  where
+    gone : reach new root 4 (prefix_of (address / 4096) 4) ≡ None → (chosen (prefix_of (address / 4096) 4) ≡ true) ⊎ (chosen (prefix_of (address / 4096) 4) ≡ false) →
+        reach old root 4 (prefix_of (address / 4096) 4) ≡ None
+    gone none (inl x) =
+        let m = all.mapped (prefix_of (address / 4096) 4) x in
+        let h = all.changed (prefix_of (address / 4096) 4) m.0 x m.1 in absurd (cc)
+    gone none (inr x) = sym (all.stayed 4 (prefix_of (address / 4096) 4) (omega arith) (λ _. x)) ∙ none
+
+    go : ((now : Place) × (walk_of new root (address / 4096) ≡ Some now)) ⊎ (walk_of new root (address / 4096) ≡ None) → reached new root address ≡ reached old root address
+    go (inl p) = bytes_stay old new root (regrant rights) chosen all (regrant_keeps rights) free tree address p.0 p.1
+    go (inr none) =
+        let e : walk_of old root (address / 4096) ≡ None =
+        walk_reach old root (address / 4096)
+        ∙ gone (sym (walk_reach new root (address / 4096)) ∙ none) (cases_Bool (chosen (prefix_of (address / 4096) 4))) in
+        rw (none, e) refl
+
+-- ---- the page alone
+
+module _ (old new : List ℕ) (root page : ℕ) (change : Change) (all : ArePagesChanged old new root change (only page)) where
+  pub page_leads : (place : Place) → walk_of old root page ≡ Some place → walk_of new root page ≡ change.leads place
+  page_leads place at =
+      walk_reach new root page
+      ∙ all.changed (prefix_of page 4) place (grind (arith, nat_tests)) (sym (walk_reach old root page) ∙ at)
+
+  pub other_walk : (other : ℕ) → (other % 2 ^ 36 ≡ page % 2 ^ 36 → ⊥) → walk_of new root other ≡ walk_of old root other
+  other_walk other ne =
+      walk_reach new root other
+      ∙ (all.stayed 4 (prefix_of other 4) (omega arith)
+      (λ _. let d : prefix_of other 4 ≡ prefix_of page 4 → ⊥ = λ e. ne (omega arith) in grind (arith, nat_tests))
+      ∙ sym (walk_reach old root other))
+
+-- ---- one change after the other, of other pages
+
+module _ (old mid new : List ℕ) (root : ℕ) (change : Change) (a b c : ℕ → Bool)
+    (one : ArePagesChanged old mid root change a)
+    (two : ArePagesChanged mid new root change b)
+    (both : (n : ℕ) → c n ≡ (a n || b n)) where
+  tables : (n : ℕ) → reach mid root 3 n ≡ reach old root 3 n
+  tables n = one.stayed 3 n (omega arith) (λ e. absurd (omega arith))
+
+  neither : (n : ℕ) → c n ≡ false → (a n ≡ false) × (b n ≡ false)
+  neither n e = go (a n) (b n) (sym (both n) ∙ e)
+    where
+      go : (x y : Bool) → (x || y) ≡ false → (x ≡ false) × (y ≡ false)
+      go false y e = (refl, e)
+      go true y e = absurd (cc)
+
+  is_b : (n : ℕ) → c n ≡ true → a n ≡ false → b n ≡ true
+  is_b n e x = let h : c n ≡ b n = both n ∙ ap (λ t. t || b n) x in sym h ∙ e
+
+  was : (n : ℕ) → a n ≡ false → reach mid root 4 n ≡ reach old root 4 n
+  was n x = one.stayed 4 n (omega arith) (λ _. x)
+
+  module _ (free : List Bool)
+      (tree : IsTree old root free)
+      (apart : (n : ℕ) → a n ≡ true → b n ≡ false) where
+    mapped_of : (n : ℕ) → c n ≡ true → (a n ≡ true) ⊎ (a n ≡ false) → (place : Place) × (reach old root 4 n ≡ Some place)
+    mapped_of n g (inl x) = one.mapped n x
+    mapped_of n g (inr x) = let m = two.mapped n (is_b n g x) in (m.0, sym (was n x) ∙ m.1)
+
+    changed_of : (n : ℕ) (place : Place) → c n ≡ true → reach old root 4 n ≡ Some place → (a n ≡ true) ⊎ (a n ≡ false) → reach new root 4 n ≡ change.leads place
+    changed_of n place g at (inl x) = two.stayed 4 n (omega arith) (λ _. apart n x) ∙ one.changed n place x at
+    changed_of n place g at (inr x) = two.changed n place (is_b n g x) (was n x ∙ at)
+
+    entries_of : (n i f : ℕ) (place : Place) → i < 512 → c (512 * n + i) ≡ true → reach old root 3 n ≡ Some (top f) → reach old root 4 (512 * n + i) ≡ Some place →
+        (a (512 * n + i) ≡ true) ⊎ (a (512 * n + i) ≡ false) → word_at new f i ≡ change.entry place
+    entries_of n i f place li g here at (inl x) =
+        two.words f i li (λ m is.
+        let d = tree.distinct 3 m 3 n (top f) (top f) (omega arith) (omega arith) (sym (tables m) ∙ is) here refl in
+        ap (λ k. b (512 * k + i)) d.1 ∙ apart (512 * n + i) x)
+        ∙ one.entries n i f place li x here at
+    entries_of n i f place li g here at (inr x) =
+        two.entries n i f place li (is_b (512 * n + i) g x) (tables n ∙ here) (was (512 * n + i) x ∙ at)
+
+    pub changed_more : ArePagesChanged old new root change c
+    changed_more = record {
+      size = two.size ∙ one.size;
+      mapped = λ n g. mapped_of n g (cases_Bool (a n));
+      changed = λ n place g at. changed_of n place g at (cases_Bool (a n));
+      stayed = λ l n le ne. two.stayed l n le (λ e. (neither n (ne e)).1) ∙ one.stayed l n le (λ e. (neither n (ne e)).0);
+      entries = λ n i f place li g here at. entries_of n i f place li g here at (cases_Bool (a (512 * n + i)));
+      words = λ f i li ne.
+          two.words f i li (λ n at. (neither (512 * n + i) (ne n (sym (tables n) ∙ at))).1) ∙ one.words f i li (λ n at. (neither (512 * n + i) (ne n at)).0);
+    }
+
+-- no page
+pub none_changed : (words : List ℕ) (root : ℕ) (change : Change) (chosen : ℕ → Bool) → ((n : ℕ) → chosen n ≡ false) → ArePagesChanged words words root change chosen
+none_changed words root change chosen none = record {
+  size = refl;
+  mapped = λ n g. let e = none n in absurd (cc);
+  changed = λ n place g at. let e = none n in absurd (cc);
+  stayed = λ l n le ne. refl;
+  entries = λ n i f place li g here at. let e = none (512 * n + i) in absurd (cc);
+  words = λ f i li apart. refl;
+}

@@ -1,0 +1,77 @@
+use Rattle.std.proofs.Common.{◌≡◌, ◌∙◌, ◌+◌, ◌/◌, sym, ap, arith}
+use Rattle.paging_core.specs.Pool.{free_count}
+use Rattle.paging_core.specs.Walk.{walk_of}
+use Rattle.paging_core.specs.PageChanges.{removal, among, only}
+use Rattle.paging_core.proofs.Given.{given_count}
+use Rattle.paging_core.proofs.PageChanged.{removal_keeps, some_place, bytes_stay}
+use Rattle.paging_core.proofs.RangeChanged.{next_mapped, next_both, next_apart, range_leads, range_rest, among_none}
+use Rattle.paging_core.proofs.Freed.{freed_tree, freed_one, freed_more, none_freed, freed_known, next_root, next_out}
+use Rattle.paging_core.proofs.unmapping.unmap_range.Goals as goal
+
+pub loop-step-init : goal.loop-step-init
+loop-step-init c = record { freed = none_freed c.args.frames.now c.args.pool.now c.args.root (among c.args.first 0) (among_none c.args.first); count = omega arith }
+
+pub unmap_page-frame-requires-clause-mapped : goal.unmap_page-frame-requires-clause-mapped
+unmap_page-frame-requires-clause-mapped c =
+    rw (
+      c.after.ensures,
+      next_mapped c.args.frames.now c.loop-step.frames c.args.root c.args.first c.args.pages c.loop-step.step removal
+          c.requires.range c.loop-step.invariant.freed.removed c.loop-step-test.true,
+    )
+    (c.requires.mapped c.loop-step.step c.loop-step-test.true)
+
+pub deallocate_frame-requires : goal.deallocate_frame-requires
+deallocate_frame-requires c =
+    let r = c.unmap_page-frame.ensures.removed in
+    next_out c.args.frames.now c.loop-step.frames c.args.pool.now c.loop-step.pool c.args.root c.after.result c.unmap_page-frame.result (among c.args.first c.loop-step.step) r.place
+    c.requires.root c.requires.flags c.requires.tree c.loop-step.invariant.freed r.was (rw r.was at c.unmap_page-frame.ensures.frame)
+
+pub loop-step-preserved : goal.loop-step-preserved
+loop-step-preserved c =
+    let r = c.unmap_page-frame.ensures.removed in
+    let is : c.unmap_page-frame.result ≡ r.place.frame = rw r.was at c.unmap_page-frame.ensures.frame in
+    let out =
+    next_out c.args.frames.now c.loop-step.frames c.args.pool.now c.loop-step.pool c.args.root c.after.result c.unmap_page-frame.result (among c.args.first c.loop-step.step) r.place
+    c.requires.root c.requires.flags c.requires.tree c.loop-step.invariant.freed r.was is in
+    let one = freed_one c.loop-step.frames c.unmap_page-frame.new.frames c.loop-step.pool c.deallocate_frame.new.self c.args.root c.after.result c.unmap_page-frame.result
+    (next_root c.args.frames.now c.loop-step.frames c.args.pool.now c.loop-step.pool c.args.root c.after.result c.unmap_page-frame.result (among c.args.first c.loop-step.step) r.place
+    c.requires.root c.requires.flags c.requires.tree c.loop-step.invariant.freed r.was is)
+    (freed_tree c.args.frames.now c.loop-step.frames c.args.pool.now c.loop-step.pool c.args.root (among c.args.first c.loop-step.step) c.loop-step.invariant.freed c.requires.tree)
+    r (sym is) out c.deallocate_frame.ensures in
+    record {
+      freed =
+          freed_more c.args.frames.now c.loop-step.frames c.unmap_page-frame.new.frames c.args.pool.now c.loop-step.pool c.deallocate_frame.new.self c.args.root
+          (among c.args.first c.loop-step.step) (only (c.args.first + c.loop-step.step)) (among c.args.first (c.loop-step.step + 1))
+          c.requires.tree c.loop-step.invariant.freed (rw c.after.ensures at one)
+          (next_both c.args.frames.now c.loop-step.frames c.args.root c.args.first c.args.pages c.loop-step.step removal c.requires.range c.loop-step.invariant.freed.removed c.loop-step-test.true)
+          (next_apart c.args.frames.now c.loop-step.frames c.args.root c.args.first c.args.pages c.loop-step.step removal c.requires.range c.loop-step.invariant.freed.removed c.loop-step-test.true);
+      count =
+          let a = c.loop-step.invariant.count in
+          let b = ap free_count c.deallocate_frame.ensures ∙ given_count c.loop-step.pool c.unmap_page-frame.result out in
+          omega arith;
+    }
+
+pub returns-clause-tree : goal.returns-clause-tree
+returns-clause-tree c =
+    freed_tree c.args.frames.now c.loop-step.frames c.args.pool.now c.loop-step.pool c.args.root (among c.args.first c.loop-step.step) c.loop-step.invariant.freed c.requires.tree
+
+pub returns-clause-known : goal.returns-clause-known
+returns-clause-known c =
+    freed_known c.args.frames.now c.loop-step.frames c.args.pool.now c.loop-step.pool c.args.root (among c.args.first c.loop-step.step) c.requires.root c.loop-step.invariant.freed
+
+pub returns-clause-unmapped : goal.returns-clause-unmapped
+returns-clause-unmapped c = λ k lt.
+    let p = some_place (walk_of c.args.frames.now c.args.root (c.args.first + k)) (c.requires.mapped k lt) in
+    range_leads c.args.frames.now c.loop-step.frames c.args.root c.args.first c.args.pages c.loop-step.step removal
+    c.requires.range c.loop-step.invariant.freed.removed (omega arith) k (omega arith) p.0 p.1
+
+pub returns-clause-elsewhere : goal.returns-clause-elsewhere
+returns-clause-elsewhere c =
+    range_rest c.args.frames.now c.loop-step.frames c.args.root c.args.first c.args.pages c.loop-step.step removal
+    c.requires.range c.loop-step.invariant.freed.removed (omega arith)
+
+pub returns-clause-bytes : goal.returns-clause-bytes
+returns-clause-bytes c = λ address is.
+    let p = some_place (walk_of c.loop-step.frames c.args.root (address / 4096)) is in
+    bytes_stay c.args.frames.now c.loop-step.frames c.args.root removal (among c.args.first c.loop-step.step) c.loop-step.invariant.freed.removed
+    removal_keeps c.args.pool.now c.requires.tree address p.0 p.1

@@ -1,0 +1,58 @@
+ghost use Rattle.std.specs.Prelude.{◌≡◌, ℕ, ◌+◌, ◌*◌, ◌/◌, ◌%◌, ◌^◌, ◌<◌, ◌≤◌, IsSome, IfSome, IsTrue, List, Bool, Some};
+ghost use Rattle.paging_core.specs.Address.{is_canonical, IsCanonicalRange};
+ghost use Rattle.paging_core.specs.Memory.{frame_count};
+ghost use Rattle.paging_core.specs.Walk.{walk_of, reached, granted};
+ghost use Rattle.paging_core.specs.Tree.{IsTree, HasTree};
+ghost use Rattle.paging_core.specs.PageChanges.{regrant, IsPageChanged, ArePagesChanged, only, among};
+
+use crate::memory::Frames;
+use crate::page_table::{PageTableEntry, Rights};
+use crate::page_walk::{LastEntry, last_entry};
+use crate::pages::Page;
+use crate::phys_frames::PhysFrame;
+
+/// Gives the page these rights: its last entry becomes the one that maps its frame with them, and no other
+/// word is changed.
+///
+/// The page is mapped.
+pub fn protect_page(frames: &mut Frames, root: PhysFrame, page: Page, rights: Rights)
+    requires root { root < frame_count frames.old }
+    requires mapped { IsSome (walk_of frames.old root page) }
+    ensures changed { IsPageChanged frames.old frames.new root page (regrant rights) }
+
+    // Where the tables are a tree they stay one; no other page's walk is changed, and no byte of any page.
+    ensures tree { (free : List Bool) → IsTree frames.old root free → IsTree frames.new root free }
+    ensures pages { (free : List Bool) → IsTree frames.old root free → ArePagesChanged frames.old frames.new root (regrant rights) (only page) }
+    ensures granted { (free : List Bool) → IsTree frames.old root free → IfSome (walk_of frames.old root page) (λ place. walk_of frames.new root page ≡ Some (granted place.frame rights)) }
+    ensures elsewhere { (free : List Bool) → IsTree frames.old root free → (other : ℕ) → IsTrue (is_canonical (other * 4096)) → (other ≡ page → ⊥) → walk_of frames.new root other ≡ walk_of frames.old root other }
+    ensures bytes { (free : List Bool) → IsTree frames.old root free → (address : ℕ) → reached frames.new root address ≡ reached frames.old root address }
+{
+    let LastEntry {
+        table,
+        index,
+        frame,
+    } = last_entry(frames, root, page);
+    let entry = PageTableEntry::to_page(frame, rights);
+    frames.set_word(table, index, entry.bits());
+}
+
+/// Gives the pages from `first` on these rights. Each keeps its frame.
+///
+/// The range lies in one canonical half, and each of its pages is mapped. The tables are a tree.
+pub fn protect_range(frames: &mut Frames, root: PhysFrame, first: Page, pages: u64, rights: Rights)
+    requires root { root < frame_count frames.old }
+    requires tree { HasTree frames.old root }
+    requires range { IsCanonicalRange first pages }
+    requires mapped { (k : ℕ) → k < pages → IsSome (walk_of frames.old root (first + k)) }
+    ensures changed { ArePagesChanged frames.old frames.new root (regrant rights) (among first pages) }
+    ensures tree { (free : List Bool) → IsTree frames.old root free → IsTree frames.new root free }
+
+    // The pages of the range have the rights. No other page's walk is changed, and no byte of any page.
+    ensures granted { (k : ℕ) → k < pages → IfSome (walk_of frames.old root (first + k)) (λ place. walk_of frames.new root (first + k) ≡ Some (granted place.frame rights)) }
+    ensures elsewhere { (other : ℕ) → IsTrue (is_canonical (other * 4096)) → ((k : ℕ) → k < pages → other ≡ first + k → ⊥) → walk_of frames.new root other ≡ walk_of frames.old root other }
+    ensures bytes { (address : ℕ) → reached frames.new root address ≡ reached frames.old root address }
+{
+    for step in 0..pages {
+        protect_page(frames, root, first.after(step), rights);
+    }
+}

@@ -1,0 +1,72 @@
+ghost use Rattle.std.specs.Prelude.{◌≡◌, ℕ, ◌+◌, ◌*◌, ◌/◌, ◌%◌, ◌^◌, ◌<◌, ◌≤◌, IsSome, IfSome, IsTrue, List, Bool, None, length};
+ghost use Rattle.paging_core.specs.Address.{is_canonical, IsCanonicalRange};
+ghost use Rattle.paging_core.specs.Memory.{frame_count};
+ghost use Rattle.paging_core.specs.Walk.{walk_of, reached};
+ghost use Rattle.paging_core.specs.Pool.{free_count, FreeBelow};
+ghost use Rattle.paging_core.specs.Tree.{IsTree};
+ghost use Rattle.paging_core.specs.PageChanges.{removal, IsPageChanged, ArePagesChanged, ArePagesFreed, only, among};
+
+use crate::frame_allocator::FrameDeallocator;
+use crate::memory::Frames;
+use crate::page_walk::{LastEntry, last_entry};
+use crate::pages::Page;
+use crate::phys_frames::PhysFrame;
+use crate::pool::FramePool;
+
+/// Unmaps the page: its last entry becomes 0, and no other word is changed. The answer is the frame to
+/// which the page led.
+///
+/// The page is mapped. Its tables stay, and its frame is still out.
+pub fn unmap_page(frames: &mut Frames, root: PhysFrame, page: Page) -> PhysFrame
+    requires root { root < frame_count frames.old }
+    requires mapped { IsSome (walk_of frames.old root page) }
+    ensures frame { IfSome (walk_of frames.old root page) (λ place. result ≡ place.frame) }
+    ensures below { result < frame_count frames.new }
+    ensures removed { IsPageChanged frames.old frames.new root page removal }
+
+    // Where the tables are a tree they stay one, and no other page's walk is changed.
+    ensures tree { (free : List Bool) → IsTree frames.old root free → IsTree frames.new root free }
+    ensures pages { (free : List Bool) → IsTree frames.old root free → ArePagesChanged frames.old frames.new root removal (only page) }
+    ensures unmapped { (free : List Bool) → IsTree frames.old root free → walk_of frames.new root page ≡ None }
+    ensures elsewhere { (free : List Bool) → IsTree frames.old root free → (other : ℕ) → IsTrue (is_canonical (other * 4096)) → (other ≡ page → ⊥) → walk_of frames.new root other ≡ walk_of frames.old root other }
+{
+    let LastEntry {
+        table,
+        index,
+        frame,
+    } = last_entry(frames, root, page);
+    frames.set_word(table, index, 0);
+    frame
+}
+
+/// Unmaps the pages from `first` on, in ascending order, and gives their frames back. The tables stay.
+///
+/// The range lies in one canonical half, and each of its pages is mapped. The pool has a flag for each
+/// frame.
+pub fn unmap_range(
+    frames: &mut Frames,
+    pool: &mut FramePool,
+    root: PhysFrame,
+    first: Page,
+    pages: u64,
+)
+    requires root { root < frame_count frames.old }
+    requires flags { frame_count frames.old ≤ length pool.old }
+    requires tree { IsTree frames.old root pool.old }
+    requires range { IsCanonicalRange first pages }
+    requires mapped { (k : ℕ) → k < pages → IsSome (walk_of frames.old root (first + k)) }
+    ensures freed { ArePagesFreed frames.old frames.new pool.old pool.new root (among first pages) }
+    ensures tree { IsTree frames.new root pool.new }
+    ensures count { free_count pool.new ≡ free_count pool.old + pages }
+    ensures known { FreeBelow pool.old (frame_count frames.old) → FreeBelow pool.new (frame_count frames.new) }
+
+    // The pages of the range are mapped no more. No other page's walk is changed, and no byte of it.
+    ensures unmapped { (k : ℕ) → k < pages → walk_of frames.new root (first + k) ≡ None }
+    ensures elsewhere { (other : ℕ) → IsTrue (is_canonical (other * 4096)) → ((k : ℕ) → k < pages → other ≡ first + k → ⊥) → walk_of frames.new root other ≡ walk_of frames.old root other }
+    ensures bytes { (address : ℕ) → IsSome (walk_of frames.new root (address / 4096)) → reached frames.new root address ≡ reached frames.old root address }
+{
+    for step in 0..pages {
+        let frame = unmap_page(frames, root, first.after(step));
+        pool.deallocate_frame(frame);
+    }
+}
