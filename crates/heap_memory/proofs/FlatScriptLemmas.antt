@@ -11,7 +11,7 @@ use Rattle.heap_memory.specs.declared.grant.Grant.{Grant}
 use Rattle.heap_memory.specs.declared.grant.GrantFault.TheVariants.{NoSpace}
 use Rattle.heap_memory.specs.declared.flat_script.FlatStep.{FlatStep}
 use Rattle.heap_memory.specs.declared.flat_script.FlatStep.TheVariants.{Give, Refuse}
-use Rattle.heap_memory.specs.Regions.{is_granted, is_next, with_grant, IsApart}
+use Rattle.heap_memory.specs.Regions.{is_granted, is_next, with_grant, IsApart, is_whole}
 use Rattle.heap_memory.specs.RegionLaws.{granted_split}
 use Rattle.heap_memory.specs.FlatScript.{gives, overlaps, is_given, next_answer, is_promised}
 
@@ -111,6 +111,7 @@ pub record IsServed (before : List FlatStep) (regions : List Grant) (left : List
   pub long : asked ≤ grant.size
   pub clear : list_any (λ step. overlaps grant step) before ≡ false
   pub next : IsTrue (is_next grant regions)
+  pub whole : 0 < asked → IsTrue (is_whole grant)
   pub promised : (at : ℕ) → grant.base ≤ at → at < grant.base + grant.size → IsTrue (is_promised before left at)
   pub gives : (at : ℕ) → grant.base ≤ at → at < grant.base + grant.size → IsTrue (list_any (λ step. gives at step) (before ++ take 1 left))
   pub step : length left ≡ length (drop 1 left) + 1
@@ -131,6 +132,7 @@ served before regions (Give base size flags ∷ left) asked grant is =
       long = grind (arith, nat_tests);
       clear = grind (arith, nat_tests);
       next = grind (arith, nat_tests);
+      whole = λ some. grind (arith, nat_tests);
       promised = λ at low high. grind (arith, nat_tests);
       gives = λ at low high. grind (arith, nat_tests, list_any-append (λ step. gives at step) before (Give base size flags ∷ []));
       step = omega arith;

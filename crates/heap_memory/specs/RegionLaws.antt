@@ -1,12 +1,12 @@
 -- What is granted with a further grant.
-use Rattle.std.specs.Prelude.{◌≡◌, ℕ, ◌+◌, ◌<◌, ◌≤◌, ◌⊎◌, Bool, true, false, ◌&&◌, ◌||◌, nat_le, List, [], ◌∷◌, ◌++◌, IsTrue}
-use Rattle.std.specs.List.{list_all}
+use Rattle.std.specs.Prelude.{◌≡◌, ℕ, ◌+◌, ◌<◌, ◌≤◌, ◌⊎◌, Bool, true, false, ◌&&◌, ◌||◌, nat_le, nat_lt, if◌then◌else◌, List, [], ◌∷◌, ◌++◌, IsTrue}
+use Rattle.std.specs.List.{AllByRecursion, list_all}
 use Rattle.std.proofs.Common.{refl, sym, ap, subst, inl, inr, arith}
 use Rattle.std.proofs.lemmas.List.Folds.{list_all-append}
 use Rattle.std.proofs.lemmas.Bool.{le-ltb}
 use Rattle.std.proofs.lemmas.Bool.Decides.{nat_tests}
 use Rattle.heap_memory.specs.declared.grant.Grant.{Grant}
-use Rattle.heap_memory.specs.Regions.{is_granted, is_next, with_grant, are_ordered}
+use Rattle.heap_memory.specs.Regions.{is_granted, is_next, with_grant, are_ordered, IsWhole, is_whole, are_whole}
 
 -- a byte is granted with a further grant where it is in the grant, or was granted
 pub granted_with : (grant : Grant) (regions : List Grant) (at : ℕ) →
@@ -70,3 +70,33 @@ ordered_next grant (region ∷ second ∷ regions) ordered next =
 
 pub ordered_with : (grant : Grant) (regions : List Grant) → IsTrue (are_ordered regions) → IsTrue (is_next grant regions) → IsTrue (are_ordered (with_grant grant regions))
 ordered_with grant regions ordered next = subst (λ (rs : List Grant). IsTrue (are_ordered rs)) (sym (with_next grant regions ordered next)) (ordered_next grant regions ordered next)
+
+-- what holds of all regions holds of them with a further one for which it holds
+pub all_with : (Is : Grant → Type 0) (grant : Grant) (regions : List Grant) → Is grant → AllByRecursion Is regions → AllByRecursion Is (with_grant grant regions)
+all_with Is grant [] here all = (here, tt)
+all_with Is grant (region ∷ regions) here all = go (nat_lt grant.base region.base) (all_with Is grant regions here all.1)
+  where
+    go : (b : Bool) → AllByRecursion Is (with_grant grant regions) → AllByRecursion Is (if b then grant ∷ region ∷ regions else region ∷ with_grant grant regions)
+    go true rest = (here, (all.0, all.1))
+    go false rest = (all.0, rest)
+
+-- ---- whole regions
+
+pub whole_with : (grant : Grant) (regions : List Grant) → IsTrue (is_whole grant) → IsTrue (are_whole regions) → IsTrue (are_whole (with_grant grant regions))
+whole_with grant [] whole all = grind (arith, nat_tests)
+whole_with grant (region ∷ regions) whole all = grind (arith, nat_tests, whole_with grant regions whole)
+
+pub whole_is : (region : Grant) → IsTrue (is_whole region) → IsWhole region
+whole_is region test = record {
+  base_aligned = grind (arith, nat_tests);
+  size_aligned = grind (arith, nat_tests);
+  some = grind (arith, nat_tests);
+  low = grind (arith, nat_tests);
+  high = grind (arith, nat_tests);
+}
+
+pub whole_each : (regions : List Grant) → IsTrue (are_whole regions) → AllByRecursion IsWhole regions
+whole_each [] all = tt
+whole_each (region ∷ regions) all =
+    let parts = both_true (is_whole region) (are_whole regions) all in
+    (whole_is region parts.0, whole_each regions parts.1)

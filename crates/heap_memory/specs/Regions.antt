@@ -30,6 +30,20 @@ pub record IsGoodGrant (asked : ℕ) (grant : Grant) : Type 0 where
   pub low : 4096 ≤ grant.base
   pub high : grant.base + grant.size < 2 ^ 64
 
+-- A region is made of units of 16 bytes, of which it has some, from 4096 on and below 2 ^ 64.
+pub record IsWhole (region : Grant) : Type 0 where
+  pub base_aligned : region.base % 16 ≡ 0
+  pub size_aligned : region.size % 16 ≡ 0
+  pub some : 0 < region.size
+  pub low : 4096 ≤ region.base
+  pub high : region.base + region.size < 2 ^ 64
+
+abbrev pub is_whole : Grant → Bool
+is_whole region = region.base % 16 == 0 && region.size % 16 == 0 && nat_lt 0 region.size && nat_le 4096 region.base && nat_lt (region.base + region.size) (2 ^ 64)
+
+abbrev pub are_whole : List Grant → Bool
+are_whole regions = list_all is_whole regions
+
 -- whether a grant begins where the last region ends, if there is one
 abbrev pub is_next : Grant → List Grant → Bool
 is_next grant [] = true

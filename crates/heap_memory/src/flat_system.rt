@@ -2,7 +2,7 @@
 ghost use Rattle.std.specs.Prelude.{◌≡◌, ℕ, ◌+◌, ◌-◌, ◌%◌, ◌<◌, ◌≤◌, Bool, true, false, ◌&&◌, nat_lt, [], ◌++◌, IsTrue, IfOk, OnErr, refl, length, take, drop, position, vec_len, vec_capacity};
 ghost use Rattle.std.specs.List.{AllByRecursion, list_any, list_all};
 ghost use Rattle.std.specs.Int.{is_power_of_two};
-ghost use Rattle.heap_memory.specs.Regions.{is_granted, with_grant, are_ordered};
+ghost use Rattle.heap_memory.specs.Regions.{is_granted, with_grant, are_ordered, are_whole};
 ghost use Rattle.heap_memory.specs.FlatScript.{gives, is_promised};
 ghost use Rattle.heap_memory.specs.Script.{taken_of, left_of};
 ghost use Rattle.heap_memory.specs.FlatWords.{is_held, word_in, are_aligned};
@@ -36,6 +36,7 @@ pub struct FlatSystem {
     ghost zero: { (at : ℕ) → at % 8 ≡ 0 → IsTrue (is_held words.stretches.items at) → list_any (λ step. gives at step) (taken_of script) ≡ false
         → word_in words.stretches.items words.words.items at ≡ 0 },
     ghost ordered: { IsTrue (are_ordered regions.items) },
+    ghost whole: { IsTrue (are_whole regions.items) },
     ghost some: { IsTrue (list_all (λ region. nat_lt 0 region.size) regions.items) },
     ghost power: { IsTrue (is_power_of_two page) },
 }
@@ -146,10 +147,14 @@ fn add_region(regions: &mut Vec<Grant>, grant: Grant)
 
 impl Links for FlatSystem {
     ghost use Rattle.heap_memory.specs.FlatSystem.{IsSameKind, same_none, same_on, regions_of, word_of};
+    ghost use Rattle.heap_memory.specs.Regions.{IsWordOf};
+    ghost use Rattle.heap_memory.specs.Words.{IsStored};
 
     ghost regions = { λ system. regions_of system };
 
     ghost word = { λ system at. word_of system at };
+
+    ghost whole = { λ system. system.whole };
 
     ghost follows = { λ old events new. IsSameKind old new };
 
@@ -162,19 +167,38 @@ impl Links for FlatSystem {
         self.words.word(at)
     }
 
-    fn store_counted<L: Ledger>(&mut self, at: u64, value: u64, steps: &mut Steps<L>) {
+    /// Puts a word at an address, and changes nothing else: the script stays where it stands.
+    fn store_counted<L: Ledger>(&mut self, at: u64, value: u64, steps: &mut Steps<L>)
+        requires { IsWordOf (regions_of self.old) at }
+        ensures stored { IsStored (regions_of self.old) (word_of self.old) at value (word_of self.new) }
+        ensures regions { self.new.regions ≡ self.old.regions }
+        ensures follows { IsSameKind self.old self.new }
+        ensures counted { steps.new ≡ steps.old + 1 }
+        ensures script { self.new.script ≡ self.old.script }
+    {
         self.words.set_word(at, value);
         steps.tick()
     }
 }
 
 impl Memory for FlatSystem {
+    ghost use Rattle.heap_memory.specs.FlatSystem.{IsSameKind, regions_of, word_of};
+    ghost use Rattle.heap_memory.specs.Regions.{IsWordOf};
+    ghost use Rattle.heap_memory.specs.Words.{IsStored};
+
     fn load(&self, at: u64) -> u64 {
         self.words.word(at)
     }
 
-    fn store(&mut self, at: u64, value: u64) {
-        self.words.set_word(at, value);
+    /// Puts a word at an address, and changes nothing else: the script stays where it stands.
+    fn store(&mut self, at: u64, value: u64)
+        requires { IsWordOf (regions_of self.old) at }
+        ensures stored { IsStored (regions_of self.old) (word_of self.old) at value (word_of self.new) }
+        ensures regions { self.new.regions ≡ self.old.regions }
+        ensures follows { IsSameKind self.old self.new }
+        ensures script { self.new.script ≡ self.old.script }
+    {
+        self.words.set_word(at, value)
     }
 }
 

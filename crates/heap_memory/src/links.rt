@@ -9,6 +9,9 @@ use step_count::Steps;
 
 /// Words at the multiples of 8 of the granted regions. Each load and store of them is counted.
 pub trait Links {
+    ghost use Rattle.heap_memory.specs.Regions.{are_whole};
+    ghost use Rattle.std.specs.Prelude.{IsTrue};
+
     /// The granted regions, by ascending base.
     ghost regions: { Self → List Grant };
 
@@ -17,6 +20,10 @@ pub trait Links {
 
     /// What the system says of two moments between which these events came.
     ghost follows: { Self → List Event → Self → Type 0 };
+
+    /// Each region is made of units of 16 bytes, from 4096 on and below 2^64: where the place of a word is granted, so is
+    /// the word.
+    ghost whole: { (x : Self) → IsTrue (are_whole (regions x)) };
 
     /// A system follows itself with no event.
     ghost follows_none: { (x : Self) → follows x [] x };

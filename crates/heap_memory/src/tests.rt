@@ -163,6 +163,7 @@ fn counted<L: Ledger>(system: &mut FlatSystem, at: u64, value: u64, blank: Blank
 fn words_and_bytes_are_kept(rt: HostRuntime) -> Result<(), Fail> {
     let mut script = Vec::new(rt.alloc());
     script.push(give(0x400000, 65536, 0))?;
+    script.push(give(0x410000, 65536, 0))?;
     let mut system = FlatSystem::new(rt.alloc(), script, true, false, 65536)?;
     assert!(rt; system.allocates_zeros());
     assert_eq!(rt; system.page_size(), 65536);
@@ -177,5 +178,9 @@ fn words_and_bytes_are_kept(rt: HostRuntime) -> Result<(), Fail> {
     system.store_byte(0x40ffff, 0xaa);
     assert_eq!(rt; system.load(0x40fff8), 0xaa22_3344_5566_7788);
     assert_eq!(rt; system.load(0x40fff0), 0);
+
+    // No store took a step of the script.
+    assert_eq!(rt; system.alloc(65536), granted(0x410000, 65536));
+    assert_eq!(rt; system.load(0x40fff8), 0xaa22_3344_5566_7788);
     Ok(())
 }

@@ -3,7 +3,7 @@ use Rattle.std.specs.List.{list_any}
 use Rattle.heap_memory.specs.Script.{taken_of, left_of}
 use Rattle.heap_memory.specs.FlatScript.{gives}
 use Rattle.heap_memory.specs.FlatWords.{is_held}
-use Rattle.heap_memory.specs.RegionLaws.{ordered_with}
+use Rattle.heap_memory.specs.RegionLaws.{ordered_with, whole_with}
 use Rattle.heap_memory.proofs.FlatScriptLemmas.{regions_apart, some_with, promised_next, given_next, not_given_next, served, IsServed, granted_all, not_given}
 use Rattle.heap_memory.proofs.flat_system.FlatSystemAllocator.alloc.Goals as goal
 use Rattle.heap_memory.proofs.flat_system.FlatSystemAllocator.alloc.Goals.{In_ok-grant}
@@ -58,3 +58,8 @@ pub invariant_of-self-2-clause-some : goal.invariant_of-self-2-clause-some
 invariant_of-self-2-clause-some c =
     let s = served_here (goal.at.invariant_of-self-2-clause-some c).In_ok-grant in
     rw c.add_region.ensures.items (some_with c.in_ok-grant.grant c.args.self.now.regions.items (omega (arith, s.long)) c.args.self.now.some)
+
+pub invariant_of-self-2-clause-whole : goal.invariant_of-self-2-clause-whole
+invariant_of-self-2-clause-whole c =
+    let s = served_here (goal.at.invariant_of-self-2-clause-whole c).In_ok-grant in
+    rw c.add_region.ensures.items (whole_with c.in_ok-grant.grant c.args.self.now.regions.items (s.whole c.requires.some) c.args.self.now.whole)
