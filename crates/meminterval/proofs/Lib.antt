@@ -1,4 +1,5 @@
 pub mod Ends
+pub mod Insertions
 pub mod Ordered
 pub mod Overlap
 pub mod Trees

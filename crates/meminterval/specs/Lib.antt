@@ -1,5 +1,6 @@
 pub mod Entries
 pub mod Entry
+pub mod Insertion
 pub mod Interval
 pub mod Lending
 pub mod Place

@@ -2,7 +2,7 @@
 use crate::interval::Interval;
 
 /// An interval of a tree, and its value.
-#[derive(Debug, Drop)]
+#[derive(PartialEq, Eq, Debug, Drop)]
 pub struct Entry<'a, T: Ord, V> {
     pub value: &'a V,
     pub interval: &'a Interval<T>,

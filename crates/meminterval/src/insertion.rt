@@ -1,40 +1,84 @@
 //! A new pair below the nodes that are there.
-ghost use Rattle.std.specs.Prelude.{◌≡◌, ◌+◌, ◌<◌, ◌≤◌, ◌^◌, length};
-ghost use Rattle.meminterval.specs.Entries.{IsOrdered, with_entry};
+ghost use Rattle.std.specs.Prelude.{◌<◌, ◌^◌, length};
+ghost use Rattle.meminterval.specs.Entries.{IsOrdered};
+ghost use Rattle.meminterval.specs.Insertion.{IsInsertion};
 ghost use Rattle.meminterval.specs.Interval.{ClonesItself, by_ends};
-ghost use Rattle.meminterval.specs.Tree.{entries, levels, IsBalanced};
+ghost use Rattle.meminterval.specs.Tree.{entries, IsBalanced};
 ghost use Rattle.meminterval.specs.Subtree.{tree_of, IsRecorded};
 
-use crate::node::{Node, Subtree, fork, split};
+use crate::interval::Interval;
+use crate::node::{Node, Subtree, split};
 use crate::rotation::balance;
+use std::alloc::Global;
 use std::cmp::Ordering;
+use std::mem;
 
-/// Puts `new` where the order leads, unless its interval is there, and restores the balance from
-/// there up.
+/// A tree into which a pair was to be put.
+#[derive(Drop)]
+pub(crate) enum Insertion<T: Ord, V> {
+    /// With the pair.
+    Added(Subtree<T, V>),
+    /// As it was, since its interval is there.
+    Present(Subtree<T, V>),
+    /// As it was, since there was no memory.
+    NoMemory(Subtree<T, V>),
+}
+
+/// Puts a pair where the order leads, unless its interval is there, and restores the balance from
+/// there up. The node is made at the empty place, so that no memory is wanted where there is none.
 pub(crate) fn insert_below<T: Ord + Clone, V: Drop>(
+    alloc: Global,
     tree: Subtree<T, V>,
-    new: Box<Node<T, V>>,
-) -> Subtree<T, V>
+    interval: Interval<T>,
+    value: V,
+) -> Insertion<T, V>
     requires clones { ClonesItself T.is_clone T.is_infallible }
     requires recorded { IsRecorded T.cmp tree }
     requires balanced { IsBalanced (tree_of tree) }
     requires ordered { IsOrdered (by_ends T.cmp) (entries (tree_of tree)) }
     requires room { length (entries (tree_of tree)) < 2 ^ 63 }
-    ensures pairs { entries (tree_of result) ≡ with_entry (by_ends T.cmp) (new.value.interval, new.value.value) (entries (tree_of tree)) }
-    ensures recorded { IsRecorded T.cmp result }
-    ensures balanced { IsBalanced (tree_of result) }
-    ensures not_lower { levels (tree_of tree) ≤ levels (tree_of result) }
-    ensures not_higher { levels (tree_of result) ≤ levels (tree_of tree) + 1 }
+    ensures { IsInsertion T.cmp (interval, value) tree result }
 {
-    match tree {
-        Subtree::Empty => fork(Subtree::Empty, new, Subtree::Empty),
-        Subtree::Fork(node) => {
-            let order = new.interval.cmp(&node.interval);
-            let (left, node, right) = split(node);
-            match order {
-                Ordering::Less => balance(insert_below(left, new), node, right),
-                Ordering::Equal => fork(left, node, right),
-                Ordering::Greater => balance(left, node, insert_below(right, new)),
+    let Subtree::Fork(mut node) = tree else {
+        return match Box::new(alloc, Node::new(interval, value)) {
+            Ok(node) => Insertion::Added(Subtree::Fork(node)),
+            Err(_) => Insertion::NoMemory(Subtree::Empty),
+        };
+    };
+    match interval.cmp(&node.interval) {
+        Ordering::Less => {
+            let left = mem::replace(&mut node.left, Subtree::Empty);
+            match insert_below(alloc, left, interval, value) {
+                Insertion::Added(left) => {
+                    let (_, node, right) = split(node);
+                    Insertion::Added(balance(left, node, right))
+                }
+                Insertion::Present(left) => {
+                    node.left = left;
+                    Insertion::Present(Subtree::Fork(node))
+                }
+                Insertion::NoMemory(left) => {
+                    node.left = left;
+                    Insertion::NoMemory(Subtree::Fork(node))
+                }
+            }
+        }
+        Ordering::Equal => Insertion::Present(Subtree::Fork(node)),
+        Ordering::Greater => {
+            let right = mem::replace(&mut node.right, Subtree::Empty);
+            match insert_below(alloc, right, interval, value) {
+                Insertion::Added(right) => {
+                    let (left, node, _) = split(node);
+                    Insertion::Added(balance(left, node, right))
+                }
+                Insertion::Present(right) => {
+                    node.right = right;
+                    Insertion::Present(Subtree::Fork(node))
+                }
+                Insertion::NoMemory(right) => {
+                    node.right = right;
+                    Insertion::NoMemory(Subtree::Fork(node))
+                }
             }
         }
     }

@@ -80,6 +80,11 @@ impl<T: Ord + Clone, V> Node<T, V> {
         requires { ClonesItself T.is_clone T.is_infallible }
         ensures interval { result.interval ≡ interval }
         ensures value { result.value ≡ value }
+        ensures left { result.left ≡ Subtree.Empty }
+        ensures right { result.right ≡ Subtree.Empty }
+        ensures greatest { result.greatest ≡ interval.end }
+        ensures levels { result.levels ≡ 1 }
+        ensures size { result.size ≡ 1 }
     {
         let greatest = copied(&interval.end);
         Node {

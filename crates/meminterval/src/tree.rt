@@ -11,11 +11,11 @@ ghost use Rattle.meminterval.specs.Tree.{Leaf, entries, fibonacci, height, level
 use crate::deletion::{delete_below, take_greatest, take_least};
 use crate::entry::Entry;
 use crate::entry_mut::EntryMut;
-use crate::insertion::insert_below;
+use crate::insertion::{Insertion, insert_below};
 use crate::interval::Interval;
 use crate::iterators::IntervalTreeIterator;
 use crate::iterators_mut::{IntervalTreeIteratorMut, place_below};
-use crate::node::{Node, Subtree, clone_below};
+use crate::node::{Subtree, clone_below};
 use crate::shortening::shorten_below;
 use std::alloc::{AllocError, Global};
 use std::cmp::Ordering;
@@ -226,13 +226,21 @@ impl<T: Ord + Clone, V> IntervalTree<T, V> {
         ensures err { OnErr result (self.new ≡ self.old) }
         ensures there { IsSome (value_at (by_ends T.cmp) interval (entries self.old)) → IsOk result × (self.new ≡ self.old) }
     {
-        if self.find(&interval).is_some() {
-            return Ok(());
-        }
-        let node = Box::new(alloc, Node::new(interval, value))?;
         let root = mem::replace(&mut self.root, Subtree::Empty);
-        self.root = insert_below(root, node);
-        Ok(())
+        match insert_below(alloc, root, interval, value) {
+            Insertion::Added(root) => {
+                self.root = root;
+                Ok(())
+            }
+            Insertion::Present(root) => {
+                self.root = root;
+                Ok(())
+            }
+            Insertion::NoMemory(root) => {
+                self.root = root;
+                Err(AllocError)
+            }
+        }
     }
 
     /// Takes the pair at an interval out, if it is there.
