@@ -1,6 +1,6 @@
 //! The flags of the APIC base register.
 
-ghost use Rattle.std.specs.Prelude.{◌≡◌, ⊤};
+ghost use Rattle.std.specs.Prelude.{◌≡◌, ⊤, [], ◌∷◌, codes};
 ghost use Rattle.std.specs.Int.RustNames.{bit_or};
 ghost use Rattle.x86_flags.specs.ApicBaseFlags.{apic_base_bits, apic_base_flags};
 
@@ -23,20 +23,16 @@ impl ApicBaseFlags {
     /// The local interrupt controller is on.
     pub const LAPIC_ENABLE: Self = Self(1 << 11);
 
-    const FLAGS: &'static [Flag<Self>] = &[
-        Flag {
-            name: "BSP",
-            value: Self::BSP,
-        },
-        Flag {
-            name: "X2APIC_ENABLE",
-            value: Self::X2APIC_ENABLE,
-        },
-        Flag {
-            name: "LAPIC_ENABLE",
-            value: Self::LAPIC_ENABLE,
-        },
-    ];
+    const FLAGS: &'static [Flag<Self>] = flag_rows![BSP, X2APIC_ENABLE, LAPIC_ENABLE,];
+
+    /// Each name of the table has the bits of the constant of that name.
+    pub fn constants()
+        ensures { apic_base_flags
+            ≡ (codes "BSP", apic_base_bits Self.BSP)
+            ∷ (codes "X2APIC_ENABLE", apic_base_bits Self.X2APIC_ENABLE)
+            ∷ (codes "LAPIC_ENABLE", apic_base_bits Self.LAPIC_ENABLE)
+            ∷ [] }
+    {}
 }
 
 impl Flags for ApicBaseFlags {

@@ -1,6 +1,6 @@
 //! The flags of the registers U_CET and S_CET of control-flow enforcement.
 
-ghost use Rattle.std.specs.Prelude.{◌≡◌, ⊤};
+ghost use Rattle.std.specs.Prelude.{◌≡◌, ⊤, [], ◌∷◌, codes};
 ghost use Rattle.std.specs.Int.RustNames.{bit_or};
 ghost use Rattle.x86_flags.specs.CetFlags.{cet_bits, cet_flags};
 
@@ -38,40 +38,30 @@ impl CetFlags {
     /// The next instruction has to be a target of indirect branches.
     pub const IBT_TRACKED: Self = Self(1 << 11);
 
-    const FLAGS: &'static [Flag<Self>] = &[
-        Flag {
-            name: "SS_ENABLE",
-            value: Self::SS_ENABLE,
-        },
-        Flag {
-            name: "SS_WRITE_ENABLE",
-            value: Self::SS_WRITE_ENABLE,
-        },
-        Flag {
-            name: "IBT_ENABLE",
-            value: Self::IBT_ENABLE,
-        },
-        Flag {
-            name: "IBT_LEGACY_ENABLE",
-            value: Self::IBT_LEGACY_ENABLE,
-        },
-        Flag {
-            name: "IBT_NO_TRACK_ENABLE",
-            value: Self::IBT_NO_TRACK_ENABLE,
-        },
-        Flag {
-            name: "IBT_LEGACY_SUPPRESS_ENABLE",
-            value: Self::IBT_LEGACY_SUPPRESS_ENABLE,
-        },
-        Flag {
-            name: "IBT_SUPPRESS_ENABLE",
-            value: Self::IBT_SUPPRESS_ENABLE,
-        },
-        Flag {
-            name: "IBT_TRACKED",
-            value: Self::IBT_TRACKED,
-        },
+    const FLAGS: &'static [Flag<Self>] = flag_rows![
+        SS_ENABLE,
+        SS_WRITE_ENABLE,
+        IBT_ENABLE,
+        IBT_LEGACY_ENABLE,
+        IBT_NO_TRACK_ENABLE,
+        IBT_LEGACY_SUPPRESS_ENABLE,
+        IBT_SUPPRESS_ENABLE,
+        IBT_TRACKED,
     ];
+
+    /// Each name of the table has the bits of the constant of that name.
+    pub fn constants()
+        ensures { cet_flags
+            ≡ (codes "SS_ENABLE", cet_bits Self.SS_ENABLE)
+            ∷ (codes "SS_WRITE_ENABLE", cet_bits Self.SS_WRITE_ENABLE)
+            ∷ (codes "IBT_ENABLE", cet_bits Self.IBT_ENABLE)
+            ∷ (codes "IBT_LEGACY_ENABLE", cet_bits Self.IBT_LEGACY_ENABLE)
+            ∷ (codes "IBT_NO_TRACK_ENABLE", cet_bits Self.IBT_NO_TRACK_ENABLE)
+            ∷ (codes "IBT_LEGACY_SUPPRESS_ENABLE", cet_bits Self.IBT_LEGACY_SUPPRESS_ENABLE)
+            ∷ (codes "IBT_SUPPRESS_ENABLE", cet_bits Self.IBT_SUPPRESS_ENABLE)
+            ∷ (codes "IBT_TRACKED", cet_bits Self.IBT_TRACKED)
+            ∷ [] }
+    {}
 }
 
 impl Flags for CetFlags {

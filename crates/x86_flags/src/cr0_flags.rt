@@ -1,6 +1,6 @@
 //! The flags of the control register CR0.
 
-ghost use Rattle.std.specs.Prelude.{◌≡◌, ⊤};
+ghost use Rattle.std.specs.Prelude.{◌≡◌, ⊤, [], ◌∷◌, codes};
 ghost use Rattle.std.specs.Int.RustNames.{bit_or};
 ghost use Rattle.x86_flags.specs.Cr0Flags.{cr0_bits, cr0_flags};
 
@@ -47,52 +47,36 @@ impl Cr0Flags {
     /// Addresses are translated by the page tables.
     pub const PAGING: Self = Self(1 << 31);
 
-    const FLAGS: &'static [Flag<Self>] = &[
-        Flag {
-            name: "PROTECTED_MODE_ENABLE",
-            value: Self::PROTECTED_MODE_ENABLE,
-        },
-        Flag {
-            name: "MONITOR_COPROCESSOR",
-            value: Self::MONITOR_COPROCESSOR,
-        },
-        Flag {
-            name: "EMULATE_COPROCESSOR",
-            value: Self::EMULATE_COPROCESSOR,
-        },
-        Flag {
-            name: "TASK_SWITCHED",
-            value: Self::TASK_SWITCHED,
-        },
-        Flag {
-            name: "EXTENSION_TYPE",
-            value: Self::EXTENSION_TYPE,
-        },
-        Flag {
-            name: "NUMERIC_ERROR",
-            value: Self::NUMERIC_ERROR,
-        },
-        Flag {
-            name: "WRITE_PROTECT",
-            value: Self::WRITE_PROTECT,
-        },
-        Flag {
-            name: "ALIGNMENT_MASK",
-            value: Self::ALIGNMENT_MASK,
-        },
-        Flag {
-            name: "NOT_WRITE_THROUGH",
-            value: Self::NOT_WRITE_THROUGH,
-        },
-        Flag {
-            name: "CACHE_DISABLE",
-            value: Self::CACHE_DISABLE,
-        },
-        Flag {
-            name: "PAGING",
-            value: Self::PAGING,
-        },
+    const FLAGS: &'static [Flag<Self>] = flag_rows![
+        PROTECTED_MODE_ENABLE,
+        MONITOR_COPROCESSOR,
+        EMULATE_COPROCESSOR,
+        TASK_SWITCHED,
+        EXTENSION_TYPE,
+        NUMERIC_ERROR,
+        WRITE_PROTECT,
+        ALIGNMENT_MASK,
+        NOT_WRITE_THROUGH,
+        CACHE_DISABLE,
+        PAGING,
     ];
+
+    /// Each name of the table has the bits of the constant of that name.
+    pub fn constants()
+        ensures { cr0_flags
+            ≡ (codes "PROTECTED_MODE_ENABLE", cr0_bits Self.PROTECTED_MODE_ENABLE)
+            ∷ (codes "MONITOR_COPROCESSOR", cr0_bits Self.MONITOR_COPROCESSOR)
+            ∷ (codes "EMULATE_COPROCESSOR", cr0_bits Self.EMULATE_COPROCESSOR)
+            ∷ (codes "TASK_SWITCHED", cr0_bits Self.TASK_SWITCHED)
+            ∷ (codes "EXTENSION_TYPE", cr0_bits Self.EXTENSION_TYPE)
+            ∷ (codes "NUMERIC_ERROR", cr0_bits Self.NUMERIC_ERROR)
+            ∷ (codes "WRITE_PROTECT", cr0_bits Self.WRITE_PROTECT)
+            ∷ (codes "ALIGNMENT_MASK", cr0_bits Self.ALIGNMENT_MASK)
+            ∷ (codes "NOT_WRITE_THROUGH", cr0_bits Self.NOT_WRITE_THROUGH)
+            ∷ (codes "CACHE_DISABLE", cr0_bits Self.CACHE_DISABLE)
+            ∷ (codes "PAGING", cr0_bits Self.PAGING)
+            ∷ [] }
+    {}
 }
 
 impl Flags for Cr0Flags {

@@ -1,6 +1,6 @@
 //! The flags of the control register CR3.
 
-ghost use Rattle.std.specs.Prelude.{◌≡◌, ⊤};
+ghost use Rattle.std.specs.Prelude.{◌≡◌, ⊤, [], ◌∷◌, codes};
 ghost use Rattle.std.specs.Int.RustNames.{bit_or};
 ghost use Rattle.x86_flags.specs.Cr3Flags.{cr3_bits, cr3_flags};
 
@@ -20,16 +20,18 @@ impl Cr3Flags {
     /// The top table is not cached.
     pub const PAGE_LEVEL_CACHE_DISABLE: Self = Self(1 << 4);
 
-    const FLAGS: &'static [Flag<Self>] = &[
-        Flag {
-            name: "PAGE_LEVEL_WRITETHROUGH",
-            value: Self::PAGE_LEVEL_WRITETHROUGH,
-        },
-        Flag {
-            name: "PAGE_LEVEL_CACHE_DISABLE",
-            value: Self::PAGE_LEVEL_CACHE_DISABLE,
-        },
+    const FLAGS: &'static [Flag<Self>] = flag_rows![
+        PAGE_LEVEL_WRITETHROUGH,
+        PAGE_LEVEL_CACHE_DISABLE,
     ];
+
+    /// Each name of the table has the bits of the constant of that name.
+    pub fn constants()
+        ensures { cr3_flags
+            ≡ (codes "PAGE_LEVEL_WRITETHROUGH", cr3_bits Self.PAGE_LEVEL_WRITETHROUGH)
+            ∷ (codes "PAGE_LEVEL_CACHE_DISABLE", cr3_bits Self.PAGE_LEVEL_CACHE_DISABLE)
+            ∷ [] }
+    {}
 }
 
 impl Flags for Cr3Flags {

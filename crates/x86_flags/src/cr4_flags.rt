@@ -1,6 +1,6 @@
 //! The flags of the control register CR4.
 
-ghost use Rattle.std.specs.Prelude.{◌≡◌, ⊤};
+ghost use Rattle.std.specs.Prelude.{◌≡◌, ⊤, [], ◌∷◌, codes};
 ghost use Rattle.std.specs.Int.RustNames.{bit_or};
 ghost use Rattle.x86_flags.specs.Cr4Flags.{cr4_bits, cr4_flags};
 
@@ -86,104 +86,62 @@ impl Cr4Flags {
     /// Supervisor pages have protection keys, by PKRS (Intel alone).
     pub const PROTECTION_KEY_SUPERVISOR: Self = Self(1 << 24);
 
-    const FLAGS: &'static [Flag<Self>] = &[
-        Flag {
-            name: "VIRTUAL_8086_MODE_EXTENSIONS",
-            value: Self::VIRTUAL_8086_MODE_EXTENSIONS,
-        },
-        Flag {
-            name: "PROTECTED_MODE_VIRTUAL_INTERRUPTS",
-            value: Self::PROTECTED_MODE_VIRTUAL_INTERRUPTS,
-        },
-        Flag {
-            name: "TIMESTAMP_DISABLE",
-            value: Self::TIMESTAMP_DISABLE,
-        },
-        Flag {
-            name: "DEBUGGING_EXTENSIONS",
-            value: Self::DEBUGGING_EXTENSIONS,
-        },
-        Flag {
-            name: "PAGE_SIZE_EXTENSION",
-            value: Self::PAGE_SIZE_EXTENSION,
-        },
-        Flag {
-            name: "PHYSICAL_ADDRESS_EXTENSION",
-            value: Self::PHYSICAL_ADDRESS_EXTENSION,
-        },
-        Flag {
-            name: "MACHINE_CHECK_EXCEPTION",
-            value: Self::MACHINE_CHECK_EXCEPTION,
-        },
-        Flag {
-            name: "PAGE_GLOBAL",
-            value: Self::PAGE_GLOBAL,
-        },
-        Flag {
-            name: "PERFORMANCE_MONITOR_COUNTER",
-            value: Self::PERFORMANCE_MONITOR_COUNTER,
-        },
-        Flag {
-            name: "OSFXSR",
-            value: Self::OSFXSR,
-        },
-        Flag {
-            name: "OSXMMEXCPT_ENABLE",
-            value: Self::OSXMMEXCPT_ENABLE,
-        },
-        Flag {
-            name: "USER_MODE_INSTRUCTION_PREVENTION",
-            value: Self::USER_MODE_INSTRUCTION_PREVENTION,
-        },
-        Flag {
-            name: "L5_PAGING",
-            value: Self::L5_PAGING,
-        },
-        Flag {
-            name: "VIRTUAL_MACHINE_EXTENSIONS",
-            value: Self::VIRTUAL_MACHINE_EXTENSIONS,
-        },
-        Flag {
-            name: "SAFER_MODE_EXTENSIONS",
-            value: Self::SAFER_MODE_EXTENSIONS,
-        },
-        Flag {
-            name: "FSGSBASE",
-            value: Self::FSGSBASE,
-        },
-        Flag {
-            name: "PCID",
-            value: Self::PCID,
-        },
-        Flag {
-            name: "OSXSAVE",
-            value: Self::OSXSAVE,
-        },
-        Flag {
-            name: "KEY_LOCKER",
-            value: Self::KEY_LOCKER,
-        },
-        Flag {
-            name: "SUPERVISOR_MODE_EXECUTION_PROTECTION",
-            value: Self::SUPERVISOR_MODE_EXECUTION_PROTECTION,
-        },
-        Flag {
-            name: "SUPERVISOR_MODE_ACCESS_PREVENTION",
-            value: Self::SUPERVISOR_MODE_ACCESS_PREVENTION,
-        },
-        Flag {
-            name: "PROTECTION_KEY_USER",
-            value: Self::PROTECTION_KEY_USER,
-        },
-        Flag {
-            name: "CONTROL_FLOW_ENFORCEMENT",
-            value: Self::CONTROL_FLOW_ENFORCEMENT,
-        },
-        Flag {
-            name: "PROTECTION_KEY_SUPERVISOR",
-            value: Self::PROTECTION_KEY_SUPERVISOR,
-        },
+    const FLAGS: &'static [Flag<Self>] = flag_rows![
+        VIRTUAL_8086_MODE_EXTENSIONS,
+        PROTECTED_MODE_VIRTUAL_INTERRUPTS,
+        TIMESTAMP_DISABLE,
+        DEBUGGING_EXTENSIONS,
+        PAGE_SIZE_EXTENSION,
+        PHYSICAL_ADDRESS_EXTENSION,
+        MACHINE_CHECK_EXCEPTION,
+        PAGE_GLOBAL,
+        PERFORMANCE_MONITOR_COUNTER,
+        OSFXSR,
+        OSXMMEXCPT_ENABLE,
+        USER_MODE_INSTRUCTION_PREVENTION,
+        L5_PAGING,
+        VIRTUAL_MACHINE_EXTENSIONS,
+        SAFER_MODE_EXTENSIONS,
+        FSGSBASE,
+        PCID,
+        OSXSAVE,
+        KEY_LOCKER,
+        SUPERVISOR_MODE_EXECUTION_PROTECTION,
+        SUPERVISOR_MODE_ACCESS_PREVENTION,
+        PROTECTION_KEY_USER,
+        CONTROL_FLOW_ENFORCEMENT,
+        PROTECTION_KEY_SUPERVISOR,
     ];
+
+    /// Each name of the table has the bits of the constant of that name.
+    pub fn constants()
+        ensures { cr4_flags
+            ≡ (codes "VIRTUAL_8086_MODE_EXTENSIONS", cr4_bits Self.VIRTUAL_8086_MODE_EXTENSIONS)
+            ∷ (codes "PROTECTED_MODE_VIRTUAL_INTERRUPTS", cr4_bits Self.PROTECTED_MODE_VIRTUAL_INTERRUPTS)
+            ∷ (codes "TIMESTAMP_DISABLE", cr4_bits Self.TIMESTAMP_DISABLE)
+            ∷ (codes "DEBUGGING_EXTENSIONS", cr4_bits Self.DEBUGGING_EXTENSIONS)
+            ∷ (codes "PAGE_SIZE_EXTENSION", cr4_bits Self.PAGE_SIZE_EXTENSION)
+            ∷ (codes "PHYSICAL_ADDRESS_EXTENSION", cr4_bits Self.PHYSICAL_ADDRESS_EXTENSION)
+            ∷ (codes "MACHINE_CHECK_EXCEPTION", cr4_bits Self.MACHINE_CHECK_EXCEPTION)
+            ∷ (codes "PAGE_GLOBAL", cr4_bits Self.PAGE_GLOBAL)
+            ∷ (codes "PERFORMANCE_MONITOR_COUNTER", cr4_bits Self.PERFORMANCE_MONITOR_COUNTER)
+            ∷ (codes "OSFXSR", cr4_bits Self.OSFXSR)
+            ∷ (codes "OSXMMEXCPT_ENABLE", cr4_bits Self.OSXMMEXCPT_ENABLE)
+            ∷ (codes "USER_MODE_INSTRUCTION_PREVENTION", cr4_bits Self.USER_MODE_INSTRUCTION_PREVENTION)
+            ∷ (codes "L5_PAGING", cr4_bits Self.L5_PAGING)
+            ∷ (codes "VIRTUAL_MACHINE_EXTENSIONS", cr4_bits Self.VIRTUAL_MACHINE_EXTENSIONS)
+            ∷ (codes "SAFER_MODE_EXTENSIONS", cr4_bits Self.SAFER_MODE_EXTENSIONS)
+            ∷ (codes "FSGSBASE", cr4_bits Self.FSGSBASE)
+            ∷ (codes "PCID", cr4_bits Self.PCID)
+            ∷ (codes "OSXSAVE", cr4_bits Self.OSXSAVE)
+            ∷ (codes "KEY_LOCKER", cr4_bits Self.KEY_LOCKER)
+            ∷ (codes "SUPERVISOR_MODE_EXECUTION_PROTECTION", cr4_bits Self.SUPERVISOR_MODE_EXECUTION_PROTECTION)
+            ∷ (codes "SUPERVISOR_MODE_ACCESS_PREVENTION", cr4_bits Self.SUPERVISOR_MODE_ACCESS_PREVENTION)
+            ∷ (codes "PROTECTION_KEY_USER", cr4_bits Self.PROTECTION_KEY_USER)
+            ∷ (codes "CONTROL_FLOW_ENFORCEMENT", cr4_bits Self.CONTROL_FLOW_ENFORCEMENT)
+            ∷ (codes "PROTECTION_KEY_SUPERVISOR", cr4_bits Self.PROTECTION_KEY_SUPERVISOR)
+            ∷ [] }
+    {}
 }
 
 impl Flags for Cr4Flags {

@@ -1,6 +1,6 @@
 //! The flags of the debug status register DR6.
 
-ghost use Rattle.std.specs.Prelude.{◌≡◌, ⊤, ◌^◌};
+ghost use Rattle.std.specs.Prelude.{◌≡◌, ⊤, [], ◌∷◌, codes, ◌^◌};
 ghost use Rattle.std.specs.Int.RustNames.{bit_or};
 ghost use Rattle.x86_flags.specs.Dr6Flags.{dr6_bits, dr6_flags};
 ghost use Rattle.x86_flags.specs.DebugAddressRegisterNumber.{register_number};
@@ -43,44 +43,32 @@ impl Dr6Flags {
     /// Clear where the exception came inside a transactional region.
     pub const RTM: Self = Self(1 << 16);
 
-    const FLAGS: &'static [Flag<Self>] = &[
-        Flag {
-            name: "TRAP0",
-            value: Self::TRAP0,
-        },
-        Flag {
-            name: "TRAP1",
-            value: Self::TRAP1,
-        },
-        Flag {
-            name: "TRAP2",
-            value: Self::TRAP2,
-        },
-        Flag {
-            name: "TRAP3",
-            value: Self::TRAP3,
-        },
-        Flag {
-            name: "TRAP",
-            value: Self::TRAP,
-        },
-        Flag {
-            name: "ACCESS_DETECTED",
-            value: Self::ACCESS_DETECTED,
-        },
-        Flag {
-            name: "STEP",
-            value: Self::STEP,
-        },
-        Flag {
-            name: "SWITCH",
-            value: Self::SWITCH,
-        },
-        Flag {
-            name: "RTM",
-            value: Self::RTM,
-        },
+    const FLAGS: &'static [Flag<Self>] = flag_rows![
+        TRAP0,
+        TRAP1,
+        TRAP2,
+        TRAP3,
+        TRAP,
+        ACCESS_DETECTED,
+        STEP,
+        SWITCH,
+        RTM,
     ];
+
+    /// Each name of the table has the bits of the constant of that name.
+    pub fn constants()
+        ensures { dr6_flags
+            ≡ (codes "TRAP0", dr6_bits Self.TRAP0)
+            ∷ (codes "TRAP1", dr6_bits Self.TRAP1)
+            ∷ (codes "TRAP2", dr6_bits Self.TRAP2)
+            ∷ (codes "TRAP3", dr6_bits Self.TRAP3)
+            ∷ (codes "TRAP", dr6_bits Self.TRAP)
+            ∷ (codes "ACCESS_DETECTED", dr6_bits Self.ACCESS_DETECTED)
+            ∷ (codes "STEP", dr6_bits Self.STEP)
+            ∷ (codes "SWITCH", dr6_bits Self.SWITCH)
+            ∷ (codes "RTM", dr6_bits Self.RTM)
+            ∷ [] }
+    {}
 
     /// The flag of the breakpoint in this debug address register.
     pub fn trap(n: DebugAddressRegisterNumber) -> Self

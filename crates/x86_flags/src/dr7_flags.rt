@@ -1,6 +1,6 @@
 //! The flags of the debug control register DR7.
 
-ghost use Rattle.std.specs.Prelude.{◌≡◌, ⊤, ◌^◌, ◌*◌, ◌+◌};
+ghost use Rattle.std.specs.Prelude.{◌≡◌, ⊤, [], ◌∷◌, codes, ◌^◌, ◌*◌, ◌+◌};
 ghost use Rattle.std.specs.Int.RustNames.{bit_or};
 ghost use Rattle.x86_flags.specs.Dr7Flags.{dr7_bits, dr7_flags};
 ghost use Rattle.x86_flags.specs.DebugAddressRegisterNumber.{register_number};
@@ -52,56 +52,38 @@ impl Dr7Flags {
     /// An access to a debug register faults.
     pub const GENERAL_DETECT_ENABLE: Self = Self(1 << 13);
 
-    const FLAGS: &'static [Flag<Self>] = &[
-        Flag {
-            name: "LOCAL_BREAKPOINT_0_ENABLE",
-            value: Self::LOCAL_BREAKPOINT_0_ENABLE,
-        },
-        Flag {
-            name: "LOCAL_BREAKPOINT_1_ENABLE",
-            value: Self::LOCAL_BREAKPOINT_1_ENABLE,
-        },
-        Flag {
-            name: "LOCAL_BREAKPOINT_2_ENABLE",
-            value: Self::LOCAL_BREAKPOINT_2_ENABLE,
-        },
-        Flag {
-            name: "LOCAL_BREAKPOINT_3_ENABLE",
-            value: Self::LOCAL_BREAKPOINT_3_ENABLE,
-        },
-        Flag {
-            name: "GLOBAL_BREAKPOINT_0_ENABLE",
-            value: Self::GLOBAL_BREAKPOINT_0_ENABLE,
-        },
-        Flag {
-            name: "GLOBAL_BREAKPOINT_1_ENABLE",
-            value: Self::GLOBAL_BREAKPOINT_1_ENABLE,
-        },
-        Flag {
-            name: "GLOBAL_BREAKPOINT_2_ENABLE",
-            value: Self::GLOBAL_BREAKPOINT_2_ENABLE,
-        },
-        Flag {
-            name: "GLOBAL_BREAKPOINT_3_ENABLE",
-            value: Self::GLOBAL_BREAKPOINT_3_ENABLE,
-        },
-        Flag {
-            name: "LOCAL_EXACT_BREAKPOINT_ENABLE",
-            value: Self::LOCAL_EXACT_BREAKPOINT_ENABLE,
-        },
-        Flag {
-            name: "GLOBAL_EXACT_BREAKPOINT_ENABLE",
-            value: Self::GLOBAL_EXACT_BREAKPOINT_ENABLE,
-        },
-        Flag {
-            name: "RESTRICTED_TRANSACTIONAL_MEMORY",
-            value: Self::RESTRICTED_TRANSACTIONAL_MEMORY,
-        },
-        Flag {
-            name: "GENERAL_DETECT_ENABLE",
-            value: Self::GENERAL_DETECT_ENABLE,
-        },
+    const FLAGS: &'static [Flag<Self>] = flag_rows![
+        LOCAL_BREAKPOINT_0_ENABLE,
+        LOCAL_BREAKPOINT_1_ENABLE,
+        LOCAL_BREAKPOINT_2_ENABLE,
+        LOCAL_BREAKPOINT_3_ENABLE,
+        GLOBAL_BREAKPOINT_0_ENABLE,
+        GLOBAL_BREAKPOINT_1_ENABLE,
+        GLOBAL_BREAKPOINT_2_ENABLE,
+        GLOBAL_BREAKPOINT_3_ENABLE,
+        LOCAL_EXACT_BREAKPOINT_ENABLE,
+        GLOBAL_EXACT_BREAKPOINT_ENABLE,
+        RESTRICTED_TRANSACTIONAL_MEMORY,
+        GENERAL_DETECT_ENABLE,
     ];
+
+    /// Each name of the table has the bits of the constant of that name.
+    pub fn constants()
+        ensures { dr7_flags
+            ≡ (codes "LOCAL_BREAKPOINT_0_ENABLE", dr7_bits Self.LOCAL_BREAKPOINT_0_ENABLE)
+            ∷ (codes "LOCAL_BREAKPOINT_1_ENABLE", dr7_bits Self.LOCAL_BREAKPOINT_1_ENABLE)
+            ∷ (codes "LOCAL_BREAKPOINT_2_ENABLE", dr7_bits Self.LOCAL_BREAKPOINT_2_ENABLE)
+            ∷ (codes "LOCAL_BREAKPOINT_3_ENABLE", dr7_bits Self.LOCAL_BREAKPOINT_3_ENABLE)
+            ∷ (codes "GLOBAL_BREAKPOINT_0_ENABLE", dr7_bits Self.GLOBAL_BREAKPOINT_0_ENABLE)
+            ∷ (codes "GLOBAL_BREAKPOINT_1_ENABLE", dr7_bits Self.GLOBAL_BREAKPOINT_1_ENABLE)
+            ∷ (codes "GLOBAL_BREAKPOINT_2_ENABLE", dr7_bits Self.GLOBAL_BREAKPOINT_2_ENABLE)
+            ∷ (codes "GLOBAL_BREAKPOINT_3_ENABLE", dr7_bits Self.GLOBAL_BREAKPOINT_3_ENABLE)
+            ∷ (codes "LOCAL_EXACT_BREAKPOINT_ENABLE", dr7_bits Self.LOCAL_EXACT_BREAKPOINT_ENABLE)
+            ∷ (codes "GLOBAL_EXACT_BREAKPOINT_ENABLE", dr7_bits Self.GLOBAL_EXACT_BREAKPOINT_ENABLE)
+            ∷ (codes "RESTRICTED_TRANSACTIONAL_MEMORY", dr7_bits Self.RESTRICTED_TRANSACTIONAL_MEMORY)
+            ∷ (codes "GENERAL_DETECT_ENABLE", dr7_bits Self.GENERAL_DETECT_ENABLE)
+            ∷ [] }
+    {}
 
     /// The flag that turns the breakpoint in this debug address register on for the current task.
     pub fn local_breakpoint_enable(n: DebugAddressRegisterNumber) -> Self

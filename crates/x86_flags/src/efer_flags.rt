@@ -1,6 +1,6 @@
 //! The flags of the extended feature enable register.
 
-ghost use Rattle.std.specs.Prelude.{◌≡◌, ⊤};
+ghost use Rattle.std.specs.Prelude.{◌≡◌, ⊤, [], ◌∷◌, codes};
 ghost use Rattle.std.specs.Int.RustNames.{bit_or};
 ghost use Rattle.x86_flags.specs.EferFlags.{efer_bits, efer_flags};
 
@@ -38,40 +38,30 @@ impl EferFlags {
     /// `INVLPG` leaves cached upper entries of other pages alone.
     pub const TRANSLATION_CACHE_EXTENSION: Self = Self(1 << 15);
 
-    const FLAGS: &'static [Flag<Self>] = &[
-        Flag {
-            name: "SYSTEM_CALL_EXTENSIONS",
-            value: Self::SYSTEM_CALL_EXTENSIONS,
-        },
-        Flag {
-            name: "LONG_MODE_ENABLE",
-            value: Self::LONG_MODE_ENABLE,
-        },
-        Flag {
-            name: "LONG_MODE_ACTIVE",
-            value: Self::LONG_MODE_ACTIVE,
-        },
-        Flag {
-            name: "NO_EXECUTE_ENABLE",
-            value: Self::NO_EXECUTE_ENABLE,
-        },
-        Flag {
-            name: "SECURE_VIRTUAL_MACHINE_ENABLE",
-            value: Self::SECURE_VIRTUAL_MACHINE_ENABLE,
-        },
-        Flag {
-            name: "LONG_MODE_SEGMENT_LIMIT_ENABLE",
-            value: Self::LONG_MODE_SEGMENT_LIMIT_ENABLE,
-        },
-        Flag {
-            name: "FAST_FXSAVE_FXRSTOR",
-            value: Self::FAST_FXSAVE_FXRSTOR,
-        },
-        Flag {
-            name: "TRANSLATION_CACHE_EXTENSION",
-            value: Self::TRANSLATION_CACHE_EXTENSION,
-        },
+    const FLAGS: &'static [Flag<Self>] = flag_rows![
+        SYSTEM_CALL_EXTENSIONS,
+        LONG_MODE_ENABLE,
+        LONG_MODE_ACTIVE,
+        NO_EXECUTE_ENABLE,
+        SECURE_VIRTUAL_MACHINE_ENABLE,
+        LONG_MODE_SEGMENT_LIMIT_ENABLE,
+        FAST_FXSAVE_FXRSTOR,
+        TRANSLATION_CACHE_EXTENSION,
     ];
+
+    /// Each name of the table has the bits of the constant of that name.
+    pub fn constants()
+        ensures { efer_flags
+            ≡ (codes "SYSTEM_CALL_EXTENSIONS", efer_bits Self.SYSTEM_CALL_EXTENSIONS)
+            ∷ (codes "LONG_MODE_ENABLE", efer_bits Self.LONG_MODE_ENABLE)
+            ∷ (codes "LONG_MODE_ACTIVE", efer_bits Self.LONG_MODE_ACTIVE)
+            ∷ (codes "NO_EXECUTE_ENABLE", efer_bits Self.NO_EXECUTE_ENABLE)
+            ∷ (codes "SECURE_VIRTUAL_MACHINE_ENABLE", efer_bits Self.SECURE_VIRTUAL_MACHINE_ENABLE)
+            ∷ (codes "LONG_MODE_SEGMENT_LIMIT_ENABLE", efer_bits Self.LONG_MODE_SEGMENT_LIMIT_ENABLE)
+            ∷ (codes "FAST_FXSAVE_FXRSTOR", efer_bits Self.FAST_FXSAVE_FXRSTOR)
+            ∷ (codes "TRANSLATION_CACHE_EXTENSION", efer_bits Self.TRANSLATION_CACHE_EXTENSION)
+            ∷ [] }
+    {}
 }
 
 impl Flags for EferFlags {

@@ -1,6 +1,15 @@
 //! The flags of the x86-64 registers, and the small values that their fields hold.
 #![tactic(auto)]
 
+/// The rows of a table of flags: the name and the value of each constant that is named. It is called among
+/// the constants' own type, in a crate that has `bitflags`.
+#[macro_export]
+macro_rules! flag_rows {
+    ($($name:ident),* $(,)?) => {
+        &[$(bitflags::Flag { name: stringify!($name), value: Self::$name },)*]
+    };
+}
+
 mod apic_base_flags;
 mod breakpoint_condition;
 mod breakpoint_size;
@@ -13,6 +22,7 @@ mod dr6_flags;
 mod dr7_flags;
 mod dr7_value;
 mod efer_flags;
+mod laws;
 mod mxcsr;
 mod pcid;
 mod priority_class;
@@ -35,6 +45,10 @@ pub use crate::dr6_flags::Dr6Flags;
 pub use crate::dr7_flags::Dr7Flags;
 pub use crate::dr7_value::Dr7Value;
 pub use crate::efer_flags::EferFlags;
+pub use crate::laws::{
+    null_selector, number_of_class, number_of_condition, number_of_level, number_of_register,
+    number_of_size,
+};
 pub use crate::mxcsr::MxCsr;
 pub use crate::pcid::{Pcid, PcidTooBig};
 pub use crate::priority_class::PriorityClass;

@@ -1,6 +1,6 @@
 //! The flags of the SIMD control and status register MXCSR.
 
-ghost use Rattle.std.specs.Prelude.{◌≡◌, ⊤};
+ghost use Rattle.std.specs.Prelude.{◌≡◌, ⊤, [], ◌∷◌, codes};
 ghost use Rattle.std.specs.Int.RustNames.{bit_or};
 ghost use Rattle.x86_flags.specs.MxCsr.{mxcsr_bits, mxcsr_flags};
 
@@ -65,76 +65,48 @@ impl MxCsr {
     /// A result that is too small becomes zero.
     pub const FLUSH_TO_ZERO: Self = Self(1 << 15);
 
-    const FLAGS: &'static [Flag<Self>] = &[
-        Flag {
-            name: "INVALID_OPERATION",
-            value: Self::INVALID_OPERATION,
-        },
-        Flag {
-            name: "DENORMAL",
-            value: Self::DENORMAL,
-        },
-        Flag {
-            name: "DIVIDE_BY_ZERO",
-            value: Self::DIVIDE_BY_ZERO,
-        },
-        Flag {
-            name: "OVERFLOW",
-            value: Self::OVERFLOW,
-        },
-        Flag {
-            name: "UNDERFLOW",
-            value: Self::UNDERFLOW,
-        },
-        Flag {
-            name: "PRECISION",
-            value: Self::PRECISION,
-        },
-        Flag {
-            name: "DENORMALS_ARE_ZEROS",
-            value: Self::DENORMALS_ARE_ZEROS,
-        },
-        Flag {
-            name: "INVALID_OPERATION_MASK",
-            value: Self::INVALID_OPERATION_MASK,
-        },
-        Flag {
-            name: "DENORMAL_MASK",
-            value: Self::DENORMAL_MASK,
-        },
-        Flag {
-            name: "DIVIDE_BY_ZERO_MASK",
-            value: Self::DIVIDE_BY_ZERO_MASK,
-        },
-        Flag {
-            name: "OVERFLOW_MASK",
-            value: Self::OVERFLOW_MASK,
-        },
-        Flag {
-            name: "UNDERFLOW_MASK",
-            value: Self::UNDERFLOW_MASK,
-        },
-        Flag {
-            name: "PRECISION_MASK",
-            value: Self::PRECISION_MASK,
-        },
-        Flag {
-            name: "ROUNDING_CONTROL_NEGATIVE",
-            value: Self::ROUNDING_CONTROL_NEGATIVE,
-        },
-        Flag {
-            name: "ROUNDING_CONTROL_POSITIVE",
-            value: Self::ROUNDING_CONTROL_POSITIVE,
-        },
-        Flag {
-            name: "ROUNDING_CONTROL_ZERO",
-            value: Self::ROUNDING_CONTROL_ZERO,
-        },
-        Flag {
-            name: "FLUSH_TO_ZERO",
-            value: Self::FLUSH_TO_ZERO,
-        },
+    const FLAGS: &'static [Flag<Self>] = flag_rows![
+        INVALID_OPERATION,
+        DENORMAL,
+        DIVIDE_BY_ZERO,
+        OVERFLOW,
+        UNDERFLOW,
+        PRECISION,
+        DENORMALS_ARE_ZEROS,
+        INVALID_OPERATION_MASK,
+        DENORMAL_MASK,
+        DIVIDE_BY_ZERO_MASK,
+        OVERFLOW_MASK,
+        UNDERFLOW_MASK,
+        PRECISION_MASK,
+        ROUNDING_CONTROL_NEGATIVE,
+        ROUNDING_CONTROL_POSITIVE,
+        ROUNDING_CONTROL_ZERO,
+        FLUSH_TO_ZERO,
     ];
+
+    /// Each name of the table has the bits of the constant of that name.
+    pub fn constants()
+        ensures { mxcsr_flags
+            ≡ (codes "INVALID_OPERATION", mxcsr_bits Self.INVALID_OPERATION)
+            ∷ (codes "DENORMAL", mxcsr_bits Self.DENORMAL)
+            ∷ (codes "DIVIDE_BY_ZERO", mxcsr_bits Self.DIVIDE_BY_ZERO)
+            ∷ (codes "OVERFLOW", mxcsr_bits Self.OVERFLOW)
+            ∷ (codes "UNDERFLOW", mxcsr_bits Self.UNDERFLOW)
+            ∷ (codes "PRECISION", mxcsr_bits Self.PRECISION)
+            ∷ (codes "DENORMALS_ARE_ZEROS", mxcsr_bits Self.DENORMALS_ARE_ZEROS)
+            ∷ (codes "INVALID_OPERATION_MASK", mxcsr_bits Self.INVALID_OPERATION_MASK)
+            ∷ (codes "DENORMAL_MASK", mxcsr_bits Self.DENORMAL_MASK)
+            ∷ (codes "DIVIDE_BY_ZERO_MASK", mxcsr_bits Self.DIVIDE_BY_ZERO_MASK)
+            ∷ (codes "OVERFLOW_MASK", mxcsr_bits Self.OVERFLOW_MASK)
+            ∷ (codes "UNDERFLOW_MASK", mxcsr_bits Self.UNDERFLOW_MASK)
+            ∷ (codes "PRECISION_MASK", mxcsr_bits Self.PRECISION_MASK)
+            ∷ (codes "ROUNDING_CONTROL_NEGATIVE", mxcsr_bits Self.ROUNDING_CONTROL_NEGATIVE)
+            ∷ (codes "ROUNDING_CONTROL_POSITIVE", mxcsr_bits Self.ROUNDING_CONTROL_POSITIVE)
+            ∷ (codes "ROUNDING_CONTROL_ZERO", mxcsr_bits Self.ROUNDING_CONTROL_ZERO)
+            ∷ (codes "FLUSH_TO_ZERO", mxcsr_bits Self.FLUSH_TO_ZERO)
+            ∷ [] }
+    {}
 }
 
 impl Flags for MxCsr {

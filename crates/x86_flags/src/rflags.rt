@@ -1,6 +1,6 @@
 //! The flags of the flags register RFLAGS.
 
-ghost use Rattle.std.specs.Prelude.{◌≡◌, ⊤};
+ghost use Rattle.std.specs.Prelude.{◌≡◌, ⊤, [], ◌∷◌, codes};
 ghost use Rattle.std.specs.Int.RustNames.{bit_or};
 ghost use Rattle.x86_flags.specs.RFlags.{rflags_bits, rflags_flags};
 
@@ -68,80 +68,50 @@ impl RFlags {
     /// That this bit can be changed shows that `CPUID` works.
     pub const ID: Self = Self(1 << 21);
 
-    const FLAGS: &'static [Flag<Self>] = &[
-        Flag {
-            name: "CARRY_FLAG",
-            value: Self::CARRY_FLAG,
-        },
-        Flag {
-            name: "PARITY_FLAG",
-            value: Self::PARITY_FLAG,
-        },
-        Flag {
-            name: "AUXILIARY_CARRY_FLAG",
-            value: Self::AUXILIARY_CARRY_FLAG,
-        },
-        Flag {
-            name: "ZERO_FLAG",
-            value: Self::ZERO_FLAG,
-        },
-        Flag {
-            name: "SIGN_FLAG",
-            value: Self::SIGN_FLAG,
-        },
-        Flag {
-            name: "TRAP_FLAG",
-            value: Self::TRAP_FLAG,
-        },
-        Flag {
-            name: "INTERRUPT_FLAG",
-            value: Self::INTERRUPT_FLAG,
-        },
-        Flag {
-            name: "DIRECTION_FLAG",
-            value: Self::DIRECTION_FLAG,
-        },
-        Flag {
-            name: "OVERFLOW_FLAG",
-            value: Self::OVERFLOW_FLAG,
-        },
-        Flag {
-            name: "IOPL_LOW",
-            value: Self::IOPL_LOW,
-        },
-        Flag {
-            name: "IOPL_HIGH",
-            value: Self::IOPL_HIGH,
-        },
-        Flag {
-            name: "NESTED_TASK",
-            value: Self::NESTED_TASK,
-        },
-        Flag {
-            name: "RESUME_FLAG",
-            value: Self::RESUME_FLAG,
-        },
-        Flag {
-            name: "VIRTUAL_8086_MODE",
-            value: Self::VIRTUAL_8086_MODE,
-        },
-        Flag {
-            name: "ALIGNMENT_CHECK",
-            value: Self::ALIGNMENT_CHECK,
-        },
-        Flag {
-            name: "VIRTUAL_INTERRUPT",
-            value: Self::VIRTUAL_INTERRUPT,
-        },
-        Flag {
-            name: "VIRTUAL_INTERRUPT_PENDING",
-            value: Self::VIRTUAL_INTERRUPT_PENDING,
-        },
-        Flag {
-            name: "ID",
-            value: Self::ID,
-        },
+    const FLAGS: &'static [Flag<Self>] = flag_rows![
+        CARRY_FLAG,
+        PARITY_FLAG,
+        AUXILIARY_CARRY_FLAG,
+        ZERO_FLAG,
+        SIGN_FLAG,
+        TRAP_FLAG,
+        INTERRUPT_FLAG,
+        DIRECTION_FLAG,
+        OVERFLOW_FLAG,
+        IOPL_LOW,
+        IOPL_HIGH,
+        NESTED_TASK,
+        RESUME_FLAG,
+        VIRTUAL_8086_MODE,
+        ALIGNMENT_CHECK,
+        VIRTUAL_INTERRUPT,
+        VIRTUAL_INTERRUPT_PENDING,
+        ID,
     ];
+
+    /// Each name of the table has the bits of the constant of that name.
+    pub fn constants()
+        ensures { rflags_flags
+            ≡ (codes "CARRY_FLAG", rflags_bits Self.CARRY_FLAG)
+            ∷ (codes "PARITY_FLAG", rflags_bits Self.PARITY_FLAG)
+            ∷ (codes "AUXILIARY_CARRY_FLAG", rflags_bits Self.AUXILIARY_CARRY_FLAG)
+            ∷ (codes "ZERO_FLAG", rflags_bits Self.ZERO_FLAG)
+            ∷ (codes "SIGN_FLAG", rflags_bits Self.SIGN_FLAG)
+            ∷ (codes "TRAP_FLAG", rflags_bits Self.TRAP_FLAG)
+            ∷ (codes "INTERRUPT_FLAG", rflags_bits Self.INTERRUPT_FLAG)
+            ∷ (codes "DIRECTION_FLAG", rflags_bits Self.DIRECTION_FLAG)
+            ∷ (codes "OVERFLOW_FLAG", rflags_bits Self.OVERFLOW_FLAG)
+            ∷ (codes "IOPL_LOW", rflags_bits Self.IOPL_LOW)
+            ∷ (codes "IOPL_HIGH", rflags_bits Self.IOPL_HIGH)
+            ∷ (codes "NESTED_TASK", rflags_bits Self.NESTED_TASK)
+            ∷ (codes "RESUME_FLAG", rflags_bits Self.RESUME_FLAG)
+            ∷ (codes "VIRTUAL_8086_MODE", rflags_bits Self.VIRTUAL_8086_MODE)
+            ∷ (codes "ALIGNMENT_CHECK", rflags_bits Self.ALIGNMENT_CHECK)
+            ∷ (codes "VIRTUAL_INTERRUPT", rflags_bits Self.VIRTUAL_INTERRUPT)
+            ∷ (codes "VIRTUAL_INTERRUPT_PENDING", rflags_bits Self.VIRTUAL_INTERRUPT_PENDING)
+            ∷ (codes "ID", rflags_bits Self.ID)
+            ∷ [] }
+    {}
 }
 
 impl Flags for RFlags {

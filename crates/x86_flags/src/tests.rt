@@ -110,6 +110,14 @@ fn selectors_and_levels(rt: HostRuntime) {
     selector.set_rpl(PrivilegeLevel::Ring0);
     assert_eq!(rt; selector, SegmentSelector(0x20));
     assert_eq!(rt; SegmentSelector::NULL, SegmentSelector(0));
+    // The low 13 bits of an index count.
+    assert_eq!(rt; SegmentSelector::new(8191, PrivilegeLevel::Ring0).0, 0xFFF8);
+    assert_eq!(rt; SegmentSelector::new(8192, PrivilegeLevel::Ring3).0, 3);
+    assert_eq!(rt; SegmentSelector::new(8197, PrivilegeLevel::Ring1).0, 0x29);
+    assert_eq!(rt;
+        SegmentSelector::new(0xFFFF, PrivilegeLevel::Ring2).0,
+        0xFFFA
+    );
     assert_eq!(rt;
         PrivilegeLevel::try_from_u16(2),
         Some(PrivilegeLevel::Ring2)

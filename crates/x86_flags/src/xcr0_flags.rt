@@ -1,6 +1,6 @@
 //! The flags of the extended control register XCR0.
 
-ghost use Rattle.std.specs.Prelude.{◌≡◌, ⊤};
+ghost use Rattle.std.specs.Prelude.{◌≡◌, ⊤, [], ◌∷◌, codes};
 ghost use Rattle.std.specs.Int.RustNames.{bit_or};
 ghost use Rattle.x86_flags.specs.XCr0Flags.{xcr0_bits, xcr0_flags};
 
@@ -44,48 +44,25 @@ impl XCr0Flags {
     /// The state of lightweight profiling.
     pub const LWP: Self = Self(1 << 62);
 
-    const FLAGS: &'static [Flag<Self>] = &[
-        Flag {
-            name: "X87",
-            value: Self::X87,
-        },
-        Flag {
-            name: "SSE",
-            value: Self::SSE,
-        },
-        Flag {
-            name: "AVX",
-            value: Self::AVX,
-        },
-        Flag {
-            name: "BNDREG",
-            value: Self::BNDREG,
-        },
-        Flag {
-            name: "BNDCSR",
-            value: Self::BNDCSR,
-        },
-        Flag {
-            name: "OPMASK",
-            value: Self::OPMASK,
-        },
-        Flag {
-            name: "ZMM_HI256",
-            value: Self::ZMM_HI256,
-        },
-        Flag {
-            name: "HI16_ZMM",
-            value: Self::HI16_ZMM,
-        },
-        Flag {
-            name: "MPK",
-            value: Self::MPK,
-        },
-        Flag {
-            name: "LWP",
-            value: Self::LWP,
-        },
+    const FLAGS: &'static [Flag<Self>] = flag_rows![
+        X87, SSE, AVX, BNDREG, BNDCSR, OPMASK, ZMM_HI256, HI16_ZMM, MPK, LWP,
     ];
+
+    /// Each name of the table has the bits of the constant of that name.
+    pub fn constants()
+        ensures { xcr0_flags
+            ≡ (codes "X87", xcr0_bits Self.X87)
+            ∷ (codes "SSE", xcr0_bits Self.SSE)
+            ∷ (codes "AVX", xcr0_bits Self.AVX)
+            ∷ (codes "BNDREG", xcr0_bits Self.BNDREG)
+            ∷ (codes "BNDCSR", xcr0_bits Self.BNDCSR)
+            ∷ (codes "OPMASK", xcr0_bits Self.OPMASK)
+            ∷ (codes "ZMM_HI256", xcr0_bits Self.ZMM_HI256)
+            ∷ (codes "HI16_ZMM", xcr0_bits Self.HI16_ZMM)
+            ∷ (codes "MPK", xcr0_bits Self.MPK)
+            ∷ (codes "LWP", xcr0_bits Self.LWP)
+            ∷ [] }
+    {}
 }
 
 impl Flags for XCr0Flags {

@@ -1,5 +1,5 @@
 -- Accesses to the ports of devices (AMD64 manual, volume 1, section 3.8).
-use Rattle.std.specs.Prelude.{ℕ, true, false, Option}
+use Rattle.std.specs.Prelude.{ℕ, ◌≡◌, ◌%◌, ◌^◌, true, false, Option, Some}
 use Rattle.x86_instructions.specs.declared.port.ports.PortAccessed.{PortAccessed}
 use Rattle.x86_instructions.specs.declared.port.memory_ports.MemoryPorts.{MemoryPorts}
 
@@ -17,3 +17,10 @@ answer_of ports = ports.value
 
 abbrev pub last_of : MemoryPorts → Option PortAccessed
 last_of ports = ports.last
+
+-- one access to ports in memory: it is the last one, a read answers the low bits of what they answer, and they go on
+-- to answer that
+pub record IsAccess (before : MemoryPorts) (access : PortAccessed) (after : MemoryPorts) : Type 0 where
+  pub last : last_of after ≡ Some access
+  pub value : access.write ≡ false → access.value ≡ answer_of before % 2 ^ access.width
+  pub answer : answer_of after ≡ answer_of before

@@ -55,20 +55,20 @@ impl<T, A> PortGeneric<T, A> {
 }
 
 impl<T: PortRead, A: PortReadAccess> PortGeneric<T, A> {
-    /// Reads a value from the port.
+    /// Reads a value from the port, by one access.
     pub fn read<P: Ports>(&mut self, ports: &mut P) -> T
         ensures same { self.new ≡ self.old }
-        ensures last { P.last ports.new ≡ Some (was_read self.old T.width (T.number result)) }
+        ensures accessed { P.accessed ports.old (was_read self.old T.width (T.number result)) ports.new }
     {
         T::read_from_port(ports, self.port)
     }
 }
 
 impl<T: PortWrite, A: PortWriteAccess> PortGeneric<T, A> {
-    /// Writes a value to the port.
+    /// Writes a value to the port, by one access.
     pub fn write<P: Ports>(&mut self, ports: &mut P, value: T)
         ensures same { self.new ≡ self.old }
-        ensures last { P.last ports.new ≡ Some (was_written self.old T.width (T.number value)) }
+        ensures accessed { P.accessed ports.old (was_written self.old T.width (T.number value)) ports.new }
     {
         T::write_to_port(ports, self.port, value);
     }

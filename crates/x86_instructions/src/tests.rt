@@ -1,3 +1,5 @@
+ghost use Rattle.std.specs.Prelude.{◌≡◌, ◌%◌, ◌^◌};
+
 use crate::interrupts;
 use crate::port::{
     MemoryPorts, Port, PortAccess, PortAccessed, PortRead, PortReadOnly, PortWrite, PortWriteOnly,
@@ -97,9 +99,19 @@ fn a_port_makes_accesses_of_its_width(rt: HostRuntime) -> Result<(), Fail> {
     Ok(())
 }
 
+/// What a caller shows of a read of ports in memory: it answers the low bits of their value.
+fn first_read<T: PortRead>(value: u32, number: u16) -> T
+    ensures { T.number result ≡ value % 2 ^ T.width }
+{
+    let mut ports = MemoryPorts::new(value);
+    let mut port: PortReadOnly<T> = PortReadOnly::new(number);
+    port.read(&mut ports)
+}
+
 #[test]
 fn ports_of_each_width_and_leave(rt: HostRuntime) {
     let mut ports = MemoryPorts::new(0xFEDC_BA98);
+    assert_eq!(rt; first_read::<u8>(0xFEDC_BA98, 0x60), 0x98);
     assert_eq!(rt; u8::read_from_port(&mut ports, 1), 0x98);
     assert_eq!(rt; u32::read_from_port(&mut ports, 2), 0xFEDC_BA98);
     let mut input: PortReadOnly<u8> = PortReadOnly::new(0x60);
@@ -396,6 +408,9 @@ fn a_flush_without_pages_names_what_else_is_given(rt: HostRuntime) -> Result<(),
     flush.flush(&mut list)?;
     flush.pcid(Pcid::new(5)?).final_translation_only();
     flush.asid(3)?.include_global();
+    let other = AsidOutOfRangeError { asid: 9, nasid: 4 };
+    assert_eq!(rt; flush.asid(9).err(), Some(other));
+    assert_eq!(rt; flush.try_asid(9), Err(other));
     flush.clone()?.flush(&mut list)?;
     if invlpgb.tlb_flush_nested() {
         let nested = invlpgb.build().include_nested_translations();
@@ -424,9 +439,10 @@ fn a_flush_without_pages_names_what_else_is_given(rt: HostRuntime) -> Result<(),
         },
     ];
     assert_eq!(rt; list.as_slice(), wanted.as_slice());
+    let text = format!(in rt.alloc(); "{other}")?;
     assert_eq!(rt;
-        format!(in rt.alloc(); "{refused}")?.as_str(),
-        "4 is out of the range of available ASIDS (4)"
+        text.as_str(),
+        "9 is out of the range of available ASIDS (4)"
     );
     Ok(())
 }

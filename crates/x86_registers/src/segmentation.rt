@@ -30,7 +30,8 @@ pub trait Segment {
 
     /// Replaces the selector in the register.
     fn set_reg(cpu: &mut Cpu, sel: SegmentSelector)
-        ensures { cpu.new ≡ with_selector cpu.old sel.0 };
+        ensures register { cpu.new ≡ with_selector cpu.old sel.0 }
+        ensures value { selector cpu.new ≡ sel.0 };
 }
 
 /// A segment register whose base counts in 64-bit mode.

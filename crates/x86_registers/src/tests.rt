@@ -290,6 +290,23 @@ fn selectors_of_system_calls(rt: HostRuntime) {
             [0x33, 0x2B, 0x0B, 0x13],
             InvalidStarSegmentSelectors::SyscallPrivilegeLevel,
         ),
+        // Two rules and more are broken: the first one is told.
+        (
+            [0x30, 0x30, 0x0B, 0x1B],
+            InvalidStarSegmentSelectors::SysretOffset,
+        ),
+        (
+            [0x30, 0x28, 0x0B, 0x1B],
+            InvalidStarSegmentSelectors::SyscallOffset,
+        ),
+        (
+            [0x30, 0x28, 0x0B, 0x13],
+            InvalidStarSegmentSelectors::SysretPrivilegeLevel,
+        ),
+        (
+            [0xFFFF, 0xFFFF, 0xFFFF, 0x07],
+            InvalidStarSegmentSelectors::SysretOffset,
+        ),
     ];
     for (selectors, error) in rows {
         let [a, b, c, d] = selectors.map(SegmentSelector);
@@ -309,6 +326,11 @@ fn states_that_go_together(rt: HostRuntime) {
         (0b1011, Err(InvalidXCr0::MpxApart)),
         (0b1110_0011, Err(InvalidXCr0::Avx512WithoutAvx)),
         (0b0110_0111, Err(InvalidXCr0::Avx512Apart)),
+        // Two rules and more are broken: the first one is told.
+        (0b0010_1100, Err(InvalidXCr0::X87)),
+        (0b0010_1101, Err(InvalidXCr0::AvxWithoutSse)),
+        (0b0010_1011, Err(InvalidXCr0::MpxApart)),
+        (0b0010_0011, Err(InvalidXCr0::Avx512WithoutAvx)),
         (0b1111_1111, Ok(())),
     ];
     for (bits, wanted) in rows {
@@ -317,6 +339,11 @@ fn states_that_go_together(rt: HostRuntime) {
             wanted
         );
     }
+    assert_eq!(rt; cpu.xcr0, 0xFF);
+    assert_eq!(rt;
+        XCr0::update(&mut cpu, |_| XCr0Flags::X87 | XCr0Flags::AVX),
+        Err(InvalidXCr0::AvxWithoutSse)
+    );
     assert_eq!(rt; cpu.xcr0, 0xFF);
 }
 

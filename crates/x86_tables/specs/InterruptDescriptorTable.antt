@@ -1,9 +1,13 @@
 -- The table of gates (AMD64 manual, volume 2, sections 4.6.5 and 8.2).
-use Rattle.std.specs.Prelude.{ℕ, ◌-◌, ◌≤◌, List, Option, Some, None, nat_le, ◌==◌, if◌then◌else◌, replicate, slice_get, slice_set, slice_range}
+use Rattle.std.specs.Prelude.{ℕ, ◌-◌, ◌≤◌, List, [], Option, Some, None, nat_le, ◌==◌, if◌then◌else◌, replicate, slice_get, slice_set, slice_range}
 use Rattle.std.specs.Borrow.{Lends, LendsIf, MutBor, Fml, Array, RattleType}
-use Rattle.x86_tables.specs.Entry.{missing}
+use Rattle.x86_tables.specs.Entry.{gate_bytes, missing}
 use Rattle.x86_tables.specs.declared.idt.entry.Entry.{Entry}
 use Rattle.x86_tables.specs.declared.idt.handler.HandlerFunc.{HandlerFunc}
+use Rattle.x86_tables.specs.declared.idt.handler.HandlerFuncWithErrCode.{HandlerFuncWithErrCode}
+use Rattle.x86_tables.specs.declared.idt.handler.PageFaultHandlerFunc.{PageFaultHandlerFunc}
+use Rattle.x86_tables.specs.declared.idt.handler.DivergingHandlerFunc.{DivergingHandlerFunc}
+use Rattle.x86_tables.specs.declared.idt.handler.DivergingHandlerFuncWithErrCode.{DivergingHandlerFuncWithErrCode}
 use Rattle.x86_tables.specs.declared.idt.interrupt_descriptor_table.InterruptDescriptorTable.{InterruptDescriptorTable}
 use Rattle.x86_tables.specs.contracts.idt.interrupt_descriptor_table.InterruptDescriptorTable.{the_row}
 use Rattle.x86_tables.specs.Gates.{with_part}
@@ -39,13 +43,67 @@ new_table = record {
   simd_floating_point = missing;
   virtualization = missing;
   cp_protection_exception = missing;
-  reserved_2 = replicate 6 missing;
+  reserved_2 = record { gates = replicate 6 missing };
   hv_injection_exception = missing;
   vmm_communication_exception = missing;
   security_exception = missing;
   reserved_3 = missing;
   interrupts = record { gates = replicate 224 missing };
 }
+
+-- the bytes of a gate, by the form of its handler: one that returns, with and without an error code, that of page
+-- faults, and one that does not return, with and without an error code
+abbrev pub gate : Entry HandlerFunc → List ℕ
+gate entry = gate_bytes entry.address entry.options
+
+abbrev pub gate_with_code : Entry HandlerFuncWithErrCode → List ℕ
+gate_with_code entry = gate_bytes entry.address entry.options
+
+abbrev pub page_fault_gate : Entry PageFaultHandlerFunc → List ℕ
+page_fault_gate entry = gate_bytes entry.address entry.options
+
+abbrev pub diverging_gate : Entry DivergingHandlerFunc → List ℕ
+diverging_gate entry = gate_bytes entry.address entry.options
+
+abbrev pub diverging_gate_with_code : Entry DivergingHandlerFuncWithErrCode → List ℕ
+diverging_gate_with_code entry = gate_bytes entry.address entry.options
+
+-- the bytes of one gate of several
+abbrev pub gate_or_none : Option (Entry HandlerFunc) → List ℕ
+gate_or_none (Some entry) = gate entry
+gate_or_none None = []
+
+-- the bytes of the gate of a vector
+abbrev pub gate_of : InterruptDescriptorTable → ℕ → List ℕ
+gate_of table vector =
+    if vector == 0 then gate table.divide_error
+    else if vector == 1 then gate table.debug
+    else if vector == 2 then gate table.non_maskable_interrupt
+    else if vector == 3 then gate table.breakpoint
+    else if vector == 4 then gate table.overflow
+    else if vector == 5 then gate table.bound_range_exceeded
+    else if vector == 6 then gate table.invalid_opcode
+    else if vector == 7 then gate table.device_not_available
+    else if vector == 8 then diverging_gate_with_code table.double_fault
+    else if vector == 9 then gate table.coprocessor_segment_overrun
+    else if vector == 10 then gate_with_code table.invalid_tss
+    else if vector == 11 then gate_with_code table.segment_not_present
+    else if vector == 12 then gate_with_code table.stack_segment_fault
+    else if vector == 13 then gate_with_code table.general_protection_fault
+    else if vector == 14 then page_fault_gate table.page_fault
+    else if vector == 15 then gate table.reserved_1
+    else if vector == 16 then gate table.x87_floating_point
+    else if vector == 17 then gate_with_code table.alignment_check
+    else if vector == 18 then diverging_gate table.machine_check
+    else if vector == 19 then gate table.simd_floating_point
+    else if vector == 20 then gate table.virtualization
+    else if vector == 21 then gate_with_code table.cp_protection_exception
+    else if nat_le vector 27 then gate_or_none (slice_get table.reserved_2.gates (vector - 22))
+    else if vector == 28 then gate table.hv_injection_exception
+    else if vector == 29 then gate_with_code table.vmm_communication_exception
+    else if vector == 30 then gate_with_code table.security_exception
+    else if vector == 31 then gate table.reserved_3
+    else gate_or_none (slice_get table.interrupts.gates (vector - 32))
 
 -- the gate of a vector whose handler takes no error code and returns; no other vector has one here
 abbrev pub entry_of : InterruptDescriptorTable → ℕ → Option (Entry HandlerFunc)

@@ -3,8 +3,10 @@
 
 ghost use Rattle.std.specs.Prelude.{◌≡◌, ◌<◌};
 ghost use Rattle.x86_tables.specs.DescriptorFlags.{descriptor_bits};
+ghost use Rattle.x86_tables.specs.ExceptionVector.{vector_number};
 
 use crate::gdt::DescriptorFlags;
+use crate::idt::ExceptionVector;
 use x86_flags::{PrivilegeLevel, SegmentSelector};
 
 /// A selector that is made from an index below 8192 and a level gives both back.
@@ -25,3 +27,10 @@ pub fn default_segments()
     ensures user_code32 { descriptor_bits DescriptorFlags.USER_CODE32 ≡ 0x00cffb000000ffff }
     ensures user_data { descriptor_bits DescriptorFlags.USER_DATA ≡ 0x00cff3000000ffff }
 {}
+
+/// The number of an exception's vector, which `as` gives.
+pub fn number_of_vector(vector: ExceptionVector) -> u8
+    ensures { result ≡ vector_number vector }
+{
+    vector as u8
+}

@@ -11,4 +11,4 @@ pub mod mem_encrypt;
 mod tests;
 pub mod tss;
 
-pub use crate::laws::{default_segments, selector_gives_back};
+pub use crate::laws::{default_segments, number_of_vector, selector_gives_back};

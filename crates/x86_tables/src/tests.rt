@@ -8,9 +8,10 @@ use crate::idt::{
 };
 use crate::mem_encrypt::{EncryptionBits, MemoryEncryptionConfiguration, enable_memory_encryption};
 use crate::tss::{InvalidIoMap, TaskStateSegment};
-use crate::{default_segments, selector_gives_back};
+use crate::{default_segments, number_of_vector, selector_gives_back};
 use bitflags::Flags;
 use paging_core::{PageTableFlags, VirtAddr};
+use std::alloc::{AllocError, Global};
 use std::mem::size_of;
 use std::test::Fail;
 use x86_flags::{PrivilegeLevel, RFlags, SegmentSelector};
@@ -308,6 +309,69 @@ fn slices_of_gates(rt: HostRuntime) {
     assert_eq!(rt; present(&idt, 64), Some(false));
 }
 
+/// The vectors whose gates are present.
+fn present_vectors(alloc: Global, idt: &InterruptDescriptorTable) -> Result<Vec<u8>, AllocError> {
+    let mut vectors = Vec::new(alloc);
+    for vector in 0..=255u8 {
+        if idt.gate(vector)[5] == 0x8e {
+            vectors.push(vector)?;
+        }
+    }
+    Ok(vectors)
+}
+
+#[test]
+fn writes_through_a_slice_of_gates(rt: HostRuntime) -> Result<(), Fail> {
+    let cpu = Cpu::new();
+    let handler = VirtAddr::new(0x4000);
+    let mut idt = InterruptDescriptorTable::new();
+    idt.breakpoint.set_handler_addr(&cpu, handler);
+    for entry in idt.interrupts_mut(40, 43) {
+        entry.set_handler_addr(&cpu, handler);
+    }
+    // A slice that is not there leaves every gate, and so does one that is only looked at.
+    assert!(rt; idt.slice_mut(31, 64).is_none());
+    assert!(rt; idt.slice_mut(32, 257).is_none());
+    assert!(rt; idt.slice_mut(65, 64).is_none());
+    assert!(rt; idt.slice_mut(32, 256).is_some());
+    let kept = present_vectors(rt.alloc(), &idt)?;
+    assert_eq!(rt; kept.as_slice(), [3, 40, 41, 42].as_slice());
+    if let Some(entries) = idt.slice_mut(254, 256) {
+        for entry in entries {
+            entry.set_handler_addr(&cpu, handler);
+        }
+    }
+    if let Some(entries) = idt.slice_mut(41, 42) {
+        for entry in entries {
+            *entry = Entry::missing();
+        }
+    }
+    let left = present_vectors(rt.alloc(), &idt)?;
+    assert_eq!(rt; left.as_slice(), [3, 40, 42, 254, 255].as_slice());
+    Ok(())
+}
+
+#[test]
+fn gates_of_all_vectors(rt: HostRuntime) {
+    let cpu = Cpu::new();
+    let mut idt = InterruptDescriptorTable::new();
+    idt.double_fault.set_handler_addr(&cpu, VirtAddr::new(8));
+    idt.general_protection_fault
+        .set_handler_addr(&cpu, VirtAddr::new(13));
+    idt.page_fault.set_handler_addr(&cpu, VirtAddr::new(14));
+    idt.machine_check.set_handler_addr(&cpu, VirtAddr::new(18));
+    idt.cp_protection_exception
+        .set_handler_addr(&cpu, VirtAddr::new(21));
+    idt.security_exception
+        .set_handler_addr(&cpu, VirtAddr::new(30));
+    for vector in 0..=255u8 {
+        let is_set = matches!(vector, 8 | 13 | 14 | 18 | 21 | 30);
+        let gate = idt.gate(vector);
+        assert_eq!(rt; gate[0], if is_set { vector } else { 0 });
+        assert_eq!(rt; gate[5], if is_set { 0x8e } else { 0x0e });
+    }
+}
+
 #[test]
 fn a_table_is_copied_and_reset(rt: HostRuntime) -> Result<(), Fail> {
     let mut idt = InterruptDescriptorTable::new();
@@ -351,18 +415,51 @@ fn error_codes(rt: HostRuntime) -> Result<(), Fail> {
     Ok(())
 }
 
+/// The numbers of the exceptions, in the manual's order; no other number is one.
+const VECTORS: &[(u8, ExceptionVector)] = &[
+    (0x00, ExceptionVector::Division),
+    (0x01, ExceptionVector::Debug),
+    (0x02, ExceptionVector::NonMaskableInterrupt),
+    (0x03, ExceptionVector::Breakpoint),
+    (0x04, ExceptionVector::Overflow),
+    (0x05, ExceptionVector::BoundRange),
+    (0x06, ExceptionVector::InvalidOpcode),
+    (0x07, ExceptionVector::DeviceNotAvailable),
+    (0x08, ExceptionVector::Double),
+    (0x0A, ExceptionVector::InvalidTss),
+    (0x0B, ExceptionVector::SegmentNotPresent),
+    (0x0C, ExceptionVector::Stack),
+    (0x0D, ExceptionVector::GeneralProtection),
+    (0x0E, ExceptionVector::Page),
+    (0x10, ExceptionVector::X87FloatingPoint),
+    (0x11, ExceptionVector::AlignmentCheck),
+    (0x12, ExceptionVector::MachineCheck),
+    (0x13, ExceptionVector::SimdFloatingPoint),
+    (0x14, ExceptionVector::Virtualization),
+    (0x15, ExceptionVector::ControlProtection),
+    (0x1C, ExceptionVector::HypervisorInjection),
+    (0x1D, ExceptionVector::VmmCommunication),
+    (0x1E, ExceptionVector::Security),
+];
+
 #[test]
-fn vectors_and_their_error(rt: HostRuntime) -> Result<(), Fail> {
-    assert_eq!(rt; ExceptionVector::try_from(0x0e)?, ExceptionVector::Page);
-    assert_eq!(rt; ExceptionVector::Security as u8, 0x1e);
-    match ExceptionVector::try_from(9) {
-        Err(error) => {
-            assert_eq!(rt; error, InvalidExceptionVectorNumber(9));
-            let text = format!(in rt.alloc(); "{error}")?;
-            assert_eq!(rt; text.as_str(), "9 is not a valid exception vector");
-        }
-        Ok(_) => assert!(rt; false),
+fn vectors_by_their_numbers(rt: HostRuntime) {
+    for (number, vector) in VECTORS {
+        assert_eq!(rt; number_of_vector(*vector), *number);
+        assert_eq!(rt; ExceptionVector::try_from(*number), Ok(*vector));
     }
+    for number in 0..=255u8 {
+        if VECTORS.iter().all(|(known, _)| *known != number) {
+            let refused = InvalidExceptionVectorNumber(number);
+            assert_eq!(rt; ExceptionVector::try_from(number), Err(refused));
+        }
+    }
+}
+
+#[test]
+fn the_text_of_a_number_that_is_no_vector(rt: HostRuntime) -> Result<(), Fail> {
+    let text = format!(in rt.alloc(); "{}", InvalidExceptionVectorNumber(9))?;
+    assert_eq!(rt; text.as_str(), "9 is not a valid exception vector");
     Ok(())
 }
 

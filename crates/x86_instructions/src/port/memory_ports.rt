@@ -1,6 +1,6 @@
 //! Ports with no device behind them.
 
-ghost use Rattle.std.specs.Prelude.{◌≡◌, ◌%◌, ◌^◌, None, Some};
+ghost use Rattle.std.specs.Prelude.{◌≡◌, None, Some};
 ghost use Rattle.x86_instructions.specs.Ports.{was_read, was_written};
 
 use crate::port::ports::{PortAccessed, Ports};
@@ -60,52 +60,35 @@ impl MemoryPorts {
 }
 
 impl Ports for MemoryPorts {
-    ghost use Rattle.x86_instructions.specs.Ports.{answer_of, last_of};
+    ghost use Rattle.x86_instructions.specs.Ports.{IsAccess, last_of};
 
     ghost last = { last_of };
 
-    fn read_u8(&mut self, port: u16) -> u8
-        ensures value { result ≡ answer_of self.old % 2 ^ 8 }
-        ensures answer { answer_of self.new ≡ answer_of self.old }
-        ensures last { last_of self.new ≡ Some (was_read port 8 result) }
-    {
+    ghost accessed = { IsAccess };
+
+    fn read_u8(&mut self, port: u16) -> u8 {
         self.read(port, 8, self.value & 0xFF) as u8
     }
 
-    fn read_u16(&mut self, port: u16) -> u16
-        ensures value { result ≡ answer_of self.old % 2 ^ 16 }
-        ensures answer { answer_of self.new ≡ answer_of self.old }
-        ensures last { last_of self.new ≡ Some (was_read port 16 result) }
-    {
+    fn read_u16(&mut self, port: u16) -> u16 {
         self.read(port, 16, self.value & 0xFFFF) as u16
     }
 
-    fn read_u32(&mut self, port: u16) -> u32
-        ensures value { result ≡ answer_of self.old }
-        ensures answer { answer_of self.new ≡ answer_of self.old }
-        ensures last { last_of self.new ≡ Some (was_read port 32 result) }
-    {
+    fn read_u32(&mut self, port: u16) -> u32 {
         self.read(port, 32, self.value)
     }
 
-    fn write_u8(&mut self, port: u16, value: u8)
-        ensures answer { answer_of self.new ≡ answer_of self.old }
-        ensures last { last_of self.new ≡ Some (was_written port 8 value) }
-    {
+    fn write_u8(&mut self, port: u16, value: u8) {
         self.write(port, 8, u32::from(value));
     }
 
-    fn write_u16(&mut self, port: u16, value: u16)
-        ensures answer { answer_of self.new ≡ answer_of self.old }
-        ensures last { last_of self.new ≡ Some (was_written port 16 value) }
-    {
+    fn write_u16(&mut self, port: u16, value: u16) {
         self.write(port, 16, u32::from(value));
     }
 
-    fn write_u32(&mut self, port: u16, value: u32)
-        ensures answer { answer_of self.new ≡ answer_of self.old }
-        ensures last { last_of self.new ≡ Some (was_written port 32 value) }
-    {
+    fn write_u32(&mut self, port: u16, value: u32) {
         self.write(port, 32, value);
     }
+
+    ghost is_last = { λ before access after is_access. is_access.last };
 }

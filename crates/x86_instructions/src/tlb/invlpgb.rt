@@ -208,11 +208,27 @@ impl<'a, S: NotGiantPageSize> InvlpgbFlushBuilder<'a, S> {
     ///
     /// # Errors
     ///
-    /// `AsidOutOfRangeError` exactly where there is no such identifier.
+    /// `AsidOutOfRangeError` exactly where there is no such identifier. The flush is then as it was, as
+    /// `try_asid` says, which this call ends in.
     pub fn asid(&mut self, asid: u16) -> Result<&mut Self, AsidOutOfRangeError>
         ensures ok { IsOk result ↔ (asid < self.old.limits.nasid) }
         ensures same { IfOk result (λ flush. flush.ghost_name ≡ self.entry.ghost_name) }
         ensures value { IfOk result (λ flush. flush.now ≡ record self.old { asid = Some asid }) }
+        ensures err { IfErr result (λ error. error ≡ record { asid = asid; nasid = self.old.limits.nasid }) }
+    {
+        self.try_asid(asid)?;
+        Ok(self)
+    }
+
+    /// As `asid`, and answers nothing.
+    ///
+    /// # Errors
+    ///
+    /// `AsidOutOfRangeError` exactly where there is no such identifier. The flush is then as it was.
+    pub fn try_asid(&mut self, asid: u16) -> Result<(), AsidOutOfRangeError>
+        ensures ok { IsOk result ↔ (asid < self.old.limits.nasid) }
+        ensures value { OnOk result (self.new ≡ record self.old { asid = Some asid }) }
+        ensures same { OnErr result (self.new ≡ self.old) }
         ensures err { IfErr result (λ error. error ≡ record { asid = asid; nasid = self.old.limits.nasid }) }
     {
         let nasid = self.invlpgb.nasid();
@@ -220,7 +236,7 @@ impl<'a, S: NotGiantPageSize> InvlpgbFlushBuilder<'a, S> {
             return Err(AsidOutOfRangeError { asid, nasid });
         }
         self.asid = Some(asid);
-        Ok(self)
+        Ok(())
     }
 
     /// Appends the commands of the flush: one where no pages are given, none where the range has no page,
@@ -232,9 +248,7 @@ impl<'a, S: NotGiantPageSize> InvlpgbFlushBuilder<'a, S> {
     pub fn flush(&self, list: &mut FlushList) -> Result<(), AllocError>
         ensures ok { OnOk result (list.new ≡ list.old ++ commands_of S.SIZE self.now) }
         ensures err { OnErr result (list.new ≡ list.old) }
-
-        // What the commands flush, for pages that begin at a bit of RAX that the processor reads.
-        ensures pages { S.SIZE % 4096 ≡ 0 → IfSome self.now.pages
+        ensures pages { IfSome self.now.pages
             (λ range. FlushesRange S.SIZE self.now.limits.count_max range (commands_of S.SIZE self.now)) }
     {
         match &self.page_range {

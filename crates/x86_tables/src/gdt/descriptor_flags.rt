@@ -1,11 +1,12 @@
 //! The flags of a segment descriptor.
 
-ghost use Rattle.std.specs.Prelude.{◌≡◌, ⊤};
+ghost use Rattle.std.specs.Prelude.{◌≡◌, ⊤, [], ◌∷◌, codes};
 ghost use Rattle.std.specs.Int.RustNames.{bit_or};
 ghost use Rattle.x86_tables.specs.DescriptorFlags.{descriptor_bits, descriptor_flags};
 
 use bitflags::{Flag, Flags};
 use std::ops::BitOr;
+use x86_flags::flag_rows;
 
 /// The flags and fields of a code or data segment descriptor. Those of the base and the limit are fields,
 /// and each stands here with all its bits.
@@ -93,68 +94,44 @@ impl DescriptorFlags {
     /// A 64-bit code segment of user code.
     pub const USER_CODE64: Self = Self(Self::KERNEL_CODE64.0 | Self::DPL_RING_3.0);
 
-    const FLAGS: &'static [Flag<Self>] = &[
-        Flag {
-            name: "ACCESSED",
-            value: Self::ACCESSED,
-        },
-        Flag {
-            name: "WRITABLE",
-            value: Self::WRITABLE,
-        },
-        Flag {
-            name: "CONFORMING",
-            value: Self::CONFORMING,
-        },
-        Flag {
-            name: "EXECUTABLE",
-            value: Self::EXECUTABLE,
-        },
-        Flag {
-            name: "USER_SEGMENT",
-            value: Self::USER_SEGMENT,
-        },
-        Flag {
-            name: "DPL_RING_3",
-            value: Self::DPL_RING_3,
-        },
-        Flag {
-            name: "PRESENT",
-            value: Self::PRESENT,
-        },
-        Flag {
-            name: "AVAILABLE",
-            value: Self::AVAILABLE,
-        },
-        Flag {
-            name: "LONG_MODE",
-            value: Self::LONG_MODE,
-        },
-        Flag {
-            name: "DEFAULT_SIZE",
-            value: Self::DEFAULT_SIZE,
-        },
-        Flag {
-            name: "GRANULARITY",
-            value: Self::GRANULARITY,
-        },
-        Flag {
-            name: "LIMIT_0_15",
-            value: Self::LIMIT_0_15,
-        },
-        Flag {
-            name: "LIMIT_16_19",
-            value: Self::LIMIT_16_19,
-        },
-        Flag {
-            name: "BASE_0_23",
-            value: Self::BASE_0_23,
-        },
-        Flag {
-            name: "BASE_24_31",
-            value: Self::BASE_24_31,
-        },
+    const FLAGS: &'static [Flag<Self>] = flag_rows![
+        ACCESSED,
+        WRITABLE,
+        CONFORMING,
+        EXECUTABLE,
+        USER_SEGMENT,
+        DPL_RING_3,
+        PRESENT,
+        AVAILABLE,
+        LONG_MODE,
+        DEFAULT_SIZE,
+        GRANULARITY,
+        LIMIT_0_15,
+        LIMIT_16_19,
+        BASE_0_23,
+        BASE_24_31,
     ];
+
+    /// Each name of the table has the bits of the constant of that name.
+    pub fn constants()
+        ensures { descriptor_flags
+            ≡ (codes "ACCESSED", descriptor_bits Self.ACCESSED)
+            ∷ (codes "WRITABLE", descriptor_bits Self.WRITABLE)
+            ∷ (codes "CONFORMING", descriptor_bits Self.CONFORMING)
+            ∷ (codes "EXECUTABLE", descriptor_bits Self.EXECUTABLE)
+            ∷ (codes "USER_SEGMENT", descriptor_bits Self.USER_SEGMENT)
+            ∷ (codes "DPL_RING_3", descriptor_bits Self.DPL_RING_3)
+            ∷ (codes "PRESENT", descriptor_bits Self.PRESENT)
+            ∷ (codes "AVAILABLE", descriptor_bits Self.AVAILABLE)
+            ∷ (codes "LONG_MODE", descriptor_bits Self.LONG_MODE)
+            ∷ (codes "DEFAULT_SIZE", descriptor_bits Self.DEFAULT_SIZE)
+            ∷ (codes "GRANULARITY", descriptor_bits Self.GRANULARITY)
+            ∷ (codes "LIMIT_0_15", descriptor_bits Self.LIMIT_0_15)
+            ∷ (codes "LIMIT_16_19", descriptor_bits Self.LIMIT_16_19)
+            ∷ (codes "BASE_0_23", descriptor_bits Self.BASE_0_23)
+            ∷ (codes "BASE_24_31", descriptor_bits Self.BASE_24_31)
+            ∷ [] }
+    {}
 }
 
 impl Flags for DescriptorFlags {

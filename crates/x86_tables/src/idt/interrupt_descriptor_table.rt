@@ -3,7 +3,7 @@
 ghost use Rattle.std.specs.Prelude.{◌≡◌, ◌-◌, ◌≤◌, ◌↔◌, IsTrue, IsSome, IfSome, slice_range};
 ghost use Rattle.std.specs.Borrow.{sem};
 ghost use Rattle.std.specs.Option.{option_map};
-ghost use Rattle.x86_tables.specs.InterruptDescriptorTable.{new_table, entry_of, has_slice, slice_of, lends_entry, lends_slice};
+ghost use Rattle.x86_tables.specs.InterruptDescriptorTable.{new_table, gate_of, entry_of, has_slice, slice_of, lends_entry, lends_slice};
 
 use crate::idt::entry::Entry;
 use crate::idt::gates::Gates;
@@ -67,7 +67,7 @@ pub struct InterruptDescriptorTable {
     pub virtualization: Entry<HandlerFunc>,
     /// Vector 21. A break of a rule of control-flow enforcement. The error code tells the rule.
     pub cp_protection_exception: Entry<HandlerFuncWithErrCode>,
-    reserved_2: [Entry<HandlerFunc>; 6],
+    reserved_2: Gates<Entry<HandlerFunc>, 6>,
     /// Vector 28. A signal that a hypervisor injects.
     pub hv_injection_exception: Entry<HandlerFunc>,
     /// Vector 29. An event of a guest that its hypervisor has to know. The error code tells the event.
@@ -107,7 +107,7 @@ impl InterruptDescriptorTable {
             simd_floating_point: Entry::missing(),
             virtualization: Entry::missing(),
             cp_protection_exception: Entry::missing(),
-            reserved_2: [Entry::missing(); 6],
+            reserved_2: Gates::new([Entry::missing(); 6]),
             hv_injection_exception: Entry::missing(),
             vmm_communication_exception: Entry::missing(),
             security_exception: Entry::missing(),
@@ -139,6 +139,42 @@ impl InterruptDescriptorTable {
         ensures { cpu.new ≡ record cpu.old { idtr = record { limit = 4095; base = at } } }
     {
         self.load(cpu, at);
+    }
+
+    /// The bytes of the gate of a vector, which the processor reads.
+    pub fn gate(&self, vector: u8) -> [u8; 16]
+        ensures { result ≡ gate_of self.now vector }
+    {
+        match vector {
+            0 => self.divide_error.to_bytes(),
+            1 => self.debug.to_bytes(),
+            2 => self.non_maskable_interrupt.to_bytes(),
+            3 => self.breakpoint.to_bytes(),
+            4 => self.overflow.to_bytes(),
+            5 => self.bound_range_exceeded.to_bytes(),
+            6 => self.invalid_opcode.to_bytes(),
+            7 => self.device_not_available.to_bytes(),
+            8 => self.double_fault.to_bytes(),
+            9 => self.coprocessor_segment_overrun.to_bytes(),
+            10 => self.invalid_tss.to_bytes(),
+            11 => self.segment_not_present.to_bytes(),
+            12 => self.stack_segment_fault.to_bytes(),
+            13 => self.general_protection_fault.to_bytes(),
+            14 => self.page_fault.to_bytes(),
+            15 => self.reserved_1.to_bytes(),
+            16 => self.x87_floating_point.to_bytes(),
+            17 => self.alignment_check.to_bytes(),
+            18 => self.machine_check.to_bytes(),
+            19 => self.simd_floating_point.to_bytes(),
+            20 => self.virtualization.to_bytes(),
+            21 => self.cp_protection_exception.to_bytes(),
+            22..=27 => self.reserved_2.at(usize::from(vector) - 22).to_bytes(),
+            28 => self.hv_injection_exception.to_bytes(),
+            29 => self.vmm_communication_exception.to_bytes(),
+            30 => self.security_exception.to_bytes(),
+            31 => self.reserved_3.to_bytes(),
+            32..=255 => self.interrupts.at(usize::from(vector) - 32).to_bytes(),
+        }
     }
 
     /// The gate of a vector. None exactly where the vector is reserved, or its handler takes an error code or

@@ -1,11 +1,12 @@
 //! The error code of a page fault.
 
-ghost use Rattle.std.specs.Prelude.{◌≡◌, ⊤};
+ghost use Rattle.std.specs.Prelude.{◌≡◌, ⊤, [], ◌∷◌, codes};
 ghost use Rattle.std.specs.Int.RustNames.{bit_or};
 ghost use Rattle.x86_tables.specs.PageFaultErrorCode.{page_fault_bits, page_fault_flags};
 
 use bitflags::{Flag, Flags};
 use std::ops::BitOr;
+use x86_flags::flag_rows;
 
 /// Why an access raised a page fault.
 ///
@@ -44,48 +45,34 @@ impl PageFaultErrorCode {
     /// The reverse map table denies the access (AMD).
     pub const RMP: Self = Self(1 << 31);
 
-    const FLAGS: &'static [Flag<Self>] = &[
-        Flag {
-            name: "PROTECTION_VIOLATION",
-            value: Self::PROTECTION_VIOLATION,
-        },
-        Flag {
-            name: "CAUSED_BY_WRITE",
-            value: Self::CAUSED_BY_WRITE,
-        },
-        Flag {
-            name: "USER_MODE",
-            value: Self::USER_MODE,
-        },
-        Flag {
-            name: "MALFORMED_TABLE",
-            value: Self::MALFORMED_TABLE,
-        },
-        Flag {
-            name: "INSTRUCTION_FETCH",
-            value: Self::INSTRUCTION_FETCH,
-        },
-        Flag {
-            name: "PROTECTION_KEY",
-            value: Self::PROTECTION_KEY,
-        },
-        Flag {
-            name: "SHADOW_STACK",
-            value: Self::SHADOW_STACK,
-        },
-        Flag {
-            name: "HLAT",
-            value: Self::HLAT,
-        },
-        Flag {
-            name: "SGX",
-            value: Self::SGX,
-        },
-        Flag {
-            name: "RMP",
-            value: Self::RMP,
-        },
+    const FLAGS: &'static [Flag<Self>] = flag_rows![
+        PROTECTION_VIOLATION,
+        CAUSED_BY_WRITE,
+        USER_MODE,
+        MALFORMED_TABLE,
+        INSTRUCTION_FETCH,
+        PROTECTION_KEY,
+        SHADOW_STACK,
+        HLAT,
+        SGX,
+        RMP,
     ];
+
+    /// Each name of the table has the bits of the constant of that name.
+    pub fn constants()
+        ensures { page_fault_flags
+            ≡ (codes "PROTECTION_VIOLATION", page_fault_bits Self.PROTECTION_VIOLATION)
+            ∷ (codes "CAUSED_BY_WRITE", page_fault_bits Self.CAUSED_BY_WRITE)
+            ∷ (codes "USER_MODE", page_fault_bits Self.USER_MODE)
+            ∷ (codes "MALFORMED_TABLE", page_fault_bits Self.MALFORMED_TABLE)
+            ∷ (codes "INSTRUCTION_FETCH", page_fault_bits Self.INSTRUCTION_FETCH)
+            ∷ (codes "PROTECTION_KEY", page_fault_bits Self.PROTECTION_KEY)
+            ∷ (codes "SHADOW_STACK", page_fault_bits Self.SHADOW_STACK)
+            ∷ (codes "HLAT", page_fault_bits Self.HLAT)
+            ∷ (codes "SGX", page_fault_bits Self.SGX)
+            ∷ (codes "RMP", page_fault_bits Self.RMP)
+            ∷ [] }
+    {}
 }
 
 impl Flags for PageFaultErrorCode {
