@@ -1,100 +1,81 @@
 -- The chunks of blocks.
-use Rattle.std.proofs.Common.{◌≡◌, ℕ, ◌+◌, ◌-◌, ◌<◌, ◌≤◌, ◌⊎◌, inl, inr, Bool, true, false, ◌==◌, nat_lt, if◌then◌else◌, List, [], ◌∷◌, ◌++◌, Option, Some, None, refl, sym, ◌∙◌, ap, arith}
-use Rattle.std.specs.Prelude.{unwrap_or}
-use Rattle.std.specs.List.{flat_map}
-use Rattle.std.proofs.lemmas.List.{append-nil}
-use Rattle.std.proofs.lemmas.Bool.Decides.{nat_tests}
+use Rattle.std.proofs.Common.{◌≡◌, ℕ, ◌+◌, ◌-◌, ◌%◌, ◌<◌, ◌≤◌, ◌≢◌, ◌⊎◌, inl, inr, max, IsTrue, true, List, Some, sym, ◌∙◌, ap, subst, arith}
 use Rattle.heap_memory.specs.declared.grant.Grant.{Grant}
-use Rattle.dlmalloc_chunks.specs.declared.extent.Extent.{Extent}
-use Rattle.dlmalloc_chunks.specs.declared.extent.Kind.TheVariants.{Used, Free, Top, Foot}
-use Rattle.dlmalloc.specs.Extents.{is_used, extent_at}
-use Rattle.dlmalloc.specs.State.{Segment, extents_in}
-use Rattle.dlmalloc.specs.Granted.{top_and_foot}
-use Rattle.dlmalloc.specs.Heap.{chunks_of, segments_of, state_of, IsSound, IsInside}
+use Rattle.heap_memory.specs.Events.{Event}
+use Rattle.heap_memory.specs.Regions.{is_granted}
+use Rattle.dlmalloc_chunks.specs.declared.extent.Kind.TheVariants.{Used}
+use Rattle.dlmalloc_chunks.specs.Chunk.{HasHead}
+use Rattle.dlmalloc_chunks.specs.Head.{size_of}
+use Rattle.dlmalloc_chunks.specs.HeadLaws.{size_of-head_of}
+use Rattle.dlmalloc.specs.Extents.{extent_at}
+use Rattle.dlmalloc.specs.State.{extents_in}
+use Rattle.dlmalloc.specs.Blocks.{IsBlock, IsInside, IsPlaced, BlocksAreApart, HasOneMore}
+use Rattle.dlmalloc.specs.Freed.{freed}
+use Rattle.dlmalloc.specs.Segments.{IsSegment}
+use Rattle.dlmalloc.specs.Heap.{segments_of, state_of, IsSound}
+use Rattle.dlmalloc.specs.Served.{IsMoved, IsFreed}
 use Rattle.dlmalloc.specs.declared.heap.Dlmalloc.{Dlmalloc}
-use Rattle.dlmalloc.proofs.Taking.{one_segment}
-use Rattle.dlmalloc.proofs.Chosen.{stands, from_base, at_whole, to_top, none_inside}
-use Rattle.dlmalloc.proofs.Joining.{extent}
+use Rattle.dlmalloc.proofs.Places.{extent, same_extent, found}
+use Rattle.dlmalloc.proofs.Moving.{standing}
+use Rattle.dlmalloc.proofs.Segments.{located, of_located}
+use Rattle.dlmalloc.proofs.BlocksLaw.{blocks_law}
+use Rattle.dlmalloc.proofs.Laws.{used_inside, used_apart}
 
--- an extent that is found is the one there
-pub the_extent : {one other : Extent} → Some one ≡ Some other → one ≡ other
-the_extent {one} {other} h = ap (λ (o : Option Extent). unwrap_or o one) h
+module _ {A : Type 0} (regions : A → List Grant) (word : A → ℕ → ℕ) (heap : Dlmalloc A) (sound : IsSound regions word heap) (ptr size : ℕ) (block : IsBlock (state_of word heap) ptr size) where
+  place : block.extent.at ≡ ptr - 16
+  place = (found (ptr - 16) block.extent (extents_in (state_of word heap)) block.there).place
 
--- no chunk in use is a top or its foot
-not_end : (chunks : List Extent) (top end at : ℕ) (chunk : Extent) → chunk.kind ≡ Used → extent_at at (chunks ++ top_and_foot top end) ≡ Some chunk → extent_at at chunks ≡ Some chunk
-not_end [] top end at chunk used h = at_top (top == at) (end - 80 == at) h
-  where
-    at_top : (b c : Bool) → (if b then Some (extent top (end - 80 - top) Top) else if c then Some (extent (end - 80) 80 Foot) else None) ≡ Some chunk →
-        None ≡ Some chunk
-    at_top true c h = absurd (let k : Top ≡ chunk.kind = ap (λ (e : Extent). e.kind) (the_extent h) in let u = ap is_used (k ∙ used) in cc)
-    at_top false true h = absurd (let k : Foot ≡ chunk.kind = ap (λ (e : Extent). e.kind) (the_extent h) in let u = ap is_used (k ∙ used) in cc)
-    at_top false false h = h
-not_end (first ∷ chunks) top end at chunk used h = go (first.at == at) h (not_end chunks top end at chunk used)
-  where
-    go : (b : Bool) → (if b then Some first else extent_at at (chunks ++ top_and_foot top end)) ≡ Some chunk → (extent_at at (chunks ++ top_and_foot top end) ≡ Some chunk → extent_at at chunks ≡ Some chunk) →
-        (if b then Some first else extent_at at chunks) ≡ Some chunk
-    go true h later = h
-    go false h later = later h
+  there : extent_at block.extent.at (extents_in (state_of word heap)) ≡ Some block.extent
+  there = ap (λ (a : ℕ). extent_at a (extents_in (state_of word heap))) place ∙ block.there
 
--- an extent in use is one of the chunks of the segment
-pub block_chunk : {A : Type 0} (word : A → ℕ → ℕ) (heap : Dlmalloc A) (at : ℕ) (chunk : Extent) → extent_at at (extents_in (state_of word heap)) ≡ Some chunk → chunk.kind ≡ Used →
-    (0 < heap.size) × (extent_at at (chunks_of word heap) ≡ Some chunk)
-block_chunk word heap at chunk h used = go (heap.size == 0) refl
-  where
-    go : (b : Bool) → (heap.size == 0) ≡ b → (0 < heap.size) × (extent_at at (chunks_of word heap) ≡ Some chunk)
-    go true none =
-        let empty : segments_of word heap ≡ [] = rw none refl in
-        let gone : None ≡ Some chunk = sym (ap (λ (ss : List Segment). extent_at at (flat_map (λ (s : Segment). s.extents) ss)) empty) ∙ h in
-        absurd (cc)
-    go false more =
-        let some : 0 < heap.size = grind (arith, nat_tests) in
-        let tail = top_and_foot heap.top (heap.base + heap.size) in
-        let one = one_segment word heap (chunks_of word heap) some refl in (
-          some,
-          not_end (chunks_of word heap) heap.top (heap.base + heap.size) at chunk used
-              (sym (ap (extent_at at) (append-nil (chunks_of word heap ++ tail)))
-              ∙ (sym (ap (λ (ss : List Segment). extent_at at (flat_map (λ (s : Segment). s.extents) ss)) one) ∙ h)),
-        )
+  inside : IsInside (regions heap.system) block.extent
+  inside = used_inside regions word heap sound block.extent block.used there
 
--- where an extent in use stands
-pub placed : {A : Type 0} (regions : A → List Grant) (word : A → ℕ → ℕ) (heap : Dlmalloc A) → IsSound regions word heap → (used : Extent) → used.kind ≡ Used →
-    extent_at used.at (extents_in (state_of word heap)) ≡ Some used → IsInside heap used
-placed regions word heap sound used is found =
-    let c = block_chunk word heap used.at used found is in
-    let h = sound.some c.0 in
-    let stands = stands regions word heap h used c.1 in
-    record {
-      there = c.0;
-      from = from_base regions word heap h used c.1;
-      to = to_top regions word heap h used c.1;
-      behind = (let ends = h.ends in let long = h.top_long in omega arith);
-      whole = at_whole regions word heap h used c.1;
-      size_whole = stands.whole;
-      long = stands.long;
-    }
+  pub block_placed : IsPlaced (regions heap.system) ptr size
+  block_placed = record {
+    aligned = omega (arith, place, block.low, inside.whole);
+    granted = λ k low high. inside.granted k (omega (arith, place, block.low, low)) (omega (arith, place, block.low, block.holds, inside.long, high));
+    small = omega (arith, place, block.low, block.holds, inside.long, inside.high);
+  }
 
--- two chunks of one segment are apart
-pub apart : {A : Type 0} (regions : A → List Grant) (word : A → ℕ → ℕ) (heap : Dlmalloc A) → IsSound regions word heap → 0 < heap.size → (one other : Extent) →
-    extent_at one.at (chunks_of word heap) ≡ Some one → extent_at other.at (chunks_of word heap) ≡ Some other → one.kind ≡ Used → other.kind ≡ Free →
-    (one.at + one.size ≤ other.at) ⊎ (other.at + other.size ≤ one.at)
-apart regions word heap sound some one other there there_other used free = go (nat_lt one.at other.at) (nat_lt other.at one.at) refl refl
-  where
-    both_none : {e : Extent} → None ≡ Some e → ⊥
-    both_none h = cc
+  pub block_head : HasHead (regions heap.system) (ptr - 16)
+  block_head = subst (HasHead (regions heap.system)) place (record {
+    aligned = omega (arith, inside.whole);
+    small = omega (arith, inside.high);
+    granted = record { granted = inside.granted (block.extent.at + 8) (omega arith) (omega (arith, inside.long)); aligned = omega (arith, inside.whole) };
+  })
 
-    go : (b c : Bool) → nat_lt one.at other.at ≡ b → nat_lt other.at one.at ≡ c → (one.at + one.size ≤ other.at) ⊎ (other.at + other.size ≤ one.at)
-    go true c less _ = inside (nat_lt other.at (one.at + one.size)) refl
-      where
-        inside : (d : Bool) → nat_lt other.at (one.at + one.size) ≡ d → (one.at + one.size ≤ other.at) ⊎ (other.at + other.size ≤ one.at)
-        inside true within = absurd (both_none (sym (none_inside regions word heap (sound.some some) one there other.at (grind (arith, nat_tests)) (grind (arith, nat_tests))) ∙ there_other))
-        inside false beyond = inl (grind (arith, nat_tests))
-    go false true _ more = inside (nat_lt one.at (other.at + other.size)) refl
-      where
-        inside : (d : Bool) → nat_lt one.at (other.at + other.size) ≡ d → (one.at + one.size ≤ other.at) ⊎ (other.at + other.size ≤ one.at)
-        inside true within = absurd (both_none (sym (none_inside regions word heap (sound.some some) other there_other one.at (grind (arith, nat_tests)) (grind (arith, nat_tests))) ∙ there))
-        inside false beyond = inr (grind (arith, nat_tests))
-    go false false least most =
-        let same : one.at ≡ other.at = grind (arith, nat_tests) in
-        let is : one ≡ other = the_extent (sym there ∙ (ap (λ (a : ℕ). extent_at a (chunks_of word heap)) same ∙ there_other)) in
-        let kind : Used ≡ Free = sym used ∙ (ap (λ (e : Extent). e.kind) is ∙ free) in
-        absurd (let u = ap is_used kind in cc)
+  -- its head tells the chunk's size
+  pub block_chunk : (told : ℕ) → told ≡ size_of (word heap.system (ptr - 16 + 8)) → extent_at (ptr - 16) (extents_in (state_of word heap)) ≡ Some (extent (ptr - 16) told Used)
+  block_chunk told is =
+      let l = located block.extent.at block.extent (segments_of word heap) there in
+      let p = of_located (IsSegment (regions heap.system) (word heap.system)) block.extent.at block.extent (segments_of word heap) l sound.segments in
+      let s = standing (word heap.system) Used l.segment.base l.segment.extents (l.segment.base + l.segment.size) block.extent p.extents p.tail l.there block.used in
+      let sizes : told ≡ block.extent.size = is ∙ (ap (λ (a : ℕ). size_of (word heap.system (a + 8))) (sym place) ∙ (ap size_of s.head ∙ size_of-head_of block.extent.size s.before true (omega (arith, s.size_whole)))) in
+      block.there ∙ (λ i. Some (same_extent {at = block.extent.at} {at' = ptr - 16} {size = block.extent.size} {size' = told} {kind = block.extent.kind} {kind' = Used} place (sym sizes) block.used i))
+
+-- a block was freed
+pub freed_block : {A : Type 0} (regions : A → List Grant) (word : A → ℕ → ℕ) (follows : A → List Event → A → Type 0) (old new : Dlmalloc A) (ptr : ℕ) → IsSound regions word old → state_of word new ≡ freed (state_of word old) (ptr - 16) →
+    HasOneMore (state_of word new) (state_of word old) (ptr - 16) → IsMoved regions word follows old new → IsFreed regions word follows old ptr new
+freed_block regions word follows old new ptr sound state less moved = record {
+  state = state;
+  less = less;
+  kept = blocks_law regions word old new sound moved.sound moved.words (extents_in (state_of word new)) (λ block there used. (less.kept block used there, there));
+  words = moved.words;
+  sound = moved.sound;
+  regions_same = moved.regions_same;
+  followed = moved.followed;
+}
+
+-- two blocks are apart, and from each other's head
+pub blocks_apart : {A : Type 0} (regions : A → List Grant) (word : A → ℕ → ℕ) (heap : Dlmalloc A) → IsSound regions word heap → BlocksAreApart (state_of word heap)
+blocks_apart regions word heap sound a m b n one two differ =
+    let at_a = place regions word heap sound a m one in
+    let at_b = place regions word heap sound b n two in
+    let long_a = (inside regions word heap sound a m one).long in
+    let long_b = (inside regions word heap sound b n two).long in
+    let holds_a = one.holds in let holds_b = two.holds in let low_a = one.low in let low_b = two.low in
+    elim (used_apart regions word heap sound one.extent two.extent (there regions word heap sound a m one) (there regions word heap sound b n two) (λ same. differ (omega arith))) [
+      | inl before ↦ inl (omega arith)
+      | inr behind ↦ inr (omega arith)
+    ]

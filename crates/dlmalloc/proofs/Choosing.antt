@@ -1,5 +1,5 @@
 -- Which extent of a sound heap is chosen.
-use Rattle.std.proofs.Common.{◌≡◌, ◌≢◌, ℕ, ◌+◌, ◌-◌, ◌<◌, ◌≤◌, ◌⊎◌, inl, inr, Bool, true, false, ◌&&◌, ◌==◌, nat_le, nat_lt, if◌then◌else◌, List, [], ◌∷◌, Option, Some, None, refl, sym, ◌∙◌, ap, subst, arith}
+use Rattle.std.proofs.Common.{◌≡◌, ◌≢◌, ℕ, ◌+◌, ◌^◌, ◌<◌, ◌≤◌, inl, inr, Bool, true, false, ◌&&◌, ◌==◌, nat_le, nat_lt, if◌then◌else◌, List, [], ◌∷◌, ◌++◌, Option, Some, None, refl, sym, ◌∙◌, ap, subst, arith}
 use Rattle.std.specs.Prelude.{unwrap_or, option_map}
 use Rattle.std.specs.Option.{option_or}
 use Rattle.std.specs.List.{find}
@@ -7,17 +7,22 @@ use Rattle.std.proofs.lemmas.Bool.Decides.{nat_tests}
 use Rattle.std.proofs.lemmas.List.Folds.{find-append}
 use Rattle.heap_memory.specs.declared.grant.Grant.{Grant}
 use Rattle.dlmalloc_chunks.specs.declared.extent.Extent.{Extent}
-use Rattle.dlmalloc_chunks.specs.declared.extent.Kind.TheVariants.{Used, Free, Top}
-use Rattle.dlmalloc.specs.Extents.{is_used, Tiles, extent_at}
-use Rattle.dlmalloc.specs.State.{HeapState, extents_in, is_top, is_plain, is_victim, size_where}
+use Rattle.dlmalloc_chunks.specs.declared.extent.Kind.TheVariants.{Used, Free, Top, Foot}
+use Rattle.dlmalloc.specs.Extents.{extent_at}
+use Rattle.dlmalloc.specs.State.{HeapState, Segment, extents_in, is_top, is_plain, is_victim, size_where}
 use Rattle.dlmalloc.specs.Choice.{OfBins, TheVictim, TheTop, least_fit, goes_first, choose, chosen, IsChosen}
-use Rattle.dlmalloc.specs.Heap.{chunks_of, state_of, HasSegment, IsSound}
+use Rattle.dlmalloc.specs.Segments.{IsSegment, AreSegments}
+use Rattle.dlmalloc.specs.Walk.{AreChunks, IsChunkKind}
+use Rattle.dlmalloc.specs.Heap.{segments_of, state_of, AreTold, IsSound}
 use Rattle.dlmalloc.specs.declared.walk.Place.{Place}
 use Rattle.dlmalloc.specs.declared.walk.Choice.TheVariants.{Chunk}
 use Rattle.dlmalloc.specs.declared.heap.Dlmalloc.{Dlmalloc}
-use Rattle.dlmalloc.proofs.Places.{nat_same, found_behind, found_none}
-use Rattle.dlmalloc.proofs.Walking.{chunk_kind}
-use Rattle.dlmalloc.proofs.AllExtents.{ending, extents_are, found_among_all}
+use Rattle.dlmalloc.proofs.Places.{extent, nat_same, found_later}
+use Rattle.dlmalloc.proofs.Tiling.{sized}
+use Rattle.dlmalloc.proofs.More.{none_outside}
+use Rattle.dlmalloc.proofs.Segments.{extents_all, located, of_located, in_part}
+use Rattle.dlmalloc.proofs.Tops.{top_among, foot_among}
+use Rattle.dlmalloc.proofs.Walking.{run_read, top_tail}
 
 and_false : (a b : Bool) → b ≡ false → (a && b) ≡ false
 and_false true b is = is
@@ -53,57 +58,84 @@ no_victim heap (first ∷ extents) none = at_first (first.at == heap.victim) ref
         rw isnt rest
 
 -- no chunk is the top
-no_top : (words : ℕ → ℕ) (used : Bool) (from : ℕ) (chunks : List Extent) (to : ℕ) → Tiles words used from chunks to → find (λ (extent : Extent). is_top extent.kind) chunks ≡ None
-no_top words used from [] to h = refl
-no_top words used from (chunk ∷ chunks) to h = by_kind (chunk_kind used chunk.kind h.1.kind) (no_top words (is_used chunk.kind) (from + chunk.size) chunks to h.2)
+no_top : (chunks : List Extent) → AreChunks chunks → find (λ (extent : Extent). is_top extent.kind) chunks ≡ None
+no_top [] are = refl
+no_top (chunk ∷ chunks) are = by_kind are.0 (no_top chunks are.1)
   where
-    by_kind : (chunk.kind ≡ Used) ⊎ (chunk.kind ≡ Free) → find (λ (extent : Extent). is_top extent.kind) chunks ≡ None → find (λ (extent : Extent). is_top extent.kind) (chunk ∷ chunks) ≡ None
+    by_kind : IsChunkKind chunk.kind → find (λ (extent : Extent). is_top extent.kind) chunks ≡ None → find (λ (extent : Extent). is_top extent.kind) (chunk ∷ chunks) ≡ None
     by_kind (inl is) rest = let other : is_top chunk.kind ≡ false = ap is_top is in rw other rest
     by_kind (inr is) rest = let other : is_top chunk.kind ≡ false = ap is_top is in rw other rest
 
-module _ {A : Type 0} (regions : A → List Grant) (word : A → ℕ → ℕ) (heap : Dlmalloc A) (sound : IsSound regions word heap) (some : 0 < heap.size) where
-  abbrev pub segment : HasSegment regions word heap
-  segment = sound.some some
+-- none begins at address 0
+none_at_zero : (regions : List Grant) (words : ℕ → ℕ) (segments : List Segment) → AreSegments regions words segments → extent_at 0 (extents_all segments) ≡ None
+none_at_zero regions words [] parts = refl
+none_at_zero regions words (segment ∷ segments) parts =
+    let low = parts.0.low in
+    found_later 0 segment.extents (extents_all segments) (none_outside words Used segment.base segment.extents (segment.base + segment.size) 0 (inl (omega arith)) parts.0.extents) ∙ none_at_zero regions words segments parts.1
 
+-- an extent of a heap begins at 4096 at least, and below 2 ^ 64 - 16
+pub free_low : {A : Type 0} (regions : A → List Grant) (word : A → ℕ → ℕ) (heap : Dlmalloc A) → IsSound regions word heap → (one : Extent) → extent_at one.at (extents_in (state_of word heap)) ≡ Some one → 4096 ≤ one.at
+free_low regions word heap sound one there =
+    let l = located one.at one (segments_of word heap) there in
+    let p = of_located (IsSegment (regions heap.system) (word heap.system)) one.at one (segments_of word heap) l sound.segments in
+    let is = in_part (word heap.system) Used l.segment.base l.segment.extents (l.segment.base + l.segment.size) one p.extents l.there in
+    let low = is.low in let base = p.low in
+    omega arith
+
+pub free_below : {A : Type 0} (regions : A → List Grant) (word : A → ℕ → ℕ) (heap : Dlmalloc A) → IsSound regions word heap → (one : Extent) → extent_at one.at (extents_in (state_of word heap)) ≡ Some one → one.at + 16 < 2 ^ 64
+free_below regions word heap sound one there =
+    let l = located one.at one (segments_of word heap) there in
+    let p = of_located (IsSegment (regions heap.system) (word heap.system)) one.at one (segments_of word heap) l sound.segments in
+    let is = in_part (word heap.system) Used l.segment.base l.segment.extents (l.segment.base + l.segment.size) one p.extents l.there in
+    let long = (sized one.kind one.size is.stands.size).1 in
+    let low = is.low in let high = is.high in let end = p.high in
+    omega arith
+
+pub top_below : {A : Type 0} (regions : A → List Grant) (word : A → ℕ → ℕ) (heap : Dlmalloc A) → IsSound regions word heap → 0 < heap.size → heap.top + 16 < 2 ^ 64
+top_below regions word heap sound some = free_below regions word heap sound (extent heap.top heap.top_size Top) (top_among regions word heap sound some)
+
+-- the top ends below 2 ^ 64
+pub top_end : {A : Type 0} (regions : A → List Grant) (word : A → ℕ → ℕ) (heap : Dlmalloc A) → IsSound regions word heap → 0 < heap.size → heap.top + heap.top_size < 2 ^ 64
+top_end regions word heap sound some = let below = free_below regions word heap sound (extent (heap.top + heap.top_size) 80 Foot) (foot_among regions word heap sound some) in omega arith
+
+module _ {A : Type 0} (regions : A → List Grant) (word : A → ℕ → ℕ) (heap : Dlmalloc A) (sound : IsSound regions word heap) (some : 0 < heap.size) where
   abbrev pub state : HeapState
   state = state_of word heap
 
-  abbrev size_of_first : Option Extent → ℕ
-  size_of_first found = unwrap_or (option_map (λ (extent : Extent). extent.size) found) 0
-
   -- the size of the victim
   victim_size_is : size_where (is_victim state) (extents_in state) ≡ heap.victim_size
-  victim_size_is = ap (size_where (is_victim state)) (extents_are word heap some)
-      ∙ ap size_of_first (find-append (is_victim state) (chunks_of word heap) (ending word heap some))
-      ∙ by_size (heap.victim_size == 0) refl
+  victim_size_is = by_size (heap.victim_size == 0) refl
     where
-      by_size : (b : Bool) → (heap.victim_size == 0) ≡ b → size_of_first (option_or (find (is_victim state) (chunks_of word heap)) None) ≡ heap.victim_size
+      by_size : (b : Bool) → (heap.victim_size == 0) ≡ b → unwrap_or (option_map (λ (extent : Extent). extent.size) (find (is_victim state) (extents_in state))) 0 ≡ heap.victim_size
       by_size true test =
           let zero : heap.victim_size ≡ 0 = grind (arith, nat_tests) in
-          let low = segment.low in
           let at = sound.no_victim zero in
-          ap (λ (o : Option Extent). size_of_first (option_or o None)) (no_victim state (chunks_of word heap) (found_none (word heap.system) true heap.base (chunks_of word heap) heap.top heap.victim (inl (omega arith)) segment.chunks)) ∙ sym zero
+          ap (λ (o : Option Extent). unwrap_or (option_map (λ (extent : Extent). extent.size) o) 0)
+          (no_victim state (extents_in state) (ap (λ (a : ℕ). extent_at a (extents_in state)) at ∙ none_at_zero (regions heap.system) (word heap.system) (segments_of word heap) sound.segments)) ∙ sym zero
       by_size false test =
           let some : heap.victim_size ≢ 0 = grind (arith, nat_tests) in
-          ap (λ (o : Option Extent). size_of_first (option_or o None)) (find_victim state (chunks_of word heap) (record { at = heap.victim; size = heap.victim_size; kind = Free }) (segment.victim some) refl)
-
-  top_is : heap.base + heap.size - 80 - heap.top ≡ heap.top_size
-  top_is = let e = segment.ends in omega arith
+          ap (λ (o : Option Extent). unwrap_or (option_map (λ (extent : Extent). extent.size) o) 0) (find_victim state (extents_in state) (extent heap.victim heap.victim_size Free) (sound.victim some) refl)
 
   -- the top is one of the extents
-  pub top_there : extent_at heap.top (extents_in state) ≡ Some (record { at = heap.top; size = heap.top_size; kind = Top })
-  top_there =
-      ap (extent_at heap.top) (extents_are word heap some)
-      ∙ found_behind (word heap.system) true heap.base (chunks_of word heap) heap.top (ending word heap some) heap.top (omega arith) segment.chunks
-      ∙ (let same = nat_same heap.top in rw same refl)
-      ∙ (λ i. Some (record { at = heap.top; size = top_is i; kind = Top }))
+  pub top_there : extent_at heap.top (extents_in state) ≡ Some (extent heap.top heap.top_size Top)
+  top_there = top_among regions word heap sound some
 
   -- the size of the top
   top_size_is : size_where (λ extent. is_top extent.kind) (extents_in state) ≡ heap.top_size
-  top_size_is = ap (size_where (λ extent. is_top extent.kind)) (extents_are word heap some)
-      ∙ ap size_of_first (find-append (λ (extent : Extent). is_top extent.kind) (chunks_of word heap) (ending word heap some))
-      ∙ ap (λ (o : Option Extent). size_of_first (option_or o (find (λ (extent : Extent). is_top extent.kind) (ending word heap some)))) (no_top (word heap.system) true heap.base (chunks_of word heap) heap.top segment.chunks)
-      ∙ top_is
+  top_size_is = go (segments_of word heap) sound.segments sound.told
+    where
+      go : (segments : List Segment) → AreSegments (regions heap.system) (word heap.system) segments → AreTold (word heap.system) heap segments → size_where (λ extent. is_top extent.kind) (extents_all segments) ≡ heap.top_size
+      go [] parts h = absurd (omega (arith, some, h))
+      go (segment ∷ segments) parts h =
+          let t = top_tail (regions heap.system) (word heap.system) segment parts.0 heap.top heap.top_size h.4 in
+          let chunks = t.run.chunks in
+          let tail = extent heap.top heap.top_size Top ∷ extent (heap.top + heap.top_size) 80 Foot ∷ [] in
+          ap (λ (o : Option Extent). unwrap_or (option_map (λ (extent : Extent). extent.size) o) 0)
+          (find-append (λ (extent : Extent). is_top extent.kind) segment.extents (extents_all segments)
+          ∙ ap (λ (o : Option Extent). option_or o (find (λ (extent : Extent). is_top extent.kind) (extents_all segments)))
+          (ap (find (λ (extent : Extent). is_top extent.kind)) (t.is ∙ ap (λ (es : List Extent). es ++ tail) (run_read (regions heap.system) (word heap.system) segment.base heap.top t.run))
+          ∙ (find-append (λ (extent : Extent). is_top extent.kind) chunks tail
+          ∙ ap (λ (o : Option Extent). option_or o (find (λ (extent : Extent). is_top extent.kind) tail)) (no_top chunks t.run.are))))
 
   module _ (n : ℕ) where
     pub chosen_is : (fit : Option ℕ) → least_fit state n ≡ fit → chosen state n ≡ choose n fit heap.victim_size heap.top_size
@@ -111,11 +143,11 @@ module _ {A : Type 0} (regions : A → List Grant) (word : A → ℕ → ℕ) (h
 
     -- a binned chunk goes first
     pub bins_chosen : (at size : ℕ) → least_fit state n ≡ Some size → goes_first n heap.victim_size size ≡ true →
-        extent_at at (chunks_of word heap) ≡ Some (record { at = at; size = size; kind = Free }) → at ≢ heap.victim → IsChosen state n (record { at = at; size = size; kind = Free })
+        extent_at at (extents_in state) ≡ Some (record { at = at; size = size; kind = Free }) → at ≢ heap.victim → IsChosen state n (record { at = at; size = size; kind = Free })
     bins_chosen at size fit first there other = record {
       choice = OfBins size;
       is = chosen_is (Some size) fit ∙ rw first refl;
-      there = found_among_all word heap some at (record { at = at; size = size; kind = Free }) there;
+      there = there;
       one = (let apart : (at == heap.victim) ≡ false = (let o = other in grind (arith, nat_tests)) in let same = nat_same size in rw (apart, same) refl);
     }
 
@@ -127,7 +159,7 @@ module _ {A : Type 0} (regions : A → List Grant) (word : A → ℕ → ℕ) (h
     of_victim is fits more = record {
       choice = TheVictim;
       is = is;
-      there = found_among_all word heap some heap.victim victim (segment.victim (λ zero. omega arith));
+      there = sound.victim (λ zero. omega arith);
       one = nat_same heap.victim;
     }
 

@@ -1,248 +1,304 @@
--- What the stores of a freed chunk leave.
-use Rattle.std.proofs.Common.{◌≡◌, ◌≢◌, ℕ, ◌+◌, ◌-◌, ◌%◌, ◌^◌, ◌<◌, ◌≤◌, ◌⊎◌, Bool, true, false, ◌==◌, if◌then◌else◌, List, [], ◌∷◌, Some, refl, sym, ◌∙◌, ap, subst, arith}
+-- A chunk of a heap is freed.
+use Rattle.std.proofs.Common.{◌≡◌, ◌≢◌, ℕ, ◌+◌, ◌-◌, ◌%◌, ◌^◌, ◌<◌, ◌≤◌, ◌⊎◌, inl, inr, Bool, true, false, ◌==◌, if◌then◌else◌, List, [], ◌∷◌, ◌++◌, Option, Some, None, refl, sym, ◌∙◌, ap, subst, arith}
+use Rattle.std.specs.Prelude.{unwrap_or, option_map}
 use Rattle.std.proofs.lemmas.Bool.Decides.{nat_tests}
 use Rattle.heap_memory.specs.declared.grant.Grant.{Grant}
 use Rattle.heap_memory.specs.Regions.{IsWordOf}
-use Rattle.heap_memory.specs.Words.{IsStored}
+use Rattle.dlmalloc_chunks.specs.Chunk.{AreStored, HasHead, HasFoot}
 use Rattle.dlmalloc_chunks.specs.declared.extent.Extent.{Extent}
-use Rattle.dlmalloc_chunks.specs.declared.extent.Kind.TheVariants.{Used}
-use Rattle.dlmalloc_chunks.specs.Chunk.{HasHead, HasFoot, AreStored}
-use Rattle.dlmalloc_chunks.specs.Head.{pinuse_of, free_of, size_of, head_of, without_pinuse}
-use Rattle.dlmalloc_chunks.specs.HeadLaws.{size_of-head_of}
-use Rattle.dlmalloc.specs.Extents.{is_used, used_after, extent_at}
-use Rattle.dlmalloc.specs.State.{extents_in}
-use Rattle.dlmalloc.specs.Freed.{freed}
-use Rattle.dlmalloc.specs.Blocks.{IsBlock, KeepsBlocks}
+use Rattle.dlmalloc_chunks.specs.declared.extent.Kind.{Kind}
+use Rattle.dlmalloc_chunks.specs.declared.extent.Kind.TheVariants.{Used, Free, Top, Record}
+use Rattle.dlmalloc_chunks.specs.Head.{pinuse_of, head_of, without_pinuse}
+use Rattle.dlmalloc_chunks.specs.HeadLaws.{pinuse_of-head_of}
+use Rattle.dlmalloc_chunks.specs.Kinds.{is_free}
+use Rattle.dlmalloc_chunks.specs.Tiling.{extent_at}
+use Rattle.dlmalloc.specs.Extents.{is_used}
+use Rattle.dlmalloc.specs.State.{Segment, extents_in}
+use Rattle.dlmalloc.specs.Taken.{in_segments}
+use Rattle.dlmalloc.specs.Freed.{freed_in, victim_in, freed}
 use Rattle.dlmalloc.specs.Boundaries.{OnlyBoundariesChange}
-use Rattle.dlmalloc.specs.Heap.{chunks_of, state_of, HasSegment, IsSound}
+use Rattle.dlmalloc.specs.Blocks.{HasOneMore}
+use Rattle.dlmalloc.proofs.Places.{nat_is, nat_same, nat_isnt, found_either, found_later, found_more}
+use Rattle.dlmalloc.proofs.Places.{extent, same_extent, end_of}
+use Rattle.dlmalloc.specs.Extents.{Stands, Tiles, last_kind}
+use Rattle.dlmalloc.specs.Moves.{IsMove, IsRunOf, HasMore, used_of}
+use Rattle.dlmalloc.specs.Heap.{segments_of, state_of, IsSound}
 use Rattle.dlmalloc.specs.declared.heap.Dlmalloc.{Dlmalloc}
-use Rattle.dlmalloc.proofs.Places.{found, nat_is}
-use Rattle.dlmalloc.proofs.Sound.{head_inside, foot_inside}
-use Rattle.dlmalloc.proofs.Chosen.{among, stands}
-use Rattle.dlmalloc.proofs.BlockChunks.{block_chunk}
-use Rattle.dlmalloc.proofs.Joining.{extent, same_extent, end_of}
-use Rattle.dlmalloc.proofs.Freeing.{from_inside, from_whole, from_at, chunk_whole, size_whole, size_long, chunk_below, top_victim, top_other, top_blocks, to_at, to_whole, to_below, next_told, free_victim, free_other, joint_there, free_blocks}
-use Rattle.dlmalloc.proofs.Boundaries.{top_written, free_written}
+use Rattle.dlmalloc.proofs.Tiling.{sized, tiles_le, tiles_split}
+use Rattle.dlmalloc.proofs.Moving.{last_append}
+use Rattle.dlmalloc.proofs.More.{used_append, none_outside}
+use Rattle.dlmalloc.proofs.Freeing.{join}
+use Rattle.dlmalloc.proofs.Segments.{extents_all, with_extents}
+use Rattle.dlmalloc.proofs.Run.{behind, run_of, run_part, run_word, step_beside}
+use Rattle.dlmalloc.proofs.Freed.{freed_run, joint_kind}
+use Rattle.dlmalloc.proofs.Beside.{Left, left_of, with_left, Right, next_one, right_of}
+use Rattle.dlmalloc.proofs.Tops.{the_top}
+use Rattle.dlmalloc.proofs.Victim.{has_in, victim_same}
+use Rattle.dlmalloc.proofs.Steps.{IsStep, read, segments_now, apart_now, found_new, found_again, keeps_words, stays_sound, has_less}
 
--- the heap in which a chunk is freed
-pub record Outcome {A : Type 0} (regions : A → List Grant) (word : A → ℕ → ℕ) (old : Dlmalloc A) (at : ℕ) (new : Dlmalloc A) : Type 0 where
-  pub sound : IsSound regions word new
+-- an extent in use was freed
+pub record IsFree {A : Type 0} (regions : A → List Grant) (word : A → ℕ → ℕ) (old : Dlmalloc A) (at : ℕ) (new : Dlmalloc A) : Type 0 where
   pub state : state_of word new ≡ freed (state_of word old) at
-  pub blocks : KeepsBlocks (extents_in (state_of word new)) (word old.system) (word new.system)
+  pub less : HasOneMore (state_of word new) (state_of word old) at
+  pub sound : IsSound regions word new
   pub words : OnlyBoundariesChange (regions old.system) (state_of word new) (word old.system) (word new.system)
 
-module _ {A : Type 0} (regions : A → List Grant) (word : A → ℕ → ℕ) (heap : Dlmalloc A) (sound : IsSound regions word heap) (some : 0 < heap.size) (at size : ℕ)
-    (there : extent_at at (chunks_of word heap) ≡ Some (extent at size Used)) (from : ℕ)
-    (from_is : from ≡ (if pinuse_of (word heap.system (at + 8)) then at else at - word heap.system at)) where
-  abbrev segment : HasSegment regions word heap
-  segment = sound.some some
+pub begins_whole : (words : ℕ → ℕ) (before : Kind) (from : ℕ) (front : List Extent) (extent : Extent) (back : List Extent) (to : ℕ) → Tiles words before from (front ++ extent ∷ back) to → from % 16 ≡ 0
+begins_whole words before from [] extent back to h = let place = h.0 in let whole = h.1.whole in omega arith
+begins_whole words before from (first ∷ front) extent back to h = let place = h.0 in let whole = h.1.whole in omega arith
+
+found_place : (k : ℕ) (one other : Extent) → extent_at k (one ∷ []) ≡ Some other → one.at ≡ k
+found_place k one other there = go (one.at == k) refl there
+  where
+    go : (b : Bool) → (one.at == k) ≡ b → (if b then Some one else None) ≡ Some other → one.at ≡ k
+    go true is found = nat_is is
+    go false is found = absurd (cc)
+
+module _ {A : Type 0} (regions : A → List Grant) (word : A → ℕ → ℕ) (heap : Dlmalloc A) (sound : IsSound regions word heap) (at size : ℕ)
+    (there : extent_at at (extents_in (state_of word heap)) ≡ Some (extent at size Used)) where
+  abbrev segments : List Segment
+  segments = segments_of word heap
 
   abbrev words : ℕ → ℕ
   words = word heap.system
 
-  inside : heap.base ≤ from
-  inside = from_inside regions word heap sound some at size there from from_is
+  abbrev chunk : Extent
+  chunk = extent at size Used
 
-  multiple : from % 16 ≡ 0
-  multiple = from_whole regions word heap sound some at size there from from_is
+  abbrev pub run_one : IsRunOf words segments at (at + size) (chunk ∷ [])
+  run_one = run_of (regions heap.system) words segments sound.segments chunk there
 
-  reach : from ≤ at
-  reach = from_at regions word heap sound some at size there from from_is
+  module _ (no_top : (next_one (regions heap.system) words segments sound.segments at size run_one).next.kind ≢ Top) (from : ℕ) (from_is : from ≡ (if pinuse_of (words (at + 8)) then at else at - words at))
+      (to : ℕ) (to_is : to ≡ end_of words (at + size)) where
+    pub right : Right words segments at size to
+    right = subst (λ (t : ℕ). Right words segments at size t) (sym to_is) (right_of (regions heap.system) words segments sound.segments at size run_one no_top)
 
-  at_multiple : at % 16 ≡ 0
-  at_multiple = chunk_whole regions word heap sound some at size there from from_is
+    stands : Stands words (last_kind Used right.run.first) chunk
+    stands = right.run.here.1
 
-  size_multiple : size % 16 ≡ 0
-  size_multiple = size_whole regions word heap sound some at size there from from_is
+    pub left : Left words right.run.segment.base right.run.first at from
+    left =
+        let whole : size % 8 ≡ 0 = (let w = stands.size.0 in omega arith) in
+        let told : pinuse_of (words (at + 8)) ≡ is_used (last_kind Used right.run.first) = ap pinuse_of stands.head ∙ pinuse_of-head_of size (is_used (last_kind Used right.run.first)) true whole in
+        subst (λ (f : ℕ). Left words right.run.segment.base right.run.first at f) (ap (λ (b : Bool). if b then at else at - words at) (sym told) ∙ sym from_is)
+        (left_of words right.run.segment.base right.run.first at right.run.first_stand stands.kind)
 
-  long : 32 ≤ size
-  long = size_long regions word heap sound some at size there from from_is
+    abbrev pub next : Extent
+    next = right.next
 
-  below : at + size ≤ heap.top
-  below = chunk_below regions word heap sound some at size there from from_is
+    abbrev pub less : List Extent
+    less = left.lefts ++ chunk ∷ (right.rights ++ next ∷ [])
 
-  ends : heap.top + heap.top_size + 80 ≡ heap.base + heap.size
-  ends = segment.ends
+    abbrev pub end : ℕ
+    end = to + right.next.size
 
-  pub head_there : HasHead (regions heap.system) at
-  head_there = head_inside regions word heap segment at (omega (arith, inside, reach)) (omega (arith, long, below, ends)) (omega (arith, at_multiple))
+    abbrev pub run : IsRunOf words segments from end less
+    run = with_left (regions heap.system) words segments at end (chunk ∷ (right.rights ++ next ∷ [])) right.run from left
 
-  pub foot_there : HasFoot (regions heap.system) at
-  foot_there = foot_inside regions word heap segment at (omega (arith, inside, reach)) (omega (arith, long, below, ends)) (omega (arith, at_multiple))
-
-  pub behind_there : HasHead (regions heap.system) (at + size)
-  behind_there = head_inside regions word heap segment (at + size) (omega (arith, inside, reach)) (omega (arith, below, ends)) (omega (arith, at_multiple, size_multiple))
-
-  pub from_there : HasHead (regions heap.system) from
-  from_there = head_inside regions word heap segment from inside (omega (arith, reach, long, below, ends)) (omega (arith, multiple))
-
-  pub behind_small : at + size < 2 ^ 64
-  behind_small = omega (arith, below, ends, segment.high)
-
-  -- a free chunk behind it ends below the top
-  pub end_small : at + size ≢ heap.top → free_of (words (at + size + 8)) ≡ true → at + size + size_of (words (at + size + 8)) < 2 ^ 64
-  end_small more free =
-      let under = to_below regions word heap sound some at size there from from_is more (end_of words (at + size)) refl in
-      let is : end_of words (at + size) ≡ at + size + size_of (words (at + size + 8)) = ap (λ (b : Bool). if b then at + size + size_of (words (at + size + 8)) else at + size) free in
-      omega (arith, ends, segment.high)
-
-  module _ (to : ℕ) (to_is : to ≡ (if at + size == heap.top then at + size else if free_of (words (at + size + 8)) then at + size + size_of (words (at + size + 8)) else at + size)) where
-    by_top : (b : Bool) → (at + size == heap.top) ≡ b → to ≡ (if b then at + size else end_of words (at + size))
-    by_top b is = to_is ∙ ap (λ (b : Bool). if b then at + size else end_of words (at + size)) is
-
-    pub ends_at : at + size ≢ heap.top → to ≡ end_of words (at + size)
-    ends_at more = by_top false (grind (arith, nat_tests))
-
-    -- where it ends at the top, so does the chunk
-    pub touches : to ≡ heap.top → at + size ≡ heap.top
-    touches is = go (at + size == heap.top) refl
-      where
-        go : (b : Bool) → (at + size == heap.top) ≡ b → at + size ≡ heap.top
-        go true same = nat_is same
-        go false apart =
-            let more : at + size ≢ heap.top = grind (arith, nat_tests) in
-            let under = to_below regions word heap sound some at size there from from_is more to (ends_at more) in
-            absurd (omega arith)
-
-    pub goes_on : to ≢ heap.top → at + size ≢ heap.top
-    goes_on isnt touch = isnt (by_top true (grind (arith, nat_tests)) ∙ touch)
+    from_at : from ≤ at
+    from_at = tiles_le words Used from left.lefts at left.lefts_stand
 
     pub room : from + 32 ≤ to
-    room = go (at + size == heap.top) refl
+    room = omega (arith, from_at, right.reach, stands.size.1)
+
+    pub from_whole : from % 16 ≡ 0
+    from_whole = begins_whole words (last_kind Used run.first) from left.lefts chunk (right.rights ++ next ∷ []) end run.here
+
+    pub to_whole : to % 16 ≡ 0
+    to_whole = omega (arith, right.place, right.stands.whole)
+
+    abbrev joint : Extent
+    joint = extent from (to - from) Free
+
+    abbrev more : List Extent
+    more = joint ∷ next ∷ []
+
+    not_free : is_free next.kind ≡ false
+    not_free = go right.kind
       where
-        go : (b : Bool) → (at + size == heap.top) ≡ b → from + 32 ≤ to
-        go true same = let is = by_top true same in omega (arith, reach, long)
-        go false apart =
-            let more : at + size ≢ heap.top = grind (arith, nat_tests) in
-            omega (arith, to_at regions word heap sound some at size there from from_is more to (ends_at more), reach, long)
+        go : (next.kind ≡ Used) ⊎ (next.kind ≡ Record) → is_free next.kind ≡ false
+        go (inl is) = ap is_free is
+        go (inr is) = ap is_free is
 
-    -- ---- it becomes the top
+    low : run.segment.base ≤ from
+    low = tiles_le words Used run.segment.base run.first from run.first_stand
 
-    module _ (touch : to ≡ heap.top) (system : A) (same : regions system ≡ regions heap.system)
-        (stored : IsStored (regions heap.system) words (from + 8) (heap.top_size + (to - from) + 1) (word system)) where
-      abbrev new_size : ℕ
-      new_size = heap.top_size + (to - from)
+    high : end ≤ run.segment.base + run.segment.size
+    high = tiles_le words (last_kind (last_kind Used run.first) less) end run.last (run.segment.base + run.segment.size) run.last_stand
 
-      sized : new_size ≡ heap.top_size + (at + size - from)
-      sized = let t = touches touch in omega arith
+    pub word_there : (k : ℕ) → from ≤ k → k < end → k % 8 ≡ 0 → IsWordOf (regions heap.system) k
+    word_there k above below m = run_word (regions heap.system) words segments sound.segments from end less run k (omega (arith, low, above)) (omega (arith, high, below)) m
 
-      headed : word system (from + 8) ≡ head_of new_size true false
-      headed = stored.here ∙ omega arith
+    last_less : last_kind (last_kind Used run.first) less ≡ next.kind
+    last_less = last_append (last_kind Used run.first) left.lefts (chunk ∷ (right.rights ++ next ∷ [])) ∙ last_append Used right.rights (next ∷ [])
 
-      pub as_top_victim : from ≤ heap.victim → Outcome regions word heap at (record heap { system = system; top = from; top_size = new_size; victim = 0; victim_size = 0 })
-      as_top_victim reached =
-          let done = top_victim regions word heap sound some at size there from from_is (touches touch) system same stored.elsewhere new_size sized headed reached in
+    -- what is found in the run
+    in_run : (k : ℕ) (one : Extent) → extent_at k less ≡ Some one → ((one.kind ≡ Free) ⊎ (one.kind ≡ Used)) ⊎ (extent_at k more ≡ Some one)
+    in_run k one found =
+        elim (found_either k left.lefts (chunk ∷ (right.rights ++ next ∷ [])) one found) [
+          | inl first ↦ inl (inl (left.free k one first))
+          | inr later ↦ elim (found_either k (chunk ∷ []) (right.rights ++ next ∷ []) one later.1) [
+            | inl here ↦ inl (inr (kind_one here))
+            | inr behind ↦ elim (found_either k right.rights (next ∷ []) one behind.1) [
+              | inl beside ↦ inl (inl (right.free k one beside))
+              | inr last ↦ inr (in_more last.1)
+            ]
+          ]
+        ]
+      where
+        kind_one : extent_at k (chunk ∷ []) ≡ Some one → one.kind ≡ Used
+        kind_one is = go (at == k) is
+          where
+            go : (b : Bool) → (if b then Some chunk else None) ≡ Some one → one.kind ≡ Used
+            go true same = ap (λ (o : Option Extent). (unwrap_or o chunk).kind) (sym same)
+            go false same = absurd (cc)
+
+        in_more : extent_at k (next ∷ []) ≡ Some one → extent_at k more ≡ Some one
+        in_more is =
+            let place = found_place k next one is in
+            let test : (from == k) ≡ false = nat_isnt (inl (omega (arith, place, right.place, room))) in
+            rw test is
+
+    tails : (k : ℕ) (tail : Extent) → extent_at k less ≡ Some tail → (tail.kind ≡ Record → extent_at k more ≡ Some tail) × (tail.kind ≡ Top → extent_at k more ≡ Some tail)
+    tails k tail found = go (in_run k tail found)
+      where
+        go : ((tail.kind ≡ Free) ⊎ (tail.kind ≡ Used)) ⊎ (extent_at k more ≡ Some tail) → (tail.kind ≡ Record → extent_at k more ≡ Some tail) × (tail.kind ≡ Top → extent_at k more ≡ Some tail)
+        go (inl (inl free)) = ((λ is. absurd (let no : Free ≡ Record = sym free ∙ is in cc)), (λ is. absurd (let no : Free ≡ Top = sym free ∙ is in cc)))
+        go (inl (inr used)) = ((λ is. absurd (let no : Used ≡ Record = sym used ∙ is in cc)), (λ is. absurd (let no : Used ≡ Top = sym used ∙ is in cc)))
+        go (inr still) = ((λ is. still), (λ is. still))
+
+    -- an extent that begins elsewhere is found as before
+    beyond : (k : ℕ) → (k < from) ⊎ (to ≤ k) → extent_at k less ≡ extent_at k more
+    beyond k out =
+        let test : (at == k) ≡ false = nat_isnt (apart out) in
+        let test' : (from == k) ≡ false = nat_isnt (apart' out) in
+        found_later k left.lefts (chunk ∷ (right.rights ++ next ∷ [])) (none_outside words Used from left.lefts at k (outer out) left.lefts_stand)
+        ∙ rw (test, test') (found_later k right.rights (next ∷ []) (none_right k out))
+      where
+        apart : (k < from) ⊎ (to ≤ k) → (at < k) ⊎ (k < at)
+        apart (inl a) = inr (omega (arith, from_at, a))
+        apart (inr b) = inl (omega (arith, right.reach, stands.size.1, b))
+
+        apart' : (k < from) ⊎ (to ≤ k) → (from < k) ⊎ (k < from)
+        apart' (inl a) = inr a
+        apart' (inr b) = inl (omega (arith, room, b))
+
+        outer : (k < from) ⊎ (to ≤ k) → (k < from) ⊎ (at ≤ k)
+        outer (inl a) = inl a
+        outer (inr b) = inr (omega (arith, right.reach, b))
+
+        none_right : (k : ℕ) → (k < from) ⊎ (to ≤ k) → extent_at k right.rights ≡ None
+        none_right k out =
+            let s = tiles_split words Used (at + size) right.rights (next ∷ []) end right.run.here.2 in
+            let place : s.middle ≡ to = sym s.second.0 ∙ right.place in
+            none_outside words Used (at + size) right.rights s.middle k (outer' s.middle place out) s.first
+          where
+            outer' : (m : ℕ) → m ≡ to → (k < from) ⊎ (to ≤ k) → (k < at + size) ⊎ (m ≤ k)
+            outer' m is (inl a) = inl (omega (arith, from_at, a))
+            outer' m is (inr b) = inr (omega (arith, is, b))
+
+    -- what stands behind it is found there
+    next_there : extent_at to run.segment.extents ≡ Some next
+    next_there =
+        let first : (from == to) ≡ false = nat_isnt (inl (omega (arith, room))) in
+        let second : (next.at == to) ≡ true = (let p = right.place in grind (arith, nat_tests)) in
+        ap (extent_at to) run.extents
+        ∙ (found_later to run.first (less ++ run.last) (none_outside words Used run.segment.base run.first from to (inr (omega (arith, room))) run.first_stand)
+        ∙ found_more to less run.last next (beyond to (inr (omega arith)) ∙ rw (first, second) refl))
+
+    -- so it does not end at the top
+    pub below_top : to ≢ heap.top
+    below_top is =
+        let top = the_top regions word heap sound run.front run.segment run.back run.is next (ap (λ (k : ℕ). extent_at k run.segment.extents) right.place ∙ next_there) (right.place ∙ is) in
+        let kind : next.kind ≡ Top = ap (λ (e : Extent). e.kind) top in
+        elim (right.kind) [ inl used ↦ (let no : Used ≡ Top = sym used ∙ kind in cc) | inr record_kind ↦ (let no : Record ≡ Top = sym record_kind ∙ kind in cc) ]
+
+    high_end : end < 2 ^ 64
+    high_end = omega (arith, high, (run_part (regions heap.system) words segments sound.segments from end less run).high)
+
+    next_long : 16 ≤ right.next.size
+    next_long = (sized right.next.kind right.next.size right.stands.size).1
+
+    pub end_small : to < 2 ^ 64
+    end_small = omega (arith, high_end)
+
+    pub end_head : HasHead (regions heap.system) (from + (to - from))
+    end_head = record { aligned = omega (arith, to_whole, room); small = omega (arith, high_end, next_long, room); granted = word_there (from + (to - from) + 8) (omega (arith, room)) (omega (arith, next_long, room)) (omega (arith, to_whole, room)) }
+
+    pub end_foot : HasFoot (regions heap.system) (from + (to - from))
+    end_foot = record { aligned = omega (arith, to_whole, room); small = omega (arith, high_end, next_long, room); granted = word_there (from + (to - from)) (omega (arith, room)) (omega (arith, next_long, room)) (omega (arith, to_whole, room)) }
+
+    pub whole_size : (to - from) % 8 ≡ 0
+    whole_size = omega (arith, to_whole, from_whole, room)
+
+    pub end_told : to ≢ at + size → pinuse_of (words (from + (to - from) + 8)) ≡ false
+    end_told past = let sum : from + (to - from) ≡ to = omega (arith, room) in ap (λ (a : ℕ). pinuse_of (words (a + 8))) sum ∙ right.told past
+
+    fewer : HasMore more less chunk
+    fewer = record {
+      front = [];
+      back = used_of (next ∷ []);
+      fewer = refl;
+      further = used_append left.lefts (chunk ∷ (right.rights ++ next ∷ [])) ∙ ((λ i. left.none i ++ (chunk ∷ used_of (right.rights ++ next ∷ [])))
+          ∙ ap (λ (l : List Extent). chunk ∷ l) (used_append right.rights (next ∷ []) ∙ ap (λ (l : List Extent). l ++ used_of (next ∷ [])) right.none));
+    }
+
+    -- ---- the words are stored
+
+    module _ (system : A) (same : regions system ≡ regions heap.system)
+        (stored : AreStored (regions heap.system) words ((from + (to - from) + 8, without_pinuse (words (from + (to - from) + 8))) ∷ (from + 8, head_of (to - from) true false) ∷ (from + (to - from), to - from) ∷ []) (word system)) where
+      move : IsMove (regions heap.system) words (word system) (last_kind Used run.first) from end end less more
+      move =
+          subst (λ (k : Kind). IsMove (regions heap.system) words (word system) k from end end less more) (sym left.used)
+          (join (regions heap.system) words (word system) from less from_whole to right.before next to_whole room right.place right.stands right.kind (subst (λ (k : Kind). Tiles words k from less end) left.used run.here) stored
+          (λ k above below m. word_there k (omega (arith, right.place, room, above)) (omega (arith, right.place, below)) m))
+
+      kind_same : last_kind (last_kind Used run.first) more ≡ last_kind (last_kind Used run.first) less
+      kind_same = sym last_less
+
+      abbrev after : ℕ → ℕ → Dlmalloc A
+      after victim victim_size = record heap { system = system; victim = victim; victim_size = victim_size }
+
+      abbrev step : (victim victim_size : ℕ) → IsStep regions word heap (after victim victim_size) less more
+      step victim victim_size = step_beside regions word heap (after victim victim_size) sound same from end less more run move kind_same (λ k tail found. (tails k tail found).0) refl
+          (record { base = refl; size = refl; flags = refl; top = refl; top_size = refl }) (λ k tail found. (tails k tail found).1)
+
+      state_segments : in_segments (freed_in at) segments ≡ run.front ++ with_extents run.segment (run.first ++ (more ++ run.last)) ∷ run.back
+      state_segments =
+          let is : extent from (next.at - from) (joint_kind right.rights) ≡ joint = same_extent refl (ap (λ (a : ℕ). a - from) right.place) right.joint in
+          freed_run (regions heap.system) words (word system) segments sound.segments sound.apart at size from end left.lefts right.rights next left.beside right.beside not_free run
+          (subst (λ (e : Extent). Tiles (word system) Used run.segment.base (run.first ++ (e ∷ next ∷ run.last)) (run.segment.base + run.segment.size)) (sym is) (step 0 0).changed.now.extents)
+          ∙ ap (λ (e : Extent). run.front ++ with_extents run.segment (run.first ++ (e ∷ next ∷ run.last)) ∷ run.back) is
+
+      abbrev Freed : ℕ → ℕ → Type 0
+      Freed victim victim_size = IsFree regions word heap at (after victim victim_size)
+
+      done : (victim victim_size : ℕ) → (victim_size ≢ 0 → extent_at victim (extents_in (state_of word (after victim victim_size))) ≡ Some (extent victim victim_size Free)) → (victim_size ≡ 0 → victim ≡ 0) →
+          victim ≡ victim_in heap.victim (extents_in (state_of word (after victim victim_size))) → Freed victim victim_size
+      done victim victim_size named none left =
+          let segments_are = read regions word heap (after victim victim_size) sound less more (step victim victim_size) ∙ sym state_segments in
+          let whole : victim ≡ victim_in heap.victim (extents_all (in_segments (freed_in at) segments)) = left ∙ ap (λ (ss : List Segment). victim_in heap.victim (extents_all ss)) segments_are in
           record {
-            sound = done.0;
-            state = done.1;
-            blocks = top_blocks regions word heap sound some at size there from from_is (touches touch) system same stored.elsewhere new_size sized headed 0 0 done.0;
-            words = top_written regions word (record heap { system = system; top = from; top_size = new_size; victim = 0; victim_size = 0 }) done.0 some (regions heap.system) words stored.elsewhere;
+            state = λ i. record { segments = segments_are i; victim = whole i; granularity = heap.granularity; rate = heap.rate; countdown = heap.countdown; trim_check = heap.trim_check };
+            less = has_less regions word heap (after victim victim_size) sound less more (step victim victim_size) chunk fewer;
+            sound = stays_sound regions word heap (after victim victim_size) sound less more (step victim victim_size) same refl refl refl refl none named;
+            words = keeps_words regions word heap (after victim victim_size) sound less more (step victim victim_size);
           }
 
-      pub as_top_other : heap.victim < from → Outcome regions word heap at (record heap { system = system; top = from; top_size = new_size })
-      as_top_other below =
-          let done = top_other regions word heap sound some at size there from from_is (touches touch) system same stored.elsewhere new_size sized headed below in
-          record {
-            sound = done.0;
-            state = done.1;
-            blocks = top_blocks regions word heap sound some at size there from from_is (touches touch) system same stored.elsewhere new_size sized headed heap.victim heap.victim_size done.0;
-            words = top_written regions word (record heap { system = system; top = from; top_size = new_size }) done.0 some (regions heap.system) words stored.elsewhere;
-          }
+      -- the victim was one of those that are joined
+      pub as_victim : from ≤ heap.victim → heap.victim < to → Freed from (to - from)
+      as_victim reached within = done from (to - from) (λ some. joint_there) (λ none. absurd (omega (arith, none, room)))
+          (sym (ap (λ (o : Option Extent). unwrap_or (option_map (λ (e : Extent). e.at) o) 0)
+          (has_in (regions system) (word system) (segments_of word (after from (to - from))) (segments_now regions word heap (after from (to - from)) sound less more (step from (to - from))) (apart_now regions word heap (after from (to - from)) sound less more (step from (to - from)))
+          joint heap.victim joint_there refl reached (omega (arith, within, room)))))
+        where
+          joint_there : extent_at from (extents_in (state_of word (after from (to - from)))) ≡ Some joint
+          joint_there = let test : (from == from) ≡ true = nat_same from in found_new regions word heap (after from (to - from)) sound less more (step from (to - from)) from joint (rw test refl)
 
-    -- ---- it becomes one free chunk
-
-    module _ (on : to ≢ heap.top) where
-      more : at + size ≢ heap.top
-      more = goes_on on
-
-      ended : to ≡ end_of words (at + size)
-      ended = ends_at more
-
-      to_multiple : to % 16 ≡ 0
-      to_multiple = to_whole regions word heap sound some at size there from from_is more to ended
-
-      under : to + 32 ≤ heap.top
-      under = to_below regions word heap sound some at size there from from_is more to ended
-
-      pub whole_size : (to - from) % 8 ≡ 0
-      whole_size = omega (arith, multiple, to_multiple, room)
-
-      whole_end : from + (to - from) ≡ to
-      whole_end = omega (arith, room)
-
-      pub end_head : HasHead (regions heap.system) (from + (to - from))
-      end_head = head_inside regions word heap segment (from + (to - from)) (omega (arith, inside)) (omega (arith, room, under, ends)) (omega (arith, to_multiple, room))
-
-      pub end_foot : HasFoot (regions heap.system) (from + (to - from))
-      end_foot = foot_inside regions word heap segment (from + (to - from)) (omega (arith, inside)) (omega (arith, room, under, ends)) (omega (arith, to_multiple, room))
-
-      pub long_size : 32 ≤ to - from
-      long_size = omega (arith, room)
-
-      pub end_told : to ≢ at + size → pinuse_of (words (from + (to - from) + 8)) ≡ false
-      end_told past = ap (λ (a : ℕ). pinuse_of (words (a + 8))) whole_end ∙ next_told regions word heap sound some at size there from from_is more to ended past
-
-      module _ (system : A) (same : regions system ≡ regions heap.system)
-          (stored : AreStored (regions heap.system) words
-          ((from + (to - from) + 8, without_pinuse (words (from + (to - from) + 8))) ∷ (from + 8, head_of (to - from) true false) ∷ (from + (to - from), to - from) ∷ []) (word system)) where
-        elsewhere : (k : ℕ) → IsWordOf (regions heap.system) k → k ≢ from + 8 → k ≢ to → k ≢ to + 8 → word system k ≡ words k
-        elsewhere k has one two three = stored.elsewhere k has ((λ is. three (omega (arith, whole_end, is))), (one, ((λ is. two (omega (arith, whole_end, is))), tt)))
-
-        head : word system (from + 8) ≡ head_of (to - from) true false
-        head = stored.here.1.0 ((λ is. omega (arith, long_size)), tt)
-
-        foot : word system to ≡ to - from
-        foot = subst (λ (k : ℕ). word system k ≡ to - from) whole_end (stored.here.1.1.0 tt)
-
-        next : word system (to + 8) ≡ without_pinuse (words (to + 8))
-        next = subst (λ (k : ℕ). word system (k + 8) ≡ without_pinuse (words (k + 8))) whole_end (stored.here.0 ((λ is. omega (arith, long_size)), ((λ is. omega (arith, is)), tt)))
-
-        written : (victim victim_size : ℕ) → IsSound regions word (record heap { system = system; victim = victim; victim_size = victim_size }) →
-            OnlyBoundariesChange (regions heap.system) (state_of word (record heap { system = system; victim = victim; victim_size = victim_size })) words (word system)
-        written victim victim_size new =
-            free_written regions word (record heap { system = system; victim = victim; victim_size = victim_size }) new some (regions heap.system) words from (to - from)
-            (joint_there regions word heap sound some at size there from from_is more to ended system same elsewhere head foot next victim victim_size)
-            (λ k inside one two three. stored.elsewhere k inside (three, (one, (two, tt))))
-
-        pub as_free_victim : from ≤ heap.victim → heap.victim < to → Outcome regions word heap at (record heap { system = system; victim = from; victim_size = to - from })
-        as_free_victim reached within =
-            let done = free_victim regions word heap sound some at size there from from_is more to ended system same elsewhere head foot next reached within in
-            record {
-              sound = done.0;
-              state = done.1;
-              blocks = free_blocks regions word heap sound some at size there from from_is more to ended system same elsewhere head foot next from (to - from) done.0;
-              words = written from (to - from) done.0;
-            }
-
-        pub as_free_other : (heap.victim < from) ⊎ (to ≤ heap.victim) → Outcome regions word heap at (record heap { system = system })
-        as_free_other out =
-            let done = free_other regions word heap sound some at size there from from_is more to ended system same elsewhere head foot next out in
-            record {
-              sound = done.0;
-              state = done.1;
-              blocks = free_blocks regions word heap sound some at size there from from_is more to ended system same elsewhere head foot next heap.victim heap.victim_size done.0;
-              words = written heap.victim heap.victim_size done.0;
-            }
-
--- ---- the chunk of a block
-
-module _ {A : Type 0} (regions : A → List Grant) (word : A → ℕ → ℕ) (heap : Dlmalloc A) (sound : IsSound regions word heap) (address size : ℕ)
-    (block : IsBlock (state_of word heap) address size) where
-  pub block_some : 0 < heap.size
-  block_some = (block_chunk word heap (address - 16) block.extent block.there block.used).0
-
-  -- its size is the one that its head tells
-  pub block_there : (bytes : ℕ) → bytes ≡ size_of (word heap.system (address - 16 + 8)) → extent_at (address - 16) (chunks_of word heap) ≡ Some (extent (address - 16) bytes Used)
-  block_there bytes bytes_is =
-      let c = block_chunk word heap (address - 16) block.extent block.there block.used in
-      let place : block.extent.at ≡ address - 16 = (found (address - 16) block.extent (chunks_of word heap) c.1).place in
-      let there : extent_at block.extent.at (chunks_of word heap) ≡ Some block.extent = subst (λ (a : ℕ). extent_at a (chunks_of word heap) ≡ Some block.extent) (sym place) c.1 in
-      let stands = stands regions word heap (sound.some c.0) block.extent there in
-      let whole : block.extent.size % 8 ≡ 0 = (let w = stands.whole in omega arith) in
-      let head : size_of (word heap.system (address - 16 + 8)) ≡ block.extent.size =
-      ap (λ (a : ℕ). size_of (word heap.system (a + 8))) (sym place)
-      ∙ (ap size_of stands.head ∙ size_of-head_of block.extent.size (used_after true (among regions word heap (sound.some c.0) block.extent there).front) (is_used block.extent.kind) whole) in
-      c.1 ∙ ap (λ (e : Extent). Some e) (same_extent place (sym (bytes_is ∙ head)) block.used)
-
-  pub block_head : HasHead (regions heap.system) (address - 16)
-  block_head = head_there regions word heap sound block_some (address - 16) (size_of (word heap.system (address - 16 + 8))) (block_there (size_of (word heap.system (address - 16 + 8))) refl) _ refl
+      -- it stays
+      pub as_other : (heap.victim < from) ⊎ (to ≤ heap.victim) → Freed heap.victim heap.victim_size
+      as_other out = done heap.victim heap.victim_size named sound.no_victim
+          (victim_same (regions system) (word system) (segments_of word (after heap.victim heap.victim_size)) (segments_now regions word heap (after heap.victim heap.victim_size) sound less more (step heap.victim heap.victim_size)) (apart_now regions word heap (after heap.victim heap.victim_size) sound less more (step heap.victim heap.victim_size)) heap.victim heap.victim_size named sound.no_victim)
+        where
+          named : heap.victim_size ≢ 0 → extent_at heap.victim (extents_in (state_of word (after heap.victim heap.victim_size))) ≡ Some (extent heap.victim heap.victim_size Free)
+          named some = found_again regions word heap (after heap.victim heap.victim_size) sound less more (step heap.victim heap.victim_size) heap.victim (extent heap.victim heap.victim_size Free) (λ found. sym (beyond heap.victim out) ∙ found) (sound.victim some)

@@ -1,9 +1,12 @@
--- A grant at the end of the regions.
-use Rattle.std.proofs.Common.{◌≡◌, ℕ, ◌+◌, ◌%◌, ◌<◌, ◌≤◌, inl, inr, List, [], ◌∷◌, ◌++◌, IsTrue, sym, subst, arith}
+-- Regions with a further grant.
+use Rattle.std.proofs.Common.{◌≡◌, ℕ, ◌+◌, ◌%◌, ◌<◌, ◌≤◌, ◌⊎◌, inl, inr, List, [], ◌∷◌, ◌++◌, IsTrue, refl, sym, subst, arith}
+use native.Mathlib.Decide.{dec_lt}
+use Rattle.std.specs.List.{AllByRecursion}
 use Rattle.std.proofs.lemmas.Bool.Decides.{nat_tests}
 use Rattle.heap_memory.specs.declared.grant.Grant.{Grant}
-use Rattle.heap_memory.specs.Regions.{IsWordOf, is_granted, is_next, with_grant}
-use Rattle.heap_memory.specs.RegionLaws.{granted_kept, granted_new, granted_split}
+use Rattle.heap_memory.specs.Regions.{IsWordOf, IsApart, IsWhole, is_granted, is_next, with_grant}
+use Rattle.heap_memory.specs.RegionLaws.{granted_kept, granted_new, granted_split, all_with}
+use Rattle.dlmalloc.specs.Segments.{IsWithin, IsRun}
 
 -- a grant that begins where the last region ends is the next one
 pub next_after : (grant next : Grant) (regions : List Grant) → next.base ≡ grant.base + grant.size → IsTrue (is_next next (regions ++ grant ∷ []))
@@ -45,3 +48,69 @@ word_fresh grant old new with_it k inside fresh =
 -- where nothing is granted, no word is
 pub none_fresh : (old new : List Grant) → new ≡ old → (k : ℕ) → IsWordOf new k → (IsWordOf old k → ⊥) → ⊥
 none_fresh old new same k inside fresh = fresh (subst (λ (rs : List Grant). IsWordOf rs k) same inside)
+
+-- ---- runs of regions
+
+-- no byte of regions apart from a range is one of it
+pub none_granted : (low high : ℕ) (regions : List Grant) → AllByRecursion (IsApart low high) regions → (k : ℕ) → low ≤ k → k < high → IsTrue (is_granted regions k) → ⊥
+none_granted low high [] apart k above below granted = cc
+none_granted low high (region ∷ regions) apart k above below granted =
+    none_granted low high regions apart.1 k above below (elim apart.0 [ inl before ↦ grind (arith, nat_tests) | inr behind ↦ grind (arith, nat_tests) ])
+
+-- so a run of regions is apart from a grant that is apart from all of them
+pub run_apart : (regions : List Grant) (base size flags : ℕ) → IsRun regions base size flags → 0 < size → (grant : Grant) → 0 < grant.size → AllByRecursion (IsApart grant.base (grant.base + grant.size)) regions →
+    (grant.base + grant.size ≤ base) ⊎ (base + size ≤ grant.base)
+run_apart regions base size flags run some grant more apart =
+    elim (dec_lt base (grant.base + grant.size)) [
+      | yes before ↦ elim (dec_lt grant.base (base + size)) [
+        | yes meets ↦ absurd (elim (dec_lt base grant.base) [
+          | yes later ↦ none_granted grant.base (grant.base + grant.size) regions apart grant.base (omega arith) (omega arith) (run.covered grant.base (omega arith) meets)
+          | no sooner ↦ none_granted grant.base (grant.base + grant.size) regions apart base (omega arith) before (run.covered base (omega arith) (omega arith))
+        ])
+        | no behind ↦ inr (omega arith)
+      ]
+      | no behind ↦ inl (omega arith)
+    ]
+
+-- it is a run still, with the grant
+pub run_beside : (regions : List Grant) (base size flags : ℕ) → IsRun regions base size flags → 0 < size → (grant : Grant) → 0 < grant.size → AllByRecursion (IsApart grant.base (grant.base + grant.size)) regions →
+    IsRun (with_grant grant regions) base size flags
+run_beside regions base size flags run some grant more apart = record {
+  covered = λ k low high. granted_kept grant regions k (run.covered k low high);
+  whole = all_with (λ (region : Grant). IsApart base (base + size) region ⊎ IsWithin base (base + size) flags region) grant regions
+      (inl (elim (run_apart regions base size flags run some grant more apart) [ inl before ↦ inl before | inr behind ↦ inr behind ])) run.whole;
+}
+
+-- a grant at its end that has its flags makes it longer
+pub run_longer : (regions : List Grant) (base size flags : ℕ) → IsRun regions base size flags → (grant : Grant) → grant.base ≡ base + size → grant.flags ≡ flags → AllByRecursion IsWhole regions → AllByRecursion (IsApart grant.base (grant.base + grant.size)) regions →
+    IsRun (with_grant grant regions) base (size + grant.size) flags
+run_longer regions base size flags run grant place same whole apart = record {
+  covered = λ k low high. elim (dec_lt k (base + size)) [
+    | yes below ↦ granted_kept grant regions k (run.covered k low below)
+    | no above ↦ granted_new grant regions k (omega arith) (omega arith)
+  ];
+  whole = all_with (λ (region : Grant). IsApart base (base + (size + grant.size)) region ⊎ IsWithin base (base + (size + grant.size)) flags region) grant regions (inr (omega arith, omega arith, same)) (go regions run.whole whole apart);
+}
+  where
+    go : (regions : List Grant) → AllByRecursion (λ (region : Grant). IsApart base (base + size) region ⊎ IsWithin base (base + size) flags region) regions → AllByRecursion IsWhole regions → AllByRecursion (IsApart grant.base (grant.base + grant.size)) regions →
+        AllByRecursion (λ (region : Grant). IsApart base (base + (size + grant.size)) region ⊎ IsWithin base (base + (size + grant.size)) flags region) regions
+    go [] all whole apart = tt
+    go (region ∷ regions) all whole apart = (one (all.0) (apart.0), go regions all.1 whole.1 apart.1)
+      where
+        one : IsApart base (base + size) region ⊎ IsWithin base (base + size) flags region → IsApart grant.base (grant.base + grant.size) region → IsApart base (base + (size + grant.size)) region ⊎ IsWithin base (base + (size + grant.size)) flags region
+        one (inr within) beyond = inr (within.0, omega (arith, within.1), within.2)
+        one (inl (inl before)) beyond = inl (inl before)
+        one (inl (inr behind)) (inl before) = let some = whole.0.some in absurd (omega arith)
+        one (inl (inr behind)) (inr after) = inl (inr (omega arith))
+
+-- a grant is one
+pub run_alone : (regions : List Grant) (grant : Grant) → AllByRecursion (IsApart grant.base (grant.base + grant.size)) regions → IsRun (with_grant grant regions) grant.base grant.size grant.flags
+run_alone regions grant apart = record {
+  covered = λ k low high. granted_new grant regions k low high;
+  whole = all_with (λ (region : Grant). IsApart grant.base (grant.base + grant.size) region ⊎ IsWithin grant.base (grant.base + grant.size) grant.flags region) grant regions (inr (omega arith, omega arith, refl)) (go regions apart);
+}
+  where
+    go : (regions : List Grant) → AllByRecursion (IsApart grant.base (grant.base + grant.size)) regions →
+        AllByRecursion (λ (region : Grant). IsApart grant.base (grant.base + grant.size) region ⊎ IsWithin grant.base (grant.base + grant.size) grant.flags region) regions
+    go [] apart = tt
+    go (region ∷ regions) apart = (inl apart.0, go regions apart.1)

@@ -1,26 +1,44 @@
 -- Extents as they are shown: the victim is told from the other free ones.
-use Rattle.std.proofs.Common.{◌≡◌, ◌≢◌, ℕ, ◌%◌, ◌≤◌, Bool, true, false, not, ◌==◌, if◌then◌else◌, List, [], ◌∷◌, map, Some, refl, ◌∙◌, ap}
+use Rattle.std.proofs.Common.{◌≡◌, ◌≢◌, ℕ, inl, inr, Bool, true, false, ◌&&◌, ◌==◌, if◌then◌else◌, List, [], ◌∷◌, map, Some, refl, sym, ◌∙◌, ap, subst}
 use Rattle.std.specs.Prelude.{option_map}
 use Rattle.dlmalloc_chunks.specs.declared.extent.Extent.{Extent}
 use Rattle.dlmalloc_chunks.specs.declared.extent.Kind.{Kind}
 use Rattle.dlmalloc_chunks.specs.declared.extent.Kind.TheVariants.{Used, Free, Victim, Top, Record, Foot}
 use Rattle.dlmalloc_chunks.specs.Kinds.{is_free, is_named_victim, is_top, is_foot, ends_segment}
-use Rattle.dlmalloc_chunks.specs.Tiling.{IsSize, extent_at}
-use Rattle.dlmalloc.specs.Extents.{is_used, IsChunk, Stands}
-use Rattle.dlmalloc.specs.State.{HeapState, is_victim, shown}
+use Rattle.dlmalloc_chunks.specs.Tiling.{IsSize}
+use Rattle.dlmalloc.specs.Extents.{extent_at, MayStand}
+use Rattle.dlmalloc.specs.State.{HeapState, shown}
 use Rattle.dlmalloc.proofs.Places.{nat_is}
 
--- what an extent is shown as begins where it does, and has as many bytes
-pub record IsShownAs (extent other : Extent) : Type 0 where
+-- what an extent is shown as is as long, where it is, and of its kind but for the victim
+pub record IsShownAs (victim : ℕ) (extent other : Extent) : Type 0 where
   pub place : other.at ≡ extent.at
   pub size : other.size ≡ extent.size
+  pub free : is_free other.kind ≡ is_free extent.kind
+  pub top : is_top other.kind ≡ is_top extent.kind
+  pub foot : is_foot other.kind ≡ is_foot extent.kind
+  pub ends : ends_segment other.kind ≡ ends_segment extent.kind
+  pub bytes : IsSize extent.kind extent.size → IsSize other.kind other.size
+  pub named : extent.kind ≢ Victim → extent.at ≢ victim → is_named_victim other.kind ≡ false
 
-pub shown_as : (heap : HeapState) (extent : Extent) → IsShownAs extent (shown heap extent)
-shown_as heap extent = go (is_victim heap extent)
+pub shown_as : (heap : HeapState) (extent : Extent) → IsShownAs heap.victim extent (shown heap extent)
+shown_as heap extent = of extent.at extent.size extent.kind
   where
-    go : (b : Bool) → IsShownAs extent (if b then record extent { kind = Victim } else extent)
-    go true = record { place = refl; size = refl }
-    go false = record { place = refl; size = refl }
+    of : (at size : ℕ) (kind : Kind) → IsShownAs heap.victim (record { at = at; size = size; kind = kind }) (shown heap (record { at = at; size = size; kind = kind }))
+    of at size Used = record { place = refl; size = refl; free = refl; top = refl; foot = refl; ends = refl; bytes = λ h. h; named = λ no other. refl }
+    of at size Free = go (at == heap.victim) refl
+      where
+        go : (b : Bool) → (at == heap.victim) ≡ b → IsShownAs heap.victim (record { at = at; size = size; kind = Free }) (if b then record { at = at; size = size; kind = Victim } else record { at = at; size = size; kind = Free })
+        go true test = record { place = refl; size = refl; free = refl; top = refl; foot = refl; ends = refl; bytes = λ h. h; named = λ no other. absurd (other (nat_is test)) }
+        go false test = record { place = refl; size = refl; free = refl; top = refl; foot = refl; ends = refl; bytes = λ h. h; named = λ no other. refl }
+    of at size Victim = go (at == heap.victim)
+      where
+        go : (b : Bool) → IsShownAs heap.victim (record { at = at; size = size; kind = Victim }) (if b then record { at = at; size = size; kind = Victim } else record { at = at; size = size; kind = Victim })
+        go true = record { place = refl; size = refl; free = refl; top = refl; foot = refl; ends = refl; bytes = λ h. h; named = λ no other. absurd (no refl) }
+        go false = record { place = refl; size = refl; free = refl; top = refl; foot = refl; ends = refl; bytes = λ h. h; named = λ no other. absurd (no refl) }
+    of at size Top = record { place = refl; size = refl; free = refl; top = refl; foot = refl; ends = refl; bytes = λ h. h; named = λ no other. refl }
+    of at size Record = record { place = refl; size = refl; free = refl; top = refl; foot = refl; ends = refl; bytes = λ h. h; named = λ no other. refl }
+    of at size Foot = record { place = refl; size = refl; free = refl; top = refl; foot = refl; ends = refl; bytes = λ h. h; named = λ no other. refl }
 
 -- so it is found where the extent is
 pub shown_found : (heap : HeapState) (at : ℕ) (extents : List Extent) → extent_at at (map (shown heap) extents) ≡ option_map (shown heap) (extent_at at extents)
@@ -32,28 +50,37 @@ shown_found heap at (extent ∷ extents) = ap (λ (begin : ℕ). if begin == at 
     go true later = refl
     go false later = later
 
--- a chunk is shown as one in use or as a free one, and as the victim only where the victim is
-pub record IsShownChunk (victim : ℕ) (chunk other : Extent) : Type 0 where
-  pub free : is_free other.kind ≡ not (is_used chunk.kind)
-  pub top : is_top other.kind ≡ false
-  pub foot : is_foot other.kind ≡ false
-  pub ends : ends_segment other.kind ≡ false
-  pub bytes : IsSize other.kind other.size
-  pub named : chunk.at ≢ victim → is_named_victim other.kind ≡ false
+-- ---- one extent behind another
 
-pub shown_chunk : (words : ℕ → ℕ) (heap : HeapState) (used : Bool) (chunk : Extent) → Stands words used chunk → IsShownChunk heap.victim chunk (shown heap chunk)
-shown_chunk words heap used chunk h = of chunk.at chunk.size chunk.kind h.whole h.long h.kind
-  where
-    of : (at size : ℕ) (kind : Kind) → size % 16 ≡ 0 → 32 ≤ size → IsChunk used kind →
-        IsShownChunk heap.victim (record { at = at; size = size; kind = kind }) (shown heap (record { at = at; size = size; kind = kind }))
-    of at size Used whole long is = record { free = refl; top = refl; foot = refl; ends = refl; bytes = (whole, long); named = λ other. refl }
-    of at size Free whole long is = go (at == heap.victim) refl
-      where
-        go : (b : Bool) → (at == heap.victim) ≡ b →
-            IsShownChunk heap.victim (record { at = at; size = size; kind = Free }) (if b then record { at = at; size = size; kind = Victim } else record { at = at; size = size; kind = Free })
-        go true test = record { free = refl; top = refl; foot = refl; ends = refl; bytes = (whole, long); named = λ other. absurd (other (nat_is test)) }
-        go false test = record { free = refl; top = refl; foot = refl; ends = refl; bytes = (whole, long); named = λ other. refl }
-    of at size Victim whole long is = absurd is
-    of at size Top whole long is = absurd is
-    of at size Record whole long is = absurd is
-    of at size Foot whole long is = absurd is
+pub record IsPair (first second : Kind) : Type 0 where
+  pub inner : ends_segment first ≡ false
+  pub apart : (is_free first && is_free second) ≡ false
+  pub foot : is_foot second ≡ is_top first
+
+pub pair : (first second : Kind) → MayStand first second → IsPair first second
+pair first Used (inl is) = subst (λ (k : Kind). IsPair k Used) (sym is) (record { inner = refl; apart = refl; foot = refl })
+pair first Used (inr is) = subst (λ (k : Kind). IsPair k Used) (sym is) (record { inner = refl; apart = refl; foot = refl })
+pair first Free is = subst (λ (k : Kind). IsPair k Free) (sym is) (record { inner = refl; apart = refl; foot = refl })
+pair first Victim is = absurd is
+pair first Top is = subst (λ (k : Kind). IsPair k Top) (sym is) (record { inner = refl; apart = refl; foot = refl })
+pair first Record (inl is) = subst (λ (k : Kind). IsPair k Record) (sym is) (record { inner = refl; apart = refl; foot = refl })
+pair first Record (inr is) = subst (λ (k : Kind). IsPair k Record) (sym is) (record { inner = refl; apart = refl; foot = refl })
+pair first Foot is = subst (λ (k : Kind). IsPair k Foot) (sym is) (record { inner = refl; apart = refl; foot = refl })
+
+-- heads do not tell the victim
+pub no_victim_kind : (before kind : Kind) → MayStand before kind → kind ≢ Victim
+no_victim_kind before Used h = λ is. cc
+no_victim_kind before Free h = λ is. cc
+no_victim_kind before Victim h = λ is. h
+no_victim_kind before Top h = λ is. cc
+no_victim_kind before Record h = λ is. cc
+no_victim_kind before Foot h = λ is. cc
+
+-- the first of a segment is no foot
+pub no_foot_first : (kind : Kind) → MayStand Used kind → is_foot kind ≡ false
+no_foot_first Used h = refl
+no_foot_first Free h = refl
+no_foot_first Victim h = refl
+no_foot_first Top h = refl
+no_foot_first Record h = refl
+no_foot_first Foot h = absurd (cc)

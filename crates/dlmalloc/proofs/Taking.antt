@@ -1,252 +1,244 @@
--- A free chunk is taken: the heap stays sound, and is in the state that the cut leaves.
-use Rattle.std.proofs.Common.{◌≡◌, ◌≢◌, ℕ, ◌+◌, ◌-◌, ◌%◌, ◌<◌, ◌≤◌, ◌⊎◌, inl, inr, Bool, true, false, ◌==◌, nat_le, nat_lt, if◌then◌else◌, List, [], ◌∷◌, ◌++◌, Option, Some, refl, sym, ◌∙◌, ap, subst, arith}
+-- A free chunk of a heap is taken.
+use Rattle.std.proofs.Common.{◌≡◌, ◌≢◌, ℕ, ◌+◌, ◌-◌, ◌%◌, ◌^◌, ◌<◌, ◌≤◌, ◌⊎◌, inl, inr, Bool, true, false, ◌==◌, nat_le, nat_lt, if◌then◌else◌, List, [], ◌∷◌, ◌++◌, Option, Some, None, refl, sym, ◌∙◌, ap, subst, arith}
+use Rattle.std.specs.Prelude.{unwrap_or}
 use Rattle.std.proofs.lemmas.Bool.Decides.{nat_tests}
 use Rattle.heap_memory.specs.declared.grant.Grant.{Grant}
-use Rattle.heap_memory.specs.Regions.{IsWordOf}
-use Rattle.dlmalloc_chunks.specs.declared.extent.Extent.{Extent}
-use Rattle.dlmalloc_chunks.specs.declared.extent.Kind.TheVariants.{Used, Free}
 use Rattle.heap_memory.specs.Words.{IsStored}
-use Rattle.dlmalloc_chunks.specs.Chunk.{AreStored}
+use Rattle.dlmalloc_chunks.specs.Chunk.{AreStored, HasHead, HasFoot}
+use Rattle.dlmalloc_chunks.specs.declared.extent.Extent.{Extent}
+use Rattle.dlmalloc_chunks.specs.declared.extent.Kind.TheVariants.{Used, Free, Top, Record}
 use Rattle.dlmalloc_chunks.specs.Head.{head_of, with_pinuse}
-use Rattle.dlmalloc.specs.Extents.{Tiles, used_after, extent_at}
-use Rattle.dlmalloc.specs.Granted.{top_and_foot}
-use Rattle.dlmalloc.specs.Taken.{replaced, cut, victim_after, taken, in_segments}
-use Rattle.dlmalloc.specs.Heap.{chunks_of, segments_of, state_of, HasSegment, IsSound}
+use Rattle.dlmalloc.specs.Extents.{extent_at, Stands, last_kind}
+use Rattle.dlmalloc.specs.State.{Segment, extents_in}
+use Rattle.dlmalloc.specs.Taken.{cut, victim_after, taken}
+use Rattle.dlmalloc.specs.Boundaries.{OnlyBoundariesChange}
+use Rattle.dlmalloc.specs.Blocks.{HasOneMore}
+use Rattle.dlmalloc.specs.Moves.{IsMove, IsRunOf, HasMore, used_of}
+use Rattle.dlmalloc.specs.Heap.{segments_of, state_of, IsSound}
 use Rattle.dlmalloc.specs.declared.heap.Dlmalloc.{Dlmalloc}
-use Rattle.dlmalloc.proofs.Cut.{cut_whole, cut_split, used_after_append}
-use Rattle.dlmalloc.proofs.Places.{nat_is, nat_same, nat_isnt, found_behind}
-use Rattle.dlmalloc.proofs.Sound.{word_inside, top_whole, chunks_are, segment_kept}
-use Rattle.dlmalloc.proofs.Chosen.{among, tiled, last_used, from_base, free_below, replaced_chunk, none_inside, split, FreePlace, free_place}
+use Rattle.dlmalloc.proofs.Places.{extent, nat_same, nat_isnt}
+use Rattle.dlmalloc.proofs.Cutting.{stored_then, cut_split, cut_whole}
+use Rattle.dlmalloc.proofs.Tiling.{sized, tiles_le}
+use Rattle.dlmalloc.proofs.Segments.{with_extents}
+use Rattle.dlmalloc.proofs.Steps.{IsStep, read, found_new, found_again, keeps_words, stays_sound, has_more}
+use Rattle.dlmalloc.proofs.Run.{run_of, step_beside, HasNext, has_next, with_next, behind, run_part, run_word}
+use Rattle.dlmalloc.proofs.Taken.{replaced_run}
 
--- a chunk that is put in the place of another is found where it begins, and the others as before
-found_beside : (at : ℕ) (front : List Extent) (old : Extent) (new back : List Extent) → old.at ≢ at → extent_at at (new ++ back) ≡ extent_at at back → extent_at at (front ++ (new ++ back)) ≡ extent_at at (front ++ old ∷ back)
-found_beside at [] old new back apart same = rw (nat_isnt_from apart) same
+-- n bytes of an extent were taken
+pub record IsTake {A : Type 0} (regions : A → List Grant) (word : A → ℕ → ℕ) (old : Dlmalloc A) (chunk : Extent) (n : ℕ) (new : Dlmalloc A) : Type 0 where
+  pub state : state_of word new ≡ taken (state_of word old) chunk n
+  pub more : HasOneMore (state_of word old) (state_of word new) chunk.at
+  pub sound : IsSound regions word new
+  pub words : OnlyBoundariesChange (regions old.system) (state_of word new) (word old.system) (word new.system)
+
+-- what is found in one
+pub found_one : (k : ℕ) (one tail : Extent) → extent_at k (one ∷ []) ≡ Some tail → one ≡ tail
+found_one k one tail there = go (one.at == k) there
   where
-    nat_isnt_from : old.at ≢ at → (old.at == at) ≡ false
-    nat_isnt_from apart = grind (arith, nat_tests)
-found_beside at (first ∷ front) old new back apart same = ap (λ (o : Option Extent). if first.at == at then Some first else o) (found_beside at front old new back apart same)
+    go : (b : Bool) → (if b then Some one else None) ≡ Some tail → one ≡ tail
+    go true is = ap (λ (o : Option Extent). unwrap_or o one) is
+    go false is = absurd (cc)
 
--- the segments of a heap that has one
-pub one_segment : {A : Type 0} (word : A → ℕ → ℕ) (heap : Dlmalloc A) (chunks : List Extent) → 0 < heap.size → chunks_of word heap ≡ chunks →
-    segments_of word heap ≡ (record { base = heap.base; size = heap.size; flags = heap.flags; extents = chunks ++ top_and_foot heap.top (heap.base + heap.size) }) ∷ []
-one_segment word heap chunks some is =
-    let test : (heap.size == 0) ≡ false = nat_isnt (inr some) in
-    rw test (ap (λ (cs : List Extent). (record { base = heap.base; size = heap.size; flags = heap.flags; extents = cs ++ top_and_foot heap.top (heap.base + heap.size) }) ∷ []) is)
+module _ {A : Type 0} (regions : A → List Grant) (word : A → ℕ → ℕ) (heap : Dlmalloc A) (sound : IsSound regions word heap) (at size n : ℕ)
+    (there : extent_at at (extents_in (state_of word heap)) ≡ Some (extent at size Free)) where
+  abbrev segments : List Segment
+  segments = segments_of word heap
 
--- what is in use at the end stays in use, where anything stands there
-used_any : (back : List Extent) → used_after false back ≡ true → used_after true back ≡ true
-used_any [] used = absurd (cc)
-used_any (next ∷ back) used = used
+  abbrev chunk : Extent
+  chunk = extent at size Free
 
-module _ {A : Type 0} (regions : A → List Grant) (word : A → ℕ → ℕ) (heap : Dlmalloc A) (sound : IsSound regions word heap) (some : 0 < heap.size) (at size n : ℕ)
-    (there : extent_at at (chunks_of word heap) ≡ Some (record { at = at; size = size; kind = Free })) where
-  abbrev pub segment : HasSegment regions word heap
-  segment = sound.some some
+  abbrev pub run : IsRunOf (word heap.system) segments at (at + size) (chunk ∷ [])
+  run = run_of (regions heap.system) (word heap.system) segments sound.segments chunk there
 
-  abbrev pub chunk : Extent
-  chunk = record { at = at; size = size; kind = Free }
+  pub stands : Stands (word heap.system) (last_kind Used run.first) chunk
+  stands = run.here.1
 
-  abbrev pub front : List Extent
-  front = (among regions word heap segment chunk there).front
+  module _ (system : A) (same : regions system ≡ regions heap.system) where
+    abbrev after : ℕ → ℕ → Dlmalloc A
+    after victim victim_size = record heap { system = system; victim = victim; victim_size = victim_size }
 
-  abbrev pub back : List Extent
-  back = (among regions word heap segment chunk there).back
+    abbrev Took : ℕ → ℕ → Type 0
+    Took victim victim_size = IsTake regions word heap chunk n (after victim victim_size)
 
-  behind : used_after false back ≡ true
-  behind = sym (used_after_append true front (chunk ∷ back)) ∙ last_used regions word heap segment chunk there
+    -- what a step leaves, in which the chunk is cut so
+    take : (less more new : List Extent) (victim victim_size : ℕ) (step : IsStep regions word heap (after victim victim_size) less more) →
+        step.front ++ step.now ∷ step.back ≡ run.front ++ with_extents run.segment (run.first ++ (new ++ run.last)) ∷ run.back → cut n chunk ≡ new →
+        (one : Extent) → one.at ≡ at → HasMore less more one →
+        (victim_size ≢ 0 → extent_at victim (extents_in (state_of word (after victim victim_size))) ≡ Some (extent victim victim_size Free)) → (victim_size ≡ 0 → victim ≡ 0) →
+        victim ≡ victim_after (state_of word heap) n chunk → Took victim victim_size
+    take less more new victim victim_size step now is one place h named none left = record {
+      state = (
+          let segments_are = read regions word heap (after victim victim_size) sound less more step ∙ (now ∙ (ap (λ (es : List Extent). run.front ++ with_extents run.segment (run.first ++ (es ++ run.last)) ∷ run.back) (sym is)
+          ∙ sym (replaced_run (regions heap.system) (word heap.system) segments sound.segments sound.apart chunk (cut n) run))) in
+          λ i. record { segments = segments_are i; victim = left i; granularity = heap.granularity; rate = heap.rate; countdown = heap.countdown; trim_check = heap.trim_check });
+      more = subst (λ (k : ℕ). HasOneMore (state_of word heap) (state_of word (after victim victim_size)) k) place (has_more regions word heap (after victim victim_size) sound less more step one h);
+      sound = stays_sound regions word heap (after victim victim_size) sound less more step same refl refl refl refl none named;
+      words = keeps_words regions word heap (after victim victim_size) sound less more step;
+    }
 
-  -- the heap with other chunks in the place of one
-  took : (system : A) (victim victim_size : ℕ) (new : List Extent) → regions system ≡ regions heap.system → cut n chunk ≡ new →
-      Tiles (word system) true heap.base (front ++ (new ++ back)) heap.top → used_after true (front ++ (new ++ back)) ≡ true →
-      word system (heap.top + 8) ≡ word heap.system (heap.top + 8) → word system (heap.top + heap.top_size + 8) ≡ word heap.system (heap.top + heap.top_size + 8) →
-      (victim_size ≢ 0 → extent_at victim (front ++ (new ++ back)) ≡ Some (record { at = victim; size = victim_size; kind = Free })) → (victim_size ≡ 0 → victim ≡ 0) →
-      victim ≡ victim_after (state_of word heap) n chunk →
-      IsSound regions word (record heap { system = system; victim = victim; victim_size = victim_size })
-      × (state_of word (record heap { system = system; victim = victim; victim_size = victim_size }) ≡ taken (state_of word heap) chunk n)
-  took system victim victim_size new same is tiles used top foot named none after =
-      let kept = segment_kept regions word heap segment system heap.top heap.top_size victim victim_size (front ++ (new ++ back)) same tiles used (top ∙ segment.top_head) segment.top_long refl (foot ∙ segment.foot_head) named in
-      let read = chunks_are regions word heap segment (word system) (front ++ (new ++ back)) heap.top (let e = segment.ends in omega arith) tiles in
-      let tail = top_and_foot heap.top (heap.base + heap.size) in
-      let segments : segments_of word (record heap { system = system; victim = victim; victim_size = victim_size }) ≡ in_segments (replaced at (cut n)) (segments_of word heap) =
-      one_segment word (record heap { system = system; victim = victim; victim_size = victim_size }) (front ++ (new ++ back)) some read
-      ∙ ap (λ (l : List Extent). (record { base = heap.base; size = heap.size; flags = heap.flags; extents = l }) ∷ [])
-      (ap (λ (l : List Extent). (front ++ (l ++ back)) ++ tail) (sym is) ∙ sym (replaced_chunk regions word heap segment chunk there (cut n)))
-      ∙ sym (ap (in_segments (replaced at (cut n))) (one_segment word heap (chunks_of word heap) some refl)) in (
-        record {
-          granularity = sound.granularity;
-          none = λ empty. absurd (omega (arith, some, empty));
-          no_victim = none;
-          some = λ more. kept;
-        },
-        λ i. record { segments = segments i; victim = after i; granularity = heap.granularity; rate = heap.rate; countdown = heap.countdown; trim_check = heap.trim_check },
-      )
+    -- ---- a rest stays free
 
-  place : FreePlace heap at size
-  place = free_place regions word heap segment at size there
+    module _ (multiple : n % 16 ≡ 0) (least : 32 ≤ n) (room : n + 32 ≤ size)
+        (stored : AreStored (regions heap.system) (word heap.system) ((at + 8, head_of n true true) ∷ (at + n + 8, head_of (size - n) true false) ∷ (at + n + (size - n), size - n) ∷ []) (word system)) where
+      abbrev halves : List Extent
+      halves = extent at n Used ∷ extent (at + n) (size - n) Free ∷ []
 
-  -- none of it stays free
-  module _ (system : A) (same : regions system ≡ regions heap.system) (small : size < n + 32)
-      (stored : AreStored (regions heap.system) (word heap.system)
-      ((at + 8, head_of size true true) ∷ (at + size + 8, with_pinuse (if size == 0 then head_of size true true else word heap.system (at + size + 8))) ∷ []) (word system)) where
-    pub whole_elsewhere : (k : ℕ) → IsWordOf (regions heap.system) k → k ≢ at + 8 → k ≢ at + size + 8 → word system k ≡ word heap.system k
-    whole_elsewhere k there a b = stored.elsewhere k there (a, (b, tt))
+      free_one : (k : ℕ) (tail : Extent) → extent_at k (chunk ∷ []) ≡ Some tail → Free ≡ tail.kind
+      free_one k tail found = ap (λ (e : Extent). e.kind) (found_one k chunk tail found)
 
-    head : word system (at + 8) ≡ head_of size true true
-    head = stored.here.0 ((λ is. let long = place.long in omega arith), tt)
+      abbrev split_step : (victim victim_size : ℕ) → IsStep regions word heap (after victim victim_size) (chunk ∷ []) halves
+      split_step victim victim_size = step_beside regions word heap (after victim victim_size) sound same at (at + size) (chunk ∷ []) halves run
+          (cut_split (regions heap.system) (word heap.system) (word system) (last_kind Used run.first) at size stands n multiple least room stored) refl
+          (λ k tail found is. absurd (let no : Free ≡ Record = free_one k tail found ∙ is in cc)) refl (record { base = refl; size = refl; flags = refl; top = refl; top_size = refl })
+          (λ k tail found is. absurd (let no : Free ≡ Top = free_one k tail found ∙ is in cc))
 
-    pub whole_next : word system (at + size + 8) ≡ with_pinuse (word heap.system (at + size + 8))
-    whole_next =
-        let long = place.long in
-        let some : (size == 0) ≡ false = nat_isnt (inr (omega arith)) in
-        stored.here.1.0 tt ∙ ap (λ (b : Bool). with_pinuse (if b then head_of size true true else word heap.system (at + size + 8))) some
+      has_rest : nat_le (n + 32) size ≡ true
+      has_rest = grind (arith, nat_tests)
 
-    abbrev pub new_whole : List Extent
-    new_whole = (record { at = at; size = size; kind = Used }) ∷ []
+      split : (victim victim_size : ℕ) → (victim_size ≢ 0 → extent_at victim (extents_in (state_of word (after victim victim_size))) ≡ Some (extent victim victim_size Free)) → (victim_size ≡ 0 → victim ≡ 0) →
+          victim ≡ victim_after (state_of word heap) n chunk → Took victim victim_size
+      split victim victim_size = take (chunk ∷ []) halves halves victim victim_size (split_step victim victim_size) refl (rw has_rest refl) (extent at n Used) refl (record { front = []; back = []; fewer = refl; further = refl })
 
-    no_rest : nat_le (n + 32) size ≡ false
-    no_rest = grind (arith, nat_tests)
+      -- the rest is the victim
+      pub split_victim : (at ≡ heap.victim) ⊎ (n < 256) → Took (at + n) (size - n)
+      split_victim why = split (at + n) (size - n)
+          (λ more.
+          let first : (at == at + n) ≡ false = nat_isnt (inl (omega arith)) in
+          let second : (at + n == at + n) ≡ true = nat_same (at + n) in
+          found_new regions word heap (after (at + n) (size - n)) sound (chunk ∷ []) halves (split_step (at + n) (size - n)) (at + n) (extent (at + n) (size - n) Free) (rw (first, second) refl))
+          (λ none. absurd (omega (arith, none))) (left why)
+        where
+          left : (at ≡ heap.victim) ⊎ (n < 256) → at + n ≡ victim_after (state_of word heap) n chunk
+          left (inl is) = let test : (at == heap.victim) ≡ true = (let e = is in grind (arith, nat_tests)) in rw (test, has_rest) refl
+          left (inr few) = small (at == heap.victim) refl (let f = few in grind (arith, nat_tests))
+            where
+              small : (b : Bool) → (at == heap.victim) ≡ b → nat_lt n 256 ≡ true → at + n ≡ victim_after (state_of word heap) n chunk
+              small true test less = rw (test, has_rest) refl
+              small false test less = rw (test, has_rest, less) refl
 
-    cut_is_whole : cut n chunk ≡ new_whole
-    cut_is_whole = rw no_rest refl
+      -- another is, and stays
+      pub split_other : at ≢ heap.victim → 256 ≤ n → Took heap.victim heap.victim_size
+      split_other isnt many =
+          let test : (at == heap.victim) ≡ false = (let e = isnt in grind (arith, nat_tests)) in
+          let large : nat_lt n 256 ≡ false = (let m = many in grind (arith, nat_tests)) in
+          split heap.victim heap.victim_size
+          (λ more. found_again regions word heap (after heap.victim heap.victim_size) sound (chunk ∷ []) halves (split_step heap.victim heap.victim_size)
+          heap.victim (extent heap.victim heap.victim_size Free) (λ here. absurd (isnt (ap (λ (e : Extent). e.at) (found_one heap.victim chunk (extent heap.victim heap.victim_size Free) here)))) (sound.victim more))
+          sound.no_victim (rw (test, has_rest, large) refl)
 
-    tiles_whole_cut : Tiles (word system) true heap.base (front ++ (new_whole ++ back)) heap.top
-    tiles_whole_cut =
-        let ends = segment.ends in
-        cut_whole (word heap.system) (word system) heap.base front chunk back heap.top segment.base_whole (tiled regions word heap segment chunk there) refl (last_used regions word heap segment chunk there)
-        (λ k low high m a b. whole_elsewhere k (word_inside regions word heap segment k (omega arith) (omega arith) m) a b) head whole_next
+    -- ---- nothing stays free
 
-    used_whole : used_after true (front ++ (new_whole ++ back)) ≡ true
-    used_whole = used_after_append true front (new_whole ++ back) ∙ used_any back behind
+    module _ (small : size < n + 32)
+        (stored : AreStored (regions heap.system) (word heap.system) ((at + 8, head_of size true true) ∷ (at + size + 8, with_pinuse (if size == 0 then head_of size true true else word heap.system (at + size + 8))) ∷ []) (word system)) where
+      abbrev next : HasNext run.last
+      next = has_next (regions heap.system) (word heap.system) segments sound.segments at (at + size) (chunk ∷ []) run refl
 
-    above : (k : ℕ) → heap.top < k → k < heap.base + heap.size → k % 8 ≡ 0 → word system k ≡ word heap.system k
-    above k low high m =
-        let below = free_below regions word heap segment chunk there refl in
-        let base = from_base regions word heap segment chunk there in
-        whole_elsewhere k (word_inside regions word heap segment k (omega arith) high m) (λ is. omega arith) (λ is. omega arith)
+      abbrev run_two : IsRunOf (word heap.system) segments at (at + size + next.next.size) (chunk ∷ next.next ∷ [])
+      run_two = with_next (regions heap.system) (word heap.system) segments sound.segments at (at + size) (chunk ∷ []) run next
 
-    abbrev pub TookWhole : ℕ → ℕ → Type 0
-    TookWhole victim victim_size =
-        IsSound regions word (record heap { system = system; victim = victim; victim_size = victim_size })
-        × (state_of word (record heap { system = system; victim = victim; victim_size = victim_size }) ≡ taken (state_of word heap) chunk n)
+      abbrev both : List Extent
+      both = chunk ∷ next.next ∷ []
 
-    top_same : word system (heap.top + 8) ≡ word heap.system (heap.top + 8)
-    top_same = let e = segment.ends in let t = segment.size_whole in let b = segment.base_whole in let m = top_whole regions word heap segment in above (heap.top + 8) (omega arith) (omega arith) (omega arith)
+      abbrev all : List Extent
+      all = extent at size Used ∷ next.next ∷ []
 
-    foot_same : word system (heap.top + heap.top_size + 8) ≡ word heap.system (heap.top + heap.top_size + 8)
-    foot_same = let e = segment.ends in let t = segment.size_whole in let b = segment.base_whole in let m = top_whole regions word heap segment in above (heap.top + heap.top_size + 8) (omega arith) (omega arith) (omega arith)
+      move_two : IsMove (regions heap.system) (word heap.system) (word system) (last_kind Used run.first) at (at + size + next.next.size) (at + size + next.next.size) both all
+      move_two =
+          let b = behind (regions heap.system) (word heap.system) segments sound.segments at (at + size) (chunk ∷ []) run next in
+          let long = stands.size.1 in
+          let some : (size == 0) ≡ false = nat_isnt (inr (omega arith)) in
+          let low = tiles_le (word heap.system) Used run.segment.base run.first at run.first_stand in
+          let place = b.0 in
+          let high = tiles_le (word heap.system) next.next.kind (at + size + next.next.size) next.rest (run.segment.base + run.segment.size) b.2 in
+          cut_whole (regions heap.system) (word heap.system) (word system) (last_kind Used run.first) at size stands next.next b.1 b.0
+          (subst (λ (t : Bool). AreStored (regions heap.system) (word heap.system) ((at + 8, head_of size true true) ∷ (at + size + 8, with_pinuse (if t then head_of size true true else word heap.system (at + size + 8))) ∷ []) (word system)) some stored)
+          (λ k above below m. run_word (regions heap.system) (word heap.system) segments sound.segments at (at + size) (chunk ∷ []) run k (omega arith) (omega arith) m)
 
-    -- it was the victim, and there is none now
-    pub whole_victim : at ≡ heap.victim → TookWhole 0 0
-    whole_victim is =
-        let test : (at == heap.victim) ≡ true = (let e = is in grind (arith, nat_tests)) in
-        took system 0 0 new_whole same cut_is_whole tiles_whole_cut used_whole top_same foot_same (λ more. absurd (more refl)) (λ none. refl) (rw (test, no_rest) refl)
+      -- what begins elsewhere is found as before
+      beside : (k : ℕ) → at ≢ k → (tail : Extent) → extent_at k both ≡ Some tail → extent_at k all ≡ Some tail
+      beside k apart tail found =
+          let test : (at == k) ≡ false = (let e = apart in grind (arith, nat_tests)) in
+          rw test (subst (λ (b : Bool). (if b then Some chunk else extent_at k (next.next ∷ [])) ≡ Some tail) test found)
 
-    -- it was not, and the victim stays
-    pub whole_other : at ≢ heap.victim → TookWhole heap.victim heap.victim_size
-    whole_other isnt =
-        let test : (at == heap.victim) ≡ false = (let e = isnt in grind (arith, nat_tests)) in
-        took system heap.victim heap.victim_size new_whole same cut_is_whole tiles_whole_cut used_whole top_same foot_same
-        (λ more. found_beside heap.victim front chunk new_whole back isnt (rw test refl) ∙ (ap (extent_at heap.victim) (sym (among regions word heap segment chunk there).is) ∙ segment.victim more))
-        sound.no_victim (rw (test, no_rest) refl)
+      -- and so is what is no free extent
+      still : (k : ℕ) (tail : Extent) → extent_at k both ≡ Some tail → (Free ≡ tail.kind → ⊥) → extent_at k all ≡ Some tail
+      still k tail found other = go (at == k) refl
+        where
+          go : (b : Bool) → (at == k) ≡ b → extent_at k all ≡ Some tail
+          go true here = absurd (other (ap (λ (o : Option Extent). (unwrap_or o chunk).kind) (subst (λ (b : Bool). (if b then Some chunk else extent_at k (next.next ∷ [])) ≡ Some tail) here found)))
+          go false apart = beside k (λ is. absurd (let t : (at == k) ≡ true = (let e = is in grind (arith, nat_tests)) in cc)) tail found
 
-  -- the rest of it stays free
-  module _ (middle system : A) (same_middle : regions middle ≡ regions heap.system) (same : regions system ≡ regions heap.system) (multiple : n % 16 ≡ 0) (least : 32 ≤ n) (room : n + 32 ≤ size)
-      (first : IsStored (regions heap.system) (word heap.system) (at + 8) (head_of n true true) (word middle))
-      (second : AreStored (regions middle) (word middle) ((at + n + 8, head_of (size - n) true false) ∷ (at + n + (size - n), size - n) ∷ []) (word system)) where
-    sum : at + n + (size - n) ≡ at + size
-    sum = omega (arith, room)
+      abbrev whole_step : (victim victim_size : ℕ) → IsStep regions word heap (after victim victim_size) both all
+      whole_step victim victim_size = step_beside regions word heap (after victim victim_size) sound same at (at + size + next.next.size) both all run_two move_two refl
+          (λ k tail found is. still k tail found (λ free. (let no : Free ≡ Record = free ∙ is in cc))) refl (record { base = refl; size = refl; flags = refl; top = refl; top_size = refl })
+          (λ k tail found is. still k tail found (λ free. (let no : Free ≡ Top = free ∙ is in cc)))
 
-    still : (k : ℕ) → IsWordOf (regions heap.system) k → IsWordOf (regions middle) k
-    still k there = subst (λ (rs : List Grant). IsWordOf rs k) (sym same_middle) there
+      no_rest : nat_le (n + 32) size ≡ false
+      no_rest = grind (arith, nat_tests)
 
-    pub split_elsewhere : (k : ℕ) → IsWordOf (regions heap.system) k → k ≢ at + 8 → k ≢ at + n + 8 → k ≢ at + size → word system k ≡ word heap.system k
-    split_elsewhere k there a b c = second.elsewhere k (still k there) (b, ((λ is. c (is ∙ sum)), tt)) ∙ first.elsewhere k there a
+      whole : (victim victim_size : ℕ) → (victim_size ≢ 0 → extent_at victim (extents_in (state_of word (after victim victim_size))) ≡ Some (extent victim victim_size Free)) → (victim_size ≡ 0 → victim ≡ 0) →
+          victim ≡ victim_after (state_of word heap) n chunk → Took victim victim_size
+      whole victim victim_size = take both all (extent at size Used ∷ []) victim victim_size (whole_step victim victim_size)
+          (ap (λ (es : List Extent). run.front ++ with_extents run.segment (run.first ++ (extent at size Used ∷ es)) ∷ run.back) (sym next.is)) (rw no_rest refl)
+          (extent at size Used) refl (record { front = []; back = used_of (next.next ∷ []); fewer = refl; further = refl })
 
-    split_head : word system (at + 8) ≡ head_of n true true
-    split_head =
-        let p = place in let from = p.from in let below = p.below in let end = p.end in let whole = p.whole in
-        second.elsewhere (at + 8) (still (at + 8) (word_inside regions word heap segment (at + 8) (omega arith) (omega arith) (omega arith))) ((λ is. omega arith), ((λ is. omega arith), tt)) ∙ first.here
+      -- it was the victim, and there is none now
+      pub whole_victim : at ≡ heap.victim → Took 0 0
+      whole_victim is =
+          let test : (at == heap.victim) ≡ true = (let e = is in grind (arith, nat_tests)) in
+          whole 0 0 (λ more. absurd (more refl)) (λ none. refl) (rw (test, no_rest) refl)
 
-    split_rest : word system (at + n + 8) ≡ head_of (size - n) true false
-    split_rest = second.here.0 ((λ is. omega arith), tt)
+      -- it was not, and the victim stays
+      pub whole_other : at ≢ heap.victim → Took heap.victim heap.victim_size
+      whole_other isnt =
+          let test : (at == heap.victim) ≡ false = (let e = isnt in grind (arith, nat_tests)) in
+          whole heap.victim heap.victim_size
+          (λ more. found_again regions word heap (after heap.victim heap.victim_size) sound both all (whole_step heap.victim heap.victim_size)
+          heap.victim (extent heap.victim heap.victim_size Free) (beside heap.victim isnt (extent heap.victim heap.victim_size Free)) (sound.victim more))
+          sound.no_victim (rw (test, no_rest) refl)
 
-    split_foot : word system (at + size) ≡ size - n
-    split_foot = ap (word system) (sym sum) ∙ second.here.1.0 tt
+  -- ---- what the calls on the chunk want
 
-    abbrev pub new_split : List Extent
-    new_split = (record { at = at; size = n; kind = Used }) ∷ (record { at = at + n; size = size - n; kind = Free }) ∷ []
+  head_room : at + size + 16 ≤ run.segment.base + run.segment.size
+  head_room =
+      let n = has_next (regions heap.system) (word heap.system) segments sound.segments at (at + size) (chunk ∷ []) run refl in
+      let b = behind (regions heap.system) (word heap.system) segments sound.segments at (at + size) (chunk ∷ []) run n in
+      let long = (sized n.next.kind n.next.size b.1.size).1 in
+      let high = tiles_le (word heap.system) n.next.kind (at + size + n.next.size) n.rest (run.segment.base + run.segment.size) b.2 in
+      omega arith
 
-    has_rest : nat_le (n + 32) size ≡ true
-    has_rest = grind (arith, nat_tests)
+  low_room : run.segment.base ≤ at
+  low_room = tiles_le (word heap.system) Used run.segment.base run.first at run.first_stand
 
-    cut_is_split : cut n chunk ≡ new_split
-    cut_is_split = rw has_rest refl
+  pub at_whole : at % 16 ≡ 0
+  at_whole = stands.whole
 
-    tiles_split_cut : Tiles (word system) true heap.base (front ++ (new_split ++ back)) heap.top
-    tiles_split_cut =
-        let ends = segment.ends in
-        cut_split (word heap.system) (word system) heap.base front chunk back n heap.top segment.base_whole multiple least room (tiled regions word heap segment chunk there) refl
-        (λ k low high m a b c. split_elsewhere k (word_inside regions word heap segment k (omega arith) (omega arith) m) a b c) split_head split_rest split_foot
+  pub size_whole : size % 16 ≡ 0
+  size_whole = stands.size.0
 
-    used_split : used_after true (front ++ (new_split ++ back)) ≡ true
-    used_split = used_after_append true front (new_split ++ back) ∙ behind
+  pub end_small : at + size + 16 < 2 ^ 64
+  end_small = omega (arith, head_room, (run_part (regions heap.system) (word heap.system) segments sound.segments at (at + size) (chunk ∷ []) run).high)
 
-    above_split : (k : ℕ) → heap.top < k → k < heap.base + heap.size → k % 8 ≡ 0 → word system k ≡ word heap.system k
-    above_split k low high m =
-        let below = free_below regions word heap segment chunk there refl in
-        let base = from_base regions word heap segment chunk there in
-        split_elsewhere k (word_inside regions word heap segment k (omega arith) high m) (λ is. omega arith) (λ is. omega arith) (λ is. omega arith)
+  pub head_there : (k : ℕ) → at ≤ k → k ≤ at + size → k % 8 ≡ 0 → HasHead (regions heap.system) k
+  head_there k low high m = record {
+    aligned = m;
+    small = omega (arith, end_small, high);
+    granted = run_word (regions heap.system) (word heap.system) segments sound.segments at (at + size) (chunk ∷ []) run (k + 8) (omega (arith, low_room, low)) (omega (arith, head_room, high)) (omega (arith, m));
+  }
 
-    abbrev pub TookSplit : ℕ → ℕ → Type 0
-    TookSplit victim victim_size =
-        IsSound regions word (record heap { system = system; victim = victim; victim_size = victim_size })
-        × (state_of word (record heap { system = system; victim = victim; victim_size = victim_size }) ≡ taken (state_of word heap) chunk n)
+  pub foot_there : (k : ℕ) → at ≤ k → k ≤ at + size → k % 8 ≡ 0 → HasFoot (regions heap.system) k
+  foot_there k low high m = record {
+    aligned = m;
+    small = omega (arith, end_small, high);
+    granted = run_word (regions heap.system) (word heap.system) segments sound.segments at (at + size) (chunk ∷ []) run k (omega (arith, low_room, low)) (omega (arith, head_room, high)) m;
+  }
 
-    top_same_split : word system (heap.top + 8) ≡ word heap.system (heap.top + 8)
-    top_same_split = let e = segment.ends in let t = segment.size_whole in let b = segment.base_whole in let m = top_whole regions word heap segment in above_split (heap.top + 8) (omega arith) (omega arith) (omega arith)
-
-    foot_same_split : word system (heap.top + heap.top_size + 8) ≡ word heap.system (heap.top + heap.top_size + 8)
-    foot_same_split = let e = segment.ends in let t = segment.size_whole in let b = segment.base_whole in let m = top_whole regions word heap segment in above_split (heap.top + heap.top_size + 8) (omega arith) (omega arith) (omega arith)
-
-    -- the rest is found where it begins
-    rest_found : extent_at (at + n) (front ++ (new_split ++ back)) ≡ Some (record { at = at + n; size = size - n; kind = Free })
-    rest_found =
-        let place = (split regions word heap segment chunk there).second.0 in
-        let one : (at == at + n) ≡ false = nat_isnt (inl (omega arith)) in
-        let two : (at + n == at + n) ≡ true = nat_same (at + n) in
-        found_behind (word heap.system) true heap.base front (split regions word heap segment chunk there).middle (new_split ++ back) (at + n) (omega arith) (split regions word heap segment chunk there).first
-        ∙ rw (one, two) refl
-
-    -- the rest is the victim
-    pub split_victim : (at ≡ heap.victim) ⊎ (n < 256) → TookSplit (at + n) (size - n)
-    split_victim why =
-        took system (at + n) (size - n) new_split same cut_is_split tiles_split_cut used_split top_same_split foot_same_split (λ more. rest_found) (λ none. omega (arith, none)) (after why)
-      where
-        after : (at ≡ heap.victim) ⊎ (n < 256) → at + n ≡ victim_after (state_of word heap) n chunk
-        after (inl is) = let test : (at == heap.victim) ≡ true = (let e = is in grind (arith, nat_tests)) in rw (test, has_rest) refl
-        after (inr few) = small_after (at == heap.victim) refl (let f = few in grind (arith, nat_tests))
-          where
-            small_after : (b : Bool) → (at == heap.victim) ≡ b → nat_lt n 256 ≡ true → at + n ≡ victim_after (state_of word heap) n chunk
-            small_after true test less = rw (test, has_rest) refl
-            small_after false test less = rw (test, has_rest, less) refl
-
-    -- the victim does not begin at the rest
-    victim_beside : heap.victim_size ≢ 0 → (at + n == heap.victim) ≡ false
-    victim_beside more = beside (at + n == heap.victim) refl
-      where
-        beside : (b : Bool) → (at + n == heap.victim) ≡ b → (at + n == heap.victim) ≡ false
-        beside false test = test
-        beside true test =
-            let is : at + n ≡ heap.victim = nat_is test in
-            let found = segment.victim more in
-            let none = none_inside regions word heap segment chunk there heap.victim (omega arith) (omega arith) in
-            absurd (cc)
-
-    -- another is, and stays
-    pub split_other : at ≢ heap.victim → 256 ≤ n → TookSplit heap.victim heap.victim_size
-    split_other isnt many =
-        let test : (at == heap.victim) ≡ false = (let e = isnt in grind (arith, nat_tests)) in
-        let large : nat_lt n 256 ≡ false = (let m = many in grind (arith, nat_tests)) in
-        took system heap.victim heap.victim_size new_split same cut_is_split tiles_split_cut used_split top_same_split foot_same_split
-        (λ more. found_beside heap.victim front chunk new_split back isnt (rw (test, victim_beside more) refl) ∙ (ap (extent_at heap.victim) (sym (among regions word heap segment chunk there).is) ∙ segment.victim more))
-        sound.no_victim (rw (test, has_rest, large) refl)
+  -- the stores of two calls, as one
+  pub stores : (middle system : A) → regions middle ≡ regions heap.system → n ≤ size →
+      IsStored (regions heap.system) (word heap.system) (at + 8) (head_of n true true) (word middle) →
+      AreStored (regions middle) (word middle) ((at + n + 8, head_of (size - n) true false) ∷ (at + n + (size - n), size - n) ∷ []) (word system) →
+      AreStored (regions heap.system) (word heap.system) ((at + 8, head_of n true true) ∷ (at + n + 8, head_of (size - n) true false) ∷ (at + n + (size - n), size - n) ∷ []) (word system)
+  stores middle system same fits first second =
+      stored_then (regions heap.system) (word heap.system) (word middle) (word system) (at + 8) (head_of n true true) ((at + n + 8, head_of (size - n) true false) ∷ (at + n + (size - n), size - n) ∷ [])
+      (head_there at (omega arith) (omega arith) (omega (arith, at_whole))).granted first
+      (subst (λ (rs : List Grant). AreStored rs (word middle) ((at + n + 8, head_of (size - n) true false) ∷ (at + n + (size - n), size - n) ∷ []) (word system)) same second)

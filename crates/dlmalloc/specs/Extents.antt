@@ -1,9 +1,11 @@
--- The chunks of a segment, as their head words tell them, and the extents that they are.
-use Rattle.std.specs.Prelude.{◌≡◌, ℕ, zero, suc, ◌+◌, ◌%◌, ◌≤◌, ⊤, Bool, true, false, nat_lt, if◌then◌else◌, List, [], ◌∷◌, IsTrue}
+-- The extents of a segment, as words tell them, and how they tile it.
+use Rattle.std.specs.Prelude.{◌≡◌, ℕ, zero, suc, ◌+◌, ◌%◌, ◌<◌, ◌≤◌, ◌⊎◌, Bool, true, false, nat_lt, if◌then◌else◌, List, [], ◌∷◌, IsTrue}
 use Rattle.dlmalloc_chunks.specs.declared.extent.Extent.{Extent}
 use Rattle.dlmalloc_chunks.specs.declared.extent.Kind.{Kind}
 use Rattle.dlmalloc_chunks.specs.declared.extent.Kind.TheVariants.{Used, Free, Victim, Top, Record, Foot}
 use Rattle.dlmalloc_chunks.specs.Head.{size_of, free_of, head_of}
+use Rattle.dlmalloc_chunks.specs.Tiling.{IsSize}
+use Rattle.dlmalloc.specs.State.{is_plain}
 pub use Rattle.dlmalloc_chunks.specs.Kinds.{is_free}
 pub use Rattle.dlmalloc_chunks.specs.Tiling.{extent_at}
 
@@ -28,31 +30,42 @@ is_used Top = false
 is_used Record = true
 is_used Foot = false
 
--- a chunk in use may stand anywhere, and a free one behind a chunk in use
-abbrev pub IsChunk : Bool → Kind → Type 0
-IsChunk used Used = ⊤
-IsChunk used Free = used ≡ true
-IsChunk used Victim = ⊥
-IsChunk used Top = ⊥
-IsChunk used Record = ⊥
-IsChunk used Foot = ⊥
+-- What may stand behind an extent of a kind: a free one behind one in use alone, the foot behind the top, and nothing behind
+-- what ends a segment. (Heads do not tell the victim from other free ones.)
+abbrev pub MayStand : Kind → Kind → Type 0
+MayStand before Used = (before ≡ Used) ⊎ (before ≡ Free)
+MayStand before Free = before ≡ Used
+MayStand before Victim = ⊥
+MayStand before Top = before ≡ Used
+MayStand before Record = (before ≡ Used) ⊎ (before ≡ Free)
+MayStand before Foot = before ≡ Top
 
--- A chunk of which the words tell, behind one that is in use or not. Two free ones never touch, and the size of a free
--- one stands in the first word of the chunk behind it.
-pub record Stands (words : ℕ → ℕ) (used : Bool) (chunk : Extent) : Type 0 where
-  pub whole : chunk.size % 16 ≡ 0
-  pub long : 32 ≤ chunk.size
-  pub kind : IsChunk used chunk.kind
-  pub head : words (chunk.at + 8) ≡ head_of chunk.size used (is_used chunk.kind)
-  pub foot : IsTrue (is_free chunk.kind) → words (chunk.at + chunk.size) ≡ chunk.size
+-- the size that a head tells: a record's is that of a chunk of 48 bytes, with fences behind it
+abbrev pub told_size : Kind → ℕ → ℕ
+told_size Used size = size
+told_size Free size = size
+told_size Victim size = size
+told_size Top size = size
+told_size Record size = 48
+told_size Foot size = size
 
--- The chunks stand one behind the other from an address up to another, behind one that is in use or not.
-abbrev pub Tiles : (words : ℕ → ℕ) (used : Bool) (at : ℕ) → List Extent → (end : ℕ) → Type 0
-Tiles words used at [] end = at ≡ end
-Tiles words used at (chunk ∷ chunks) end =
-    (chunk.at ≡ at) × Stands words used chunk × Tiles words (is_used chunk.kind) (at + chunk.size) chunks end
+-- An extent of which the words tell, behind one of some kind. The size of a free one stands in the first word of the
+-- extent behind it, and each word of a fence is the head of a used chunk of 8 bytes behind another (dlmalloc: `fencepost_head`).
+pub record Stands (words : ℕ → ℕ) (before : Kind) (extent : Extent) : Type 0 where
+  pub whole : extent.at % 16 ≡ 0
+  pub size : IsSize extent.kind extent.size
+  pub kind : MayStand before extent.kind
+  pub head : words (extent.at + 8) ≡ head_of (told_size extent.kind extent.size) (is_used before) (is_used extent.kind)
+  pub foot : IsTrue (is_plain extent.kind) → words (extent.at + extent.size) ≡ extent.size
+  pub fence : extent.kind ≡ Record → (k : ℕ) → extent.at + 56 ≤ k → k < extent.at + extent.size → k % 8 ≡ 0 → words k ≡ 11
 
--- whether the last of some chunks is in use; where there is none, what stands before them
-abbrev pub used_after : Bool → List Extent → Bool
-used_after used [] = used
-used_after used (chunk ∷ chunks) = used_after (is_used chunk.kind) chunks
+-- The extents stand one behind the other from an address up to another, behind one of some kind.
+abbrev pub Tiles : (words : ℕ → ℕ) (before : Kind) (at : ℕ) → List Extent → (end : ℕ) → Type 0
+Tiles words before at [] end = at ≡ end
+Tiles words before at (extent ∷ extents) end =
+    (extent.at ≡ at) × Stands words before extent × Tiles words extent.kind (at + extent.size) extents end
+
+-- the kind of the last of some extents; where there is none, of what stands before them
+abbrev pub last_kind : Kind → List Extent → Kind
+last_kind before [] = before
+last_kind before (extent ∷ extents) = last_kind extent.kind extents

@@ -1,9 +1,13 @@
-pub mod Extents
 pub mod State
+pub mod Extents
 pub mod Choice
 pub mod Taken
 pub mod Freed
 pub mod Granted
+pub mod Segments
+pub mod FreeExtents
+pub mod Moves
+pub mod Walk
 pub mod Heap
 pub mod Blocks
 pub mod Boundaries

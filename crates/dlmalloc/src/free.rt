@@ -6,9 +6,9 @@ ghost use Rattle.dlmalloc_chunks.specs.Head.{size_of, pinuse_of, free_of, head_o
 ghost use Rattle.dlmalloc.specs.Extents.{extent_at};
 ghost use Rattle.dlmalloc.specs.State.{extents_in};
 ghost use Rattle.dlmalloc.specs.Freed.{freed};
-ghost use Rattle.dlmalloc.specs.Boundaries.{OnlyBoundariesChange};
-ghost use Rattle.dlmalloc.specs.Blocks.{IsBlock, HasOneMore, KeepsBlocks};
-ghost use Rattle.dlmalloc.specs.Heap.{chunks_of, state_of, IsSound};
+ghost use Rattle.dlmalloc.specs.Blocks.{IsBlock, HasOneMore};
+ghost use Rattle.dlmalloc.specs.Heap.{state_of, IsSound};
+ghost use Rattle.dlmalloc.specs.Served.{IsMoved, IsFreed};
 
 use crate::heap::Dlmalloc;
 use crate::layout::{BLOCK, HEAD, PINUSE};
@@ -24,13 +24,8 @@ impl<A: Allocator> Dlmalloc<A> {
     pub fn free<L: Ledger>(&mut self, ptr: u64, size: u64, align: u64, steps: &mut Steps<L>)
         requires sound { IsSound A.regions A.word self.old }
         requires block { IsBlock (state_of A.word self.old) ptr size }
-        ensures state { state_of A.word self.new ≡ freed (state_of A.word self.old) (ptr - 16) }
-        ensures less { HasOneMore (state_of A.word self.new) (state_of A.word self.old) (ptr - 16) }
-        ensures sound { IsSound A.regions A.word self.new }
-        ensures blocks { KeepsBlocks (extents_in (state_of A.word self.new)) (A.word self.old.system) (A.word self.new.system) }
-        ensures words { OnlyBoundariesChange (A.regions self.old.system) (state_of A.word self.new) (A.word self.old.system) (A.word self.new.system) }
-        ensures regions { A.regions self.new.system ≡ A.regions self.old.system }
-        ensures follows { A.follows self.old.system [] self.new.system }
+        ensures freed { IsFreed A.regions A.word A.follows self.old ptr self.new }
+        ensures counted { steps.new ≤ steps.old + 9 }
     {
         self.free_block(ptr, steps);
     }
@@ -39,14 +34,10 @@ impl<A: Allocator> Dlmalloc<A> {
     pub fn c_free<L: Ledger>(&mut self, ptr: Option<u64>, steps: &mut Steps<L>)
         requires sound { IsSound A.regions A.word self.old }
         requires block { IfSome ptr (λ address. (size : ℕ) × IsBlock (state_of A.word self.old) address size) }
-        ensures state { IfSome ptr (λ address. state_of A.word self.new ≡ freed (state_of A.word self.old) (address - 16)) }
-        ensures less { IfSome ptr (λ address. HasOneMore (state_of A.word self.new) (state_of A.word self.old) (address - 16)) }
+        ensures freed { IfSome ptr (λ address. IsFreed A.regions A.word A.follows self.old address self.new) }
         ensures none { IfNone ptr (self.new ≡ self.old) }
         ensures sound { IsSound A.regions A.word self.new }
-        ensures blocks { KeepsBlocks (extents_in (state_of A.word self.new)) (A.word self.old.system) (A.word self.new.system) }
-        ensures words { OnlyBoundariesChange (A.regions self.old.system) (state_of A.word self.new) (A.word self.old.system) (A.word self.new.system) }
-        ensures regions { A.regions self.new.system ≡ A.regions self.old.system }
-        ensures follows { A.follows self.old.system [] self.new.system }
+        ensures counted { steps.new ≤ steps.old + 9 }
     {
         if let Some(address) = ptr {
             self.free_block(address, steps);
@@ -57,13 +48,8 @@ impl<A: Allocator> Dlmalloc<A> {
     fn free_block<L: Ledger>(&mut self, ptr: u64, steps: &mut Steps<L>)
         requires sound { IsSound A.regions A.word self.old }
         requires block { (size : ℕ) × IsBlock (state_of A.word self.old) ptr size }
-        ensures state { state_of A.word self.new ≡ freed (state_of A.word self.old) (ptr - 16) }
-        ensures less { HasOneMore (state_of A.word self.new) (state_of A.word self.old) (ptr - 16) }
-        ensures sound { IsSound A.regions A.word self.new }
-        ensures blocks { KeepsBlocks (extents_in (state_of A.word self.new)) (A.word self.old.system) (A.word self.new.system) }
-        ensures words { OnlyBoundariesChange (A.regions self.old.system) (state_of A.word self.new) (A.word self.old.system) (A.word self.new.system) }
-        ensures regions { A.regions self.new.system ≡ A.regions self.old.system }
-        ensures follows { A.follows self.old.system [] self.new.system }
+        ensures freed { IsFreed A.regions A.word A.follows self.old ptr self.new }
+        ensures counted { steps.new ≤ steps.old + 9 }
     {
         let at = ptr - BLOCK;
         let size = chunk::size(&self.system, at, steps);
@@ -74,14 +60,11 @@ impl<A: Allocator> Dlmalloc<A> {
     /// which is the victim where one of them was.
     pub(crate) fn dispose_chunk<L: Ledger>(&mut self, at: u64, size: u64, steps: &mut Steps<L>)
         requires sound { IsSound A.regions A.word self.old }
-        requires there { 0 < self.old.size }
-        requires chunk { extent_at at (chunks_of A.word self.old) ≡ Some (record { at = at; size = size; kind = Used }) }
+        requires chunk { extent_at at (extents_in (state_of A.word self.old)) ≡ Some (record { at = at; size = size; kind = Used }) }
         ensures state { state_of A.word self.new ≡ freed (state_of A.word self.old) at }
-        ensures sound { IsSound A.regions A.word self.new }
-        ensures blocks { KeepsBlocks (extents_in (state_of A.word self.new)) (A.word self.old.system) (A.word self.new.system) }
-        ensures words { OnlyBoundariesChange (A.regions self.old.system) (state_of A.word self.new) (A.word self.old.system) (A.word self.new.system) }
-        ensures regions { A.regions self.new.system ≡ A.regions self.old.system }
-        ensures follows { A.follows self.old.system [] self.new.system }
+        ensures less { HasOneMore (state_of A.word self.new) (state_of A.word self.old) at }
+        ensures moved { IsMoved A.regions A.word A.follows self.old self.new }
+        ensures counted { steps.new ≤ steps.old + 8 }
     {
         let from = self.free_begin(at, steps);
         let to = self.free_end(at + size, steps);
@@ -90,7 +73,7 @@ impl<A: Allocator> Dlmalloc<A> {
             self.top = from;
             self.system
                 .store_counted(from + HEAD, self.top_size + PINUSE, steps);
-            if from <= self.victim {
+            if from <= self.victim && self.victim < to {
                 self.victim = 0;
                 self.victim_size = 0;
             }
@@ -108,7 +91,8 @@ impl<A: Allocator> Dlmalloc<A> {
         requires head { HasHead (A.regions self.now.system) at }
         requires foot { HasFoot (A.regions self.now.system) at }
         requires fits { pinuse_of (A.word self.now.system (at + 8)) ≡ false → A.word self.now.system at ≤ at }
-        ensures { result ≡ (if pinuse_of (A.word self.now.system (at + 8)) then at else at - A.word self.now.system at) }
+        ensures value { result ≡ (if pinuse_of (A.word self.now.system (at + 8)) then at else at - A.word self.now.system at) }
+        ensures counted { steps.new ≤ steps.old + 2 }
     {
         if chunk::pinuse(&self.system, at, steps) {
             at
@@ -121,8 +105,9 @@ impl<A: Allocator> Dlmalloc<A> {
     fn free_end<L: Ledger>(&self, at: u64, steps: &mut Steps<L>) -> u64
         requires head { HasHead (A.regions self.now.system) at }
         requires fits { at ≢ self.now.top → free_of (A.word self.now.system (at + 8)) ≡ true → at + size_of (A.word self.now.system (at + 8)) < 2 ^ 64 }
-        ensures { result ≡ (if at == self.now.top then at else
+        ensures value { result ≡ (if at == self.now.top then at else
             if free_of (A.word self.now.system (at + 8)) then at + size_of (A.word self.now.system (at + 8)) else at) }
+        ensures counted { steps.new ≤ steps.old + 2 }
     {
         if at == self.top || chunk::inuse(&self.system, at, steps) {
             at
@@ -150,6 +135,7 @@ fn make_free<M: Links, L: Ledger>(
         ((chunk + size + 8, without_pinuse (M.word memory.old (chunk + size + 8))) ∷ (chunk + 8, head_of size true false) ∷ (chunk + size, size) ∷ []) (M.word memory.new) }
     ensures regions { M.regions memory.new ≡ M.regions memory.old }
     ensures follows { M.follows memory.old [] memory.new }
+    ensures counted { steps.new ≤ steps.old + 4 }
 {
     if is_told {
         chunk::set_size_and_pinuse_of_free_chunk(memory, chunk, size, steps);

@@ -18,6 +18,8 @@ pub struct Dlmalloc<A: Allocator> {
     pub(crate) base: u64,
     pub(crate) size: u64,
     pub(crate) flags: u32,
+    /// Where the payload of the next segment's record begins, 0 where there is no other segment.
+    pub(crate) next: u64,
     /// The free chunk at the end of the head segment.
     pub(crate) top: u64,
     pub(crate) top_size: u64,
@@ -60,6 +62,7 @@ impl<A: Allocator> Dlmalloc<A> {
             base: 0,
             size: 0,
             flags: 0,
+            next: 0,
             top: 0,
             top_size: 0,
             victim: 0,
@@ -97,8 +100,8 @@ impl<A: Allocator> Dlmalloc<A> {
         accepted
     }
 
-    /// The system, to be changed. The heap stays sound, and in its state, where what is done leaves the regions and every
-    /// word outside of blocks: `sound_outside` and `state_outside` of proofs/Laws.antt.
+    /// The system, to be changed. The heap stays sound, and in its state, where what is done leaves the regions of its
+    /// segments, the place of the next region, and every word of the segments outside of blocks: `rests_outside`.
     pub fn allocator_mut(&mut self) -> &mut A
         ensures* lends { sem 𝓛 (Lends (the_row A.row) A.row self.entry result (λ w. record self.old { system = w })) }
         ensures value { result.now ≡ self.old.system }

@@ -4,6 +4,7 @@
 //! and their extents, is told by the head words of the chunks alone.
 #![tactic(auto)]
 
+mod block_laws;
 mod free;
 mod heap;
 mod layout;

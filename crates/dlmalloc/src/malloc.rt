@@ -1,13 +1,9 @@
 // Requests for blocks.
-ghost use Rattle.std.specs.Prelude.{◌≡◌, ◌≢◌, ℕ, ◌+◌, ◌-◌, ◌%◌, ◌^◌, ◌<◌, ◌≤◌, [], true, OnOk, OnErr, IfOk, IfErr};
+ghost use Rattle.std.specs.Prelude.{◌≡◌, ◌≢◌, ℕ, ◌+◌, ◌-◌, ◌%◌, ◌^◌, ◌<◌, ◌≤◌, OnErr, IfOk, IfErr};
 ghost use Rattle.std.specs.Int.{IsPowerOfTwo};
-ghost use Rattle.dlmalloc_chunks.specs.Request.{padded, limit};
-ghost use Rattle.dlmalloc.specs.State.{extents_in};
-ghost use Rattle.dlmalloc.specs.Boundaries.{OnlyBoundariesChange, NewWordsAreZero};
-ghost use Rattle.dlmalloc.specs.Blocks.{IsBlock, HasOneMore, KeepsBlocks};
 ghost use Rattle.dlmalloc.specs.Heap.{state_of, IsSound};
 ghost use Rattle.dlmalloc.specs.Grown.{IsAsItWas};
-ghost use Rattle.dlmalloc.specs.Served.{IsCut, IsDenied, IsRefused};
+ghost use Rattle.dlmalloc.specs.Served.{IsDenied, IsCutOut, IsServed, IsRefusedWith};
 
 use crate::heap::Dlmalloc;
 use crate::layout::BLOCK;
@@ -29,16 +25,9 @@ impl<A: Allocator> Dlmalloc<A> {
     ) -> Result<u64, MallocError>
         requires sound { IsSound A.regions A.word self.old }
         requires align { IsPowerOfTwo align × (align ≤ 16) }
-        ensures served { IfOk result (λ address. (16 ≤ address) × IsCut A.follows A.regions self.old.system (state_of A.word self.old) (padded size) (address - 16) self.new.system (state_of A.word self.new)) }
-        ensures small { OnOk result (size < limit self.old.granularity) }
-        ensures block { IfOk result (λ address. IsBlock (state_of A.word self.new) address size) }
-        ensures more { IfOk result (λ address. HasOneMore (state_of A.word self.old) (state_of A.word self.new) (address - 16)) }
-        ensures blocks { KeepsBlocks (extents_in (state_of A.word self.old)) (A.word self.old.system) (A.word self.new.system) }
-        ensures words { OnlyBoundariesChange (A.regions self.old.system) (state_of A.word self.new) (A.word self.old.system) (A.word self.new.system) }
-        ensures zeros { A.zeros self.old.system ≡ true → NewWordsAreZero (A.regions self.old.system) (A.regions self.new.system) (state_of A.word self.new) (A.word self.new.system) }
+        ensures served { IfOk result (λ address. IsServed A.regions A.word A.zeros A.follows self.old size address self.new) }
+        ensures refused { IfErr result (λ error. IsRefusedWith A.regions A.word A.follows A.refuses A.denies self.old size error self.new) }
         ensures sound { IsSound A.regions A.word self.new }
-        ensures refused { IfErr result (λ error. IsRefused A.denies self.old.system (state_of A.word self.old) size error) }
-        ensures err { OnErr result (IsAsItWas A.regions A.word A.follows A.refuses self.old self.new) }
     {
         self.c_malloc(size, steps)
     }
@@ -51,16 +40,9 @@ impl<A: Allocator> Dlmalloc<A> {
         steps: &mut Steps<L>,
     ) -> Result<u64, MallocError>
         requires sound { IsSound A.regions A.word self.old }
-        ensures served { IfOk result (λ address. (16 ≤ address) × IsCut A.follows A.regions self.old.system (state_of A.word self.old) (padded size) (address - 16) self.new.system (state_of A.word self.new)) }
-        ensures small { OnOk result (size < limit self.old.granularity) }
-        ensures block { IfOk result (λ address. IsBlock (state_of A.word self.new) address size) }
-        ensures more { IfOk result (λ address. HasOneMore (state_of A.word self.old) (state_of A.word self.new) (address - 16)) }
-        ensures blocks { KeepsBlocks (extents_in (state_of A.word self.old)) (A.word self.old.system) (A.word self.new.system) }
-        ensures words { OnlyBoundariesChange (A.regions self.old.system) (state_of A.word self.new) (A.word self.old.system) (A.word self.new.system) }
-        ensures zeros { A.zeros self.old.system ≡ true → NewWordsAreZero (A.regions self.old.system) (A.regions self.new.system) (state_of A.word self.new) (A.word self.new.system) }
+        ensures served { IfOk result (λ address. IsServed A.regions A.word A.zeros A.follows self.old size address self.new) }
+        ensures refused { IfErr result (λ error. IsRefusedWith A.regions A.word A.follows A.refuses A.denies self.old size error self.new) }
         ensures sound { IsSound A.regions A.word self.new }
-        ensures refused { IfErr result (λ error. IsRefused A.denies self.old.system (state_of A.word self.old) size error) }
-        ensures err { OnErr result (IsAsItWas A.regions A.word A.follows A.refuses self.old self.new) }
     {
         if size >= max_request(self.granularity) {
             return Err(MallocError::TooLarge);
@@ -77,14 +59,7 @@ impl<A: Allocator> Dlmalloc<A> {
         requires whole { n % 16 ≡ 0 }
         requires least { 32 ≤ n }
         requires small { n + 96 + self.old.granularity ≤ 2 ^ 64 }
-        ensures served { IfOk result (λ at. IsCut A.follows A.regions self.old.system (state_of A.word self.old) n at self.new.system (state_of A.word self.new)) }
-        ensures fits { IfOk result (λ at. at + 16 < 2 ^ 64) }
-        ensures more { IfOk result (λ at. HasOneMore (state_of A.word self.old) (state_of A.word self.new) at) }
-        ensures holds { IfOk result (λ at. (size : ℕ) → size + 8 ≤ n → n ≤ size + 32 → IsBlock (state_of A.word self.new) (at + 16) size) }
-        ensures blocks { KeepsBlocks (extents_in (state_of A.word self.old)) (A.word self.old.system) (A.word self.new.system) }
-        ensures words { OnlyBoundariesChange (A.regions self.old.system) (state_of A.word self.new) (A.word self.old.system) (A.word self.new.system) }
-        ensures zeros { A.zeros self.old.system ≡ true → NewWordsAreZero (A.regions self.old.system) (A.regions self.new.system) (state_of A.word self.new) (A.word self.new.system) }
-        ensures sound { IsSound A.regions A.word self.new }
+        ensures cut { IfOk result (λ at. IsCutOut A.regions A.word A.zeros A.follows self.old n at self.new) }
         ensures denied { IfErr result (λ fault. IsDenied A.denies self.old.system (state_of A.word self.old) n fault) }
         ensures err { OnErr result (IsAsItWas A.regions A.word A.follows A.refuses self.old self.new) }
     {

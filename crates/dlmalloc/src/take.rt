@@ -1,12 +1,12 @@
 // Cutting a free chunk for a request.
-ghost use Rattle.std.specs.Prelude.{◌≡◌, ◌≢◌, ℕ, ◌+◌, ◌%◌, ◌<◌, ◌≤◌, true, false, [], Some};
+ghost use Rattle.std.specs.Prelude.{◌≡◌, ◌≢◌, ℕ, ◌+◌, ◌%◌, ◌<◌, ◌≤◌, Some};
 ghost use Rattle.dlmalloc_chunks.specs.declared.extent.Kind.TheVariants.{Free};
 ghost use Rattle.dlmalloc.specs.Extents.{extent_at};
 ghost use Rattle.dlmalloc.specs.State.{extents_in};
-ghost use Rattle.dlmalloc.specs.Boundaries.{OnlyBoundariesChange};
-ghost use Rattle.dlmalloc.specs.Blocks.{KeepsBlocks};
+ghost use Rattle.dlmalloc.specs.Blocks.{HasOneMore};
 ghost use Rattle.dlmalloc.specs.Taken.{taken};
-ghost use Rattle.dlmalloc.specs.Heap.{chunks_of, state_of, IsSound};
+ghost use Rattle.dlmalloc.specs.Heap.{state_of, IsSound};
+ghost use Rattle.dlmalloc.specs.Served.{IsMoved};
 
 use crate::heap::Dlmalloc;
 use crate::layout::{LEAST_CHUNK, LEAST_LARGE};
@@ -19,17 +19,14 @@ impl<A: Allocator> Dlmalloc<A> {
     /// Cuts `n` bytes from a free chunk other than the top. A rest of less than 32 bytes stays with them.
     pub(crate) fn take<L: Ledger>(&mut self, at: u64, size: u64, n: u64, steps: &mut Steps<L>)
         requires sound { IsSound A.regions A.word self.old }
-        requires there { 0 < self.old.size }
-        requires chunk { extent_at at (chunks_of A.word self.old) ≡ Some (record { at = at; size = size; kind = Free }) }
+        requires chunk { extent_at at (extents_in (state_of A.word self.old)) ≡ Some (record { at = at; size = size; kind = Free }) }
         requires whole { n % 16 ≡ 0 }
         requires least { 32 ≤ n }
         requires fits { n ≤ size }
         ensures state { state_of A.word self.new ≡ taken (state_of A.word self.old) (record { at = at; size = size; kind = Free }) n }
-        ensures sound { IsSound A.regions A.word self.new }
-        ensures blocks { KeepsBlocks (extents_in (state_of A.word self.old)) (A.word self.old.system) (A.word self.new.system) }
-        ensures words { OnlyBoundariesChange (A.regions self.old.system) (state_of A.word self.new) (A.word self.old.system) (A.word self.new.system) }
-        ensures regions { A.regions self.new.system ≡ A.regions self.old.system }
-        ensures follows { A.follows self.old.system [] self.new.system }
+        ensures more { HasOneMore (state_of A.word self.old) (state_of A.word self.new) at }
+        ensures moved { IsMoved A.regions A.word A.follows self.old self.new }
+        ensures counted { steps.new ≤ steps.old + 3 }
     {
         let rest = size - n;
         if rest < LEAST_CHUNK {

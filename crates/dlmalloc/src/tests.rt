@@ -357,3 +357,82 @@ fn settings_are_kept(rt: HostRuntime) -> Result<(), Fail> {
     assert_eq!(rt; heap.granularity(), 16);
     Ok(())
 }
+
+/// A heap whose system gives two regions, one behind the other, and then refuses: for want of frames, and of memory.
+fn wide_heap(alloc: Global) -> Result<Dlmalloc<FlatSystem>, AllocError>
+    ensures { IfOk result (λ heap. IsSound ⟦<FlatSystem as Links>⟧.regions ⟦<FlatSystem as Links>⟧.word heap) }
+{
+    let mut script = Vec::new(alloc);
+    for base in [0x40_0000, 0x41_0000] {
+        script.push(FlatStep::Give {
+            base,
+            size: 65536,
+            flags: 0,
+        })?;
+    }
+    for fault in [GrantFault::NoFrames, GrantFault::OutOfMemory] {
+        script.push(FlatStep::Refuse { fault })?;
+    }
+    let system = FlatSystem::new(alloc, script, true, true, 4096)?;
+    Ok(Dlmalloc::new_with_allocator(system))
+}
+
+/// The extents of a heap are these.
+fn expect_extents<L: Ledger, R: Abort>(
+    rt: &R,
+    alloc: Global,
+    heap: &Dlmalloc<FlatSystem>,
+    runs: &[Run],
+    steps: &mut Steps<L>,
+) -> Result<(), Fail>
+    requires { IsSound ⟦<FlatSystem as Links>⟧.regions ⟦<FlatSystem as Links>⟧.word heap.now }
+{
+    let mut expected = ExtentList::new(alloc);
+    for &(kind, at, size) in runs {
+        expected.push(Extent { at, size, kind })?;
+    }
+    let extents = heap.extents(alloc, steps)?;
+    assert_eq!(rt; extents.as_slice(), expected.as_slice());
+    Ok(())
+}
+
+/// Makes the top longer, and is refused twice.
+fn serve_wide<L: Ledger, R: Abort>(rt: &R, alloc: Global, blank: Blank) -> Result<(), Fail>
+    requires name { blank.name ≡ L.name }
+    requires parts { blank.parts ≡ L.parts }
+    requires some { 0 < blank.parts }
+{
+    const FOOT: Run = (Kind::Foot, 0x41_ffb0, 80);
+    let mut steps = Steps::<L>::new(blank);
+    let mut heap = wide_heap(alloc)?;
+    assert_eq!(rt; heap.c_malloc(24, &mut steps), Ok(0x40_0010));
+    assert_eq!(rt; heap.c_malloc(65416, &mut steps), Ok(0x40_0030));
+    let grown = [
+        (Kind::Used, 0x40_0000, 32),
+        (Kind::Used, 0x40_0020, 65424),
+        (Kind::Top, 0x40_ffb0, 65536),
+        FOOT,
+    ];
+    expect_extents(rt, alloc, &heap, &grown, &mut steps)?;
+    for fault in [GrantFault::NoFrames, GrantFault::OutOfMemory] {
+        assert_eq!(rt;
+            heap.c_malloc(65536, &mut steps),
+            Err(MallocError::System(fault))
+        );
+        expect_extents(rt, alloc, &heap, &grown, &mut steps)?;
+    }
+    heap.c_free(None, &mut steps);
+    expect_extents(rt, alloc, &heap, &grown, &mut steps)?;
+    apply(rt, alloc, &mut heap, Call::Free(0x40_0030), &mut steps)?;
+    let freed = [
+        (Kind::Used, 0x40_0000, 32),
+        (Kind::Top, 0x40_0020, 130_960),
+        FOOT,
+    ];
+    expect_extents(rt, alloc, &heap, &freed, &mut steps)
+}
+
+#[test]
+fn the_top_grows_and_refusals_change_nothing(rt: HostRuntime) -> Result<(), Fail> {
+    serve_wide::<Brand, HostRuntime>(&rt, rt.alloc(), Blank::new(1))
+}

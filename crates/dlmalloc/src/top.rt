@@ -3,12 +3,12 @@ ghost use Rattle.std.specs.Prelude.{◌≡◌, ◌≢◌, ℕ, ◌+◌, ◌-◌,
 ghost use Rattle.dlmalloc_chunks.specs.declared.extent.Kind.TheVariants.{Top};
 ghost use Rattle.dlmalloc_chunks.specs.Request.{round_up};
 ghost use Rattle.heap_memory.specs.Regions.{IsWordOf};
-ghost use Rattle.dlmalloc.specs.State.{extents_in};
-ghost use Rattle.dlmalloc.specs.Boundaries.{OnlyBoundariesChange};
-ghost use Rattle.dlmalloc.specs.Blocks.{KeepsBlocks};
+ghost use Rattle.dlmalloc.specs.Blocks.{HasOneMore};
+ghost use Rattle.dlmalloc.specs.Boundaries.{IsBoundary};
 ghost use Rattle.dlmalloc.specs.Taken.{taken};
 ghost use Rattle.dlmalloc.specs.Heap.{state_of, IsSound, IsGranularity};
 ghost use Rattle.dlmalloc.specs.Grown.{IsGrown, IsAsItWas};
+ghost use Rattle.dlmalloc.specs.Served.{IsMoved};
 
 use crate::heap::{Dlmalloc, countdown_from};
 use crate::layout::{FOOT, HEAD, OVERHEAD, PINUSE, TRIM_THRESHOLD};
@@ -27,11 +27,11 @@ impl<A: Allocator> Dlmalloc<A> {
         requires fits { n < self.old.top_size }
         ensures chunk { result ≡ self.old.top }
         ensures state { state_of A.word self.new ≡ taken (state_of A.word self.old) (record { at = self.old.top; size = self.old.top_size; kind = Top }) n }
-        ensures sound { IsSound A.regions A.word self.new }
-        ensures blocks { KeepsBlocks (extents_in (state_of A.word self.old)) (A.word self.old.system) (A.word self.new.system) }
-        ensures words { OnlyBoundariesChange (A.regions self.old.system) (state_of A.word self.new) (A.word self.old.system) (A.word self.new.system) }
-        ensures regions { A.regions self.new.system ≡ A.regions self.old.system }
-        ensures follows { A.follows self.old.system [] self.new.system }
+        ensures more { HasOneMore (state_of A.word self.old) (state_of A.word self.new) self.old.top }
+        ensures head { IsBoundary (state_of A.word self.new) (self.old.top + 8) }
+        ensures foot { IsBoundary (state_of A.word self.new) (self.old.top + self.old.top_size + 8) }
+        ensures moved { IsMoved A.regions A.word A.follows self.old self.new }
+        ensures counted { steps.new ≡ steps.old + 2 }
     {
         let chunk = self.top;
         self.top += n;
@@ -59,6 +59,7 @@ impl<A: Allocator> Dlmalloc<A> {
     pub(crate) fn grow<L: Ledger>(&mut self, n: u64, steps: &mut Steps<L>) -> Result<(), GrantFault>
         requires sound { IsSound A.regions A.word self.old }
         requires whole { n % 16 ≡ 0 }
+        requires least { 32 ≤ n }
         requires small { n + 96 + self.old.granularity ≤ 2 ^ 64 }
         ensures ok { OnOk result (IsGrown A.regions A.word A.zeros A.follows self.old n self.new) }
         ensures err { OnErr result (IsAsItWas A.regions A.word A.follows A.refuses self.old self.new) }
@@ -76,6 +77,7 @@ impl<A: Allocator> Dlmalloc<A> {
         requires sound { IsSound A.regions A.word self.old }
         requires none { self.old.size ≡ 0 }
         requires whole { n % 16 ≡ 0 }
+        requires least { 32 ≤ n }
         requires small { n + 96 + self.old.granularity ≤ 2 ^ 64 }
         ensures ok { OnOk result (IsGrown A.regions A.word A.zeros A.follows self.old n self.new) }
         ensures err { OnErr result (IsAsItWas A.regions A.word A.follows A.refuses self.old self.new) }
@@ -86,6 +88,7 @@ impl<A: Allocator> Dlmalloc<A> {
         self.base = grant.base;
         self.size = grant.size;
         self.flags = grant.flags;
+        self.next = 0;
         self.top = grant.base;
         self.countdown = countdown_from(self.rate);
         self.trim_check = TRIM_THRESHOLD;
@@ -98,6 +101,7 @@ impl<A: Allocator> Dlmalloc<A> {
         requires sound { IsSound A.regions A.word self.old }
         requires there { 0 < self.old.size }
         requires whole { n % 16 ≡ 0 }
+        requires least { 32 ≤ n }
         requires small { n + 96 + self.old.granularity ≤ 2 ^ 64 }
         ensures ok { OnOk result (IsGrown A.regions A.word A.zeros A.follows self.old n self.new) }
         ensures err { OnErr result (IsAsItWas A.regions A.word A.follows A.refuses self.old self.new) }

@@ -1,17 +1,20 @@
 // Walking over the chunks before the top, and choosing the one that serves a request.
-ghost use Rattle.std.specs.Prelude.{◌≡◌, ◌≢◌, ℕ, ◌+◌, ◌<◌, ◌≤◌, ◌&&◌, nat_le, nat_lt, if◌then◌else◌, map, option_map, Some, None, IsTrue, IfSome, IsSome, ◌^◌, ◌↔◌, ◌++◌, OnOk, IfOk};
-ghost use Rattle.std.specs.List.{list_any};
+ghost use Rattle.std.specs.Prelude.{◌≡◌, ◌≢◌, ℕ, ◌+◌, ◌-◌, ◌<◌, ◌≤◌, ◌&&◌, nat_le, nat_lt, if◌then◌else◌, map, option_map, List, [], Some, None, IsTrue, IfSome, IsSome, ◌^◌, ◌↔◌, ◌++◌, OnOk, IfOk};
+ghost use Rattle.heap_memory.specs.Regions.{IsWordOf};
+ghost use Rattle.dlmalloc_chunks.specs.declared.extent.Extent.{Extent};
 ghost use Rattle.dlmalloc_chunks.specs.declared.extent.Kind.TheVariants.{Used, Free, Top};
-ghost use Rattle.dlmalloc_chunks.specs.Tiling.{AreExtents, has_byte};
+ghost use Rattle.dlmalloc_chunks.specs.Chunk.{HasHead};
 ghost use Rattle.dlmalloc.specs.Extents.{extent_at};
 ghost use Rattle.dlmalloc.specs.State.{is_plain, is_binned, shown, extents_in};
 ghost use Rattle.dlmalloc.specs.Choice.{least_fit, goes_first, chosen, IsChosen};
+ghost use Rattle.dlmalloc.specs.Walk.{chunk_told, chunks_between, IsChunkRun, Best};
 ghost use Rattle.dlmalloc.specs.declared.walk.Place.{Place};
 ghost use Rattle.dlmalloc.specs.declared.walk.Choice.TheVariants.{Chunk, Top as OfTop};
-ghost use Rattle.dlmalloc.specs.Heap.{chunks_of, state_of, IsSound};
+ghost use Rattle.dlmalloc.specs.Heap.{state_of, IsSound};
+ghost use Rattle.dlmalloc.specs.Served.{IsListed};
 
 use crate::heap::Dlmalloc;
-use crate::layout::{FOOT, LEAST_LARGE};
+use crate::layout::{BLOCK, FOOT, LEAST_LARGE};
 use dlmalloc_chunks::{Extent, ExtentList, Kind, chunk};
 use heap_memory::Allocator;
 use std::alloc::{AllocError, Global};
@@ -25,6 +28,19 @@ pub(crate) struct Place {
     pub(crate) at: u64,
     /// The number of its bytes.
     pub(crate) size: u64,
+}
+
+/// A segment that a record tells.
+#[derive(Clone, Copy)]
+struct Span {
+    /// Where its chunks begin.
+    from: u64,
+    /// Where they end, and its record begins.
+    to: u64,
+    /// The bytes of its record.
+    tail: u64,
+    /// The payload of the next segment's record, 0 where there is none.
+    next: u64,
 }
 
 /// What serves a request.
@@ -60,18 +76,36 @@ fn is_better(size: u64, best: Option<Place>) -> bool
 impl<A: Allocator> Dlmalloc<A> {
     /// The chunk that begins at an address, as its head tells it.
     fn chunk_at<L: Ledger>(&self, at: u64, steps: &mut Steps<L>) -> Extent
-        requires sound { IsSound A.regions A.word self.now }
-        requires there { 0 < self.now.size }
-        requires chunk { IsSome (extent_at at (chunks_of A.word self.now)) }
-        ensures value { extent_at at (chunks_of A.word self.now) ≡ Some result }
-        ensures long { 32 ≤ result.size }
-        ensures within { at + result.size ≤ self.now.top }
-        ensures below { self.now.top < 2 ^ 64 }
+        requires { HasHead (A.regions self.now.system) at }
+        ensures { result ≡ chunk_told (A.word self.now.system) at }
     {
         Extent {
             at,
             size: chunk::size(&self.system, at, steps),
             kind: kind_where(chunk::inuse(&self.system, at, steps)),
+        }
+    }
+
+    /// The segment that a record tells whose payload begins at an address.
+    fn span_at<L: Ledger>(&self, payload: u64, steps: &mut Steps<L>) -> Span
+        requires low { 16 < payload }
+        requires high { payload + 16 < 2 ^ 64 }
+        requires base { IsWordOf (A.regions self.now.system) payload }
+        requires size { IsWordOf (A.regions self.now.system) (payload + 8) }
+        requires next { IsWordOf (A.regions self.now.system) (payload + 16) }
+        requires ends { A.word self.now.system payload + A.word self.now.system (payload + 8) < 2 ^ 64 }
+        requires within { payload ≤ A.word self.now.system payload + A.word self.now.system (payload + 8) }
+        ensures { result ≡ record { from = A.word self.now.system payload; to = payload - 16; tail = A.word self.now.system payload + A.word self.now.system (payload + 8) - (payload - 16); next = A.word self.now.system (payload + 16) } }
+    {
+        let from = self.system.load_counted(payload, steps);
+        let size = self.system.load_counted(payload + 8, steps);
+        let next = self.system.load_counted(payload + 16, steps);
+        let to = payload - BLOCK;
+        Span {
+            from,
+            to,
+            tail: from + size - to,
+            next,
         }
     }
 
@@ -82,18 +116,21 @@ impl<A: Allocator> Dlmalloc<A> {
         is_plain(chunk.kind) && chunk.at != self.victim && n <= chunk.size
     }
 
-    /// The least chunk in a bin that has at least `n` bytes.
-    pub(crate) fn find_free<L: Ledger>(&self, n: u64, steps: &mut Steps<L>) -> Option<Place>
-        requires sound { IsSound A.regions A.word self.now }
-        requires there { 0 < self.now.size }
-        ensures least { least_fit (state_of A.word self.now) n ≡ option_map (λ place. place.size) result }
-        ensures there { IfSome result (λ place. extent_at place.at (chunks_of A.word self.now) ≡ Some (record { at = place.at; size = place.size; kind = Free })) }
-        ensures other { IfSome result (λ place. place.at ≢ self.now.victim) }
-        ensures fits { IfSome result (λ place. n ≤ place.size) }
+    /// The least chunk in a bin that has at least `n` bytes, of a range of chunks and of those passed before.
+    fn best_between<L: Ledger>(
+        &self,
+        from: u64,
+        to: u64,
+        n: u64,
+        so_far: Option<Place>,
+        steps: &mut Steps<L>,
+    ) -> Option<Place>
+        requires { IsChunkRun (A.regions self.now.system) (A.word self.now.system) from to }
+        ensures { (front : List Extent) → Best (state_of A.word self.now) n so_far front → Best (state_of A.word self.now) n result (front ++ chunks_between (A.word self.now.system) from to) }
     {
-        let mut best: Option<Place> = None;
-        let mut at = self.base;
-        while at < self.top {
+        let mut best = so_far;
+        let mut at = from;
+        while at < to {
             let chunk = self.chunk_at(at, steps);
             if self.is_fit(n, &chunk) && is_better(chunk.size, best) {
                 best = Some(Place {
@@ -102,6 +139,25 @@ impl<A: Allocator> Dlmalloc<A> {
                 });
             }
             at += chunk.size;
+        }
+        best
+    }
+
+    /// The least chunk in a bin that has at least `n` bytes.
+    pub(crate) fn find_free<L: Ledger>(&self, n: u64, steps: &mut Steps<L>) -> Option<Place>
+        requires sound { IsSound A.regions A.word self.now }
+        requires there { 0 < self.now.size }
+        ensures least { least_fit (state_of A.word self.now) n ≡ option_map (λ place. place.size) result }
+        ensures there { IfSome result (λ place. extent_at place.at (extents_in (state_of A.word self.now)) ≡ Some (record { at = place.at; size = place.size; kind = Free })) }
+        ensures other { IfSome result (λ place. place.at ≢ self.now.victim) }
+        ensures fits { IfSome result (λ place. n ≤ place.size) }
+    {
+        let mut best = self.best_between(self.base, self.top, n, None, steps);
+        let mut payload = self.next;
+        while payload != 0 {
+            let span = self.span_at(payload, steps);
+            best = self.best_between(span.from, span.to, n, best, steps);
+            payload = span.next;
         }
         best
     }
@@ -126,7 +182,7 @@ impl<A: Allocator> Dlmalloc<A> {
         requires least { 32 ≤ n }
         ensures none { result ≡ None → chosen (state_of A.word self.now) n ≡ None }
         ensures chunk { (place : Place) → result ≡ Some (Chunk place) → IsChosen (state_of A.word self.now) n (record { at = place.at; size = place.size; kind = Free }) }
-        ensures there { (place : Place) → result ≡ Some (Chunk place) → extent_at place.at (chunks_of A.word self.now) ≡ Some (record { at = place.at; size = place.size; kind = Free }) }
+        ensures there { (place : Place) → result ≡ Some (Chunk place) → extent_at place.at (extents_in (state_of A.word self.now)) ≡ Some (record { at = place.at; size = place.size; kind = Free }) }
         ensures fits { (place : Place) → result ≡ Some (Chunk place) → n ≤ place.size }
         ensures top { result ≡ Some OfTop → IsChosen (state_of A.word self.now) n (record { at = self.now.top; size = self.now.top_size; kind = Top }) }
         ensures top_fits { result ≡ Some OfTop → n < self.now.top_size }
@@ -158,18 +214,19 @@ impl<A: Allocator> Dlmalloc<A> {
         }
     }
 
-    /// Adds the chunks before the top to a list.
-    fn push_chunks<L: Ledger>(
+    /// Adds a range of chunks to a list.
+    fn push_between<L: Ledger>(
         &self,
         extents: &mut ExtentList,
+        from: u64,
+        to: u64,
         steps: &mut Steps<L>,
     ) -> Result<(), AllocError>
-        requires sound { IsSound A.regions A.word self.now }
-        requires there { 0 < self.now.size }
-        ensures ok { OnOk result (extents.new ≡ extents.old ++ map (shown (state_of A.word self.now)) (chunks_of A.word self.now)) }
+        requires { IsChunkRun (A.regions self.now.system) (A.word self.now.system) from to }
+        ensures ok { OnOk result (extents.new ≡ extents.old ++ map (shown (state_of A.word self.now)) (chunks_between (A.word self.now.system) from to)) }
     {
-        let mut at = self.base;
-        while at < self.top {
+        let mut at = from;
+        while at < to {
             let chunk = self.chunk_at(at, steps);
             extents.push(self.shown(chunk))?;
             at += chunk.size;
@@ -177,34 +234,56 @@ impl<A: Allocator> Dlmalloc<A> {
         Ok(())
     }
 
-    /// All extents, by ascending address: the chunks, as their heads tell them, and behind them the top and its foot. They tile
-    /// the segment: the first begins where it does, and each other one where the one before ends. A heap with no segment has
-    /// none. An `Err` means that memory ran out (own).
+    /// Adds the extents of all segments to a list with none, the head segment's first.
+    fn push_segments<L: Ledger>(
+        &self,
+        extents: &mut ExtentList,
+        steps: &mut Steps<L>,
+    ) -> Result<(), AllocError>
+        requires sound { IsSound A.regions A.word self.now }
+        requires there { 0 < self.now.size }
+        requires empty { extents.old ≡ [] }
+        ensures ok { OnOk result (extents.new ≡ map (shown (state_of A.word self.now)) (extents_in (state_of A.word self.now))) }
+    {
+        self.push_between(extents, self.base, self.top, steps)?;
+        extents.push(Extent {
+            at: self.top,
+            size: self.top_size,
+            kind: Kind::Top,
+        })?;
+        extents.push(Extent {
+            at: self.top + self.top_size,
+            size: FOOT,
+            kind: Kind::Foot,
+        })?;
+        let mut payload = self.next;
+        while payload != 0 {
+            let span = self.span_at(payload, steps);
+            self.push_between(extents, span.from, span.to, steps)?;
+            extents.push(Extent {
+                at: span.to,
+                size: span.tail,
+                kind: Kind::Record,
+            })?;
+            payload = span.next;
+        }
+        Ok(())
+    }
+
+    /// All extents, segment by segment, the head first: its chunks, as their heads tell them, and behind them its tail. They
+    /// tile the segment: the first begins where it does, and each other one where the one before ends. A heap with no segment
+    /// has none. An `Err` means that memory ran out (own).
     pub fn extents<L: Ledger>(
         &self,
         alloc: Global,
         steps: &mut Steps<L>,
     ) -> Result<ExtentList, AllocError>
         requires sound { IsSound A.regions A.word self.now }
-        ensures extents { IfOk result (λ list. list ≡ map (shown (state_of A.word self.now)) (extents_in (state_of A.word self.now))) }
-        ensures tiled { IfOk result (λ list. AreExtents list) }
-        ensures bytes { IfOk result (λ list. (address : ℕ) → list_any (has_byte address) list ≡ (nat_le self.now.base address && nat_lt address (self.now.base + self.now.size))) }
-        // the search of the list and that of the state find the same
-        ensures found { IfOk result (λ list. (at : ℕ) → extent_at at list ≡ option_map (shown (state_of A.word self.now)) (extent_at at (extents_in (state_of A.word self.now)))) }
+        ensures { IfOk result (λ list. IsListed A.word self.now list) }
     {
         let mut extents = ExtentList::new(alloc);
         if self.size > 0 {
-            self.push_chunks(&mut extents, steps)?;
-            extents.push(Extent {
-                at: self.top,
-                size: self.top_size,
-                kind: Kind::Top,
-            })?;
-            extents.push(Extent {
-                at: self.top + self.top_size,
-                size: FOOT,
-                kind: Kind::Foot,
-            })?;
+            self.push_segments(&mut extents, steps)?;
         }
         Ok(extents)
     }

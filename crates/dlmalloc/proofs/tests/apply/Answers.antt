@@ -45,7 +45,7 @@ c_free-requires-clause-block g c =
     let state = state_of word_of heap in
     let address = c.in-Free.address in
     let kind : option_map (λ (extent : Extent). extent.kind) (extent_at (address - 16) (map (shown state) (extents_in state))) ≡ Some Used =
-    ap (λ (l : List Extent). option_map (λ (extent : Extent). extent.kind) (extent_at (address - 16) l)) (sym (c.as_slice.ensures ∙ c.in_ok-extents-in-Free.ensures.extents))
+    ap (λ (l : List Extent). option_map (λ (extent : Extent). extent.kind) (extent_at (address - 16) l)) (sym (c.as_slice.ensures ∙ c.in_ok-extents-in-Free.ensures.is))
     ∙ sym c.kind_at.ensures ∙ c.in-Some-Used.is ∙ ap Some c.in-Some-Used.field-0-is in
     let block = listed state (address - 16) (extents_in state) kind in
     let place : block.used.at ≡ address - 16 = (found (address - 16) block.used (extents_in state) block.there).place in

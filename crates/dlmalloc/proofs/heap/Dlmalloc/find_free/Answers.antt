@@ -1,53 +1,68 @@
-use Rattle.std.proofs.Common.{◌≡◌, ◌∙◌, ap, sym, subst, Option, Some, [], ◌∷◌, ◌++◌, ℕ}
-use Rattle.std.specs.Option.{is_some}
-use Rattle.dlmalloc.specs.Extents.{extent_at}
-use Rattle.dlmalloc.specs.Heap.{chunks_of, state_of}
-use Rattle.dlmalloc.specs.declared.walk.Place.{Place}
-use Rattle.dlmalloc.proofs.Walking.{begins, used_or_free, place, found_last, onward, all_passed}
-use Rattle.dlmalloc.proofs.Least.{Best, best_kept, best_no_less, best_new}
-use Rattle.dlmalloc.proofs.AllExtents.{least_is}
+use Rattle.std.specs.Prelude.{length}
+use Rattle.std.proofs.Common.{◌∙◌, ◌+◌, ◌-◌, ◌^◌, ◌<◌, ap, sym, subst, refl, List, [], ◌∷◌, ◌++◌, ℕ, append_assoc}
+use Rattle.dlmalloc_chunks.specs.declared.extent.Extent.{Extent}
+use Rattle.dlmalloc_chunks.specs.declared.extent.Kind.TheVariants.{Top, Foot}
+use Rattle.dlmalloc.specs.State.{extents_in}
+use Rattle.dlmalloc.specs.Segments.{record_of, records_from}
+use Rattle.dlmalloc.specs.Walk.{Best, chunks_between, IsChunkRun}
+use Rattle.dlmalloc.specs.declared.walk.Span.{Span}
+use Rattle.dlmalloc.specs.Heap.{segments_of, state_of}
+use Rattle.dlmalloc.proofs.Places.{extent}
+use Rattle.dlmalloc.proofs.Segments.{extents_all, all_distinct}
+use Rattle.dlmalloc.proofs.Walking.{head_run, head_passed, PassedSegments, span_fits, payload_run, onward_segment, fewer_left, all_segments}
+use Rattle.dlmalloc.proofs.Least.{none_best, best_beside, best_found}
 use Rattle.dlmalloc.proofs.heap.Dlmalloc.find_free.Goals as goal
-use Rattle.dlmalloc.proofs.heap.Dlmalloc.find_free.Goals.{then-is_fit+then-is_better, else-is_fit, else-is_fit-via-then-is_fit+else-is_better, else-is_fit-via-else-is_fit}
 
-pub chunk_at-chunk-requires-clause-chunk : goal.chunk_at-chunk-requires-clause-chunk
-chunk_at-chunk-requires-clause-chunk g c =
-    ap is_some (begins (g.A.Links.word c.args.self.now.system) c.args.self.now.base (chunks_of g.A.Links.word c.args.self.now) c.args.self.now.top c.loop-at.at _ c.loop-at-test.true c.loop-at.invariant)
+pub best_between-best-requires : goal.best_between-best-requires
+best_between-best-requires g c = head_run g.A.Links.regions g.A.Links.word c.args.self.now c.requires.sound c.requires.there
 
-pub loop-at-preserved : goal.loop-at-preserved
-loop-at-preserved g c =
+pub loop-payload-init : goal.loop-payload-init
+loop-payload-init g c =
+    let heap = c.args.self.now in
+    let state = state_of g.A.Links.word heap in
+    let tail = extent heap.top heap.top_size Top ∷ extent (heap.top + heap.top_size) 80 Foot ∷ [] in
+    head_passed g.A.Links.regions g.A.Links.word heap c.requires.sound c.requires.there _ (λ segment base t.
+    subst (λ (es : List Extent). Best state c.args.n c.best_between-best.result es) (sym (t.is ∙ ap (λ (b : ℕ). chunks_between (g.A.Links.word heap.system) b heap.top ++ tail) base))
+    (best_beside state c.args.n c.best_between-best.result (chunks_between (g.A.Links.word heap.system) heap.base heap.top) tail (c.best_between-best.ensures [] (none_best state c.args.n)) refl))
+
+pub span_at-span-requires : goal.span_at-span-requires
+span_at-span-requires g c =
+    let s = span_fits g.A.Links.regions g.A.Links.word c.args.self.now c.requires.sound c.loop-payload.payload _ c.loop-payload.invariant c.loop-payload-test.true in
+    record { low = s.low; high = s.high; base = s.base; size = s.size; next = s.next; ends = s.ends; within = s.within }
+
+pub best_between-best-requires-in-loop-payload : goal.best_between-best-requires-in-loop-payload
+best_between-best-requires-in-loop-payload g c =
     let words = g.A.Links.word c.args.self.now.system in
-    let base = c.args.self.now.base in
-    let chunks = chunks_of g.A.Links.word c.args.self.now in
-    let top = c.args.self.now.top in
-    let at = c.loop-at.at in
-    let chunk = c.chunk_at-chunk.result in
-    let heap = state_of g.A.Links.word c.args.self.now in
-    let n = c.args.n in
-    let best = c.loop-at.best in
-    let before = c.loop-at.invariant in
-    let front = before.front in
-    let known = Best heap n best in
-    let more = c.loop-at-test.true in
-    let is = c.chunk_at-chunk.ensures.value in
-    onward words base chunks top at known more before chunk is (Best heap n c.if-is_fit.best) (
-    elim c.if-is_fit.branch [
-      | then-is_fit+then-is_better w ↦
-          let e = place words base chunks top at known more before chunk is in
-          let there = subst (λ (a : ℕ). extent_at a (front ++ chunk ∷ []) ≡ Some chunk) (sym e) (found_last words base chunks top at known more before chunk is) in
-          subst (λ (b : Option Place). Best heap n b (front ++ chunk ∷ [])) (sym w.best-is)
-          (subst (λ (a : ℕ). Best heap n (Some (record { at = a; size = chunk.size })) (front ++ chunk ∷ [])) e (best_new heap n front chunk best before.so_far (sym c.is_fit.ensures ∙ w.if-is_fit.true) (w.is_better.ensures.0 w.if-is_better.true) (used_or_free words base chunks top at known more before chunk is) there))
-      | else-is_fit w ↦ subst (λ (b : Option Place). Best heap n b (front ++ chunk ∷ [])) (sym w.best-is) (elim w.else-is_fit.branch [
-        | else-is_fit-via-then-is_fit+else-is_better w' ↦ best_no_less heap n front chunk best before.so_far (sym c.is_fit.ensures ∙ w'.if-is_fit.true) (λ less. (let yes = w'.is_better.ensures.1 less in let no = w'.if-is_better.false in absurd (cc)))
-        | else-is_fit-via-else-is_fit w' ↦ best_kept heap n front chunk best before.so_far (sym c.is_fit.ensures ∙ w'.if-is_fit.false)
-      ])
-    ])
+    let span = c.span_at-span.ensures in
+    let run = payload_run g.A.Links.regions g.A.Links.word c.args.self.now c.requires.sound c.loop-payload.payload _ c.loop-payload.invariant c.loop-payload-test.true in
+    subst (λ (s : Span). IsChunkRun (g.A.Links.regions c.args.self.now.system) words s.from s.to) (sym span) run
 
-pub returns-clause-least : goal.returns-clause-least
-returns-clause-least g c =
-    let best = all_passed (g.A.Links.word c.args.self.now.system) c.args.self.now.base (chunks_of g.A.Links.word c.args.self.now) c.args.self.now.top c.loop-at.at (Best (state_of g.A.Links.word c.args.self.now) c.args.n c.loop-at.best) c.loop-at-test.false c.loop-at.invariant in
-    least_is g.A.Links.word c.args.self.now c.requires.there c.args.n ∙ best.least
+pub loop-payload-smaller : goal.loop-payload-smaller
+loop-payload-smaller g c =
+    let words = g.A.Links.word c.args.self.now.system in
+    subst (λ (s : Span). length (records_from words (2 ^ 64) s.next) < length (records_from words (2 ^ 64) c.loop-payload.payload)) (sym c.span_at-span.ensures)
+    (fewer_left g.A.Links.regions g.A.Links.word c.args.self.now c.requires.sound c.loop-payload.payload _ c.loop-payload.invariant c.loop-payload-test.true)
 
-pub returns-clause-there : goal.returns-clause-there
-returns-clause-there g c =
-    let best = all_passed (g.A.Links.word c.args.self.now.system) c.args.self.now.base (chunks_of g.A.Links.word c.args.self.now) c.args.self.now.top c.loop-at.at (Best (state_of g.A.Links.word c.args.self.now) c.args.n c.loop-at.best) c.loop-at-test.false c.loop-at.invariant in
-    best.there
+pub loop-payload-preserved : goal.loop-payload-preserved
+loop-payload-preserved g c =
+    let heap = c.args.self.now in
+    let words = g.A.Links.word heap.system in
+    let state = state_of g.A.Links.word heap in
+    let payload = c.loop-payload.payload in
+    let p = c.loop-payload.invariant in
+    let best = c.best_between-best-in-loop-payload.result in
+    let front = extents_all p.passed in
+    let tail = record_of (payload - 16) (words payload + words (payload + 8)) ∷ [] in
+    let found : Best state c.args.n best (front ++ chunks_between words (words payload) (payload - 16)) =
+    subst (λ (s : Span). Best state c.args.n best (front ++ chunks_between words s.from s.to)) c.span_at-span.ensures (c.best_between-best-in-loop-payload.ensures front p.so_far) in
+    subst (λ (s : Span). PassedSegments g.A.Links.word heap s.next (Best state c.args.n best)) (sym c.span_at-span.ensures)
+    (onward_segment g.A.Links.regions g.A.Links.word heap c.requires.sound payload _ p c.loop-payload-test.true (Best state c.args.n best)
+    (subst (Best state c.args.n best) (append_assoc front (chunks_between words (words payload) (payload - 16)) tail) (best_beside state c.args.n best (front ++ chunks_between words (words payload) (payload - 16)) tail found refl)))
+
+pub returns : goal.returns
+returns g c =
+    let heap = c.args.self.now in
+    let state = state_of g.A.Links.word heap in
+    let best = all_segments g.A.Links.regions g.A.Links.word heap c.requires.sound c.loop-payload.payload _ c.loop-payload.invariant c.loop-payload-test.false in
+    let distinct = all_distinct (g.A.Links.regions heap.system) (g.A.Links.word heap.system) (segments_of g.A.Links.word heap) c.requires.sound.segments c.requires.sound.apart in
+    record { least = best.least; there = best_found state c.args.n c.loop-payload.best (extents_in state) distinct best; other = best.other; fits = best.fits }

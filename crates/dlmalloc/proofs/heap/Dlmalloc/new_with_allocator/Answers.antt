@@ -4,7 +4,11 @@ use Rattle.dlmalloc.proofs.heap.Dlmalloc.new_with_allocator.Goals as goal
 pub returns-clause-sound : goal.returns-clause-sound
 returns-clause-sound g c = record {
   granularity = ((16, refl), omega arith);
-  none = λ empty. (refl, refl);
+  segments = tt;
+  apart = tt;
+  told = refl;
+  none = λ empty. refl;
   no_victim = λ none. refl;
-  some = λ more. absurd (omega (arith, more));
+  victim = λ some. absurd (some refl);
+  last = λ more. absurd (omega (arith, more));
 }

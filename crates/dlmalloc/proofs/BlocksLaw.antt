@@ -1,0 +1,97 @@
+-- That blocks keep their words follows from the clause on words, where both heaps are sound.
+use Rattle.std.proofs.Common.{◌≡◌, ℕ, ◌+◌, ◌/◌, ◌<◌, ◌≤◌, ◌⊎◌, inl, inr, Bool, true, false, ◌==◌, if◌then◌else◌, List, [], ◌∷◌, Option, Some, IsTrue, sym, ◌∙◌, ap, subst, arith}
+use Rattle.std.specs.Prelude.{unwrap_or}
+use Rattle.std.specs.List.{AllByRecursion}
+use Rattle.heap_memory.specs.declared.grant.Grant.{Grant}
+use Rattle.dlmalloc_chunks.specs.declared.extent.Extent.{Extent}
+use Rattle.dlmalloc_chunks.specs.declared.extent.Kind.{Kind}
+use Rattle.dlmalloc_chunks.specs.declared.extent.Kind.TheVariants.{Used, Free, Victim, Top, Record, Foot}
+use Rattle.dlmalloc_chunks.specs.Tiling.{extent_at}
+use Rattle.dlmalloc.specs.Extents.{is_used}
+use Rattle.dlmalloc.specs.State.{Segment, extents_in, is_plain}
+use Rattle.dlmalloc.specs.Boundaries.{OnlyBoundariesChange}
+use Rattle.dlmalloc.specs.Blocks.{KeepsBlocks}
+use Rattle.dlmalloc.proofs.Places.{found_either}
+use Rattle.dlmalloc.specs.Moves.{IsSpared, AllSpare}
+use Rattle.dlmalloc.specs.Segments.{IsSegment, AreSegments, IsApartFrom, AreApart}
+use Rattle.dlmalloc.specs.Heap.{segments_of, state_of, IsSound}
+use Rattle.dlmalloc.specs.declared.heap.Dlmalloc.{Dlmalloc}
+use Rattle.dlmalloc.proofs.Spared.{spared_before, spared_behind, spared_append, inner_spared}
+use Rattle.dlmalloc.proofs.Moving.{standing, half}
+use Rattle.dlmalloc.proofs.Segments.{extents_all, located, of_located}
+
+-- a word of a segment is at no boundary of others
+spared_beside : (regions : List Grant) (words : ℕ → ℕ) (segment : Segment) (segments : List Segment) → AreSegments regions words segments → AllByRecursion (IsApartFrom segment) segments →
+    (k : ℕ) → segment.base < k → k < segment.base + segment.size → AllSpare (extents_all segments) k
+spared_beside regions words segment [] parts apart k low high = tt
+spared_beside regions words segment (other ∷ segments) parts apart k low high =
+    spared_append other.extents (extents_all segments) k
+    (elim (apart.0) [
+      | inl before ↦ spared_before words Used other.base other.extents (other.base + other.size) k parts.0.extents (omega arith)
+      | inr behind ↦ spared_behind words Used other.base other.extents (other.base + other.size) k parts.0.extents (omega arith)
+    ])
+    (spared_beside regions words segment segments parts.1 apart.1 k low high)
+
+-- nor is a word of a block at one of any
+all_spared : (regions : List Grant) (words : ℕ → ℕ) (segments : List Segment) → AreSegments regions words segments → AreApart segments → (block : Extent) → extent_at block.at (extents_all segments) ≡ Some block → block.kind ≡ Used →
+    (k : ℕ) → block.at + 16 ≤ k → k < block.at + block.size + 8 → AllSpare (extents_all segments) k
+all_spared regions words [] parts apart block there used k low high = tt
+all_spared regions words (segment ∷ segments) parts apart block there used k low high =
+    elim (found_either block.at segment.extents (extents_all segments) block there) [
+      | inl here ↦ (let is = standing words Used segment.base segment.extents (segment.base + segment.size) block parts.0.extents parts.0.tail here used in
+          let from = is.low in let to = is.high in
+          spared_append segment.extents (extents_all segments) k (inner_spared words Used segment.base segment.extents (segment.base + segment.size) block parts.0.extents here (ap is_used used) k low high)
+          (spared_beside regions words segment segments parts.1 apart.0 k (omega arith) (omega arith)))
+      | inr later ↦ (let l = located block.at block segments later.1 in
+          let p = of_located (IsSegment regions words) block.at block segments l parts.1 in
+          let is = standing words Used l.segment.base l.segment.extents (l.segment.base + l.segment.size) block p.extents p.tail l.there used in
+          let from = is.low in let to = is.high in
+          spared_append segment.extents (extents_all segments) k
+          (elim (of_located (IsApartFrom segment) block.at block segments l apart.0) [
+            | inl before ↦ spared_behind words Used segment.base segment.extents (segment.base + segment.size) k parts.0.extents (omega arith)
+            | inr behind ↦ spared_before words Used segment.base segment.extents (segment.base + segment.size) k parts.0.extents (omega arith)
+          ])
+          (all_spared regions words segments parts.1 apart.1 block later.1 used k low high))
+    ]
+
+spared_found : (extents : List Extent) (k at : ℕ) (one : Extent) → AllSpare extents k → extent_at at extents ≡ Some one → IsSpared k one.kind one.at one.size
+spared_found [] k at one spared there = absurd (cc)
+spared_found (extent ∷ extents) k at one spared there = go (extent.at == at) there (λ later. spared_found extents k at one spared.1 later)
+  where
+    go : (b : Bool) → (if b then Some extent else extent_at at extents) ≡ Some one → (extent_at at extents ≡ Some one → IsSpared k one.kind one.at one.size) → IsSpared k one.kind one.at one.size
+    go true same later = subst (λ (e : Extent). IsSpared k e.kind e.at e.size) (ap (λ (o : Option Extent). unwrap_or o extent) same) spared.0
+    go false found later = later found
+
+no_boundary : (k : ℕ) (kind : Kind) (at size : ℕ) → IsSpared k kind at size → (k ≡ at + 8) ⊎ (IsTrue (is_plain kind) × (k ≡ at + size)) → ⊥
+no_boundary k Used at size h is = elim is [ inl a ↦ h a | inr b ↦ (let p = b.0 in cc) ]
+no_boundary k Free at size h is = elim is [ inl a ↦ h.0 a | inr b ↦ h.1 b.1 ]
+no_boundary k Victim at size h is = elim is [ inl a ↦ h.0 a | inr b ↦ h.1 b.1 ]
+no_boundary k Top at size h is = elim is [ inl a ↦ h a | inr b ↦ (let p = b.0 in cc) ]
+no_boundary k Record at size h is = elim is [ inl a ↦ h a | inr b ↦ (let p = b.0 in cc) ]
+no_boundary k Foot at size h is = elim is [ inl a ↦ h a | inr b ↦ (let p = b.0 in cc) ]
+
+pub blocks_law : {A : Type 0} (regions : A → List Grant) (word : A → ℕ → ℕ) (old new : Dlmalloc A) → IsSound regions word old → IsSound regions word new →
+    OnlyBoundariesChange (regions old.system) (state_of word new) (word old.system) (word new.system) → (blocks : List Extent) →
+    ((block : Extent) → extent_at block.at blocks ≡ Some block → block.kind ≡ Used → (extent_at block.at (extents_in (state_of word old)) ≡ Some block) × (extent_at block.at (extents_in (state_of word new)) ≡ Some block)) →
+    KeepsBlocks blocks (word old.system) (word new.system)
+blocks_law regions word old new sound sound' same blocks both = record {
+  words = λ block there used k low high m.
+      let b = both block there used in
+      let l = located block.at block (segments_of word old) b.0 in
+      let p = of_located (IsSegment (regions old.system) (word old.system)) block.at block (segments_of word old) l sound.segments in
+      let is = standing (word old.system) Used l.segment.base l.segment.extents (l.segment.base + l.segment.size) block p.extents p.tail l.there used in
+      let from = is.low in let to = is.high in
+      let spared = all_spared (regions new.system) (word new.system) (segments_of word new) sound'.segments sound'.apart block b.1 used k low high in
+      same k (record { granted = p.run.covered k (omega arith) (omega arith); aligned = m })
+      (λ boundary. no_boundary k boundary.extent.kind boundary.extent.at boundary.extent.size (spared_found (extents_in (state_of word new)) k boundary.extent.at boundary.extent spared boundary.there) boundary.is);
+  heads = λ block there used.
+      let b = both block there used in
+      let l = located block.at block (segments_of word old) b.0 in
+      let l' = located block.at block (segments_of word new) b.1 in
+      let p = of_located (IsSegment (regions old.system) (word old.system)) block.at block (segments_of word old) l sound.segments in
+      let p' = of_located (IsSegment (regions new.system) (word new.system)) block.at block (segments_of word new) l' sound'.segments in
+      let is = standing (word old.system) Used l.segment.base l.segment.extents (l.segment.base + l.segment.size) block p.extents p.tail l.there used in
+      let was = standing (word new.system) Used l'.segment.base l'.segment.extents (l'.segment.base + l'.segment.size) block p'.extents p'.tail l'.there used in
+      let whole = is.size_whole in
+      ap (λ (w : ℕ). w / 2) was.head ∙ (half block.size was.before is.before (omega arith) ∙ ap (λ (w : ℕ). w / 2) (sym is.head));
+}

@@ -1,0 +1,14 @@
+use Rattle.std.proofs.Common.{◌≡◌, ◌^◌, List, map}
+use Rattle.std.specs.Prelude.{length}
+use Rattle.dlmalloc_chunks.specs.declared.extent.Extent.{Extent}
+use Rattle.dlmalloc.specs.Segments.{records_from}
+use Rattle.dlmalloc.specs.State.{shown}
+use Rattle.dlmalloc.specs.Heap.{state_of}
+use Rattle.dlmalloc.proofs.Walking.{PassedSegments}
+use Rattle.dlmalloc.proofs.heap.Dlmalloc.push_segments.Given as goal
+
+abbrev pub invariant-loop-payload : goal.invariant-loop-payload
+invariant-loop-payload g l = PassedSegments g.A.Links.word l.self l.payload (λ (passed : List Extent). l.extents ≡ map (shown (state_of g.A.Links.word l.self)) passed)
+
+abbrev pub decreases-loop-payload : goal.decreases-loop-payload
+decreases-loop-payload g l = length (records_from (g.A.Links.word l.self.system) (2 ^ 64) l.payload)

@@ -1,0 +1,43 @@
+// Laws of a sound heap, as calls that do nothing: a caller has them without a field of the heap.
+ghost use Rattle.std.specs.List.{AllByRecursion};
+ghost use Rattle.dlmalloc.specs.Blocks.{ArePlaced, BlocksAreApart};
+ghost use Rattle.dlmalloc.specs.FreeExtents.{AreParted, IsUnused, EachHasOneFree};
+ghost use Rattle.dlmalloc.specs.Heap.{state_of, IsSound};
+ghost use Rattle.dlmalloc.specs.Served.{RestsOutside};
+
+use crate::heap::Dlmalloc;
+use heap_memory::Allocator;
+
+impl<A: Allocator> Dlmalloc<A> {
+    /// Each block is at a multiple of 16, and its bytes are granted, one where it has none (own).
+    pub fn blocks_are_placed(&self)
+        requires { IsSound A.regions A.word self.now }
+        ensures { ArePlaced (A.regions self.now.system) (state_of A.word self.now) }
+    {}
+
+    /// Two blocks have no byte in common, one where they have none, and behind each there are 8 bytes before the next
+    /// block's head ends (own).
+    pub fn blocks_are_apart(&self)
+        requires { IsSound A.regions A.word self.now }
+        ensures { BlocksAreApart (state_of A.word self.now) }
+    {}
+
+    /// A sound heap rests on the regions of its segments, and on their words outside of blocks: what is done through
+    /// `allocator_mut` leaves it sound and in its state where it leaves these, and where the next region is granted (own).
+    pub fn rests_outside(&self)
+        ensures { RestsOutside A.regions A.word self.now }
+    {}
+
+    /// Between two free extents of a segment stands one in use (own).
+    pub fn free_extents_are_parted(&self)
+        requires { IsSound A.regions A.word self.now }
+        ensures { AllByRecursion (λ segment. AreParted segment.extents) (state_of A.word self.now).segments }
+    {}
+
+    /// Where no extent is in use, each segment has one free extent, the head's being its top (own).
+    pub fn unused_segments_are_free(&self)
+        requires sound { IsSound A.regions A.word self.now }
+        requires unused { IsUnused (state_of A.word self.now) }
+        ensures { EachHasOneFree (state_of A.word self.now).segments }
+    {}
+}
