@@ -1,19 +1,23 @@
 -- Worked values: the definitions computed on the numbers of a few runs.
-use Rattle.std.proofs.Common.{◌≡◌, ◌-◌, ◌^◌, [], ◌∷◌, length, refl, Some, None}
+use Rattle.std.proofs.Common.{◌≡◌, ◌-◌, ◌^◌, List, [], ◌∷◌, length, refl, ◌*◌, true, false, Some, None, arith}
+use Rattle.heap_model.specs.declared.region.Region.{Region}
 use Rattle.heap_model.specs.declared.config.Config.{Config}
-use Rattle.heap_model.specs.declared.call.Call.TheVariants.{Malloc}
-use Rattle.heap_model.specs.declared.answer.Reply.TheVariants.{Block as Placed}
+use Rattle.heap_model.specs.declared.call.Call.TheVariants.{Malloc, Free as Freeing, Read}
+use Rattle.heap_model.specs.declared.answer.Reply.TheVariants.{Block as Placed, Done, Bytes}
 use Rattle.heap_model.specs.declared.answer.Refusal.TheVariants.{TooLarge}
 use Rattle.heap_model.specs.declared.answer.Answer.{Answer}
+use Rattle.dlmalloc_chunks.specs.declared.extent.Extent.{Extent}
+use Rattle.dlmalloc_chunks.specs.declared.extent.Kind.TheVariants.{Free, Top, Record, Foot}
 use Rattle.paging_core.specs.Prefix.{prefix_of, prefixes_from, prefixes_of}
 use Rattle.dlmalloc_chunks.specs.Request.{padded, limit}
 use Rattle.heap_model.specs.Request.{enlarged, wanted, pages_in, pages_for}
 use Rattle.heap_model.specs.State.{State, start, block_at}
 use Rattle.heap_model.specs.Tables.{missing, with_tables, free_frames}
-use Rattle.heap_model.specs.Place.{place}
+use Rattle.heap_model.specs.Place.{place, all_regions}
 use Rattle.heap_model.specs.Room.{heap_region}
+use Rattle.heap_model.specs.Extents.{AreRuns, IsTiling}
 use Rattle.heap_model.specs.Refusal.{must_refuse}
-use Rattle.heap_model.specs.Answer.{after}
+use Rattle.heap_model.specs.Answer.{after, IsAllowed}
 
 -- chunks
 
@@ -129,21 +133,65 @@ one-block : block_at one.blocks 0 ≡ Some (record { address = 0x400010; size = 
 unfolding one first config
 one-block = refl
 
-place-first : place (start config) 16 ≡ Some 0x400000
+place-first : place config.base config.pages [] 16 ≡ Some 0x400000
 unfolding place config
 place-first = refl
 
-place-next : place one 16 ≡ Some 0x410000
+place-next : place config.base config.pages (all_regions one) 16 ≡ Some 0x410000
 unfolding place one first config
 place-next = refl
 
-place-whole : place (start config) 1024 ≡ Some 0x400000
+place-whole : place config.base config.pages [] 1024 ≡ Some 0x400000
 unfolding place config
 place-whole = refl
 
-place-none : place (start config) 1025 ≡ None
+place-none : place config.base config.pages [] 1025 ≡ None
 unfolding place config
 place-none = refl
+
+-- its block ends: the heap is all top and foot, and no record ends a segment in the middle of the region
+
+freed : State
+freed = after one (Freeing 0) (record { reply = Done; regions = None })
+
+whole-region : List Extent
+whole-region = record { at = 0x400000; size = 65456; kind = Top } ∷ record { at = 0x40ffb0; size = 80; kind = Foot } ∷ []
+
+with-record : List Extent
+with-record =
+    record { at = 0x400000; size = 32; kind = Free } ∷ record { at = 0x400020; size = 80; kind = Record }
+    ∷ record { at = 0x400070; size = 65344; kind = Top } ∷ record { at = 0x40ffb0; size = 80; kind = Foot } ∷ []
+
+runs-whole : AreRuns freed.heap true whole-region
+unfolding freed one first config whole-region
+runs-whole = ((λ begins. refl), (λ ends. ends), ((λ begins. begins), (λ ends. refl), tt))
+
+no-runs-with-record : AreRuns freed.heap true with-record → ⊥
+unfolding freed one first config with-record
+no-runs-with-record runs = let inside : false ≡ true = runs.2.1 refl in cc
+
+no-tiling-with-record : IsTiling freed with-record → ⊥
+no-tiling-with-record tiling = no-runs-with-record tiling.runs
+
+-- a gap of two pages between a heap region and a user region serves two pages, and three go behind the user region
+
+between : List Region
+between =
+    heap_region (4096 * 1024) 16 ∷ record { start = 4096 * 1042; pages = 1; heap = false; rights = record { write = true; user = true; fetch = false } } ∷ []
+
+place-between : place (4096 * 1024) 30 between 2 ≡ Some (4096 * 1040)
+unfolding place between
+place-between = refl
+
+place-behind : place (4096 * 1024) 30 between 3 ≡ Some (4096 * 1043)
+unfolding place between
+place-behind = refl
+
+no-place-behind : place (4096 * 1024) 19 between 3 ≡ None
+unfolding place between
+no-place-behind = refl
+
+-- refusals
 
 refused-large : must_refuse (start config) (Malloc 0xFFFFFFFFFFFEFF99 16) ≡ Some TooLarge
 unfolding config limit
@@ -152,3 +200,7 @@ refused-large = refl
 not-refused : must_refuse (start config) (Malloc 0xFFFFFFFFFFFEFF98 16) ≡ None
 unfolding config limit
 not-refused = refl
+
+-- no state allows a read that answers a number that is no byte
+no-byte : (s : State) → IsAllowed s (Read 0 0 1) (record { reply = Bytes (300 ∷ []); regions = None }) → ⊥
+no-byte s allowed = let byte = allowed.reply.1.2.0 in omega arith

@@ -15,13 +15,13 @@ use Rattle.paging_core.specs.Missing.{is_missing, missing_of}
 use Rattle.heap_model.specs.declared.region.Region.{Region}
 use Rattle.heap_model.specs.State.{State, is_within, total_pages}
 use Rattle.heap_model.specs.Tables.{has_table, missing, with_tables, used_frames, free_frames}
-use Rattle.heap_model.specs.Place.{meets, meets_any, with_region, all_regions, Fits}
+use Rattle.heap_model.specs.Place.{meets, meets_any, with_region, all_regions, IsFit}
 use Rattle.heap_model.specs.Room.{heap_region}
 use Rattle.heap_model.specs.Answer.{is_new}
 use Rattle.heap_model.specs.Run.{IsGood, IsGoodBlock, IsHeapRegion, IsUserRegion}
 use Rattle.heap_model.specs.Machine.{Paged, IsPagedGrant, Seen, Stands, region_at, rights_of}
 use Rattle.heap_model.proofs.Booleans.{or_false, or_left, or_right, or_cases, or_neither, neither_or}
-use Rattle.heap_model.proofs.Regions.{within, not_within, all_with, pages_with, any_with, find_without, find_alone, in_order_with, none_within}
+use Rattle.heap_model.proofs.Regions.{within, not_within, all_with, pages_with, any_with, any_all, find_without, find_alone, in_order_with, none_within}
 use Rattle.heap_model.proofs.Tables.{same_refl, has_table-with_tables, length-with_tables, IsPrefixOf, prefixes_have, have_prefixes}
 
 -- the state with one region more of the heap
@@ -29,6 +29,10 @@ abbrev pub granted : State → ℕ → ℕ → State
 granted s address pages = record s { heap = with_region (heap_region address pages) s.heap; tables = with_tables s.tables address pages }
 
 -- ---- the state is good
+
+-- pages that meet no region meet none of the heap, and none of the user
+pub clear_of : (s : State) (pages address : ℕ) → IsFit s.base s.pages (all_regions s) pages address → (meets_any address pages s.heap ≡ false) × (meets_any address pages s.users ≡ false)
+clear_of s pages address fit = neither_or (meets_any address pages s.heap) (meets_any address pages s.users) (sym (any_all (meets address pages) s.heap s.users) ∙ fit.clear)
 
 -- meeting goes both ways
 meets_back : (address pages : ℕ) (region : Region) → meets address pages region ≡ false → meets region.start region.pages (heap_region address pages) ≡ false
@@ -45,9 +49,10 @@ users_beside address pages heap (first ∷ rest) clear all =
     ∙ or_neither (meets first.start first.pages (heap_region address pages)) (meets_any first.start first.pages heap) (meets_back address pages first parts.0) all.0.2 in
     ((all.0.0, all.0.1, joined), users_beside address pages heap rest parts.1 all.1)
 
-pub good_granted : (s : State) (address pages : ℕ) → IsGood s → IsCanonicalRange (address / 4096) pages → Fits s pages address →
+pub good_granted : (s : State) (address pages : ℕ) → IsGood s → IsCanonicalRange (address / 4096) pages → IsFit s.base s.pages (all_regions s) pages address →
     pages + missing s.tables address pages ≤ free_frames s → IsGood (granted s address pages)
-good_granted s address pages good range fits few =
+good_granted s address pages good range fit few =
+    let clear = clear_of s pages address fit in
     let total : total_pages (with_region (heap_region address pages) s.heap) ≡ pages + total_pages s.heap = pages_with (heap_region address pages) s.heap in
     let tables : length (with_tables s.tables address pages) ≡ length s.tables + missing s.tables address pages = length-with_tables s.tables address pages in
     let some : 0 < pages = range.some in
@@ -61,10 +66,10 @@ good_granted s address pages good range fits few =
             ∙ or_right (is_within (block.address + k) (heap_region address pages)) (list_any (is_within (block.address + k)) s.heap) (was.granted k less);
       });
       apart = good.apart;
-      heap_order = in_order_with (heap_region address pages) s.heap some good.heap_order fits.no_heap;
+      heap_order = in_order_with (heap_region address pages) s.heap some good.heap_order clear.0;
       user_order = good.user_order;
-      heap = all_with (IsHeapRegion s) (heap_region address pages) s.heap ((fits.aligned, range), fits.from, fits.within, refl) good.heap;
-      users = users_beside address pages s.heap s.users fits.no_user good.users;
+      heap = all_with (IsHeapRegion s) (heap_region address pages) s.heap ((fit.aligned, range), fit.from, fit.within, refl) good.heap;
+      users = users_beside address pages s.heap s.users clear.1 good.users;
       frames = omega arith;
     }
 
@@ -195,15 +200,15 @@ walk_beside old new address pages page grant apart =
     ∙ grant.added.others 4 (page % 2 ^ 36) (omega arith) (λ k less same. apart k less (omega arith))
 
 module _ (m : Seen) (new : Paged) (s : State) (address pages : ℕ) (good : IsGood s) (stands : Stands m s)
-    (range : IsCanonicalRange (address / 4096) pages) (fits : Fits s pages address)
+    (range : IsCanonicalRange (address / 4096) pages) (fit : IsFit s.base s.pages (all_regions s) pages address)
     (few : pages + missing s.tables address pages ≤ free_frames s)
     (grant : IsPagedGrant m.paged new address pages) (regions : new.regions ≡ all_regions (granted s address pages)) where
   -- a page of the range: the new region holds it
   in_range : (k : ℕ) → k < pages → found_rights (walk_of new.words new.root (address / 4096 + k)) ≡ region_rights (region_at (granted s address pages) (4096 * (address / 4096 + k)))
   in_range k less =
       let page = grant.added.mapped k less in
-      let whole : address % 4096 ≡ 0 = fits.aligned in
-      let none : list_any (is_within (4096 * (address / 4096 + k))) s.heap ≡ false = none_within address pages (4096 * (address / 4096 + k)) s.heap (omega arith) (omega arith) fits.no_heap in
+      let whole : address % 4096 ≡ 0 = fit.aligned in
+      let none : list_any (is_within (4096 * (address / 4096 + k))) s.heap ≡ false = none_within address pages (4096 * (address / 4096 + k)) s.heap (omega arith) (omega arith) (clear_of s pages address fit).0 in
       let here : is_within (4096 * (address / 4096 + k)) (heap_region address pages) ≡ true = within (4096 * (address / 4096 + k)) (heap_region address pages) (omega arith) (omega arith) in
       let found : region_at (granted s address pages) (4096 * (address / 4096 + k)) ≡ Some (heap_region address pages) = find_alone (is_within (4096 * (address / 4096 + k))) (heap_region address pages) s.heap s.users here none in
       ap found_rights (ap (λ r. walk_of new.words r (address / 4096 + k)) grant.root ∙ page.found) ∙ sym (ap region_rights found)
@@ -212,7 +217,7 @@ module _ (m : Seen) (new : Paged) (s : State) (address pages : ℕ) (good : IsGo
   out_of_range : (page : ℕ) → IsTrue (is_canonical (4096 * page)) → (page < address / 4096) ⊎ (address / 4096 + pages ≤ page) →
       found_rights (walk_of new.words new.root page) ≡ region_rights (region_at (granted s address pages) (4096 * page))
   out_of_range page canonical beside =
-      let whole : address % 4096 ≡ 0 = fits.aligned in
+      let whole : address % 4096 ≡ 0 = fit.aligned in
       let apart : (k : ℕ) → k < pages → page % 2 ^ 36 ≡ (address / 4096 + k) % 2 ^ 36 → ⊥ = λ k less same. (
       let e : page ≡ address / 4096 + k = same_page page (address / 4096 + k) canonical (page_canonical (address / 4096) pages k range less) same in
       elim beside [ inl before ↦ omega arith | inr behind ↦ omega arith ]) in

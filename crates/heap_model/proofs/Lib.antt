@@ -1,6 +1,7 @@
 mod Examples
 pub mod Booleans
 pub mod Regions
+pub mod FirstFit
 pub mod Tables
 pub mod Granted
 pub mod Placed

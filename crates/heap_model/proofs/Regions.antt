@@ -1,5 +1,5 @@
 -- Regions that join a sorted list.
-use Rattle.std.proofs.Common.{◌≡◌, ℕ, ◌+◌, ◌*◌, ◌<◌, ◌≤◌, ◌⊎◌, inl, inr, ◌||◌, nat_lt, List, [], ◌∷◌, ◌++◌, find, fold, refl, sym, ap, ◌∙◌, arith, Bool, true, false, cond, Some}
+use Rattle.std.proofs.Common.{◌≡◌, ℕ, ◌+◌, ◌*◌, ◌<◌, ◌≤◌, ◌⊎◌, inl, inr, ◌||◌, nat_lt, List, [], ◌∷◌, ◌++◌, length, find, fold, refl, sym, ap, ◌∙◌, arith, Bool, true, false, cond, Some}
 use Rattle.std.proofs.lemmas.Bool.Decides.{nat_tests}
 use Rattle.std.specs.List.{list_any, AllByRecursion}
 use Rattle.heap_model.specs.declared.region.Region.{Region}
@@ -49,6 +49,15 @@ pages_with region (first ∷ rest) = go (nat_lt region.start first.start) (pages
     go : (b : Bool) → total_pages (with_region region rest) ≡ region.pages + total_pages rest →
         total_pages (cond b (region ∷ first ∷ rest) (first ∷ with_region region rest)) ≡ region.pages + (first.pages + total_pages rest)
     go true later = refl
+    go false later = omega arith
+
+-- it has one region more
+pub length_with : (region : Region) (list : List Region) → length (with_region region list) ≡ length list + 1
+length_with region [] = refl
+length_with region (first ∷ rest) = go (nat_lt region.start first.start) (length_with region rest)
+  where
+    go : (b : Bool) → length (with_region region rest) ≡ length rest + 1 → length (cond b (region ∷ first ∷ rest) (first ∷ with_region region rest)) ≡ length (first ∷ rest) + 1
+    go true later = omega arith
     go false later = omega arith
 
 -- a test passes in the longer list where it passes at the new one or in the list

@@ -1,6 +1,6 @@
 -- One call: which answers are allowed, and the state after each.
-use Rattle.std.specs.Prelude.{◌≡◌, ◌≢◌, ℕ, ◌+◌, ◌<◌, Bool, not, ◌==◌, ◌⊎◌, ⊤, List, [], ◌∷◌, ◌++◌, length, find, replicate, slice_index, slice_set, option_map, unwrap_or, Option, Some, None, MatchOption}
-use Rattle.std.specs.List.{list_any}
+use Rattle.std.specs.Prelude.{◌≡◌, ◌≢◌, ℕ, ◌+◌, ◌^◌, ◌<◌, Bool, not, ◌==◌, ◌⊎◌, ⊤, List, [], ◌∷◌, ◌++◌, length, find, replicate, slice_index, slice_set, option_map, unwrap_or, Option, Some, None, MatchOption}
+use Rattle.std.specs.List.{list_any, AllByRecursion}
 use Rattle.heap_model.specs.declared.region.Region.{Region}
 use Rattle.heap_model.specs.declared.call.Call.{Call}
 use Rattle.heap_model.specs.declared.call.Call.TheVariants.{Malloc, Free, Write, Read, Extents}
@@ -66,12 +66,16 @@ heap_after s regions = unwrap_or regions s.heap
 abbrev pub AgreeWith : List Cell → ℕ → List ℕ → Type 0
 AgreeWith cells offset bytes = (k byte : ℕ) → k < length bytes → cell_at cells (offset + k) ≡ Known byte → slice_index bytes k ≡ byte
 
+-- each number is a byte
+abbrev pub AreBytes : List ℕ → Type 0
+AreBytes bytes = AllByRecursion (λ byte. byte < 2 ^ 8) bytes
+
 -- the replies other than refusals
 abbrev pub IsServed : State → Call → Reply → Option (List Region) → Type 0
 IsServed s (Malloc size align) (Placed number address) regions = (number ≡ length s.blocks) × IsGrowth s (wanted size align) (heap_after s regions)
 IsServed s (Free number) Done regions = regions ≡ None
 IsServed s (Write number offset bytes) Done regions = regions ≡ None
-IsServed s (Read number offset count) (Bytes bytes) regions = (regions ≡ None) × (length bytes ≡ count) × ((block : Block) → block_at s.blocks number ≡ Some block → AgreeWith block.cells offset bytes)
+IsServed s (Read number offset count) (Bytes bytes) regions = (regions ≡ None) × (length bytes ≡ count) × AreBytes bytes × ((block : Block) → block_at s.blocks number ≡ Some block → AgreeWith block.cells offset bytes)
 IsServed s Extents (Listed extents) regions = (regions ≡ None) × IsTiling s extents
 IsServed s call reply regions = ⊥
 

@@ -1,10 +1,12 @@
 -- The extents of the heap of a state.
-use Rattle.std.specs.Prelude.{◌≡◌, ℕ, ◌+◌, ◌≤◌, List, Some}
+use Rattle.std.specs.Prelude.{◌≡◌, ℕ, ◌+◌, ◌≤◌, ⊤, Bool, true, ◌==◌, IsTrue, List, [], ◌∷◌, Some}
 use Rattle.std.specs.List.{list_any}
 use Rattle.dlmalloc_chunks.specs.declared.extent.Extent.{Extent}
 use Rattle.dlmalloc_chunks.specs.declared.extent.Kind.TheVariants.{Used}
+use Rattle.dlmalloc_chunks.specs.Kinds.{ends_segment}
 use Rattle.dlmalloc_chunks.specs.Tiling.{AreExtents, has_byte, extent_at}
-use Rattle.heap_model.specs.State.{State, Block, block_at, is_within}
+use Rattle.heap_model.specs.declared.region.Region.{Region}
+use Rattle.heap_model.specs.State.{State, Block, block_at, end_of, is_within}
 
 -- A block's extent: the block begins 16 bytes behind it, and reaches into the 8 bytes behind its end at most. Of the
 -- extent's bytes 79 at most are not the block's.
@@ -25,10 +27,27 @@ pub record HasBlock (s : State) (extent : Extent) : Type 0 where
   pub there : block_at s.blocks number ≡ Some block
   pub is : IsExtentOf block extent
 
--- These are all extents by address: their bytes are those of the heap's regions, and the extents in use and the live
--- blocks correspond to one another.
+-- whether a region begins, and whether it ends, at an address
+abbrev pub begins_at : ℕ → Region → Bool
+begins_at address region = region.start == address
+
+abbrev pub ends_at : ℕ → Region → Bool
+ends_at address region = end_of region == address
+
+-- Each segment is a run of whole regions: a region begins with its first extent, and one ends with its last. `begins`
+-- says whether the first of these extents begins a segment.
+abbrev pub AreRuns : List Region → Bool → List Extent → Type 0
+AreRuns regions begins [] = ⊤
+AreRuns regions begins (extent ∷ extents) =
+    (IsTrue begins → IsTrue (list_any (begins_at extent.at) regions))
+    × (IsTrue (ends_segment extent.kind) → IsTrue (list_any (ends_at (extent.at + extent.size)) regions))
+    × AreRuns regions (ends_segment extent.kind) extents
+
+-- These are all extents by address: their bytes are those of the heap's regions, each segment is a run of whole
+-- regions, and the extents in use and the live blocks correspond to one another.
 pub record IsTiling (s : State) (extents : List Extent) : Type 0 where
   pub extents_are : AreExtents extents
   pub bytes : (address : ℕ) → list_any (has_byte address) extents ≡ list_any (is_within address) s.heap
+  pub runs : AreRuns s.heap true extents
   pub blocks : (number : ℕ) (block : Block) → block_at s.blocks number ≡ Some block → HasExtent extents block
   pub used : (extent : Extent) → extent_at extent.at extents ≡ Some extent → extent.kind ≡ Used → HasBlock s extent

@@ -8,7 +8,7 @@ use Rattle.dlmalloc_chunks.specs.Request.{limit}
 use Rattle.heap_model.specs.Request.{enlarged, wanted, pages_for}
 use Rattle.heap_model.specs.State.{State, Block, block_at}
 use Rattle.heap_model.specs.Tables.{missing, free_frames}
-use Rattle.heap_model.specs.Place.{IsPlace, HasNoPlace}
+use Rattle.heap_model.specs.Place.{all_regions, IsPlace, HasNoPlace}
 use Rattle.heap_model.specs.Room.{HasRoom}
 
 -- sizes that no heap serves; above 16 the alignment counts too
@@ -43,8 +43,8 @@ wanted_by s Extents = None
 
 -- a heap call that has no room may be refused where its pages have no place, or where frames are lacking at their place
 abbrev pub MayRefuse : State → Option ℕ → Refusal → Type 0
-MayRefuse s (Some n) NoSpace = (HasRoom s n → ⊥) × HasNoPlace s (pages_for n s.granularity)
-MayRefuse s (Some n) NoFrames = (HasRoom s n → ⊥) × ((address : ℕ) × IsPlace s (pages_for n s.granularity) address × (free_frames s < pages_for n s.granularity + missing s.tables address (pages_for n s.granularity)))
+MayRefuse s (Some n) NoSpace = (HasRoom s n → ⊥) × HasNoPlace s.base s.pages (all_regions s) (pages_for n s.granularity)
+MayRefuse s (Some n) NoFrames = (HasRoom s n → ⊥) × ((address : ℕ) × IsPlace s.base s.pages (all_regions s) (pages_for n s.granularity) address × (free_frames s < pages_for n s.granularity + missing s.tables address (pages_for n s.granularity)))
 MayRefuse s (Some n) TooLarge = ⊥
 MayRefuse s (Some n) UnknownBlock = ⊥
 MayRefuse s (Some n) OutOfBlock = ⊥

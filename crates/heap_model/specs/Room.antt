@@ -4,7 +4,7 @@ use Rattle.paging_core.specs.declared.page_table.Rights.{Rights}
 use Rattle.heap_model.specs.declared.region.Region.{Region}
 use Rattle.heap_model.specs.State.{State, Block, block_at, cover, end_of}
 use Rattle.heap_model.specs.Tables.{missing, free_frames}
-use Rattle.heap_model.specs.Place.{IsPlace, with_region}
+use Rattle.heap_model.specs.Place.{IsPlace, with_region, all_regions}
 use Rattle.heap_model.specs.Request.{pages_for}
 
 -- m bytes from a and n bytes from b have no byte in common
@@ -36,7 +36,7 @@ heap_region address pages = record { start = address; pages = pages; heap = true
 pub record IsGrant (s : State) (n : ℕ) (list : List Region) : Type 0 where
   pub full : HasRoom s n → ⊥
   pub address : ℕ
-  pub place : IsPlace s (pages_for n s.granularity) address
+  pub place : IsPlace s.base s.pages (all_regions s) (pages_for n s.granularity) address
   pub frames : pages_for n s.granularity + missing s.tables address (pages_for n s.granularity) ≤ free_frames s
   pub joined : list ≡ with_region (heap_region address (pages_for n s.granularity)) s.heap
 

@@ -9,11 +9,13 @@ use Rattle.heap_memory.specs.declared.grant.Grant.{Grant}
 use Rattle.heap_memory.specs.Regions.{IsWordOf, IsApart, IsGoodGrant, is_next, with_grant}
 use Rattle.heap_model.specs.declared.region.Region.{Region}
 use Rattle.heap_model.specs.Request.{pages_in}
+use Rattle.heap_model.specs.Place.{with_region}
 use Rattle.heap_model.specs.Room.{heap_region, heap_rights}
 use Rattle.heap_model.specs.Machine.{Paged}
 use Rattle.kernel_heap.specs.Layout.{AreConsecutive, IsKept, IsGrantedFor, regions_end}
 use Rattle.kernel_heap.specs.Words.{grant_of, grants_of, word_reached}
-use Rattle.kernel_heap.proofs.Consecutive.{ends}
+use Rattle.kernel_heap.proofs.Consecutive.{ends, last_place}
+use Rattle.kernel_heap.proofs.Places.{place_end}
 use Rattle.kernel_heap.proofs.Pages.{pages_hold}
 use Rattle.kernel_heap.proofs.Still.{granted_mapped, place_at, word_at_place}
 
@@ -47,46 +49,43 @@ joined_behind from to size flags (first ∷ rest) all =
 
 module _ (old new : Paged) (asked : ℕ) (grant : Grant) (kept : IsKept old) (is : IsGrantedFor old new asked grant) where
   base : grant.base ≡ regions_end old
-  base = ap (λ (g : Grant). g.base) is.is
+  base = place_end old (pages_in asked) kept is.can.some grant.base is.can.place
 
-  size : grant.size ≡ 4096 * pages_in asked
-  size = ap (λ (g : Grant). g.size) is.is
-
-  pub flags : grant.flags ≡ 0
-  flags = ap (λ (g : Grant). g.flags) is.is
+  behind : grant ≡ record { base = regions_end old; size = 4096 * pages_in asked; flags = 0 }
+  behind i = record { base = base i; size = is.size i; flags = is.flags i }
 
   pub good : IsGoodGrant asked grant
   good =
       let b = base in
-      let s = size in
+      let s = is.size in
       let holds = pages_hold asked in
       let whole = kept.window.whole in
       let first = kept.window.after_first in
       let last = kept.window.before_last in
-      let inside = is.can.inside in
+      let inside = is.can.place.fit.within in
       record { long = omega arith; base_aligned = omega arith; size_aligned = omega arith; low = omega arith; high = omega arith }
 
   pub apart : AllByRecursion (IsApart grant.base (grant.base + grant.size)) (grants_of old)
   apart = subst (λ (b : ℕ). AllByRecursion (IsApart b (b + grant.size)) (grants_of old)) (sym base) (apart_behind old.base (regions_end old) (regions_end old + grant.size) old.regions kept.consecutive)
 
   pub next : IsTrue (is_next grant (grants_of old))
-  next = subst (λ (g : Grant). IsTrue (is_next g (grants_of old))) (sym is.is) (next_behind old.base (regions_end old) (4096 * pages_in asked) 0 old.regions kept.consecutive)
+  next = subst (λ (g : Grant). IsTrue (is_next g (grants_of old))) (sym behind) (next_behind old.base (regions_end old) (4096 * pages_in asked) 0 old.regions kept.consecutive)
 
   pub regions : grants_of new ≡ with_grant grant (grants_of old)
   regions =
-      ap (map grant_of) is.granted.regions
+      ap (map grant_of) (is.granted.regions ∙ (ap (λ (b : ℕ). with_region (heap_region b (pages_in asked)) old.regions) base ∙ last_place old.base (regions_end old) (pages_in asked) old.regions kept.consecutive))
       ∙ (map-append grant_of old.regions (heap_region (regions_end old) (pages_in asked) ∷ [])
       ∙ (sym (joined_behind old.base (regions_end old) (4096 * pages_in asked) 0 old.regions kept.consecutive)
-      ∙ ap (λ (g : Grant). with_grant g (grants_of old)) (sym is.is)))
+      ∙ ap (λ (g : Grant). with_grant g (grants_of old)) (sym behind)))
 
   -- its words are zero
   pub zeros : (at : ℕ) → grant.base ≤ at → at < grant.base + grant.size → at % 8 ≡ 0 → word_reached new at ≡ 0
   zeros at low high multiple =
       let b = base in
-      let s = size in
+      let s = is.size in
       let whole = kept.window.whole in
-      let page = is.granted.grant.added.mapped (at / 4096 - regions_end old / 4096) (omega arith) in
-      let same : regions_end old / 4096 + (at / 4096 - regions_end old / 4096) ≡ at / 4096 = omega arith in
+      let page = is.granted.grant.added.mapped (at / 4096 - grant.base / 4096) (omega arith) in
+      let same : grant.base / 4096 + (at / 4096 - grant.base / 4096) ≡ at / 4096 = omega arith in
       let found : walk_of new.words new.root (at / 4096) ≡ Some (granted_place page.frame heap_rights) =
       ap (λ (r : ℕ). walk_of new.words r (at / 4096)) is.granted.grant.root ∙ (ap (walk_of new.words old.root) (sym same) ∙ page.found) in
       word_at_place new at (granted_place page.frame heap_rights) found ∙ page.zeros (at % 4096 / 8) (omega arith)

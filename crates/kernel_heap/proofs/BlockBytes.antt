@@ -1,21 +1,19 @@
 -- Bytes of live blocks are written and read.
-use Rattle.std.proofs.Common.{◌≡◌, ℕ, ◌+◌, ◌<◌, ◌≤◌, ◌⊎◌, inl, inr, nat_lt, true, false, List, length, refl, sym, ap, ◌∙◌, arith, Option, Some, None, option_map}
+use Rattle.std.proofs.Common.{◌≡◌, ℕ, suc, ◌+◌, ◌-◌, ◌/◌, ◌%◌, ◌^◌, ◌<◌, ◌≤◌, inl, inr, max, nat_lt, true, false, List, [], ◌∷◌, length, refl, sym, ap, ◌∙◌, subst, arith, Option, Some, None, option_map}
 use Rattle.std.specs.Prelude.{slice_index}
 use Rattle.std.specs.List.{list_any}
 use Rattle.std.proofs.lemmas.Bool.Decides.{nat_tests}
-use Rattle.paging_core.specs.Walk.{reached}
-use Rattle.heap_memory.specs.Regions.{IsWordOf}
-use Rattle.dlmalloc_chunks.specs.declared.extent.Extent.{Extent}
-use Rattle.dlmalloc_chunks.specs.declared.extent.Kind.TheVariants.{Used}
-use Rattle.dlmalloc.specs.Extents.{extent_at}
-use Rattle.dlmalloc.specs.State.{extents_in}
+use Rattle.paging_core.specs.Memory.{word_at, byte_of}
+use Rattle.paging_core.specs.Walk.{Place, walk_of, reached}
 use Rattle.dlmalloc.specs.declared.heap.Dlmalloc.{Dlmalloc}
-use Rattle.dlmalloc.proofs.Laws.{used_inside, state_outside}
+use Rattle.dlmalloc.specs.Blocks.{ArePlaced}
+use Rattle.dlmalloc.specs.Served.{OnlyBlocksChange, RestsOutside}
 use Rattle.heap_model.specs.declared.live.Live.{Live}
 use Rattle.heap_model.specs.declared.call.Call.TheVariants.{Write, Read}
 use Rattle.heap_model.specs.declared.answer.Reply.TheVariants.{Done, Bytes}
 use Rattle.heap_model.specs.State.{State, Block, block_at, cell_at, is_within, Known}
 use Rattle.heap_model.specs.Memory.{IsPut}
+use Rattle.heap_model.specs.Answer.{AreBytes}
 use Rattle.heap_model.specs.Refusal.{refuse_bytes}
 use Rattle.heap_model.specs.Run.{IsGood}
 use Rattle.heap_model.specs.Machine.{Paged, Seen, Stands, IsStep, outline}
@@ -30,12 +28,11 @@ use Rattle.kernel_heap.specs.Heap.{regions, word, heap_state}
 use Rattle.kernel_heap.specs.Machine.{live_at, refuse_live, HasBytes, IsLaidOut}
 use Rattle.kernel_heap.specs.Written.{AreInside, AreRead, IsWritten}
 use Rattle.kernel_heap.specs.declared.paged_system.PagedSystem.{PagedSystem}
-use Rattle.kernel_heap.proofs.BlockPlaces.{block_aligned, byte_granted}
+use Rattle.kernel_heap.proofs.BlockPlaces.{bytes_within}
 use Rattle.kernel_heap.proofs.Consecutive.{inside}
 use Rattle.kernel_heap.proofs.Full.{behind}
-use Rattle.kernel_heap.proofs.Laid.{block_place, block_there, laid_outside}
+use Rattle.kernel_heap.proofs.Laid.{block_place, block_there, same_regions, laid_outside}
 use Rattle.kernel_heap.proofs.Refused.{regions_are}
-use Rattle.kernel_heap.proofs.Still.{granted_inside}
 
 -- both the machine and the state refuse bytes alike, and blocks
 pub refuse_same : (m : Seen) (s : State) (number offset count : ℕ) → Stands m s → refuse_bytes (block_at s.blocks number) offset count ≡ refuse_live (live_at m.blocks number) offset count
@@ -54,31 +51,43 @@ unknown_same m s number stands none = gone (block_at s.blocks number) (sym (ap (
     gone None is = refl
     gone (Some block) is = cc
 
-module _ (heap : Dlmalloc PagedSystem) (blocks : List (Option Live)) (number offset count address : ℕ) (laid : IsLaidOut heap blocks) (has : HasBytes blocks number offset count address) where
+-- a byte that is reached is one
+reached_byte : (words : List ℕ) (root address byte : ℕ) → reached words root address ≡ Some byte → byte < 2 ^ 8
+reached_byte words root address byte = small (walk_of words root (address / 4096))
+  where
+    small : (place : Option Place) → option_map (λ p. byte_of (word_at words p.frame (address % 4096 / 8)) (address % 8)) place ≡ Some byte → byte < 2 ^ 8
+    small None is = absurd (cc is)
+    small (Some p) is =
+        let same : byte_of (word_at words p.frame (address % 4096 / 8)) (address % 8) ≡ byte = cc is in
+        subst (λ b. b < 2 ^ 8) same (omega arith)
+
+all_bytes : (bytes : List ℕ) → ((k : ℕ) → k < length bytes → slice_index bytes k < 2 ^ 8) → AreBytes bytes
+all_bytes [] each = tt
+all_bytes (byte ∷ bytes) each = (each 0 (omega arith), all_bytes bytes (λ k less. each (suc k) (omega arith)))
+
+read_bytes : (p : Paged) (address count : ℕ) (bytes : List ℕ) → AreRead p address count bytes → AreBytes bytes
+read_bytes p address count bytes read =
+    all_bytes bytes (λ k less. reached_byte p.words p.root (address + k) (slice_index bytes k) (read.each k (let n = read.many in omega arith)))
+
+module _ (heap : Dlmalloc PagedSystem) (blocks : List (Option Live)) (number offset count address : ℕ) (laid : IsLaidOut heap blocks) (placed : ArePlaced (regions heap.system) (heap_state heap)) (has : HasBytes blocks number offset count address) where
   -- bytes of a live block lie in the regions
   pub bytes_inside : AreInside (paged heap.system) address count
   bytes_inside =
       let live = has.live in
       let b = (laid.lives number has.live has.is).block in
-      let place = block_place (heap_state heap) has.live.address has.live.size b in
-      let long = (used_inside regions word heap laid.heap_sound b.extent b.used (block_there (heap_state heap) has.live.address has.live.size b)).long in
-      let holds = b.holds in
       let at = has.place in
       let within = has.within in
-      let low = granted_inside (paged heap.system) has.live.address heap.system.kept (byte_granted heap laid.heap_sound has.live.address has.live.size b has.live.address (omega arith) (omega arith)) in
-      let high = granted_inside (paged heap.system) (b.extent.at + b.extent.size + 15) heap.system.kept
-      (byte_granted heap laid.heap_sound has.live.address has.live.size b (b.extent.at + b.extent.size + 15) (omega arith) (omega arith)) in
-      record { from = omega (arith, low.0); before = omega (arith, high.1) }
+      let low = bytes_within heap placed has.live.address has.live.size b has.live.address (omega arith) (omega arith) in
+      let high = bytes_within heap placed has.live.address has.live.size b (has.live.address + max has.live.size 1 - 1) (omega arith) (omega arith) in
+      record { from = omega (arith, low.from); before = omega (arith, high.before) }
 
-  module _ (system : PagedSystem) (bytes : List ℕ) (many : length bytes ≡ count) (written : IsWritten (paged heap.system) (paged system) address bytes (length bytes)) where
+  module _ (system : PagedSystem) (bytes : List ℕ) (many : length bytes ≡ count) (written : IsWritten (paged heap.system) (paged system) address bytes (length bytes)) (rests : RestsOutside regions word heap) where
     -- no word outside of the block is changed
-    outside : (k : ℕ) → IsWordOf (regions heap.system) k →
-        ((used : Extent) → used.kind ≡ Used → extent_at used.at (extents_in (heap_state heap)) ≡ Some used → (k < used.at + 16) ⊎ (used.at + used.size + 8 ≤ k)) →
-        word system k ≡ word heap.system k
-    outside k granted beside =
+    outside : OnlyBlocksChange (regions heap.system) (heap_state heap) (word heap.system) (word system)
+    outside k granted there beside =
         let b = (laid.lives number has.live has.is).block in
         let place = block_place (heap_state heap) has.live.address has.live.size b in
-        let aligned = block_aligned heap laid.heap_sound has.live.address has.live.size b in
+        let aligned = (placed has.live.address has.live.size b).aligned in
         let holds = b.holds in
         let at = has.place in
         let within = has.within in
@@ -90,10 +99,10 @@ module _ (heap : Dlmalloc PagedSystem) (blocks : List (Option Live)) (number off
 
     -- so the heap is as it was, and the blocks stay laid out
     pub heap_written : heap_state (record heap { system = system }) ≡ heap_state heap
-    heap_written = state_outside regions word heap laid.heap_sound system (ap grants_of written.still.others) outside
+    heap_written = (rests laid.heap_sound system (same_regions heap laid.heap_sound system (ap grants_of written.still.others)) outside).1
 
     pub laid_written : IsLaidOut (record heap { system = system }) blocks
-    laid_written = laid_outside heap blocks system laid written.still outside
+    laid_written = laid_outside heap blocks system laid written.still rests outside
 
   -- ---- the steps
 
@@ -140,7 +149,7 @@ module _ (heap : Dlmalloc PagedSystem) (blocks : List (Option Live)) (number off
 
     pub step_read : (bytes : List ℕ) → AreRead (paged heap.system) address count bytes → IsStep s (Read number offset count) (record { reply = Bytes bytes; regions = None }) m
     step_read bytes read = record {
-      allowed = record { reply = (reachable, (refl, read.many, agree)); listed = tt };
+      allowed = record { reply = (reachable, (refl, read.many, read_bytes (paged heap.system) address count bytes read, agree)); listed = tt };
       good = good_known s number offset bytes good;
       stands = stands_written m s (paged heap.system) number offset bytes block.0 good stands block.1 (let w = within in let n = read.many in omega arith) (still_none (paged heap.system)) put;
     }

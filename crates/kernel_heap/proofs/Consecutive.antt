@@ -45,11 +45,6 @@ pub one_more : (from to pages : ℕ) (list : List Region) → 0 < pages → AreC
 one_more from to pages [] some all = (ap (λ a. heap_region a pages) (sym all), some, ap (λ a. a + 4096 * pages) all)
 one_more from to pages (first ∷ rest) some all = (all.0, all.1, one_more (from + 4096 * first.pages) to pages rest some all.2)
 
--- its pages are added
-pub total_push : (list : List Region) (region : Region) → total_pages (list ++ region ∷ []) ≡ total_pages list + region.pages
-total_push [] region = omega arith
-total_push (first ∷ rest) region = omega (arith, total_push rest region)
-
 -- by address it takes its place there
 pub last_place : (from to pages : ℕ) (list : List Region) → AreConsecutive from list to → with_region (heap_region to pages) list ≡ list ++ heap_region to pages ∷ []
 last_place from to pages [] all = refl

@@ -18,7 +18,9 @@ use Rattle.heap_model.proofs.Moved.{stands_moved}
 use Rattle.heap_model.proofs.Placed.{outline_of}
 use Rattle.heap_model.proofs.Ended.{left_at, outline_left, good_ended}
 use Rattle.kernel_heap.specs.System.{paged}
-use Rattle.kernel_heap.specs.Heap.{heap_state, IsGivenBack}
+use Rattle.kernel_heap.specs.Heap.{regions, word, follows, heap_state}
+use Rattle.dlmalloc.specs.Blocks.{ArePlaced}
+use Rattle.dlmalloc.specs.Served.{IsFreed}
 use Rattle.kernel_heap.specs.Machine.{live_at, IsLaidOut}
 use Rattle.kernel_heap.specs.declared.paged_system.PagedSystem.{PagedSystem}
 use Rattle.kernel_heap.proofs.BlockPlaces.{byte_kept}
@@ -26,7 +28,8 @@ use Rattle.kernel_heap.proofs.Full.{behind}
 use Rattle.kernel_heap.proofs.Laid.{block_place, block_there, live_left, granularity_ended}
 
 module _ (heap new : Dlmalloc PagedSystem) (blocks : List (Option Live)) (number : ℕ) (live : Live) (laid : IsLaidOut heap blocks)
-    (is : live_at blocks number ≡ Some live) (back : IsGivenBack heap live.address new)
+    (is : live_at blocks number ≡ Some live) (back : IsFreed regions word follows heap live.address new)
+    (placed_before : ArePlaced (regions heap.system) (heap_state heap)) (placed_now : ArePlaced (regions new.system) (heap_state new))
     (s : State) (good : IsGood s) (stands : Stands (record { paged = paged heap.system; granularity = heap.granularity; blocks = blocks }) s) where
   abbrev m : Seen
   m = record { paged = paged heap.system; granularity = heap.granularity; blocks = blocks }
@@ -45,7 +48,7 @@ module _ (heap new : Dlmalloc PagedSystem) (blocks : List (Option Live)) (number
         let many = (good.each i it was.1).cells in
         let less = known_within it.cells k byte cell in
         let kept : extent_at b.extent.at (extents_in (heap_state new)) ≡ Some b.extent = still i it was.0 there in
-        byte_kept heap new laid.heap_sound back.sound (extents_in (heap_state new)) back.kept it.address it.size b b' kept k (omega arith)
+        byte_kept heap new placed_before placed_now (extents_in (heap_state new)) back.kept it.address it.size b b' kept k (omega arith)
         ∙ stands.bytes.known i k byte it was.1 cell;
   }
     where

@@ -1,13 +1,10 @@
 -- Where nothing is chosen for a request, no region of the state has room for it.
-use Rattle.std.proofs.Common.{◌≡◌, ℕ, ◌+◌, ◌<◌, ◌≤◌, ◌==◌, inl, inr, true, List, [], refl, sym, ap, ◌∙◌, subst, arith, Contains, Option, Some, None}
-use Rattle.std.proofs.lemmas.Bool.Decides.{nat_tests}
+use Rattle.std.proofs.Common.{◌≡◌, ℕ, ◌+◌, ◌≤◌, inl, inr, List, [], ◌∷◌, sym, ap, ◌∙◌, subst, arith, Contains, Option, Some}
+use Rattle.std.specs.List.{AllByRecursion}
 use Rattle.dlmalloc_chunks.specs.declared.extent.Extent.{Extent}
 use Rattle.dlmalloc.specs.State.{Segment}
-use Rattle.dlmalloc.specs.Choice.{chosen}
-use Rattle.dlmalloc.specs.Heap.{chunks_of, segments_of}
+use Rattle.dlmalloc.specs.Blocks.{IsMet, IsFull}
 use Rattle.dlmalloc.specs.declared.heap.Dlmalloc.{Dlmalloc}
-use Rattle.dlmalloc.proofs.Laws.{full}
-use Rattle.dlmalloc.proofs.Taking.{one_segment}
 use Rattle.heap_model.specs.declared.live.Live.{Live}
 use Rattle.heap_model.specs.declared.region.Region.{Region}
 use Rattle.heap_model.specs.State.{State, Block, block_at}
@@ -17,36 +14,12 @@ use Rattle.heap_model.specs.Machine.{Stands, outline}
 use Rattle.heap_model.proofs.Placed.{behind_outline, outline_at}
 use Rattle.kernel_heap.specs.Layout.{regions_end}
 use Rattle.kernel_heap.specs.System.{paged}
-use Rattle.kernel_heap.specs.Heap.{regions, word, heap_state}
+use Rattle.kernel_heap.specs.Heap.{heap_state}
 use Rattle.kernel_heap.specs.Machine.{live_at, Spans, IsLaidOut}
 use Rattle.kernel_heap.specs.declared.paged_system.PagedSystem.{PagedSystem}
 use Rattle.kernel_heap.proofs.Alone.{heap_alone}
-use Rattle.kernel_heap.proofs.Consecutive.{lt_or_le, bounds}
+use Rattle.kernel_heap.proofs.Consecutive.{bounds}
 use Rattle.kernel_heap.proofs.Laid.{block_is}
-
--- the segment of a heap has the bytes of the regions, where there is a region
-pub record HasSpan (heap : Dlmalloc PagedSystem) : Type 0 where
-  pub there : 0 < heap.size
-  pub base : heap.base ≡ (paged heap.system).base
-  pub end : heap.base + heap.size ≡ regions_end (paged heap.system)
-
-pub spans_empty : (heap : Dlmalloc PagedSystem) → heap.size ≡ 0 → Spans (heap_state heap).segments (paged heap.system) → (paged heap.system).regions ≡ []
-spans_empty heap none spans =
-    let test : (heap.size == 0) ≡ true = grind (arith, nat_tests) in
-    let empty : segments_of word heap ≡ [] = rw test refl in
-    subst (λ (segments : List Segment). Spans segments (paged heap.system)) empty spans
-
-pub spans_some : (heap : Dlmalloc PagedSystem) → 0 < heap.size → Spans (heap_state heap).segments (paged heap.system) → HasSpan heap
-spans_some heap some spans =
-    let one = subst (λ (segments : List Segment). Spans segments (paged heap.system)) (one_segment word heap (chunks_of word heap) some refl) spans in
-    record { there = some; base = one.0; end = one.1 }
-
--- bytes of the regions are bytes of the segment
-pub has_span : (heap : Dlmalloc PagedSystem) (region : Region) → Spans (heap_state heap).segments (paged heap.system) → Contains (paged heap.system).regions region → HasSpan heap
-has_span heap region spans has = elim (lt_or_le 0 heap.size) [
-  | inl some ↦ spans_some heap some spans
-  | inr none ↦ (let empty = spans_empty heap (omega arith) spans in let gone : Contains [] region = subst (λ (list : List Region). Contains list region) empty has in absurd (omega (arith, gone.1)))
-]
 
 module _ (heap : Dlmalloc PagedSystem) (blocks : List (Option Live)) (laid : IsLaidOut heap blocks) (s : State) (good : IsGood s)
     (stands : Stands (record { paged = paged heap.system; granularity = heap.granularity; blocks = blocks }) s) where
@@ -54,18 +27,15 @@ module _ (heap : Dlmalloc PagedSystem) (blocks : List (Option Live)) (laid : IsL
   pub behind : (number : ℕ) (live : Live) → live_at blocks number ≡ Some live → (block : Block) × (block_at s.blocks number ≡ Some block) × (outline block ≡ live)
   behind number live is = behind_outline (block_at s.blocks number) live (sym (outline_at s.blocks number) ∙ (ap (λ list. live_at list number) (sym stands.blocks) ∙ is))
 
-  pub no_room : (n : ℕ) → chosen (heap_state heap) n ≡ None → HasRoom s n → ⊥
-  no_room n none room =
+  pub no_room : (n : ℕ) → IsFull (heap_state heap) (n + 256) → HasRoom s n → ⊥
+  no_room n full room =
       let all = heap.system.kept.consecutive in
       let same = heap_alone s (paged heap.system).base (regions_end (paged heap.system)) (paged heap.system).regions good stands.regions all in
       let has : Contains (paged heap.system).regions room.region = subst (λ (list : List Region). Contains list room.region) same room.listed in
       let both = bounds (paged heap.system).base (regions_end (paged heap.system)) (paged heap.system).regions all room.region has in
-      let span = has_span heap room.region laid.spans has in
       let from = room.from in
       let within = room.within in
-      let base = span.base in
-      let end = span.end in
-      let met = full regions word heap laid.heap_sound span.there n none room.address (omega (arith, both.0)) (omega (arith, both.1)) in
+      let met = meets (heap_state heap).segments laid.spans full has (omega (arith, both.0)) (omega (arith, both.1)) in
       let hit = laid.used met.used met.is met.there in
       let b = (laid.lives hit.number hit.live hit.is).block in
       let old = behind hit.number hit.live hit.is in
@@ -77,3 +47,9 @@ module _ (heap : Dlmalloc PagedSystem) (blocks : List (Option Live)) (laid : IsL
       let begins = met.begins in
       let ends = met.ends in
       elim (room.clear hit.number old.0 old.1) [ inl before ↦ omega arith | inr after ↦ omega arith ]
+    where
+      meets : (segments : List Segment) → Spans segments (paged heap.system) → AllByRecursion (λ (segment : Segment). (from : ℕ) → segment.base ≤ from → from + (n + 256) ≤ segment.base + segment.size → IsMet (heap_state heap) from (from + (n + 256))) segments →
+          Contains (paged heap.system).regions room.region → (paged heap.system).base ≤ room.address → room.address + (n + 256) ≤ regions_end (paged heap.system) → IsMet (heap_state heap) room.address (room.address + (n + 256))
+      meets [] spans full has low high = absurd (let gone : Contains [] room.region = subst (λ (list : List Region). Contains list room.region) spans has in omega (arith, gone.1))
+      meets (segment ∷ []) spans full has low high = full.0 room.address (omega (arith, spans.0)) (omega (arith, spans.1))
+      meets (first ∷ second ∷ segments) spans full has low high = absurd spans

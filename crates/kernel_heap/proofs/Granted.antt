@@ -1,6 +1,5 @@
--- Pages are granted behind the last region.
-use Rattle.std.proofs.Common.{◌≡◌, ℕ, ◌+◌, ◌*◌, ◌/◌, ◌%◌, ◌^◌, ◌<◌, ◌≤◌, inl, inr, refl, sym, ap, ◌∙◌, subst, arith, nat_eq, ◌-◌, ◌||◌, true, false, Option, Some, None, IsSome}
-use Rattle.paging_core.specs.Address.{IsCanonicalRange}
+-- Pages are granted at their place.
+use Rattle.std.proofs.Common.{◌≡◌, ℕ, ◌+◌, ◌*◌, ◌/◌, ◌%◌, ◌^◌, ◌<◌, ◌≤◌, inl, inr, refl, sym, ap, ◌∙◌, subst, arith, ◌-◌, true, false, Option, Some, None, IsSome}
 use Rattle.paging_core.specs.Memory.{frame_count}
 use Rattle.paging_core.specs.Pool.{is_free}
 use Rattle.paging_core.specs.Walk.{Place, walk_of, granted as granted_place}
@@ -9,32 +8,22 @@ use Rattle.heap_model.specs.State.{total_pages}
 use Rattle.heap_model.specs.Room.{heap_region, heap_rights}
 use Rattle.heap_model.specs.Machine.{Paged}
 use Rattle.heap_model.proofs.Granted.{walk_beside}
+use Rattle.heap_model.proofs.Regions.{pages_with}
 use Rattle.kernel_heap.specs.Config.{IsGoodWindow}
 use Rattle.kernel_heap.specs.Layout.{AreConsecutive, regions_end, window_end, IsKept, CanGrant, IsGranted}
-use Rattle.kernel_heap.proofs.Consecutive.{lt_or_le, one_more, total_push}
+use Rattle.kernel_heap.proofs.Consecutive.{lt_or_le, last_place, one_more}
+use Rattle.kernel_heap.proofs.Places.{place_end}
 
--- the pages behind the regions are canonical
-pub range_behind : (p : Paged) (pages : ℕ) → IsKept p → 0 < pages → regions_end p + 4096 * pages ≤ window_end p → IsCanonicalRange (regions_end p / 4096) pages
-range_behind p pages kept some inside =
-    let base_whole : p.base % 4096 ≡ 0 = kept.window.whole in
-    let half : (p.base / 4096 + p.pages - 1) / 2 ^ 35 ≡ p.base / 4096 / 2 ^ 35 = kept.window.canonical.one_half in
-    let same : (regions_end p / 4096) * 4096 / 2 ^ 47 ≡ (p.base / 4096) * 4096 / 2 ^ 47 = omega arith in
-    record {
-      some = some;
-      canonical = ap (λ q. nat_eq q 0 || nat_eq q (2 ^ 17 - 1)) same ∙ kept.window.canonical.canonical;
-      one_half = omega arith;
-    }
-
--- the regions end after the granted pages
-pub granted_end : (old new : Paged) (pages : ℕ) → IsGranted old new pages → regions_end new ≡ regions_end old + 4096 * pages
-granted_end old new pages is =
+-- the regions have the granted pages more
+pub granted_end : (old new : Paged) (pages address : ℕ) → IsGranted old new pages address → regions_end new ≡ regions_end old + 4096 * pages
+granted_end old new pages address is =
     let b = is.grant.base in
-    let t : total_pages new.regions ≡ total_pages old.regions + pages = ap total_pages is.regions ∙ total_push old.regions (heap_region (regions_end old) pages) in
+    let t : total_pages new.regions ≡ pages + total_pages old.regions = ap total_pages is.regions ∙ pages_with (heap_region address pages) old.regions in
     omega arith
 
--- what a system keeps, it keeps over a grant
-pub kept_granted : (old new : Paged) (pages : ℕ) → IsKept old → CanGrant old pages → IsGranted old new pages → IsKept new
-kept_granted old new pages kept can is = record {
+-- what a system keeps, it keeps over a grant behind its regions
+kept_behind : (old new : Paged) (pages : ℕ) → IsKept old → 0 < pages → regions_end old + 4096 * pages ≤ window_end old → IsGranted old new pages (regions_end old) → IsKept new
+kept_behind old new pages kept some room is = record {
   window = subst (λ b. IsGoodWindow b new.pages) (sym is.grant.base) (subst (IsGoodWindow old.base) (sym is.grant.pages_is) kept.window);
   tree = subst (λ r. IsTree new.words r new.free) (sym is.grant.root) is.grant.added.tree;
   flags = λ f free. flags f free;
@@ -42,23 +31,21 @@ kept_granted old new pages kept can is = record {
   few_frames = (let s = is.grant.added.size in let h = kept.few_frames in omega arith);
   held = (let s = is.grant.added.size in let h = kept.held in let c = is.grant.added.count in let t = is.grant.tables in omega arith);
   consecutive = subst (λ e. AreConsecutive new.base new.regions e) (sym end) (subst (λ b. AreConsecutive b new.regions (regions_end old + 4096 * pages)) (sym is.grant.base)
-      (subst (λ xs. AreConsecutive old.base xs (regions_end old + 4096 * pages)) (sym is.regions) (one_more old.base (regions_end old) pages old.regions can.some kept.consecutive)));
-  inside = (let e = end in let w = can.inside in let b = is.grant.base in let p = is.grant.pages_is in omega arith);
+      (subst (λ xs. AreConsecutive old.base xs (regions_end old + 4096 * pages)) (sym (is.regions ∙ last_place old.base (regions_end old) pages old.regions kept.consecutive))
+      (one_more old.base (regions_end old) pages old.regions some kept.consecutive)));
+  inside = (let e = end in let w = room in let b = is.grant.base in let p = is.grant.pages_is in omega arith);
   mapped = λ page above below. mapped page (let b = is.grant.base in omega arith) (let e = end in omega arith);
   unmapped = λ page above below. unmapped page (let e = end in omega arith) (let b = is.grant.base in let p = is.grant.pages_is in omega arith);
 }
   where
     end : regions_end new ≡ regions_end old + 4096 * pages
-    end = granted_end old new pages is
+    end = granted_end old new pages (regions_end old) is
 
     flags : (f : ℕ) → is_free new.free f ≡ true → f < frame_count new.words
     flags f free = elim (is_free old.free f) as (λ b. is_free old.free f ≡ b → f < frame_count new.words) [
       | true ↦ λ was. (let h = kept.flags f was in let s = is.grant.added.size in omega arith)
       | false ↦ λ was. (let h = is.grant.added.fewer f was in absurd (cc))
     ] refl
-
-    range : IsCanonicalRange (regions_end old / 4096) pages
-    range = range_behind old pages kept can.some can.inside
 
     -- a page that was mapped stays, and each granted page was mapped
     mapped : (page : ℕ) → old.base ≤ 4096 * page → 4096 * page < regions_end old + 4096 * pages → IsSome (walk_of new.words new.root page)
@@ -85,3 +72,10 @@ kept_granted old new pages kept can is = record {
     unmapped page above below =
         let w = kept.window.whole in
         walk_beside old new (regions_end old) pages page is.grant (λ k less same. apart page k above below less same) ∙ kept.unmapped page (omega arith) below
+
+-- and so over each grant, since the place is there
+pub kept_granted : (old new : Paged) (pages address : ℕ) → IsKept old → CanGrant old pages address → IsGranted old new pages address → IsKept new
+kept_granted old new pages address kept can is =
+    let end : address ≡ regions_end old = place_end old pages kept can.some address can.place in
+    let within = can.place.fit.within in
+    kept_behind old new pages kept can.some (omega arith) (subst (IsGranted old new pages) end is)

@@ -1,5 +1,5 @@
 -- A block is handed out: the answer is allowed, and the machine stands for the state after it.
-use Rattle.std.proofs.Common.{◌≡◌, ◌≢◌, ℕ, ◌+◌, ◌*◌, ◌/◌, ◌<◌, ◌≤◌, inl, inr, List, [], ◌∷◌, ◌++◌, length, length-append, map, fold, find, replicate, refl, sym, ap, ◌∙◌, subst, arith, false, Option, Some, None, option_map}
+use Rattle.std.proofs.Common.{◌≡◌, ◌≢◌, ℕ, ◌+◌, ◌/◌, ◌<◌, ◌≤◌, inl, inr, List, [], ◌∷◌, ◌++◌, length, map, fold, find, replicate, refl, sym, ap, ◌∙◌, subst, arith, false, Option, Some, None, option_map}
 use Rattle.std.specs.List.{list_any}
 use Rattle.std.proofs.Math.ListN.{length-replicate}
 use Rattle.paging_core.specs.Address.{IsCanonicalRange}
@@ -8,7 +8,7 @@ use Rattle.paging_core.specs.Walk.{reached}
 use Rattle.heap_memory.specs.declared.grant.Grant.{Grant}
 use Rattle.dlmalloc_chunks.specs.Request.{round_up, padded, limit}
 use Rattle.dlmalloc.specs.State.{extents_in}
-use Rattle.dlmalloc.specs.Choice.{chosen}
+use Rattle.dlmalloc.specs.Blocks.{ArePlaced, BlocksAreApart, IsFull}
 use Rattle.dlmalloc.specs.declared.heap.Dlmalloc.{Dlmalloc}
 use Rattle.heap_model.specs.declared.live.Live.{Live}
 use Rattle.heap_model.specs.declared.region.Region.{Region}
@@ -23,22 +23,22 @@ use Rattle.heap_model.specs.Memory.{HoldsBytes}
 use Rattle.heap_model.specs.Answer.{after, is_new, granted_tables}
 use Rattle.heap_model.specs.Run.{IsGood}
 use Rattle.heap_model.specs.Machine.{Paged, Seen, Stands, IsStep, IsStill, outline}
-use Rattle.heap_model.proofs.Granted.{granted, good_granted, find_granted, missing_same, stands_granted}
+use Rattle.heap_model.proofs.Granted.{granted, clear_of, good_granted, find_granted, missing_same, stands_granted}
 use Rattle.heap_model.proofs.Known.{known_within}
 use Rattle.heap_model.proofs.Moved.{stands_moved, good_bare, holds_none}
+use Rattle.heap_model.proofs.Regions.{length_with}
 use Rattle.heap_model.proofs.Placed.{outline_of, outline_push, length_outline, holds_fresh, placed, good_placed}
-use Rattle.kernel_heap.specs.Layout.{IsGrantedFor, regions_end, window_end}
+use Rattle.kernel_heap.specs.Layout.{IsGrantedFor}
 use Rattle.kernel_heap.specs.System.{paged}
-use Rattle.kernel_heap.specs.Heap.{heap_state, IsHandedOut}
+use Rattle.kernel_heap.specs.Heap.{regions, word, zeros, follows, heap_state}
+use Rattle.dlmalloc.specs.Served.{IsServed}
 use Rattle.kernel_heap.specs.Machine.{live_at, IsLaidOut}
 use Rattle.kernel_heap.specs.declared.paged_system.PagedSystem.{PagedSystem}
-use Rattle.kernel_heap.proofs.BlockPlaces.{block_aligned, cover_granted, blocks_apart, byte_kept}
-use Rattle.kernel_heap.proofs.Consecutive.{last_place}
+use Rattle.kernel_heap.proofs.BlockPlaces.{byte_kept}
 use Rattle.kernel_heap.proofs.Full.{no_room}
-use Rattle.kernel_heap.proofs.Granted.{range_behind}
 use Rattle.kernel_heap.proofs.Laid.{next_live, block_there, live_kept, live_apart, granularity_handed}
-use Rattle.kernel_heap.proofs.Places.{place_behind}
-use Rattle.kernel_heap.proofs.Refused.{not_refused, regions_are, alone, consecutive, whole, window}
+use Rattle.kernel_heap.proofs.Places.{range_within}
+use Rattle.kernel_heap.proofs.Refused.{not_refused, regions_are, alone, place_same}
 use Rattle.kernel_heap.proofs.Still.{granted_same}
 
 -- the block that is handed out, as the state has it
@@ -46,8 +46,20 @@ abbrev pub next_block : ℕ → ℕ → Block
 next_block address size = record { address = address; size = size; align = 16; cells = replicate size Fresh }
 
 -- a list with one more is another list
-longer_differs : (list : List Region) (last : Region) → list ++ last ∷ [] ≡ list → ⊥
-longer_differs list last same = let one : length (list ++ last ∷ []) ≡ length list + 1 = length-append list (last ∷ []) in let two = ap length same in omega arith
+longer_differs : (list : List Region) (region : Region) → with_region region list ≡ list → ⊥
+longer_differs list region same = let one = length_with region list in let two : length (with_region region list) ≡ length list = ap length same in omega arith
+
+-- a block is handed out with one region more at most
+pub few_regions : (heap new : Dlmalloc PagedSystem) (size address : ℕ) → IsServed regions word zeros follows heap size address new → length (paged new.system).regions ≤ length (paged heap.system).regions + 1
+few_regions heap new size address out = elim out.cut [
+  | inl here ↦ (let same = ap (λ (p : Paged). length p.regions) here.1.others in omega arith)
+  | inr there ↦ (
+      let followed = there.2 in
+      let before = ap (λ (p : Paged). length p.regions) followed.2.others in
+      let more = ap length followed.3.granted.regions ∙ length_with (heap_region there.0.base (pages_in (round_up (padded size + 96) heap.granularity))) followed.0.regions in
+      let behind = ap (λ (p : Paged). length p.regions) followed.4.others in
+      omega arith)
+]
 
 -- the state after an answer that lists the regions with new pages has the region, its tables and the block
 state_after : (s : State) (number address size at pages : ℕ) (list : List Region) → IsGood s → 0 < pages → meets_any at pages s.heap ≡ false →
@@ -61,7 +73,8 @@ state_after s number address size at pages list good some clear joined same =
     ap (λ (h : List Region). record s { blocks = s.blocks ++ Some (next_block address size) ∷ []; heap = h; tables = with_tables s.tables at pages }) (sym joined)
     ∙ ap (λ (t : List Prefix). record s { blocks = s.blocks ++ Some (next_block address size) ∷ []; heap = list; tables = t }) tables
 
-module _ (heap new : Dlmalloc PagedSystem) (blocks : List (Option Live)) (size address : ℕ) (laid : IsLaidOut heap blocks) (out : IsHandedOut heap size address new)
+module _ (heap new : Dlmalloc PagedSystem) (blocks : List (Option Live)) (size address : ℕ) (laid : IsLaidOut heap blocks) (out : IsServed regions word zeros follows heap size address new)
+    (placed_before : ArePlaced (regions heap.system) (heap_state heap)) (placed_now : ArePlaced (regions new.system) (heap_state new)) (blocks_apart : BlocksAreApart (heap_state new))
     (s : State) (good : IsGood s) (stands : Stands (record { paged = paged heap.system; granularity = heap.granularity; blocks = blocks }) s) where
   -- the machine before, and after
   abbrev m : Seen
@@ -88,7 +101,7 @@ module _ (heap new : Dlmalloc PagedSystem) (blocks : List (Option Live)) (size a
         let b' = (live_kept heap new blocks size address laid out i (outline it) at).block in
         let many = (good.each i it is).cells in
         let less = known_within it.cells k byte cell in
-        byte_kept heap new laid.heap_sound out.sound (extents_in (heap_state heap)) out.kept it.address it.size b b' (block_there (heap_state heap) it.address it.size b) k (omega arith)
+        byte_kept heap new placed_before placed_now (extents_in (heap_state heap)) out.kept it.address it.size b b' (block_there (heap_state heap) it.address it.size b) k (omega arith)
         ∙ stands.bytes.known i k byte it is cell;
   })
 
@@ -100,16 +113,16 @@ module _ (heap new : Dlmalloc PagedSystem) (blocks : List (Option Live)) (size a
       IsGood (placed (record s { heap = list; tables = tables }) (next_block address size))
   good_block list tables same good' = good_placed (record s { heap = list; tables = tables }) (next_block address size) good'
       (record {
-        aligned = block_aligned new out.sound address size out.block;
-        aligned_16 = block_aligned new out.sound address size out.block;
+        aligned = out.aligned;
+        aligned_16 = out.aligned;
         cells = length-replicate size Fresh;
         granted = λ k less. ap (list_any (is_within (address + k))) same
-            ∙ (sym (granted_same (paged new.system).regions (address + k)) ∙ cover_granted new out.sound address size out.block k less);
+            ∙ (sym (granted_same (paged new.system).regions (address + k)) ∙ out.granted (address + k) (omega arith) (omega arith));
       })
       (λ i old is.
       let at = live_of i old is in
-      blocks_apart new out.sound old.address old.size address size (live_kept heap new blocks size address laid out i (outline old) at).block out.block
-      (live_apart heap new blocks size address laid out i (outline old) at))
+      elim (blocks_apart old.address old.size address size (live_kept heap new blocks size address laid out i (outline old) at).block out.block
+      (live_apart heap new blocks size address laid out i (outline old) at)) [ inl before ↦ inl (omega arith) | inr behind ↦ inr (omega arith) ])
 
   -- nothing was granted
   pub step_here : IsStill (paged heap.system) (paged new.system) → IsStep s (Malloc size 16) (record { reply = Placed (length blocks) address; regions = None }) m'
@@ -123,13 +136,13 @@ module _ (heap new : Dlmalloc PagedSystem) (blocks : List (Option Live)) (size a
       }
 
   -- a region was granted
-  module _ (none : chosen (heap_state heap) (padded size) ≡ None) (mid later : Paged) (before : IsStill (paged heap.system) mid) (grant : Grant)
+  module _ (full : IsFull (heap_state heap) (padded size + 256)) (mid later : Paged) (before : IsStill (paged heap.system) mid) (grant : Grant)
       (is : IsGrantedFor mid later (round_up (padded size + 96) heap.granularity) grant) (behind : IsStill later (paged new.system)) where
     abbrev pages : ℕ
     pages = pages_in (round_up (padded size + 96) heap.granularity)
 
     abbrev at : ℕ
-    at = regions_end (paged heap.system)
+    at = grant.base
 
     abbrev bare : State
     bare = record s { blocks = [] }
@@ -137,33 +150,23 @@ module _ (heap new : Dlmalloc PagedSystem) (blocks : List (Option Live)) (size a
     abbrev m_mid : Seen
     m_mid = record { paged = mid; granularity = heap.granularity; blocks = [] }
 
-    end : regions_end mid ≡ at
-    end = ap regions_end before.others
-
     stands_mid : Stands m_mid bare
     stands_mid = stands_moved m s mid [] [] good stands before refl (holds_none (reached mid.words mid.root))
 
-    inside : at + 4096 * pages ≤ s.base + 4096 * s.pages
-    inside =
-        let w = window heap.system m refl s good stands in
-        let i = is.can.inside in
-        let e = end in
-        let l : window_end mid ≡ window_end (paged heap.system) = ap window_end before.others in
-        omega arith
+    -- the place in the system is the one in the state
+    place_old : IsPlace (paged heap.system).base (paged heap.system).pages (paged heap.system).regions pages at
+    place_old = subst (λ (p : Paged). IsPlace p.base p.pages p.regions pages at) before.others is.can.place
 
     range : IsCanonicalRange (at / 4096) pages
-    range = range_behind (paged heap.system) pages heap.system.kept is.can.some (let w = window heap.system m refl s good stands in let i = inside in omega arith)
+    range = range_within (paged heap.system) pages at heap.system.kept.window is.can.some place_old.fit
 
-    place : IsPlace s pages at
-    place = place_behind s at pages is.can.some (whole heap.system m refl s good stands) (consecutive heap.system m refl s good stands) (alone heap.system m refl s good stands) inside
-
-    place_bare : IsPlace bare pages at
-    place_bare = place_behind bare at pages is.can.some (whole heap.system m refl s good stands) (consecutive heap.system m refl s good stands) (alone heap.system m refl s good stands) inside
+    place : IsPlace s.base s.pages (all_regions s) pages at
+    place = place_same heap.system m refl s good stands pages at place_old
 
     few : pages + missing s.tables at pages ≤ free_frames s
     few =
         let lacks = missing_same m_mid bare at pages stands_mid range in
-        let frames = subst (λ e. pages + Rattle.paging_core.specs.Missing.missing_of mid.words mid.root (e / 4096) pages ≤ Rattle.paging_core.specs.Pool.free_count mid.free) end is.can.frames in
+        let frames = is.can.frames in
         let f = stands_mid.free_frames in
         omega arith
 
@@ -171,10 +174,7 @@ module _ (heap new : Dlmalloc PagedSystem) (blocks : List (Option Live)) (size a
     joined : later.regions ≡ with_region (heap_region at pages) s.heap
     joined =
         let heap_is = regions_are heap.system m refl s good stands in
-        is.granted.regions
-        ∙ (ap (λ e. mid.regions ++ heap_region e pages ∷ []) end
-        ∙ (ap (λ xs. xs ++ heap_region at pages ∷ []) (ap (λ p. p.regions) before.others ∙ sym heap_is)
-        ∙ sym (last_place s.base at pages s.heap (consecutive heap.system m refl s good stands))))
+        is.granted.regions ∙ ap (with_region (heap_region at pages)) (ap (λ p. p.regions) before.others ∙ sym heap_is)
 
     regions_after : (paged new.system).regions ≡ with_region (heap_region at pages) s.heap
     regions_after = ap (λ p. p.regions) behind.others ∙ joined
@@ -182,27 +182,24 @@ module _ (heap new : Dlmalloc PagedSystem) (blocks : List (Option Live)) (size a
     listed : later.regions ≡ all_regions (granted bare at pages)
     listed = joined ∙ sym (ap (fold (λ list region. with_region region list) (with_region (heap_region at pages) s.heap)) (alone heap.system m refl s good stands))
 
-    grant_at : Rattle.heap_model.specs.Machine.IsPagedGrant mid later at pages
-    grant_at = subst (λ e. Rattle.heap_model.specs.Machine.IsPagedGrant mid later e pages) end is.granted.grant
-
     good_later : IsGood (granted bare at pages)
-    good_later = good_granted bare at pages (good_bare s good) range place_bare.fits few
+    good_later = good_granted bare at pages (good_bare s good) range place.fit few
 
     stands_later : Stands (record m_mid { paged = later }) (granted bare at pages)
-    stands_later = stands_granted m_mid later bare at pages (good_bare s good) stands_mid range place_bare.fits few grant_at listed
+    stands_later = stands_granted m_mid later bare at pages (good_bare s good) stands_mid range place.fit few is.granted.grant listed
 
     stands_after : Stands (record m' { granularity = heap.granularity }) (placed (granted s at pages) (next_block address size))
     stands_after = stands_moved (record m_mid { paged = later }) (granted bare at pages) (paged new.system) (blocks ++ Some (next_live address size) ∷ []) (s.blocks ++ Some (next_block address size) ∷ [])
         good_later stands_later behind lives_same holds
 
     good_after : IsGood (placed (granted s at pages) (next_block address size))
-    good_after = good_block (with_region (heap_region at pages) s.heap) (with_tables s.tables at pages) (sym regions_after) (good_granted s at pages good range place.fits few)
+    good_after = good_block (with_region (heap_region at pages) s.heap) (with_tables s.tables at pages) (sym regions_after) (good_granted s at pages good range place.fit few)
 
     pub step_granted : IsStep s (Malloc size 16) (record { reply = Placed (length blocks) address; regions = Some (paged new.system).regions }) m'
     unfolding wanted pages_for
     step_granted =
         let same : pages_for (padded size) s.granularity ≡ pages = ap (λ g. pages_in (round_up (padded size + 96) g)) (sym stands.granularity) in
-        let state = state_after s (length blocks) address size at pages (paged new.system).regions good is.can.some place.fits.no_heap regions_after same in
+        let state = state_after s (length blocks) address size at pages (paged new.system).regions good is.can.some (clear_of s pages at place.fit).0 regions_after same in
         record {
           allowed = record {
             reply = (
@@ -210,15 +207,15 @@ module _ (heap new : Dlmalloc PagedSystem) (blocks : List (Option Live)) (size a
               (
                 number,
                 inr (record {
-                  full = no_room heap blocks laid s good stands (padded size) none;
+                  full = no_room heap blocks laid s good stands (padded size) full;
                   address = at;
-                  place = subst (λ k. IsPlace s k at) (sym same) place;
+                  place = subst (λ k. IsPlace s.base s.pages (all_regions s) k at) (sym same) place;
                   frames = subst (λ k. k + missing s.tables at k ≤ free_frames s) (sym same) few;
                   joined = subst (λ k. (paged new.system).regions ≡ with_region (heap_region at k) s.heap) (sym same) regions_after;
                 }),
               ),
             );
-            listed = λ e. longer_differs s.heap (heap_region at pages) (sym (last_place s.base at pages s.heap (consecutive heap.system m refl s good stands)) ∙ (sym regions_after ∙ e));
+            listed = λ e. longer_differs s.heap (heap_region at pages) (sym regions_after ∙ e);
           };
           good = subst IsGood state good_after;
           stands = subst (Stands m') state (subst (λ g. Stands (record m' { granularity = g }) (placed (granted s at pages) (next_block address size))) (sym (granularity_handed heap new blocks size address laid out)) stands_after);
@@ -227,7 +224,7 @@ module _ (heap new : Dlmalloc PagedSystem) (blocks : List (Option Live)) (size a
     more_regions : length (paged new.system).regions ≡ length (paged heap.system).regions + 1
     more_regions =
         ap length (ap (λ p. p.regions) behind.others ∙ is.granted.regions)
-        ∙ (length-append mid.regions (heap_region (regions_end mid) pages ∷ []) ∙ ap (λ n. n + 1) (ap (λ p. length p.regions) before.others))
+        ∙ (length_with (heap_region at pages) mid.regions ∙ ap (λ n. n + 1) (ap (λ p. length p.regions) before.others))
 
   -- the whole step, where the regions are listed if there are more of them
   pub step_handed : (answered : Option (List Region)) →
@@ -238,7 +235,7 @@ module _ (heap new : Dlmalloc PagedSystem) (blocks : List (Option Live)) (size a
     | inl here ↦ subst (λ (regions : Option (List Region)). IsStep s (Malloc size 16) (record { reply = Placed (length blocks) address; regions = regions }) m')
         (sym (same (ap (λ p. length p.regions) here.1.others))) (step_here here.1)
     | inr there ↦ (let followed = there.2 in
-        let longer = more_regions there.1.none_chosen followed.0 followed.1 followed.2 there.0 followed.3 followed.4 in
+        let longer = more_regions there.1.full followed.0 followed.1 followed.2 there.0 followed.3 followed.4 in
         subst (λ (regions : Option (List Region)). IsStep s (Malloc size 16) (record { reply = Placed (length blocks) address; regions = regions }) m')
-        (sym (more (λ e. absurd (omega arith)))) (step_granted there.1.none_chosen followed.0 followed.1 followed.2 there.0 followed.3 followed.4))
+        (sym (more (λ e. absurd (omega arith)))) (step_granted there.1.full followed.0 followed.1 followed.2 there.0 followed.3 followed.4))
   ]

@@ -1,9 +1,9 @@
 -- The blocks of a machine and the extents of its heap, before and after a call of the heap.
-use Rattle.std.proofs.Common.{◌≡◌, ◌≢◌, ℕ, ◌+◌, ◌-◌, ◌<◌, ◌≤◌, ◌⊎◌, inl, inr, List, [], ◌∷◌, ◌++◌, length, slice_set, refl, sym, ap, ◌∙◌, subst, arith, Option, Some, None}
+use Rattle.std.proofs.Common.{◌≡◌, ◌≢◌, ℕ, ◌+◌, ◌-◌, inl, inr, Bool, true, false, ◌==◌, if◌then◌else◌, List, [], ◌∷◌, ◌++◌, length, slice_set, refl, sym, ap, ◌∙◌, subst, arith, Option, Some, None}
+use Rattle.std.specs.List.{AllByRecursion}
+use Rattle.std.proofs.lemmas.Bool.Decides.{nat_tests}
 use Rattle.heap_memory.specs.declared.grant.Grant.{Grant}
-use Rattle.heap_memory.specs.Regions.{IsWordOf}
 use Rattle.dlmalloc_chunks.specs.declared.extent.Extent.{Extent}
-use Rattle.dlmalloc_chunks.specs.declared.extent.Kind.TheVariants.{Used}
 use Rattle.dlmalloc.specs.Extents.{extent_at}
 use Rattle.dlmalloc.specs.State.{HeapState, Segment, extents_in}
 use Rattle.dlmalloc.specs.Granted.{granted as granted_state}
@@ -11,42 +11,51 @@ use Rattle.dlmalloc.specs.Taken.{in_segments}
 use Rattle.dlmalloc.specs.Blocks.{IsBlock}
 use Rattle.dlmalloc.specs.declared.heap.Dlmalloc.{Dlmalloc}
 use Rattle.dlmalloc.specs.declared.malloc_error.MallocError.{MallocError}
-use Rattle.dlmalloc.proofs.BlockChunks.{the_extent}
-use Rattle.dlmalloc.proofs.Places.{found}
-use Rattle.dlmalloc.proofs.Laws.{sound_outside, state_outside}
 use Rattle.heap_model.specs.declared.live.Live.{Live}
 use Rattle.heap_model.specs.State.{total_pages}
 use Rattle.heap_model.specs.Machine.{Paged, IsStill, Seen}
 use Rattle.heap_model.proofs.Placed.{appended, stays, last_at}
 use Rattle.heap_model.proofs.Ended.{left_at, stays_at}
-use Rattle.kernel_heap.specs.Layout.{IsGrantedFor, regions_end}
+use Rattle.kernel_heap.specs.Layout.{IsKept, IsGrantedFor, regions_end}
 use Rattle.kernel_heap.specs.Words.{grants_of}
 use Rattle.kernel_heap.specs.System.{paged}
-use Rattle.kernel_heap.specs.Heap.{regions, word, heap_state, IsHeap, IsHandedOut, IsDeniedBy, IsGivenBack}
+use Rattle.kernel_heap.specs.Heap.{zeros, follows, refuses, denies, regions, word, heap_state, IsHeap}
+use Rattle.dlmalloc.specs.Served.{IsServed, IsRefusedWith, IsFreed, regions_in, KeepsRegions, OnlyBlocksChange, RestsOutside}
 use Rattle.kernel_heap.specs.Machine.{live_at, Spans, IsLive, IsLaidOut}
 use Rattle.kernel_heap.specs.declared.paged_system.PagedSystem.{PagedSystem}
 use Rattle.kernel_heap.proofs.Consecutive.{same_or_other}
 use Rattle.kernel_heap.proofs.Granted.{granted_end}
+use Rattle.kernel_heap.proofs.Places.{place_end}
+use Rattle.kernel_heap.proofs.Still.{kept_still}
 
 -- ---- a block and its extent
+
+-- an extent that is found begins there
+found_place : (at : ℕ) (extents : List Extent) (extent : Extent) → extent_at at extents ≡ Some extent → extent.at ≡ at
+found_place at [] extent there = absurd (cc)
+found_place at (first ∷ extents) extent there = go (first.at == at) refl there (found_place at extents extent)
+  where
+    go : (b : Bool) → (first.at == at) ≡ b → (if b then Some first else extent_at at extents) ≡ Some extent → (extent_at at extents ≡ Some extent → extent.at ≡ at) → extent.at ≡ at
+    go true test is later = (let same : first ≡ extent = cc in let place : first.at ≡ at = grind (arith, nat_tests) in sym (ap (λ (e : Extent). e.at) same) ∙ place)
+    go false test is later = later is
 
 module _ (heap : HeapState) (address size : ℕ) (block : IsBlock heap address size) where
   -- the block stands 16 bytes behind the beginning of its extent
   pub block_place : address ≡ block.extent.at + 16
-  block_place = let low = block.low in let at = (found (address - 16) block.extent (extents_in heap) block.there).place in omega arith
+  block_place = let low = block.low in let at = found_place (address - 16) (extents_in heap) block.extent block.there in omega arith
 
   pub block_there : extent_at block.extent.at (extents_in heap) ≡ Some block.extent
-  block_there = subst (λ (at : ℕ). extent_at at (extents_in heap) ≡ Some block.extent) (sym (found (address - 16) block.extent (extents_in heap) block.there).place) block.there
+  block_there = subst (λ (at : ℕ). extent_at at (extents_in heap) ≡ Some block.extent) (sym (found_place (address - 16) (extents_in heap) block.extent block.there)) block.there
 
   -- the extent that begins there is the block's
   pub block_is : (extent : Extent) → address ≡ extent.at + 16 → extent_at extent.at (extents_in heap) ≡ Some extent → block.extent ≡ extent
-  block_is extent place there = the_extent (sym block_there ∙ (ap (λ at. extent_at at (extents_in heap)) (let p = block_place in omega arith) ∙ there))
+  block_is extent place there = let same : Some block.extent ≡ Some extent = sym block_there ∙ (ap (λ at. extent_at at (extents_in heap)) (let p = block_place in omega arith) ∙ there) in cc
 
   -- a heap that has its extent has the block
   pub block_moved : (new : HeapState) → extent_at block.extent.at (extents_in new) ≡ Some block.extent → IsBlock new address size
   block_moved new there = record {
     extent = block.extent;
-    there = ap (λ (at : ℕ). extent_at at (extents_in new)) (sym (found (address - 16) block.extent (extents_in heap) block.there).place) ∙ there;
+    there = ap (λ (at : ℕ). extent_at at (extents_in new)) (sym (found_place (address - 16) (extents_in heap) block.extent block.there)) ∙ there;
     low = block.low;
     used = block.used;
     holds = block.holds;
@@ -68,21 +77,21 @@ spans_still segments old new still spans = subst (Spans segments) (sym still.oth
     same (segment ∷ []) spans = spans
     same (first ∷ second ∷ segments) spans = spans
 
-pub spans_granted : (segments : List Segment) (victim granularity rate countdown trim_check : ℕ) (old new : Paged) (asked : ℕ) (grant : Grant) → IsGrantedFor old new asked grant → Spans segments old →
+pub spans_granted : (segments : List Segment) (victim granularity rate countdown trim_check : ℕ) (old new : Paged) (asked : ℕ) (grant : Grant) → IsKept old → IsGrantedFor old new asked grant → Spans segments old →
     Spans (granted_state grant (record { segments = segments; victim = victim; granularity = granularity; rate = rate; countdown = countdown; trim_check = trim_check })).segments new
-spans_granted [] victim granularity rate countdown trim_check old new asked grant is spans =
+spans_granted [] victim granularity rate countdown trim_check old new asked grant kept is spans =
     let none : total_pages old.regions ≡ 0 = ap total_pages spans in
-    let base : grant.base ≡ regions_end old = ap (λ (g : Grant). g.base) is.is in
-    let size = ap (λ (g : Grant). g.size) is.is in
+    let base : grant.base ≡ regions_end old = place_end old _ kept is.can.some grant.base is.can.place in
+    let size = is.size in
     let same = is.granted.grant.base in
-    let end = granted_end old new _ is.granted in
+    let end = granted_end old new _ _ is.granted in
     (omega arith, omega arith)
-spans_granted (segment ∷ []) victim granularity rate countdown trim_check old new asked grant is spans =
-    let size = ap (λ (g : Grant). g.size) is.is in
+spans_granted (segment ∷ []) victim granularity rate countdown trim_check old new asked grant kept is spans =
+    let size = is.size in
     let same = is.granted.grant.base in
-    let end = granted_end old new _ is.granted in
+    let end = granted_end old new _ _ is.granted in
     (omega (arith, spans.0), omega (arith, spans.1))
-spans_granted (first ∷ second ∷ segments) victim granularity rate countdown trim_check old new asked grant is spans = absurd spans
+spans_granted (first ∷ second ∷ segments) victim granularity rate countdown trim_check old new asked grant kept is spans = absurd spans
 
 granularity_granted : (segments : List Segment) (victim granularity rate countdown trim_check : ℕ) (grant : Grant) →
     (granted_state grant (record { segments = segments; victim = victim; granularity = granularity; rate = rate; countdown = countdown; trim_check = trim_check })).granularity ≡ granularity
@@ -95,7 +104,7 @@ granularity_granted (segment ∷ segments) victim granularity rate countdown tri
 abbrev pub next_live : ℕ → ℕ → Live
 next_live address size = record { address = address; size = size; align = 16 }
 
-module _ (heap new : Dlmalloc PagedSystem) (blocks : List (Option Live)) (size address : ℕ) (laid : IsLaidOut heap blocks) (out : IsHandedOut heap size address new) where
+module _ (heap new : Dlmalloc PagedSystem) (blocks : List (Option Live)) (size address : ℕ) (laid : IsLaidOut heap blocks) (out : IsServed regions word zeros follows heap size address new) where
   spans_handed : Spans (heap_state new).segments (paged new.system)
   spans_handed = elim out.cut [
     | inl here ↦ subst (λ (h : HeapState). Spans h.segments (paged new.system)) (sym here.0.state)
@@ -106,7 +115,7 @@ module _ (heap new : Dlmalloc PagedSystem) (blocks : List (Option Live)) (size a
         subst (λ (h : HeapState). Spans h.segments (paged new.system)) (sym there.1.state)
         (spans_changed _ (granted_state there.0 h).segments (paged new.system)
         (spans_still (granted_state there.0 h).segments followed.1 (paged new.system) followed.4
-        (spans_granted h.segments h.victim h.granularity h.rate h.countdown h.trim_check followed.0 followed.1 _ there.0 followed.3
+        (spans_granted h.segments h.victim h.granularity h.rate h.countdown h.trim_check followed.0 followed.1 _ there.0 (kept_still (paged heap.system) followed.0 heap.system.kept followed.2) followed.3
         (spans_still h.segments (paged heap.system) followed.0 followed.2 laid.spans)))))
   ]
 
@@ -160,7 +169,7 @@ module _ (heap new : Dlmalloc PagedSystem) (blocks : List (Option Live)) (size a
 
 -- ---- no block more
 
-module _ (heap new : Dlmalloc PagedSystem) (blocks : List (Option Live)) (size : ℕ) (error : MallocError) (denied : IsDeniedBy heap size error new) where
+module _ (heap new : Dlmalloc PagedSystem) (blocks : List (Option Live)) (size : ℕ) (error : MallocError) (denied : IsRefusedWith regions word follows refuses denies heap size error new) where
   -- what is seen of a machine with a heap
   abbrev seen_of : Dlmalloc PagedSystem → Seen
   seen_of heap = record { paged = paged heap.system; granularity = heap.granularity; blocks = blocks }
@@ -181,7 +190,7 @@ module _ (heap new : Dlmalloc PagedSystem) (blocks : List (Option Live)) (size :
 -- ---- a block less
 
 module _ (heap new : Dlmalloc PagedSystem) (blocks : List (Option Live)) (number : ℕ) (live : Live) (laid : IsLaidOut heap blocks)
-    (is : live_at blocks number ≡ Some live) (back : IsGivenBack heap live.address new) where
+    (is : live_at blocks number ≡ Some live) (back : IsFreed regions word follows heap live.address new) where
   pub granularity_ended : new.granularity ≡ heap.granularity
   granularity_ended = ap (λ (h : HeapState). h.granularity) back.state
 
@@ -220,16 +229,22 @@ module _ (heap new : Dlmalloc PagedSystem) (blocks : List (Option Live)) (number
 
 -- ---- bytes of blocks
 
+-- a system with the same regions keeps those of the segments
+pub same_regions : (heap : Dlmalloc PagedSystem) → IsHeap heap → (system : PagedSystem) → regions system ≡ regions heap.system → KeepsRegions heap (heap_state heap).segments (regions heap.system) (regions system)
+same_regions heap sound system same = subst (KeepsRegions heap (heap_state heap).segments (regions heap.system)) (sym same) (record { same = each (heap_state heap).segments; last = sound.last })
+  where
+    each : (segments : List Segment) → AllByRecursion (λ (segment : Segment). regions_in segment (regions heap.system) ≡ regions_in segment (regions heap.system)) segments
+    each [] = tt
+    each (segment ∷ segments) = (refl, each segments)
+
 -- the blocks stay laid out where words of blocks alone are changed
-pub laid_outside : (heap : Dlmalloc PagedSystem) (blocks : List (Option Live)) (system : PagedSystem) → IsLaidOut heap blocks → IsStill (paged heap.system) (paged system) →
-    ((k : ℕ) → IsWordOf (regions heap.system) k →
-    ((used : Extent) → used.kind ≡ Used → extent_at used.at (extents_in (heap_state heap)) ≡ Some used → (k < used.at + 16) ⊎ (used.at + used.size + 8 ≤ k)) →
-    word system k ≡ word heap.system k) → IsLaidOut (record heap { system = system }) blocks
-laid_outside heap blocks system laid still outside =
-    let same : regions system ≡ regions heap.system = ap grants_of still.others in
-    let state : heap_state (record heap { system = system }) ≡ heap_state heap = state_outside regions word heap laid.heap_sound system same outside in
+pub laid_outside : (heap : Dlmalloc PagedSystem) (blocks : List (Option Live)) (system : PagedSystem) → IsLaidOut heap blocks → IsStill (paged heap.system) (paged system) → RestsOutside regions word heap →
+    OnlyBlocksChange (regions heap.system) (heap_state heap) (word heap.system) (word system) → IsLaidOut (record heap { system = system }) blocks
+laid_outside heap blocks system laid still rests outside =
+    let rest = rests laid.heap_sound system (same_regions heap laid.heap_sound system (ap grants_of still.others)) outside in
+    let state : heap_state (record heap { system = system }) ≡ heap_state heap = rest.1 in
     record {
-      heap_sound = sound_outside regions word heap laid.heap_sound system same outside;
+      heap_sound = rest.0;
       spans = subst (λ (h : HeapState). Spans h.segments (paged system)) (sym state) (spans_still (heap_state heap).segments (paged heap.system) (paged system) still laid.spans);
       lives = λ number live is. subst (λ (h : HeapState). IsLive h live) (sym state) (laid.lives number live is);
       used = λ extent used there. laid.used extent used (subst (λ (h : HeapState). extent_at extent.at (extents_in h) ≡ Some extent) state there);

@@ -1,4 +1,5 @@
 pub mod Consecutive
+pub mod Places
 pub mod Alone
 pub mod Pages
 pub mod Still
@@ -8,11 +9,11 @@ pub mod Granted
 pub mod Allocated
 pub mod Laid
 pub mod BlockPlaces
-pub mod Places
 pub mod Full
 pub mod Refused
 pub mod Handed
 pub mod Ended
 pub mod BlockBytes
+pub mod WholeRegions
 pub mod Listed
 pub mod NewSystem

@@ -1,11 +1,12 @@
 -- A request is refused.
-use Rattle.std.proofs.Common.{◌≡◌, ℕ, ◌+◌, ◌*◌, ◌%◌, ◌<◌, ◌≤◌, inl, inr, nat_le, refl, sym, ap, ◌∙◌, subst, arith, [], List, Option, Some, None, true, false}
+use Rattle.std.proofs.Common.{◌≡◌, ℕ, ◌+◌, ◌<◌, ◌≤◌, inl, inr, nat_le, refl, sym, ap, ◌∙◌, subst, arith, [], List, Option, Some, None, true, false}
 use Rattle.std.proofs.lemmas.Bool.Decides.{nat_tests}
 use Rattle.heap_memory.specs.declared.grant.GrantFault.TheVariants.{NoSpace as SystemNoSpace, NoFrames as SystemNoFrames}
 use Rattle.dlmalloc_chunks.specs.Request.{round_up, padded, limit}
 use Rattle.dlmalloc.specs.Served.{IsDenied}
 use Rattle.dlmalloc.specs.declared.heap.Dlmalloc.{Dlmalloc}
 use Rattle.heap_model.specs.declared.live.Live.{Live}
+use Rattle.heap_model.specs.declared.region.Region.{Region}
 use Rattle.heap_model.specs.declared.answer.Refusal.{Refusal}
 use Rattle.heap_model.specs.declared.answer.Refusal.TheVariants.{TooLarge, NoSpace, NoFrames}
 use Rattle.heap_model.specs.declared.answer.Reply.TheVariants.{Refused}
@@ -15,22 +16,21 @@ use Rattle.heap_model.specs.declared.call.Call.TheVariants.{Malloc, Free, Write,
 use Rattle.heap_model.specs.Request.{wanted, pages_in, pages_for}
 use Rattle.heap_model.specs.State.{State}
 use Rattle.heap_model.specs.Tables.{missing, free_frames}
-use Rattle.heap_model.specs.Place.{IsPlace, HasNoPlace}
+use Rattle.heap_model.specs.Place.{all_regions, IsPlace, HasNoPlace}
 use Rattle.heap_model.specs.Refusal.{must_refuse, MayRefuse}
 use Rattle.heap_model.specs.Answer.{changed}
 use Rattle.heap_model.specs.Run.{IsGood}
 use Rattle.heap_model.specs.Machine.{Seen, Stands, IsStep}
 use Rattle.heap_model.proofs.Granted.{missing_same}
-use Rattle.kernel_heap.specs.Layout.{AreConsecutive, regions_end, window_end}
+use Rattle.kernel_heap.specs.Layout.{regions_end}
 use Rattle.kernel_heap.specs.System.{paged}
 use Rattle.kernel_heap.specs.Heap.{heap_state, denies}
 use Rattle.kernel_heap.specs.Machine.{IsLaidOut}
 use Rattle.kernel_heap.specs.declared.paged_system.PagedSystem.{PagedSystem}
 use Rattle.kernel_heap.proofs.Alone.{heap_alone, no_users}
 use Rattle.kernel_heap.proofs.Full.{no_room}
-use Rattle.kernel_heap.proofs.Granted.{range_behind}
 use Rattle.kernel_heap.proofs.Pages.{pages_some, asked_some}
-use Rattle.kernel_heap.proofs.Places.{place_behind, no_place}
+use Rattle.kernel_heap.proofs.Places.{range_within}
 
 abbrev pub refused_with : Refusal → Answer
 refused_with refusal = record { reply = Refused refusal; regions = None }
@@ -65,7 +65,7 @@ not_refused s size less = let small : nat_le (limit s.granularity) size ≡ fals
 
 -- what a state has of the regions of a machine
 module _ (system : PagedSystem) (m : Seen) (same : m.paged ≡ paged system) (s : State) (good : IsGood s) (stands : Stands m s) where
-  regions_same : (paged system).regions ≡ Rattle.heap_model.specs.Place.all_regions s
+  regions_same : (paged system).regions ≡ all_regions s
   regions_same = sym (ap (λ p. p.regions) same) ∙ stands.regions
 
   pub regions_are : s.heap ≡ (paged system).regions
@@ -74,19 +74,18 @@ module _ (system : PagedSystem) (m : Seen) (same : m.paged ≡ paged system) (s 
   pub alone : s.users ≡ []
   alone = no_users s (paged system).base (regions_end (paged system)) (paged system).regions good regions_same system.kept.consecutive
 
-  base_is : (paged system).base ≡ s.base
-  base_is = sym (ap (λ p. p.base) same) ∙ stands.base
+  -- what is said of a place in the machine's window among its regions, holds in the state's
+  placed : (P : ℕ → ℕ → List Region → Type 0) → P (paged system).base (paged system).pages (paged system).regions → P s.base s.pages (all_regions s)
+  placed P is =
+      subst (λ (regions : List Region). P s.base s.pages regions) regions_same
+      (subst (λ (pages : ℕ). P s.base pages (paged system).regions) (sym (ap (λ p. p.pages) same) ∙ stands.pages)
+      (subst (λ (base : ℕ). P base (paged system).pages (paged system).regions) (sym (ap (λ p. p.base) same) ∙ stands.base) is))
 
-  -- the regions of the state, one after the other
-  pub consecutive : AreConsecutive s.base s.heap (regions_end (paged system))
-  consecutive = subst (λ b. AreConsecutive b s.heap (regions_end (paged system))) base_is
-      (subst (λ xs. AreConsecutive (paged system).base xs (regions_end (paged system))) (sym regions_are) system.kept.consecutive)
+  pub place_same : (pages address : ℕ) → IsPlace (paged system).base (paged system).pages (paged system).regions pages address → IsPlace s.base s.pages (all_regions s) pages address
+  place_same pages address = placed (λ base window regions. IsPlace base window regions pages address)
 
-  pub whole : s.base % 4096 ≡ 0
-  whole = subst (λ b. b % 4096 ≡ 0) base_is system.kept.window.whole
-
-  pub window : s.base + 4096 * s.pages ≡ window_end (paged system)
-  window = let b = base_is in let p = sym (ap (λ q. q.pages) same) ∙ stands.pages in omega arith
+  no_place_same : (pages : ℕ) → HasNoPlace (paged system).base (paged system).pages (paged system).regions pages → HasNoPlace s.base s.pages (all_regions s) pages
+  no_place_same pages = placed (λ base window regions. HasNoPlace base window regions pages)
 
 module _ (heap : Dlmalloc PagedSystem) (blocks : List (Option Live)) (laid : IsLaidOut heap blocks) (s : State) (good : IsGood s)
     (stands : Stands (record { paged = paged heap.system; granularity = heap.granularity; blocks = blocks }) s)
@@ -105,12 +104,10 @@ module _ (heap : Dlmalloc PagedSystem) (blocks : List (Option Live)) (laid : IsL
   pub step_no_space : IsDenied denies heap.system (heap_state heap) (padded size) SystemNoSpace → IsStep s (Malloc size 16) (refused_with NoSpace) m
   unfolding wanted
   step_no_space is =
-      let w = window heap.system m refl s good stands in
-      let outside = is.denied (λ e. absurd (cc)) in
-      let none_fits : HasNoPlace s (pages_in (round_up (padded size + 96) heap.granularity)) =
-      no_place s (regions_end (paged heap.system)) (pages_in (round_up (padded size + 96) heap.granularity)) (pages_some _ (asked_some (padded size) heap.granularity laid.heap_sound.granularity))
-      (whole heap.system m refl s good stands) (consecutive heap.system m refl s good stands) (alone heap.system m refl s good stands) (omega arith) in
-      let may : MayRefuse s (Some (wanted size 16)) NoSpace = (no_room heap blocks laid s good stands (padded size) is.none_chosen, subst (HasNoPlace s) (sym pages_same) none_fits) in
+      let none_fits : HasNoPlace s.base s.pages (all_regions s) (pages_in (round_up (padded size + 96) heap.granularity)) =
+      no_place_same heap.system m refl s good stands (pages_in (round_up (padded size + 96) heap.granularity)) (is.denied (λ e. absurd (cc))) in
+      let may : MayRefuse s (Some (wanted size 16)) NoSpace =
+      (no_room heap blocks laid s good stands (padded size) is.full, subst (HasNoPlace s.base s.pages (all_regions s)) (sym pages_same) none_fits) in
       record {
         allowed = record { reply = (refl, inr (not_refused s size below, may)); listed = tt };
         good = good;
@@ -123,23 +120,20 @@ module _ (heap : Dlmalloc PagedSystem) (blocks : List (Option Live)) (laid : IsL
   step_no_frames is =
       let pages : ℕ = pages_in (round_up (padded size + 96) heap.granularity) in
       let some = pages_some (round_up (padded size + 96) heap.granularity) (asked_some (padded size) heap.granularity laid.heap_sound.granularity) in
-      let w = window heap.system m refl s good stands in
       let f = stands.free_frames in
       let lacks = is.denied (λ e. absurd (cc)) in
-      let inside = lacks.0 in
-      let few = lacks.1 in
-      let range = range_behind (paged heap.system) (pages_in (round_up (padded size + 96) heap.granularity)) heap.system.kept some inside in
-      let place : IsPlace s (pages_in (round_up (padded size + 96) heap.granularity)) (regions_end (paged heap.system)) =
-      place_behind s (regions_end (paged heap.system)) (pages_in (round_up (padded size + 96) heap.granularity)) some
-      (whole heap.system m refl s good stands) (consecutive heap.system m refl s good stands) (alone heap.system m refl s good stands) (omega arith) in
-      let same = missing_same m s (regions_end (paged heap.system)) (pages_in (round_up (padded size + 96) heap.granularity)) stands range in
-      let less : free_frames s < pages_in (round_up (padded size + 96) heap.granularity) + missing s.tables (regions_end (paged heap.system)) (pages_in (round_up (padded size + 96) heap.granularity)) = omega arith in
+      let few = lacks.2 in
+      let range = range_within (paged heap.system) (pages_in (round_up (padded size + 96) heap.granularity)) lacks.0 heap.system.kept.window some lacks.1.fit in
+      let place : IsPlace s.base s.pages (all_regions s) (pages_in (round_up (padded size + 96) heap.granularity)) lacks.0 =
+      place_same heap.system m refl s good stands (pages_in (round_up (padded size + 96) heap.granularity)) lacks.0 lacks.1 in
+      let same = missing_same m s lacks.0 (pages_in (round_up (padded size + 96) heap.granularity)) stands range in
+      let less : free_frames s < pages_in (round_up (padded size + 96) heap.granularity) + missing s.tables lacks.0 (pages_in (round_up (padded size + 96) heap.granularity)) = omega arith in
       let may : MayRefuse s (Some (wanted size 16)) NoFrames = (
-        no_room heap blocks laid s good stands (padded size) is.none_chosen,
+        no_room heap blocks laid s good stands (padded size) is.full,
         (
-          regions_end (paged heap.system),
-          subst (λ k. IsPlace s k (regions_end (paged heap.system))) (sym pages_same) place,
-          subst (λ k. free_frames s < k + missing s.tables (regions_end (paged heap.system)) k) (sym pages_same) less,
+          lacks.0,
+          subst (λ k. IsPlace s.base s.pages (all_regions s) k lacks.0) (sym pages_same) place,
+          subst (λ k. free_frames s < k + missing s.tables lacks.0 k) (sym pages_same) less,
         ),
       ) in
       record {

@@ -1,5 +1,5 @@
 -- What a paged system keeps, beside what its state says.
-use Rattle.std.specs.Prelude.{◌≡◌, ℕ, ◌+◌, ◌*◌, ◌/◌, ◌^◌, ◌<◌, ◌≤◌, List, [], ◌∷◌, ◌++◌, None, IsSome}
+use Rattle.std.specs.Prelude.{◌≡◌, ℕ, ◌+◌, ◌*◌, ◌/◌, ◌^◌, ◌<◌, ◌≤◌, List, [], ◌∷◌, None, IsSome}
 use Rattle.paging_core.specs.Memory.{frame_count}
 use Rattle.paging_core.specs.Pool.{FreeBelow, free_count}
 use Rattle.paging_core.specs.Walk.{reach, walk_of}
@@ -11,6 +11,7 @@ use Rattle.heap_memory.specs.declared.grant.GrantFault.TheVariants.{NoSpace, NoF
 use Rattle.heap_model.specs.declared.region.Region.{Region}
 use Rattle.heap_model.specs.Request.{pages_in}
 use Rattle.heap_model.specs.State.{total_pages}
+use Rattle.heap_model.specs.Place.{with_region, IsPlace, HasNoPlace}
 use Rattle.heap_model.specs.Room.{heap_region}
 use Rattle.heap_model.specs.Machine.{Paged, IsPagedGrant}
 use Rattle.std.proofs.Props.{props}
@@ -54,29 +55,30 @@ pub record IsNew (p : Paged) (base pages frames : ℕ) : Type 0 where
   pub no_tables : (level number : ℕ) → 0 < level → reach p.words p.root level number ≡ None
   pub unmapped : (page : ℕ) → walk_of p.words p.root page ≡ None
 
--- So many pages have a place behind the regions, and there are frames for them and the tables that they lack.
-pub record CanGrant (p : Paged) (pages : ℕ) : Type 0 where
+-- So many pages have their place at an address, and there are frames for them and the tables that they lack.
+pub record CanGrant (p : Paged) (pages address : ℕ) : Type 0 where
   pub some : 0 < pages
-  pub inside : regions_end p + 4096 * pages ≤ window_end p
-  pub frames : pages + missing_of p.words p.root (regions_end p / 4096) pages ≤ free_count p.free
+  pub place : IsPlace p.base p.pages p.regions pages address
+  pub frames : pages + missing_of p.words p.root (address / 4096) pages ≤ free_count p.free
 
--- Why so many pages cannot be granted: they have no place behind the regions; or they have one, and there are too few
--- free frames for them and the tables that they lack.
+-- Why so many pages cannot be granted: they have no place; or they have one, and there are too few free frames for them
+-- and the tables that they lack.
 abbrev pub Lacks : Paged → ℕ → GrantFault → Type 0
-Lacks p pages NoSpace = window_end p < regions_end p + 4096 * pages
-Lacks p pages NoFrames = (regions_end p + 4096 * pages ≤ window_end p) × (free_count p.free < pages + missing_of p.words p.root (regions_end p / 4096) pages)
+Lacks p pages NoSpace = HasNoPlace p.base p.pages p.regions pages
+Lacks p pages NoFrames = (address : ℕ) × IsPlace p.base p.pages p.regions pages address × (free_count p.free < pages + missing_of p.words p.root (address / 4096) pages)
 Lacks p pages OutOfMemory = ⊥
 
--- So many pages were granted behind the regions.
-pub record IsGranted (old new : Paged) (pages : ℕ) : Type 0 where
-  pub grant : IsPagedGrant old new (regions_end old) pages
-  pub regions : new.regions ≡ old.regions ++ heap_region (regions_end old) pages ∷ []
+-- So many pages were granted at an address, and their region joined the others.
+pub record IsGranted (old new : Paged) (pages address : ℕ) : Type 0 where
+  pub grant : IsPagedGrant old new address pages
+  pub regions : new.regions ≡ with_region (heap_region address pages) old.regions
 
 -- A request of so many bytes was granted: its pages had a place and frames, and they are the grant.
 pub record IsGrantedFor (old new : Paged) (asked : ℕ) (grant : Grant) : Type 0 where
-  pub can : CanGrant old (pages_in asked)
-  pub granted : IsGranted old new (pages_in asked)
-  pub is : grant ≡ record { base = regions_end old; size = 4096 * pages_in asked; flags = 0 }
+  pub can : CanGrant old (pages_in asked) grant.base
+  pub granted : IsGranted old new (pages_in asked) grant.base
+  pub size : grant.size ≡ 4096 * pages_in asked
+  pub flags : grant.flags ≡ 0
 
 -- ---- a system keeps this in one way
 

@@ -1,21 +1,25 @@
 // Bytes of live blocks.
 ghost use Rattle.std.specs.Prelude.{◌≡◌, IfOk, IfErr, IsOk, Some};
+ghost use Rattle.dlmalloc.specs.Blocks.{ArePlaced};
 ghost use Rattle.heap_model.specs.State.{State};
 ghost use Rattle.heap_model.specs.Run.{IsGood};
 ghost use Rattle.heap_model.specs.Machine.{Stands, IsStep};
-ghost use Rattle.kernel_heap.specs.Machine.{seen, heap_of, live_at, refuse_live, HasBytes, IsSound};
+ghost use Rattle.kernel_heap.specs.Heap.{regions};
+ghost use Rattle.kernel_heap.specs.Machine.{seen, system_of, heap_of, live_at, refuse_live, HasBytes, IsSound};
 
-use crate::machine::{Machine, refused};
+use crate::numbered_heap::{NumberedHeap, refused};
 use heap_model::{Answer, Call, Refusal, Reply};
 use std::alloc::AllocError;
 
-impl Machine {
+impl NumberedHeap {
     /// The address of the byte at an offset of a live block, where so many bytes from there lie in the block.
     fn find_bytes(&self, number: u64, offset: u64, count: u64) -> Result<u64, Refusal>
         requires sound { IsSound self.now }
         ensures ok { IfOk result (λ address. HasBytes (seen self.now).blocks number offset count address) }
         ensures err { IfErr result (λ refusal. refuse_live (live_at (seen self.now).blocks number) offset count ≡ Some refusal) }
+        ensures placed { ArePlaced (regions (system_of self.now)) (heap_of self.now) }
     {
+        self.heap.blocks_are_placed();
         let Some(Some(live)) = self.blocks.get(number as usize) else {
             return Err(Refusal::UnknownBlock);
         };
@@ -34,6 +38,7 @@ impl Machine {
     {
         match self.find_bytes(number, offset, bytes.len() as u64) {
             Ok(address) => {
+                self.heap.rests_outside();
                 self.heap.allocator_mut().write_bytes(address, bytes);
                 Answer {
                     reply: Reply::Done,

@@ -5,6 +5,7 @@ mod block_bytes;
 mod configuration;
 mod heap_calls;
 mod machine;
+mod numbered_heap;
 mod paged_allocator;
 mod paged_bytes;
 mod paged_memory;

@@ -1,5 +1,6 @@
 // The paged system as a system that grants regions.
-ghost use Rattle.std.specs.Prelude.{◌≡◌, ℕ, List, true, refl};
+ghost use Rattle.std.specs.Prelude.{◌≡◌, ℕ, List, true, refl, IsTrue};
+ghost use Rattle.std.specs.Int.{is_power_of_two};
 ghost use Rattle.kernel_heap.specs.System.{paged};
 
 use crate::paged_system::PagedSystem;
@@ -32,7 +33,10 @@ impl Allocator for PagedSystem {
         true
     }
 
-    fn page_size(&self) -> u64 {
+    fn page_size(&self) -> u64
+        ensures page { result ≡ 4096 }
+        ensures power { IsTrue (is_power_of_two result) }
+    {
         Size4KiB::SIZE
     }
 }

@@ -9,11 +9,14 @@ use step_count::Steps;
 
 impl Links for PagedSystem {
     ghost use Rattle.kernel_heap.specs.Follows.{Follows, still_none, follows_on as paged_follows_on};
+    ghost use Rattle.kernel_heap.specs.Ordered.{regions_whole};
     ghost use Rattle.kernel_heap.specs.Words.{grants_of, word_reached};
 
     ghost regions = { λ system. grants_of (paged system) };
 
     ghost word = { λ system at. word_reached (paged system) at };
+
+    ghost whole = { λ system. regions_whole (paged system) system.kept };
 
     ghost follows = { λ old events new. Follows (paged old) events (paged new) };
 

@@ -156,37 +156,37 @@ impl PagedSystem {
         RegionList::from_vec(list)
     }
 
-    /// Whether so many pages can be granted behind the regions.
-    fn plan(&self, pages: u64) -> Result<(), GrantFault>
+    /// The place of so many pages, where they have one and can be granted there. The regions follow each other from
+    /// the start of the window, so it is their end.
+    fn plan(&self, pages: u64) -> Result<u64, GrantFault>
         requires some { 0 < pages }
-        ensures ok { OnOk result (CanGrant (paged self.now) pages) }
+        ensures ok { IfOk result (λ place. CanGrant (paged self.now) pages place) }
         ensures lacks { IfErr result (λ fault. Lacks (paged self.now) pages fault) }
     {
-        let end = self.end();
-        if pages > self.pages - (end - self.base) / Size4KiB::SIZE {
+        let place = self.end();
+        if pages > self.pages - (place - self.base) / Size4KiB::SIZE {
             return Err(GrantFault::NoSpace);
         }
         let free = self.pool.free_count();
         if free < pages {
             return Err(GrantFault::NoFrames);
         }
-        let missing = missing_tables(&self.frames, self.root, end / Size4KiB::SIZE, pages);
+        let missing = missing_tables(&self.frames, self.root, place / Size4KiB::SIZE, pages);
         if free - pages < missing {
             return Err(GrantFault::NoFrames);
         }
-        Ok(())
+        Ok(place)
     }
 
-    /// Grants so many pages behind the regions. An `Err` changes nothing.
-    fn grant(&mut self, pages: u64) -> Result<(), AllocError>
-        requires can { CanGrant (paged self.old) pages }
-        ensures ok { OnOk result (IsGranted (paged self.old) (paged self.new) pages) }
+    /// Grants so many pages at their place. An `Err` changes nothing.
+    fn grant(&mut self, pages: u64, place: u64) -> Result<(), AllocError>
+        requires can { CanGrant (paged self.old) pages place }
+        ensures ok { OnOk result (IsGranted (paged self.old) (paged self.new) pages place) }
         ensures err { OnErr result (paged self.new ≡ paged self.old) }
     {
-        let end = self.end();
         let free = self.pool.free_count();
         self.regions.reserve(1)?;
-        let first = Page::containing_address(VirtAddr::new(end));
+        let first = Page::containing_address(VirtAddr::new(place));
         map_range(
             &mut self.frames,
             &mut self.pool,
@@ -196,7 +196,7 @@ impl PagedSystem {
             heap_rights(),
         );
         self.tables += free - pages - self.pool.free_count();
-        self.regions.push_reserved(heap_region(end, pages));
+        self.regions.push_reserved(heap_region(place, pages));
         Ok(())
     }
 
@@ -208,11 +208,10 @@ impl PagedSystem {
         ensures lacks { IfErr result (λ fault. fault ≢ OutOfMemory → Lacks (paged self.old) (pages_in size) fault) }
     {
         let pages = pages_in(size);
-        self.plan(pages)?;
-        let base = self.end();
-        match self.grant(pages) {
+        let place = self.plan(pages)?;
+        match self.grant(pages, place) {
             Ok(()) => Ok(Grant {
-                base,
+                base: place,
                 size: pages * Size4KiB::SIZE,
                 flags: 0,
             }),

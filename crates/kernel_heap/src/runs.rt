@@ -2,7 +2,7 @@
 ghost use Rattle.std.specs.Prelude.{All, IfOk, IfErr, OnOk};
 ghost use Rattle.heap_model.specs.State.{start};
 ghost use Rattle.kernel_heap.specs.Config.{IsGoodConfig, IsRefused};
-ghost use Rattle.kernel_heap.specs.Machine.{IsSound, IsServable};
+ghost use Rattle.kernel_heap.specs.Machine.{IsServable};
 ghost use Rattle.kernel_heap.specs.Runs.{AreServed};
 
 use crate::machine::Machine;
@@ -22,7 +22,6 @@ pub struct Run {
 pub fn run_calls(alloc: Global, config: &Config, calls: &CallList) -> Result<Run, RunError>
     requires servable { All IsServable calls.now }
     ensures served { IfOk result (λ run. AreServed (start config.now) calls.now run.answers run.machine) }
-    ensures sound { IfOk result (λ run. IsSound run.machine) }
     ensures accepted { OnOk result (IsGoodConfig config.now) }
     ensures refused { IfErr result (λ error. IsRefused config.now error) }
 {

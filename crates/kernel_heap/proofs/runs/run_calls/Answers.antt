@@ -15,19 +15,16 @@ loop-call-preserved c =
     let items = c.as_slice-call-items.result.now in
     let i = c.loop-call.call-index in
     let call = get_or items i c.call-item.result in
-    let h = c.loop-call.invariant.served in
+    let h = c.loop-call.invariant in
     let answer = c.in_ok-step.field-0 in
     let more : AreServed s (take i items ++ call ∷ []) (c.loop-call.answers ++ answer ∷ []) c.step.new.self =
     served_more s (take i items) c.loop-call.answers c.loop-call.machine c.step.new.self call answer h (subst (λ (asked : Call). IsStep h.state asked answer (seen c.step.new.self)) c.call-item.is (c.in_ok-step.ensures.ok h.state h.good h.stands)) in
-    record {
-      sound = c.in_ok-step.ensures.sound;
-      served = subst (λ (calls : List Call). AreServed s calls c.push.new.self c.step.new.self) (sym (take_more items i c.call-item.result c.loop-call-test.true))
-          (subst (λ (answers : List Answer). AreServed s (take i items ++ call ∷ []) answers c.step.new.self) (sym c.in_ok-push.ensures.ok) more);
-    }
+    subst (λ (calls : List Call). AreServed s calls c.push.new.self c.step.new.self) (sym (take_more items i c.call-item.result c.loop-call-test.true))
+    (subst (λ (answers : List Answer). AreServed s (take i items ++ call ∷ []) answers c.step.new.self) (sym c.in_ok-push.ensures.ok) more)
 
 pub returns-clause-served : goal.returns-clause-served
 returns-clause-served c =
     let items = c.as_slice-call-items.result.now in
     let all = take_all c.loop-call.call-index items c.loop-call-test.false in
     subst (λ (calls : List Call). AreServed (start c.args.config.now) calls c.loop-call.answers c.loop-call.machine) c.as_slice-call-items.ensures
-    (subst (λ (calls : List Call). AreServed (start c.args.config.now) calls c.loop-call.answers c.loop-call.machine) all c.loop-call.invariant.served)
+    (subst (λ (calls : List Call). AreServed (start c.args.config.now) calls c.loop-call.answers c.loop-call.machine) all c.loop-call.invariant)

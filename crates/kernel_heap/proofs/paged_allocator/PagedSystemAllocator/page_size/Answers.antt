@@ -2,6 +2,6 @@ use lib.Count.{ones}
 use Rattle.std.proofs.Common.{refl}
 use Rattle.kernel_heap.proofs.paged_allocator.PagedSystemAllocator.page_size.Goals as goal
 
-pub returns : goal.returns
+pub returns-clause-power : goal.returns-clause-power
 unfolding ones
-returns c = refl
+returns-clause-power c = refl

@@ -2,26 +2,28 @@ use Rattle.std.proofs.Common.{length, refl, subst, sym}
 use Rattle.kernel_heap.specs.System.{paged}
 use Rattle.kernel_heap.specs.Written.{AreInside, IsWritten}
 use Rattle.kernel_heap.proofs.BlockBytes.{bytes_inside, heap_written, laid_written, step_written}
-use Rattle.kernel_heap.proofs.machine.Machine.write.Goals as goal
+use Rattle.kernel_heap.proofs.numbered_heap.NumberedHeap.write.Goals as goal
 
 pub write_bytes-requires : goal.write_bytes-requires
 write_bytes-requires c = subst (λ system. AreInside (paged system) c.in-Ok.address (length c.args.bytes.now)) (sym c.allocator_mut.ensures.value)
-    (bytes_inside c.args.self.now.heap c.args.self.now.blocks.items c.args.number c.args.offset (length c.args.bytes.now) c.in-Ok.address c.requires.sound c.in-Ok.ensures.ok)
+    (bytes_inside c.args.self.now.heap c.args.self.now.blocks.items c.args.number c.args.offset (length c.args.bytes.now) c.in-Ok.address c.requires.sound c.find_bytes.ensures.placed c.in-Ok.ensures.ok)
 
 pub returns-in-Ok-clause-sound : goal.returns-in-Ok-clause-sound
 returns-in-Ok-clause-sound c =
-    laid_written c.args.self.now.heap c.args.self.now.blocks.items c.args.number c.args.offset (length c.args.bytes.now) c.in-Ok.address c.requires.sound c.in-Ok.ensures.ok
+    laid_written c.args.self.now.heap c.args.self.now.blocks.items c.args.number c.args.offset (length c.args.bytes.now) c.in-Ok.address c.requires.sound c.find_bytes.ensures.placed c.in-Ok.ensures.ok
     c.write_bytes.new.self c.args.bytes.now refl
     (subst (λ system. IsWritten (paged system) (paged c.write_bytes.new.self) c.in-Ok.address c.args.bytes.now (length c.args.bytes.now)) c.allocator_mut.ensures.value c.write_bytes.ensures)
+    c.rests_outside.ensures
 
 pub returns-in-Ok-clause-ok : goal.returns-in-Ok-clause-ok
 returns-in-Ok-clause-ok c = λ s good stands.
-    step_written c.args.self.now.heap c.args.self.now.blocks.items c.args.number c.args.offset (length c.args.bytes.now) c.in-Ok.address c.requires.sound c.in-Ok.ensures.ok s good stands
+    step_written c.args.self.now.heap c.args.self.now.blocks.items c.args.number c.args.offset (length c.args.bytes.now) c.in-Ok.address c.requires.sound c.find_bytes.ensures.placed c.in-Ok.ensures.ok s good stands
     (paged c.write_bytes.new.self) c.args.bytes.now refl
     (subst (λ system. IsWritten (paged system) (paged c.write_bytes.new.self) c.in-Ok.address c.args.bytes.now (length c.args.bytes.now)) c.allocator_mut.ensures.value c.write_bytes.ensures)
 
 pub returns-in-Ok-clause-heap : goal.returns-in-Ok-clause-heap
 returns-in-Ok-clause-heap c =
-    heap_written c.args.self.now.heap c.args.self.now.blocks.items c.args.number c.args.offset (length c.args.bytes.now) c.in-Ok.address c.requires.sound c.in-Ok.ensures.ok
+    heap_written c.args.self.now.heap c.args.self.now.blocks.items c.args.number c.args.offset (length c.args.bytes.now) c.in-Ok.address c.requires.sound c.find_bytes.ensures.placed c.in-Ok.ensures.ok
     c.write_bytes.new.self c.args.bytes.now refl
     (subst (λ system. IsWritten (paged system) (paged c.write_bytes.new.self) c.in-Ok.address c.args.bytes.now (length c.args.bytes.now)) c.allocator_mut.ensures.value c.write_bytes.ensures)
+    c.rests_outside.ensures

@@ -1,0 +1,134 @@
+// A heap over a paged system, and the blocks that were handed out of it, by number.
+ghost use Rattle.std.specs.Prelude.{◌≡◌, ◌≢◌, ℕ, ◌<◌, ◌≤◌, ◌++◌, ◌∷◌, Some, None, IfOk, OnErr, [], vec_len, vec_capacity, length};
+ghost use Rattle.heap_model.specs.State.{State};
+ghost use Rattle.heap_model.specs.Run.{IsGood};
+ghost use Rattle.heap_model.specs.Machine.{Stands, IsStep};
+
+use crate::heap_calls;
+use crate::paged_system::PagedSystem;
+use dlmalloc::{Dlmalloc, MallocError};
+use heap_memory::GrantFault;
+use heap_model::{Answer, Call, Live, Refusal, Region, RegionList, Reply};
+use std::alloc::{AllocError, Global};
+use std::marker::Brand;
+use std::sync::ledger::Blank;
+
+/// The alignment of the blocks that are handed out, in bytes.
+const ALIGNMENT: u64 = 16;
+
+/// The answer that refuses a call.
+pub(crate) fn refused(refusal: Refusal) -> Answer
+    ensures { result ≡ record { reply = Reply.Refused refusal; regions = None } }
+{
+    Answer {
+        reply: Reply::Refused(refusal),
+        regions: None,
+    }
+}
+
+/// A heap over a paged system, and its blocks by number.
+#[derive(Drop)]
+pub(crate) struct NumberedHeap {
+    pub(crate) alloc: Global,
+    pub(crate) heap: Dlmalloc<PagedSystem>,
+    pub(crate) blocks: Vec<Option<Live>>,
+    /// The list of the next answer that tells of a grant. Its places are reserved before the heap is asked.
+    pub(crate) list: Vec<Region>,
+}
+
+impl NumberedHeap {
+    ghost use Rattle.kernel_heap.specs.Machine.{seen, heap_of, HeapMoves, IsSound};
+
+    /// Hands out a block of `size` bytes. The answer and the block have their places before anything changes.
+    pub(crate) fn malloc(&mut self, size: u64) -> Result<Answer, AllocError>
+        requires sound { IsSound self.old }
+        ensures sound { IsSound self.new }
+        ensures ok { (s : State) → IsGood s → Stands (seen self.old) s → IfOk result (λ answer. IsStep s (Call.Malloc size 16) answer (seen self.new)) }
+        ensures err { OnErr result (seen self.new ≡ seen self.old) }
+        ensures heap { IfOk result (λ answer. HeapMoves self.old (Call.Malloc size 16) answer.reply self.new) }
+        ensures heap_err { OnErr result (heap_of self.new ≡ heap_of self.old) }
+    {
+        let count = self.heap.allocator().region_count();
+        self.blocks.reserve(1)?;
+        self.list.clear();
+        self.list.reserve(count + 1)?;
+        match heap_calls::malloc::<Brand>(&mut self.heap, size, Blank::new(1)) {
+            Ok(address) => Ok(Answer {
+                reply: self.add_block(address, size),
+                regions: self.changed_regions(count),
+            }),
+            Err(MallocError::TooLarge) => Ok(refused(Refusal::TooLarge)),
+            Err(MallocError::System(GrantFault::NoSpace)) => Ok(refused(Refusal::NoSpace)),
+            Err(MallocError::System(GrantFault::NoFrames)) => Ok(refused(Refusal::NoFrames)),
+            Err(MallocError::System(GrantFault::OutOfMemory)) => Err(AllocError),
+        }
+    }
+
+    /// Numbers a block. It has its place among the blocks.
+    fn add_block(&mut self, address: u64, size: u64) -> Reply
+        requires place { vec_len self.old.blocks < vec_capacity self.old.blocks }
+        ensures reply { result ≡ Reply.Block (length self.old.blocks.items) address }
+        ensures blocks { self.new.blocks.items ≡ self.old.blocks.items ++ Some (record { address = address; size = size; align = 16 }) ∷ [] }
+        ensures heap { self.new.heap ≡ self.old.heap }
+        ensures list { self.new.list ≡ self.old.list }
+    {
+        let number = self.blocks.len() as u64;
+        self.blocks.push_reserved(Some(Live {
+            address,
+            size,
+            align: ALIGNMENT,
+        }));
+        Reply::Block { number, address }
+    }
+
+    /// The regions, where there are more than so many. The list has its places.
+    fn changed_regions(&mut self, count: usize) -> Option<RegionList>
+        requires empty { self.old.list.items ≡ [] }
+        requires places { length (seen self.old).paged.regions ≤ vec_capacity self.old.list }
+        ensures same { length (seen self.old).paged.regions ≡ count → result ≡ None }
+        ensures more { length (seen self.old).paged.regions ≢ count → result ≡ Some (seen self.old).paged.regions }
+        ensures blocks { self.new.blocks ≡ self.old.blocks }
+        ensures heap { self.new.heap ≡ self.old.heap }
+    {
+        if self.heap.allocator().region_count() == count {
+            return None;
+        }
+        let list = std::mem::replace(&mut self.list, Vec::new(self.alloc));
+        Some(self.heap.allocator().list_regions(list))
+    }
+
+    /// Ends a block. It takes no memory.
+    pub(crate) fn free(&mut self, number: u64) -> Answer
+        requires sound { IsSound self.old }
+        ensures sound { IsSound self.new }
+        ensures ok { (s : State) → IsGood s → Stands (seen self.old) s → IsStep s (Call.Free number) result (seen self.new) }
+        ensures heap { HeapMoves self.old (Call.Free number) result.reply self.new }
+    {
+        let Some(Some(live)) = self.blocks.get(number as usize) else {
+            return refused(Refusal::UnknownBlock);
+        };
+        let live = *live;
+        heap_calls::free::<Brand>(&mut self.heap, live, Blank::new(1));
+        self.blocks[number as usize] = None;
+        Answer {
+            reply: Reply::Done,
+            regions: None,
+        }
+    }
+
+    /// Lists the extents of the heap.
+    pub(crate) fn extents(&self) -> Result<Answer, AllocError>
+        requires sound { IsSound self.now }
+        ensures ok { (s : State) → IsGood s → Stands (seen self.now) s → IfOk result (λ answer. IsStep s Call.Extents answer (seen self.now)) }
+        ensures heap { IfOk result (λ answer. HeapMoves self.now Call.Extents answer.reply self.now) }
+    {
+        Ok(Answer {
+            reply: Reply::Extents(heap_calls::extents::<Brand>(
+                &self.heap,
+                self.alloc,
+                Blank::new(1),
+            )?),
+            regions: None,
+        })
+    }
+}
