@@ -1,7 +1,8 @@
 //! The program `heap`: a kernel heap over four-level page tables, driven by lines of text.
 #![tactic(auto)]
 
-ghost use Rattle.std.specs.Prelude.{◌≤◌};
+ghost use Rattle.std.specs.Prelude.{◌≡◌, ◌≤◌, ◌⊎◌};
+ghost use Rattle.std.specs.Process.{exit_status};
 
 use heap_program::{ReaderSource, WriterSink, heap_main, status_text};
 use std::process::ExitCode;
@@ -64,9 +65,9 @@ fn status_of(error: &io::Error) -> u8
     }
 }
 
-/// Prints a text, and answers the status.
-fn show(rt: &HostRuntime, text: &str) -> u8
-    ensures { result ≤ 8 }
+/// Prints a text, and answers the status: 0, or 7 where the text could not be written.
+fn show(rt: &impl Print, text: &str) -> u8
+    ensures { (result ≡ 0) ⊎ (result ≡ 7) }
 {
     match rt.print(text) {
         Ok(()) => 0,
@@ -88,13 +89,22 @@ fn status(rt: &HostRuntime, words: &[String]) -> u8
     }
 }
 
-fn main(rt: HostRuntime) -> io::Result<ExitCode> {
+/// Ends with a status, and says on standard error what it means where it is not 0. A text that cannot be written there
+/// changes nothing.
+fn exit_with(rt: &impl Eprint, status: u8) -> ExitCode
+    requires { status ≤ 8 }
+    ensures { exit_status result ≡ status }
+{
+    if status != 0 {
+        let _ = eprintln!(rt; "{}", status_text(status));
+    }
+    ExitCode::from(status)
+}
+
+fn main(rt: HostRuntime) -> ExitCode {
     let status = match words(&rt) {
         Ok(words) => status(&rt, &words),
         Err(error) => status_of(&error),
     };
-    if status != 0 {
-        eprintln!(rt; "{}", status_text(status))?;
-    }
-    Ok(ExitCode::from(status))
+    exit_with(&rt, status)
 }

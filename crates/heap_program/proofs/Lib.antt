@@ -3,6 +3,7 @@ pub mod Defaults
 pub mod Endings
 pub mod Errors
 mod Examples
+pub mod Fits
 pub mod Known
 pub mod LineLemmas
 pub mod Numerals

@@ -1,5 +1,5 @@
 -- A whole run, piece after piece.
-use Rattle.std.proofs.Common.{◌≡◌, ◌<◌, ◌≤◌, ◌^◌, ◌+◌, ℕ, List, [], ◌++◌, length, take, drop, Option, None, Some, IfSome, Result, Ok, Err, IsErrOf, string_bytes, refl, sym, ◌∙◌, ap, subst, arith, append_assoc, length-append, take-append-drop, ◌⊎◌, inl, inr, ◌↔◌}
+use Rattle.std.proofs.Common.{◌≡◌, ◌<◌, ◌≤◌, ◌^◌, ◌+◌, ℕ, List, [], ◌∷◌, ◌++◌, length, take, drop, Option, None, Some, IfSome, Result, Ok, Err, IsErrOf, string_bytes, refl, sym, ◌∙◌, ap, subst, arith, append_assoc, length-append, take-append-drop, ◌⊎◌, inl, inr, ◌↔◌}
 use Rattle.std.proofs.lemmas.List.{append-nil}
 use Rattle.std.proofs.lemmas.Grind.{flat_map-append}
 use Rattle.std.specs.Prelude.{unwrap_or, IsErrAnd}
@@ -13,13 +13,16 @@ use Rattle.heap_program.specs.declared.run.Stop.{Stop}
 use Rattle.heap_program.specs.declared.run.Stop.TheVariants.{Memory, ReadFault, WriteFault, TooLong}
 use Rattle.heap_program.specs.Advanced.{Advanced}
 use Rattle.heap_program.specs.Flushed.{IsAllFlushed}
-use Rattle.heap_program.specs.Headline.{ending_of, IsFront, IsReadWhole, IsAnswered, IsStopped}
-use Rattle.heap_program.specs.Lines.{items_of}
+use Rattle.heap_program.specs.Headline.{ending_of, IsCaughtUp, IsFront, IsInterrupted, IsReadWhole, IsAnswered, IsStopped}
+use Rattle.heap_program.specs.Grammar.{item_of}
+use Rattle.heap_program.specs.Lines.{items_of, IsOneLine}
 use Rattle.heap_model.specs.Run.{RunsTo}
 use Rattle.heap_program.specs.Progress.{texts_of, Answered, IsAt, IsEnd}
 use Rattle.heap_program.specs.Stop.{IsFresh, HasRead, HasClosed, HasPart, HasStopped}
 use Rattle.heap_program.specs.Text.{line_text, end_text_of}
+use Rattle.heap_program.proofs.Fits.{run_fits, length-items}
 use Rattle.heap_program.proofs.Known.{appends_nothing, appends_more, consumes_nothing, consumes_more, consumes_keeps}
+use Rattle.heap_program.proofs.LineLemmas.{items-whole, items-none}
 use Rattle.heap_model.proofs.Runs.{runs_none, run_on}
 use Rattle.heap_program.proofs.Runs.{answered_none, answered_more}
 
@@ -134,17 +137,46 @@ read_end s machine line l l1 l2 t t1 n h none = record {
   answered = h.answered;
 }
 
+-- all lines that ended in the bytes that came are answered
+caught_up : (s : State) (machine : Machine) (line : List ℕ) (l l1 t t1 : Option (List ℕ)) (n : ℕ) (h : HasRead s machine line l l1 t t1 n) → IsOneLine line → IsCaughtUp s h.bytes h.told
+caught_up s machine line l l1 t t1 n h one =
+    let a = h.answered in
+    record {
+      items = a.items;
+      item = item_of line;
+      ended = a.read (10 ∷ []) ∙ ap (λ (l : List (Option Call)). a.items ++ l) (items-whole line [] one ∙ ap (λ (l : List (Option Call)). item_of line ∷ l) items-none);
+      answers = a.answers;
+      state = h.state;
+      run = a.run;
+      told = a.text;
+    }
+
+-- a stop at a read that brought this piece
+interrupted : (s : State) (machine : Machine) (line : List ℕ) (l l1 l2 t t1 : Option (List ℕ)) (n most : ℕ) (piece : List ℕ) (h : HasRead s machine line l l1 t t1 n) → IsOneLine line → Consumes l1 l2 piece → length piece ≤ most → IsInterrupted s most l l2 t t1
+interrupted s machine line l l1 l2 t t1 n most piece h one consumed short = record {
+  input = h.bytes;
+  piece = piece;
+  read = consumes_more l l1 l2 h.bytes piece h.consumed consumed;
+  short = short;
+  text = h.told;
+  written = h.appended;
+  caught_up = caught_up s machine line l l1 t t1 n h one;
+}
+
 -- a stop after these bytes, with part of the text that they call for
-pub stopped : (s : State) (machine : Machine) (line : List ℕ) (stop : Stop) (l l1 l2 t t1 t2 : Option (List ℕ)) (n : ℕ) (piece part : List ℕ) (h : HasRead s machine line l l1 t t1 n) → Consumes l1 l2 piece → Appends t1 t2 part → IsFront h.state (line ++ piece) part → (stop ≡ TooLong → 2 ^ 30 < n + length piece) → (2 ^ 30 < n + length piece → stop ≡ TooLong) → HasStopped s stop l l2 t t2
-stopped s machine line stop l l1 l2 t t1 t2 n piece part h consumed appended front there back =
+pub stopped : (s : State) (machine : Machine) (line : List ℕ) (stop : Stop) (l l1 l2 t t1 t2 : Option (List ℕ)) (n : ℕ) (piece part : List ℕ) (h : HasRead s machine line l l1 t t1 n) → Consumes l1 l2 piece → Appends t1 t2 part → IsFront h.state (line ++ piece) part → n + length piece ≤ 2 ^ 30 + 4096 → (stop ≡ TooLong → 2 ^ 30 < n + length piece) → (2 ^ 30 < n + length piece → stop ≡ TooLong) → (stop ≡ ReadFault → ⊥) → (stop ≡ TooLong → IsInterrupted s 4096 l l2 t t2) → HasStopped s stop l l2 t t2
+stopped s machine line stop l l1 l2 t t1 t2 n piece part h consumed appended front most there back unread at_length =
     let count : length (h.bytes ++ piece) ≡ n + length piece = length-append h.bytes piece ∙ ap (λ (k : ℕ). k + length piece) h.counted in
     record {
       bytes = h.bytes ++ piece;
       told = h.told ++ part;
       consumed = consumes_more l l1 l2 h.bytes piece h.consumed consumed;
+      short = omega (arith, count, most);
       appended = appends_more t t1 t2 h.told part h.appended appended;
       front = front_after s h.state h.bytes h.told line piece part h.answered front;
       too_long = (λ is. subst (λ (k : ℕ). 2 ^ 30 < k) (sym count) (there is), λ long. back (subst (λ (k : ℕ). 2 ^ 30 < k) count long));
+      at_fault = λ is. absurd (unread is);
+      at_length = at_length;
     }
 
 -- a front of the last texts went out
@@ -166,27 +198,36 @@ piece_front s old fed piece n a empty =
     front_texts s a.state old.line piece a.told fed.line (take n (string_bytes fed.output)) (drop n (string_bytes fed.output)) a.answered (take-append-drop n (string_bytes fed.output) ∙ output)
 
 -- a stop before a piece
-pub stopped_before : (s : State) (machine : Machine) (line : List ℕ) (stop : Stop) (l l1 l2 t t1 : Option (List ℕ)) (n : ℕ) (h : HasRead s machine line l l1 t t1 n) → Keeps l1 l2 → n ≤ 2 ^ 30 → (stop ≡ TooLong → ⊥) → HasStopped s stop l l2 t t1
-stopped_before s machine line stop l l1 l2 t t1 n h kept short isnt = record {
+pub stopped_before : (s : State) (machine : Machine) (line : List ℕ) (stop : Stop) (l l1 l2 t t1 : Option (List ℕ)) (n : ℕ) (h : HasRead s machine line l l1 t t1 n) → IsOneLine line → Keeps l1 l2 → n ≤ 2 ^ 30 → (stop ≡ TooLong → ⊥) → HasStopped s stop l l2 t t1
+stopped_before s machine line stop l l1 l2 t t1 n h one kept short isnt = record {
   bytes = h.bytes;
   told = h.told ++ [];
   consumed = consumes_keeps l l1 l2 h.bytes h.consumed kept;
+  short = omega (arith, h.counted, short);
   appended = appends_more t t1 t1 h.told [] h.appended (appends_nothing t1);
   front = front_last s h.state h.bytes h.told line [] h.answered (front_none h.state line);
   too_long = (λ is. absurd (isnt is), λ long. absurd (omega (arith, long, h.counted, short)));
+  at_fault = λ is. interrupted s machine line l l1 l2 t t1 n 0 [] h one (consumes_keeps l1 l1 l2 [] (consumes_nothing l1) kept) (omega arith);
+  at_length = λ is. absurd (isnt is);
 }
 
 -- a stop after a piece, of which nothing was written
-pub stopped_after : (s : State) (machine : Machine) (line : List ℕ) (stop : Stop) (l l1 l2 t t1 : Option (List ℕ)) (n k : ℕ) (piece : List ℕ) (h : HasRead s machine line l l1 t t1 n) → Consumes l1 l2 piece → length piece ≡ k → (stop ≡ TooLong → 2 ^ 30 < n + k) → (2 ^ 30 < n + k → stop ≡ TooLong) → HasStopped s stop l l2 t t1
-stopped_after s machine line stop l l1 l2 t t1 n k piece h consumed len there back =
-    stopped s machine line stop l l1 l2 t t1 t1 n piece [] h consumed (appends_nothing t1) (front_none h.state (line ++ piece))
+pub stopped_after : (s : State) (machine : Machine) (line : List ℕ) (stop : Stop) (l l1 l2 t t1 : Option (List ℕ)) (n k : ℕ) (piece : List ℕ) (h : HasRead s machine line l l1 t t1 n) → IsOneLine line → Consumes l1 l2 piece → length piece ≡ k → n ≤ 2 ^ 30 → k ≤ 4096 → (stop ≡ ReadFault → ⊥) → (stop ≡ TooLong → 2 ^ 30 < n + k) → (2 ^ 30 < n + k → stop ≡ TooLong) → HasStopped s stop l l2 t t1
+stopped_after s machine line stop l l1 l2 t t1 n k piece h one consumed len before most unread there back =
+    stopped s machine line stop l l1 l2 t t1 t1 n piece [] h consumed (appends_nothing t1) (front_none h.state (line ++ piece)) (omega (arith, len, before, most))
     (λ is. subst (λ (k : ℕ). 2 ^ 30 < n + k) (sym len) (there is))
     (λ long. back (subst (λ (k : ℕ). 2 ^ 30 < n + k) len long))
+    unread
+    (λ is. interrupted s machine line l l1 l2 t t1 n 4096 piece h one consumed (omega (arith, len, most)))
 
 -- a stop that is not for a long input
 pub of_sink : (stop : Stop) → (stop ≡ Memory) ⊎ (stop ≡ WriteFault) → stop ≡ TooLong → ⊥
 of_sink stop (inl is) long = cc
 of_sink stop (inr is) long = cc
+
+pub sink_isnt : (stop : Stop) → (stop ≡ Memory) ⊎ (stop ≡ WriteFault) → stop ≡ ReadFault → ⊥
+sink_isnt stop (inl is) read = cc
+sink_isnt stop (inr is) read = cc
 
 pub read_isnt : (stop : Stop) → stop ≡ ReadFault → stop ≡ TooLong → ⊥
 read_isnt stop is long = cc
@@ -198,8 +239,8 @@ read_whole (Some xs) (Some ys) bytes consumed end =
     (sym (consumed ∙ ap (λ (l : List ℕ). bytes ++ l) end ∙ append-nil bytes), ap (λ (l : List ℕ). Some l) end)
 
 -- the last line and the end text close the run
-pub answered : (s : State) (machine last : Machine) (line : List ℕ) (l l1 t t1 t2 : Option (List ℕ)) (flushed : Option ℕ) (n : ℕ) (h : HasRead s machine line l l1 t t1 n) → IsAtEnd l1 → HasClosed h.state last line t1 t2 → IsAllFlushed t2 flushed → IsAnswered s l l1 t t2 flushed last
-answered s machine last line l l1 t t1 t2 flushed n h end k all =
+pub answered : (s : State) (machine last : Machine) (line : List ℕ) (l l1 t t1 t2 : Option (List ℕ)) (flushed : Option ℕ) (n : ℕ) (h : HasRead s machine line l l1 t t1 n) → length s.blocks ≡ 0 → n ≤ 2 ^ 30 → IsAtEnd l1 → HasClosed h.state last line t1 t2 → IsAllFlushed t2 flushed → IsAnswered s l l1 t t2 flushed last
+answered s machine last line l l1 t t1 t2 flushed n h first short end k all =
     let e = end_after s h.state h.bytes h.told line k.told last h.answered k.end in
     record {
       input = h.bytes;
@@ -207,6 +248,7 @@ answered s machine last line l l1 t t1 t2 flushed n h end k all =
       answers = e.answers;
       state = e.state;
       run = e.run;
+      fit = run_fits s (items_of h.bytes) e.answers (let items = length-items h.bytes in omega (arith, items, first, h.counted, short)) e.run.run;
       written = subst (Appends t t2) e.text (appends_more t t1 t2 h.told k.told h.appended k.appended);
       flushed_all = all;
       good = e.at.good;
@@ -215,16 +257,17 @@ answered s machine last line l l1 t t1 t2 flushed n h end k all =
 
 -- what is seen of a stop
 pub seen_stopped : (s : State) (stop : Stop) (l l1 t t1 : Option (List ℕ)) → HasStopped s stop l l1 t t1 → IsStopped s l l1 t t1
-seen_stopped s stop l l1 t t1 h = record { input = h.bytes; read = h.consumed; text = h.told; written = h.appended; front = h.front }
+seen_stopped s stop l l1 t t1 h = record { input = h.bytes; read = h.consumed; short = h.short; text = h.told; written = h.appended; front = h.front }
 
 -- nothing was read or written
 pub seen_first : (s : State) (left taken : Option (List ℕ)) → IsStopped s left left taken taken
-seen_first s left taken = record { input = []; read = consumes_nothing left; text = []; written = appends_nothing taken; front = front_none s [] }
+seen_first s left taken = record { input = []; read = consumes_nothing left; short = omega arith; text = []; written = appends_nothing taken; front = front_none s [] }
 
-pub seen_last : (s : State) (machine : Machine) (line : List ℕ) (l l1 t t1 t2 : Option (List ℕ)) (n : ℕ) (h : HasRead s machine line l l1 t t1 n) → HasPart h.state line t1 t2 → IsStopped s l l1 t t2
-seen_last s machine line l l1 t t1 t2 n h k = record {
+pub seen_last : (s : State) (machine : Machine) (line : List ℕ) (l l1 t t1 t2 : Option (List ℕ)) (n : ℕ) (h : HasRead s machine line l l1 t t1 n) → n ≤ 2 ^ 30 → HasPart h.state line t1 t2 → IsStopped s l l1 t t2
+seen_last s machine line l l1 t t1 t2 n h short k = record {
   input = h.bytes;
   read = h.consumed;
+  short = omega (arith, h.counted, short);
   text = h.told ++ k.told;
   written = appends_more t t1 t2 h.told k.told h.appended k.appended;
   front = front_last s h.state h.bytes h.told line k.told h.answered k.front;
@@ -257,6 +300,11 @@ late_long s machine line l l1 t t1 n h short stop which =
 pub ok_long : (s : State) (machine last : Machine) (line : List ℕ) (l l1 t t1 : Option (List ℕ)) (n : ℕ) (h : HasRead s machine line l l1 t t1 n) → n ≤ 2 ^ 30 → IsLong l l1 (IsErrOf {E = Stop} (Ok last) TooLong)
 ok_long s machine last line l l1 t t1 n h short =
     where_long l l1 h.bytes (IsErrOf {E = Stop} (Ok last) TooLong) h.consumed (λ is. cc, λ long. absurd (omega (arith, long, h.counted, short)))
+
+-- which stop a result is
+pub stop_is : (r : Result Machine Stop) (stop other : Stop) → IsErrAnd r (λ e. e ≡ stop) → IsErrOf r other → stop ≡ other
+stop_is (Ok machine) stop other made is = absurd made
+stop_is (Err e) stop other made is = cc
 
 -- of a result that is this stop
 pub stop_long : (l l1 : Option (List ℕ)) (r : Result Machine Stop) (stop : Stop) → IsErrAnd r (λ e. e ≡ stop) → IsLong l l1 (IsErrOf {T = Machine} (Err stop) TooLong) → IsLong l l1 (IsErrOf r TooLong)

@@ -1,6 +1,10 @@
 -- A count of faults, which never falls, and stays at 2 ^ 64 - 1 once it is there.
-use Rattle.std.specs.Prelude.{◌<◌, ◌^◌, ◌-◌, ℕ}
+use Rattle.std.specs.Prelude.{◌≡◌, ◌<◌, ◌^◌, ◌+◌, ◌-◌, ℕ, min, Result, is_ok, if◌then◌else◌}
 
 -- the count rose, or stood at its greatest before
 abbrev pub HasRisen : ℕ → ℕ → Type 0
 HasRisen before now = before < 2 ^ 64 - 1 → before < now
+
+-- a call counted one fault where it failed, and none where it did not
+abbrev pub IsCounted : {T E : Type 0} → Result T E → ℕ → ℕ → Type 0
+IsCounted result before now = now ≡ (if is_ok result then before else min (before + 1) (2 ^ 64 - 1))

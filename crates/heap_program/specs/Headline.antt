@@ -1,6 +1,7 @@
 -- What a whole run has done.
-use Rattle.std.specs.Prelude.{◌≡◌, ⊤, ℕ, List, [], ◌∷◌, ◌++◌, Option, None, Some}
+use Rattle.std.specs.Prelude.{◌≡◌, ⊤, ℕ, ◌+◌, ◌≤◌, ◌^◌, List, [], ◌∷◌, ◌++◌, length, Option, None, Some}
 use Rattle.std.specs.Io.KnownBytes.{Appends, Consumes}
+use Rattle.std.specs.List.{AllByRecursion}
 use Rattle.heap_model.specs.declared.answer.Answer.{Answer}
 use Rattle.heap_model.specs.declared.call.Call.{Call}
 use Rattle.heap_model.specs.declared.config.Config.{Config}
@@ -12,6 +13,7 @@ use Rattle.kernel_heap.specs.Machine.{seen}
 use Rattle.heap_program.specs.Flushed.{IsAllFlushed}
 use Rattle.heap_program.specs.Lines.{items_of}
 use Rattle.heap_program.specs.Progress.{texts_of}
+use Rattle.heap_program.specs.Spelling.{AnswerFits}
 use Rattle.heap_program.specs.Text.{end_text_of}
 
 -- the configuration of the command `run`
@@ -33,6 +35,8 @@ pub record IsAnswered (s : State) (had left before after : Option (List ℕ)) (f
   pub answers : List (Option Answer)
   pub state : State
   pub run : RunsTo s (items_of input) answers state
+  -- no other answers of which this can be said are printed alike (`SpellsOne`)
+  pub fit : AllByRecursion AnswerFits answers
   -- the texts of the answers and then the end text of the last state are written, and flushed
   pub written : Appends before after (texts_of answers ++ end_text_of state)
   pub flushed_all : IsAllFlushed after flushed
@@ -57,10 +61,34 @@ pub record IsFront (s : State) (bytes text : List ℕ) : Type 0 where
   pub more : List ℕ
   pub front : text ++ more ≡ texts_of answers ++ ending_of others state
 
--- A run that stopped before its end: the input that it took, and the text that it wrote.
+-- All lines that ended in these bytes are answered, and the text is that of the answers. A line feed more would end one
+-- line more.
+pub record IsCaughtUp (s : State) (bytes text : List ℕ) : Type 0 where
+  pub items : List (Option Call)
+  pub item : Option Call
+  pub ended : items_of (bytes ++ 10 ∷ []) ≡ items ++ item ∷ []
+  pub answers : List (Option Answer)
+  pub state : State
+  pub run : RunsTo s items answers state
+  pub told : text ≡ texts_of answers
+
+-- A run that stopped at a read. All lines that ended before the last piece are answered, and the piece has at most so many
+-- bytes.
+pub record IsInterrupted (s : State) (most : ℕ) (had left before after : Option (List ℕ)) : Type 0 where
+  pub input : List ℕ
+  pub piece : List ℕ
+  pub read : Consumes had left (input ++ piece)
+  pub short : length piece ≤ most
+  pub text : List ℕ
+  pub written : Appends before after text
+  pub caught_up : IsCaughtUp s input text
+
+-- A run that stopped before its end: the input that it took, which is at most one piece of 4096 bytes longer than 2 ^ 30
+-- bytes, and the text that it wrote.
 pub record IsStopped (s : State) (had left before after : Option (List ℕ)) : Type 0 where
   pub input : List ℕ
   pub read : Consumes had left input
+  pub short : length input ≤ 2 ^ 30 + 4096
   pub text : List ℕ
   pub written : Appends before after text
   pub front : IsFront s input text

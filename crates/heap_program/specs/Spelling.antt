@@ -1,13 +1,15 @@
 -- An output spells one list of answers.
-use Rattle.std.specs.Prelude.{◌≡◌, ◌<◌, ◌^◌, ⊤, List, ◌++◌, length, Option, None, Some}
+use Rattle.std.specs.Prelude.{◌≡◌, ◌+◌, ◌<◌, ◌≤◌, ◌^◌, ⊤, List, ◌++◌, length, Option, None, Some}
 use Rattle.std.specs.List.{AllByRecursion}
 use Rattle.hex.specs.Hex.{IsBytes}
 use Rattle.dlmalloc_chunks.specs.declared.extent.Extent.{Extent}
 use Rattle.heap_model.specs.declared.answer.Answer.{Answer}
 use Rattle.heap_model.specs.declared.answer.Reply.{Reply}
 use Rattle.heap_model.specs.declared.answer.Reply.TheVariants.{Block, Done, Bytes, Extents, Refused}
+use Rattle.heap_model.specs.declared.call.Call.{Call}
 use Rattle.heap_model.specs.declared.region.Region.{Region}
 use Rattle.heap_model.specs.Room.{heap_region}
+use Rattle.heap_model.specs.Run.{RunsTo}
 use Rattle.heap_model.specs.State.{State}
 use Rattle.heap_program.specs.Progress.{texts_of}
 use Rattle.heap_program.specs.Text.{end_text_of}
@@ -42,3 +44,10 @@ abbrev pub SpellsOne : Type 0
 SpellsOne =
     (xs ys : List (Option Answer)) (d e : State) → length xs ≡ length ys → AllByRecursion AnswerFits xs → AllByRecursion AnswerFits ys
     → texts_of xs ++ end_text_of d ≡ texts_of ys ++ end_text_of e → xs ≡ ys
+
+-- two runs over the same lines that are printed alike, each before the end text of its last state, have the same
+-- answers and the same last state; block numbers stay below 2 ^ 64
+abbrev pub RunsSpellOne : Type 0
+RunsSpellOne =
+    (s : State) (items : List (Option Call)) (xs ys : List (Option Answer)) (d e : State) → length s.blocks + length items ≤ 2 ^ 64
+    → RunsTo s items xs d → RunsTo s items ys e → texts_of xs ++ end_text_of d ≡ texts_of ys ++ end_text_of e → (xs ≡ ys) × (d ≡ e)

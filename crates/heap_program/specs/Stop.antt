@@ -1,5 +1,5 @@
 -- Why a run stops before its end, and what it has read and written by then.
-use Rattle.std.specs.Prelude.{◌≡◌, ◌<◌, ◌^◌, ◌↔◌, ℕ, List, [], length, Option, string_bytes}
+use Rattle.std.specs.Prelude.{◌≡◌, ◌+◌, ◌<◌, ◌≤◌, ◌^◌, ◌↔◌, ℕ, List, [], length, Option, string_bytes}
 use Rattle.std.specs.Io.KnownBytes.{Appends, Consumes}
 use Rattle.heap_model.specs.State.{State}
 use Rattle.kernel_heap.specs.declared.machine.Machine.{Machine}
@@ -8,7 +8,7 @@ use Rattle.heap_program.specs.declared.run.Stop.TheVariants.{Memory, ReadFault, 
 use Rattle.heap_program.specs.declared.session.Session.{Session}
 use Rattle.heap_program.specs.declared.sink.SinkFault.{SinkFault}
 use Rattle.heap_program.specs.declared.sink.SinkFault.TheVariants.{Failed, OutOfMemory}
-use Rattle.heap_program.specs.Headline.{IsFront}
+use Rattle.heap_program.specs.Headline.{IsFront, IsInterrupted}
 use Rattle.heap_program.specs.Progress.{Answered, IsAt, IsEnd}
 
 -- what a fault of the sink stops a run for
@@ -56,6 +56,9 @@ pub record HasStopped (s : State) (stop : Stop) (had left before after : Option 
   pub bytes : List ℕ
   pub told : List ℕ
   pub consumed : Consumes had left bytes
+  pub short : length bytes ≤ 2 ^ 30 + 4096
   pub appended : Appends before after told
   pub front : IsFront s bytes told
   pub too_long : stop ≡ TooLong ↔ 2 ^ 30 < length bytes
+  pub at_fault : stop ≡ ReadFault → IsInterrupted s 0 had left before after
+  pub at_length : stop ≡ TooLong → IsInterrupted s 4096 had left before after

@@ -1,9 +1,9 @@
 // The command of the program, and how it ends.
 ghost use Rattle.std.specs.Prelude.{◌≡◌, ◌≤◌, ◌<◌, ◌+◌, ◌^◌, ◌⊎◌, ◌∷◌, [], ◌↔◌, codes, length, map, unwrap_or, string_bytes, IsTrue, IsSome, IfSome};
 ghost use Rattle.heap_model.specs.State.{start};
-ghost use Rattle.kernel_heap.specs.Machine.{IsSound};
 ghost use Rattle.heap_program.specs.Faults.{HasRisen};
-ghost use Rattle.heap_program.specs.Headline.{default_config, IsAnswered, IsStopped};
+ghost use Rattle.heap_program.specs.Flushed.{IsUpToDate};
+ghost use Rattle.heap_program.specs.Headline.{default_config, IsAnswered, IsInterrupted, IsStopped};
 ghost use Rattle.heap_program.specs.Status.{IsRunCommand, status_text_of};
 ghost use Rattle.heap_program.specs.Stop.{status_of};
 
@@ -97,11 +97,17 @@ pub fn heap_main<S: Source, K: Sink>(
     ensures machine { IsSome result.machine ↔ (result.status ≡ 0) }
     ensures answered { IfSome result.machine (λ machine.
         IsAnswered (start default_config) (S.left source.old) (S.left source.new) (K.taken sink.old) (K.taken sink.new) (K.flushed sink.new) machine) }
-    ensures sound { IfSome result.machine (λ machine. IsSound machine) }
 
     // At a status from 5 on, part of that was done.
     ensures stopped { 5 ≤ result.status →
         IsStopped (start default_config) (S.left source.old) (S.left source.new) (K.taken sink.old) (K.taken sink.new) }
+
+    // The answers to a piece of the input are written and flushed before more of it is asked for.
+    ensures caught_up { result.status ≡ 6 →
+        IsInterrupted (start default_config) 0 (S.left source.old) (S.left source.new) (K.taken sink.old) (K.taken sink.new) }
+    ensures caught_up_long { result.status ≡ 8 →
+        IsInterrupted (start default_config) 4096 (S.left source.old) (S.left source.new) (K.taken sink.old) (K.taken sink.new) }
+    ensures flushed { (result.status ≡ 6) ⊎ (result.status ≡ 8) → IsUpToDate K.taken K.flushed sink.old sink.new }
 
     // When each status comes.
     ensures statuses { (result.status ≤ 1) ⊎ (5 ≤ result.status) × (result.status ≤ 8) }

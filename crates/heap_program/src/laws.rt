@@ -1,9 +1,11 @@
 // Laws of the definitions, which no call needs.
-ghost use Rattle.heap_program.specs.Spelling.{SpellsOne};
+ghost use Rattle.heap_program.specs.Spelling.{SpellsOne, RunsSpellOne};
 
 /// An output spells one list of answers: where two lists of answers to the same number of lines are
 /// printed alike, each followed by an end text, the lists are equal. Only a `heap` line goes on with an
-/// answer.
+/// answer. The answers of a run are such a list, so what [`crate::heap_main`] writes at status 0 spells its
+/// answers, and no others.
 pub fn one_spelling()
-    ensures { SpellsOne }
+    ensures answers { SpellsOne }
+    ensures runs { RunsSpellOne }
 {}

@@ -155,6 +155,13 @@ impl MemorySink {
     {
         &self.bytes
     }
+
+    /// How many of them are flushed.
+    pub fn flushed(&self) -> usize
+        ensures { result ≡ self.now.flushed }
+    {
+        self.flushed
+    }
 }
 
 impl Sink for MemorySink {

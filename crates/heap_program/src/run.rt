@@ -3,12 +3,11 @@ ghost use Rattle.std.specs.Prelude.{◌≡◌, ◌≤◌, ◌<◌, ◌^◌, ◌+
 ghost use Rattle.std.specs.Io.KnownBytes.{Appends, IsAtEnd};
 ghost use Rattle.heap_model.specs.State.{State, start};
 ghost use Rattle.kernel_heap.specs.Config.{IsGoodConfig};
-ghost use Rattle.kernel_heap.specs.Machine.{IsSound};
 ghost use Rattle.heap_program.specs.Faults.{HasRisen};
-ghost use Rattle.heap_program.specs.Flushed.{IsAllFlushed};
+ghost use Rattle.heap_program.specs.Flushed.{IsAllFlushed, IsUpToDate};
 ghost use Rattle.heap_program.specs.Progress.{IsAt};
 ghost use Rattle.heap_program.specs.Stop.{stop_of, IsFresh, HasRead, HasClosed, HasPart, HasStopped};
-ghost use Rattle.heap_program.specs.Headline.{IsAnswered, IsStopped};
+ghost use Rattle.heap_program.specs.Headline.{IsAnswered, IsInterrupted, IsStopped};
 ghost use Rattle.heap_program.specs.declared.run.Stop.TheVariants.{Memory, ReadFault, WriteFault, TooLong};
 
 use crate::session::Session;
@@ -100,9 +99,7 @@ fn read_all<S: Source, K: Sink>(
     source: &mut S,
     sink: &mut K,
 ) -> Result<u64, Stop>
-    requires fresh { IsFresh session.old }
-    requires sound { IsSound session.old.machine }
-    ensures sound { IsSound session.new.machine }
+    requires { IsFresh session.old }
     ensures ok { IfOk result (λ count. (s : State) → IsAt session.old.machine s →
         HasRead s session.new.machine session.new.line (S.left source.old) (S.left source.new) (K.taken sink.old) (K.taken sink.new) count) }
     ensures short { IfOk result (λ count. count ≤ 2 ^ 30) }
@@ -114,6 +111,8 @@ fn read_all<S: Source, K: Sink>(
     ensures write_later { K.faults sink.old ≤ K.faults sink.new }
     ensures read_cause { IsErrOf result ReadFault → HasRisen (S.faults source.old) (S.faults source.new) }
     ensures write_cause { IsErrOf result WriteFault → HasRisen (K.faults sink.old) (K.faults sink.new) }
+    ensures flushed_fault { IsErrOf result ReadFault → IsUpToDate K.taken K.flushed sink.old sink.new }
+    ensures flushed_long { IsErrOf result TooLong → IsUpToDate K.taken K.flushed sink.old sink.new }
 {
     let mut buffer = [0u8; LONGEST_PIECE];
     let mut count: u64 = 0;
@@ -133,9 +132,7 @@ fn read_all<S: Source, K: Sink>(
 
 // Answers a last line that has no line feed, and writes the end text.
 fn close<K: Sink>(session: &mut Session, sink: &mut K) -> Result<(), Stop>
-    requires empty { string_bytes session.old.output ≡ [] }
-    requires sound { IsSound session.old.machine }
-    ensures sound { IsSound session.new.machine }
+    requires { string_bytes session.old.output ≡ [] }
     ensures ok { OnOk result ((s : State) → IsAt session.old.machine s →
         HasClosed s session.new.machine session.old.line (K.taken sink.old) (K.taken sink.new)) }
     ensures flushed { OnOk result (IsAllFlushed (K.taken sink.new) (K.flushed sink.new)) }
@@ -157,7 +154,6 @@ pub fn run<S: Source, K: Sink>(
     sink: &mut K,
 ) -> Result<Machine, Stop>
     requires { IsGoodConfig config.now }
-    ensures sound { IfOk result (λ machine. IsSound machine) }
     ensures answered { IfOk result (λ machine.
         IsAnswered (start config.now) (S.left source.old) (S.left source.new) (K.taken sink.old) (K.taken sink.new) (K.flushed sink.new) machine) }
     ensures stopped { OnErr result (IsStopped (start config.now) (S.left source.old) (S.left source.new) (K.taken sink.old) (K.taken sink.new)) }
@@ -165,6 +161,10 @@ pub fn run<S: Source, K: Sink>(
         IsErrOf result TooLong ↔ (2 ^ 30 + length (unwrap_or (S.left source.new) []) < length input)) }
     ensures read_cause { IsErrOf result ReadFault → HasRisen (S.faults source.old) (S.faults source.new) }
     ensures write_cause { IsErrOf result WriteFault → HasRisen (K.faults sink.old) (K.faults sink.new) }
+    ensures flushed_fault { IsErrOf result ReadFault → IsUpToDate K.taken K.flushed sink.old sink.new }
+    ensures flushed_long { IsErrOf result TooLong → IsUpToDate K.taken K.flushed sink.old sink.new }
+    ensures at_fault { IsErrOf result ReadFault → IsInterrupted (start config.now) 0 (S.left source.old) (S.left source.new) (K.taken sink.old) (K.taken sink.new) }
+    ensures at_length { IsErrOf result TooLong → IsInterrupted (start config.now) 4096 (S.left source.old) (S.left source.new) (K.taken sink.old) (K.taken sink.new) }
 {
     // Of a good configuration memory alone can be wanting.
     let Ok(machine) = Machine::new(alloc, config) else {

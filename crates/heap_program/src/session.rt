@@ -1,9 +1,8 @@
 // The machine, the line that has begun and the text that is not yet written.
 ghost use Rattle.std.specs.Prelude.{◌≡◌, ◌∷◌, [], OnOk, string_bytes};
 ghost use Rattle.heap_model.specs.State.{State};
-ghost use Rattle.kernel_heap.specs.Machine.{IsSound};
 ghost use Rattle.heap_program.specs.Grammar.{item_of};
-ghost use Rattle.heap_program.specs.Lines.{items_of};
+ghost use Rattle.heap_program.specs.Lines.{items_of, IsOneLine};
 ghost use Rattle.heap_program.specs.Progress.{IsAt, AreAnswered};
 ghost use Rattle.heap_program.specs.Advanced.{Advanced, IsFinished};
 
@@ -31,9 +30,7 @@ fn answer_line(
     line: &[u8],
     output: &mut String,
 ) -> Result<(), AllocError>
-    requires { IsSound machine.old }
-    ensures sound { IsSound machine.new }
-    ensures answered { OnOk result ((s : State) → IsAt machine.old s →
+    ensures { OnOk result ((s : State) → IsAt machine.old s →
         AreAnswered s (item_of line.now ∷ []) machine.new (string_bytes output.old) (string_bytes output.new)) }
 {
     match parse_call(alloc, line)? {
@@ -61,9 +58,7 @@ impl Session {
     }
 
     fn feed_byte(&mut self, byte: u8) -> Result<(), AllocError>
-        requires { IsSound self.old.machine }
-        ensures sound { IsSound self.new.machine }
-        ensures fed { OnOk result ((s : State) → IsAt self.old.machine s → Advanced s self.old self.new (byte ∷ [])) }
+        ensures { OnOk result ((s : State) → IsAt self.old.machine s → Advanced s self.old self.new (byte ∷ [])) }
     {
         if byte == b'\n' {
             answer_line(
@@ -81,21 +76,20 @@ impl Session {
 
     /// Answers the lines that end in the piece.
     pub fn feed(&mut self, piece: &[u8]) -> Result<(), AllocError>
-        requires { IsSound self.old.machine }
-        ensures sound { IsSound self.new.machine }
+        ensures one_line { OnOk result (IsOneLine self.new.line) }
         ensures fed { OnOk result ((s : State) → IsAt self.old.machine s → Advanced s self.old self.new piece.now) }
     {
         for byte in piece {
             self.feed_byte(*byte)?;
         }
+        // No line feed is among the bytes of a line.
+        let _begun = self.line.bytes();
         Ok(())
     }
 
     // Answers a last line that has no line feed.
     fn answer_rest(&mut self) -> Result<(), AllocError>
-        requires { IsSound self.old.machine }
-        ensures sound { IsSound self.new.machine }
-        ensures answered { OnOk result ((s : State) → IsAt self.old.machine s →
+        ensures { OnOk result ((s : State) → IsAt self.old.machine s →
             AreAnswered s (items_of self.old.line) self.new.machine (string_bytes self.old.output) (string_bytes self.new.output)) }
     {
         if self.line.bytes().is_empty() {
@@ -111,9 +105,7 @@ impl Session {
 
     /// Answers a last line that has no line feed, and puts the end text behind it.
     pub fn finish(&mut self) -> Result<(), AllocError>
-        requires { IsSound self.old.machine }
-        ensures sound { IsSound self.new.machine }
-        ensures finished { OnOk result ((s : State) → IsAt self.old.machine s → IsFinished s self.old self.new) }
+        ensures { OnOk result ((s : State) → IsAt self.old.machine s → IsFinished s self.old self.new) }
     {
         self.answer_rest()?;
         push_end(self.alloc, &mut self.output, &self.machine)

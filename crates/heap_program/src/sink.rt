@@ -1,7 +1,7 @@
 // Where the output goes.
 ghost use Rattle.std.specs.Prelude.{◌≡◌, ◌≤◌, ◌<◌, ⊤, List, [], ℕ, Option, Some, None, length, take, ◌++◌, IfOk, IfErr, IsOk, OnOk, OnErr, IsErrOf};
 ghost use Rattle.std.specs.Io.KnownBytes.{Appends, Keeps};
-ghost use Rattle.heap_program.specs.Faults.{HasRisen};
+ghost use Rattle.heap_program.specs.Faults.{HasRisen, IsCounted};
 ghost use Rattle.heap_program.specs.Flushed.{IsAllFlushed};
 
 use std::alloc::{AllocError, Global};
@@ -142,7 +142,16 @@ impl<W: Write> Sink for WriterSink<W> {
 
     ghost faults = { λ s. s.faults };
 
-    fn write(&mut self, bytes: &[u8]) -> Result<usize, SinkFault> {
+    fn write(&mut self, bytes: &[u8]) -> Result<usize, SinkFault>
+        ensures within { IfOk result (λ n. n ≤ length bytes.now) }
+        ensures some { IfOk result (λ n. 0 < length bytes.now → 0 < n) }
+        ensures told { IfOk result (λ n. Appends (W.contents self.old.writer) (W.contents self.new.writer) (take n bytes.now)) }
+        ensures err { OnErr result (Keeps (W.contents self.old.writer) (W.contents self.new.writer)) }
+        ensures which { IfErr result (λ fault. fault ≡ SinkFault.Failed) }
+        ensures counted { IsCounted result self.old.faults self.new.faults }
+        ensures later { self.old.faults ≤ self.new.faults }
+        ensures cause { IsErrOf result SinkFault.Failed → HasRisen self.old.faults self.new.faults }
+    {
         if bytes.is_empty() {
             return Ok(0);
         }
@@ -157,7 +166,13 @@ impl<W: Write> Sink for WriterSink<W> {
         Err(SinkFault::Failed)
     }
 
-    fn flush(&mut self) -> Result<(), SinkFault> {
+    fn flush(&mut self) -> Result<(), SinkFault>
+        ensures told { Keeps (W.contents self.old.writer) (W.contents self.new.writer) }
+        ensures which { IfErr result (λ fault. fault ≡ SinkFault.Failed) }
+        ensures counted { IsCounted result self.old.faults self.new.faults }
+        ensures later { self.old.faults ≤ self.new.faults }
+        ensures cause { IsErrOf result SinkFault.Failed → HasRisen self.old.faults self.new.faults }
+    {
         'tries: for _ in 0..u64::MAX {
             match self.writer.flush() {
                 Ok(()) => return Ok(()),

@@ -1,7 +1,7 @@
 // Where the input comes from.
 ghost use Rattle.std.specs.Prelude.{◌≡◌, ◌≤◌, ◌<◌, ◌++◌, List, ℕ, Option, Some, length, min, take, drop, IfOk, IsOkAnd, OnErr, IsErr};
 ghost use Rattle.std.specs.Io.KnownBytes.{Consumes, Keeps, IsAtEnd};
-ghost use Rattle.heap_program.specs.Faults.{HasRisen};
+ghost use Rattle.heap_program.specs.Faults.{HasRisen, IsCounted};
 
 use std::io::{ErrorKind, Read};
 use std::marker::Model;
@@ -106,7 +106,15 @@ impl<R: Read> Source for ReaderSource<R> {
 
     ghost faults = { λ s. s.faults };
 
-    fn read(&mut self, buf: &mut [u8]) -> Result<usize, Failed> {
+    fn read(&mut self, buf: &mut [u8]) -> Result<usize, Failed>
+        ensures within { IfOk result (λ n. n ≤ length buf.old) }
+        ensures told { IfOk result (λ n. Consumes (R.remaining self.old.reader) (R.remaining self.new.reader) (take n buf.new)) }
+        ensures end { IfOk result (λ n. n ≡ 0 → 0 < length buf.old → IsAtEnd (R.remaining self.new.reader)) }
+        ensures err { OnErr result (Keeps (R.remaining self.old.reader) (R.remaining self.new.reader)) }
+        ensures counted { IsCounted result self.old.faults self.new.faults }
+        ensures later { self.old.faults ≤ self.new.faults }
+        ensures cause { IsErr result → HasRisen self.old.faults self.new.faults }
+    {
         'tries: for _ in 0..u64::MAX {
             match self.reader.read(buf) {
                 Ok(n) => return Ok(n),

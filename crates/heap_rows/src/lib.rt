@@ -2,4 +2,8 @@
 #![tactic(auto)]
 
 #[cfg(test)]
+mod error_words;
+#[cfg(test)]
+mod streams;
+#[cfg(test)]
 mod tests;

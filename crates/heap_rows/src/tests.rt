@@ -1,26 +1,21 @@
 ghost use Rattle.std.specs.Prelude.{All, IfOk};
 ghost use Rattle.kernel_heap.specs.Machine.{IsServable};
 
-use heap_program::{
-    Ended, MemorySink, MemorySource, ReaderSource, SureSink, SureSource, WriterSink, end_text,
-    heap_main, parse_call, text_of,
-};
+use heap_program::{Ended, SureSink, SureSource, end_text, heap_main, parse_call, text_of};
 use kernel_heap::{
     Answer, AnswerList, Call, CallList, Config, Extent, ExtentList, Kind, Machine, Refusal, Reply,
     RunError, run_calls,
 };
 use std::alloc::{AllocError, Global};
-use std::io;
-use std::io::Write;
 use std::test::Fail;
 
 /// What the command `run` prints for an input. Each run ends with status 0.
-struct Row {
-    input: &'static str,
-    output: &'static str,
+pub(crate) struct Row {
+    pub(crate) input: &'static str,
+    pub(crate) output: &'static str,
 }
 
-const ROWS: [Row; 16] = [
+pub(crate) const ROWS: [Row; 18] = [
     Row {
         input: "",
         output: "frames 1023 tables 1\n",
@@ -96,9 +91,19 @@ const ROWS: [Row; 16] = [
         input: "free\nfree 0 \nfree 0 0\nfree x\nextents 0\nextents \nFree 0\n free 0\n",
         output: "bad line\nbad line\nbad line\nbad line\nbad line\nbad line\nbad line\nbad line\nframes 1023 tables 1\n",
     },
+    // The only block ends: the heap is all top and foot.
+    Row {
+        input: "malloc 8\nfree 0\nextents\n",
+        output: "block 0 0x400010\nheap 0x400000+16\ndone\nextents top:0x400000+65456 foot:0x40ffb0+80\nregion 0x400000+16 heap\nframes 1004 tables 4\n",
+    },
+    // A block that lies across two regions.
+    Row {
+        input: "malloc 65432\nmalloc 100\nwrite 1 78 aabbccdd\nread 1 78 4\n",
+        output: "block 0 0x400010\nheap 0x400000+16\nblock 1 0x40ffb0\nheap 0x400000+16 0x410000+16\ndone\nbytes aabbccdd\nregion 0x400000+16 heap\nregion 0x410000+16 heap\nframes 988 tables 4\n",
+    },
 ];
 
-fn strings(alloc: Global, words: &[&str]) -> Result<Vec<String>, AllocError> {
+pub(crate) fn strings(alloc: Global, words: &[&str]) -> Result<Vec<String>, AllocError> {
     let mut strings = Vec::new(alloc);
     for word in words {
         strings.push(String::from_str(alloc, word)?)?;
@@ -159,6 +164,26 @@ fn a_line_of_8193_bytes_is_bad(rt: HostRuntime) -> Result<(), Fail> {
 }
 
 #[test]
+fn the_longest_line_is_a_call(rt: HostRuntime) -> Result<(), Fail> {
+    let digits = vec![in rt.alloc(); b'5'; 8182]?;
+    let mut input = b"malloc 4091\n".to_vec(rt.alloc())?;
+    // Lines of 8192 bytes and of one byte more.
+    for start in ["write 0 0 ", "write 0 00 "] {
+        input.extend_from_slice(start.as_bytes())?;
+        input.extend_from_slice(&digits)?;
+        input.push(b'\n')?;
+    }
+    input.extend_from_slice(b"read 0 4089 2\n".as_slice())?;
+    let (ended, sink) = outcome(rt.alloc(), &["run"], &input)?;
+    assert_eq!(rt;
+        sink.written(),
+        b"block 0 0x400010\nheap 0x400000+16\ndone\nbad line\nbytes 5555\nregion 0x400000+16 heap\nframes 1004 tables 4\n".as_slice()
+    );
+    assert_eq!(rt; ended.status, 0);
+    Ok(())
+}
+
+#[test]
 fn other_words_are_no_command(rt: HostRuntime) -> Result<(), Fail> {
     let commands: [&[&str]; 5] = [&[], &["Run"], &["run", "run"], &["--help"], &["run 1"]];
     for words in commands {
@@ -167,56 +192,6 @@ fn other_words_are_no_command(rt: HostRuntime) -> Result<(), Fail> {
         assert!(rt; ended.machine.is_none());
         assert!(rt; sink.written().is_empty());
     }
-    Ok(())
-}
-
-#[test]
-fn readers_and_writers_are_served(rt: HostRuntime) -> Result<(), Fail> {
-    let words = strings(rt.alloc(), &["run"])?;
-    let mut source = ReaderSource::new(b"malloc 24\n".as_slice());
-    let mut written = Vec::new(rt.alloc());
-    let mut sink = WriterSink::new(&mut written);
-    let ended = heap_main(rt.alloc(), &words, &mut source, &mut sink);
-    assert_eq!(rt; ended.status, 0);
-    assert_eq!(rt;
-        written.as_slice(),
-        b"block 0 0x400010\nheap 0x400000+16\nregion 0x400000+16 heap\nframes 1004 tables 4\n".as_slice()
-    );
-    Ok(())
-}
-
-/// A writer that marks each flush in what it holds.
-#[derive(Drop)]
-struct Transcript {
-    bytes: Vec<u8>,
-}
-
-impl Write for Transcript {
-    fn write(&mut self, buf: &[u8]) -> io::Result<usize> {
-        self.bytes.extend_from_slice(buf)?;
-        Ok(buf.len())
-    }
-
-    fn flush(&mut self) -> io::Result<()> {
-        self.bytes.push(b'|')?;
-        Ok(())
-    }
-}
-
-#[test]
-fn each_piece_is_flushed(rt: HostRuntime) -> Result<(), Fail> {
-    let words = strings(rt.alloc(), &["run"])?;
-    let mut source = ReaderSource::new(b"malloc 24\n".as_slice());
-    let mut transcript = Transcript {
-        bytes: Vec::new(rt.alloc()),
-    };
-    let mut sink = WriterSink::new(&mut transcript);
-    let ended = heap_main(rt.alloc(), &words, &mut source, &mut sink);
-    assert_eq!(rt; ended.status, 0);
-    assert_eq!(rt;
-        transcript.bytes.as_slice(),
-        b"block 0 0x400010\nheap 0x400000+16\n|region 0x400000+16 heap\nframes 1004 tables 4\n|".as_slice()
-    );
     Ok(())
 }
 
@@ -308,99 +283,6 @@ fn each_kind_of_extent_is_printed(rt: HostRuntime) -> Result<(), Fail> {
     Ok(())
 }
 
-#[test]
-fn pieces_of_the_input_make_no_difference(rt: HostRuntime) -> Result<(), Fail> {
-    let words = strings(rt.alloc(), &["run"])?;
-    let row = &ROWS[10];
-    for piece in [1, 2, 3, 7, 4096] {
-        let input = row.input.as_bytes().to_vec(rt.alloc())?;
-        let mut source = MemorySource::new(input, piece, Vec::new(rt.alloc()));
-        let mut sink = MemorySink::new(rt.alloc(), piece, Vec::new(rt.alloc()));
-        let ended = heap_main(rt.alloc(), &words, &mut source, &mut sink);
-        assert_eq!(rt; ended.status, 0, "in pieces of {}", piece);
-        assert_eq!(rt;
-            sink.written(),
-            row.output.as_bytes(),
-            "in pieces of {}",
-            piece
-        );
-    }
-    Ok(())
-}
-
-/// A run of which one call of the source or of the sink fails. Reads are numbered from 0, and so are writes
-/// and flushes together.
-struct Fault {
-    failing_read: Option<u64>,
-    failing_write: Option<u64>,
-    status: u8,
-    output: &'static str,
-}
-
-const FAULTS: [Fault; 6] = [
-    Fault {
-        failing_read: Some(0),
-        failing_write: None,
-        status: 6,
-        output: "",
-    },
-    Fault {
-        failing_read: Some(1),
-        failing_write: None,
-        status: 6,
-        output: "block 0 0x400010\nheap 0x400000+16\nblock 1 0x400030\nblock 2 0x400050\n",
-    },
-    Fault {
-        failing_read: None,
-        failing_write: Some(0),
-        status: 7,
-        output: "",
-    },
-    // A flush that fails.
-    Fault {
-        failing_read: None,
-        failing_write: Some(1),
-        status: 7,
-        output: "block 0 0x400010\nheap 0x400000+16\nblock 1 0x400030\nblock 2 0x400050\n",
-    },
-    Fault {
-        failing_read: None,
-        failing_write: Some(2),
-        status: 7,
-        output: "block 0 0x400010\nheap 0x400000+16\nblock 1 0x400030\nblock 2 0x400050\n",
-    },
-    // Calls that never come.
-    Fault {
-        failing_read: Some(2),
-        failing_write: Some(4),
-        status: 0,
-        output: "block 0 0x400010\nheap 0x400000+16\nblock 1 0x400030\nblock 2 0x400050\nregion 0x400000+16 heap\nframes 1004 tables 4\n",
-    },
-];
-
-fn numbers(alloc: Global, number: Option<u64>) -> Result<Vec<u64>, AllocError> {
-    let mut numbers = Vec::new(alloc);
-    if let Some(number) = number {
-        numbers.push(number)?;
-    }
-    Ok(numbers)
-}
-
-#[test]
-fn failing_reads_and_writes_end_the_run(rt: HostRuntime) -> Result<(), Fail> {
-    let words = strings(rt.alloc(), &["run"])?;
-    for fault in &FAULTS {
-        let input = ROWS[1].input.as_bytes().to_vec(rt.alloc())?;
-        let mut source = MemorySource::new(input, 4096, numbers(rt.alloc(), fault.failing_read)?);
-        let mut sink = MemorySink::new(rt.alloc(), 4096, numbers(rt.alloc(), fault.failing_write)?);
-        let ended = heap_main(rt.alloc(), &words, &mut source, &mut sink);
-        assert_eq!(rt; ended.status, fault.status);
-        assert_eq!(rt; ended.machine.is_some(), fault.status == 0);
-        assert_eq!(rt; sink.written(), fault.output.as_bytes());
-    }
-    Ok(())
-}
-
 /// The configuration of the command `run`.
 const DEFAULT: Config = Config {
     base: 0x40_0000,
@@ -410,10 +292,11 @@ const DEFAULT: Config = Config {
     rate: 4095,
 };
 
-/// What `run_calls` answers to requests for blocks of these sizes in a window of so many pages and over so many
-/// frames, and the end text of its machine.
+/// What `run_calls` answers to requests for blocks of these sizes in a window of so many pages, at a granularity and
+/// over so many frames, and the end text of its machine.
 struct CallsRow {
     pages: u64,
+    granularity: u64,
     frames: u32,
     sizes: &'static [u64],
     /// Whether the extents are asked for at the end.
@@ -422,9 +305,10 @@ struct CallsRow {
     end: &'static str,
 }
 
-const CALLS: [CallsRow; 6] = [
+const CALLS: [CallsRow; 8] = [
     CallsRow {
         pages: 1024,
+        granularity: 65536,
         frames: 1024,
         sizes: &[0, 24, 25],
         extents: false,
@@ -433,6 +317,7 @@ const CALLS: [CallsRow; 6] = [
     },
     CallsRow {
         pages: 1024,
+        granularity: 65536,
         frames: 1024,
         sizes: &[],
         extents: false,
@@ -442,6 +327,7 @@ const CALLS: [CallsRow; 6] = [
     // As many frames as one grant takes, and one frame less.
     CallsRow {
         pages: 1024,
+        granularity: 65536,
         frames: 20,
         sizes: &[1],
         extents: false,
@@ -450,6 +336,7 @@ const CALLS: [CallsRow; 6] = [
     },
     CallsRow {
         pages: 1024,
+        granularity: 65536,
         frames: 19,
         sizes: &[1],
         extents: false,
@@ -459,6 +346,7 @@ const CALLS: [CallsRow; 6] = [
     // The greatest block of a window that holds one grant, and one byte more.
     CallsRow {
         pages: 16,
+        granularity: 65536,
         frames: 1024,
         sizes: &[65432],
         extents: true,
@@ -467,11 +355,31 @@ const CALLS: [CallsRow; 6] = [
     },
     CallsRow {
         pages: 16,
+        granularity: 65536,
         frames: 1024,
         sizes: &[65433],
         extents: false,
         answers: "refused no-space\n",
         end: "frames 1023 tables 1\n",
+    },
+    // Grants of single pages, and of a mebibyte.
+    CallsRow {
+        pages: 1024,
+        granularity: 4096,
+        frames: 1024,
+        sizes: &[20000, 1],
+        extents: false,
+        answers: "block 0 0x400010\nheap 0x400000+5\nblock 1 0x404e40\n",
+        end: "region 0x400000+5 heap\nframes 1015 tables 4\n",
+    },
+    CallsRow {
+        pages: 1024,
+        granularity: 1 << 20,
+        frames: 1024,
+        sizes: &[0],
+        extents: false,
+        answers: "block 0 0x400010\nheap 0x400000+256\n",
+        end: "region 0x400000+256 heap\nframes 764 tables 4\n",
     },
 ];
 
@@ -506,6 +414,7 @@ fn calls_are_run_as_values(rt: HostRuntime) -> Result<(), Fail> {
     for row in &CALLS {
         let config = Config {
             pages: row.pages,
+            granularity: row.granularity,
             frames: row.frames,
             ..DEFAULT
         };

@@ -1,19 +1,21 @@
-use Rattle.std.proofs.Common.{◌≡◌, ◌+◌, ℕ, take, length, string_bytes, refl, ap, subst, arith, length-take-le, ◌⊎◌, inl, sym}
+use Rattle.std.proofs.Common.{◌≡◌, ◌+◌, ℕ, take, length, string_bytes, refl, ap, subst, arith, length-take-le, ◌⊎◌, inl, inr, sym}
 use Rattle.std.specs.Io.KnownBytes.{Consumes}
 use Rattle.heap_program.specs.Advanced.{Advanced}
+use Rattle.heap_program.specs.Lines.{IsOneLine}
 use Rattle.heap_program.specs.Stop.{HasRead}
 use Rattle.heap_program.specs.declared.run.Stop.TheVariants.{Memory, ReadFault, WriteFault, TooLong}
 use Rattle.heap_program.proofs.Errors.{if_err}
-use Rattle.heap_program.proofs.Wholes.{read_none, read_more, read_end, stopped, stopped_before, stopped_after, piece_front, of_sink, read_isnt}
+use Rattle.heap_program.proofs.Wholes.{read_none, read_more, read_end, stopped, stopped_before, stopped_after, piece_front, of_sink, sink_isnt, read_isnt}
 use Rattle.heap_program.specs.declared.run.Stop.{Stop}
 use Rattle.heap_program.proofs.run.read_all.Goals as goal
 
 pub pieces-init : goal.pieces-init
 pieces-init g c = record {
-  sound = c.requires.sound;
-  read = λ s at. read_none s c.args.session.now (g.S.Source.left c.args.source.now) (g.K.Sink.taken c.args.sink.now) c.requires.fresh at;
+  read = λ s at. read_none s c.args.session.now (g.S.Source.left c.args.source.now) (g.K.Sink.taken c.args.sink.now) c.requires at;
   short = omega arith;
-  empty = c.requires.fresh.output;
+  empty = c.requires.output;
+  up_to_date = inl refl;
+  one_line = subst IsOneLine (sym c.requires.line) tt;
   read_later = omega arith;
   write_later = omega arith;
 }
@@ -22,7 +24,7 @@ pub returns-in_err-n-clause-err : goal.returns-in_err-n-clause-err
 returns-in_err-n-clause-err g c = if_err c.from_residual.result (λ stop. stop ≡ ReadFault) c.from_residual.ensures.1 (λ stop made s at.
     let left = g.S.Source.left in
     stopped_before s c.pieces.session.machine c.pieces.session.line stop (left c.args.source.now) (left c.pieces.source) (left c.read.new.self) (g.K.Sink.taken c.args.sink.now) (g.K.Sink.taken c.pieces.sink) c.pieces.count
-    (c.pieces.invariant.read s at) c.in_err-n.ensures.err c.pieces.invariant.short (λ is. read_isnt stop made is))
+    (c.pieces.invariant.read s at) c.pieces.invariant.one_line c.in_err-n.ensures.err c.pieces.invariant.short (λ is. read_isnt stop made is))
 
 pub returns-then-n-eq0-clause-ok : goal.returns-then-n-eq0-clause-ok
 returns-then-n-eq0-clause-ok g c s at =
@@ -35,14 +37,14 @@ returns-then-count-gt-LONGEST_INPUT-clause-err g c s at =
     let left = g.S.Source.left in
     let n = c.in_ok-n.n in
     stopped_after s c.pieces.session.machine c.pieces.session.line TooLong (left c.args.source.now) (left c.pieces.source) (left c.read.new.self) (g.K.Sink.taken c.args.sink.now) (g.K.Sink.taken c.pieces.sink) c.pieces.count n (take n c.read.new.buf)
-    (c.pieces.invariant.read s at) c.in_ok-n.ensures.told (length-take-le n c.read.new.buf (omega (arith, c.in_ok-n.ensures.within, c.read.auto.buf))) (λ is. omega arith) (λ long. refl)
+    (c.pieces.invariant.read s at) c.pieces.invariant.one_line c.in_ok-n.ensures.told (length-take-le n c.read.new.buf (omega (arith, c.in_ok-n.ensures.within, c.read.auto.buf))) c.pieces.invariant.short (omega (arith, c.in_ok-n.ensures.within)) (λ is. cc) (λ is. omega arith) (λ long. refl)
 
 pub returns-in_err-feed-clause-err : goal.returns-in_err-feed-clause-err
 returns-in_err-feed-clause-err g c = if_err c.from_residual-in_err-feed.result (λ stop. stop ≡ Memory) c.from_residual-in_err-feed.ensures.1 (λ stop made s at.
     let left = g.S.Source.left in
     let n = c.in_ok-n.n in
     stopped_after s c.pieces.session.machine c.pieces.session.line stop (left c.args.source.now) (left c.pieces.source) (left c.read.new.self) (g.K.Sink.taken c.args.sink.now) (g.K.Sink.taken c.pieces.sink) c.pieces.count n (take n c.read.new.buf)
-    (c.pieces.invariant.read s at) c.in_ok-n.ensures.told (length-take-le n c.read.new.buf (omega (arith, c.in_ok-n.ensures.within, c.read.auto.buf))) (λ is. absurd (of_sink stop (inl made) is)) (λ long. absurd (omega (arith, long))))
+    (c.pieces.invariant.read s at) c.pieces.invariant.one_line c.in_ok-n.ensures.told (length-take-le n c.read.new.buf (omega (arith, c.in_ok-n.ensures.within, c.read.auto.buf))) c.pieces.invariant.short (omega (arith, c.in_ok-n.ensures.within)) (sink_isnt stop (inl made)) (λ is. absurd (of_sink stop (inl made) is)) (λ long. absurd (omega (arith, long))))
 
 pub pieces-preserved : goal.pieces-preserved
 pieces-preserved g c =
@@ -51,7 +53,6 @@ pieces-preserved g c =
     let n = c.in_ok-n.n in
     let buf = c.read.new.buf in
     record {
-      sound = c.in_ok-feed.ensures.sound;
       read = λ s at.
           let h = c.pieces.invariant.read s at in
           let len : length (take n buf) ≡ n = length-take-le n buf (omega (arith, c.in_ok-n.ensures.within, c.read.auto.buf)) in
@@ -61,6 +62,8 @@ pieces-preserved g c =
           h c.pieces.invariant.empty c.in_ok-n.ensures.told a c.in_ok-write_out.ensures.ok);
       short = omega arith;
       empty = c.in_ok-write_out.ensures.emptied;
+      up_to_date = inr c.in_ok-write_out.ensures.flushed;
+      one_line = c.in_ok-feed.ensures.one_line;
       read_later = omega arith;
       write_later = omega arith;
     }
@@ -77,5 +80,5 @@ returns-in_err-write_out-clause-err g c = if_err c.from_residual-in_err-write_ou
     let part = c.in_err-write_out.ensures.err in
     let which = subst (λ (e : Stop). (e ≡ Memory) ⊎ (e ≡ WriteFault)) (sym made) c.in_err-write_out.ensures.which in
     stopped s c.pieces.session.machine c.pieces.session.line stop (left c.args.source.now) (left c.pieces.source) (left c.read.new.self) (taken c.args.sink.now) (taken c.pieces.sink) (taken c.write_out.new.sink) c.pieces.count (take n buf) (take part.0 (string_bytes c.feed.new.self.output))
-    h c.in_ok-n.ensures.told part.1 (piece_front h.state c.pieces.session c.feed.new.self (take n buf) part.0 a c.pieces.invariant.empty)
-    (λ is. absurd (of_sink stop which is)) (λ long. absurd (omega (arith, long, len))))
+    h c.in_ok-n.ensures.told part.1 (piece_front h.state c.pieces.session c.feed.new.self (take n buf) part.0 a c.pieces.invariant.empty) (omega (arith, len, c.pieces.invariant.short, c.in_ok-n.ensures.within))
+    (λ is. absurd (of_sink stop which is)) (λ long. absurd (omega (arith, long, len))) (sink_isnt stop which) (λ is. absurd (of_sink stop which is)))

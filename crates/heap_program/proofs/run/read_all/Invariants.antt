@@ -1,6 +1,7 @@
 use Rattle.std.proofs.Common.{◌≡◌, ◌≤◌, ◌-◌, ◌^◌, [], string_bytes}
 use Rattle.heap_model.specs.State.{State}
-use Rattle.kernel_heap.specs.Machine.{IsSound}
+use Rattle.heap_program.specs.Flushed.{IsUpToDate}
+use Rattle.heap_program.specs.Lines.{IsOneLine}
 use Rattle.heap_program.specs.Progress.{IsAt}
 use Rattle.heap_program.specs.Stop.{HasRead}
 use Rattle.heap_program.proofs.run.read_all.Given as goal
@@ -10,10 +11,11 @@ invariant-pieces g l =
     let left = g.S.Source.left in
     let taken = g.K.Sink.taken in
     record {
-      sound : IsSound l.session.machine;
       read : (s : State) → IsAt l.fn.session.machine s → HasRead s l.session.machine l.session.line (left l.fn.source) (left l.source) (taken l.fn.sink) (taken l.sink) l.count;
       short : l.count ≤ 2 ^ 30;
       empty : string_bytes l.session.output ≡ [];
+      one_line : IsOneLine l.session.line;
+      up_to_date : IsUpToDate taken g.K.Sink.flushed l.fn.sink l.sink;
       read_later : g.S.Source.faults l.fn.source ≤ g.S.Source.faults l.source;
       write_later : g.K.Sink.faults l.fn.sink ≤ g.K.Sink.faults l.sink;
     }

@@ -1,7 +1,9 @@
+use Rattle.std.proofs.Common.{refl}
 use Rattle.heap_model.specs.State.{start}
+use Rattle.heap_program.specs.declared.run.Stop.TheVariants.{ReadFault, TooLong}
 use Rattle.heap_program.proofs.Errors.{on_err}
 use Rattle.heap_program.proofs.Sessions.{begun}
-use Rattle.heap_program.proofs.Wholes.{answered, seen_stopped, seen_first, seen_last, err_long, late_long, ok_long, stop_long}
+use Rattle.heap_program.proofs.Wholes.{answered, seen_stopped, seen_first, seen_last, err_long, late_long, ok_long, stop_is, stop_long}
 use Rattle.heap_program.proofs.run.run.Goals as goal
 
 pub returns-in_default-clause-stopped : goal.returns-in_default-clause-stopped
@@ -27,6 +29,16 @@ returns-in_err-read_all-clause-too_long g c =
     stop_long (left c.args.source.now) (left c.read_all.new.source) c.from_residual.result stop c.from_residual.ensures.1
     (err_long (left c.args.source.now) (left c.read_all.new.source) h.bytes stop h.consumed h.too_long)
 
+pub returns-in_err-read_all-clause-at_fault : goal.returns-in_err-read_all-clause-at_fault
+returns-in_err-read_all-clause-at_fault g c is =
+    let at = begun (start c.args.config.now) c.new-session.result c.in-Ok.machine c.new-session.ensures.machine c.in-Ok.ensures.good c.in-Ok.ensures.stands in
+    (c.in_err-read_all.ensures.err (start c.args.config.now) at).at_fault (stop_is c.from_residual.result c.in_err-read_all.field-0.0 ReadFault c.from_residual.ensures.1 is)
+
+pub returns-in_err-read_all-clause-at_length : goal.returns-in_err-read_all-clause-at_length
+returns-in_err-read_all-clause-at_length g c is =
+    let at = begun (start c.args.config.now) c.new-session.result c.in-Ok.machine c.new-session.ensures.machine c.in-Ok.ensures.good c.in-Ok.ensures.stands in
+    (c.in_err-read_all.ensures.err (start c.args.config.now) at).at_length (stop_is c.from_residual.result c.in_err-read_all.field-0.0 TooLong c.from_residual.ensures.1 is)
+
 pub returns-in_err-close-clause-stopped : goal.returns-in_err-close-clause-stopped
 returns-in_err-close-clause-stopped g c =
     let s = start c.args.config.now in
@@ -36,7 +48,7 @@ returns-in_err-close-clause-stopped g c =
     let h = c.in_ok-read_all.ensures.ok s at in
     on_err c.from_residual-in_err-close.result
     (seen_last s c.read_all.new.session.machine c.read_all.new.session.line (left c.args.source.now) (left c.read_all.new.source) (taken c.args.sink.now) (taken c.read_all.new.sink) (taken c.close.new.sink) c.in_ok-read_all.field-0
-    h (c.in_err-close.ensures.err h.state h.at))
+    h c.in_ok-read_all.ensures.short (c.in_err-close.ensures.err h.state h.at))
 
 pub returns-in_err-close-clause-too_long : goal.returns-in_err-close-clause-too_long
 returns-in_err-close-clause-too_long g c =
@@ -58,7 +70,7 @@ returns-clause-answered g c =
     let at = begun s c.new-session.result c.in-Ok.machine c.new-session.ensures.machine c.in-Ok.ensures.good c.in-Ok.ensures.stands in
     let h = c.in_ok-read_all.ensures.ok s at in
     answered s c.read_all.new.session.machine c.close.new.session.machine c.read_all.new.session.line (left c.args.source.now) (left c.read_all.new.source) (taken c.args.sink.now) (taken c.read_all.new.sink) (taken c.close.new.sink) (g.K.Sink.flushed c.close.new.sink) c.in_ok-read_all.field-0
-    h c.in_ok-read_all.ensures.end (c.in_ok-close.ensures.ok h.state h.at) c.in_ok-close.ensures.flushed
+    h refl c.in_ok-read_all.ensures.short c.in_ok-read_all.ensures.end (c.in_ok-close.ensures.ok h.state h.at) c.in_ok-close.ensures.flushed
 
 pub returns-clause-too_long : goal.returns-clause-too_long
 returns-clause-too_long g c =

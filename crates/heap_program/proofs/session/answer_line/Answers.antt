@@ -8,12 +8,12 @@ use Rattle.heap_program.specs.Text.{line_text}
 use Rattle.heap_program.proofs.Servable.{item_servable}
 use Rattle.heap_program.proofs.session.answer_line.Goals as goal
 
-pub step-requires-clause-servable : goal.step-requires-clause-servable
-step-requires-clause-servable c = item_servable c.args.line.now c.in-Some.call (sym c.in_ok-call.ensures ∙ c.in-Some.is)
+pub step-requires : goal.step-requires
+step-requires c = item_servable c.args.line.now c.in-Some.call (sym c.in_ok-call.ensures ∙ c.in-Some.is)
 
-pub returns-in_ok-answer-in-Some-clause-answered : goal.returns-in_ok-answer-in-Some-clause-answered
+pub returns-in_ok-answer-in-Some : goal.returns-in_ok-answer-in-Some
 unfolding line_text
-returns-in_ok-answer-in-Some-clause-answered c =
+returns-in_ok-answer-in-Some c =
     let call = c.in-Some.call in
     let answer = c.in_ok-answer-in-Some.answer in
     on_ok_weaker c.push_answer.result (λ written s at.
@@ -26,9 +26,9 @@ returns-in_ok-answer-in-Some-clause-answered c =
       output = written ∙ ap (λ (l : List ℕ). string_bytes c.args.output.now ++ l) (sym (append-nil (line_text (Some answer))));
     }) c.push_answer.ensures
 
-pub returns-in-None-clause-answered : goal.returns-in-None-clause-answered
+pub returns-in-None : goal.returns-in-None
 unfolding line_text
-returns-in-None-clause-answered c =
+returns-in-None c =
     on_ok_weaker c.push_str.result (λ written s at.
     record {
       answers = None ∷ [];

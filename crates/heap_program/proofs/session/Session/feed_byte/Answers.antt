@@ -6,9 +6,9 @@ use Rattle.heap_program.specs.Progress.{texts_of}
 use Rattle.heap_program.proofs.Runs.{answered_line, answered_byte}
 use Rattle.heap_program.proofs.session.Session.feed_byte.Goals as goal
 
-pub returns-in_ok-answer_line-clause-fed : goal.returns-in_ok-answer_line-clause-fed
-returns-in_ok-answer_line-clause-fed c s at =
-    let a = c.in_ok-answer_line.ensures.answered s at in
+pub returns-in_ok-answer_line : goal.returns-in_ok-answer_line
+returns-in_ok-answer_line c s at =
+    let a = c.in_ok-answer_line.ensures s at in
     record {
       state = a.state;
       told = texts_of a.answers;
@@ -18,8 +18,8 @@ returns-in_ok-answer_line-clause-fed c s at =
           (subst (λ (l : List ℕ). RunsTo s (item_of l ∷ []) a.answers a.state) c.bytes.ensures.value a.run);
     }
 
-pub returns-in_ok-push-clause-fed : goal.returns-in_ok-push-clause-fed
-returns-in_ok-push-clause-fed c s at = record {
+pub returns-in_ok-push : goal.returns-in_ok-push
+returns-in_ok-push c s at = record {
   state = s;
   told = [];
   at = at;

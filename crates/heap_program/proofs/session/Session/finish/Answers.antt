@@ -4,9 +4,9 @@ use Rattle.heap_program.specs.Progress.{texts_of}
 use Rattle.heap_program.specs.Text.{end_text_of}
 use Rattle.heap_program.proofs.session.Session.finish.Goals as goal
 
-pub returns-clause-finished : goal.returns-clause-finished
-returns-clause-finished c = on_ok_weaker c.push_end.result (λ written s at.
-    let a = c.in_ok-answer_rest.ensures.answered s at in
+pub returns : goal.returns
+returns c = on_ok_weaker c.push_end.result (λ written s at.
+    let a = c.in_ok-answer_rest.ensures s at in
     let texts = texts_of a.answers in
     let last = end_text_of a.state in
     record {
