@@ -1,0 +1,39 @@
+use Rattle.std.proofs.Common.{refl, arith}
+use Rattle.bins.proofs.Pulled.{prev_place, next_place, places_apart, small_unlinked, pulled_words}
+use Rattle.bins.proofs.bins.Bins.unlink_small.Goals as goal
+
+pub overflow_add-chunk : goal.overflow_add-chunk
+overflow_add-chunk g c = let r = c.requires.linked in let own = r.1.chunks.each c.args.size c.args.chunk r.2 in omega (arith, own.high, own.long)
+
+pub load_counted-prev-requires : goal.load_counted-prev-requires
+load_counted-prev-requires g c = let r = c.requires.linked in let own = r.1.chunks.each c.args.size c.args.chunk r.2 in
+    own.granted _ (omega arith) (omega (arith, own.long)) (omega (arith, own.aligned))
+
+pub overflow_add-chunk-2 : goal.overflow_add-chunk-2
+overflow_add-chunk-2 g c = let r = c.requires.linked in let own = r.1.chunks.each c.args.size c.args.chunk r.2 in omega (arith, own.high, own.long)
+
+pub load_counted-next-requires : goal.load_counted-next-requires
+load_counted-next-requires g c = let r = c.requires.linked in let own = r.1.chunks.each c.args.size c.args.chunk r.2 in
+    own.granted _ (omega arith) (omega (arith, own.long)) (omega (arith, own.aligned))
+
+pub pull-requires-clause-front : goal.pull-requires-clause-front
+pull-requires-clause-front g c = let r = c.requires.linked in
+    λ not. prev_place (g.M.Links.regions c.args.memory.now) (g.M.Links.word c.args.memory.now) c.args.self.now r.0 c.args.size c.args.chunk _ _ _ r.1 r.2 c.requires.small c.load_counted-prev.ensures.value c.load_counted-next.ensures.value refl not
+
+pub pull-requires-clause-back : goal.pull-requires-clause-back
+pull-requires-clause-back g c = let r = c.requires.linked in
+    λ not. next_place (g.M.Links.regions c.args.memory.now) (g.M.Links.word c.args.memory.now) c.args.self.now r.0 c.args.size c.args.chunk _ _ _ r.1 r.2 c.requires.small c.load_counted-prev.ensures.value c.load_counted-next.ensures.value refl not
+
+pub pull-requires-clause-other : goal.pull-requires-clause-other
+pull-requires-clause-other g c = let r = c.requires.linked in
+    λ p n. places_apart (g.M.Links.regions c.args.memory.now) (g.M.Links.word c.args.memory.now) c.args.self.now r.0 c.args.size c.args.chunk _ _ _ r.1 r.2 c.requires.small c.load_counted-prev.ensures.value c.load_counted-next.ensures.value refl p n
+
+pub returns-clause-linked : goal.returns-clause-linked
+returns-clause-linked g c = λ index linked is.
+    rw c.pull.ensures.regions (small_unlinked (g.M.Links.regions c.args.memory.now) (g.M.Links.word c.args.memory.now) c.args.self.now index c.args.size c.args.chunk _ _ _ linked is c.requires.small
+    c.load_counted-prev.ensures.value c.load_counted-next.ensures.value refl (g.M.Links.word c.pull.new.memory) _ c.pull.ensures.pulled c.set_less.ensures)
+
+pub returns-clause-words : goal.returns-clause-words
+returns-clause-words g c = λ index linked is.
+    pulled_words (g.M.Links.regions c.args.memory.now) (g.M.Links.word c.args.memory.now) c.args.self.now index c.args.size c.args.chunk _ _ _ linked is c.requires.small
+    c.load_counted-prev.ensures.value c.load_counted-next.ensures.value refl (g.M.Links.word c.pull.new.memory) _ c.pull.ensures.pulled c.set_less.ensures

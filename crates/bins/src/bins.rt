@@ -1,0 +1,127 @@
+// The bins, and the calls on chunks of all sizes.
+ghost use Rattle.std.specs.Prelude.{◌≡◌, ℕ, ◌+◌, ◌^◌, ◌≤◌, List, [], MatchOption};
+ghost use Rattle.bins.specs.Index.{IsIn, IsNone, IsLeastFit, with_chunk, without_chunk};
+
+use crate::words::{LEAST_LARGE, SMALL_TAG};
+use heap_memory::Links;
+use std::sync::ledger::Ledger;
+use step_count::Steps;
+
+/// The bins of free chunks by size.
+///
+/// Each call takes a memory and a counter, in which each load and store of a word counts one. What stands in the memory
+/// is told by an index: a function from a size to the list of its chunks, the oldest first. The contracts hold for the
+/// index that is linked at entry, so no call takes it.
+#[derive(Drop)]
+pub struct Bins {
+    /// The oldest chunk of each small bin, or its tag where it is empty.
+    pub(crate) firsts: [u64; 32],
+    /// The newest chunk of each small bin, or its tag where it is empty.
+    pub(crate) lasts: [u64; 32],
+    /// A bit for each small bin that has a chunk.
+    pub(crate) small_map: u32,
+    /// The root of the trie of each tree bin, or 0 where it is empty.
+    pub(crate) roots: [u64; 32],
+    /// A bit for each tree bin that has a chunk.
+    pub(crate) tree_map: u32,
+}
+
+impl Bins {
+    ghost use Rattle.heap_memory.specs.declared.grant.Grant.{Grant};
+    ghost use Rattle.bins.specs.Linked.{IsLinked, IsFresh, OnlyLinksChange};
+
+    /// Bins without a chunk, for any memory.
+    pub fn new() -> Bins
+        ensures { (regions : List Grant) (words : ℕ → ℕ) → IsLinked regions words result (λ n. []) }
+    {
+        let mut tags: [u64; 32] = [0; 32];
+        for i in 0..32 {
+            tags[i] = SMALL_TAG + i as u64;
+        }
+        Bins {
+            firsts: tags,
+            lasts: tags,
+            small_map: 0,
+            roots: [0; 32],
+            tree_map: 0,
+        }
+    }
+
+    /// Puts a chunk into the index, as the newest of its size. Its head tells the size, and it shares no byte with a
+    /// chunk of the index.
+    ///
+    /// Of the granted words only link words change: those of the chunk and of the chunks of the index. At most 129 words
+    /// are loaded or stored.
+    pub fn insert<M: Links, L: Ledger>(
+        &mut self,
+        memory: &mut M,
+        chunk: u64,
+        size: u64,
+        steps: &mut Steps<L>,
+    )
+        requires linked { (index : ℕ → List ℕ) × IsLinked (M.regions memory.old) (M.word memory.old) self.old index × IsFresh (M.regions memory.old) (M.word memory.old) index size chunk }
+        ensures linked { (index : ℕ → List ℕ) → IsLinked (M.regions memory.old) (M.word memory.old) self.old index → IsFresh (M.regions memory.old) (M.word memory.old) index size chunk →
+            IsLinked (M.regions memory.new) (M.word memory.new) self.new (with_chunk size chunk index) }
+        ensures words { (index : ℕ → List ℕ) → IsLinked (M.regions memory.old) (M.word memory.old) self.old index → IsFresh (M.regions memory.old) (M.word memory.old) index size chunk →
+            OnlyLinksChange (M.regions memory.old) index size chunk (M.word memory.old) (M.word memory.new) }
+        ensures regions { M.regions memory.new ≡ M.regions memory.old }
+        ensures follows { M.follows memory.old [] memory.new }
+        ensures counted { steps.new ≤ steps.old + 129 }
+    {
+        if size < LEAST_LARGE {
+            self.insert_small(memory, chunk, size, steps);
+        } else {
+            self.insert_large(memory, chunk, size, steps);
+        }
+    }
+
+    /// Takes a chunk out of the index, and no other. It is binned with this size.
+    ///
+    /// Of the granted words only link words of the chunks of the index change. At most 196 words are loaded or stored.
+    pub fn unlink<M: Links, L: Ledger>(
+        &mut self,
+        memory: &mut M,
+        chunk: u64,
+        size: u64,
+        steps: &mut Steps<L>,
+    )
+        requires linked { (index : ℕ → List ℕ) × IsLinked (M.regions memory.old) (M.word memory.old) self.old index × IsIn chunk (index size) }
+        ensures linked { (index : ℕ → List ℕ) → IsLinked (M.regions memory.old) (M.word memory.old) self.old index → IsIn chunk (index size) →
+            IsLinked (M.regions memory.new) (M.word memory.new) self.new (without_chunk size chunk index) }
+        ensures words { (index : ℕ → List ℕ) → IsLinked (M.regions memory.old) (M.word memory.old) self.old index → IsIn chunk (index size) →
+            OnlyLinksChange (M.regions memory.old) index size chunk (M.word memory.old) (M.word memory.new) }
+        ensures regions { M.regions memory.new ≡ M.regions memory.old }
+        ensures follows { M.follows memory.old [] memory.new }
+        ensures counted { steps.new ≤ steps.old + 196 }
+    {
+        if size < LEAST_LARGE {
+            self.unlink_small(memory, chunk, size, steps);
+        } else {
+            self.unlink_large(memory, chunk, size, steps);
+        }
+    }
+
+    /// The chunk of the least size that is at least `size`: the newest of its size below 256, and the oldest from 256
+    /// on. None comes exactly where no chunk is large enough.
+    ///
+    /// At most 366 words are loaded: a search goes down one path, and then down the leftmost path of one subtree.
+    pub fn least_fit<M: Links, L: Ledger>(
+        &self,
+        memory: &M,
+        size: u64,
+        steps: &mut Steps<L>,
+    ) -> Option<u64>
+        requires { (index : ℕ → List ℕ) × IsLinked (M.regions memory.now) (M.word memory.now) self.now index }
+        ensures fit { (index : ℕ → List ℕ) → IsLinked (M.regions memory.now) (M.word memory.now) self.now index →
+            MatchOption result (IsNone index size (2 ^ 64)) (λ chunk. IsLeastFit index size chunk) }
+        ensures counted { steps.new ≤ steps.old + 366 }
+    {
+        if size >= LEAST_LARGE {
+            return self.least_large(memory, size, steps);
+        }
+        match self.least_small(memory, size) {
+            Some(chunk) => Some(chunk),
+            None => self.least_large(memory, LEAST_LARGE, steps),
+        }
+    }
+}

@@ -1,0 +1,180 @@
+// The bins of large chunks.
+ghost use Rattle.std.specs.Prelude.{◌≡◌, ◌≢◌, ℕ, ◌+◌, ◌*◌, ◌^◌, ◌<◌, ◌≤◌, List, [], MatchOption};
+ghost use Rattle.dlmalloc_chunks.specs.Bins.{least_size};
+ghost use Rattle.bins.specs.Index.{IsIn, IsNone, IsLeastFit, with_chunk, without_chunk};
+ghost use Rattle.bins.specs.Linked.{IsLinked, IsFresh, OnlyLinksChange, low_of, levels_of};
+ghost use Rattle.bins.specs.Stores.{HasRoot};
+
+use crate::bins::Bins;
+use crate::leave::unlink_below;
+use crate::map;
+use crate::search::{fit_below, least_of};
+use crate::trie::plant;
+use crate::words::TREE_TAG;
+use dlmalloc_chunks::compute_tree_index;
+use heap_memory::Links;
+use std::sync::ledger::Ledger;
+use step_count::Steps;
+
+/// Where the range of the sizes of a tree bin begins.
+pub(crate) fn bin_low(bin: usize) -> u64
+    requires { bin < 32 }
+    ensures { result ≡ low_of bin }
+{
+    if bin == 31 {
+        return 0;
+    }
+    (2 + bin as u64 % 2) << (bin / 2 + 7)
+}
+
+/// The levels of a tree bin.
+pub(crate) fn bin_levels(bin: usize) -> u32
+    requires { bin < 32 }
+    ensures { result ≡ levels_of bin }
+{
+    if bin == 31 {
+        return 61;
+    }
+    bin as u32 / 2 + 4
+}
+
+impl Bins {
+    /// Names the root of a tree bin, 0 where it is empty.
+    fn set_root(&mut self, bin: usize, root: u64)
+        requires { bin < 32 }
+        ensures { HasRoot self.old bin root self.new }
+    {
+        self.roots[bin] = root;
+        if root == 0 {
+            self.tree_map = map::without_bit(self.tree_map, bin);
+        } else {
+            self.tree_map = map::with_bit(self.tree_map, bin);
+        }
+    }
+
+    /// Takes a chunk of a size of at least 256 out of its trie.
+    pub(crate) fn unlink_large<M: Links, L: Ledger>(
+        &mut self,
+        memory: &mut M,
+        chunk: u64,
+        size: u64,
+        steps: &mut Steps<L>,
+    )
+        requires large { 256 ≤ size }
+        requires linked { (index : ℕ → List ℕ) × IsLinked (M.regions memory.old) (M.word memory.old) self.old index × IsIn chunk (index size) }
+        ensures linked { (index : ℕ → List ℕ) → IsLinked (M.regions memory.old) (M.word memory.old) self.old index → IsIn chunk (index size) →
+            IsLinked (M.regions memory.new) (M.word memory.new) self.new (without_chunk size chunk index) }
+        ensures words { (index : ℕ → List ℕ) → IsLinked (M.regions memory.old) (M.word memory.old) self.old index → IsIn chunk (index size) →
+            OnlyLinksChange (M.regions memory.old) index size chunk (M.word memory.old) (M.word memory.new) }
+        ensures regions { M.regions memory.new ≡ M.regions memory.old }
+        ensures follows { M.follows memory.old [] memory.new }
+        ensures counted { steps.new ≤ steps.old + 196 }
+    {
+        let bin = compute_tree_index(size) as usize;
+        let root = self.roots[bin];
+        let low = bin_low(bin);
+        let levels = bin_levels(bin);
+        let left = unlink_below(
+            memory,
+            root,
+            low,
+            levels,
+            TREE_TAG + bin as u64,
+            bin as u64,
+            chunk,
+            size,
+            steps,
+        );
+        self.set_root(bin, left);
+    }
+
+    /// Puts a chunk of a size of at least 256 into its trie, as the newest of its size.
+    pub(crate) fn insert_large<M: Links, L: Ledger>(
+        &mut self,
+        memory: &mut M,
+        chunk: u64,
+        size: u64,
+        steps: &mut Steps<L>,
+    )
+        requires large { 256 ≤ size }
+        requires linked { (index : ℕ → List ℕ) × IsLinked (M.regions memory.old) (M.word memory.old) self.old index × IsFresh (M.regions memory.old) (M.word memory.old) index size chunk }
+        ensures linked { (index : ℕ → List ℕ) → IsLinked (M.regions memory.old) (M.word memory.old) self.old index → IsFresh (M.regions memory.old) (M.word memory.old) index size chunk →
+            IsLinked (M.regions memory.new) (M.word memory.new) self.new (with_chunk size chunk index) }
+        ensures words { (index : ℕ → List ℕ) → IsLinked (M.regions memory.old) (M.word memory.old) self.old index → IsFresh (M.regions memory.old) (M.word memory.old) index size chunk →
+            OnlyLinksChange (M.regions memory.old) index size chunk (M.word memory.old) (M.word memory.new) }
+        ensures regions { M.regions memory.new ≡ M.regions memory.old }
+        ensures follows { M.follows memory.old [] memory.new }
+        ensures counted { steps.new ≤ steps.old + 129 }
+    {
+        let bin = compute_tree_index(size) as usize;
+        let root = self.roots[bin];
+        let low = bin_low(bin);
+        let levels = bin_levels(bin);
+        let planted = plant(
+            memory,
+            root,
+            low,
+            levels,
+            TREE_TAG + bin as u64,
+            bin as u64,
+            chunk,
+            size,
+            steps,
+        );
+        self.set_root(bin, planted);
+    }
+
+    /// The oldest chunk of the least size in the tree bins behind one.
+    fn least_behind<M: Links, L: Ledger>(
+        &self,
+        memory: &M,
+        bin: usize,
+        steps: &mut Steps<L>,
+    ) -> Option<u64>
+        requires within { bin < 31 }
+        requires linked { (index : ℕ → List ℕ) × IsLinked (M.regions memory.now) (M.word memory.now) self.now index }
+        ensures fit { (index : ℕ → List ℕ) → IsLinked (M.regions memory.now) (M.word memory.now) self.now index →
+            MatchOption result (IsNone index (least_size (bin + 1)) (2 ^ 64)) (λ chunk. IsLeastFit index (least_size (bin + 1)) chunk) }
+        ensures counted { steps.new ≤ steps.old + 183 }
+    {
+        match map::lowest_from(self.tree_map, bin + 1) {
+            None => None,
+            Some(next) => {
+                let root = self.roots[next];
+                let levels = bin_levels(next);
+                match least_of(memory, root, levels, steps) {
+                    None => None,
+                    Some(fit) => Some(fit.chunk),
+                }
+            }
+        }
+    }
+
+    /// The oldest chunk of the least size that is at least `size`, which is 256 or more.
+    pub(crate) fn least_large<M: Links, L: Ledger>(
+        &self,
+        memory: &M,
+        size: u64,
+        steps: &mut Steps<L>,
+    ) -> Option<u64>
+        requires large { 256 ≤ size }
+        requires linked { (index : ℕ → List ℕ) × IsLinked (M.regions memory.now) (M.word memory.now) self.now index }
+        ensures fit { (index : ℕ → List ℕ) → IsLinked (M.regions memory.now) (M.word memory.now) self.now index →
+            MatchOption result (IsNone index size (2 ^ 64)) (λ chunk. IsLeastFit index size chunk) }
+        ensures counted { steps.new ≤ steps.old + 366 }
+    {
+        let bin = compute_tree_index(size) as usize;
+        let root = self.roots[bin];
+        let low = bin_low(bin);
+        let levels = bin_levels(bin);
+        match fit_below(memory, root, low, levels, size, steps) {
+            Some(fit) => Some(fit.chunk),
+            None => {
+                if bin == 31 {
+                    return None;
+                }
+                self.least_behind(memory, bin, steps)
+            }
+        }
+    }
+}

@@ -1,0 +1,118 @@
+// Leaves of a trie.
+ghost use Rattle.std.specs.Prelude.{◌≡◌, ℕ, ◌+◌, ◌*◌, ◌^◌, ◌<◌, ◌≤◌, ◌≢◌, ◌⊎◌, Bool, List, [], false, true};
+ghost use Rattle.heap_memory.specs.Regions.{IsWordOf};
+ghost use Rattle.bins.specs.Tries.{slot, both};
+ghost use Rattle.bins.specs.Stores.{IsPlace, HasPlaced};
+ghost use Rattle.bins.specs.Below.{IsHeld};
+ghost use Rattle.bins.specs.Fits.{IsTakenOut, IsClearedIf};
+
+use crate::trie::{set_node, slot_of};
+use crate::words::{CHILD0, CHILD1, PARENT};
+use heap_memory::Links;
+use std::sync::ledger::Ledger;
+use step_count::Steps;
+
+/// A child of a node.
+#[derive(Clone, Copy)]
+pub(crate) struct Child {
+    pub(crate) at: u64,
+    pub(crate) is_upper: bool,
+}
+
+/// A child of a node, where there is one.
+pub(crate) fn first_child<M: Links, L: Ledger>(memory: &M, at: u64, steps: &mut Steps<L>) -> Child
+    requires left { IsPlace (M.regions memory.now) (at + 32) }
+    requires right { IsPlace (M.regions memory.now) (at + 40) }
+    ensures is { result.at ≡ M.word memory.now (at + slot result.is_upper) }
+    ensures left { result.at ≡ 0 → M.word memory.now (at + 32) ≡ 0 }
+    ensures right { result.at ≡ 0 → M.word memory.now (at + 40) ≡ 0 }
+    ensures counted { steps.new ≤ steps.old + 2 }
+{
+    let left = memory.load_counted(at + CHILD0, steps);
+    if left != 0 {
+        return Child {
+            at: left,
+            is_upper: false,
+        };
+    }
+    Child {
+        at: memory.load_counted(at + CHILD1, steps),
+        is_upper: true,
+    }
+}
+
+/// Clears a word where that is asked.
+fn clear_if<M: Links, L: Ledger>(memory: &mut M, place: u64, is: bool, steps: &mut Steps<L>)
+    requires { IsPlace (M.regions memory.old) place }
+    ensures cleared { IsClearedIf (M.regions memory.old) (M.word memory.old) place is (M.word memory.new) }
+    ensures regions { M.regions memory.new ≡ M.regions memory.old }
+    ensures follows { M.follows memory.old [] memory.new }
+    ensures counted { steps.new ≤ steps.old + 1 }
+{
+    if is {
+        memory.store_counted(place, 0, steps);
+    }
+}
+
+/// Names a chunk as the parent of a child, where there is one.
+fn adopt<M: Links, L: Ledger>(memory: &mut M, child: u64, chunk: u64, steps: &mut Steps<L>)
+    requires { 0 < child → IsPlace (M.regions memory.old) (child + 48) }
+    ensures named { 0 < child → M.word memory.new (child + 48) ≡ chunk }
+    ensures elsewhere { (at : ℕ) → IsWordOf (M.regions memory.old) at → (0 < child → at ≢ child + 48) → M.word memory.new at ≡ M.word memory.old at }
+    ensures regions { M.regions memory.new ≡ M.regions memory.old }
+    ensures follows { M.follows memory.old [] memory.new }
+    ensures counted { steps.new ≤ steps.old + 1 }
+{
+    if child != 0 {
+        memory.store_counted(child + PARENT, chunk, steps);
+    }
+}
+
+/// Makes a chunk a node with these children.
+pub(crate) fn place_node<M: Links, L: Ledger>(
+    memory: &mut M,
+    chunk: u64,
+    child0: u64,
+    child1: u64,
+    parent: u64,
+    bin: u64,
+    steps: &mut Steps<L>,
+)
+    requires own { (k : ℕ) → 1 < k → k < 8 → IsPlace (M.regions memory.old) (chunk + 8 * k) }
+    requires places { (side : Bool) → 0 < both child0 child1 side → IsPlace (M.regions memory.old) (both child0 child1 side + 48) }
+    requires apart { (side : Bool) → 0 < both child0 child1 side → (both child0 child1 side + 48 < chunk + 32) ⊎ (chunk + 64 ≤ both child0 child1 side + 48) }
+    requires two { 0 < child0 → 0 < child1 → child0 ≢ child1 }
+    ensures placed { HasPlaced (M.regions memory.old) (M.word memory.old) chunk (both child0 child1) parent bin (M.word memory.new) }
+    ensures regions { M.regions memory.new ≡ M.regions memory.old }
+    ensures follows { M.follows memory.old [] memory.new }
+    ensures counted { steps.new ≤ steps.old + 6 }
+{
+    set_node(memory, chunk, child0, child1, parent, bin, steps);
+    adopt(memory, child0, chunk, steps);
+    adopt(memory, child1, chunk, steps);
+}
+
+/// Takes a leaf out of a trie that is not empty.
+pub(crate) fn take_leaf<M: Links, L: Ledger>(
+    memory: &mut M,
+    at: u64,
+    levels: u32,
+    steps: &mut Steps<L>,
+) -> u64
+    requires some { 0 < at }
+    requires held { (index : ℕ → List ℕ) × ((bin : ℕ) × ((parent : ℕ) × ((low : ℕ) × IsHeld (M.regions memory.old) (M.word memory.old) index bin parent low levels at))) }
+    ensures taken { (index : ℕ → List ℕ) (bin parent low : ℕ) → IsHeld (M.regions memory.old) (M.word memory.old) index bin parent low levels at →
+        IsTakenOut (M.regions memory.old) (M.word memory.old) (M.word memory.new) index bin parent low levels at result }
+    ensures regions { M.regions memory.new ≡ M.regions memory.old }
+    ensures follows { M.follows memory.old [] memory.new }
+    ensures counted { steps.new ≤ steps.old + 3 * levels }
+{
+    let child = first_child(memory, at, steps);
+    if child.at == 0 {
+        return at;
+    }
+    let place = slot_of(at, child.is_upper);
+    let leaf = take_leaf(memory, child.at, levels - 1, steps);
+    clear_if(memory, place, leaf == child.at, steps);
+    leaf
+}

@@ -1,0 +1,203 @@
+// A chunk leaves a trie.
+ghost use Rattle.std.specs.Prelude.{◌≡◌, ◌≢◌, ℕ, ◌+◌, ◌*◌, ◌^◌, ◌<◌, ◌≤◌, ◌⊎◌, Bool, List, [], ◌∷◌};
+ghost use Rattle.bins.specs.Index.{IsIn, without, without_chunk};
+ghost use Rattle.bins.specs.Tries.{both, width, IsTrie};
+ghost use Rattle.bins.specs.Below.{IsHeld, OnlyHeldChanges};
+ghost use Rattle.bins.specs.Stores.{IsPlace, HasPulled, HasHeirLinks, HasPlaced};
+
+use crate::leaf::{first_child, place_node, take_leaf};
+use crate::small::pull;
+use crate::trie::{half_width, is_in_upper, low_of, slot_of};
+use crate::words::{CHILD0, CHILD1, NEXT, PREV};
+use dlmalloc_chunks::chunk;
+use heap_memory::Links;
+use std::sync::ledger::Ledger;
+use step_count::Steps;
+
+/// Takes a chunk that is not the oldest out of the ring of a node.
+fn leave_ring<M: Links, L: Ledger>(memory: &mut M, chunk: u64, steps: &mut Steps<L>)
+    requires prev { IsPlace (M.regions memory.old) (chunk + 16) }
+    requires next { IsPlace (M.regions memory.old) (chunk + 24) }
+    requires front { IsPlace (M.regions memory.old) (M.word memory.old (chunk + 16) + 24) }
+    requires back { IsPlace (M.regions memory.old) (M.word memory.old (chunk + 24) + 16) }
+    requires other { M.word memory.old (chunk + 16) + 24 ≢ M.word memory.old (chunk + 24) + 16 }
+    ensures pulled { HasPulled (M.regions memory.old) (M.word memory.old) (M.word memory.old (chunk + 16)) (M.word memory.old (chunk + 24)) 0 (M.word memory.new) }
+    ensures regions { M.regions memory.new ≡ M.regions memory.old }
+    ensures follows { M.follows memory.old [] memory.new }
+    ensures counted { steps.new ≤ steps.old + 4 }
+{
+    let prev = memory.load_counted(chunk + PREV, steps);
+    let next = memory.load_counted(chunk + NEXT, steps);
+    pull(memory, prev, next, 0, steps);
+}
+
+/// Gives the heir of a node the ring's last, and the last the heir.
+fn turn_heir<M: Links, L: Ledger>(memory: &mut M, heir: u64, last: u64, steps: &mut Steps<L>)
+    requires own { IsPlace (M.regions memory.old) (heir + 16) }
+    requires behind { IsPlace (M.regions memory.old) (last + 24) }
+    requires other { heir + 16 ≢ last + 24 }
+    ensures turned { HasHeirLinks (M.regions memory.old) (M.word memory.old) heir last (M.word memory.new) }
+    ensures regions { M.regions memory.new ≡ M.regions memory.old }
+    ensures follows { M.follows memory.old [] memory.new }
+    ensures counted { steps.new ≡ steps.old + 2 }
+{
+    memory.store_counted(heir + PREV, last, steps);
+    memory.store_counted(last + NEXT, heir, steps);
+}
+
+/// Puts the heir of a node in its place.
+fn give_to_heir<M: Links, L: Ledger>(
+    memory: &mut M,
+    at: u64,
+    heir: u64,
+    parent: u64,
+    bin: u64,
+    steps: &mut Steps<L>,
+)
+    requires here { (k : ℕ) → 1 < k → k < 8 → IsPlace (M.regions memory.old) (at + 8 * k) }
+    requires own { (k : ℕ) → 1 < k → k < 8 → IsPlace (M.regions memory.old) (heir + 8 * k) }
+    requires behind { IsPlace (M.regions memory.old) (M.word memory.old (at + 16) + 24) }
+    requires other { heir + 16 ≢ M.word memory.old (at + 16) + 24 }
+    requires places { (side : Bool) → 0 < both (M.word memory.old (at + 32)) (M.word memory.old (at + 40)) side → IsPlace (M.regions memory.old) (both (M.word memory.old (at + 32)) (M.word memory.old (at + 40)) side + 48) }
+    requires apart { (side : Bool) → 0 < both (M.word memory.old (at + 32)) (M.word memory.old (at + 40)) side → (both (M.word memory.old (at + 32)) (M.word memory.old (at + 40)) side + 48 < heir + 32) ⊎ (heir + 64 ≤ both (M.word memory.old (at + 32)) (M.word memory.old (at + 40)) side + 48) }
+    requires two { 0 < M.word memory.old (at + 32) → 0 < M.word memory.old (at + 40) → M.word memory.old (at + 32) ≢ M.word memory.old (at + 40) }
+    ensures given { (mid : ℕ → ℕ) × (HasHeirLinks (M.regions memory.old) (M.word memory.old) heir (M.word memory.old (at + 16)) mid
+        × HasPlaced (M.regions memory.old) mid heir (both (M.word memory.old (at + 32)) (M.word memory.old (at + 40))) parent bin (M.word memory.new)) }
+    ensures regions { M.regions memory.new ≡ M.regions memory.old }
+    ensures follows { M.follows memory.old [] memory.new }
+    ensures counted { steps.new ≤ steps.old + 11 }
+{
+    let last = memory.load_counted(at + PREV, steps);
+    let child0 = memory.load_counted(at + CHILD0, steps);
+    let child1 = memory.load_counted(at + CHILD1, steps);
+    turn_heir(memory, heir, last, steps);
+    place_node(memory, heir, child0, child1, parent, bin, steps);
+}
+
+/// One of two numbers, by a side.
+fn pick(is_upper: bool, lower: u64, upper: u64) -> u64
+    ensures { result ≡ both lower upper is_upper }
+{
+    if is_upper { upper } else { lower }
+}
+
+/// What is left at a child's word after a leaf has left.
+fn rest_of(leaf: u64, child: u64) -> u64
+    ensures none { leaf ≡ child → result ≡ 0 }
+    ensures same { leaf ≢ child → result ≡ child }
+{
+    if leaf == child { 0 } else { child }
+}
+
+/// Puts a leaf from below in the place of a node that is alone in its ring. Answers 0 where nothing is below.
+fn give_to_leaf<M: Links, L: Ledger>(
+    memory: &mut M,
+    at: u64,
+    levels: u32,
+    parent: u64,
+    bin: u64,
+    steps: &mut Steps<L>,
+) -> u64
+    requires some { 0 < at }
+    requires held { (index : ℕ → List ℕ) × ((low : ℕ) × IsHeld (M.regions memory.old) (M.word memory.old) index bin parent low levels at) }
+    ensures trie { (index : ℕ → List ℕ) (low : ℕ) → IsHeld (M.regions memory.old) (M.word memory.old) index bin parent low levels at →
+        (size : ℕ) → index size ≡ at ∷ [] → IsTrie (M.word memory.new) (without size index) bin parent low levels result }
+    ensures words { (index : ℕ → List ℕ) (low : ℕ) → IsHeld (M.regions memory.old) (M.word memory.old) index bin parent low levels at →
+        OnlyHeldChanges (M.regions memory.old) index low (low + width levels) (M.word memory.old) (M.word memory.new) }
+    ensures regions { M.regions memory.new ≡ M.regions memory.old }
+    ensures follows { M.follows memory.old [] memory.new }
+    ensures counted { steps.new ≤ steps.old + 3 * levels + 9 }
+{
+    let child = first_child(memory, at, steps);
+    if child.at == 0 {
+        return 0;
+    }
+    let other = memory.load_counted(slot_of(at, !child.is_upper), steps);
+    let leaf = take_leaf(memory, child.at, levels - 1, steps);
+    let rest = rest_of(leaf, child.at);
+    let child0 = pick(child.is_upper, rest, other);
+    let child1 = pick(child.is_upper, other, rest);
+    place_node(memory, leaf, child0, child1, parent, bin, steps);
+    leaf
+}
+
+/// Takes a chunk out of the ring of a node of its size. Answers the node that stands there then.
+fn unlink_here<M: Links, L: Ledger>(
+    memory: &mut M,
+    at: u64,
+    levels: u32,
+    parent: u64,
+    bin: u64,
+    chunk: u64,
+    steps: &mut Steps<L>,
+) -> u64
+    requires some { 0 < at }
+    requires held { (index : ℕ → List ℕ) × ((low : ℕ) × ((size : ℕ) × (IsHeld (M.regions memory.old) (M.word memory.old) index bin parent low levels at × (IsIn at (index size) × IsIn chunk (index size))))) }
+    ensures trie { (index : ℕ → List ℕ) (low size : ℕ) → IsHeld (M.regions memory.old) (M.word memory.old) index bin parent low levels at →
+        IsIn at (index size) → IsIn chunk (index size) → IsTrie (M.word memory.new) (without_chunk size chunk index) bin parent low levels result }
+    ensures words { (index : ℕ → List ℕ) (low size : ℕ) → IsHeld (M.regions memory.old) (M.word memory.old) index bin parent low levels at →
+        IsIn at (index size) → IsIn chunk (index size) → OnlyHeldChanges (M.regions memory.old) index low (low + width levels) (M.word memory.old) (M.word memory.new) }
+    ensures regions { M.regions memory.new ≡ M.regions memory.old }
+    ensures follows { M.follows memory.old [] memory.new }
+    ensures counted { steps.new ≤ steps.old + 3 * levels + 12 }
+{
+    if chunk != at {
+        leave_ring(memory, chunk, steps);
+        return at;
+    }
+    let heir = memory.load_counted(at + NEXT, steps);
+    if heir == at {
+        return give_to_leaf(memory, at, levels, parent, bin, steps);
+    }
+    give_to_heir(memory, at, heir, parent, bin, steps);
+    heir
+}
+
+/// Takes a chunk out of the trie at a node. Answers the node that stands there then, or 0.
+pub(crate) fn unlink_below<M: Links, L: Ledger>(
+    memory: &mut M,
+    at: u64,
+    low: u64,
+    levels: u32,
+    parent: u64,
+    bin: u64,
+    chunk: u64,
+    size: u64,
+    steps: &mut Steps<L>,
+) -> u64
+    requires some { 0 < at }
+    requires few { levels ≤ 61 }
+    requires above { low ≤ size }
+    requires below { size < low + width levels }
+    requires fits { low + width levels ≤ 2 ^ 64 }
+    requires held { (index : ℕ → List ℕ) × (IsHeld (M.regions memory.old) (M.word memory.old) index bin parent low levels at × IsIn chunk (index size)) }
+    ensures trie { (index : ℕ → List ℕ) → IsHeld (M.regions memory.old) (M.word memory.old) index bin parent low levels at → IsIn chunk (index size) →
+        IsTrie (M.word memory.new) (without_chunk size chunk index) bin parent low levels result }
+    ensures words { (index : ℕ → List ℕ) → IsHeld (M.regions memory.old) (M.word memory.old) index bin parent low levels at → IsIn chunk (index size) →
+        OnlyHeldChanges (M.regions memory.old) index low (low + width levels) (M.word memory.old) (M.word memory.new) }
+    ensures regions { M.regions memory.new ≡ M.regions memory.old }
+    ensures follows { M.follows memory.old [] memory.new }
+    ensures counted { steps.new ≤ steps.old + 3 * levels + 13 }
+{
+    let here = chunk::size(memory, at, steps);
+    if here == size {
+        return unlink_here(memory, at, levels, parent, bin, chunk, steps);
+    }
+    let half = half_width(levels);
+    let is_upper = is_in_upper(low, half, size);
+    let place = slot_of(at, is_upper);
+    let child = memory.load_counted(place, steps);
+    let left = unlink_below(
+        memory,
+        child,
+        low_of(low, half, is_upper),
+        levels - 1,
+        at,
+        bin,
+        chunk,
+        size,
+        steps,
+    );
+    memory.store_counted(place, left, steps);
+    at
+}

@@ -1,0 +1,151 @@
+// The rings of small chunks.
+ghost use Rattle.std.specs.Prelude.{◌≡◌, ◌≢◌, ℕ, ◌+◌, ◌%◌, ◌^◌, ◌<◌, ◌≤◌, List, [], MatchOption};
+ghost use Rattle.bins.specs.Index.{IsIn, with_chunk, without_chunk, IsNone, IsLeastFit};
+ghost use Rattle.bins.specs.Linked.{IsLinked, IsFresh, OnlyLinksChange};
+ghost use Rattle.bins.specs.Stores.{IsPlace, HasPushed, HasNewest, HasPulled, HasLess};
+
+use crate::bins::Bins;
+use crate::map;
+use crate::words::{NEXT, PREV, SMALL_TAG};
+use heap_memory::Links;
+use std::sync::ledger::Ledger;
+use step_count::Steps;
+
+/// Puts a chunk behind the last of a ring, which is its tag where it is empty.
+fn push<M: Links, L: Ledger>(memory: &mut M, last: u64, tag: u64, chunk: u64, steps: &mut Steps<L>)
+    requires prev { IsPlace (M.regions memory.old) (chunk + 16) }
+    requires next { IsPlace (M.regions memory.old) (chunk + 24) }
+    requires behind { last ≢ tag → IsPlace (M.regions memory.old) (last + 24) }
+    requires other { last ≢ tag → (last + 24 ≢ chunk + 16) × (last + 24 ≢ chunk + 24) }
+    ensures pushed { HasPushed (M.regions memory.old) (M.word memory.old) last tag chunk (M.word memory.new) }
+    ensures regions { M.regions memory.new ≡ M.regions memory.old }
+    ensures follows { M.follows memory.old [] memory.new }
+    ensures counted { steps.new ≤ steps.old + 3 }
+{
+    memory.store_counted(chunk + PREV, last, steps);
+    memory.store_counted(chunk + NEXT, tag, steps);
+    if last != tag {
+        memory.store_counted(last + NEXT, chunk, steps);
+    }
+}
+
+/// Joins the two chunks beside one that leaves a ring; each may be the ring's tag.
+pub(crate) fn pull<M: Links, L: Ledger>(
+    memory: &mut M,
+    prev: u64,
+    next: u64,
+    tag: u64,
+    steps: &mut Steps<L>,
+)
+    requires front { prev ≢ tag → IsPlace (M.regions memory.old) (prev + 24) }
+    requires back { next ≢ tag → IsPlace (M.regions memory.old) (next + 16) }
+    requires other { prev ≢ tag → next ≢ tag → prev + 24 ≢ next + 16 }
+    ensures pulled { HasPulled (M.regions memory.old) (M.word memory.old) prev next tag (M.word memory.new) }
+    ensures regions { M.regions memory.new ≡ M.regions memory.old }
+    ensures follows { M.follows memory.old [] memory.new }
+    ensures counted { steps.new ≤ steps.old + 2 }
+{
+    if prev != tag {
+        memory.store_counted(prev + NEXT, next, steps);
+    }
+    if next != tag {
+        memory.store_counted(next + PREV, prev, steps);
+    }
+}
+
+impl Bins {
+    /// Puts a chunk of a size below 256 into its ring, as the newest.
+    pub(crate) fn insert_small<M: Links, L: Ledger>(
+        &mut self,
+        memory: &mut M,
+        chunk: u64,
+        size: u64,
+        steps: &mut Steps<L>,
+    )
+        requires small { size < 256 }
+        requires linked { (index : ℕ → List ℕ) × IsLinked (M.regions memory.old) (M.word memory.old) self.old index × IsFresh (M.regions memory.old) (M.word memory.old) index size chunk }
+        ensures linked { (index : ℕ → List ℕ) → IsLinked (M.regions memory.old) (M.word memory.old) self.old index → IsFresh (M.regions memory.old) (M.word memory.old) index size chunk →
+            IsLinked (M.regions memory.new) (M.word memory.new) self.new (with_chunk size chunk index) }
+        ensures words { (index : ℕ → List ℕ) → IsLinked (M.regions memory.old) (M.word memory.old) self.old index → IsFresh (M.regions memory.old) (M.word memory.old) index size chunk →
+            OnlyLinksChange (M.regions memory.old) index size chunk (M.word memory.old) (M.word memory.new) }
+        ensures regions { M.regions memory.new ≡ M.regions memory.old }
+        ensures follows { M.follows memory.old [] memory.new }
+        ensures counted { steps.new ≤ steps.old + 3 }
+    {
+        let bin = (size >> 3) as usize;
+        let tag = SMALL_TAG + (size >> 3);
+        let last = self.lasts[bin];
+        push(memory, last, tag, chunk, steps);
+        self.set_newest(bin, last, tag, chunk);
+    }
+
+    /// Names a chunk as the newest of a small bin.
+    fn set_newest(&mut self, bin: usize, last: u64, tag: u64, chunk: u64)
+        requires { bin < 32 }
+        ensures { HasNewest self.old bin last tag chunk self.new }
+    {
+        if last == tag {
+            self.firsts[bin] = chunk;
+        }
+        self.lasts[bin] = chunk;
+        self.small_map = map::with_bit(self.small_map, bin);
+    }
+
+    /// Takes a chunk of a size below 256 out of its ring.
+    pub(crate) fn unlink_small<M: Links, L: Ledger>(
+        &mut self,
+        memory: &mut M,
+        chunk: u64,
+        size: u64,
+        steps: &mut Steps<L>,
+    )
+        requires small { size < 256 }
+        requires linked { (index : ℕ → List ℕ) × IsLinked (M.regions memory.old) (M.word memory.old) self.old index × IsIn chunk (index size) }
+        ensures linked { (index : ℕ → List ℕ) → IsLinked (M.regions memory.old) (M.word memory.old) self.old index → IsIn chunk (index size) →
+            IsLinked (M.regions memory.new) (M.word memory.new) self.new (without_chunk size chunk index) }
+        ensures words { (index : ℕ → List ℕ) → IsLinked (M.regions memory.old) (M.word memory.old) self.old index → IsIn chunk (index size) →
+            OnlyLinksChange (M.regions memory.old) index size chunk (M.word memory.old) (M.word memory.new) }
+        ensures regions { M.regions memory.new ≡ M.regions memory.old }
+        ensures follows { M.follows memory.old [] memory.new }
+        ensures counted { steps.new ≤ steps.old + 4 }
+    {
+        let bin = (size >> 3) as usize;
+        let tag = SMALL_TAG + (size >> 3);
+        let prev = memory.load_counted(chunk + PREV, steps);
+        let next = memory.load_counted(chunk + NEXT, steps);
+        pull(memory, prev, next, tag, steps);
+        self.set_less(bin, prev, next, tag);
+    }
+
+    /// Names the first and the last of a small bin after the chunk between these two has left.
+    fn set_less(&mut self, bin: usize, prev: u64, next: u64, tag: u64)
+        requires { bin < 32 }
+        ensures { HasLess self.old bin prev next tag self.new }
+    {
+        if prev == tag {
+            self.firsts[bin] = next;
+            if next == tag {
+                self.small_map = map::without_bit(self.small_map, bin);
+            }
+        }
+        if next == tag {
+            self.lasts[bin] = prev;
+        }
+    }
+
+    /// The newest chunk of the least size below 256 that is at least `size`. It loads nothing.
+    pub(crate) fn least_small<M: Links>(&self, memory: &M, size: u64) -> Option<u64>
+        requires { size < 256 }
+        ensures { (index : ℕ → List ℕ) → IsLinked (M.regions memory.now) (M.word memory.now) self.now index →
+            MatchOption result (IsNone index size 256) (λ chunk. IsLeastFit index size chunk) }
+    {
+        let from = ((size + 7) >> 3) as usize;
+        if from == 32 {
+            return None;
+        }
+        match map::lowest_from(self.small_map, from) {
+            Some(bin) => Some(self.lasts[bin]),
+            None => None,
+        }
+    }
+}

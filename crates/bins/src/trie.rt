@@ -1,0 +1,216 @@
+// The tries of large chunks.
+ghost use Rattle.std.specs.Prelude.{◌≡◌, ◌≢◌, ℕ, ◌+◌, ◌-◌, ◌*◌, ◌%◌, ◌^◌, ◌<◌, ◌≤◌, ◌⊎◌, List, []};
+ghost use Rattle.bins.specs.Index.{IsIn, with_chunk};
+ghost use Rattle.bins.specs.Tries.{width, slot, low_at, IsTrie};
+ghost use Rattle.bins.specs.Linked.{IsFresh};
+ghost use Rattle.bins.specs.Stores.{IsPlace, HasJoined, HasLinks, HasNode, HasLeaf};
+ghost use Rattle.bins.specs.Below.{IsHeld, OnlyRangeChanges};
+
+use crate::words::{CHILD0, CHILD1, INDEX, NEXT, PARENT, PREV};
+use dlmalloc_chunks::chunk;
+use heap_memory::Links;
+use std::sync::ledger::Ledger;
+use step_count::Steps;
+
+/// Half the bytes of the range of a trie of so many levels.
+pub(crate) fn half_width(levels: u32) -> u64
+    requires some { 0 < levels }
+    requires few { levels ≤ 61 }
+    ensures { result ≡ width (levels - 1) }
+{
+    8 << (levels - 1)
+}
+
+/// Whether a size is in the upper half of a range.
+pub(crate) fn is_in_upper(low: u64, half: u64, size: u64) -> bool
+    requires above { low ≤ size }
+    requires below { size < low + 2 * half }
+    ensures above { low_at result low half ≤ size }
+    ensures below { size < low_at result low half + half }
+{
+    size - low >= half
+}
+
+/// The place of a child's word.
+pub(crate) fn slot_of(at: u64, is_upper: bool) -> u64
+    requires { at + 40 < 2 ^ 64 }
+    ensures { result ≡ at + slot is_upper }
+{
+    at + if is_upper { CHILD1 } else { CHILD0 }
+}
+
+/// Where the range of a child begins.
+pub(crate) fn low_of(low: u64, half: u64, is_upper: bool) -> u64
+    requires { low + half < 2 ^ 64 }
+    ensures { result ≡ low_at is_upper low half }
+{
+    if is_upper { low + half } else { low }
+}
+
+/// Puts a chunk behind the last of a node's ring.
+fn join_ring<M: Links, L: Ledger>(memory: &mut M, at: u64, chunk: u64, steps: &mut Steps<L>)
+    requires prev { IsPlace (M.regions memory.old) (chunk + 16) }
+    requires next { IsPlace (M.regions memory.old) (chunk + 24) }
+    requires here { IsPlace (M.regions memory.old) (at + 16) }
+    requires behind { IsPlace (M.regions memory.old) (M.word memory.old (at + 16) + 24) }
+    requires apart { (at + 16 ≢ chunk + 16) × (at + 16 ≢ chunk + 24) × (M.word memory.old (at + 16) + 24 ≢ chunk + 16) × (M.word memory.old (at + 16) + 24 ≢ chunk + 24) × (M.word memory.old (at + 16) + 24 ≢ at + 16) }
+    ensures joined { HasJoined (M.regions memory.old) (M.word memory.old) at chunk (M.word memory.new) }
+    ensures regions { M.regions memory.new ≡ M.regions memory.old }
+    ensures follows { M.follows memory.old [] memory.new }
+    ensures counted { steps.new ≡ steps.old + 5 }
+{
+    let last = memory.load_counted(at + PREV, steps);
+    memory.store_counted(chunk + PREV, last, steps);
+    memory.store_counted(chunk + NEXT, at, steps);
+    memory.store_counted(last + NEXT, chunk, steps);
+    memory.store_counted(at + PREV, chunk, steps);
+}
+
+/// Stores both links of a chunk.
+fn set_links<M: Links, L: Ledger>(
+    memory: &mut M,
+    chunk: u64,
+    prev: u64,
+    next: u64,
+    steps: &mut Steps<L>,
+)
+    requires { (k : ℕ) → 1 < k → k < 8 → IsPlace (M.regions memory.old) (chunk + 8 * k) }
+    ensures links { HasLinks (M.regions memory.old) (M.word memory.old) chunk prev next (M.word memory.new) }
+    ensures regions { M.regions memory.new ≡ M.regions memory.old }
+    ensures follows { M.follows memory.old [] memory.new }
+    ensures counted { steps.new ≡ steps.old + 2 }
+{
+    memory.store_counted(chunk + PREV, prev, steps);
+    memory.store_counted(chunk + NEXT, next, steps);
+}
+
+/// Stores the four words of a node.
+pub(crate) fn set_node<M: Links, L: Ledger>(
+    memory: &mut M,
+    chunk: u64,
+    child0: u64,
+    child1: u64,
+    parent: u64,
+    bin: u64,
+    steps: &mut Steps<L>,
+)
+    requires { (k : ℕ) → 1 < k → k < 8 → IsPlace (M.regions memory.old) (chunk + 8 * k) }
+    ensures node { HasNode (M.regions memory.old) (M.word memory.old) chunk child0 child1 parent bin (M.word memory.new) }
+    ensures regions { M.regions memory.new ≡ M.regions memory.old }
+    ensures follows { M.follows memory.old [] memory.new }
+    ensures counted { steps.new ≡ steps.old + 4 }
+{
+    memory.store_counted(chunk + CHILD0, child0, steps);
+    memory.store_counted(chunk + CHILD1, child1, steps);
+    memory.store_counted(chunk + PARENT, parent, steps);
+    memory.store_counted(chunk + INDEX, bin, steps);
+}
+
+/// Makes a chunk a leaf, named by a word.
+fn make_leaf<M: Links, L: Ledger>(
+    memory: &mut M,
+    place: u64,
+    parent: u64,
+    bin: u64,
+    chunk: u64,
+    steps: &mut Steps<L>,
+)
+    requires named { IsPlace (M.regions memory.old) place }
+    requires own { (k : ℕ) → 1 < k → k < 8 → IsPlace (M.regions memory.old) (chunk + 8 * k) }
+    requires apart { (place < chunk + 16) ⊎ (chunk + 64 ≤ place) }
+    ensures leaf { HasLeaf (M.regions memory.old) (M.word memory.old) place parent bin chunk (M.word memory.new) }
+    ensures regions { M.regions memory.new ≡ M.regions memory.old }
+    ensures follows { M.follows memory.old [] memory.new }
+    ensures counted { steps.new ≡ steps.old + 7 }
+{
+    set_links(memory, chunk, chunk, chunk, steps);
+    set_node(memory, chunk, 0, 0, parent, bin, steps);
+    memory.store_counted(place, chunk, steps);
+}
+
+/// Puts a chunk into the trie at a node.
+pub(crate) fn insert_below<M: Links, L: Ledger>(
+    memory: &mut M,
+    at: u64,
+    low: u64,
+    levels: u32,
+    bin: u64,
+    chunk: u64,
+    size: u64,
+    steps: &mut Steps<L>,
+)
+    requires some { 0 < at }
+    requires few { levels ≤ 61 }
+    requires above { low ≤ size }
+    requires below { size < low + width levels }
+    requires fits { low + width levels ≤ 2 ^ 64 }
+    requires large { 256 ≤ size }
+    requires held { (index : ℕ → List ℕ) × ((parent : ℕ) × (IsHeld (M.regions memory.old) (M.word memory.old) index bin parent low levels at × IsFresh (M.regions memory.old) (M.word memory.old) index size chunk)) }
+    ensures trie { (index : ℕ → List ℕ) → (parent : ℕ) → IsHeld (M.regions memory.old) (M.word memory.old) index bin parent low levels at →
+        IsFresh (M.regions memory.old) (M.word memory.old) index size chunk → IsTrie (M.word memory.new) (with_chunk size chunk index) bin parent low levels at }
+    ensures words { (index : ℕ → List ℕ) → (parent : ℕ) → IsHeld (M.regions memory.old) (M.word memory.old) index bin parent low levels at →
+        IsFresh (M.regions memory.old) (M.word memory.old) index size chunk → OnlyRangeChanges (M.regions memory.old) index low (low + width levels) size chunk (M.word memory.old) (M.word memory.new) }
+    ensures regions { M.regions memory.new ≡ M.regions memory.old }
+    ensures follows { M.follows memory.old [] memory.new }
+    ensures counted { steps.new ≤ steps.old + 2 * levels + 7 }
+{
+    let here = chunk::size(memory, at, steps);
+    if here == size {
+        join_ring(memory, at, chunk, steps);
+        return;
+    }
+    let half = half_width(levels);
+    let is_upper = is_in_upper(low, half, size);
+    let place = slot_of(at, is_upper);
+    let child = memory.load_counted(place, steps);
+    if child == 0 {
+        make_leaf(memory, place, at, bin, chunk, steps);
+    } else {
+        insert_below(
+            memory,
+            child,
+            low_of(low, half, is_upper),
+            levels - 1,
+            bin,
+            chunk,
+            size,
+            steps,
+        );
+    }
+}
+
+/// Puts a chunk into a trie. Answers the root.
+pub(crate) fn plant<M: Links, L: Ledger>(
+    memory: &mut M,
+    root: u64,
+    low: u64,
+    levels: u32,
+    parent: u64,
+    bin: u64,
+    chunk: u64,
+    size: u64,
+    steps: &mut Steps<L>,
+) -> u64
+    requires deep { 0 < levels }
+    requires few { levels ≤ 61 }
+    requires above { low ≤ size }
+    requires below { size < low + width levels }
+    requires fits { low + width levels ≤ 2 ^ 64 }
+    requires large { 256 ≤ size }
+    requires held { (index : ℕ → List ℕ) × (IsHeld (M.regions memory.old) (M.word memory.old) index bin parent low levels root × IsFresh (M.regions memory.old) (M.word memory.old) index size chunk) }
+    ensures trie { (index : ℕ → List ℕ) → IsHeld (M.regions memory.old) (M.word memory.old) index bin parent low levels root →
+        IsFresh (M.regions memory.old) (M.word memory.old) index size chunk → IsTrie (M.word memory.new) (with_chunk size chunk index) bin parent low levels result }
+    ensures words { (index : ℕ → List ℕ) → IsHeld (M.regions memory.old) (M.word memory.old) index bin parent low levels root →
+        IsFresh (M.regions memory.old) (M.word memory.old) index size chunk → OnlyRangeChanges (M.regions memory.old) index low (low + width levels) size chunk (M.word memory.old) (M.word memory.new) }
+    ensures regions { M.regions memory.new ≡ M.regions memory.old }
+    ensures follows { M.follows memory.old [] memory.new }
+    ensures counted { steps.new ≤ steps.old + 2 * levels + 7 }
+{
+    if root == 0 {
+        set_links(memory, chunk, chunk, chunk, steps);
+        set_node(memory, chunk, 0, 0, parent, bin, steps);
+        return chunk;
+    }
+    insert_below(memory, root, low, levels, bin, chunk, size, steps);
+    root
+}
