@@ -1,0 +1,17 @@
+-- What the pairs of a tree are, from left to right: intervals of page numbers, each with the kind of its region.
+use Rattle.std.specs.Prelude.{ℕ, ◌-◌, ◌*◌, ◌<◌, ◌≤◌, List, [], ◌∷◌, map}
+use Rattle.heap_model.specs.declared.region.Region.{Region}
+use Rattle.meminterval.specs.declared.interval.Interval.{Interval}
+use Rattle.region_tree.specs.declared.region_tree.Kind.{Kind}
+
+-- the region of the pages in an interval, with the kind at it
+abbrev pub region_of : Interval ℕ × Kind → Region
+region_of e = record { start = 4096 * e.0.start; pages = e.0.end - e.0.start; heap = e.1.heap; rights = e.1.rights }
+
+abbrev pub regions_of : List (Interval ℕ × Kind) → List Region
+regions_of es = map region_of es
+
+-- intervals one behind the other between two pages, each of some pages
+abbrev pub Follow : ℕ → List (Interval ℕ × Kind) → ℕ → Type 0
+Follow from [] to = from ≤ to
+Follow from (e ∷ es) to = (from ≤ e.0.start) × (e.0.start < e.0.end) × Follow e.0.end es to

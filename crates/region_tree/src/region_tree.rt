@@ -1,0 +1,249 @@
+//! Regions by page number.
+ghost use Rattle.std.specs.Prelude.{◌≡◌, ℕ, ◌+◌, ◌-◌, ◌*◌, ◌%◌, ◌^◌, ◌<◌, ◌≤◌, IfSome, IfNone, []};
+ghost use Rattle.std.specs.Prelude.{IsFalse, IsTrue, OnOk, OnErr, find, map, length, vec_capacity};
+ghost use Rattle.std.specs.List.{list_any};
+ghost use Rattle.heap_model.specs.Place.{IsPlace, HasNoPlace, meets, meets_any, with_region};
+ghost use Rattle.region_tree.specs.Pairs.{region_of};
+ghost use Rattle.region_tree.specs.Regions.{AreLaid, AreHeld, IsBoundary, AreTakenOut, is_at, meets_heap, without, with_pages, cut_of};
+
+use heap_model::{Region, RegionList, Rights};
+use meminterval::{Interval, IntervalTree};
+use paging_core::{PageSize, Size4KiB};
+use std::alloc::{AllocError, Global};
+use std::marker::Model;
+
+/// What a region is beside its pages.
+#[derive(Clone, Copy)]
+struct Kind {
+    heap: bool,
+    rights: Rights,
+}
+
+/// The region of the pages in an interval.
+fn region(pages: &Interval<u64>, kind: Kind) -> Region
+    requires some { pages.now.start ≤ pages.now.end }
+    requires within { pages.now.end ≤ 2 ^ 52 }
+    requires below { pages.now.start < 2 ^ 52 }
+    ensures { result ≡ region_of (pages.now, kind) }
+{
+    Region {
+        start: pages.start * Size4KiB::SIZE,
+        pages: pages.end - pages.start,
+        heap: kind.heap,
+        rights: kind.rights,
+    }
+}
+
+/// The pages of a region.
+fn pages_of(region: &Region) -> Interval<u64>
+    requires at_page { region.now.start % 4096 ≡ 0 }
+    requires within { region.now.start + 4096 * region.now.pages ≤ 2 ^ 64 }
+    ensures start { 4096 * result.start ≡ region.now.start }
+    ensures pages { result.end ≡ result.start + region.now.pages }
+    ensures within { result.end ≤ 2 ^ 52 }
+{
+    let first = region.start / Size4KiB::SIZE;
+    Interval::new(first, first + region.pages)
+}
+
+/// Regions of pages, none of which meets another. A contract sees them as a list by ascending address.
+#[derive(Drop)]
+pub struct RegionTree {
+    tree: IntervalTree<u64, Kind>,
+}
+
+impl Model for RegionTree {
+    ghost use Rattle.std.specs.Prelude.{ℕ, List, ◌^◌};
+    ghost use Rattle.heap_model.specs.declared.region.Region.{Region};
+    ghost use Rattle.meminterval.specs.Tree.{entries};
+    ghost use Rattle.region_tree.specs.Pairs.{regions_of, Follow};
+
+    ghost Value = { List Region };
+
+    ghost view = { λ t. regions_of (entries t.tree) };
+
+    ghost invariant = { λ t. Follow 0 (entries t.tree) (2 ^ 52) };
+}
+
+impl RegionTree {
+    /// No regions. Takes no memory.
+    pub fn new() -> Self
+        ensures { result ≡ [] }
+    {
+        RegionTree {
+            tree: IntervalTree::new(),
+        }
+    }
+
+    /// How many regions there are.
+    pub fn count(&self) -> usize
+        ensures count { result ≡ length self.now }
+
+        // Each region has pages and ends before the next one begins.
+        ensures laid { AreLaid 0 self.now (2 ^ 64) }
+    {
+        self.tree.size()
+    }
+
+    /// Puts the regions into a list that has places for them, by ascending address.
+    pub fn list(&self, mut list: Vec<Region>) -> RegionList
+        requires empty { list.items ≡ [] }
+        requires places { length self.now ≤ vec_capacity list }
+        ensures { result ≡ self.now }
+    {
+        let mut at = 0;
+        while let Some(entry) = self.tree.first_from(&at) {
+            list.push_reserved(region(entry.interval, *entry.value));
+            at = entry.interval.end;
+        }
+        RegionList::from_vec(list)
+    }
+
+    /// The lowest page of the window of `pages` pages from the page `base` on, from which `n` pages lie in the window
+    /// and meet no region.
+    pub fn lowest_place(&self, base: u64, pages: u64, n: u64) -> Option<u64>
+        requires window { base + pages ≤ 2 ^ 52 }
+        ensures place { IfSome result (λ page. IsPlace (4096 * base) pages self.now n (4096 * page)) }
+        ensures none { IfNone result (HasNoPlace (4096 * base) pages self.now n) }
+    {
+        let end = base + pages;
+        let mut at = base;
+        if let Some(entry) = self.tree.last_before(&base) {
+            if entry.interval.end > base {
+                at = entry.interval.end;
+            }
+        }
+        while at <= end && n <= end - at {
+            match self.tree.first_from(&at) {
+                None => return Some(at),
+                Some(entry) => {
+                    if entry.interval.start - at >= n {
+                        return Some(at);
+                    }
+                    at = entry.interval.end;
+                }
+            }
+        }
+        None
+    }
+
+    /// The same as `lowest_place`, by a search from the page `hint` on, where no page of the window before it is free.
+    /// Where nothing is behind the hint it takes two look-ups, however many regions are before it.
+    pub fn lowest_place_from(&self, hint: u64, base: u64, pages: u64, n: u64) -> Option<u64>
+        requires some { 0 < n }
+        requires window { base + pages ≤ 2 ^ 52 }
+        requires from { base ≤ hint }
+        requires to { hint ≤ base + pages }
+        requires held { AreHeld (4096 * base) (4096 * hint) self.now }
+        ensures place { IfSome result (λ page. IsPlace (4096 * base) pages self.now n (4096 * page)) }
+        ensures none { IfNone result (HasNoPlace (4096 * base) pages self.now n) }
+    {
+        self.lowest_place(hint, base + pages - hint, n)
+    }
+
+    /// The lowest region that `pages` pages from the page `first` on meet.
+    pub fn lowest_met(&self, first: u64, pages: u64) -> Option<Region>
+        requires within { first + pages ≤ 2 ^ 52 }
+        ensures value { result ≡ find (meets (4096 * first) pages) self.now }
+        ensures clear { IfNone result (IsFalse (meets_any (4096 * first) pages self.now)) }
+        ensures laid { AreLaid 0 self.now (2 ^ 64) }
+    {
+        if let Some(entry) = self.tree.last_before(&first) {
+            if entry.interval.end > first {
+                return Some(region(entry.interval, *entry.value));
+            }
+        }
+        match self.tree.first_from(&first) {
+            Some(entry) => {
+                if entry.interval.start < first + pages {
+                    Some(region(entry.interval, *entry.value))
+                } else {
+                    None
+                }
+            }
+            None => None,
+        }
+    }
+
+    /// The lowest region of the heap that `pages` pages from the page `first` on meet.
+    pub fn lowest_heap_met(&self, first: u64, pages: u64) -> Option<Region>
+        requires within { first + pages ≤ 2 ^ 52 }
+        ensures { result ≡ find (meets_heap (4096 * first) pages) self.now }
+    {
+        let end = first + pages;
+        let mut at = first;
+        while let Some(region) = self.lowest_met(at, end - at) {
+            if region.heap {
+                return Some(region);
+            }
+            let next = region.start / Size4KiB::SIZE + region.pages;
+            if next >= end {
+                return None;
+            }
+            at = next;
+        }
+        None
+    }
+
+    /// Puts a region in that meets none of the others. An `Err` changes nothing.
+    pub fn add(&mut self, alloc: Global, region: Region) -> Result<(), AllocError>
+        requires at_page { region.start % 4096 ≡ 0 }
+        requires some { 0 < region.pages }
+        requires within { region.start + 4096 * region.pages ≤ 2 ^ 64 }
+        requires clear { IsFalse (meets_any region.start region.pages self.old) }
+        ensures ok { OnOk result (self.new ≡ with_region region self.old) }
+        ensures err { OnErr result (self.new ≡ self.old) }
+    {
+        let pages = pages_of(&region);
+        let kind = Kind {
+            heap: region.heap,
+            rights: region.rights,
+        };
+        self.tree.insert(alloc, pages, kind)
+    }
+
+    /// Takes a region out, if it is there.
+    pub fn remove(&mut self, region: &Region)
+        requires at_page { region.now.start % 4096 ≡ 0 }
+        requires within { region.now.start + 4096 * region.now.pages ≤ 2 ^ 64 }
+        ensures { self.new ≡ without region.now.start region.now.pages self.old }
+    {
+        let pages = pages_of(region);
+        self.tree.delete(&pages);
+    }
+
+    /// Cuts a region at its end, so that `left` of its pages are left.
+    pub fn shorten(&mut self, region: &Region, left: u64)
+        requires at_page { region.now.start % 4096 ≡ 0 }
+        requires there { IsTrue (list_any (is_at region.now.start region.now.pages) self.old) }
+        requires some { 0 < left }
+        requires less { left ≤ region.now.pages }
+        requires within { region.now.start + 4096 * region.now.pages ≤ 2 ^ 64 }
+        ensures { self.new ≡ map (with_pages region.now.start region.now.pages left) self.old }
+    {
+        let pages = pages_of(region);
+        let end = pages.start + left;
+        self.tree.shorten(&pages, end);
+    }
+
+    /// Takes `pages` pages from the page `first` on out of the regions: one that meets them ends where they begin, and
+    /// leaves where it begins there or behind.
+    pub fn cut(&mut self, first: u64, pages: u64)
+        requires within { first + pages ≤ 2 ^ 52 }
+        ensures regions { self.new ≡ cut_of (4096 * first) pages self.old }
+
+        // Where no region reaches over their end, these pages leave and no others.
+        ensures taken { IsBoundary (4096 * (first + pages)) self.old → AreTakenOut (4096 * first) (4096 * (first + pages)) self.old self.new }
+    {
+        // With a field of it, what the type keeps is known of the regions as they were.
+        let _ = &self.tree;
+        while let Some(region) = self.lowest_met(first, pages) {
+            let start = region.start / Size4KiB::SIZE;
+            if start < first {
+                self.shorten(&region, first - start);
+            } else {
+                self.remove(&region);
+            }
+        }
+    }
+}

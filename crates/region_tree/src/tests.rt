@@ -1,0 +1,163 @@
+//! Rows whose answers are known, and a tree beside a plain list.
+ghost use Rattle.std.specs.Prelude.{◌≡◌, ◌+◌, ◌*◌, ◌^◌, ◌<◌, ◌≤◌};
+
+use crate::RegionTree;
+use heap_model::{Region, RegionList};
+use paging_core::Rights;
+use std::alloc::{AllocError, Global};
+use std::test::Fail;
+
+/// The number of pages of the address space.
+const TOP: u64 = 0x10_0000_0000_0000;
+
+fn region(page: u64, pages: u64, heap: bool) -> Region
+    requires { page < 2 ^ 52 }
+    ensures start { result.start ≡ 4096 * page }
+    ensures pages { result.pages ≡ pages }
+{
+    Region {
+        start: page * 4096,
+        pages,
+        heap,
+        rights: Rights {
+            write: heap,
+            user: !heap,
+            fetch: false,
+        },
+    }
+}
+
+// Adds a region, unless it meets one. Answers whether it was added.
+fn put(
+    tree: &mut RegionTree,
+    alloc: Global,
+    page: u64,
+    pages: u64,
+    heap: bool,
+) -> Result<bool, AllocError>
+    requires some { 0 < pages }
+    requires within { page + pages ≤ 2 ^ 52 }
+{
+    match tree.lowest_met(page, pages) {
+        Some(_) => Ok(false),
+        None => {
+            tree.add(alloc, region(page, pages, heap))?;
+            Ok(true)
+        }
+    }
+}
+
+fn listed(tree: &RegionTree, alloc: Global) -> Result<RegionList, AllocError> {
+    Ok(tree.list(Vec::with_capacity(alloc, tree.count())?))
+}
+
+// The first page of a region, and 0 for none.
+fn start_page(met: Option<Region>) -> u64 {
+    met.map_or(0, |region| region.start / 4096)
+}
+
+// The user has 1028 to 1030, 1042 and 1080 to 1100, the heap has 1031 to 1040.
+fn four_regions(alloc: Global) -> Result<RegionTree, AllocError> {
+    let mut tree = RegionTree::new();
+    for (page, pages, heap) in [
+        (1042, 1, false),
+        (1028, 2, false),
+        (1080, 20, false),
+        (1031, 9, true),
+    ] {
+        put(&mut tree, alloc, page, pages, heap)?;
+    }
+    Ok(tree)
+}
+
+#[test]
+fn places_among_regions(rt: HostRuntime) -> Result<(), Fail> {
+    let tree = four_regions(rt.alloc())?;
+    for (base, pages, n, want) in [
+        (1024u32, 64u32, 1, Some(1024)),
+        (1024, 64, 4, Some(1024)),
+        (1024, 64, 5, Some(1043)),
+        (1024, 64, 37, Some(1043)),
+        (1024, 64, 38, None),
+        (1024, 4, 4, Some(1024)),
+        (1024, 4, 5, None),
+        (1029, 59, 1, Some(1030)),
+        (1029, 59, 2, Some(1040)),
+        (1029, 59, 3, Some(1043)),
+        (1030, 1, 1, Some(1030)),
+        (1030, 1, 2, None),
+        (1081, 19, 1, None),
+        (1081, 20, 1, Some(1100)),
+    ] {
+        let place = tree.lowest_place(base.into(), pages.into(), n);
+        assert_eq!(rt; place, want, "{n} from {base} on");
+    }
+    Ok(())
+}
+
+#[test]
+fn regions_that_are_met(rt: HostRuntime) -> Result<(), Fail> {
+    let tree = four_regions(rt.alloc())?;
+    for (first, pages, any, heap) in [
+        (1024u32, 4u32, 0, 0),
+        (1024, 5, 1028, 0),
+        (1029, 2, 1028, 0),
+        (1029, 3, 1028, 1031),
+        (1030, 1, 0, 0),
+        (1030, 60, 1031, 1031),
+        (1039, 10, 1031, 1031),
+        (1040, 2, 0, 0),
+        (1041, 60, 1042, 0),
+        (1099, 1, 1080, 0),
+        (1100, 5, 0, 0),
+    ] {
+        let met = tree.lowest_met(first.into(), pages.into());
+        assert_eq!(rt; start_page(met), any, "{pages} from {first} on");
+        let met = tree.lowest_heap_met(first.into(), pages.into());
+        assert_eq!(rt; start_page(met), heap, "{pages} from {first} on");
+    }
+    Ok(())
+}
+
+// A region that ends with the address space ends at 2^64.
+#[test]
+fn the_last_pages(rt: HostRuntime) -> Result<(), Fail> {
+    let alloc = rt.alloc();
+    let mut tree = RegionTree::new();
+    assert!(rt; put(&mut tree, alloc, TOP - 16, 16, false)?);
+    assert!(rt; !put(&mut tree, alloc, TOP - 17, 2, true)?);
+    assert_eq!(rt; tree.lowest_place(TOP - 32, 32, 16), Some(TOP - 32));
+    assert_eq!(rt; tree.lowest_place(TOP - 32, 32, 17), None);
+    assert_eq!(rt;
+        tree.lowest_met(TOP - 1, 1),
+        Some(region(TOP - 16, 16, false))
+    );
+    tree.cut(TOP - 8, 8);
+    assert_eq!(rt; tree.lowest_met(TOP - 8, 8), None);
+    assert_eq!(rt; tree.lowest_place(TOP - 20, 20, 8), Some(TOP - 8));
+    assert_eq!(rt;
+        listed(&tree, alloc)?.get(0).copied(),
+        Some(region(TOP - 16, 8, false))
+    );
+    Ok(())
+}
+
+#[test]
+fn changes_of_one_region(rt: HostRuntime) -> Result<(), Fail> {
+    let alloc = rt.alloc();
+    let mut tree = four_regions(alloc)?;
+    // No region of this length is there, and then one is.
+    tree.remove(&region(1042, 2, false));
+    assert_eq!(rt; tree.count(), 4);
+    tree.remove(&region(1042, 1, false));
+    assert_eq!(rt; tree.count(), 3);
+    // From the middle of one region to the end of the next.
+    tree.cut(1029, 11);
+    assert_eq!(rt;
+        listed(&tree, alloc)?.get(0).copied(),
+        Some(region(1028, 1, false))
+    );
+    assert_eq!(rt; tree.count(), 2);
+    assert_eq!(rt; tree.lowest_place(1024, 56, 40), Some(1029));
+    Ok(())
+}
