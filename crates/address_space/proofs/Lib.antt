@@ -1,0 +1,10 @@
+mod Splits
+mod RightsEqual
+mod Mapped
+mod Places
+mod Changes
+mod Clear
+mod Joining
+mod Adding
+mod Listing
+mod NewSpace

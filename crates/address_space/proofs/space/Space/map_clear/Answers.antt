@@ -1,0 +1,38 @@
+use Rattle.std.proofs.Common.{◌+◌, ℕ, refl, subst}
+use Rattle.meminterval.specs.Tree.{entries}
+use Rattle.address_space.specs.Joining.{IsAdded}
+use Rattle.address_space.specs.Seen.{tables_of}
+use Rattle.address_space.proofs.Mapped.{mapped_kept, mapped_map}
+use Rattle.address_space.proofs.space.Space.map_clear.Goals as goal
+
+pub invariant_of-self-2 : goal.invariant_of-self-2
+invariant_of-self-2 c = record {
+  kept = mapped_kept (tables_of c.args.self.now) c.map_range.new.frames c.map_range.new.pool (entries c.add.new.runs) c.args.first c.args.pages c.args.rights
+      (record {
+        kept = c.args.self.now.kept;
+        range = c.requires.range;
+        added = c.map_range.ensures.added;
+        known = c.map_range.ensures.known;
+        elsewhere = c.map_range.ensures.elsewhere;
+        zeros = c.map_range.ensures.zeros;
+        bytes = c.map_range.ensures.bytes;
+        runs_added = subst (λ (n : ℕ). IsAdded (entries c.args.self.now.runs) (entries c.add.new.runs) n (n + c.args.pages) c.args.rights) c.number-number.ensures.value c.in_ok-add.ensures.ok;
+      });
+}
+
+pub returns-clause-ok : goal.returns-clause-ok
+returns-clause-ok c = record {
+  map = mapped_map (tables_of c.args.self.now) c.map_range.new.frames c.map_range.new.pool (entries c.add.new.runs) c.args.first c.args.pages c.args.rights
+      (record {
+        kept = c.args.self.now.kept;
+        range = c.requires.range;
+        added = c.map_range.ensures.added;
+        known = c.map_range.ensures.known;
+        elsewhere = c.map_range.ensures.elsewhere;
+        zeros = c.map_range.ensures.zeros;
+        bytes = c.map_range.ensures.bytes;
+        runs_added = subst (λ (n : ℕ). IsAdded (entries c.args.self.now.runs) (entries c.add.new.runs) n (n + c.args.pages) c.args.rights) c.number-number.ensures.value c.in_ok-add.ensures.ok;
+      });
+  root = refl;
+  added = c.map_range.ensures.added;
+}

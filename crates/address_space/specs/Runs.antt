@@ -1,0 +1,45 @@
+-- Runs of pages with equal rights, as the pairs of an interval tree, by ascending page number.
+use Rattle.std.specs.Prelude.{◌≡◌, ℕ, ◌+◌, ◌-◌, ◌*◌, ◌^◌, ◌<◌, ◌≤◌, ◌==◌, ◌&&◌, Bool, true, false, nat_lt, nat_le, IsTrue, if◌then◌else◌, List, [], ◌∷◌, map, Option, Some, None}
+use Rattle.std.proofs.Props.{props}
+use Rattle.paging_core.specs.declared.page_table.Rights.{Rights}
+use Rattle.meminterval.specs.declared.interval.Interval.{Interval}
+use Rattle.address_space.specs.declared.area.Area.{Area}
+
+-- whether a page is one of so many from the page `first` on
+abbrev pub is_among : ℕ → ℕ → ℕ → Bool
+is_among first pages page = nat_le first page && nat_lt page (first + pages)
+
+-- whether a run holds a page
+abbrev pub holds : ℕ → Interval ℕ × Rights → Bool
+holds page run = nat_le run.0.start page && nat_lt page run.0.end
+
+-- the rights of a page
+abbrev pub rights_in : List (Interval ℕ × Rights) → ℕ → Option Rights
+rights_in [] page = None
+rights_in (run ∷ runs) page = (if holds page run then Some run.1 else rights_in runs page)
+
+-- whether a run begins at a page
+abbrev pub begins_at : List (Interval ℕ × Rights) → ℕ → Bool
+begins_at [] page = false
+begins_at (run ∷ runs) page = (if run.0.start == page then true else begins_at runs page)
+
+-- runs one behind the other between two pages, each of some pages
+abbrev pub Follow : ℕ → List (Interval ℕ × Rights) → ℕ → Type 0
+Follow from [] to = from ≤ to
+Follow from (run ∷ runs) to = (from ≤ run.0.start) × (run.0.start < run.0.end) × Follow run.0.end runs to
+
+-- no run could be longer: the page before it has other rights, or is not mapped
+abbrev pub AreLongest : List (Interval ℕ × Rights) → Type 0
+AreLongest runs = (page : ℕ) → IsTrue (begins_at runs (page + 1)) → rights_in runs page ≡ rights_in runs (page + 1) → ⊥
+
+-- the areas of runs
+abbrev pub area_of : Interval ℕ × Rights → Area
+area_of run = record { start = 4096 * run.0.start; pages = run.0.end - run.0.start; rights = run.1 }
+
+abbrev pub areas_of : List (Interval ℕ × Rights) → List Area
+areas_of runs = map area_of runs
+
+-- runs follow each other in one way
+pub Follow-prop : (from : ℕ) (runs : List (Interval ℕ × Rights)) (to : ℕ) → IsProp (Follow from runs to)
+Follow-prop from [] to = hlevel props
+Follow-prop from (run ∷ runs) to = hlevel (props, Follow-prop run.0.end runs to)

@@ -1,0 +1,80 @@
+use crate::{Area, Space, SpaceFault};
+use paging_core::Rights;
+use std::test::Fail;
+
+const DATA: Rights = Rights {
+    write: true,
+    user: false,
+    fetch: false,
+};
+
+const TEXT: Rights = Rights {
+    write: false,
+    user: false,
+    fetch: true,
+};
+
+// 16 frames: one is the root, and the pages from 0x1000 on miss three tables.
+#[test]
+fn pages_are_mapped_at_their_places(rt: HostRuntime) -> Result<(), Fail> {
+    let alloc = rt.alloc();
+    let mut space = Space::new(alloc, 16)?;
+    assert_eq!(rt; space.free_frames(), 15);
+    assert_eq!(rt; space.map_at(0x1000, 2, DATA), Ok(()));
+    assert_eq!(rt; space.map_at(0x5000, 2, TEXT), Ok(()));
+    assert_eq!(rt; space.free_frames(), 8);
+    assert_eq!(rt; space.place(0x1000, 0x8000, 2, DATA), Ok(0x3000));
+    assert_eq!(rt;
+        space.place(0x1000, 0x8000, 2, DATA),
+        Err(SpaceFault::NoRoom)
+    );
+    assert_eq!(rt; space.free_frames(), 6);
+    let areas = space.areas(alloc)?;
+    let data = Area {
+        start: 0x1000,
+        pages: 4,
+        rights: DATA,
+    };
+    let text = Area {
+        start: 0x5000,
+        pages: 2,
+        rights: TEXT,
+    };
+    assert_eq!(rt; areas.as_slice(), [data, text].as_slice());
+    Ok(())
+}
+
+#[test]
+fn each_refusal_comes_once(rt: HostRuntime) -> Result<(), Fail> {
+    let mut space = Space::new(rt.alloc(), 8)?;
+    let bad = Err(SpaceFault::BadRange);
+    for (start, pages) in [
+        (0x1000, 0),
+        (0x1001, 1),
+        (1 << 47, 1),
+        (0x7fff_ffff_f000, 2),
+    ] {
+        assert_eq!(rt; space.map_at(start, pages, DATA), bad);
+    }
+    assert_eq!(rt; space.map_at(0x1000, 5, DATA), Err(SpaceFault::NoFrames));
+    assert_eq!(rt; space.map_at(0x1000, 4, DATA), Ok(()));
+    assert_eq!(rt; space.map_at(0x0000, 2, DATA), Err(SpaceFault::Overlap));
+    assert_eq!(rt;
+        space.place(0x2000, 0x2000, 1, DATA),
+        Err(SpaceFault::BadRange)
+    );
+    assert_eq!(rt;
+        space.place(0x0000, 0x2000, 0, DATA),
+        Err(SpaceFault::BadRange)
+    );
+    assert_eq!(rt;
+        space.place(0x1000, 0x5000, 1, DATA),
+        Err(SpaceFault::NoRoom)
+    );
+    assert_eq!(rt;
+        space.place(0x0000, 0x9000, 1, DATA),
+        Err(SpaceFault::NoFrames)
+    );
+    assert_eq!(rt; space.free_frames(), 0);
+    Ok(())
+}
