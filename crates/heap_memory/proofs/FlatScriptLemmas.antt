@@ -13,6 +13,7 @@ use Rattle.heap_memory.specs.declared.flat_script.FlatStep.{FlatStep}
 use Rattle.heap_memory.specs.declared.flat_script.FlatStep.TheVariants.{Give, Refuse}
 use Rattle.heap_memory.specs.Regions.{is_granted, is_next, with_grant, IsApart, is_whole}
 use Rattle.heap_memory.specs.RegionLaws.{granted_split}
+use Rattle.heap_memory.specs.Runs.{without}
 use Rattle.heap_memory.specs.FlatScript.{gives, overlaps, is_given, next_answer, is_promised}
 
 -- a byte of a grant that no step overlaps is given by none
@@ -51,6 +52,11 @@ pub some_with : (grant : Grant) (regions : List Grant) → 0 < grant.size → Is
     IsTrue (list_all (λ region. nat_lt 0 region.size) (with_grant grant regions))
 some_with grant [] some all = grind (arith, nat_tests)
 some_with grant (region ∷ regions) some all = grind (arith, nat_tests, some_with grant regions some)
+
+pub some_without : (low high : ℕ) (regions : List Grant) → IsTrue (list_all (λ region. nat_lt 0 region.size) regions) →
+    IsTrue (list_all (λ region. nat_lt 0 region.size) (without low high regions))
+some_without low high [] all = refl
+some_without low high (region ∷ regions) all = grind (arith, nat_tests, some_without low high regions)
 
 -- a further grant stands before the first region with a greater base
 inserted : (grant : Grant) (regions : List Grant) → insert regions (position_or_len (λ region. nat_lt grant.base region.base) regions) grant ≡ with_grant grant regions

@@ -1,3 +1,5 @@
 mod FlatWordsLemmas
 mod RegionsLemmas
 mod FlatScriptLemmas
+mod WordRuns
+mod RunExamples

@@ -1,9 +1,10 @@
 -- What a flat system shows beside its script: its regions, its words, and what it denies (own).
-use Rattle.std.specs.Prelude.{◌≡◌, ℕ, List, Err, refl}
-use Rattle.std.proofs.Common.{◌∙◌}
+use Rattle.std.specs.Prelude.{◌≡◌, ℕ, Bool, true, if◌then◌else◌, List, Err, refl}
+use Rattle.std.proofs.Common.{◌∙◌, ap}
 use Rattle.heap_memory.specs.declared.grant.Grant.{Grant}
 use Rattle.heap_memory.specs.declared.flat_system.FlatSystem.{FlatSystem}
 use Rattle.heap_memory.specs.declared.grant.GrantFault.{GrantFault}
+use Rattle.heap_memory.specs.Allocator.{IsFixed}
 use Rattle.heap_memory.specs.Script.{taken_of, left_of}
 use Rattle.heap_memory.specs.FlatScript.{next_answer}
 use Rattle.heap_memory.specs.FlatWords.{word_in}
@@ -28,6 +29,18 @@ same_on x y z first second = record {
   frees = second.frees ∙ first.frees;
   parts = second.parts ∙ first.parts;
   page = second.page ∙ first.page;
+}
+
+-- a system that takes regions back takes parts of any size
+abbrev pub unit_of : FlatSystem → ℕ
+unit_of system = if system.frees then 1 else 0
+
+pub same_fixed : (x y : FlatSystem) → IsSameKind x y → IsFixed (λ system. true) (λ system. system.frees) (λ system. system.parts) unit_of x y
+same_fixed x y same = record {
+  zeros_same = refl;
+  frees_same = same.frees;
+  parts_same = same.parts;
+  unit_same = ap (λ (b : Bool). if b then 1 else 0) same.frees;
 }
 
 -- what stays where a request was refused: all but the place in the script

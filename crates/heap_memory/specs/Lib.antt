@@ -1,6 +1,8 @@
 pub mod Words
 pub mod Regions
 pub mod RegionLaws
+pub mod Runs
+pub mod RunLaws
 pub mod Events
 pub mod Allocator
 pub mod FlatScript

@@ -1,8 +1,9 @@
-ghost use Rattle.std.specs.Prelude.{◌≡◌, ◌≢◌, ℕ, ◌+◌, ◌%◌, ◌<◌, ◌≤◌, Bool, true, List, [], ◌∷◌, IsTrue, IfOk, IfErr, OnErr};
+ghost use Rattle.std.specs.Prelude.{◌≡◌, ◌≢◌, ℕ, ◌+◌, ◌%◌, ◌<◌, ◌≤◌, Bool, true, false, List, [], ◌∷◌, IsTrue, IfOk, IfErr, OnErr};
 ghost use Rattle.std.specs.List.{AllByRecursion};
 ghost use Rattle.std.specs.Int.{is_power_of_two};
-ghost use Rattle.heap_memory.specs.Events.{Granted};
+ghost use Rattle.heap_memory.specs.Events.{Granted, Released};
 ghost use Rattle.heap_memory.specs.Regions.{IsWordOf, IsApart, IsGoodGrant, is_next, with_grant};
+ghost use Rattle.heap_memory.specs.Runs.{IsRun, without, is_in_units};
 ghost use Rattle.heap_memory.specs.Allocator.{IsFixed};
 
 use crate::{Grant, GrantFault, Links};
@@ -18,6 +19,15 @@ pub trait Allocator: Links {
 
     /// Whether the words of a new grant are zero.
     ghost zeros: { Self → Bool };
+
+    /// Whether the system takes runs of whole regions back.
+    ghost frees: { Self → Bool };
+
+    /// The bytes of a unit in which it takes the end of a run back; 0 where it takes none back.
+    ghost unit: { Self → ℕ };
+
+    /// Whether a part of a grant may be given back, whatever its flags.
+    ghost parts: { Self → Bool };
 
     /// What the system says of two moments between which it did nothing but refuse a request.
     ghost refuses: { Self → Self → Type 0 };
@@ -41,6 +51,41 @@ pub trait Allocator: Links {
         ensures err_refuses { OnErr result (refuses self.old self.new) }
         ensures denied { IfErr result (λ fault. fault ≢ GrantFault.OutOfMemory → denies self.old size fault) };
 
+    /// Would give a run of whole regions another size, at another place where it may move. No system does, so the answer
+    /// is None and nothing changes (dlmalloc: `remap`).
+    fn remap(&mut self, at: u64, old_size: u64, new_size: u64, can_move: bool) -> Option<u64>
+        ensures none { result ≡ None }
+        ensures same { self.new ≡ self.old }
+    {
+        None
+    }
+
+    /// Gives back what is behind the first `new_size` bytes of a run of whole regions, if the system takes parts of that
+    /// size. False changes nothing.
+    fn free_part(&mut self, at: u64, old_size: u64, new_size: u64) -> bool
+        requires run { IsRun (Self.regions self.old) at (at + old_size) }
+        requires some { 0 < new_size }
+        requires within { new_size ≤ old_size }
+        requires whole { new_size % 16 ≡ 0 }
+        ensures answer { result ≡ is_in_units (unit self.old) new_size }
+        ensures regions { result ≡ true → Self.regions self.new ≡ without (at + new_size) (at + old_size) (Self.regions self.old) }
+        ensures words { (k : ℕ) → IsWordOf (Self.regions self.new) k → Self.word self.new k ≡ Self.word self.old k }
+        ensures follows { result ≡ true → Self.follows self.old (Released at old_size new_size ∷ []) self.new }
+        ensures same { result ≡ false → self.new ≡ self.old };
+
+    /// Gives a run of whole regions back, if the system takes them. False changes nothing.
+    fn free(&mut self, at: u64, size: u64) -> bool
+        requires { IsRun (Self.regions self.old) at (at + size) }
+        ensures answer { result ≡ frees self.old }
+        ensures regions { result ≡ true → Self.regions self.new ≡ without at (at + size) (Self.regions self.old) }
+        ensures words { (k : ℕ) → IsWordOf (Self.regions self.new) k → Self.word self.new k ≡ Self.word self.old k }
+        ensures follows { result ≡ true → Self.follows self.old (Released at size 0 ∷ []) self.new }
+        ensures same { result ≡ false → self.new ≡ self.old };
+
+    /// Whether a part of a grant with these flags, shifted right by one, may be given back.
+    fn can_release_part(&self, flags: u32) -> bool
+        ensures { result ≡ parts self.now };
+
     /// Whether the words of each new grant are zero.
     fn allocates_zeros(&self) -> bool
         ensures { result ≡ zeros self.now };
@@ -55,6 +100,6 @@ pub trait Allocator: Links {
     /// Each region ends before every later one begins.
     ghost ordered: { (x : Self) → IsTrue (are_ordered (Self.regions x)) };
 
-    /// No call changes whether new grants are zero.
-    ghost fixed: { (x y : Self) (events : List Event) → Self.follows x events y → IsFixed zeros x y };
+    /// No call changes whether new grants are zero, nor what the system takes back.
+    ghost fixed: { (x y : Self) (events : List Event) → Self.follows x events y → IsFixed zeros frees parts unit x y };
 }

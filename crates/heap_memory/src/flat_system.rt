@@ -6,7 +6,9 @@ ghost use Rattle.heap_memory.specs.Regions.{is_granted, with_grant, are_ordered,
 ghost use Rattle.heap_memory.specs.FlatScript.{gives, is_promised};
 ghost use Rattle.heap_memory.specs.Script.{taken_of, left_of};
 ghost use Rattle.heap_memory.specs.FlatWords.{is_held, word_in, are_aligned};
+ghost use Rattle.heap_memory.specs.Runs.{without};
 
+use crate::flat_release::give_back;
 use crate::flat_script::{FlatStep, Script};
 use crate::flat_words::{FlatWords, Stretch};
 use crate::grant::{Grant, GrantFault};
@@ -42,11 +44,11 @@ pub struct FlatSystem {
 }
 
 impl FlatSystem {
-    ghost use Rattle.heap_memory.specs.FlatSystem.{regions_of};
+    ghost use Rattle.heap_memory.specs.FlatSystem.{IsSameKind, regions_of};
     ghost use Rattle.heap_memory.specs.FlatScript.{next_answer};
 
-    /// A system with this script. Whether it takes regions back (`frees`) and parts of them (`parts`) is for the calls
-    /// that give back; `page` is what `page_size` answers, a power of two.
+    /// A system with this script. `frees` is what `free` and `free_part` answer, `parts` what `can_release_part` answers,
+    /// and `page` what `page_size` answers, a power of two.
     pub fn new(
         alloc: Global,
         script: Vec<FlatStep>,
@@ -101,6 +103,22 @@ impl FlatSystem {
             Some(&FlatStep::Refuse { fault }) => Err(fault),
             None => Err(GrantFault::NoSpace),
         }
+    }
+
+    /// Gives back the bytes from `low` on and below `high`, the end of a run, if the system takes regions back.
+    fn release(&mut self, low: u64, high: u64) -> bool
+        requires { low % 16 ≡ 0 }
+        ensures answer { result ≡ self.old.frees }
+        ensures regions { result ≡ true → regions_of self.new ≡ without low high (regions_of self.old) }
+        ensures words { self.new.words ≡ self.old.words }
+        ensures script { self.new.script ≡ self.old.script }
+        ensures kind { IsSameKind self.old self.new }
+        ensures same { result ≡ false → self.new ≡ self.old }
+    {
+        if self.frees {
+            give_back(&mut self.regions, low, high);
+        }
+        self.frees
     }
 }
 
@@ -206,11 +224,18 @@ impl Allocator for FlatSystem {
     ghost use Rattle.heap_memory.specs.FlatSystem.{DeniesNext, regions_of, word_of};
     ghost use Rattle.heap_memory.specs.FlatScript.{next_answer};
     ghost use Rattle.heap_memory.specs.Regions.{IsWordOf, IsApart, IsGoodGrant, is_next};
-    ghost use Rattle.heap_memory.specs.FlatSystem.{IsSameKind, IsRefused, refused_none};
+    ghost use Rattle.heap_memory.specs.FlatSystem.{IsSameKind, IsRefused, refused_none, unit_of, same_fixed};
+    ghost use Rattle.heap_memory.specs.Runs.{IsRun, is_in_units};
 
     ghost denies = { λ system size fault. DeniesNext system size fault };
 
     ghost zeros = { λ system. true };
+
+    ghost frees = { λ system. system.frees };
+
+    ghost unit = { λ system. unit_of system };
+
+    ghost parts = { λ system. system.parts };
 
     ghost refuses = { λ old new. IsRefused old new };
 
@@ -218,7 +243,7 @@ impl Allocator for FlatSystem {
 
     ghost ordered = { λ system. system.ordered };
 
-    ghost fixed = { λ x y events follows. record { zeros_same = refl } };
+    ghost fixed = { λ x y events follows. same_fixed x y follows };
 
     /// What the next step of the script answers, as it stands.
     fn alloc(&mut self, size: u64) -> Result<Grant, GrantFault>
@@ -242,6 +267,40 @@ impl Allocator for FlatSystem {
         let grant = answer?;
         add_region(&mut self.regions, grant);
         Ok(grant)
+    }
+
+    /// Answers `frees`, since its unit is one byte. Its words and its script stay.
+    fn free_part(&mut self, at: u64, old_size: u64, new_size: u64) -> bool
+        requires run { IsRun (regions_of self.old) at (at + old_size) }
+        requires some { 0 < new_size }
+        requires within { new_size ≤ old_size }
+        requires whole { new_size % 16 ≡ 0 }
+        ensures answer { result ≡ is_in_units (unit_of self.old) new_size }
+        ensures frees { result ≡ self.old.frees }
+        ensures regions { result ≡ true → regions_of self.new ≡ without (at + new_size) (at + old_size) (regions_of self.old) }
+        ensures words { (k : ℕ) → word_of self.new k ≡ word_of self.old k }
+        ensures script { self.new.script ≡ self.old.script }
+        ensures kind { IsSameKind self.old self.new }
+        ensures same { result ≡ false → self.new ≡ self.old }
+    {
+        self.release(at + new_size, at + old_size)
+    }
+
+    /// Answers `frees`. Its words and its script stay.
+    fn free(&mut self, at: u64, size: u64) -> bool
+        requires { IsRun (regions_of self.old) at (at + size) }
+        ensures answer { result ≡ self.old.frees }
+        ensures regions { result ≡ true → regions_of self.new ≡ without at (at + size) (regions_of self.old) }
+        ensures words { (k : ℕ) → word_of self.new k ≡ word_of self.old k }
+        ensures script { self.new.script ≡ self.old.script }
+        ensures kind { IsSameKind self.old self.new }
+        ensures same { result ≡ false → self.new ≡ self.old }
+    {
+        self.release(at, at + size)
+    }
+
+    fn can_release_part(&self, flags: u32) -> bool {
+        self.parts
     }
 
     fn allocates_zeros(&self) -> bool {

@@ -6,6 +6,7 @@
 #![tactic(auto)]
 
 mod allocator;
+mod flat_release;
 mod flat_script;
 mod flat_system;
 mod flat_words;

@@ -1,8 +1,8 @@
-ghost use Rattle.std.specs.Prelude.{◌≡◌, ℕ, ◌+◌, List, [], ◌++◌};
+ghost use Rattle.std.specs.Prelude.{◌≡◌, ℕ, ◌+◌, ◌*◌, ◌≤◌, ◌⊎◌, List, [], ◌++◌};
 ghost use Rattle.heap_memory.specs.declared.grant.Grant.{Grant};
 ghost use Rattle.heap_memory.specs.Events.{Event};
 ghost use Rattle.heap_memory.specs.Regions.{IsWordOf};
-ghost use Rattle.heap_memory.specs.Words.{IsStored};
+ghost use Rattle.heap_memory.specs.Words.{IsStored, AreWordsOf, AreFilled, AreCopied};
 
 use std::sync::ledger::Ledger;
 use step_count::Steps;
@@ -44,4 +44,35 @@ pub trait Links {
         ensures regions { regions self.new ≡ regions self.old }
         ensures follows { follows self.old [] self.new }
         ensures counted { steps.new ≡ steps.old + 1 };
+
+    /// Puts the same word at each of `count` places, from an address on, and changes nothing else. Each is one step.
+    #[tactic(auto, using(crate::proofs::WordRuns::word_of_run, crate::proofs::WordRuns::filled_none, crate::proofs::WordRuns::filled_more))]
+    fn fill_counted<L: Ledger>(&mut self, at: u64, count: u64, value: u64, steps: &mut Steps<L>)
+        requires { AreWordsOf (regions self.old) at count }
+        ensures filled { AreFilled (regions self.old) (word self.old) at count value (word self.new) }
+        ensures regions { regions self.new ≡ regions self.old }
+        ensures follows { follows self.old [] self.new }
+        ensures counted { steps.new ≡ steps.old + count }
+    {
+        for i in 0..count {
+            self.store_counted(at + 8 * i, value, steps);
+        }
+    }
+
+    /// Copies `count` words from one place to another, apart from it, and changes nothing else. Each is two steps.
+    #[tactic(auto, using(crate::proofs::WordRuns::word_of_run, crate::proofs::WordRuns::copied_none, crate::proofs::WordRuns::copied_more))]
+    fn copy_counted<L: Ledger>(&mut self, from: u64, to: u64, count: u64, steps: &mut Steps<L>)
+        requires from { AreWordsOf (regions self.old) from count }
+        requires to { AreWordsOf (regions self.old) to count }
+        requires apart { (from + 8 * count ≤ to) ⊎ (to + 8 * count ≤ from) }
+        ensures copied { AreCopied (regions self.old) (word self.old) from to count (word self.new) }
+        ensures regions { regions self.new ≡ regions self.old }
+        ensures follows { follows self.old [] self.new }
+        ensures counted { steps.new ≡ steps.old + 2 * count }
+    {
+        for i in 0..count {
+            let word = self.load_counted(from + 8 * i, steps);
+            self.store_counted(to + 8 * i, word, steps);
+        }
+    }
 }

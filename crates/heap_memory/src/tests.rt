@@ -1,5 +1,6 @@
-ghost use Rattle.std.specs.Prelude.{◌≡◌, ℕ, ◌+◌, ◌<◌, [], IsTrue};
+ghost use Rattle.std.specs.Prelude.{◌≡◌, ℕ, ◌+◌, ◌*◌, ◌<◌, ◌≤◌, ◌⊎◌, [], IsTrue};
 ghost use Rattle.heap_memory.specs.Regions.{IsWordOf};
+ghost use Rattle.heap_memory.specs.Words.{AreWordsOf};
 
 use super::*;
 use std::alloc::{AllocError, Global};
@@ -146,6 +147,120 @@ fn each_step_is_answered(rt: HostRuntime) -> Result<(), Fail> {
     Ok(())
 }
 
+#[test]
+fn each_give_is_denied_in_turn(rt: HostRuntime) -> Result<(), Fail> {
+    let second = give(0x11000, 4096, 0);
+    let third = give(0x12000, 4096, 0);
+    for fault in [
+        GrantFault::NoSpace,
+        GrantFault::NoFrames,
+        GrantFault::OutOfMemory,
+    ] {
+        let rows = [
+            (1, [refuse(fault), FIRST, second, third]),
+            (2, [FIRST, refuse(fault), second, third]),
+            (3, [FIRST, second, refuse(fault), third]),
+        ];
+        for (place, steps) in rows {
+            assert_eq!(rt;
+                last_answer(rt.alloc(), &steps, place)?,
+                Err(fault),
+                "{place}"
+            );
+            assert_eq!(rt;
+                last_answer(rt.alloc(), &steps, 4)?,
+                granted(0x12000, 4096),
+                "{place}"
+            );
+        }
+    }
+    Ok(())
+}
+
+/// Gives the first grant back, but for so many units of 16 bytes, and asks for the next: whether the bytes were taken,
+/// the word stored at the start of the grant before if it is kept, and the next answer.
+fn given_back(
+    alloc: Global,
+    frees: bool,
+    kept: u8,
+    next: FlatStep,
+) -> Result<(bool, u64, Result<Grant, GrantFault>), AllocError> {
+    let steps = Vec::from_slice(alloc, &[FIRST, next])?;
+    let mut system = FlatSystem::new(alloc, steps, frees, true, 4096)?;
+    let Ok(grant) = system.alloc(4096) else {
+        return Ok((false, 0, Err(GrantFault::OutOfMemory)));
+    };
+    system.store(grant.base, 7);
+    let (taken, word) = if kept == 0 {
+        (system.free(grant.base, grant.size), 0)
+    } else {
+        let taken = system.free_part(grant.base, grant.size, u64::from(kept) * 16);
+        (taken, system.load(grant.base))
+    };
+    Ok((taken, word, system.alloc(4096)))
+}
+
+#[test]
+fn grants_are_given_back(rt: HostRuntime) -> Result<(), Fail> {
+    let no_space = Err(GrantFault::NoSpace);
+    let rows = [
+        (
+            "a whole one",
+            true,
+            0,
+            give(0x20000, 4096, 0),
+            granted(0x20000, 4096),
+        ),
+        ("its bytes are not granted again", true, 0, FIRST, no_space),
+        ("nor some of them", true, 0, give(0xfff0, 8192, 0), no_space),
+        (
+            "one that the system keeps",
+            false,
+            0,
+            give(0x11000, 4096, 0),
+            granted(0x11000, 4096),
+        ),
+        ("is granted once", false, 0, FIRST, no_space),
+        ("a part of one", true, 128, give(0x10800, 4096, 0), no_space),
+        (
+            "all but 16 bytes of one",
+            true,
+            1,
+            give(0x10010, 4096, 0),
+            no_space,
+        ),
+        (
+            "a part that the system keeps",
+            false,
+            128,
+            give(0x11000, 4096, 0),
+            granted(0x11000, 4096),
+        ),
+    ];
+    for (name, frees, kept, next, answer) in rows {
+        let word = if kept == 0 { 0 } else { 7 };
+        assert_eq!(rt;
+            given_back(rt.alloc(), frees, kept, next)?,
+            (frees, word, answer),
+            "{name}"
+        );
+    }
+    Ok(())
+}
+
+#[test]
+fn what_a_system_takes_back(rt: HostRuntime) -> Result<(), Fail> {
+    for parts in [false, true] {
+        let script = Vec::new(rt.alloc());
+        let mut system = FlatSystem::new(rt.alloc(), script, !parts, parts, 4096)?;
+        for flags in [0, 1, 0x7fff_ffff] {
+            assert_eq!(rt; system.can_release_part(flags), parts, "{flags}");
+        }
+        assert_eq!(rt; system.remap(0x10000, 4096, 8192, true), None);
+    }
+    Ok(())
+}
+
 /// Stores a word, and loads it again.
 fn counted<L: Ledger>(system: &mut FlatSystem, at: u64, value: u64, blank: Blank) -> u64
     requires name { blank.name ≡ L.name }
@@ -182,5 +297,52 @@ fn words_and_bytes_are_kept(rt: HostRuntime) -> Result<(), Fail> {
     // No store took a step of the script.
     assert_eq!(rt; system.alloc(65536), granted(0x410000, 65536));
     assert_eq!(rt; system.load(0x40fff8), 0xaa22_3344_5566_7788);
+    Ok(())
+}
+
+/// Fills words.
+fn fill<L: Ledger>(system: &mut FlatSystem, at: u64, count: u64, value: u64, blank: Blank)
+    requires name { blank.name ≡ L.name }
+    requires parts { blank.parts ≡ L.parts }
+    requires some { 0 < blank.parts }
+    requires words { AreWordsOf (⟦<FlatSystem as Links>⟧.regions system.old) at count }
+    ensures regions { ⟦<FlatSystem as Links>⟧.regions system.new ≡ ⟦<FlatSystem as Links>⟧.regions system.old }
+{
+    system.fill_counted(at, count, value, &mut Steps::<L>::new(blank));
+}
+
+/// Copies words.
+fn copy<L: Ledger>(system: &mut FlatSystem, from: u64, to: u64, count: u64, blank: Blank)
+    requires name { blank.name ≡ L.name }
+    requires parts { blank.parts ≡ L.parts }
+    requires some { 0 < blank.parts }
+    requires from { AreWordsOf (⟦<FlatSystem as Links>⟧.regions system.old) from count }
+    requires to { AreWordsOf (⟦<FlatSystem as Links>⟧.regions system.old) to count }
+    requires apart { (from + 8 * count ≤ to) ⊎ (to + 8 * count ≤ from) }
+    ensures regions { ⟦<FlatSystem as Links>⟧.regions system.new ≡ ⟦<FlatSystem as Links>⟧.regions system.old }
+{
+    system.copy_counted(from, to, count, &mut Steps::<L>::new(blank));
+}
+
+#[test]
+fn runs_of_words_are_filled_and_copied(rt: HostRuntime) -> Result<(), Fail> {
+    let mut script = Vec::new(rt.alloc());
+    script.push(give(0x400000, 65536, 0))?;
+    let mut system = FlatSystem::new(rt.alloc(), script, true, false, 65536)?;
+    let grant = system.alloc(65536)?;
+    assert_eq!(rt; (grant.base, grant.size, grant.flags), (0x400000, 65536, 0));
+    fill::<Brand>(&mut system, 0x400010, 3, 0xaa, Blank::new(1));
+    system.store(0x400018, 0xbb);
+    copy::<Brand>(&mut system, 0x400010, 0x400100, 3, Blank::new(1));
+    assert_eq!(rt; system.load(0x400008), 0);
+    assert_eq!(rt; system.load(0x400010), 0xaa);
+    assert_eq!(rt; system.load(0x400018), 0xbb);
+    assert_eq!(rt; system.load(0x400020), 0xaa);
+    assert_eq!(rt; system.load(0x400028), 0);
+    assert_eq!(rt; system.load(0x4000f8), 0);
+    assert_eq!(rt; system.load(0x400100), 0xaa);
+    assert_eq!(rt; system.load(0x400108), 0xbb);
+    assert_eq!(rt; system.load(0x400110), 0xaa);
+    assert_eq!(rt; system.load(0x400118), 0);
     Ok(())
 }

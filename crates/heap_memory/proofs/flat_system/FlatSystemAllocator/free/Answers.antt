@@ -1,0 +1,11 @@
+use Rattle.std.proofs.Common.{◌+◌, ◌^◌, ◌<◌, arith}
+use Rattle.heap_memory.specs.RunLaws.{run_aligned, run_bounded}
+use Rattle.heap_memory.proofs.flat_system.FlatSystemAllocator.free.Goals as goal
+
+pub overflow_add-at : goal.overflow_add-at
+overflow_add-at c =
+    let bounded : c.args.at + c.args.size < 2 ^ 64 = run_bounded c.args.at (c.args.at + c.args.size) c.args.self.now.regions.items c.requires c.args.self.now.whole in
+    omega arith
+
+pub release-requires : goal.release-requires
+release-requires c = run_aligned c.args.at (c.args.at + c.args.size) c.args.self.now.regions.items c.requires c.args.self.now.whole
