@@ -3,6 +3,7 @@ use Rattle.std.proofs.Common.{◌≡◌, ℕ, ◌+◌, ◌/◌, ◌<◌, ◌≤�
 use Rattle.std.specs.Prelude.{unwrap_or}
 use Rattle.std.specs.List.{AllByRecursion}
 use Rattle.heap_memory.specs.declared.grant.Grant.{Grant}
+use Rattle.heap_memory.specs.Regions.{IsWordOf}
 use Rattle.dlmalloc_chunks.specs.declared.extent.Extent.{Extent}
 use Rattle.dlmalloc_chunks.specs.declared.extent.Kind.{Kind}
 use Rattle.dlmalloc_chunks.specs.declared.extent.Kind.TheVariants.{Used, Free, Victim, Top, Record, Foot}
@@ -70,6 +71,15 @@ no_boundary k Top at size h is = elim is [ inl a ↦ h a | inr b ↦ (let p = b.
 no_boundary k Record at size h is = elim is [ inl a ↦ h a | inr b ↦ (let p = b.0 in cc) ]
 no_boundary k Foot at size h is = elim is [ inl a ↦ h a | inr b ↦ (let p = b.0 in cc) ]
 
+-- a block keeps its words, if it is one of the new heap
+pub kept_in : {A : Type 0} (regions : A → List Grant) (word : A → ℕ → ℕ) (old new : Dlmalloc A) → IsSound regions word new →
+    OnlyBoundariesChange (regions old.system) (state_of word new) (word old.system) (word new.system) → (block : Extent) → extent_at block.at (extents_in (state_of word new)) ≡ Some block → block.kind ≡ Used →
+    (k : ℕ) → block.at + 16 ≤ k → k < block.at + block.size + 8 → IsWordOf (regions old.system) k → word new.system k ≡ word old.system k
+kept_in regions word old new sound same block there used k low high is =
+    let spared = all_spared (regions new.system) (word new.system) (segments_of word new) sound.segments sound.apart block there used k low high in
+    same k is
+    (λ boundary. no_boundary k boundary.extent.kind boundary.extent.at boundary.extent.size (spared_found (extents_in (state_of word new)) k boundary.extent.at boundary.extent spared boundary.there) boundary.is)
+
 pub blocks_law : {A : Type 0} (regions : A → List Grant) (word : A → ℕ → ℕ) (old new : Dlmalloc A) → IsSound regions word old → IsSound regions word new →
     OnlyBoundariesChange (regions old.system) (state_of word new) (word old.system) (word new.system) → (blocks : List Extent) →
     ((block : Extent) → extent_at block.at blocks ≡ Some block → block.kind ≡ Used → (extent_at block.at (extents_in (state_of word old)) ≡ Some block) × (extent_at block.at (extents_in (state_of word new)) ≡ Some block)) →
@@ -81,9 +91,7 @@ blocks_law regions word old new sound sound' same blocks both = record {
       let p = of_located (IsSegment (regions old.system) (word old.system)) block.at block (segments_of word old) l sound.segments in
       let is = standing (word old.system) Used l.segment.base l.segment.extents (l.segment.base + l.segment.size) block p.extents p.tail l.there used in
       let from = is.low in let to = is.high in
-      let spared = all_spared (regions new.system) (word new.system) (segments_of word new) sound'.segments sound'.apart block b.1 used k low high in
-      same k (record { granted = p.run.covered k (omega arith) (omega arith); aligned = m })
-      (λ boundary. no_boundary k boundary.extent.kind boundary.extent.at boundary.extent.size (spared_found (extents_in (state_of word new)) k boundary.extent.at boundary.extent spared boundary.there) boundary.is);
+      kept_in regions word old new sound' same block b.1 used k low high (record { granted = p.run.covered k (omega arith) (omega arith); aligned = m });
   heads = λ block there used.
       let b = both block there used in
       let l = located block.at block (segments_of word old) b.0 in
@@ -94,4 +102,11 @@ blocks_law regions word old new sound sound' same blocks both = record {
       let was = standing (word new.system) Used l'.segment.base l'.segment.extents (l'.segment.base + l'.segment.size) block p'.extents p'.tail l'.there used in
       let whole = is.size_whole in
       ap (λ (w : ℕ). w / 2) was.head ∙ (half block.size was.before is.before (omega arith) ∙ ap (λ (w : ℕ). w / 2) (sym is.head));
+}
+
+-- blocks that keep their words twice keep them
+pub keeps_on : (blocks : List Extent) (first second third : ℕ → ℕ) → KeepsBlocks blocks first second → KeepsBlocks blocks second third → KeepsBlocks blocks first third
+keeps_on blocks first second third one other = record {
+  words = λ block there used k low high m. other.words block there used k low high m ∙ one.words block there used k low high m;
+  heads = λ block there used. other.heads block there used ∙ one.heads block there used;
 }

@@ -24,6 +24,14 @@ stored_then regions old middle new at value stores word first second = record {
   elsewhere = λ k is apart. second.elsewhere k is apart.1 ∙ first.elsewhere k is apart.0;
 }
 
+-- two stores, and another over the second
+pub stored_over : (regions : List Grant) (old middle new : ℕ → ℕ) (first second value other last : ℕ) → IsWordOf regions first → AreStored regions old ((first, value) ∷ (second, other) ∷ []) middle → IsStored regions middle second last new →
+    AreStored regions old ((first, value) ∷ (second, last) ∷ []) new
+stored_over regions old middle new first second value other last word before after = record {
+  here = ((λ apart. after.elsewhere first word apart.0 ∙ before.here.0 apart), ((λ apart. after.here), tt));
+  elsewhere = λ k is apart. after.elsewhere k is apart.1.0 ∙ before.elsewhere k is apart;
+}
+
 -- An extent in use or a record, behind one of another kind: bit 0 of its head alone tells of it.
 pub rehung : (words words' : ℕ → ℕ) (before before' : Kind) (next : Extent) → Stands words before next → (next.kind ≡ Used) ⊎ (next.kind ≡ Record) → MayStand before' next.kind →
     words' (next.at + 8) ≡ head_of (told_size next.kind next.size) (is_used before') (is_used next.kind) →

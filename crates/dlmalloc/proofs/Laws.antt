@@ -41,7 +41,7 @@ module _ {A : Type 0} (regions : A → List Grant) (word : A → ℕ → ℕ) (h
   used_apart a b there_a there_b other = beside (regions heap.system) (word heap.system) (segments_of word heap) sound.segments sound.apart a b there_a there_b other
 
   -- a system with the same regions has those of the segments
-  same_regions : (system : A) → regions system ≡ regions heap.system → KeepsRegions heap (segments_of word heap) (regions heap.system) (regions system)
+  pub same_regions : (system : A) → regions system ≡ regions heap.system → KeepsRegions heap (segments_of word heap) (regions heap.system) (regions system)
   same_regions system same = record {
     same = go (segments_of word heap);
     last = λ some. subst (λ (rs : List Grant). IsLast rs heap) (sym same) (sound.last some);

@@ -1,4 +1,5 @@
 mod Examples
+mod ResizedExamples
 pub mod Places
 pub mod Merging
 pub mod Tiling
@@ -19,13 +20,25 @@ pub mod Tops
 pub mod Victim
 pub mod BlocksLaw
 pub mod Beside
-pub mod Powers
 pub mod Regions
 pub mod Taking
+pub mod Splitting
+pub mod Behind
+pub mod Parting
+pub mod Enlarging
+pub mod Enlarged
+pub mod Aligning
+pub mod AlignedBlocks
+pub mod AlignedRequests
+pub mod HandedOut
+pub mod GivenSize
 pub mod TopTaking
 pub mod Disposing
 pub mod Topping
 pub mod Answering
+pub mod IntoTop
+pub mod IntoFree
+pub mod Resizing
 pub mod Growing
 pub mod Least
 pub mod Walking
@@ -35,6 +48,8 @@ pub mod Requests
 pub mod Served
 pub mod Laws
 pub mod BlockChunks
+pub mod BlockWords
+pub mod Elsewhere
 pub mod Choosing
 pub mod Shown
 pub mod Spans

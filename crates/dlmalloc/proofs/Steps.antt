@@ -132,6 +132,20 @@ module _ {A : Type 0} (regions : A → List Grant) (word : A → ℕ → ℕ) (h
         ])
       ]
 
+  -- what is found was there, where it was found among the old ones too
+  pub found_before : (k : ℕ) (one : Extent) → (extent_at k more ≡ Some one → extent_at k less ≡ Some one) → extent_at k (extents_in (state_of word new)) ≡ Some one → extent_at k (extents_in (state_of word heap)) ≡ Some one
+  found_before k one stays there =
+      ap (extent_at k) all_old ∙ elim (found_either k before (more ++ behind) one (ap (extent_at k) (sym all_new) ∙ there)) [
+        | inl first ↦ found_more k before (less ++ behind) one first
+        | inr later ↦ distinct_later before (less ++ behind) k one was_distinct (elim (found_either k more behind one later.1) [
+          | inl here ↦ found_more k less behind one (stays here)
+          | inr last ↦ distinct_later less behind k one (distinct_second before (less ++ behind) was_distinct) last.1
+        ])
+      ]
+    where
+      was_distinct : AreDistinct (before ++ (less ++ behind))
+      was_distinct = subst AreDistinct all_old distinct_old
+
   -- all granted words stay but those at boundaries
   pub keeps_words : OnlyBoundariesChange (regions heap.system) (state_of word new) (word heap.system) (word new.system)
   keeps_words k inside apart = step.changed.kept k inside (all_spared (state_of word new) k step.now.extents

@@ -3,6 +3,8 @@ pub mod Extents
 pub mod Choice
 pub mod Taken
 pub mod Freed
+pub mod Resized
+pub mod Aligned
 pub mod Granted
 pub mod Segments
 pub mod FreeExtents
@@ -13,3 +15,6 @@ pub mod Blocks
 pub mod Boundaries
 pub mod Grown
 pub mod Served
+pub mod Requested
+pub mod Written
+pub mod Moved

@@ -45,7 +45,7 @@ impl<A: Allocator> Dlmalloc<A> {
     }
 
     /// Frees a block of some size.
-    fn free_block<L: Ledger>(&mut self, ptr: u64, steps: &mut Steps<L>)
+    pub(crate) fn free_block<L: Ledger>(&mut self, ptr: u64, steps: &mut Steps<L>)
         requires sound { IsSound A.regions A.word self.old }
         requires block { (size : ℕ) × IsBlock (state_of A.word self.old) ptr size }
         ensures freed { IsFreed A.regions A.word A.follows self.old ptr self.new }

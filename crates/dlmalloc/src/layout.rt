@@ -23,3 +23,6 @@ pub(crate) const TRIM_THRESHOLD: u64 = 2 * 1024 * 1024;
 
 /// The bit of a head that says that the chunk before is in use.
 pub(crate) const PINUSE: u64 = 1;
+
+/// The alignment that every block has.
+pub(crate) const LEAST_ALIGN: u64 = 16;

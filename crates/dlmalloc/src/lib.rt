@@ -5,11 +5,16 @@
 #![tactic(auto)]
 
 mod block_laws;
+mod contents;
 mod free;
 mod heap;
 mod layout;
 mod malloc;
 mod malloc_error;
+mod memalign;
+mod realloc;
+mod resize;
+mod split;
 mod take;
 mod top;
 mod walk;
@@ -18,5 +23,7 @@ pub use dlmalloc_chunks::{Extent, ExtentList, Kind};
 pub use heap::{Dlmalloc, is_granularity};
 pub use malloc_error::MallocError;
 
+#[cfg(test)]
+mod resize_tests;
 #[cfg(test)]
 mod tests;

@@ -3,10 +3,11 @@ ghost use Rattle.std.specs.Prelude.{◌≡◌, ◌≢◌, ℕ, ◌+◌, ◌-◌,
 ghost use Rattle.std.specs.Int.{IsPowerOfTwo};
 ghost use Rattle.dlmalloc.specs.Heap.{state_of, IsSound};
 ghost use Rattle.dlmalloc.specs.Grown.{IsAsItWas};
+ghost use Rattle.dlmalloc.specs.Requested.{asked, IsServedAt, IsHandedOut};
 ghost use Rattle.dlmalloc.specs.Served.{IsDenied, IsCutOut, IsServed, IsRefusedWith};
 
 use crate::heap::Dlmalloc;
-use crate::layout::BLOCK;
+use crate::layout::{BLOCK, LEAST_ALIGN};
 use crate::malloc_error::MallocError;
 use crate::walk::Choice;
 use dlmalloc_chunks::{max_request, request2size};
@@ -24,12 +25,34 @@ impl<A: Allocator> Dlmalloc<A> {
         steps: &mut Steps<L>,
     ) -> Result<u64, MallocError>
         requires sound { IsSound A.regions A.word self.old }
-        requires align { IsPowerOfTwo align × (align ≤ 16) }
-        ensures served { IfOk result (λ address. IsServed A.regions A.word A.zeros A.follows self.old size address self.new) }
-        ensures refused { IfErr result (λ error. IsRefusedWith A.regions A.word A.follows A.refuses A.denies self.old size error self.new) }
+        requires align { IsPowerOfTwo align }
+        ensures served { IfOk result (λ address. IsServedAt A.regions A.word A.zeros A.follows self.old size align address self.new) }
+        ensures handed { IfOk result (λ address. IsHandedOut A.regions A.word A.follows self.old size align address self.new) }
+        ensures refused { IfErr result (λ error. IsRefusedWith A.regions A.word A.follows A.refuses A.denies self.old (asked size align) error self.new) }
         ensures sound { IsSound A.regions A.word self.new }
     {
-        self.c_malloc(size, steps)
+        if align <= LEAST_ALIGN {
+            self.c_malloc(size, steps)
+        } else {
+            self.memalign(size, align, steps)
+        }
+    }
+
+    /// As `malloc` (dlmalloc: `c_memalign`).
+    pub fn c_memalign<L: Ledger>(
+        &mut self,
+        align: u64,
+        size: u64,
+        steps: &mut Steps<L>,
+    ) -> Result<u64, MallocError>
+        requires sound { IsSound A.regions A.word self.old }
+        requires align { IsPowerOfTwo align }
+        ensures served { IfOk result (λ address. IsServedAt A.regions A.word A.zeros A.follows self.old size align address self.new) }
+        ensures handed { IfOk result (λ address. IsHandedOut A.regions A.word A.follows self.old size align address self.new) }
+        ensures refused { IfErr result (λ error. IsRefusedWith A.regions A.word A.follows A.refuses A.denies self.old (asked size align) error self.new) }
+        ensures sound { IsSound A.regions A.word self.new }
+    {
+        self.malloc(size, align, steps)
     }
 
     /// Asks for a block of `size` bytes at a multiple of 16, and answers its address (dlmalloc: `c_malloc`). It writes the

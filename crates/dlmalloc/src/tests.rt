@@ -1,6 +1,9 @@
-ghost use Rattle.std.specs.Prelude.{◌≡◌, ◌<◌, IfOk, option_map};
+ghost use Rattle.std.specs.Prelude.{◌≡◌, ◌-◌, ◌<◌, ◌≤◌, Some, IfOk, option_map};
+ghost use Rattle.std.specs.Int.{IsPowerOfTwo};
+ghost use Rattle.dlmalloc_chunks.specs.declared.extent.Kind.TheVariants.{Used};
 ghost use Rattle.dlmalloc.specs.Extents.{extent_at};
-ghost use Rattle.dlmalloc.specs.Heap.{IsSound};
+ghost use Rattle.dlmalloc.specs.State.{extents_in};
+ghost use Rattle.dlmalloc.specs.Heap.{state_of, IsSound};
 
 use super::*;
 use heap_memory::{FlatStep, FlatSystem, GrantFault, Links};
@@ -27,21 +30,63 @@ fn flat_heap(alloc: Global) -> Result<Dlmalloc<FlatSystem>, AllocError>
 
 /// A call of a heap.
 #[derive(Clone, Copy)]
-enum Call {
+pub(crate) enum Call {
     /// Asks for a block of a size, and is given this answer.
     Malloc(u64, Result<u64, MallocError>),
+    /// Asks for a block of a size at an alignment, and is given this answer.
+    Aligned(u64, u64, Result<u64, MallocError>),
+    /// The same by `c_memalign`, which is told the alignment first.
+    Memalign(u64, u64, Result<u64, MallocError>),
+    /// Asks for a cleared block of a size at an alignment, and is given this answer.
+    Calloc(u64, u64, Result<u64, MallocError>),
+    /// Gives the block at an address, of a size and an alignment, another size, and is given this answer.
+    Realloc(u64, u64, u64, u64, Result<u64, MallocError>),
+    /// The same by `c_realloc`, which is told the new size alone.
+    CRealloc(u64, u64, Result<u64, MallocError>),
     /// Frees the block at an address.
     Free(u64),
+    /// Asks for multiples of another number of bytes from now on.
+    Granularity(u64),
 }
 
-/// What the extent is that begins at an address, if one does.
-fn kind_at(extents: &[Extent], at: u64) -> Option<Kind>
-    ensures { result ≡ option_map (λ extent. extent.kind) (extent_at at extents.now) }
+/// The kind and the size of the extent that begins at an address, if one does.
+fn chunk_at(extents: &[Extent], at: u64) -> Option<(Kind, u64)>
+    ensures { result ≡ option_map (λ extent. (extent.kind, extent.size)) (extent_at at extents.now) }
 {
     extents
         .iter()
         .find(|extent| extent.at == at)
-        .map(|extent| extent.kind)
+        .map(|extent| (extent.kind, extent.size))
+}
+
+/// The size of the chunk of the block at an address, where there has to be one.
+fn chunk_of<L: Ledger, R: Abort>(
+    rt: &R,
+    alloc: Global,
+    heap: &Dlmalloc<FlatSystem>,
+    address: u64,
+    steps: &mut Steps<L>,
+) -> Result<u64, Fail>
+    requires { IsSound ⟦<FlatSystem as Links>⟧.regions ⟦<FlatSystem as Links>⟧.word heap.now }
+    ensures { IfOk result (λ size. (16 ≤ address) × (32 ≤ size)
+        × (extent_at (address - 16) (extents_in (state_of ⟦<FlatSystem as Links>⟧.word heap.now)) ≡ Some (record { at = address - 16; size = size; kind = Used }))) }
+{
+    let extents = heap.extents(alloc, steps)?;
+    assert!(rt; address >= 16);
+    match chunk_at(extents.as_slice(), address - 16) {
+        Some((Kind::Used, size)) => Ok(size),
+        _ => panic!(rt; "no block at {address:#x}"),
+    }
+}
+
+/// An alignment of a row, which has to be a power of two.
+fn power<R: Abort>(rt: &R, align: u64) -> u64
+    ensures { IsPowerOfTwo result }
+{
+    if align.is_power_of_two() {
+        return align;
+    }
+    panic!(rt; "no power of two: {align}")
 }
 
 /// Makes a call.
@@ -59,28 +104,48 @@ fn apply<L: Ledger, R: Abort>(
         Call::Malloc(size, answer) => {
             assert_eq!(rt; heap.malloc(size, 16, steps), answer);
         }
+        Call::Aligned(size, align, answer) => {
+            assert_eq!(rt; heap.malloc(size, power(rt, align), steps), answer);
+        }
+        Call::Memalign(align, size, answer) => {
+            assert_eq!(rt; heap.c_memalign(power(rt, align), size, steps), answer);
+        }
+        Call::Calloc(size, align, answer) => {
+            assert_eq!(rt; heap.calloc(size, power(rt, align), steps), answer);
+        }
+        Call::Granularity(granularity) => assert!(rt; heap.set_granularity(granularity)),
+        Call::Realloc(address, old_size, align, size, answer) => {
+            let chunk = chunk_of(rt, alloc, heap, address, steps)?;
+            assert!(rt; chunk >= old_size && chunk - old_size >= 8 && chunk - old_size < 80);
+            assert_eq!(rt;
+                heap.realloc(address, old_size, power(rt, align), size, steps),
+                answer
+            );
+        }
+        Call::CRealloc(address, size, answer) => {
+            chunk_of(rt, alloc, heap, address, steps)?;
+            assert_eq!(rt; heap.c_realloc(Some(address), size, steps), answer);
+        }
         Call::Free(address) => {
-            let extents = heap.extents(alloc, steps)?;
-            assert!(rt; address >= 16);
-            match kind_at(extents.as_slice(), address - 16) {
-                Some(Kind::Used) => heap.c_free(Some(address), steps),
-                _ => panic!(rt; "no block at {address:#x}"),
-            }
+            chunk_of(rt, alloc, heap, address, steps)?;
+            heap.c_free(Some(address), steps);
         }
     }
     Ok(())
 }
 
 /// An extent, by its kind, its address and its size.
-type Run = (Kind, u64, u64);
+pub(crate) type Run = (Kind, u64, u64);
 
 /// The foot at the end of the region.
-const FOOT: Run = (Kind::Foot, 0x40_ffb0, 80);
+pub(crate) const FOOT: Run = (Kind::Foot, 0x40_ffb0, 80);
 
-const NO_SPACE: Result<u64, MallocError> = Err(MallocError::System(GrantFault::NoSpace));
+pub(crate) const NO_SPACE: Result<u64, MallocError> = Err(MallocError::System(GrantFault::NoSpace));
+
+pub(crate) const TOO_LARGE: Result<u64, MallocError> = Err(MallocError::TooLarge);
 
 /// The calls of a new heap.
-const NEW: &[Call] = &[];
+pub(crate) const NEW: &[Call] = &[];
 
 /// Calls of a new heap that leave a victim of 976 bytes, and chunks of 208, 512 and 976 bytes in bins.
 const BINS: &[Call] = &[
@@ -101,15 +166,20 @@ const BINS: &[Call] = &[
 
 /// Calls of a heap, behind those that came before, and its extents behind them.
 #[derive(Drop)]
-struct Row {
-    rule: &'static str,
-    before: &'static [Call],
-    calls: &'static [Call],
-    extents: &'static [Run],
+pub(crate) struct Row {
+    pub(crate) rule: &'static str,
+    pub(crate) before: &'static [Call],
+    pub(crate) calls: &'static [Call],
+    pub(crate) extents: &'static [Run],
 }
 
 /// Makes the calls of a row.
-fn serve<L: Ledger, R: Abort>(rt: &R, alloc: Global, row: &Row, blank: Blank) -> Result<(), Fail>
+pub(crate) fn serve<L: Ledger, R: Abort>(
+    rt: &R,
+    alloc: Global,
+    row: &Row,
+    blank: Blank,
+) -> Result<(), Fail>
     requires name { blank.name ≡ L.name }
     requires parts { blank.parts ≡ L.parts }
     requires some { 0 < blank.parts }
@@ -185,7 +255,7 @@ fn calls_leave_these_extents(rt: HostRuntime) -> Result<(), Fail> {
         Row {
             rule: "the least that is",
             before: NEW,
-            calls: &[Call::Malloc(0xffff_ffff_fffe_ff99, Err(MallocError::TooLarge))],
+            calls: &[Call::Malloc(0xffff_ffff_fffe_ff99, TOO_LARGE)],
             extents: &[],
         },
         Row {
@@ -338,6 +408,69 @@ fn calls_leave_these_extents(rt: HostRuntime) -> Result<(), Fail> {
                 FOOT,
             ],
         },
+        Row {
+            rule: "an aligned block, and one in what is freed before it",
+            before: NEW,
+            calls: &[
+                Call::Aligned(100, 4096, Ok(0x40_1000)),
+                Call::Malloc(4072, Ok(0x40_0010)),
+            ],
+            extents: &[
+                (Kind::Used, 0x40_0000, 4080),
+                (Kind::Used, 0x40_0ff0, 112),
+                (Kind::Top, 0x40_1060, 61264),
+                FOOT,
+            ],
+        },
+        Row {
+            rule: "the same by c_memalign",
+            before: NEW,
+            calls: &[
+                Call::Memalign(4096, 100, Ok(0x40_1000)),
+                Call::Memalign(16, 4072, Ok(0x40_0010)),
+            ],
+            extents: &[
+                (Kind::Used, 0x40_0000, 4080),
+                (Kind::Used, 0x40_0ff0, 112),
+                (Kind::Top, 0x40_1060, 61264),
+                FOOT,
+            ],
+        },
+        Row {
+            rule: "an aligned block that is cleared, and one at an alignment below 16",
+            before: NEW,
+            calls: &[
+                Call::Calloc(100, 4096, Ok(0x40_1000)),
+                Call::Calloc(8, 8, Ok(0x40_0010)),
+            ],
+            extents: &[
+                (Kind::Used, 0x40_0000, 32),
+                (Kind::Victim, 0x40_0020, 4048),
+                (Kind::Used, 0x40_0ff0, 112),
+                (Kind::Top, 0x40_1060, 61264),
+                FOOT,
+            ],
+        },
+        Row {
+            rule: "the greatest alignment is not too large for a byte",
+            before: NEW,
+            calls: &[
+                Call::Aligned(1, 0x8000_0000_0000_0000, NO_SPACE),
+                Call::Aligned(0x7fff_ffff_ffff_ffff, 0x8000_0000_0000_0000, TOO_LARGE),
+                Call::Calloc(0x7fff_ffff_ffff_ffff, 0x8000_0000_0000_0000, TOO_LARGE),
+                Call::Calloc(0xffff_ffff_fffe_ff99, 8, TOO_LARGE),
+            ],
+            extents: &[],
+        },
+        Row {
+            rule: "but where regions are asked for in multiples of as many bytes",
+            before: NEW,
+            calls: &[
+                Call::Granularity(0x8000_0000_0000_0000),
+                Call::Aligned(1, 0x8000_0000_0000_0000, TOO_LARGE),
+            ],
+            extents: &[],
+        },
     ];
     for row in &rows {
         serve::<Brand, HostRuntime>(&rt, rt.alloc(), row, Blank::new(1))?;
@@ -405,7 +538,7 @@ fn serve_wide<L: Ledger, R: Abort>(rt: &R, alloc: Global, blank: Blank) -> Resul
     const FOOT: Run = (Kind::Foot, 0x41_ffb0, 80);
     let mut steps = Steps::<L>::new(blank);
     let mut heap = wide_heap(alloc)?;
-    assert_eq!(rt; heap.c_malloc(24, &mut steps), Ok(0x40_0010));
+    assert_eq!(rt; heap.c_realloc(None, 24, &mut steps), Ok(0x40_0010));
     assert_eq!(rt; heap.c_malloc(65416, &mut steps), Ok(0x40_0030));
     let grown = [
         (Kind::Used, 0x40_0000, 32),

@@ -1,6 +1,6 @@
 use Rattle.std.proofs.Common.{arith, IsTrue, subst, sym}
 use Rattle.std.proofs.lemmas.Bool.Decides.{nat_tests}
-use Rattle.dlmalloc.proofs.Powers.{power_from_test, test_of_power}
+use Rattle.dlmalloc_chunks.proofs.PowersOfTwo.{power_from_test, test_of_power}
 use Rattle.dlmalloc.proofs.heap.is_granularity.Goals as goal
 
 pub returns-then-is_power_of_two : goal.returns-then-is_power_of_two

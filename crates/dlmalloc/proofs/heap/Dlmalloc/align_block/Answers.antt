@@ -1,0 +1,57 @@
+use Rattle.std.proofs.Common.{ℕ, ◌+◌, ◌-◌, ◌≡◌, ◌∙◌, ap, subst}
+use Rattle.dlmalloc.specs.State.{HeapState}
+use Rattle.dlmalloc.specs.Aligned.{lead_freed, tail_cut}
+use Rattle.dlmalloc.specs.Heap.{state_of}
+use Rattle.dlmalloc.proofs.BlockChunks.{block_chunk, block_head}
+use Rattle.dlmalloc.proofs.AlignedBlocks.{moved_on, kept_on}
+use Rattle.dlmalloc.proofs.AlignedRequests.{chunk_whole, chunk_small, place_here}
+use Rattle.dlmalloc.proofs.heap.Dlmalloc.align_block.Goals as goal
+
+pub size-size-requires : goal.size-size-requires
+size-size-requires g c = record { head = block_head g.A.Links.regions g.A.Links.word c.args.self.now c.requires.sound c.args.ptr (c.args.n + c.args.align + 24) c.requires.block }
+
+pub aligned_place-place-requires-clause-small : goal.aligned_place-place-requires-clause-small
+aligned_place-place-requires-clause-small g c = chunk_small g.A.Links.regions g.A.Links.word c.args.self.now c.requires.sound c.args.ptr c.args.n c.args.align c.requires.block c.requires.least
+
+pub aligned_place-place-requires-clause-whole : goal.aligned_place-place-requires-clause-whole
+aligned_place-place-requires-clause-whole g c = chunk_whole g.A.Links.regions g.A.Links.word c.args.self.now c.requires.sound c.args.ptr c.args.n c.args.align c.requires.block
+
+pub free_before-requires-clause-chunk : goal.free_before-requires-clause-chunk
+free_before-requires-clause-chunk g c = block_chunk g.A.Links.regions g.A.Links.word c.args.self.now c.requires.sound c.args.ptr (c.args.n + c.args.align + 24) c.requires.block c.size-size.result c.size-size.ensures.value
+
+pub free_before-requires-clause-lead : goal.free_before-requires-clause-lead
+free_before-requires-clause-lead g c = (place_here g.A.Links.regions g.A.Links.word c.args.self.now c.requires.sound c.args.ptr c.args.n c.args.align c.requires.block c.requires.align.0 c.requires.align.1 c.requires.least c.size-size.result c.size-size.ensures.value c.aligned_place-place.result c.aligned_place-place.ensures.place).lead
+
+pub free_before-requires-clause-whole : goal.free_before-requires-clause-whole
+free_before-requires-clause-whole g c = (place_here g.A.Links.regions g.A.Links.word c.args.self.now c.requires.sound c.args.ptr c.args.n c.args.align c.requires.block c.requires.align.0 c.requires.align.1 c.requires.least c.size-size.result c.size-size.ensures.value c.aligned_place-place.result c.aligned_place-place.ensures.place).whole
+
+pub free_before-requires-clause-room : goal.free_before-requires-clause-room
+free_before-requires-clause-room g c = (place_here g.A.Links.regions g.A.Links.word c.args.self.now c.requires.sound c.args.ptr c.args.n c.args.align c.requires.block c.requires.align.0 c.requires.align.1 c.requires.least c.size-size.result c.size-size.ensures.value c.aligned_place-place.result c.aligned_place-place.ensures.place).room
+
+pub overflow_sub-size : goal.overflow_sub-size
+overflow_sub-size g c = (place_here g.A.Links.regions g.A.Links.word c.args.self.now c.requires.sound c.args.ptr c.args.n c.args.align c.requires.block c.requires.align.0 c.requires.align.1 c.requires.least c.size-size.result c.size-size.ensures.value c.aligned_place-place.result c.aligned_place-place.ensures.place).first
+
+pub free_behind-requires-clause-room : goal.free_behind-requires-clause-room
+free_behind-requires-clause-room g c = (place_here g.A.Links.regions g.A.Links.word c.args.self.now c.requires.sound c.args.ptr c.args.n c.args.align c.requires.block c.requires.align.0 c.requires.align.1 c.requires.least c.size-size.result c.size-size.ensures.value c.aligned_place-place.result c.aligned_place-place.ensures.place).rest
+
+pub returns-clause-multiple : goal.returns-clause-multiple
+returns-clause-multiple g c = (place_here g.A.Links.regions g.A.Links.word c.args.self.now c.requires.sound c.args.ptr c.args.n c.args.align c.requires.block c.requires.align.0 c.requires.align.1 c.requires.least c.size-size.result c.size-size.ensures.value c.aligned_place-place.result c.aligned_place-place.ensures.place).multiple
+
+pub returns-clause-small : goal.returns-clause-small
+returns-clause-small g c = (place_here g.A.Links.regions g.A.Links.word c.args.self.now c.requires.sound c.args.ptr c.args.n c.args.align c.requires.block c.requires.align.0 c.requires.align.1 c.requires.least c.size-size.result c.size-size.ensures.value c.aligned_place-place.result c.aligned_place-place.ensures.place).small
+
+pub returns-clause-state : goal.returns-clause-state
+returns-clause-state g c =
+    let place = c.aligned_place-place.result in
+    subst (λ (p : ℕ). state_of g.A.Links.word c.free_behind.new.self ≡ tail_cut (lead_freed (state_of g.A.Links.word c.args.self.now) (c.args.ptr - 16) p) p c.args.n) c.aligned_place-place.ensures.place
+    (c.free_behind.ensures.state ∙ ap (λ (s : HeapState). tail_cut s place c.args.n) c.free_before.ensures.state)
+
+pub returns-clause-others : goal.returns-clause-others
+returns-clause-others g c =
+    moved_on (state_of g.A.Links.word c.args.self.now) (state_of g.A.Links.word c.free_before.new.self) (state_of g.A.Links.word c.free_behind.new.self) (c.args.ptr - 16) c.aligned_place-place.result
+    c.free_before.ensures.others c.free_behind.ensures.others
+
+pub returns-clause-kept : goal.returns-clause-kept
+returns-clause-kept g c =
+    kept_on g.A.Links.regions g.A.Links.word g.A.Links.follows c.args.self.now c.free_before.new.self c.free_behind.new.self (c.args.ptr - 16) c.aligned_place-place.result
+    c.free_before.ensures.others c.free_before.ensures.kept c.free_before.ensures.sound c.free_behind.ensures.others c.free_behind.ensures.moved

@@ -1,0 +1,73 @@
+use Rattle.std.proofs.Common.{◌≡◌, ℕ, ◌+◌, ◌-◌, ◌^◌, ◌≤◌, ◌==◌, Option, Some, IfOk, IfSome, refl, sym, subst, arith}
+use Rattle.std.proofs.lemmas.Result.{IfOk-weaker}
+use Rattle.dlmalloc_chunks.specs.declared.extent.Kind.TheVariants.{Used}
+use Rattle.dlmalloc.specs.State.{extents_in, size_where}
+use Rattle.dlmalloc.specs.Heap.{state_of}
+use Rattle.dlmalloc.specs.Moved.{IsResized, IsGivenSize}
+use Rattle.dlmalloc.proofs.Places.{extent}
+use Rattle.dlmalloc.proofs.BlockChunks.{block_chunk, block_head}
+use Rattle.dlmalloc.proofs.Elsewhere.{size_at, block_told}
+use Rattle.dlmalloc.proofs.GivenSize.{given_size}
+use Rattle.dlmalloc.proofs.heap.Dlmalloc.c_realloc.Goals as goal
+
+pub size-size-requires : goal.size-size-requires
+size-size-requires g c =
+    let block = block_told (state_of g.A.Links.word c.args.self.now) c.args.ptr c.in-Some.address c.in-Some.is c.requires.block in
+    record { head = block_head g.A.Links.regions g.A.Links.word c.args.self.now c.requires.sound c.in-Some.address block.0 block.1 }
+
+pub overflow_sub-size : goal.overflow_sub-size
+overflow_sub-size g c =
+    let block = block_told (state_of g.A.Links.word c.args.self.now) c.args.ptr c.in-Some.address c.in-Some.is c.requires.block in
+    let state = state_of g.A.Links.word c.args.self.now in
+    let address = c.in-Some.address in
+    let told = block_chunk g.A.Links.regions g.A.Links.word c.args.self.now c.requires.sound address block.0 block.1 c.size-size.result c.size-size.ensures.value in
+    let sizes = size_at state (address - 16) (extent (address - 16) c.size-size.result Used) told in
+    let least = size_at state (address - 16) block.1.extent block.1.there in
+    let holds = block.1.holds in
+    omega arith
+
+pub resize_or_move-requires-clause-align : goal.resize_or_move-requires-clause-align
+resize_or_move-requires-clause-align g c = (4, refl)
+
+pub resize_or_move-requires-clause-held : goal.resize_or_move-requires-clause-held
+resize_or_move-requires-clause-held g c =
+    let block = block_told (state_of g.A.Links.word c.args.self.now) c.args.ptr c.in-Some.address c.in-Some.is c.requires.block in
+    let state = state_of g.A.Links.word c.args.self.now in
+    let address = c.in-Some.address in
+    let told = block_chunk g.A.Links.regions g.A.Links.word c.args.self.now c.requires.sound address block.0 block.1 c.size-size.result c.size-size.ensures.value in
+    let sizes = size_at state (address - 16) (extent (address - 16) c.size-size.result Used) told in
+    let least = size_at state (address - 16) block.1.extent block.1.there in
+    let holds = block.1.holds in
+    omega (arith, sizes, least, holds)
+
+pub returns-in-Some-clause-resized : goal.returns-in-Some-clause-resized
+returns-in-Some-clause-resized g c =
+    let block = block_told (state_of g.A.Links.word c.args.self.now) c.args.ptr c.in-Some.address c.in-Some.is c.requires.block in
+    let state = state_of g.A.Links.word c.args.self.now in
+    let address = c.in-Some.address in
+    let told = block_chunk g.A.Links.regions g.A.Links.word c.args.self.now c.requires.sound address block.0 block.1 c.size-size.result c.size-size.ensures.value in
+    let sizes = size_at state (address - 16) (extent (address - 16) c.size-size.result Used) told in
+    let least = size_at state (address - 16) block.1.extent block.1.there in
+    let holds = block.1.holds in
+    let new = c.resize_or_move.new.self in
+    subst (λ (ptr : Option ℕ). IfOk c.resize_or_move.result (λ at. IfSome ptr (λ from.
+    IsResized g.A.Links.regions g.A.Links.word g.A.Allocator.zeros g.A.Links.follows c.args.self.now from (size_where (λ extent. extent.at == from - 16) (extents_in state) - 8) 16 c.args.new_size at new))) (sym c.in-Some.is)
+    (subst (λ (held : ℕ). IfOk c.resize_or_move.result (λ at. IsResized g.A.Links.regions g.A.Links.word g.A.Allocator.zeros g.A.Links.follows c.args.self.now address (held - 8) 16 c.args.new_size at new)) (sym sizes) c.resize_or_move.ensures.resized)
+
+pub returns-in-Some-clause-given : goal.returns-in-Some-clause-given
+returns-in-Some-clause-given g c =
+    let block = block_told (state_of g.A.Links.word c.args.self.now) c.args.ptr c.in-Some.address c.in-Some.is c.requires.block in
+    let old = c.args.self.now in
+    let new = c.resize_or_move.new.self in
+    let state = state_of g.A.Links.word old in
+    let address = c.in-Some.address in
+    let told = block_chunk g.A.Links.regions g.A.Links.word old c.requires.sound address block.0 block.1 c.size-size.result c.size-size.ensures.value in
+    let sizes = size_at state (address - 16) (extent (address - 16) c.size-size.result Used) told in
+    subst (λ (ptr : Option ℕ). IfOk c.resize_or_move.result (λ at. IfSome ptr (λ from.
+    IsGivenSize g.A.Links.regions g.A.Links.word g.A.Links.follows old from (size_where (λ extent. extent.at == from - 16) (extents_in state) - 8) 16 c.args.new_size at new))) (sym c.in-Some.is)
+    (subst (λ (held : ℕ). IfOk c.resize_or_move.result (λ at. IsGivenSize g.A.Links.regions g.A.Links.word g.A.Links.follows old address (held - 8) 16 c.args.new_size at new)) (sym sizes)
+    (IfOk-weaker c.resize_or_move.result
+    (λ at. IsResized g.A.Links.regions g.A.Links.word g.A.Allocator.zeros g.A.Links.follows old address (c.size-size.result - 8) 16 c.args.new_size at new)
+    (λ at. IsGivenSize g.A.Links.regions g.A.Links.word g.A.Links.follows old address (c.size-size.result - 8) 16 c.args.new_size at new)
+    (λ at resized. given_size g.A.Links.regions g.A.Links.word g.A.Allocator.zeros g.A.Links.follows g.A.Links.follows_on old new address (c.size-size.result - 8) 16 c.args.new_size at block.0 c.requires.sound (4, refl) block.1 resized)
+    c.resize_or_move.ensures.resized))

@@ -1,0 +1,46 @@
+use Rattle.std.proofs.Common.{ℕ, sym, subst, arith}
+use Rattle.heap_memory.specs.Words.{AreWordsOf, AreFilled}
+use Rattle.dlmalloc.proofs.BlockWords.{block_words, same_heap, served_block}
+use Rattle.dlmalloc.proofs.GivenSize.{handed_written}
+use Rattle.dlmalloc.proofs.heap.Dlmalloc.calloc.Goals as goal
+
+pub fill_counted-requires : goal.fill_counted-requires
+fill_counted-requires g c =
+    let middle = c.malloc.new.self in
+    let served = served_block g.A.Links.regions g.A.Links.word g.A.Allocator.zeros g.A.Links.follows c.args.self.now c.args.size c.args.align c.in-Ok.address c.malloc.new.self c.in-Ok.ensures.served in
+    subst (λ (n : ℕ). AreWordsOf (g.A.Links.regions middle.system) c.in-Ok.address n) (sym c.words_in.ensures)
+    (block_words g.A.Links.regions g.A.Links.word middle served.0 c.in-Ok.address c.args.size served.1 c.args.size (omega arith))
+
+pub returns-in-Ok-clause-served : goal.returns-in-Ok-clause-served
+returns-in-Ok-clause-served g c =
+    let middle = c.malloc.new.self in
+    let system = c.fill_counted.new.self in
+    let served = served_block g.A.Links.regions g.A.Links.word g.A.Allocator.zeros g.A.Links.follows c.args.self.now c.args.size c.args.align c.in-Ok.address c.malloc.new.self c.in-Ok.ensures.served in
+    let filled = c.fill_counted.ensures in
+    let cleared = subst (λ (n : ℕ). AreFilled (g.A.Links.regions middle.system) (g.A.Links.word middle.system) c.in-Ok.address n 0 (g.A.Links.word system)) c.words_in.ensures filled.filled in
+    record {
+      middle = middle;
+      served = c.in-Ok.ensures.served;
+      handed = c.in-Ok.ensures.handed;
+      cleared = cleared;
+      same = same_heap g.A.Links.regions g.A.Links.word middle served.0 c.in-Ok.address c.args.size served.1 g.A.Links.follows c.args.size (omega arith) system filled.regions filled.follows cleared.elsewhere;
+    }
+
+pub returns-in-Ok-clause-sound : goal.returns-in-Ok-clause-sound
+returns-in-Ok-clause-sound g c =
+    let middle = c.malloc.new.self in
+    let system = c.fill_counted.new.self in
+    let served = served_block g.A.Links.regions g.A.Links.word g.A.Allocator.zeros g.A.Links.follows c.args.self.now c.args.size c.args.align c.in-Ok.address c.malloc.new.self c.in-Ok.ensures.served in
+    let filled = c.fill_counted.ensures in
+    let cleared = subst (λ (n : ℕ). AreFilled (g.A.Links.regions middle.system) (g.A.Links.word middle.system) c.in-Ok.address n 0 (g.A.Links.word system)) c.words_in.ensures filled.filled in
+    (same_heap g.A.Links.regions g.A.Links.word middle served.0 c.in-Ok.address c.args.size served.1 g.A.Links.follows c.args.size (omega arith) system filled.regions filled.follows cleared.elsewhere).sound
+
+pub returns-in-Ok-clause-handed : goal.returns-in-Ok-clause-handed
+returns-in-Ok-clause-handed g c =
+    let middle = c.malloc.new.self in
+    let system = c.fill_counted.new.self in
+    let served = served_block g.A.Links.regions g.A.Links.word g.A.Allocator.zeros g.A.Links.follows c.args.self.now c.args.size c.args.align c.in-Ok.address c.malloc.new.self c.in-Ok.ensures.served in
+    let filled = c.fill_counted.ensures in
+    let cleared = subst (λ (n : ℕ). AreFilled (g.A.Links.regions middle.system) (g.A.Links.word middle.system) c.in-Ok.address n 0 (g.A.Links.word system)) c.words_in.ensures filled.filled in
+    handed_written g.A.Links.regions g.A.Links.word g.A.Links.follows g.A.Links.follows_on c.args.self.now middle (record middle { system = system }) c.args.size c.args.align c.in-Ok.address c.in-Ok.ensures.handed
+    (same_heap g.A.Links.regions g.A.Links.word middle served.0 c.in-Ok.address c.args.size served.1 g.A.Links.follows c.args.size (omega arith) system filled.regions filled.follows cleared.elsewhere) cleared.elsewhere

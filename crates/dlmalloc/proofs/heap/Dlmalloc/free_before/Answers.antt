@@ -1,0 +1,12 @@
+use Rattle.std.proofs.Common.{inl, refl, sym, subst}
+use Rattle.dlmalloc_chunks.specs.declared.extent.Kind.TheVariants.{Used}
+use Rattle.dlmalloc.specs.Boundaries.{IsBoundary}
+use Rattle.dlmalloc.specs.Heap.{state_of}
+use Rattle.dlmalloc.proofs.Places.{extent}
+use Rattle.dlmalloc.proofs.heap.Dlmalloc.free_before.Goals as goal
+
+-- the chunk's own head is at a boundary
+pub returns-clause-words : goal.returns-clause-words
+returns-clause-words g c k is was now =
+    c.free_lead.ensures.words k is
+    (λ same. was (subst (IsBoundary (state_of g.A.Links.word c.args.self.now)) (sym same) (record { extent = extent c.args.at c.args.size Used; there = c.requires.chunk; is = inl refl }))) now

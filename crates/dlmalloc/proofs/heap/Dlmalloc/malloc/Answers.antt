@@ -1,0 +1,14 @@
+use Rattle.dlmalloc.proofs.HandedOut.{on_ok, handed_low, handed_high}
+use Rattle.dlmalloc.proofs.heap.Dlmalloc.malloc.Goals as goal
+
+pub returns-then-align-le-LEAST_ALIGN-clause-handed : goal.returns-then-align-le-LEAST_ALIGN-clause-handed
+returns-then-align-le-LEAST_ALIGN-clause-handed g c =
+    on_ok c.c_malloc.result
+    (λ address served. handed_low g.A.Links.regions g.A.Links.word g.A.Allocator.zeros g.A.Links.follows c.args.self.now c.c_malloc.new.self c.args.size c.args.align address c.requires.align c.if-align-le-LEAST_ALIGN.true served)
+    c.c_malloc.ensures.served
+
+pub returns-else-align-le-LEAST_ALIGN-clause-handed : goal.returns-else-align-le-LEAST_ALIGN-clause-handed
+returns-else-align-le-LEAST_ALIGN-clause-handed g c =
+    on_ok c.memalign.result
+    (λ address served. handed_high g.A.Links.regions g.A.Links.word g.A.Allocator.zeros g.A.Links.follows c.args.self.now c.memalign.new.self c.args.size c.args.align address c.if-align-le-LEAST_ALIGN.false g.A.Links.follows_on served)
+    c.memalign.ensures.served

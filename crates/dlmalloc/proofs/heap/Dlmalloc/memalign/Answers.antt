@@ -1,0 +1,38 @@
+use Rattle.std.proofs.Common.{ℕ, ◌+◌, ◌≤◌, refl, subst, arith, rules}
+use Rattle.dlmalloc_chunks.specs.Request.{limit}
+use Rattle.dlmalloc.specs.Served.{IsRefusedWith}
+use Rattle.dlmalloc.proofs.AlignedRequests.{limit_small, enlarged_is, too_large, IsAligned, served_aligned}
+use Rattle.dlmalloc.proofs.heap.Dlmalloc.memalign.Goals.{then-size-limit-via-then-size-limit, then-size-limit-via-else-size-limit+then-align-limit}
+use Rattle.dlmalloc.proofs.heap.Dlmalloc.memalign.Goals as goal
+
+pub returns-then-size-limit-clause-refused : goal.returns-then-size-limit-clause-refused
+returns-then-size-limit-clause-refused g c =
+    let more : c.max_request-limit.result ≤ c.args.size + c.args.align = elim c.then-size-limit.branch [
+      | then-size-limit-via-then-size-limit w ↦ (let t = w.if-size-limit.true in omega arith)
+      | then-size-limit-via-else-size-limit+then-align-limit w ↦ (let t = w.if-align-limit.true in omega arith)
+    ] in
+    record {
+      refused = too_large (limit c.args.self.now.granularity) c.args.size c.args.align (subst (λ (bound : ℕ). bound ≤ c.args.size + c.args.align) c.max_request-limit.ensures.is more);
+      same = record { followed = search rules; refused = search rules; state = refl; sound = c.requires.sound; regions_same = refl; words = λ k is. refl };
+    }
+
+pub overflow_add-n-2 : goal.overflow_add-n-2
+overflow_add-n-2 g c =
+    let small = limit_small c.args.self.now.granularity c.requires.sound.granularity.1 in
+    let bound = c.max_request-limit.ensures.is in
+    let near = c.request2size-n.ensures.near in
+    let less = c.if-align-limit.false in omega arith
+
+pub returns-in-Ok-clause-served : goal.returns-in-Ok-clause-served
+returns-in-Ok-clause-served g c =
+    let e = c.align_block.ensures in
+    let n = c.request2size-n.ensures in
+    let left : IsAligned g.A.Links.regions g.A.Links.word g.A.Links.follows c.c_malloc.new.self c.in-Ok.block c.args.align c.request2size-n.result c.align_block.result c.align_block.new.self =
+    record { place = e.place; multiple = e.multiple; state = e.state; held = e.held; others = e.others; kept = e.kept; words = e.words; sound = e.sound; regions_same = e.regions; followed = e.follows } in
+    served_aligned g.A.Links.regions g.A.Links.word g.A.Allocator.zeros g.A.Links.follows c.args.self.now c.c_malloc.new.self c.align_block.new.self c.args.size c.args.align c.request2size-n.result c.in-Ok.block c.align_block.result
+    n.is n.holds n.near c.in-Ok.ensures.served left
+
+pub returns-in-Err-clause-refused : goal.returns-in-Err-clause-refused
+returns-in-Err-clause-refused g c =
+    subst (λ (m : ℕ). IsRefusedWith g.A.Links.regions g.A.Links.word g.A.Links.follows g.A.Allocator.refuses g.A.Allocator.denies c.args.self.now m c.in-Err.error c.c_malloc.new.self)
+    (enlarged_is c.args.size c.args.align c.request2size-n.result c.request2size-n.ensures.is) c.in-Err.ensures.refused

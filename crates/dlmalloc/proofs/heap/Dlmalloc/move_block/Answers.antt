@@ -1,0 +1,54 @@
+use Rattle.std.proofs.Common.{◌≡◌, ℕ, ◌+◌, ◌-◌, ◌*◌, ◌≤◌, ◌⊎◌, min, sym, subst, ◌∙◌, ap}
+use Rattle.heap_memory.specs.Words.{AreWordsOf, AreCopied}
+use Rattle.dlmalloc.specs.Written.{words_in}
+use Rattle.dlmalloc.proofs.Elsewhere.{from_words, to_words, words_apart, copied_heap, copied_block, moved_block, moved_contents, moved_kept}
+use Rattle.dlmalloc.proofs.heap.Dlmalloc.move_block.Goals as goal
+
+pub copy_counted-requires-clause-from : goal.copy_counted-requires-clause-from
+copy_counted-requires-clause-from g c =
+    let count = c.words_in.ensures ∙ ap words_in c.min.ensures in
+    subst (λ (n : ℕ). AreWordsOf (g.A.Links.regions c.malloc.new.self.system) c.args.ptr n) (sym count) (from_words g.A.Links.regions g.A.Links.word g.A.Allocator.zeros g.A.Links.follows c.args.self.now c.args.ptr c.args.held c.args.align c.args.size c.in-Ok.address c.requires.block.0 c.requires.sound c.requires.block.1 c.requires.held c.malloc.new.self c.in-Ok.ensures.served)
+
+pub copy_counted-requires-clause-to : goal.copy_counted-requires-clause-to
+copy_counted-requires-clause-to g c =
+    let count = c.words_in.ensures ∙ ap words_in c.min.ensures in
+    subst (λ (n : ℕ). AreWordsOf (g.A.Links.regions c.malloc.new.self.system) c.in-Ok.address n) (sym count) (to_words g.A.Links.regions g.A.Links.word g.A.Allocator.zeros g.A.Links.follows c.args.self.now c.args.ptr c.args.held c.args.align c.args.size c.in-Ok.address c.requires.block.0 c.requires.sound c.requires.block.1 c.requires.held c.malloc.new.self c.in-Ok.ensures.served)
+
+pub copy_counted-requires-clause-apart : goal.copy_counted-requires-clause-apart
+copy_counted-requires-clause-apart g c =
+    let count = c.words_in.ensures ∙ ap words_in c.min.ensures in
+    subst (λ (n : ℕ). (c.args.ptr + 8 * n ≤ c.in-Ok.address) ⊎ (c.in-Ok.address + 8 * n ≤ c.args.ptr)) (sym count) (words_apart g.A.Links.regions g.A.Links.word g.A.Allocator.zeros g.A.Links.follows c.args.self.now c.args.ptr c.args.held c.args.align c.args.size c.in-Ok.address c.requires.block.0 c.requires.sound c.requires.block.1 c.requires.held c.malloc.new.self c.in-Ok.ensures.served)
+
+pub free_block-requires-clause-sound : goal.free_block-requires-clause-sound
+free_block-requires-clause-sound g c =
+    let middle = c.malloc.new.self in
+    let system = c.copy_counted.new.self in
+    let count = c.words_in.ensures ∙ ap words_in c.min.ensures in
+    let copied = subst (λ (n : ℕ). AreCopied (g.A.Links.regions middle.system) (g.A.Links.word middle.system) c.args.ptr c.in-Ok.address n (g.A.Links.word system)) count c.copy_counted.ensures.copied in
+    (copied_heap g.A.Links.regions g.A.Links.word g.A.Allocator.zeros g.A.Links.follows c.args.self.now c.args.ptr c.args.held c.args.align c.args.size c.in-Ok.address c.requires.block.0 c.requires.sound c.requires.block.1 c.requires.held c.malloc.new.self c.in-Ok.ensures.served system c.copy_counted.ensures.regions c.copy_counted.ensures.follows copied).sound
+
+pub free_block-requires-clause-block : goal.free_block-requires-clause-block
+free_block-requires-clause-block g c =
+    let middle = c.malloc.new.self in
+    let system = c.copy_counted.new.self in
+    let count = c.words_in.ensures ∙ ap words_in c.min.ensures in
+    let copied = subst (λ (n : ℕ). AreCopied (g.A.Links.regions middle.system) (g.A.Links.word middle.system) c.args.ptr c.in-Ok.address n (g.A.Links.word system)) count c.copy_counted.ensures.copied in
+    (c.requires.block.1.extent.size - 8, copied_block g.A.Links.regions g.A.Links.word g.A.Allocator.zeros g.A.Links.follows c.args.self.now c.args.ptr c.args.held c.args.align c.args.size c.in-Ok.address c.requires.block.0 c.requires.sound c.requires.block.1 c.requires.held c.malloc.new.self c.in-Ok.ensures.served system c.copy_counted.ensures.regions c.copy_counted.ensures.follows copied)
+
+pub returns-in-Ok-clause-elsewhere : goal.returns-in-Ok-clause-elsewhere
+returns-in-Ok-clause-elsewhere g c =
+    let middle = c.malloc.new.self in
+    let system = c.copy_counted.new.self in
+    let count = c.words_in.ensures ∙ ap words_in c.min.ensures in
+    let copied = subst (λ (n : ℕ). AreCopied (g.A.Links.regions middle.system) (g.A.Links.word middle.system) c.args.ptr c.in-Ok.address n (g.A.Links.word system)) count c.copy_counted.ensures.copied in
+    record {
+      middle = middle;
+      served = c.in-Ok.ensures.served;
+      filled = record middle { system = system };
+      copied = copied;
+      same = copied_heap g.A.Links.regions g.A.Links.word g.A.Allocator.zeros g.A.Links.follows c.args.self.now c.args.ptr c.args.held c.args.align c.args.size c.in-Ok.address c.requires.block.0 c.requires.sound c.requires.block.1 c.requires.held c.malloc.new.self c.in-Ok.ensures.served system c.copy_counted.ensures.regions c.copy_counted.ensures.follows copied;
+      freed = c.free_block.ensures.freed;
+      block = moved_block g.A.Links.regions g.A.Links.word g.A.Allocator.zeros g.A.Links.follows c.args.self.now c.args.ptr c.args.held c.args.align c.args.size c.in-Ok.address c.requires.block.0 c.requires.sound c.requires.block.1 c.requires.held c.malloc.new.self c.in-Ok.ensures.served system c.copy_counted.ensures.regions c.copy_counted.ensures.follows copied c.free_block.new.self c.free_block.ensures.freed;
+      contents = moved_contents g.A.Links.regions g.A.Links.word g.A.Allocator.zeros g.A.Links.follows c.args.self.now c.args.ptr c.args.held c.args.align c.args.size c.in-Ok.address c.requires.block.0 c.requires.sound c.requires.block.1 c.requires.held c.malloc.new.self c.in-Ok.ensures.served system c.copy_counted.ensures.regions c.copy_counted.ensures.follows copied c.free_block.new.self c.free_block.ensures.freed;
+      kept = moved_kept g.A.Links.regions g.A.Links.word g.A.Allocator.zeros g.A.Links.follows c.args.self.now c.args.ptr c.args.held c.args.align c.args.size c.in-Ok.address c.requires.block.0 c.requires.sound c.requires.block.1 c.requires.held c.malloc.new.self c.in-Ok.ensures.served system c.copy_counted.ensures.regions c.copy_counted.ensures.follows copied c.free_block.new.self c.free_block.ensures.freed;
+    }

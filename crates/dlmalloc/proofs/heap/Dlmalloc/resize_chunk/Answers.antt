@@ -1,0 +1,98 @@
+use Rattle.std.proofs.Common.{◌≡◌, ℕ, ◌+◌, ◌-◌, ◌<◌, ◌≤◌, true, false, nat_le, nat_lt, Some, sym, ◌∙◌, ap, arith}
+use Rattle.std.proofs.lemmas.Bool.Decides.{nat_tests}
+use Rattle.dlmalloc_chunks.specs.declared.extent.Kind.TheVariants.{Free, Top}
+use Rattle.dlmalloc.specs.Heap.{state_of}
+use Rattle.dlmalloc.proofs.Places.{extent}
+use Rattle.dlmalloc.proofs.Answering.{head_there, behind_there, behind_small}
+use Rattle.dlmalloc.proofs.Resizing.{shrinks, stays, grows, has_no_room, not_free, is_free_told, chunk_told, top_behind, free_behind, used_behind}
+use Rattle.dlmalloc.proofs.heap.Dlmalloc.resize_chunk.Goals as goal
+
+pub size-size-requires : goal.size-size-requires
+size-size-requires g c = record { head = head_there g.A.Links.regions g.A.Links.word c.args.self.now c.requires.sound c.args.at c.requires.chunk.0 c.requires.chunk.1 }
+
+pub free_tail-requires-clause-chunk : goal.free_tail-requires-clause-chunk
+free_tail-requires-clause-chunk g c = chunk_told g.A.Links.regions g.A.Links.word c.args.self.now c.requires.sound c.args.at c.requires.chunk.0 c.requires.chunk.1 c.size-size.result c.size-size.ensures.value
+
+pub returns-then-size-n-ge-LEAST_CHUNK-clause-resized : goal.returns-then-size-n-ge-LEAST_CHUNK-clause-resized
+returns-then-size-n-ge-LEAST_CHUNK-clause-resized g c =
+    let there = chunk_told g.A.Links.regions g.A.Links.word c.args.self.now c.requires.sound c.args.at c.requires.chunk.0 c.requires.chunk.1 c.size-size.result c.size-size.ensures.value in
+    let fits = c.if-n-size.true in
+    let rest = c.if-size-n-ge-LEAST_CHUNK.true in
+    λ yes. shrinks (state_of g.A.Links.word c.args.self.now) c.args.at c.size-size.result c.args.n there (omega arith) ∙ ap Some (sym c.free_tail.ensures.state)
+
+pub returns-else-size-n-ge-LEAST_CHUNK-clause-resized : goal.returns-else-size-n-ge-LEAST_CHUNK-clause-resized
+returns-else-size-n-ge-LEAST_CHUNK-clause-resized g c =
+    let there = chunk_told g.A.Links.regions g.A.Links.word c.args.self.now c.requires.sound c.args.at c.requires.chunk.0 c.requires.chunk.1 c.size-size.result c.size-size.ensures.value in
+    let fits = c.if-n-size.true in
+    let few = c.if-size-n-ge-LEAST_CHUNK.false in
+    λ yes. stays (state_of g.A.Links.word c.args.self.now) c.args.at c.size-size.result c.args.n there fits (omega arith)
+
+pub returns-else-size-n-ge-LEAST_CHUNK-clause-held : goal.returns-else-size-n-ge-LEAST_CHUNK-clause-held
+returns-else-size-n-ge-LEAST_CHUNK-clause-held g c =
+    let there = chunk_told g.A.Links.regions g.A.Links.word c.args.self.now c.requires.sound c.args.at c.requires.chunk.0 c.requires.chunk.1 c.size-size.result c.size-size.ensures.value in
+    let fits = c.if-n-size.true in
+    let few = c.if-size-n-ge-LEAST_CHUNK.false in
+    λ yes. (c.size-size.result, there, fits, omega arith)
+
+pub overflow_add-next : goal.overflow_add-next
+overflow_add-next g c =
+    let there = chunk_told g.A.Links.regions g.A.Links.word c.args.self.now c.requires.sound c.args.at c.requires.chunk.0 c.requires.chunk.1 c.size-size.result c.size-size.ensures.value in
+    let small = behind_small g.A.Links.regions g.A.Links.word c.args.self.now c.requires.sound c.args.at c.size-size.result there in grind arith
+
+pub returns-then-more-self-clause-none : goal.returns-then-more-self-clause-none
+returns-then-more-self-clause-none g c =
+    let there = chunk_told g.A.Links.regions g.A.Links.word c.args.self.now c.requires.sound c.args.at c.requires.chunk.0 c.requires.chunk.1 c.size-size.result c.size-size.ensures.value in
+    let more = c.if-n-size.false in
+    let little = c.if-more-self.true in
+    let room : nat_lt c.args.n (c.size-size.result + c.args.self.now.top_size) ≡ false = grind (arith, nat_tests) in
+    λ no. has_no_room (state_of g.A.Links.word c.args.self.now) c.args.at c.size-size.result c.args.n there more (extent (c.args.at + c.size-size.result) c.args.self.now.top_size Top) (top_behind g.A.Links.regions g.A.Links.word c.args.self.now c.requires.sound c.args.at c.size-size.result there c.if-next-self.true) room
+
+pub grow_into_top-requires-clause-chunk : goal.grow_into_top-requires-clause-chunk
+grow_into_top-requires-clause-chunk g c = chunk_told g.A.Links.regions g.A.Links.word c.args.self.now c.requires.sound c.args.at c.requires.chunk.0 c.requires.chunk.1 c.size-size.result c.size-size.ensures.value
+
+pub returns-then-next-self-clause-resized : goal.returns-then-next-self-clause-resized
+returns-then-next-self-clause-resized g c =
+    let there = chunk_told g.A.Links.regions g.A.Links.word c.args.self.now c.requires.sound c.args.at c.requires.chunk.0 c.requires.chunk.1 c.size-size.result c.size-size.ensures.value in
+    let more = c.if-n-size.false in
+    let much = c.if-more-self.false in
+    let room : nat_lt c.args.n (c.size-size.result + c.args.self.now.top_size) ≡ true = grind (arith, nat_tests) in
+    λ yes. grows (state_of g.A.Links.word c.args.self.now) c.args.at c.size-size.result c.args.n there more (extent (c.args.at + c.size-size.result) c.args.self.now.top_size Top) (top_behind g.A.Links.regions g.A.Links.word c.args.self.now c.requires.sound c.args.at c.size-size.result there c.if-next-self.true) room ∙ ap Some (sym c.grow_into_top.ensures.state)
+
+pub inuse-requires : goal.inuse-requires
+inuse-requires g c =
+    let there = chunk_told g.A.Links.regions g.A.Links.word c.args.self.now c.requires.sound c.args.at c.requires.chunk.0 c.requires.chunk.1 c.size-size.result c.size-size.ensures.value in
+    record { head = behind_there g.A.Links.regions g.A.Links.word c.args.self.now c.requires.sound c.args.at c.size-size.result there }
+
+pub returns-then-inuse-clause-none : goal.returns-then-inuse-clause-none
+returns-then-inuse-clause-none g c =
+    let there = chunk_told g.A.Links.regions g.A.Links.word c.args.self.now c.requires.sound c.args.at c.requires.chunk.0 c.requires.chunk.1 c.size-size.result c.size-size.ensures.value in
+    λ no. used_behind g.A.Links.regions g.A.Links.word c.args.self.now c.requires.sound c.args.at c.size-size.result there c.if-next-self.false c.args.n c.if-n-size.false (not_free _ (sym c.inuse.ensures.value ∙ c.if-inuse.true))
+
+pub size-free-requires : goal.size-free-requires
+size-free-requires g c =
+    let there = chunk_told g.A.Links.regions g.A.Links.word c.args.self.now c.requires.sound c.args.at c.requires.chunk.0 c.requires.chunk.1 c.size-size.result c.size-size.ensures.value in
+    record { head = behind_there g.A.Links.regions g.A.Links.word c.args.self.now c.requires.sound c.args.at c.size-size.result there }
+
+pub returns-then-free-more-clause-none : goal.returns-then-free-more-clause-none
+returns-then-free-more-clause-none g c =
+    let there = chunk_told g.A.Links.regions g.A.Links.word c.args.self.now c.requires.sound c.args.at c.requires.chunk.0 c.requires.chunk.1 c.size-size.result c.size-size.ensures.value in
+    let more = c.if-n-size.false in
+    let little = c.if-free-more.true in
+    let room : nat_le c.args.n (c.size-size.result + c.size-free.result) ≡ false = grind (arith, nat_tests) in
+    λ no. has_no_room (state_of g.A.Links.word c.args.self.now) c.args.at c.size-size.result c.args.n there more (extent (c.args.at + c.size-size.result) c.size-free.result Free) (free_behind g.A.Links.regions g.A.Links.word c.args.self.now c.requires.sound c.args.at c.size-size.result there c.if-next-self.false (is_free_told _ (sym c.inuse.ensures.value ∙ c.if-inuse.false)) c.size-free.result c.size-free.ensures.value) room
+
+pub grow_into_free-requires-clause-chunk : goal.grow_into_free-requires-clause-chunk
+grow_into_free-requires-clause-chunk g c = chunk_told g.A.Links.regions g.A.Links.word c.args.self.now c.requires.sound c.args.at c.requires.chunk.0 c.requires.chunk.1 c.size-size.result c.size-size.ensures.value
+
+pub grow_into_free-requires-clause-next : goal.grow_into_free-requires-clause-next
+grow_into_free-requires-clause-next g c =
+    let there = chunk_told g.A.Links.regions g.A.Links.word c.args.self.now c.requires.sound c.args.at c.requires.chunk.0 c.requires.chunk.1 c.size-size.result c.size-size.ensures.value in
+    free_behind g.A.Links.regions g.A.Links.word c.args.self.now c.requires.sound c.args.at c.size-size.result there c.if-next-self.false (is_free_told _ (sym c.inuse.ensures.value ∙ c.if-inuse.false)) c.size-free.result c.size-free.ensures.value
+
+pub returns-clause-resized : goal.returns-clause-resized
+returns-clause-resized g c =
+    let there = chunk_told g.A.Links.regions g.A.Links.word c.args.self.now c.requires.sound c.args.at c.requires.chunk.0 c.requires.chunk.1 c.size-size.result c.size-size.ensures.value in
+    let more = c.if-n-size.false in
+    let much = c.if-free-more.false in
+    let room : nat_le c.args.n (c.size-size.result + c.size-free.result) ≡ true = grind (arith, nat_tests) in
+    λ yes. grows (state_of g.A.Links.word c.args.self.now) c.args.at c.size-size.result c.args.n there more (extent (c.args.at + c.size-size.result) c.size-free.result Free) (free_behind g.A.Links.regions g.A.Links.word c.args.self.now c.requires.sound c.args.at c.size-size.result there c.if-next-self.false (is_free_told _ (sym c.inuse.ensures.value ∙ c.if-inuse.false)) c.size-free.result c.size-free.ensures.value) room ∙ ap Some (sym c.grow_into_free.ensures.state)

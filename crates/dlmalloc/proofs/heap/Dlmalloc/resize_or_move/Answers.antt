@@ -1,0 +1,32 @@
+use Rattle.std.proofs.Common.{◌≡◌, ℕ, ◌+◌, ◌-◌, ◌<◌, ◌≤◌, inl, Some, refl, subst, arith}
+use Rattle.dlmalloc_chunks.specs.Request.{limit}
+use Rattle.dlmalloc.specs.Resized.{in_place}
+use Rattle.dlmalloc.specs.Heap.{state_of}
+use Rattle.dlmalloc.proofs.Elsewhere.{chunk_there, stays_there}
+use Rattle.dlmalloc.proofs.heap.Dlmalloc.resize_or_move.Goals as goal
+
+pub resize_chunk-requires-clause-chunk : goal.resize_chunk-requires-clause-chunk
+resize_chunk-requires-clause-chunk g c =
+    (c.requires.block.1.extent.size, chunk_there (state_of g.A.Links.word c.args.self.now) c.args.ptr c.requires.block.0 c.requires.block.1)
+
+pub returns-then-resize_chunk-clause-resized : goal.returns-then-resize_chunk-clause-resized
+returns-then-resize_chunk-clause-resized g c =
+    let old = c.args.self.now in
+    let new = c.resize_chunk.new.self in
+    let request = c.request2size.ensures in
+    let done = c.resize_chunk.ensures in
+    let held = done.held c.if-resize_chunk.true in
+    let small : c.args.size < limit old.granularity = (let less = c.if-size-max_request.false in let is = c.max_request.ensures.is in omega arith) in
+    inl (
+      c.requires.least,
+      refl,
+      stays_there g.A.Links.regions g.A.Links.word g.A.Links.follows old new c.args.ptr c.requires.block.0 c.args.held c.args.size held.0 c.requires.sound c.requires.block.1 small
+          (subst (λ (n : ℕ). c.args.size + 8 ≤ n) request.is request.holds)
+          (subst (λ (n : ℕ). n ≤ c.args.size + 32) request.is request.near)
+          (subst (λ (n : ℕ). n ≤ held.0) request.is held.2)
+          (subst (λ (n : ℕ). held.0 < n + 32) request.is held.3)
+          (subst (λ (n : ℕ). in_place (state_of g.A.Links.word old) (c.args.ptr - 16) n ≡ Some (state_of g.A.Links.word new)) request.is (done.resized c.if-resize_chunk.true))
+          held.1
+          done.others
+          done.moved,
+    )

@@ -1,0 +1,46 @@
+// What a block holds when it is handed out.
+ghost use Rattle.std.specs.Prelude.{◌≡◌, ◌+◌, ◌*◌, ◌≤◌, IfOk, IfErr};
+ghost use Rattle.std.specs.Int.{IsPowerOfTwo};
+ghost use Rattle.dlmalloc.specs.Heap.{IsSound};
+ghost use Rattle.dlmalloc.specs.Served.{IsRefusedWith};
+ghost use Rattle.dlmalloc.specs.Requested.{asked, IsHandedOut};
+ghost use Rattle.dlmalloc.specs.Written.{words_in, IsServedCleared};
+
+use crate::heap::Dlmalloc;
+use crate::malloc_error::MallocError;
+use heap_memory::Allocator;
+use std::sync::ledger::Ledger;
+use step_count::Steps;
+
+/// The number of words that hold `n` bytes.
+pub(crate) fn words_in(n: u64) -> u64
+    ensures { result ≡ words_in n }
+{
+    n.div_ceil(8)
+}
+
+impl<A: Allocator> Dlmalloc<A> {
+    /// Asks for a block of `size` bytes at a multiple of `align`, clears it, and answers its address (dlmalloc:
+    /// `Dlmalloc::calloc`). The words that hold the bytes asked for are cleared, and no others.
+    pub fn calloc<L: Ledger>(
+        &mut self,
+        size: u64,
+        align: u64,
+        steps: &mut Steps<L>,
+    ) -> Result<u64, MallocError>
+        requires sound { IsSound A.regions A.word self.old }
+        requires align { IsPowerOfTwo align }
+        ensures handed { IfOk result (λ address. IsHandedOut A.regions A.word A.follows self.old size align address self.new) }
+        ensures served { IfOk result (λ address. IsServedCleared A.regions A.word A.zeros A.follows self.old size align address self.new) }
+        ensures refused { IfErr result (λ error. IsRefusedWith A.regions A.word A.follows A.refuses A.denies self.old (asked size align) error self.new) }
+        ensures sound { IsSound A.regions A.word self.new }
+    {
+        match self.malloc(size, align, steps) {
+            Ok(address) => {
+                self.system.fill_counted(address, words_in(size), 0, steps);
+                Ok(address)
+            }
+            Err(error) => Err(error),
+        }
+    }
+}

@@ -1,0 +1,142 @@
+// Blocks at alignments above 16.
+ghost use Rattle.std.specs.Prelude.{◌≡◌, ◌≢◌, ℕ, ◌+◌, ◌-◌, ◌%◌, ◌^◌, ◌<◌, ◌≤◌, ◌⊎◌, [], Some, IfOk, IfErr};
+ghost use Rattle.std.specs.Int.{IsPowerOfTwo};
+ghost use Rattle.heap_memory.specs.Regions.{IsWordOf};
+ghost use Rattle.dlmalloc_chunks.specs.Request.{enlarged};
+ghost use Rattle.dlmalloc_chunks.specs.declared.extent.Kind.TheVariants.{Used};
+ghost use Rattle.dlmalloc.specs.Extents.{extent_at};
+ghost use Rattle.dlmalloc.specs.State.{extents_in};
+ghost use Rattle.dlmalloc.specs.Blocks.{IsBlock};
+ghost use Rattle.dlmalloc.specs.Boundaries.{IsBoundary};
+ghost use Rattle.dlmalloc.specs.Resized.{HasSameOthers};
+ghost use Rattle.dlmalloc.specs.Aligned.{aligned_place, lead_freed, tail_cut, aligned, HasOneMoved, KeepsOthers};
+ghost use Rattle.dlmalloc.specs.Heap.{state_of, IsSound};
+ghost use Rattle.dlmalloc.specs.Served.{IsMoved, IsRefusedWith};
+ghost use Rattle.dlmalloc.specs.Requested.{IsPassedOver, IsServedAligned};
+
+use crate::heap::Dlmalloc;
+use crate::layout::{BLOCK, LEAST_CHUNK};
+use crate::malloc_error::MallocError;
+use dlmalloc_chunks::{chunk, max_request, request2size};
+use heap_memory::Allocator;
+use std::sync::ledger::Ledger;
+use step_count::Steps;
+
+/// What is asked for beside the chunk and the alignment, so that an aligned place with no short lead is in it.
+const ALIGNED_OVERHEAD: u64 = 24;
+
+/// Where a chunk begins whose block is aligned, in a chunk at an address: there, where that one's block is; else before
+/// the first aligned place that leaves more than 32 bytes before it.
+fn aligned_place(at: u64, align: u64) -> u64
+    requires align { IsPowerOfTwo align × (16 < align) }
+    requires small { at + align + 64 < 2 ^ 64 }
+    requires whole { at % 16 ≡ 0 }
+    ensures place { result ≡ aligned_place at align }
+{
+    let block = at + BLOCK;
+    if block % align == 0 {
+        return at;
+    }
+    let first = (block + (align - 1)) / align * align;
+    if first <= block + LEAST_CHUNK {
+        first + align - BLOCK
+    } else {
+        first - BLOCK
+    }
+}
+
+impl<A: Allocator> Dlmalloc<A> {
+    /// Asks for a block at a multiple of an alignment above 16 (dlmalloc: `memalign`): a greater one is found, and what
+    /// is before the aligned place in it, and behind the block there, is freed.
+    pub(crate) fn memalign<L: Ledger>(
+        &mut self,
+        size: u64,
+        align: u64,
+        steps: &mut Steps<L>,
+    ) -> Result<u64, MallocError>
+        requires sound { IsSound A.regions A.word self.old }
+        requires align { IsPowerOfTwo align × (16 < align) }
+        ensures served { IfOk result (λ address. IsServedAligned A.regions A.word A.zeros A.follows self.old size align address self.new) }
+        ensures refused { IfErr result (λ error. IsRefusedWith A.regions A.word A.follows A.refuses A.denies self.old (enlarged size align) error self.new) }
+        ensures sound { IsSound A.regions A.word self.new }
+    {
+        // The sum is not formed where it would wrap: the enlarged form is greater still.
+        let limit = max_request(self.granularity);
+        if size >= limit || align >= limit - size {
+            return Err(MallocError::TooLarge);
+        }
+        let n = request2size(size);
+        match self.c_malloc(n + align + ALIGNED_OVERHEAD, steps) {
+            Ok(block) => Ok(self.align_block(block, align, n, steps) + BLOCK),
+            Err(error) => Err(error),
+        }
+    }
+
+    /// Frees what is before the aligned place in the chunk of a block, and what is behind `n` bytes there, and answers
+    /// where they begin.
+    fn align_block<L: Ledger>(&mut self, ptr: u64, align: u64, n: u64, steps: &mut Steps<L>) -> u64
+        requires sound { IsSound A.regions A.word self.old }
+        requires align { IsPowerOfTwo align × (16 < align) }
+        requires block { IsBlock (state_of A.word self.old) ptr (n + align + 24) }
+        requires whole { n % 16 ≡ 0 }
+        requires least { 32 ≤ n }
+        ensures place { result ≡ aligned_place (ptr - 16) align }
+        ensures multiple { (result + 16) % align ≡ 0 }
+        ensures small { result + 16 < 2 ^ 64 }
+        ensures state { state_of A.word self.new ≡ aligned (state_of A.word self.old) (ptr - 16) align n }
+        ensures held { (size : ℕ) × (extent_at result (extents_in (state_of A.word self.new)) ≡ Some (record { at = result; size = size; kind = Used })) × (n ≤ size) × (size ≤ n + 32) }
+        ensures others { HasOneMoved (state_of A.word self.old) (state_of A.word self.new) (ptr - 16) result }
+        ensures kept { KeepsOthers (state_of A.word self.old) (ptr - 16) (A.word self.old.system) (A.word self.new.system) }
+        ensures words { (k : ℕ) → IsWordOf (A.regions self.old.system) k → IsPassedOver (state_of A.word self.old) (lead_freed (state_of A.word self.old) (ptr - 16) result) (state_of A.word self.new) k → A.word self.new.system k ≡ A.word self.old.system k }
+        ensures sound { IsSound A.regions A.word self.new }
+        ensures regions { A.regions self.new.system ≡ A.regions self.old.system }
+        ensures follows { A.follows self.old.system [] self.new.system }
+    {
+        let at = ptr - BLOCK;
+        let size = chunk::size(&self.system, at, steps);
+        let place = aligned_place(at, align);
+        self.free_before(at, size, place, steps);
+        self.free_behind(place, size - (place - at), n, steps);
+        place
+    }
+
+    /// Frees what is before a place in a chunk in use.
+    fn free_before<L: Ledger>(&mut self, at: u64, size: u64, place: u64, steps: &mut Steps<L>)
+        requires sound { IsSound A.regions A.word self.old }
+        requires chunk { extent_at at (extents_in (state_of A.word self.old)) ≡ Some (record { at = at; size = size; kind = Used }) }
+        requires lead { (place ≡ at) ⊎ (at + 32 ≤ place) }
+        requires whole { (place - at) % 16 ≡ 0 }
+        requires room { place - at + 32 ≤ size }
+        ensures state { state_of A.word self.new ≡ lead_freed (state_of A.word self.old) at place }
+        ensures chunk { extent_at place (extents_in (state_of A.word self.new)) ≡ Some (record { at = place; size = size - (place - at); kind = Used }) }
+        ensures others { HasOneMoved (state_of A.word self.old) (state_of A.word self.new) at place }
+        ensures kept { KeepsOthers (state_of A.word self.old) at (A.word self.old.system) (A.word self.new.system) }
+        ensures words { (k : ℕ) → IsWordOf (A.regions self.old.system) k → (IsBoundary (state_of A.word self.old) k → ⊥) → (IsBoundary (state_of A.word self.new) k → ⊥) → A.word self.new.system k ≡ A.word self.old.system k }
+        ensures sound { IsSound A.regions A.word self.new }
+        ensures regions { A.regions self.new.system ≡ A.regions self.old.system }
+        ensures follows { A.follows self.old.system [] self.new.system }
+    {
+        if place == at {
+            return;
+        }
+        self.free_lead(at, size, place - at, steps);
+    }
+
+    /// Frees what is behind the first `n` bytes of a chunk in use, where it is more than 32 bytes.
+    fn free_behind<L: Ledger>(&mut self, at: u64, size: u64, n: u64, steps: &mut Steps<L>)
+        requires sound { IsSound A.regions A.word self.old }
+        requires chunk { extent_at at (extents_in (state_of A.word self.old)) ≡ Some (record { at = at; size = size; kind = Used }) }
+        requires whole { n % 16 ≡ 0 }
+        requires least { 32 ≤ n }
+        requires room { n ≤ size }
+        ensures state { state_of A.word self.new ≡ tail_cut (state_of A.word self.old) at n }
+        ensures held { (rest : ℕ) × (extent_at at (extents_in (state_of A.word self.new)) ≡ Some (record { at = at; size = rest; kind = Used })) × (n ≤ rest) × (rest ≤ n + 32) }
+        ensures others { HasSameOthers (state_of A.word self.old) (state_of A.word self.new) at at }
+        ensures moved { IsMoved A.regions A.word A.follows self.old self.new }
+    {
+        if size - n <= LEAST_CHUNK {
+            return;
+        }
+        self.free_tail(at, size, n, steps);
+    }
+}

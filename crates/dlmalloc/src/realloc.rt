@@ -1,0 +1,136 @@
+// Blocks that get another size.
+ghost use Rattle.std.specs.Prelude.{◌≡◌, ◌≢◌, ℕ, ◌+◌, ◌-◌, ◌%◌, ◌<◌, ◌≤◌, None, Some, IfOk, IfErr, IfSome, IfNone, ◌==◌};
+ghost use Rattle.std.specs.Int.{IsPowerOfTwo};
+ghost use Rattle.dlmalloc_chunks.specs.Request.{padded};
+ghost use Rattle.dlmalloc.specs.Extents.{extent_at};
+ghost use Rattle.dlmalloc.specs.State.{extents_in, size_where};
+ghost use Rattle.dlmalloc.specs.Blocks.{IsBlock};
+ghost use Rattle.dlmalloc.specs.Resized.{in_place};
+ghost use Rattle.dlmalloc.specs.Heap.{state_of, IsSound};
+ghost use Rattle.dlmalloc.specs.Served.{IsServed, IsRefusedWith};
+ghost use Rattle.dlmalloc.specs.Requested.{asked, IsServedAt};
+ghost use Rattle.dlmalloc.specs.Moved.{IsElsewhere, IsResized, IsGivenSize};
+
+use crate::contents::words_in;
+use crate::heap::Dlmalloc;
+use crate::layout::{BLOCK, HEAD, LEAST_ALIGN};
+use crate::malloc_error::MallocError;
+use dlmalloc_chunks::{chunk, max_request, request2size};
+use heap_memory::{Allocator, Links};
+use std::sync::ledger::Ledger;
+use step_count::Steps;
+
+impl<A: Allocator> Dlmalloc<A> {
+    /// Gives a block another size, and answers where it is then. It keeps its alignment, and as many of its bytes as both
+    /// sizes have. Up to alignment 16 it stays where it is, where that can be; else it is handed out anew, its words are
+    /// copied, and the old one is freed (dlmalloc: `Dlmalloc::realloc`).
+    pub fn realloc<L: Ledger>(
+        &mut self,
+        ptr: u64,
+        old_size: u64,
+        old_align: u64,
+        new_size: u64,
+        steps: &mut Steps<L>,
+    ) -> Result<u64, MallocError>
+        requires sound { IsSound A.regions A.word self.old }
+        requires align { IsPowerOfTwo old_align }
+        requires block { IsBlock (state_of A.word self.old) ptr old_size }
+        ensures resized { IfOk result (λ address. IsResized A.regions A.word A.zeros A.follows self.old ptr old_size old_align new_size address self.new) }
+        ensures given { IfOk result (λ address. IsGivenSize A.regions A.word A.follows self.old ptr old_size old_align new_size address self.new) }
+        ensures refused { IfErr result (λ error. IsRefusedWith A.regions A.word A.follows A.refuses A.denies self.old (asked new_size old_align) error self.new) }
+        ensures tried { IfErr result (λ error. error ≢ MallocError.TooLarge → old_align ≤ 16 → in_place (state_of A.word self.old) (ptr - 16) (padded new_size) ≡ None) }
+        ensures sound { IsSound A.regions A.word self.new }
+    {
+        if old_align <= LEAST_ALIGN {
+            self.resize_or_move(ptr, old_size, old_align, new_size, steps)
+        } else {
+            self.move_block(ptr, old_size, old_align, new_size, steps)
+        }
+    }
+
+    /// Gives a block another size, whatever its alignment: where it is, where that can be; else at a multiple of 16, with
+    /// as many of its bytes as its chunk holds and the new size has. Without a block it is `c_malloc` (dlmalloc:
+    /// `c_realloc`).
+    pub fn c_realloc<L: Ledger>(
+        &mut self,
+        ptr: Option<u64>,
+        new_size: u64,
+        steps: &mut Steps<L>,
+    ) -> Result<u64, MallocError>
+        requires sound { IsSound A.regions A.word self.old }
+        requires block { IfSome ptr (λ address. (size : ℕ) × IsBlock (state_of A.word self.old) address size) }
+        ensures resized { IfOk result (λ address. IfSome ptr (λ from.
+            IsResized A.regions A.word A.zeros A.follows self.old from (size_where (λ extent. extent.at == from - 16) (extents_in (state_of A.word self.old)) - 8) 16 new_size address self.new)) }
+        ensures given { IfOk result (λ address. IfSome ptr (λ from.
+            IsGivenSize A.regions A.word A.follows self.old from (size_where (λ extent. extent.at == from - 16) (extents_in (state_of A.word self.old)) - 8) 16 new_size address self.new)) }
+        ensures served { IfOk result (λ address. IfNone ptr (IsServed A.regions A.word A.zeros A.follows self.old new_size address self.new)) }
+        ensures refused { IfErr result (λ error. IsRefusedWith A.regions A.word A.follows A.refuses A.denies self.old new_size error self.new) }
+        ensures tried { IfErr result (λ error. error ≢ MallocError.TooLarge → IfSome ptr (λ from. in_place (state_of A.word self.old) (from - 16) (padded new_size) ≡ None)) }
+        ensures sound { IsSound A.regions A.word self.new }
+    {
+        match ptr {
+            None => self.c_malloc(new_size, steps),
+            Some(address) => {
+                let size = chunk::size(&self.system, address - BLOCK, steps);
+                self.resize_or_move(address, size - HEAD, LEAST_ALIGN, new_size, steps)
+            }
+        }
+    }
+
+    /// Gives a block another size where it stands, where that can be; else as `move_block`. The alignment is at most 16.
+    fn resize_or_move<L: Ledger>(
+        &mut self,
+        ptr: u64,
+        held: u64,
+        align: u64,
+        size: u64,
+        steps: &mut Steps<L>,
+    ) -> Result<u64, MallocError>
+        requires sound { IsSound A.regions A.word self.old }
+        requires align { IsPowerOfTwo align }
+        requires least { align ≤ 16 }
+        requires block { (n : ℕ) × IsBlock (state_of A.word self.old) ptr n }
+        requires held { held + 8 ≤ size_where (λ extent. extent.at == ptr - 16) (extents_in (state_of A.word self.old)) }
+        ensures resized { IfOk result (λ address. IsResized A.regions A.word A.zeros A.follows self.old ptr held align size address self.new) }
+        ensures refused { IfErr result (λ error. IsRefusedWith A.regions A.word A.follows A.refuses A.denies self.old (asked size align) error self.new) }
+        ensures tried { IfErr result (λ error. error ≢ MallocError.TooLarge → in_place (state_of A.word self.old) (ptr - 16) (padded size) ≡ None) }
+        ensures sound { IsSound A.regions A.word self.new }
+    {
+        if size >= max_request(self.granularity) {
+            return Err(MallocError::TooLarge);
+        }
+        if self.resize_chunk(ptr - BLOCK, request2size(size), steps) {
+            return Ok(ptr);
+        }
+        self.move_block(ptr, held, align, size, steps)
+    }
+
+    /// Hands out a block anew, copies the words that hold the first `held` bytes of another or all of the new one's,
+    /// whichever is less, and frees the other.
+    fn move_block<L: Ledger>(
+        &mut self,
+        ptr: u64,
+        held: u64,
+        align: u64,
+        size: u64,
+        steps: &mut Steps<L>,
+    ) -> Result<u64, MallocError>
+        requires sound { IsSound A.regions A.word self.old }
+        requires align { IsPowerOfTwo align }
+        requires block { (n : ℕ) × IsBlock (state_of A.word self.old) ptr n }
+        requires held { held + 8 ≤ size_where (λ extent. extent.at == ptr - 16) (extents_in (state_of A.word self.old)) }
+        ensures elsewhere { IfOk result (λ address. IsElsewhere A.regions A.word A.zeros A.follows self.old ptr held align size address self.new) }
+        ensures refused { IfErr result (λ error. IsRefusedWith A.regions A.word A.follows A.refuses A.denies self.old (asked size align) error self.new) }
+        ensures sound { IsSound A.regions A.word self.new }
+    {
+        match self.malloc(size, align, steps) {
+            Ok(address) => {
+                self.system
+                    .copy_counted(ptr, address, words_in(held.min(size)), steps);
+                self.free_block(ptr, steps);
+                Ok(address)
+            }
+            Err(error) => Err(error),
+        }
+    }
+}

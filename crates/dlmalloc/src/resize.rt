@@ -1,0 +1,119 @@
+// Resizing a chunk where it stands.
+ghost use Rattle.std.specs.Prelude.{◌≡◌, ◌≢◌, ℕ, ◌+◌, ◌-◌, ◌%◌, ◌<◌, ◌≤◌, true, false, None, Some};
+ghost use Rattle.dlmalloc_chunks.specs.declared.extent.Kind.TheVariants.{Used, Free, Top};
+ghost use Rattle.dlmalloc.specs.Extents.{extent_at};
+ghost use Rattle.dlmalloc.specs.State.{extents_in};
+ghost use Rattle.dlmalloc.specs.Resized.{grown_into, in_place, HasSameOthers};
+ghost use Rattle.dlmalloc.specs.Heap.{state_of, IsSound};
+ghost use Rattle.dlmalloc.specs.Served.{IsMoved};
+
+use crate::heap::Dlmalloc;
+use crate::layout::{HEAD, LEAST_CHUNK, PINUSE};
+use dlmalloc_chunks::chunk;
+use heap_memory::{Allocator, Links};
+use std::sync::ledger::Ledger;
+use step_count::Steps;
+
+impl<A: Allocator> Dlmalloc<A> {
+    /// Gives a chunk in use a size of `n` bytes where it stands: it keeps them where it has them, and else takes in the
+    /// free chunk behind it, where both have room for them (dlmalloc: `try_realloc_chunk`). False, and nothing changed,
+    /// where neither fits.
+    pub(crate) fn resize_chunk<L: Ledger>(&mut self, at: u64, n: u64, steps: &mut Steps<L>) -> bool
+        requires sound { IsSound A.regions A.word self.old }
+        requires chunk { (size : ℕ) × (extent_at at (extents_in (state_of A.word self.old)) ≡ Some (record { at = at; size = size; kind = Used })) }
+        requires whole { n % 16 ≡ 0 }
+        requires least { 32 ≤ n }
+        ensures resized { result ≡ true → in_place (state_of A.word self.old) at n ≡ Some (state_of A.word self.new) }
+        ensures held { result ≡ true → (size : ℕ) × (extent_at at (extents_in (state_of A.word self.new)) ≡ Some (record { at = at; size = size; kind = Used })) × (n ≤ size) × (size < n + 32) }
+        ensures others { HasSameOthers (state_of A.word self.old) (state_of A.word self.new) at at }
+        ensures moved { IsMoved A.regions A.word A.follows self.old self.new }
+        ensures none { result ≡ false → in_place (state_of A.word self.old) at n ≡ None }
+        ensures same { result ≡ false → self.new ≡ self.old }
+    {
+        let size = chunk::size(&self.system, at, steps);
+        if n <= size {
+            if size - n >= LEAST_CHUNK {
+                self.free_tail(at, size, n, steps);
+            }
+            return true;
+        }
+        let next = at + size;
+        let more = n - size;
+        if next == self.top {
+            if more >= self.top_size {
+                return false;
+            }
+            self.grow_into_top(at, size, n, steps);
+            return true;
+        }
+        if chunk::inuse(&self.system, next, steps) {
+            return false;
+        }
+        let free = chunk::size(&self.system, next, steps);
+        if free < more {
+            return false;
+        }
+        self.grow_into_free(at, size, free, n, steps);
+        true
+    }
+
+    /// Takes bytes of the top into the chunk before it. The top keeps a rest.
+    fn grow_into_top<L: Ledger>(&mut self, at: u64, size: u64, n: u64, steps: &mut Steps<L>)
+        requires sound { IsSound A.regions A.word self.old }
+        requires chunk { extent_at at (extents_in (state_of A.word self.old)) ≡ Some (record { at = at; size = size; kind = Used }) }
+        requires next { at + size ≡ self.old.top }
+        requires whole { n % 16 ≡ 0 }
+        requires more { size < n }
+        requires room { n < size + self.old.top_size }
+        ensures state { state_of A.word self.new ≡ grown_into (state_of A.word self.old) (record { at = at; size = size; kind = Used }) (record { at = at + size; size = self.old.top_size; kind = Top }) n }
+        ensures held { extent_at at (extents_in (state_of A.word self.new)) ≡ Some (record { at = at; size = n; kind = Used }) }
+        ensures others { HasSameOthers (state_of A.word self.old) (state_of A.word self.new) at at }
+        ensures moved { IsMoved A.regions A.word A.follows self.old self.new }
+    {
+        self.top = at + n;
+        self.top_size -= n - size;
+        chunk::set_inuse(&mut self.system, at, n, steps);
+        self.system
+            .store_counted(self.top + HEAD, self.top_size + PINUSE, steps);
+    }
+
+    /// Takes bytes of a free chunk into the chunk before it. A rest of less than 32 bytes goes with them; any other stays
+    /// free, and is the victim where the free chunk was.
+    fn grow_into_free<L: Ledger>(
+        &mut self,
+        at: u64,
+        size: u64,
+        free: u64,
+        n: u64,
+        steps: &mut Steps<L>,
+    )
+        requires sound { IsSound A.regions A.word self.old }
+        requires chunk { extent_at at (extents_in (state_of A.word self.old)) ≡ Some (record { at = at; size = size; kind = Used }) }
+        requires next { extent_at (at + size) (extents_in (state_of A.word self.old)) ≡ Some (record { at = at + size; size = free; kind = Free }) }
+        requires whole { n % 16 ≡ 0 }
+        requires more { size < n }
+        requires room { n ≤ size + free }
+        ensures state { state_of A.word self.new ≡ grown_into (state_of A.word self.old) (record { at = at; size = size; kind = Used }) (record { at = at + size; size = free; kind = Free }) n }
+        ensures held { (whole : ℕ) × (extent_at at (extents_in (state_of A.word self.new)) ≡ Some (record { at = at; size = whole; kind = Used })) × (n ≤ whole) × (whole < n + 32) }
+        ensures others { HasSameOthers (state_of A.word self.old) (state_of A.word self.new) at at }
+        ensures moved { IsMoved A.regions A.word A.follows self.old self.new }
+    {
+        let all = size + free;
+        let rest = all - n;
+        let was_victim = at + size == self.victim;
+        if rest < LEAST_CHUNK {
+            chunk::set_inuse(&mut self.system, at, all, steps);
+            if was_victim {
+                self.victim = 0;
+                self.victim_size = 0;
+            }
+        } else {
+            chunk::set_inuse(&mut self.system, at, n, steps);
+            chunk::set_size_and_pinuse_of_free_chunk(&mut self.system, at + n, rest, steps);
+            if was_victim {
+                self.victim = at + n;
+                self.victim_size = rest;
+            }
+        }
+    }
+}
