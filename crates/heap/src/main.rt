@@ -22,10 +22,15 @@ Commands:
   --version    prints the name and the version
 
 Lines:
-  malloc SIZE               asks for a block of SIZE bytes. The answer is
+  malloc SIZE [ALIGN]       asks for a block of SIZE bytes at a multiple of
+                            ALIGN, 16 where none is given. The answer is
                             `block NUMBER ADDRESS`. Where pages were granted,
                             a second line has `heap` and each heap region as
                             ADDRESS+PAGES.
+  calloc SIZE [ALIGN]       asks likewise, for bytes of value 0.
+  realloc BLOCK SIZE        gives the block another size. It keeps its number,
+                            its alignment, and the bytes that both sizes have.
+  c_realloc BLOCK SIZE      does likewise, at a multiple of 16.
   free BLOCK                ends the block of this number. The answer is `done`.
   write BLOCK OFFSET HEX    puts bytes, two hexadecimal digits each, into the
                             block of this number. The answer is `done`.
@@ -34,7 +39,7 @@ Lines:
   extents                   asks for the extents of the heap. The answer is
                             `extents` and each extent as KIND:ADDRESS+SIZE.
 
-A refusal is `refused` and one of too-large, no-space, no-frames,
+A refusal is `refused` and one of bad-align, too-large, no-space, no-frames,
 unknown-block and out-of-block, and changes nothing.
 
 A number is decimal, or 0x and hexadecimal digits, and below 2^64. Words stand

@@ -16,14 +16,6 @@ left_at (first ∷ rest) zero (suc i) block is = ((λ e. absurd (omega arith)), 
 left_at (first ∷ rest) (suc number) zero block is = ((λ e. absurd (omega arith)), is)
 left_at (first ∷ rest) (suc number) (suc i) block is = let later = left_at rest number i block is in ((λ e. later.0 (omega arith)), later.1)
 
--- and what was there under another number is left
-pub stays_at : {A : Type 0} (blocks : List (Option A)) (number i : ℕ) (block : A) → i ≢ number → get_or blocks i None ≡ Some block → get_or (slice_set blocks number None) i None ≡ Some block
-stays_at [] number i block other is = cc
-stays_at (first ∷ rest) zero zero block other is = absurd (other refl)
-stays_at (first ∷ rest) zero (suc i) block other is = is
-stays_at (first ∷ rest) (suc number) zero block other is = is
-stays_at (first ∷ rest) (suc number) (suc i) block other is = stays_at rest number i block (λ e. other (ap suc e)) is
-
 pub outline_left : (blocks : List (Option Block)) (number : ℕ) → map (option_map outline) (without_block blocks number) ≡ slice_set (map (option_map outline) blocks) number None
 outline_left [] number = refl
 outline_left (first ∷ rest) zero = refl

@@ -2,21 +2,21 @@
 use Rattle.std.proofs.Common.{◌≡◌, ◌-◌, ◌^◌, List, [], ◌∷◌, length, refl, ◌*◌, true, false, Some, None, arith}
 use Rattle.heap_model.specs.declared.region.Region.{Region}
 use Rattle.heap_model.specs.declared.config.Config.{Config}
-use Rattle.heap_model.specs.declared.call.Call.TheVariants.{Malloc, Free as Freeing, Read}
+use Rattle.heap_model.specs.declared.call.Call.TheVariants.{Malloc, Calloc, Free as Freeing, Read}
 use Rattle.heap_model.specs.declared.answer.Reply.TheVariants.{Block as Placed, Done, Bytes}
-use Rattle.heap_model.specs.declared.answer.Refusal.TheVariants.{TooLarge}
+use Rattle.heap_model.specs.declared.answer.Refusal.TheVariants.{BadAlign, TooLarge}
 use Rattle.heap_model.specs.declared.answer.Answer.{Answer}
 use Rattle.dlmalloc_chunks.specs.declared.extent.Extent.{Extent}
 use Rattle.dlmalloc_chunks.specs.declared.extent.Kind.TheVariants.{Free, Top, Record, Foot}
 use Rattle.paging_core.specs.Prefix.{prefix_of, prefixes_from, prefixes_of}
-use Rattle.dlmalloc_chunks.specs.Request.{padded, limit}
-use Rattle.heap_model.specs.Request.{enlarged, wanted, pages_in, pages_for}
+use Rattle.dlmalloc_chunks.specs.Request.{padded, enlarged, wanted, limit}
+use Rattle.heap_model.specs.Request.{pages_in, pages_for}
 use Rattle.heap_model.specs.State.{State, start, block_at}
 use Rattle.heap_model.specs.Tables.{missing, with_tables, free_frames}
 use Rattle.heap_model.specs.Place.{place, all_regions}
 use Rattle.heap_model.specs.Room.{heap_region}
 use Rattle.heap_model.specs.Extents.{AreRuns, IsTiling}
-use Rattle.heap_model.specs.Refusal.{must_refuse}
+use Rattle.heap_model.specs.Refusal.{is_too_large, must_refuse}
 use Rattle.heap_model.specs.Answer.{after, IsAllowed}
 
 -- chunks
@@ -194,12 +194,26 @@ no-place-behind = refl
 -- refusals
 
 refused-large : must_refuse (start config) (Malloc 0xFFFFFFFFFFFEFF99 16) ≡ Some TooLarge
-unfolding config limit
+unfolding config limit lib.Count.ones
 refused-large = refl
 
 not-refused : must_refuse (start config) (Malloc 0xFFFFFFFFFFFEFF98 16) ≡ None
-unfolding config limit
+unfolding config limit lib.Count.ones
 not-refused = refl
+
+-- above 16 the alignment counts too, with no sum that wraps
+too-large-aligned : is_too_large 65536 0x7FFFFFFFFFFFFFFF 0x8000000000000000 ≡ true
+unfolding limit enlarged padded
+too-large-aligned = refl
+
+bad-align-0 : must_refuse (start config) (Calloc 8 0) ≡ Some BadAlign
+unfolding config lib.Count.ones
+bad-align-0 = refl
+
+-- before the size is looked at
+bad-align-24 : must_refuse (start config) (Malloc 0xFFFFFFFFFFFFFFFF 24) ≡ Some BadAlign
+unfolding config lib.Count.ones
+bad-align-24 = refl
 
 -- no state allows a read that answers a number that is no byte
 no-byte : (s : State) → IsAllowed s (Read 0 0 1) (record { reply = Bytes (300 ∷ []); regions = None }) → ⊥

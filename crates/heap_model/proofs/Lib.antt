@@ -8,5 +8,6 @@ pub mod Placed
 pub mod Known
 pub mod Moved
 pub mod Ended
+pub mod Resized
 pub mod Written
 pub mod Runs

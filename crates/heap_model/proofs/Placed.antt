@@ -1,7 +1,7 @@
 -- A block is handed out: lists of blocks by number, and the state with one block more.
-use Rattle.std.proofs.Common.{◌≡◌, ℕ, zero, suc, ◌⊎◌, inl, inr, List, [], ◌∷◌, ◌++◌, length, map, get_or, replicate, refl, sym, ap, ◌∙◌, subst, Option, Some, None, option_map}
+use Rattle.std.proofs.Common.{◌≡◌, ℕ, zero, suc, ◌+◌, ◌<◌, ◌⊎◌, inl, inr, List, [], ◌∷◌, ◌++◌, length, map, get_or, replicate, refl, sym, ap, ◌∙◌, subst, arith, Option, Some, None, option_map}
 use Rattle.heap_model.specs.declared.live.Live.{Live}
-use Rattle.heap_model.specs.State.{State, Fresh, Block, block_at, cell_at, cover}
+use Rattle.heap_model.specs.State.{State, Cell, Fresh, Known, Block, block_at, cell_at, cover}
 use Rattle.heap_model.specs.Room.{AreApart}
 use Rattle.heap_model.specs.Run.{IsGood, IsGoodBlock}
 use Rattle.heap_model.specs.Memory.{HoldsBytes}
@@ -55,21 +55,20 @@ outline_push (first ∷ rest) last = ap (λ xs. option_map outline first ∷ xs)
 
 -- ---- one block more
 
--- nothing is known of a fresh cell
-fresh_at : (n k : ℕ) → cell_at (replicate n Fresh) k ≡ Fresh
-fresh_at zero k = refl
-fresh_at (suc n) zero = refl
-fresh_at (suc n) (suc k) = fresh_at n k
+-- what is known of one of equal cells is what each of them is
+pub known_alike : (n k byte : ℕ) (cell : Cell) → cell_at (replicate n cell) k ≡ Known byte → (k < n) × (cell ≡ Known byte)
+known_alike zero k byte cell is = cc
+known_alike (suc n) zero byte cell is = (omega arith, is)
+known_alike (suc n) (suc k) byte cell is = let later = known_alike n k byte cell is in (omega (arith, later.0), later.1)
 
--- nothing is known of the bytes of a new block
-pub holds_fresh : (reached : ℕ → Option ℕ) (blocks : List (Option Block)) (address size align : ℕ) → HoldsBytes reached blocks
-    → HoldsBytes reached (blocks ++ Some (record { address = address; size = size; align = align; cells = replicate size Fresh }) ∷ [])
-holds_fresh reached blocks address size align holds = record {
-  known = λ number k byte block is cell. elim (appended blocks (Some (record { address = address; size = size; align = align; cells = replicate size Fresh })) number block is) [
+-- where a memory has what is known of a new block, it holds what is known of all
+pub holds_pushed : (reached : ℕ → Option ℕ) (blocks : List (Option Block)) (new : Block) → HoldsBytes reached blocks
+    → ((k byte : ℕ) → cell_at new.cells k ≡ Known byte → reached (new.address + k) ≡ Some byte) → HoldsBytes reached (blocks ++ Some new ∷ [])
+holds_pushed reached blocks new holds here = record {
+  known = λ number k byte block is cell. elim (appended blocks (Some new) number block is) [
     | inl old ↦ holds.known number k byte block old cell
-    | inr new ↦ (let cells : replicate size Fresh ≡ block.cells = cc in
-        let fresh : cell_at block.cells k ≡ Fresh = subst (λ cs. cell_at cs k ≡ Fresh) cells (fresh_at size k) in
-        cc (fresh, cell))
+    | inr last ↦ (let same : new ≡ block = cc in
+        subst (λ (b : Block). reached (b.address + k) ≡ Some byte) same (here k byte (ap (λ (b : Block). cell_at b.cells k) same ∙ cell)))
   ];
 }
 

@@ -1,19 +1,20 @@
 -- One call: which answers are allowed, and the state after each.
-use Rattle.std.specs.Prelude.{◌≡◌, ◌≢◌, ℕ, ◌+◌, ◌^◌, ◌<◌, Bool, not, ◌==◌, ◌⊎◌, ⊤, List, [], ◌∷◌, ◌++◌, length, find, replicate, slice_index, slice_set, option_map, unwrap_or, Option, Some, None, MatchOption}
+use Rattle.std.specs.Prelude.{◌≡◌, ◌≢◌, ℕ, zero, suc, ◌+◌, ◌^◌, ◌<◌, Bool, not, ◌==◌, ◌⊎◌, ⊤, List, [], ◌∷◌, ◌++◌, length, find, replicate, slice_index, slice_set, option_map, unwrap_or, Option, Some, None, MatchOption}
 use Rattle.std.specs.List.{list_any, AllByRecursion}
 use Rattle.heap_model.specs.declared.region.Region.{Region}
 use Rattle.heap_model.specs.declared.call.Call.{Call}
-use Rattle.heap_model.specs.declared.call.Call.TheVariants.{Malloc, Free, Write, Read, Extents}
+use Rattle.heap_model.specs.declared.call.Call.TheVariants.{Malloc, Calloc, Realloc, CRealloc, Free, Write, Read, Extents}
 use Rattle.heap_model.specs.declared.answer.Reply.{Reply}
 use Rattle.heap_model.specs.declared.answer.Reply.TheVariants.{Block as Placed, Done, Bytes, Extents as Listed, Refused}
 use Rattle.heap_model.specs.declared.answer.Answer.{Answer}
 use Rattle.paging_core.specs.Prefix.{Prefix}
-use Rattle.heap_model.specs.Request.{wanted, pages_for}
+use Rattle.dlmalloc_chunks.specs.Request.{wanted}
+use Rattle.heap_model.specs.Request.{pages_for}
 use Rattle.heap_model.specs.State.{State, Cell, Fresh, Known, Block, block_at, cell_at, with_bytes}
 use Rattle.heap_model.specs.Tables.{with_tables}
 use Rattle.heap_model.specs.Room.{IsGrowth}
 use Rattle.heap_model.specs.Extents.{IsTiling}
-use Rattle.heap_model.specs.Refusal.{must_refuse, MayRefuse, wanted_by}
+use Rattle.heap_model.specs.Refusal.{own_align, least_align, must_refuse, MayRefuse, wanted_by}
 
 -- a block of whose bytes the same is known
 abbrev pub new_block : ℕ → ℕ → ℕ → Cell → Option Block
@@ -31,9 +32,22 @@ without_block blocks number = slice_set blocks number None
 abbrev pub known_block : ℕ → List ℕ → Block → Block
 known_block offset bytes block = record block { cells = with_bytes block.cells offset bytes }
 
+-- so many cells: the first ones, and fresh ones behind them where there are more
+abbrev pub resized_cells : ℕ → List Cell → List Cell
+resized_cells zero cells = []
+resized_cells (suc n) [] = Fresh ∷ resized_cells n []
+resized_cells (suc n) (cell ∷ cells) = cell ∷ resized_cells n cells
+
+-- the block with another size, where it is then, at the alignment that it has then
+abbrev pub resized_block : ℕ → ℕ → (Block → ℕ) → Block → Block
+resized_block address size align block = record { address = address; size = size; align = align block; cells = resized_cells size block.cells }
+
 -- what the reply alone changes; every other reply, a refusal too, changes nothing
 abbrev pub changed : State → Call → Reply → State
 changed s (Malloc size align) (Placed number address) = record s { blocks = s.blocks ++ new_block address size align Fresh ∷ [] }
+changed s (Calloc size align) (Placed number address) = record s { blocks = s.blocks ++ new_block address size align (Known 0) ∷ [] }
+changed s (Realloc number size) (Placed given address) = record s { blocks = with_block s.blocks number (resized_block address size own_align) }
+changed s (CRealloc number size) (Placed given address) = record s { blocks = with_block s.blocks number (resized_block address size least_align) }
 changed s (Free number) Done = record s { blocks = without_block s.blocks number }
 changed s (Write number offset bytes) Done = record s { blocks = with_block s.blocks number (known_block offset bytes) }
 changed s (Read number offset count) (Bytes bytes) = record s { blocks = with_block s.blocks number (known_block offset bytes) }
@@ -70,9 +84,17 @@ AgreeWith cells offset bytes = (k byte : ℕ) → k < length bytes → cell_at c
 abbrev pub AreBytes : List ℕ → Type 0
 AreBytes bytes = AllByRecursion (λ byte. byte < 2 ^ 8) bytes
 
+-- a block that stays where it is lets the heap regions stay; else they grow as for a request of n bytes
+pub record IsResizing (s : State) (block : Block) (n address : ℕ) (regions : Option (List Region)) : Type 0 where
+  pub here : address ≡ block.address → regions ≡ None
+  pub growth : IsGrowth s n (heap_after s regions)
+
 -- the replies other than refusals
 abbrev pub IsServed : State → Call → Reply → Option (List Region) → Type 0
 IsServed s (Malloc size align) (Placed number address) regions = (number ≡ length s.blocks) × IsGrowth s (wanted size align) (heap_after s regions)
+IsServed s (Calloc size align) (Placed number address) regions = (number ≡ length s.blocks) × IsGrowth s (wanted size align) (heap_after s regions)
+IsServed s (Realloc number size) (Placed given address) regions = (given ≡ number) × MatchOption (block_at s.blocks number) ⊥ (λ block. IsResizing s block (wanted size (own_align block)) address regions)
+IsServed s (CRealloc number size) (Placed given address) regions = (given ≡ number) × MatchOption (block_at s.blocks number) ⊥ (λ block. IsResizing s block (wanted size (least_align block)) address regions)
 IsServed s (Free number) Done regions = regions ≡ None
 IsServed s (Write number offset bytes) Done regions = regions ≡ None
 IsServed s (Read number offset count) (Bytes bytes) regions = (regions ≡ None) × (length bytes ≡ count) × AreBytes bytes × ((block : Block) → block_at s.blocks number ≡ Some block → AgreeWith block.cells offset bytes)

@@ -1,11 +1,12 @@
 -- When a call is refused.
-use Rattle.std.specs.Prelude.{ℕ, ◌+◌, ◌<◌, Bool, nat_lt, nat_le, length, Option, Some, None, if◌then◌else◌}
+use Rattle.std.specs.Prelude.{ℕ, ◌+◌, ◌<◌, Bool, nat_lt, nat_le, length, option_map, Option, Some, None, if◌then◌else◌}
+use Rattle.std.specs.Int.{is_power_of_two}
 use Rattle.heap_model.specs.declared.call.Call.{Call}
-use Rattle.heap_model.specs.declared.call.Call.TheVariants.{Malloc, Free, Write, Read, Extents}
+use Rattle.heap_model.specs.declared.call.Call.TheVariants.{Malloc, Calloc, Realloc, CRealloc, Free, Write, Read, Extents}
 use Rattle.heap_model.specs.declared.answer.Refusal.{Refusal}
-use Rattle.heap_model.specs.declared.answer.Refusal.TheVariants.{TooLarge, NoSpace, NoFrames, UnknownBlock, OutOfBlock}
-use Rattle.dlmalloc_chunks.specs.Request.{limit}
-use Rattle.heap_model.specs.Request.{enlarged, wanted, pages_for}
+use Rattle.heap_model.specs.declared.answer.Refusal.TheVariants.{BadAlign, TooLarge, NoSpace, NoFrames, UnknownBlock, OutOfBlock}
+use Rattle.dlmalloc_chunks.specs.Request.{limit, enlarged, wanted}
+use Rattle.heap_model.specs.Request.{pages_for}
 use Rattle.heap_model.specs.State.{State, Block, block_at}
 use Rattle.heap_model.specs.Tables.{missing, free_frames}
 use Rattle.heap_model.specs.Place.{all_regions, IsPlace, HasNoPlace}
@@ -14,6 +15,22 @@ use Rattle.heap_model.specs.Room.{HasRoom}
 -- sizes that no heap serves; above 16 the alignment counts too
 abbrev pub is_too_large : ℕ → ℕ → ℕ → Bool
 is_too_large granularity size align = if nat_le align 16 then nat_le (limit granularity) size else nat_le (limit granularity) (enlarged size align)
+
+-- why no block of a size at an alignment is handed out, whatever is free
+abbrev pub refuse_request : ℕ → ℕ → ℕ → Option Refusal
+refuse_request granularity size align = if is_power_of_two align then (if is_too_large granularity size align then Some TooLarge else None) else Some BadAlign
+
+-- the alignment that a block has with another size: its own, or the least
+abbrev pub own_align : Block → ℕ
+own_align block = block.align
+
+abbrev pub least_align : Block → ℕ
+least_align block = 16
+
+-- why a block gets no other size at an alignment, whatever is free
+abbrev pub refuse_resizing : ℕ → ℕ → (Block → ℕ) → Option Block → Option Refusal
+refuse_resizing granularity size align None = Some UnknownBlock
+refuse_resizing granularity size align (Some block) = if is_too_large granularity size (align block) then Some TooLarge else None
 
 -- why a block cannot be freed, if it cannot
 abbrev pub refuse_block : Option Block → Option Refusal
@@ -27,7 +44,10 @@ refuse_bytes (Some block) offset count = if nat_lt block.size (offset + count) t
 
 -- the refusal that must come, if any: it depends on the call and the state alone
 abbrev pub must_refuse : State → Call → Option Refusal
-must_refuse s (Malloc size align) = if is_too_large s.granularity size align then Some TooLarge else None
+must_refuse s (Malloc size align) = refuse_request s.granularity size align
+must_refuse s (Calloc size align) = refuse_request s.granularity size align
+must_refuse s (Realloc number size) = refuse_resizing s.granularity size own_align (block_at s.blocks number)
+must_refuse s (CRealloc number size) = refuse_resizing s.granularity size least_align (block_at s.blocks number)
 must_refuse s (Free number) = refuse_block (block_at s.blocks number)
 must_refuse s (Write number offset bytes) = refuse_bytes (block_at s.blocks number) offset (length bytes)
 must_refuse s (Read number offset count) = refuse_bytes (block_at s.blocks number) offset count
@@ -36,6 +56,9 @@ must_refuse s Extents = None
 -- the chunk that a heap call wants, if it is one
 abbrev pub wanted_by : State → Call → Option ℕ
 wanted_by s (Malloc size align) = Some (wanted size align)
+wanted_by s (Calloc size align) = Some (wanted size align)
+wanted_by s (Realloc number size) = option_map (λ block. wanted size (own_align block)) (block_at s.blocks number)
+wanted_by s (CRealloc number size) = option_map (λ block. wanted size (least_align block)) (block_at s.blocks number)
 wanted_by s (Free number) = None
 wanted_by s (Write number offset bytes) = None
 wanted_by s (Read number offset count) = None
@@ -45,6 +68,7 @@ wanted_by s Extents = None
 abbrev pub MayRefuse : State → Option ℕ → Refusal → Type 0
 MayRefuse s (Some n) NoSpace = (HasRoom s n → ⊥) × HasNoPlace s.base s.pages (all_regions s) (pages_for n s.granularity)
 MayRefuse s (Some n) NoFrames = (HasRoom s n → ⊥) × ((address : ℕ) × IsPlace s.base s.pages (all_regions s) (pages_for n s.granularity) address × (free_frames s < pages_for n s.granularity + missing s.tables address (pages_for n s.granularity)))
+MayRefuse s (Some n) BadAlign = ⊥
 MayRefuse s (Some n) TooLarge = ⊥
 MayRefuse s (Some n) UnknownBlock = ⊥
 MayRefuse s (Some n) OutOfBlock = ⊥

@@ -1,14 +1,6 @@
--- What a request for bytes takes of the heap. All numbers are whole and never wrap.
-use Rattle.std.specs.Prelude.{ℕ, ◌+◌, ◌/◌, nat_le, if◌then◌else◌}
-use Rattle.dlmalloc_chunks.specs.Request.{round_up, padded}
-
--- what is asked for where an aligned place above 16 has to be found in it (dlmalloc: memalign)
-unfoldable pub enlarged : ℕ → ℕ → ℕ
-enlarged n align = padded n + align + 24
-
--- the chunk that has to be free for n bytes at an alignment
-unfoldable pub wanted : ℕ → ℕ → ℕ
-wanted n align = if nat_le align 16 then padded n else padded n + align + 32
+-- The pages that hold bytes, and those that are granted for a chunk. All numbers are whole and never wrap.
+use Rattle.std.specs.Prelude.{ℕ, ◌+◌, ◌/◌}
+use Rattle.dlmalloc_chunks.specs.Request.{round_up}
 
 -- the pages that hold n bytes
 unfoldable pub pages_in : ℕ → ℕ

@@ -5,6 +5,8 @@ use public_list::PublicList;
 /// Why a call was refused. A refused call changes nothing.
 #[derive(Clone, Copy, PartialEq, Eq, Debug)]
 pub enum Refusal {
+    /// The alignment is no power of two.
+    BadAlign,
     /// The size is so great that no heap of this granularity serves it.
     TooLarge,
     /// No heap region has room for the request, and the window has no place for its pages.

@@ -9,6 +9,22 @@ pub enum Call {
         size: u64,
         align: u64,
     },
+    /// Asks for a new block of `size` bytes of value 0 at a multiple of `align`.
+    Calloc {
+        size: u64,
+        align: u64,
+    },
+    /// Gives the block another size. It keeps its number, its alignment, and as many of its bytes as both sizes have.
+    Realloc {
+        block: u64,
+        size: u64,
+    },
+    /// Gives the block another size, at a multiple of 16 whatever its alignment was, and keeps as many of its bytes as
+    /// both sizes have.
+    CRealloc {
+        block: u64,
+        size: u64,
+    },
     /// Ends the block.
     Free {
         block: u64,

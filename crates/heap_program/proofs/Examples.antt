@@ -1,7 +1,7 @@
 -- Worked values: the definitions computed on short inputs.
 use Rattle.std.proofs.Common.{◌≡◌, ◌^◌, ◌-◌, true, false, [], ◌∷◌, codes, refl, Some, None}
 use Rattle.dlmalloc_chunks.specs.declared.extent.Kind.TheVariants.{Used, Free as Binned, Victim, Top, Record, Foot}
-use Rattle.heap_model.specs.declared.call.Call.TheVariants.{Malloc, Free, Write, Read, Extents}
+use Rattle.heap_model.specs.declared.call.Call.TheVariants.{Malloc, Calloc, Realloc, CRealloc, Free, Write, Read, Extents}
 use Rattle.heap_model.specs.declared.answer.Reply.TheVariants.{Block, Bytes, Extents as Listed, Refused}
 use Rattle.heap_model.specs.declared.answer.Refusal.TheVariants.{NoFrames}
 use Rattle.std.specs.Fmt.{digits}
@@ -44,9 +44,13 @@ words-two_spaces = refl
 lines-last : lines_of (codes "a\n\nb") ≡ codes "a" ∷ [] ∷ codes "b" ∷ []
 lines-last = refl
 
-items-short : items_of (codes "malloc 24\nmalloc  3\nmalloc 0x10 16\nmalloc 0x1f") ≡ Some (Malloc 24 16) ∷ None ∷ None ∷ Some (Malloc 31 16) ∷ []
+items-short : items_of (codes "malloc 24\nmalloc  3\nmalloc 0x10 4096\ncalloc 0x1f\ncalloc 0 0\nmalloc 1 16 1") ≡ Some (Malloc 24 16) ∷ None ∷ Some (Malloc 16 4096) ∷ Some (Calloc 31 16) ∷ Some (Calloc 0 0) ∷ None ∷ []
 unfolding items_of item_of
 items-short = refl
+
+items-sizes : items_of (codes "realloc 0 0x20\nc_realloc 1 2\nrealloc 0\nc_realloc 0 1 2") ≡ Some (Realloc 0 32) ∷ Some (CRealloc 1 2) ∷ None ∷ None ∷ []
+unfolding items_of item_of
+items-sizes = refl
 
 items-bytes : items_of (codes "write 0 1 fF00\nwrite 0 1 f\nread 5 0 2\nread 5 0") ≡ Some (Write 0 1 (255 ∷ 0 ∷ [])) ∷ None ∷ Some (Read 5 0 2) ∷ None ∷ []
 unfolding items_of item_of hex_on_literals

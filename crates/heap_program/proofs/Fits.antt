@@ -1,5 +1,5 @@
 -- The answers of a run fit: their numbers are below 2 ^ 64, their bytes are bytes, and their regions are the heap's.
-use Rattle.std.proofs.Common.{◌≡◌, ℕ, zero, suc, ◌+◌, ◌-◌, ◌*◌, ◌/◌, ◌%◌, ◌^◌, ◌<◌, ◌≤◌, ◌⊎◌, inl, inr, ◌==◌, List, [], ◌∷◌, ◌++◌, length, Bool, true, false, cond, Option, None, Some, refl, sym, ◌∙◌, ap, subst, arith, lit<, length-append}
+use Rattle.std.proofs.Common.{◌≡◌, ℕ, zero, suc, ◌+◌, ◌-◌, ◌*◌, ◌/◌, ◌%◌, ◌^◌, ◌<◌, ◌≤◌, ◌⊎◌, inl, inr, ◌==◌, List, [], ◌∷◌, ◌++◌, length, Bool, true, false, cond, Option, None, Some, MatchOption, option_map, slice_set, refl, sym, ◌∙◌, ap, subst, arith, lit<, length-append}
 use Rattle.std.specs.List.{list_any, onto_first, AllByRecursion}
 use Rattle.std.proofs.lemmas.List.{length-map, length-set}
 use Rattle.std.proofs.lemmas.Bool.Decides.{nat_tests, Decides-eqb}
@@ -9,20 +9,22 @@ use Rattle.paging_core.specs.Address.{is_canonical, IsCanonicalRange}
 use Rattle.dlmalloc_chunks.specs.declared.extent.Extent.{Extent}
 use Rattle.dlmalloc_chunks.specs.declared.extent.Kind.{Kind}
 use Rattle.dlmalloc_chunks.specs.declared.extent.Kind.TheVariants.{Used, Free as Binned, Victim, Top, Record, Foot}
+use Rattle.dlmalloc_chunks.specs.Request.{wanted}
 use Rattle.dlmalloc_chunks.specs.Tiling.{IsSize, has_byte}
 use Rattle.heap_model.specs.declared.answer.Answer.{Answer}
 use Rattle.heap_model.specs.declared.answer.Reply.{Reply}
 use Rattle.heap_model.specs.declared.answer.Reply.TheVariants.{Block as Placed, Done, Bytes, Extents as Listed, Refused}
 use Rattle.heap_model.specs.declared.call.Call.{Call}
-use Rattle.heap_model.specs.declared.call.Call.TheVariants.{Malloc, Free, Write, Read, Extents}
+use Rattle.heap_model.specs.declared.call.Call.TheVariants.{Malloc, Calloc, Realloc, CRealloc, Free, Write, Read, Extents}
 use Rattle.heap_model.specs.declared.region.Region.{Region}
-use Rattle.heap_model.specs.State.{State, Block, Fresh, block_at, is_within}
+use Rattle.heap_model.specs.State.{State, Block, Cell, Fresh, Known, block_at, is_within}
 use Rattle.heap_model.specs.Extents.{IsTiling}
-use Rattle.heap_model.specs.Answer.{AreBytes, IsReply, changed, new_block, with_heap, after}
-use Rattle.heap_model.specs.Refusal.{wanted_by}
+use Rattle.heap_model.specs.Answer.{AreBytes, IsReply, IsResizing, changed, new_block, with_block, resized_block, with_heap, after}
+use Rattle.heap_model.specs.Refusal.{own_align, least_align, wanted_by}
 use Rattle.heap_model.specs.Run.{IsGood, IsHeapRegion, IsItem, next, IsRun, last_state}
 use Rattle.heap_model.proofs.Booleans.{or_left, or_right, or_cases}
 use Rattle.heap_model.proofs.Regions.{within, within_bounds}
+use Rattle.heap_model.proofs.Resized.{replaced_here}
 use Rattle.heap_program.specs.Lines.{lines_of, items_of}
 use Rattle.heap_program.specs.Spelling.{ExtentFits, ReplyFits, RegionFits, RegionsFit, AnswerFits, RunsSpellOne}
 use Rattle.heap_program.proofs.Spellings.{spells_one}
@@ -137,10 +139,35 @@ block_small s number block good is =
     omega (arith, small)
 
 -- a good state with more or fewer heap regions has its blocks where they are
-placed_small : (s : State) (number address size align : ℕ) (n : Option ℕ) (regions : Option (List Region)) →
-    IsGood (with_heap (record s { blocks = s.blocks ++ new_block address size align Fresh ∷ [] }) n regions) → address < 2 ^ 64
-placed_small s number address size align n None good = block_small _ (length s.blocks) _ good (last_block s.blocks (new_block address size align Fresh))
-placed_small s number address size align n (Some list) good = block_small _ (length s.blocks) _ good (last_block s.blocks (new_block address size align Fresh))
+placed_small : (s : State) (address size align : ℕ) (cell : Cell) (n : Option ℕ) (regions : Option (List Region)) →
+    IsGood (with_heap (record s { blocks = s.blocks ++ new_block address size align cell ∷ [] }) n regions) → address < 2 ^ 64
+placed_small s address size align cell n None good = block_small _ (length s.blocks) _ good (last_block s.blocks (new_block address size align cell))
+placed_small s address size align cell n (Some list) good = block_small _ (length s.blocks) _ good (last_block s.blocks (new_block address size align cell))
+
+-- and so has it a block with another size
+resized_small : (s : State) (number : ℕ) (change : Block → Block) (block : Block) (n : Option ℕ) (regions : Option (List Region)) → block_at s.blocks number ≡ Some block →
+    IsGood (with_heap (record s { blocks = with_block s.blocks number change }) n regions) → (change block).address < 2 ^ 64
+resized_small s number change block n regions is good = go regions good
+  where
+    there : block_at (with_block s.blocks number change) number ≡ Some (change block)
+    there = ap (λ (found : Option Block). block_at (slice_set s.blocks number (option_map change found)) number) is ∙ replaced_here s.blocks number block (change block) is
+
+    go : (regions : Option (List Region)) → IsGood (with_heap (record s { blocks = with_block s.blocks number change }) n regions) → (change block).address < 2 ^ 64
+    go None good = block_small _ number (change block) good there
+    go (Some list) good = block_small _ number (change block) good there
+
+-- its number is one of the numbers given
+block_within : (blocks : List (Option Block)) (number : ℕ) (block : Block) → block_at blocks number ≡ Some block → number < length blocks
+block_within [] number block is = cc
+block_within (first ∷ rest) zero block is = omega arith
+block_within (first ∷ rest) (suc number) block is = let later = block_within rest number block is in omega arith
+
+-- a reply that gives a block another size, where the block is one
+resized_fits : (s : State) (number given size address : ℕ) (n : Block → ℕ) (align : Block → ℕ) (found : Option Block) (wanted : Option ℕ) (regions : Option (List Region)) → length s.blocks < 2 ^ 64 → block_at s.blocks number ≡ found → given ≡ number →
+    MatchOption found ⊥ (λ block. IsResizing s block (n block) address regions) → IsGood (with_heap (record s { blocks = with_block s.blocks number (resized_block address size align) }) wanted regions) → ReplyFits (Placed given address)
+resized_fits s number given size address n align None wanted regions few at same is good = absurd is
+resized_fits s number given size address n align (Some block) wanted regions few at same is good =
+    (let within = block_within s.blocks number block at in omega arith, resized_small s number (resized_block address size align) block wanted regions at good)
 
 tiling_fits : (s : State) (extents : List Extent) → IsGood s → IsTiling s extents → AllByRecursion ExtentFits extents
 tiling_fits s extents good tiling =
@@ -151,7 +178,13 @@ reply_fits : (s : State) (call : Call) (reply : Reply) (regions : Option (List R
 reply_fits s call (Refused why) regions few is good = tt
 reply_fits s call Done regions few is good = tt
 reply_fits s (Malloc size align) (Placed number address) regions few is good =
-    (subst (λ n. n < 2 ^ 64) (sym is.1.0) few, placed_small s number address size align (wanted_by s (Malloc size align)) regions good)
+    (subst (λ n. n < 2 ^ 64) (sym is.1.0) few, placed_small s address size align Fresh (wanted_by s (Malloc size align)) regions good)
+reply_fits s (Calloc size align) (Placed number address) regions few is good =
+    (subst (λ n. n < 2 ^ 64) (sym is.1.0) few, placed_small s address size align (Known 0) (wanted_by s (Calloc size align)) regions good)
+reply_fits s (Realloc number size) (Placed given address) regions few is good =
+    resized_fits s number given size address (λ block. wanted size (own_align block)) own_align (block_at s.blocks number) (wanted_by s (Realloc number size)) regions few refl is.1.0 is.1.1 good
+reply_fits s (CRealloc number size) (Placed given address) regions few is good =
+    resized_fits s number given size address (λ block. wanted size (least_align block)) least_align (block_at s.blocks number) (wanted_by s (CRealloc number size)) regions few refl is.1.0 is.1.1 good
 reply_fits s (Read number offset count) (Bytes bytes) regions few is good = bytes_fit bytes is.1.2
 reply_fits s Extents (Listed extents) regions few is good =
     tiling_fits s extents (subst (λ r. IsGood (with_heap s None r)) is.1.0 good) is.1.1
@@ -173,6 +206,9 @@ item_fits s None (Some answer) few is = absurd is
 -- a call adds one block at most
 changed_blocks : (s : State) (call : Call) (reply : Reply) → length (changed s call reply).blocks ≤ length s.blocks + 1
 changed_blocks s (Malloc size align) (Placed number address) = omega (arith, length-append s.blocks (new_block address size align Fresh ∷ []))
+changed_blocks s (Calloc size align) (Placed number address) = omega (arith, length-append s.blocks (new_block address size align (Known 0) ∷ []))
+changed_blocks s (Realloc number size) (Placed given address) = simp (length-set) (omega arith)
+changed_blocks s (CRealloc number size) (Placed given address) = simp (length-set) (omega arith)
 changed_blocks s (Free number) Done = simp (length-set) (omega arith)
 changed_blocks s (Write number offset bytes) Done = simp (length-set) (omega arith)
 changed_blocks s (Read number offset count) (Bytes bytes) = simp (length-set) (omega arith)

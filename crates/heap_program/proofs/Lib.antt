@@ -8,7 +8,6 @@ pub mod Known
 pub mod LineLemmas
 pub mod Numerals
 pub mod Runs
-pub mod Servable
 pub mod Sessions
 pub mod Spellings
 pub mod Texts

@@ -14,7 +14,7 @@ use Rattle.heap_model.specs.declared.answer.Answer.{Answer}
 use Rattle.heap_model.specs.declared.answer.Reply.{Reply}
 use Rattle.heap_model.specs.declared.answer.Reply.TheVariants.{Block, Done, Bytes, Extents, Refused}
 use Rattle.heap_model.specs.declared.answer.Refusal.{Refusal}
-use Rattle.heap_model.specs.declared.answer.Refusal.TheVariants.{TooLarge, NoSpace, NoFrames, UnknownBlock, OutOfBlock}
+use Rattle.heap_model.specs.declared.answer.Refusal.TheVariants.{BadAlign, TooLarge, NoSpace, NoFrames, UnknownBlock, OutOfBlock}
 use Rattle.heap_model.specs.declared.region.Region.{Region}
 use Rattle.heap_model.specs.Room.{heap_region}
 use Rattle.heap_model.specs.Place.{all_regions}
@@ -46,9 +46,10 @@ block_end m a n b r s fm fn h =
 abbrev refusal_of : List ℕ → Refusal
 refusal_of text =
     let letter = get_or text 14 0 in
-    if letter == 114 then TooLarge else if letter == 99 then NoSpace else if letter == 109 then NoFrames else if letter == 110 then UnknownBlock else OutOfBlock
+    if letter == 105 then BadAlign else if letter == 114 then TooLarge else if letter == 99 then NoSpace else if letter == 109 then NoFrames else if letter == 110 then UnknownBlock else OutOfBlock
 
 refusal_told : (why : Refusal) (r : List ℕ) → refusal_of (reply_text (Refused why) ++ r) ≡ why
+refusal_told BadAlign r = refl
 refusal_told TooLarge r = refl
 refusal_told NoSpace r = refl
 refusal_told NoFrames r = refl

@@ -5,7 +5,7 @@ use Rattle.std.specs.Result.{result_ok}
 use Rattle.std.specs.Str.{bytes_eq}
 use Rattle.hex.specs.Hex.{decode_of}
 use Rattle.heap_model.specs.declared.call.Call.{Call}
-use Rattle.heap_model.specs.declared.call.Call.TheVariants.{Malloc, Free, Write, Read, Extents}
+use Rattle.heap_model.specs.declared.call.Call.TheVariants.{Malloc, Calloc, Realloc, CRealloc, Free, Write, Read, Extents}
 use Rattle.heap_program.specs.Number.{number_of}
 use Rattle.heap_program.specs.Words.{words_of}
 
@@ -14,9 +14,35 @@ abbrev pub one_number : List (List ℕ) → Option ℕ
 one_number (word ∷ []) = number_of word
 one_number words = None
 
--- `malloc SIZE`, with what stands behind the name
+abbrev pub both_numbers : Option ℕ → Option ℕ → Option (ℕ × ℕ)
+both_numbers (Some first) (Some second) = Some (first, second)
+both_numbers first second = None
+
+-- two numbers, and no word behind them
+abbrev pub two_numbers : List (List ℕ) → Option (ℕ × ℕ)
+two_numbers (first ∷ second ∷ []) = both_numbers (number_of first) (number_of second)
+two_numbers words = None
+
+-- `SIZE`, at the alignment 16, or `SIZE ALIGN`
+abbrev pub request_of : List (List ℕ) → Option (ℕ × ℕ)
+request_of (size ∷ []) = both_numbers (number_of size) (Some 16)
+request_of words = two_numbers words
+
+-- `malloc SIZE` and `malloc SIZE ALIGN`, with what stands behind the name
 abbrev pub malloc_of : List (List ℕ) → Option Call
-malloc_of words = option_map (λ size. Malloc size 16) (one_number words)
+malloc_of words = option_map (λ asked. Malloc asked.0 asked.1) (request_of words)
+
+-- `calloc SIZE` and `calloc SIZE ALIGN`, with what stands behind the name
+abbrev pub calloc_of : List (List ℕ) → Option Call
+calloc_of words = option_map (λ asked. Calloc asked.0 asked.1) (request_of words)
+
+-- `realloc BLOCK SIZE`, with what stands behind the name
+abbrev pub realloc_of : List (List ℕ) → Option Call
+realloc_of words = option_map (λ asked. Realloc asked.0 asked.1) (two_numbers words)
+
+-- `c_realloc BLOCK SIZE`, with what stands behind the name
+abbrev pub c_realloc_of : List (List ℕ) → Option Call
+c_realloc_of words = option_map (λ asked. CRealloc asked.0 asked.1) (two_numbers words)
 
 -- `free BLOCK`, with what stands behind the name
 abbrev pub free_of : List (List ℕ) → Option Call
@@ -55,6 +81,9 @@ abbrev pub call_of : List (List ℕ) → Option Call
 call_of [] = None
 call_of (name ∷ arguments) =
     if bytes_eq name (codes "malloc") then malloc_of arguments else
+    if bytes_eq name (codes "calloc") then calloc_of arguments else
+    if bytes_eq name (codes "realloc") then realloc_of arguments else
+    if bytes_eq name (codes "c_realloc") then c_realloc_of arguments else
     if bytes_eq name (codes "free") then free_of arguments else
     if bytes_eq name (codes "write") then write_of arguments else
     if bytes_eq name (codes "read") then read_of arguments else

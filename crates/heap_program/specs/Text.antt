@@ -10,7 +10,7 @@ use Rattle.heap_model.specs.declared.answer.Answer.{Answer}
 use Rattle.heap_model.specs.declared.answer.Reply.{Reply}
 use Rattle.heap_model.specs.declared.answer.Reply.TheVariants.{Block, Done, Bytes, Extents, Refused}
 use Rattle.heap_model.specs.declared.answer.Refusal.{Refusal}
-use Rattle.heap_model.specs.declared.answer.Refusal.TheVariants.{TooLarge, NoSpace, NoFrames, UnknownBlock, OutOfBlock}
+use Rattle.heap_model.specs.declared.answer.Refusal.TheVariants.{BadAlign, TooLarge, NoSpace, NoFrames, UnknownBlock, OutOfBlock}
 use Rattle.heap_model.specs.declared.region.Region.{Region}
 use Rattle.heap_model.specs.State.{State}
 use Rattle.heap_model.specs.Place.{all_regions}
@@ -30,6 +30,7 @@ abbrev pub spaced : {A : Type 0} → (A → List ℕ) → List A → List ℕ
 spaced text items = flat_map (λ item. codes " " ++ text item) items
 
 abbrev pub refusal_word : Refusal → List ℕ
+refusal_word BadAlign = codes "bad-align"
 refusal_word TooLarge = codes "too-large"
 refusal_word NoSpace = codes "no-space"
 refusal_word NoFrames = codes "no-frames"

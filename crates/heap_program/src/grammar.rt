@@ -1,6 +1,6 @@
 // The call that a line asks for.
 ghost use Rattle.std.specs.Prelude.{◌≡◌, IfOk, MatchOption, Some, None};
-ghost use Rattle.heap_program.specs.Grammar.{one_number, malloc_of, free_of, bytes_of, write_call, write_of, read_of, extents_of, call_of, item_of};
+ghost use Rattle.heap_program.specs.Grammar.{one_number, two_numbers, request_of, malloc_of, calloc_of, realloc_of, c_realloc_of, free_of, bytes_of, write_call, write_of, read_of, extents_of, call_of, item_of};
 ghost use Rattle.heap_program.specs.Words.{words_of};
 
 use crate::number::number;
@@ -26,14 +26,59 @@ fn one_number(words: &mut Words<'_>) -> Option<u64>
     }
 }
 
+// The two numbers that are left where they are the only words.
+fn two_numbers(words: &mut Words<'_>) -> Option<(u64, u64)>
+    ensures { result ≡ two_numbers words.old }
+{
+    let first = number(words.next_word()?)?;
+    let second = number(words.next_word()?)?;
+    match words.next_word() {
+        None => Some((first, second)),
+        Some(_) => None,
+    }
+}
+
+// A size, and the alignment that stands behind it, if one does.
+fn request(words: &mut Words<'_>) -> Option<(u64, u64)>
+    ensures { result ≡ request_of words.old }
+{
+    let size = number(words.next_word()?)?;
+    let Some(word) = words.next_word() else {
+        return Some((size, DEFAULT_ALIGNMENT));
+    };
+    let align = number(word)?;
+    match words.next_word() {
+        None => Some((size, align)),
+        Some(_) => None,
+    }
+}
+
 fn malloc(words: &mut Words<'_>) -> Option<Call>
     ensures { result ≡ malloc_of words.old }
 {
-    let size = one_number(words)?;
-    Some(Call::Malloc {
-        size,
-        align: DEFAULT_ALIGNMENT,
-    })
+    let (size, align) = request(words)?;
+    Some(Call::Malloc { size, align })
+}
+
+fn calloc(words: &mut Words<'_>) -> Option<Call>
+    ensures { result ≡ calloc_of words.old }
+{
+    let (size, align) = request(words)?;
+    Some(Call::Calloc { size, align })
+}
+
+fn realloc(words: &mut Words<'_>) -> Option<Call>
+    ensures { result ≡ realloc_of words.old }
+{
+    let (block, size) = two_numbers(words)?;
+    Some(Call::Realloc { block, size })
+}
+
+fn c_realloc(words: &mut Words<'_>) -> Option<Call>
+    ensures { result ≡ c_realloc_of words.old }
+{
+    let (block, size) = two_numbers(words)?;
+    Some(Call::CRealloc { block, size })
 }
 
 fn free(words: &mut Words<'_>) -> Option<Call>
@@ -120,6 +165,12 @@ fn call_of(alloc: Global, line: &[u8]) -> Result<Option<Call>, AllocError>
     };
     if name == b"malloc".as_slice() {
         Ok(malloc(&mut words))
+    } else if name == b"calloc".as_slice() {
+        Ok(calloc(&mut words))
+    } else if name == b"realloc".as_slice() {
+        Ok(realloc(&mut words))
+    } else if name == b"c_realloc".as_slice() {
+        Ok(c_realloc(&mut words))
     } else if name == b"free".as_slice() {
         Ok(free(&mut words))
     } else if name == b"write".as_slice() {

@@ -15,6 +15,7 @@ fn refusal_word(why: Refusal) -> &'static str
     ensures { result.now ≡ refusal_word why }
 {
     match why {
+        Refusal::BadAlign => "bad-align",
         Refusal::TooLarge => "too-large",
         Refusal::NoSpace => "no-space",
         Refusal::NoFrames => "no-frames",

@@ -1,6 +1,3 @@
-ghost use Rattle.std.specs.Prelude.{All, IfOk};
-ghost use Rattle.kernel_heap.specs.Machine.{IsServable};
-
 use heap_program::{Ended, SureSink, SureSource, end_text, heap_main, parse_call, text_of};
 use kernel_heap::{
     Answer, AnswerList, Call, CallList, Config, Extent, ExtentList, Kind, Machine, Refusal, Reply,
@@ -383,10 +380,8 @@ const CALLS: [CallsRow; 8] = [
     },
 ];
 
-/// Requests for blocks of these sizes, at the alignment that is served, and then for the extents where these are
-/// wanted.
+/// Requests for blocks of these sizes, and then for the extents where these are wanted.
 fn requests(alloc: Global, sizes: &[u64], extents: bool) -> Result<CallList, AllocError>
-    ensures { IfOk result (λ calls. All IsServable calls) }
 {
     let mut calls = CallList::new(alloc);
     for size in sizes {

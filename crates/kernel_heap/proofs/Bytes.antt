@@ -85,6 +85,12 @@ reached_byte p address kept there =
     ap (option_map (λ q. byte_of (word_at p.words q.frame (address % 4096 / 8)) (address % 8))) place.1
     ∙ ap Some (sym (le_byte (word_at p.words place.0.frame (address % 4096 / 8)) (address % 8) (omega arith)) ∙ ap (λ w. slice_index (to_le_bytes w64 w) (address % 8)) (sym word))
 
+-- it is 0 where its word is
+pub zero_reached : (p : Paged) (address : ℕ) → IsKept p → AreInside p address 1 → word_reached p (address - address % 8) ≡ 0 → reached p.words p.root address ≡ Some 0
+zero_reached p address kept there is =
+    let none : byte_of 0 (address % 8) ≡ 0 = omega arith in
+    reached_byte p address kept there ∙ ap Some (ap (λ w. slice_index (to_le_bytes w64 w) (address % 8)) is ∙ (le_byte 0 (address % 8) (omega arith) ∙ none))
+
 -- what a store of a byte does to the bytes
 module _ (p new : Paged) (at byte : ℕ) (kept : IsKept p) (still : IsStill p new) (here : AreInside p at 1) (small : byte < 256)
     (stored : IsStored (grants_of p) (word_reached p) (at - at % 8) (with_byte (word_reached p (at - at % 8)) (at % 8) byte) (word_reached new)) where

@@ -1,8 +1,10 @@
 -- The blocks of a machine and the extents of its heap, before and after a call of the heap.
-use Rattle.std.proofs.Common.{◌≡◌, ◌≢◌, ℕ, ◌+◌, ◌-◌, inl, inr, Bool, true, false, ◌==◌, if◌then◌else◌, List, [], ◌∷◌, ◌++◌, length, slice_set, refl, sym, ap, ◌∙◌, subst, arith, Option, Some, None}
+use Rattle.std.proofs.Common.{◌≡◌, ◌≢◌, ℕ, ◌+◌, ◌-◌, inl, inr, Bool, true, false, ◌==◌, if◌then◌else◌, List, [], ◌∷◌, ◌++◌, length, map, slice_set, refl, sym, ap, ◌∙◌, subst, arith, Option, Some, None}
 use Rattle.std.specs.List.{AllByRecursion}
+use Rattle.std.specs.Int.{IsPowerOfTwo}
 use Rattle.std.proofs.lemmas.Bool.Decides.{nat_tests}
 use Rattle.heap_memory.specs.declared.grant.Grant.{Grant}
+use Rattle.dlmalloc_chunks.specs.Request.{padded}
 use Rattle.dlmalloc_chunks.specs.declared.extent.Extent.{Extent}
 use Rattle.dlmalloc.specs.Extents.{extent_at}
 use Rattle.dlmalloc.specs.State.{HeapState, Segment, extents_in}
@@ -15,13 +17,16 @@ use Rattle.heap_model.specs.declared.live.Live.{Live}
 use Rattle.heap_model.specs.State.{total_pages}
 use Rattle.heap_model.specs.Machine.{Paged, IsStill, Seen}
 use Rattle.heap_model.proofs.Placed.{appended, stays, last_at}
-use Rattle.heap_model.proofs.Ended.{left_at, stays_at}
+use Rattle.heap_model.proofs.Ended.{left_at}
+use Rattle.heap_model.proofs.Resized.{replaced_at, replaced_stays, replaced_here}
 use Rattle.kernel_heap.specs.Layout.{IsKept, IsGrantedFor, regions_end}
 use Rattle.kernel_heap.specs.Words.{grants_of}
 use Rattle.kernel_heap.specs.System.{paged}
-use Rattle.kernel_heap.specs.Heap.{zeros, follows, refuses, denies, regions, word, heap_state, IsHeap}
-use Rattle.dlmalloc.specs.Served.{IsServed, IsRefusedWith, IsFreed, regions_in, KeepsRegions, OnlyBlocksChange, RestsOutside}
-use Rattle.kernel_heap.specs.Machine.{live_at, Spans, IsLive, IsLaidOut}
+use Rattle.kernel_heap.specs.Heap.{follows, refuses, denies, regions, word, heap_state, IsHeap}
+use Rattle.dlmalloc.specs.Requested.{asked, IsFound, IsHandedOut}
+use Rattle.dlmalloc.specs.Moved.{IsGivenSize}
+use Rattle.dlmalloc.specs.Served.{IsRefusedWith, IsFreed, regions_in, KeepsRegions, OnlyBlocksChange, RestsOutside}
+use Rattle.kernel_heap.specs.Machine.{seen_of, live_at, Spans, IsLive, IsLaidOut}
 use Rattle.kernel_heap.specs.declared.paged_system.PagedSystem.{PagedSystem}
 use Rattle.kernel_heap.proofs.Consecutive.{same_or_other}
 use Rattle.kernel_heap.proofs.Granted.{granted_end}
@@ -69,6 +74,20 @@ spans_changed change [] p spans = spans
 spans_changed change (segment ∷ []) p spans = spans
 spans_changed change (first ∷ second ∷ segments) p spans = spans
 
+-- they are told by where the segments are
+pub spans_same : (segments others : List Segment) (p : Paged) → map {B = Segment} (λ segment. record segment { extents = [] }) segments ≡ map {B = Segment} (λ segment. record segment { extents = [] }) others →
+    Spans segments p → Spans others p
+spans_same [] [] p same spans = spans
+spans_same [] (segment ∷ others) p same spans = absurd (cc)
+spans_same (segment ∷ segments) [] p same spans = absurd (cc)
+spans_same (segment ∷ []) (other ∷ []) p same spans =
+    let one : record segment { extents = [] } ≡ record other { extents = [] } = cc in
+    let base : segment.base ≡ other.base = ap (λ (t : Segment). t.base) one in
+    let size : segment.size ≡ other.size = ap (λ (t : Segment). t.size) one in
+    (omega (arith, spans.0), omega (arith, spans.1))
+spans_same (segment ∷ []) (other ∷ next ∷ others) p same spans = absurd (cc)
+spans_same (segment ∷ next ∷ segments) others p same spans = absurd spans
+
 pub spans_still : (segments : List Segment) (old new : Paged) → IsStill old new → Spans segments old → Spans segments new
 spans_still segments old new still spans = subst (Spans segments) (sym still.others) (same segments spans)
   where
@@ -93,38 +112,26 @@ spans_granted (segment ∷ []) victim granularity rate countdown trim_check old 
     (omega (arith, spans.0), omega (arith, spans.1))
 spans_granted (first ∷ second ∷ segments) victim granularity rate countdown trim_check old new asked grant kept is spans = absurd spans
 
-granularity_granted : (segments : List Segment) (victim granularity rate countdown trim_check : ℕ) (grant : Grant) →
-    (granted_state grant (record { segments = segments; victim = victim; granularity = granularity; rate = rate; countdown = countdown; trim_check = trim_check })).granularity ≡ granularity
-granularity_granted [] victim granularity rate countdown trim_check grant = refl
-granularity_granted (segment ∷ segments) victim granularity rate countdown trim_check grant = refl
+pub spans_found : (heap new : Dlmalloc PagedSystem) (n : ℕ) → Spans (heap_state heap).segments (paged heap.system) → IsFound follows regions heap.system (heap_state heap) n new.system (heap_state new) → Spans (heap_state new).segments (paged new.system)
+spans_found heap new n spans found = elim found [
+  | inl here ↦ spans_same (heap_state heap).segments (heap_state new).segments (paged new.system) (sym here.0)
+      (spans_still (heap_state heap).segments (paged heap.system) (paged new.system) here.1 spans)
+  | inr there ↦ (
+      let h = heap_state heap in
+      let followed = there.4 in
+      spans_same (granted_state there.0 h).segments (heap_state new).segments (paged new.system) (sym there.3)
+      (spans_still (granted_state there.0 h).segments followed.1 (paged new.system) followed.4
+      (spans_granted h.segments h.victim h.granularity h.rate h.countdown h.trim_check followed.0 followed.1 _ there.0 (kept_still (paged heap.system) followed.0 heap.system.kept followed.2) followed.3
+      (spans_still h.segments (paged heap.system) followed.0 followed.2 spans))))
+]
 
 -- ---- a block more
 
 -- the block as the machine keeps it
-abbrev pub next_live : ℕ → ℕ → Live
-next_live address size = record { address = address; size = size; align = 16 }
+abbrev pub next_live : ℕ → ℕ → ℕ → Live
+next_live address size align = record { address = address; size = size; align = align }
 
-module _ (heap new : Dlmalloc PagedSystem) (blocks : List (Option Live)) (size address : ℕ) (laid : IsLaidOut heap blocks) (out : IsServed regions word zeros follows heap size address new) where
-  spans_handed : Spans (heap_state new).segments (paged new.system)
-  spans_handed = elim out.cut [
-    | inl here ↦ subst (λ (h : HeapState). Spans h.segments (paged new.system)) (sym here.0.state)
-        (spans_changed _ (heap_state heap).segments (paged new.system) (spans_still (heap_state heap).segments (paged heap.system) (paged new.system) here.1 laid.spans))
-    | inr there ↦ (
-        let h = heap_state heap in
-        let followed = there.2 in
-        subst (λ (h : HeapState). Spans h.segments (paged new.system)) (sym there.1.state)
-        (spans_changed _ (granted_state there.0 h).segments (paged new.system)
-        (spans_still (granted_state there.0 h).segments followed.1 (paged new.system) followed.4
-        (spans_granted h.segments h.victim h.granularity h.rate h.countdown h.trim_check followed.0 followed.1 _ there.0 (kept_still (paged heap.system) followed.0 heap.system.kept followed.2) followed.3
-        (spans_still h.segments (paged heap.system) followed.0 followed.2 laid.spans)))))
-  ]
-
-  pub granularity_handed : new.granularity ≡ heap.granularity
-  granularity_handed = elim out.cut [
-    | inl here ↦ ap (λ (h : HeapState). h.granularity) here.0.state
-    | inr there ↦ (let h = heap_state heap in ap (λ (h : HeapState). h.granularity) there.1.state ∙ granularity_granted h.segments h.victim h.granularity h.rate h.countdown h.trim_check there.0)
-  ]
-
+module _ (heap new : Dlmalloc PagedSystem) (blocks : List (Option Live)) (size align address : ℕ) (laid : IsLaidOut heap blocks) (out : IsHandedOut regions word follows heap size align address new) where
   -- a live block has its extent still
   pub live_kept : (number : ℕ) (live : Live) → live_at blocks number ≡ Some live → IsLive (heap_state new) live
   live_kept number live is =
@@ -142,27 +149,93 @@ module _ (heap new : Dlmalloc PagedSystem) (blocks : List (Option Live)) (size a
       let place = block_place (heap_state heap) live.address live.size b in
       out.more.new b.extent b.used (block_there (heap_state heap) live.address live.size b) (omega arith)
 
-  pub laid_handed : IsLaidOut new (blocks ++ Some (next_live address size) ∷ [])
-  laid_handed = record {
+  pub laid_handed : IsPowerOfTwo align → IsLaidOut new (blocks ++ Some (next_live address size align) ∷ [])
+  laid_handed power = record {
     heap_sound = out.sound;
-    spans = spans_handed;
-    lives = λ number live is. elim (appended blocks (Some (next_live address size)) number live is) [
+    spans = spans_found heap new (padded (asked size align)) laid.spans out.found;
+    lives = λ number live is. elim (appended blocks (Some (next_live address size align)) number live is) [
       | inl old ↦ live_kept number live old
-      | inr last ↦ (let same : next_live address size ≡ live = cc in subst (λ (l : Live). IsLive (heap_state new) l) same (record { block = out.block; align = refl }))
+      | inr last ↦ (let same : next_live address size align ≡ live = cc in subst (λ (l : Live). IsLive (heap_state new) l) same (record { block = out.block; align = power }))
     ];
     used = λ extent used there. elim (same_or_other extent.at (address - 16)) [
-      | inl same ↦ (let low = out.low in record { number = length blocks; live = next_live address size; is = last_at blocks (Some (next_live address size)); place = omega arith })
+      | inl same ↦ (let low = out.low in record { number = length blocks; live = next_live address size align; is = last_at blocks (Some (next_live address size align)); place = omega arith })
       | inr other ↦ (let was = laid.used extent used (out.more.only extent used there other) in
-          record { number = was.number; live = was.live; is = stays blocks (Some (next_live address size)) was.number was.live was.is; place = was.place })
+          record { number = was.number; live = was.live; is = stays blocks (Some (next_live address size align)) was.number was.live was.is; place = was.place })
     ];
-    distinct = λ i j a b is_a is_b differ. elim (appended blocks (Some (next_live address size)) i a is_a) [
-      | inl old_a ↦ elim (appended blocks (Some (next_live address size)) j b is_b) [
+    distinct = λ i j a b is_a is_b differ. elim (appended blocks (Some (next_live address size align)) i a is_a) [
+      | inl old_a ↦ elim (appended blocks (Some (next_live address size align)) j b is_b) [
         | inl old_b ↦ laid.distinct i j a b old_a old_b differ
-        | inr new_b ↦ (let same : next_live address size ≡ b = cc in let at : address ≡ b.address = ap (λ (l : Live). l.address) same in λ e. live_apart i a old_a (e ∙ sym at))
+        | inr new_b ↦ (let same : next_live address size align ≡ b = cc in let at : address ≡ b.address = ap (λ (l : Live). l.address) same in λ e. live_apart i a old_a (e ∙ sym at))
       ]
-      | inr new_a ↦ elim (appended blocks (Some (next_live address size)) j b is_b) [
-        | inl old_b ↦ (let same : next_live address size ≡ a = cc in let at : address ≡ a.address = ap (λ (l : Live). l.address) same in λ e. live_apart j b old_b (sym e ∙ sym at))
+      | inr new_a ↦ elim (appended blocks (Some (next_live address size align)) j b is_b) [
+        | inl old_b ↦ (let same : next_live address size align ≡ a = cc in let at : address ≡ a.address = ap (λ (l : Live). l.address) same in λ e. live_apart j b old_b (sym e ∙ sym at))
         | inr new_b ↦ absurd (differ (new_a.0 ∙ sym new_b.0))
+      ]
+    ];
+  }
+
+-- ---- a block with another size
+
+module _ (heap new : Dlmalloc PagedSystem) (blocks : List (Option Live)) (number : ℕ) (live : Live) (size align address : ℕ) (laid : IsLaidOut heap blocks)
+    (is : live_at blocks number ≡ Some live) (out : IsGivenSize regions word follows heap live.address live.size align size address new) where
+  place_before : live.address ≡ (laid.lives number live is).block.extent.at + 16
+  place_before = block_place (heap_state heap) live.address live.size (laid.lives number live is).block
+
+  -- another live block begins elsewhere
+  elsewhere : (i : ℕ) (it : Live) → i ≢ number → (at : live_at blocks i ≡ Some it) → (laid.lives i it at).block.extent.at ≢ live.address - 16
+  elsewhere i it differ at same =
+      let place = block_place (heap_state heap) it.address it.size (laid.lives i it at).block in
+      let here = place_before in
+      laid.distinct i number it live at is differ (omega arith)
+
+  -- it has its extent still
+  pub live_stays : (i : ℕ) (it : Live) → i ≢ number → live_at blocks i ≡ Some it → IsLive (heap_state new) it
+  live_stays i it differ at =
+      let was = laid.lives i it at in
+      let b = was.block in
+      record {
+        block = block_moved (heap_state heap) it.address it.size b (heap_state new) (out.moved.kept b.extent b.used (elsewhere i it differ at) (block_there (heap_state heap) it.address it.size b));
+        align = was.align;
+      }
+
+  -- and another place than the block has now
+  pub live_beside : (i : ℕ) (it : Live) → i ≢ number → live_at blocks i ≡ Some it → it.address ≢ address
+  live_beside i it differ at same =
+      let b = (laid.lives i it at).block in
+      let place = block_place (heap_state heap) it.address it.size b in
+      out.moved.apart b.extent b.used (elsewhere i it differ at) (block_there (heap_state heap) it.address it.size b) (omega arith)
+
+  pub laid_resized : IsPowerOfTwo align → IsLaidOut new (slice_set blocks number (Some (next_live address size align)))
+  laid_resized power = record {
+    heap_sound = out.sound;
+    spans = spans_found heap new (padded (asked size align)) laid.spans out.found;
+    lives = λ i it at. elim (replaced_at blocks number (next_live address size align) i it at) [
+      | inl same ↦ subst (λ (l : Live). IsLive (heap_state new) l) same.1 (record { block = out.block; align = power })
+      | inr other ↦ live_stays i it other.0 other.1
+    ];
+    used = λ extent used there. elim (same_or_other extent.at (address - 16)) [
+      | inl same ↦ (let low = out.low in record { number = number; live = next_live address size align; is = replaced_here blocks number live (next_live address size align) is; place = omega arith })
+      | inr other ↦ (
+          let was = laid.used extent used (out.moved.only extent used other there) in
+          let place = was.place in
+          let here = place_before in
+          let apart = out.moved.gone extent used other there in
+          record {
+            number = was.number;
+            live = was.live;
+            is = replaced_stays blocks number was.number was.live (Some (next_live address size align))
+                (λ e. (let same : was.live ≡ live = cc (was.is, is, e) in let at = ap (λ (l : Live). l.address) same in apart (omega arith))) was.is;
+            place = was.place;
+          })
+    ];
+    distinct = λ i j a b is_a is_b differ. elim (replaced_at blocks number (next_live address size align) i a is_a) [
+      | inl same_a ↦ elim (replaced_at blocks number (next_live address size align) j b is_b) [
+        | inl same_b ↦ absurd (differ (same_a.0 ∙ sym same_b.0))
+        | inr other_b ↦ (let at : address ≡ a.address = ap (λ (l : Live). l.address) same_a.1 in λ e. live_beside j b other_b.0 other_b.1 (sym e ∙ sym at))
+      ]
+      | inr other_a ↦ elim (replaced_at blocks number (next_live address size align) j b is_b) [
+        | inl same_b ↦ (let at : address ≡ b.address = ap (λ (l : Live). l.address) same_b.1 in λ e. live_beside i a other_a.0 other_a.1 (e ∙ sym at))
+        | inr other_b ↦ laid.distinct i j a b other_a.1 other_b.1 differ
       ]
     ];
   }
@@ -170,12 +243,8 @@ module _ (heap new : Dlmalloc PagedSystem) (blocks : List (Option Live)) (size a
 -- ---- no block more
 
 module _ (heap new : Dlmalloc PagedSystem) (blocks : List (Option Live)) (size : ℕ) (error : MallocError) (denied : IsRefusedWith regions word follows refuses denies heap size error new) where
-  -- what is seen of a machine with a heap
-  abbrev seen_of : Dlmalloc PagedSystem → Seen
-  seen_of heap = record { paged = paged heap.system; granularity = heap.granularity; blocks = blocks }
-
   -- a refused request leaves the machine as it was
-  pub seen_denied : seen_of new ≡ seen_of heap
+  pub seen_denied : seen_of new blocks ≡ seen_of heap blocks
   seen_denied i = record { paged = denied.same.refused i; granularity = (ap (λ (h : HeapState). h.granularity) denied.same.state) i; blocks = blocks }
 
   pub laid_denied : IsLaidOut heap blocks → IsLaidOut new blocks
@@ -221,7 +290,7 @@ module _ (heap new : Dlmalloc PagedSystem) (blocks : List (Option Live)) (number
         record {
           number = was.number;
           live = was.live;
-          is = stays_at blocks number was.number was.live (λ e. (let same : was.live ≡ live = cc (was.is, is, e) in let at = ap (λ (l : Live). l.address) same in apart (omega arith))) was.is;
+          is = replaced_stays blocks number was.number was.live None (λ e. (let same : was.live ≡ live = cc (was.is, is, e) in let at = ap (λ (l : Live). l.address) same in apart (omega arith))) was.is;
           place = was.place;
         });
     distinct = λ i j a b is_a is_b differ. laid.distinct i j a b (left_at blocks number i a is_a).1 (left_at blocks number j b is_b).1 differ;

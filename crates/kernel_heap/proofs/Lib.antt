@@ -8,10 +8,13 @@ pub mod Calls
 pub mod Granted
 pub mod Allocated
 pub mod Laid
+pub mod HeapCalls
 pub mod BlockPlaces
 pub mod Full
 pub mod Refused
+pub mod Found
 pub mod Handed
+pub mod Resized
 pub mod Ended
 pub mod BlockBytes
 pub mod WholeRegions

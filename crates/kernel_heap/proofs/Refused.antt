@@ -1,36 +1,43 @@
 -- A request is refused.
-use Rattle.std.proofs.Common.{◌≡◌, ℕ, ◌+◌, ◌<◌, ◌≤◌, inl, inr, nat_le, refl, sym, ap, ◌∙◌, subst, arith, [], List, Option, Some, None, true, false}
+use Rattle.std.proofs.Common.{◌≡◌, ℕ, ◌+◌, ◌<◌, ◌≤◌, inl, inr, Bool, nat_le, if◌then◌else◌, refl, sym, ap, ◌∙◌, subst, arith, [], List, Option, Some, None, true, false}
 use Rattle.std.proofs.lemmas.Bool.Decides.{nat_tests}
-use Rattle.heap_memory.specs.declared.grant.GrantFault.TheVariants.{NoSpace as SystemNoSpace, NoFrames as SystemNoFrames}
-use Rattle.dlmalloc_chunks.specs.Request.{round_up, padded, limit}
-use Rattle.dlmalloc.specs.Served.{IsDenied}
+use Rattle.heap_memory.specs.declared.grant.GrantFault.TheVariants.{NoSpace as SystemNoSpace, NoFrames as SystemNoFrames, OutOfMemory as SystemOutOfMemory}
+use Rattle.std.specs.Int.{is_power_of_two}
+use Rattle.dlmalloc_chunks.specs.Request.{round_up, padded, enlarged, wanted, limit}
+use Rattle.dlmalloc_chunks.proofs.PowersOfTwo.{power_from_test}
+use Rattle.dlmalloc_chunks.proofs.Wanted.{wanted_few, wanted_many}
+use Rattle.dlmalloc.specs.Requested.{asked}
+use Rattle.dlmalloc.specs.Served.{IsDenied, IsRefused, IsRefusedWith}
+use Rattle.dlmalloc.specs.declared.malloc_error.MallocError.{MallocError}
+use Rattle.dlmalloc.specs.declared.malloc_error.MallocError.TheVariants.{TooLarge as MallocTooLarge, System}
 use Rattle.dlmalloc.specs.declared.heap.Dlmalloc.{Dlmalloc}
 use Rattle.heap_model.specs.declared.live.Live.{Live}
 use Rattle.heap_model.specs.declared.region.Region.{Region}
 use Rattle.heap_model.specs.declared.answer.Refusal.{Refusal}
-use Rattle.heap_model.specs.declared.answer.Refusal.TheVariants.{TooLarge, NoSpace, NoFrames}
+use Rattle.heap_model.specs.declared.answer.Refusal.TheVariants.{BadAlign, TooLarge, NoSpace, NoFrames}
 use Rattle.heap_model.specs.declared.answer.Reply.TheVariants.{Refused}
 use Rattle.heap_model.specs.declared.answer.Answer.{Answer}
 use Rattle.heap_model.specs.declared.call.Call.{Call}
-use Rattle.heap_model.specs.declared.call.Call.TheVariants.{Malloc, Free, Write, Read, Extents}
-use Rattle.heap_model.specs.Request.{wanted, pages_in, pages_for}
-use Rattle.heap_model.specs.State.{State}
+use Rattle.heap_model.specs.declared.call.Call.TheVariants.{Malloc, Calloc, Realloc, CRealloc, Free, Write, Read, Extents}
+use Rattle.heap_model.specs.Request.{pages_in, pages_for}
+use Rattle.heap_model.specs.State.{State, Block}
 use Rattle.heap_model.specs.Tables.{missing, free_frames}
 use Rattle.heap_model.specs.Place.{all_regions, IsPlace, HasNoPlace}
-use Rattle.heap_model.specs.Refusal.{must_refuse, MayRefuse}
+use Rattle.heap_model.specs.Refusal.{is_too_large, refuse_request, refuse_resizing, must_refuse, wanted_by, MayRefuse}
 use Rattle.heap_model.specs.Answer.{changed}
 use Rattle.heap_model.specs.Run.{IsGood}
 use Rattle.heap_model.specs.Machine.{Seen, Stands, IsStep}
 use Rattle.heap_model.proofs.Granted.{missing_same}
 use Rattle.kernel_heap.specs.Layout.{regions_end}
 use Rattle.kernel_heap.specs.System.{paged}
-use Rattle.kernel_heap.specs.Heap.{heap_state, denies}
-use Rattle.kernel_heap.specs.Machine.{IsLaidOut}
+use Rattle.kernel_heap.specs.Heap.{regions, word, follows, refuses, denies, heap_state}
+use Rattle.kernel_heap.specs.Machine.{IsLaidOut, seen_of, refusal_of, IsRefusalOf, request}
 use Rattle.kernel_heap.specs.declared.paged_system.PagedSystem.{PagedSystem}
 use Rattle.kernel_heap.proofs.Alone.{heap_alone, no_users}
 use Rattle.kernel_heap.proofs.Full.{no_room}
 use Rattle.kernel_heap.proofs.Pages.{pages_some, asked_some}
 use Rattle.kernel_heap.proofs.Places.{range_within}
+use Rattle.kernel_heap.proofs.Laid.{seen_denied}
 
 abbrev pub refused_with : Refusal → Answer
 refused_with refusal = record { reply = Refused refusal; regions = None }
@@ -38,6 +45,9 @@ refused_with refusal = record { reply = Refused refusal; regions = None }
 -- a refusal changes nothing
 changed_refused : (s : State) (call : Call) (refusal : Refusal) → changed s call (Refused refusal) ≡ s
 changed_refused s (Malloc size align) refusal = refl
+changed_refused s (Calloc size align) refusal = refl
+changed_refused s (Realloc number size) refusal = refl
+changed_refused s (CRealloc number size) refusal = refl
 changed_refused s (Free number) refusal = refl
 changed_refused s (Write number offset bytes) refusal = refl
 changed_refused s (Read number offset count) refusal = refl
@@ -51,17 +61,56 @@ step_refused m s call refusal must good stands = record {
   stands = subst (Stands m) (sym (changed_refused s call refusal)) stands;
 }
 
--- from the limit on
-pub step_too_large : (m : Seen) (s : State) (size : ℕ) → limit m.granularity ≤ size → IsGood s → Stands m s → IsStep s (Malloc size 16) (refused_with TooLarge) m
-step_too_large m s size more good stands =
-    step_refused m s (Malloc size 16) TooLarge (too_large s size (subst (λ g. limit g ≤ size) stands.granularity more)) good stands
-  where
-    too_large : (s : State) (size : ℕ) → limit s.granularity ≤ size → must_refuse s (Malloc size 16) ≡ Some TooLarge
-    too_large s size least = let large : nat_le (limit s.granularity) size ≡ true = grind (arith, nat_tests) in rw large refl
+-- a request for a block is refused by its size and alignment alone
+pub request_refused : (cleared : Bool) (s : State) (size align : ℕ) → must_refuse s (request cleared size align) ≡ refuse_request s.granularity size align
+request_refused false s size align = refl
+request_refused true s size align = refl
 
--- a request below the limit is not refused at once
-pub not_refused : (s : State) (size : ℕ) → size < limit s.granularity → must_refuse s (Malloc size 16) ≡ None
-not_refused s size less = let small : nat_le (limit s.granularity) size ≡ false = grind (arith, nat_tests) in rw small refl
+pub request_wants : (cleared : Bool) (s : State) (size align : ℕ) → wanted_by s (request cleared size align) ≡ Some (wanted size align)
+request_wants false s size align = refl
+request_wants true s size align = refl
+
+-- an alignment that is no power of two
+pub refused_align : (granularity size align : ℕ) → is_power_of_two align ≡ false → refuse_request granularity size align ≡ Some BadAlign
+refused_align granularity size align test = rw test refl
+
+-- what is asked of the heap is from the limit on
+is_large : (granularity size align : ℕ) → limit granularity ≤ asked size align → (if is_too_large granularity size align then Some TooLarge else None) ≡ Some TooLarge
+is_large granularity size align most = go (nat_le align 16) refl
+  where
+    go : (few : Bool) → nat_le align 16 ≡ few → (if is_too_large granularity size align then Some TooLarge else None) ≡ Some TooLarge
+    go true is = (let large : nat_le (limit granularity) size ≡ true = (let asked_is : asked size align ≡ size = rw is refl in grind (arith, nat_tests)) in rw (is, large) refl)
+    go false is = (let large : nat_le (limit granularity) (enlarged size align) ≡ true = (let asked_is : asked size align ≡ enlarged size align = rw is refl in grind (arith, nat_tests)) in rw (is, large) refl)
+
+-- it is below
+not_large : (granularity size align : ℕ) → asked size align < limit granularity → (if is_too_large granularity size align then Some TooLarge else None) ≡ None
+not_large granularity size align less = go (nat_le align 16) refl
+  where
+    go : (few : Bool) → nat_le align 16 ≡ few → (if is_too_large granularity size align then Some TooLarge else None) ≡ None
+    go true is = (let small : nat_le (limit granularity) size ≡ false = (let asked_is : asked size align ≡ size = rw is refl in grind (arith, nat_tests)) in rw (is, small) refl)
+    go false is = (let small : nat_le (limit granularity) (enlarged size align) ≡ false = (let asked_is : asked size align ≡ enlarged size align = rw is refl in grind (arith, nat_tests)) in rw (is, small) refl)
+
+-- so a request is refused at once, or is not
+pub refused_large : (granularity size align : ℕ) → is_power_of_two align ≡ true → limit granularity ≤ asked size align → refuse_request granularity size align ≡ Some TooLarge
+refused_large granularity size align power most = rw power (is_large granularity size align most)
+
+pub not_refused : (granularity size align : ℕ) → is_power_of_two align ≡ true → asked size align < limit granularity → refuse_request granularity size align ≡ None
+not_refused granularity size align power less = rw power (not_large granularity size align less)
+
+-- and a block may get this size
+pub not_refused_resizing : (granularity size : ℕ) (align : Block → ℕ) (block : Block) → asked size (align block) < limit granularity → refuse_resizing granularity size align (Some block) ≡ None
+not_refused_resizing granularity size align block less = not_large granularity size (align block) less
+
+pub large_resizing : (granularity size : ℕ) (align : Block → ℕ) (block : Block) → limit granularity ≤ asked size (align block) → refuse_resizing granularity size align (Some block) ≡ Some TooLarge
+large_resizing granularity size align block most = is_large granularity size (align block) most
+
+-- the chunk of what is asked of the heap is the one that is wanted
+pub wanted_asked : (size align : ℕ) → is_power_of_two align ≡ true → padded (asked size align) ≡ wanted size align
+wanted_asked size align power = go (nat_le align 16) refl
+  where
+    go : (few : Bool) → nat_le align 16 ≡ few → padded (if few then size else enlarged size align) ≡ wanted size align
+    go true is = sym (wanted_few size align (grind (arith, nat_tests)))
+    go false is = wanted_many size align (power_from_test align power) (grind (arith, nat_tests))
 
 -- what a state has of the regions of a machine
 module _ (system : PagedSystem) (m : Seen) (same : m.paged ≡ paged system) (s : State) (good : IsGood s) (stands : Stands m s) where
@@ -89,55 +138,71 @@ module _ (system : PagedSystem) (m : Seen) (same : m.paged ≡ paged system) (s 
 
 module _ (heap : Dlmalloc PagedSystem) (blocks : List (Option Live)) (laid : IsLaidOut heap blocks) (s : State) (good : IsGood s)
     (stands : Stands (record { paged = paged heap.system; granularity = heap.granularity; blocks = blocks }) s)
-    (size : ℕ) (small : size < limit heap.granularity) where
+    (call : Call) (n : ℕ) (must : must_refuse s call ≡ None) (wants : wanted_by s call ≡ Some n) where
   abbrev m : Seen
   m = record { paged = paged heap.system; granularity = heap.granularity; blocks = blocks }
 
-  below : size < limit s.granularity
-  below = subst (λ g. size < limit g) stands.granularity small
+  abbrev asked_pages : ℕ
+  asked_pages = pages_in (round_up (n + 96) heap.granularity)
 
-  pages_same : pages_for (padded size) s.granularity ≡ pages_in (round_up (padded size + 96) heap.granularity)
+  pages_same : pages_for n s.granularity ≡ asked_pages
   unfolding pages_for
-  pages_same = ap (λ g. pages_in (round_up (padded size + 96) g)) (sym stands.granularity)
+  pages_same = ap (λ g. pages_in (round_up (n + 96) g)) (sym stands.granularity)
+
+  -- a refusal that may come, comes
+  step_may : (refusal : Refusal) → MayRefuse s (Some n) refusal → IsStep s call (refused_with refusal) m
+  step_may refusal may = record {
+    allowed = record { reply = (refl, inr (must, subst (λ w. MayRefuse s w refusal) (sym wants) may)); listed = tt };
+    good = subst IsGood (sym (changed_refused s call refusal)) good;
+    stands = subst (Stands m) (sym (changed_refused s call refusal)) stands;
+  }
 
   -- the pages have no place
-  pub step_no_space : IsDenied denies heap.system (heap_state heap) (padded size) SystemNoSpace → IsStep s (Malloc size 16) (refused_with NoSpace) m
-  unfolding wanted
+  step_no_space : IsDenied denies heap.system (heap_state heap) n SystemNoSpace → IsStep s call (refused_with NoSpace) m
   step_no_space is =
-      let none_fits : HasNoPlace s.base s.pages (all_regions s) (pages_in (round_up (padded size + 96) heap.granularity)) =
-      no_place_same heap.system m refl s good stands (pages_in (round_up (padded size + 96) heap.granularity)) (is.denied (λ e. absurd (cc))) in
-      let may : MayRefuse s (Some (wanted size 16)) NoSpace =
-      (no_room heap blocks laid s good stands (padded size) is.full, subst (HasNoPlace s.base s.pages (all_regions s)) (sym pages_same) none_fits) in
-      record {
-        allowed = record { reply = (refl, inr (not_refused s size below, may)); listed = tt };
-        good = good;
-        stands = stands;
-      }
+      let none_fits : HasNoPlace s.base s.pages (all_regions s) asked_pages = no_place_same heap.system m refl s good stands asked_pages (is.denied (λ e. absurd (cc))) in
+      step_may NoSpace (no_room heap blocks laid s good stands n is.full, subst (HasNoPlace s.base s.pages (all_regions s)) (sym pages_same) none_fits)
 
   -- they have one, but too few frames
-  pub step_no_frames : IsDenied denies heap.system (heap_state heap) (padded size) SystemNoFrames → IsStep s (Malloc size 16) (refused_with NoFrames) m
-  unfolding wanted
+  step_no_frames : IsDenied denies heap.system (heap_state heap) n SystemNoFrames → IsStep s call (refused_with NoFrames) m
   step_no_frames is =
-      let pages : ℕ = pages_in (round_up (padded size + 96) heap.granularity) in
-      let some = pages_some (round_up (padded size + 96) heap.granularity) (asked_some (padded size) heap.granularity laid.heap_sound.granularity) in
+      let some = pages_some (round_up (n + 96) heap.granularity) (asked_some n heap.granularity laid.heap_sound.granularity) in
       let f = stands.free_frames in
       let lacks = is.denied (λ e. absurd (cc)) in
       let few = lacks.2 in
-      let range = range_within (paged heap.system) (pages_in (round_up (padded size + 96) heap.granularity)) lacks.0 heap.system.kept.window some lacks.1.fit in
-      let place : IsPlace s.base s.pages (all_regions s) (pages_in (round_up (padded size + 96) heap.granularity)) lacks.0 =
-      place_same heap.system m refl s good stands (pages_in (round_up (padded size + 96) heap.granularity)) lacks.0 lacks.1 in
-      let same = missing_same m s lacks.0 (pages_in (round_up (padded size + 96) heap.granularity)) stands range in
-      let less : free_frames s < pages_in (round_up (padded size + 96) heap.granularity) + missing s.tables lacks.0 (pages_in (round_up (padded size + 96) heap.granularity)) = omega arith in
-      let may : MayRefuse s (Some (wanted size 16)) NoFrames = (
-        no_room heap blocks laid s good stands (padded size) is.full,
+      let range = range_within (paged heap.system) asked_pages lacks.0 heap.system.kept.window some lacks.1.fit in
+      let place : IsPlace s.base s.pages (all_regions s) asked_pages lacks.0 = place_same heap.system m refl s good stands asked_pages lacks.0 lacks.1 in
+      let same = missing_same m s lacks.0 asked_pages stands range in
+      let less : free_frames s < asked_pages + missing s.tables lacks.0 asked_pages = omega arith in
+      step_may NoFrames (
+        no_room heap blocks laid s good stands n is.full,
         (
           lacks.0,
           subst (λ k. IsPlace s.base s.pages (all_regions s) k lacks.0) (sym pages_same) place,
           subst (λ k. free_frames s < k + missing s.tables lacks.0 k) (sym pages_same) less,
         ),
-      ) in
-      record {
-        allowed = record { reply = (refl, inr (not_refused s size below, may)); listed = tt };
-        good = good;
-        stands = stands;
-      }
+      )
+
+-- What the heap refuses, is refused for the same cause.
+pub step_denied : (heap new : Dlmalloc PagedSystem) (blocks : List (Option Live)) (laid : IsLaidOut heap blocks) (s : State) (good : IsGood s)
+    (stands : Stands (seen_of heap blocks) s) (call : Call) (asked n : ℕ) → padded asked ≡ n → (limit s.granularity ≤ asked → must_refuse s call ≡ Some TooLarge) → (asked < limit s.granularity → must_refuse s call ≡ None) →
+    wanted_by s call ≡ Some n → (error : MallocError) → IsRefusedWith regions word follows refuses denies heap asked error new → (answer : Answer) → IsRefusalOf error answer → IsStep s call answer (seen_of new blocks)
+step_denied heap new blocks laid s good stands call asked n same large small wants error denied answer given =
+    subst (λ (m : Seen). IsStep s call answer m) (sym (seen_denied heap new blocks asked error denied))
+    (subst (λ (a : Answer). IsStep s call a (seen_of heap blocks)) (sym given.2) (go error given.0 given.1 denied.refused))
+  where
+    go : (error : MallocError) (refusal : Refusal) → refusal_of error ≡ Some refusal → IsRefused denies heap.system (heap_state heap) asked error → IsStep s call (refused_with refusal) (seen_of heap blocks)
+    go MallocTooLarge refusal is most =
+        let one : TooLarge ≡ refusal = cc in
+        subst (λ r. IsStep s call (refused_with r) (seen_of heap blocks)) one (step_refused (seen_of heap blocks) s call TooLarge (large (subst (λ g. limit g ≤ asked) stands.granularity most)) good stands)
+    go (System SystemNoSpace) refusal is why =
+        let one : NoSpace ≡ refusal = cc in
+        subst (λ r. IsStep s call (refused_with r) (seen_of heap blocks)) one
+        (step_no_space heap blocks laid s good stands call n (small (subst (λ g. asked < limit g) stands.granularity why.0)) wants
+        (subst (λ k. IsDenied denies heap.system (heap_state heap) k SystemNoSpace) same why.1))
+    go (System SystemNoFrames) refusal is why =
+        let one : NoFrames ≡ refusal = cc in
+        subst (λ r. IsStep s call (refused_with r) (seen_of heap blocks)) one
+        (step_no_frames heap blocks laid s good stands call n (small (subst (λ g. asked < limit g) stands.granularity why.0)) wants
+        (subst (λ k. IsDenied denies heap.system (heap_state heap) k SystemNoFrames) same why.1))
+    go (System SystemOutOfMemory) refusal is why = absurd (cc)

@@ -1,21 +1,28 @@
 -- What contracts see of a machine, which is a numbered heap, and how it lays out its blocks.
-use Rattle.std.specs.Prelude.{◌≡◌, ◌≢◌, ℕ, ◌+◌, ◌-◌, ◌≤◌, ⊤, List, [], ◌∷◌, map, slice_index_or, Option, Some, None, MatchOption, nat_lt, if◌then◌else◌}
+use Rattle.std.specs.Prelude.{◌≡◌, ◌≢◌, ℕ, ◌+◌, ◌-◌, ◌%◌, ◌<◌, ◌≤◌, ◌⊎◌, Bool, true, false, List, [], ◌∷◌, map, slice_index_or, Option, Some, None, MatchOption, nat_lt, if◌then◌else◌}
+use Rattle.std.specs.Int.{IsPowerOfTwo}
 use Rattle.dlmalloc_chunks.specs.declared.extent.Extent.{Extent}
 use Rattle.dlmalloc_chunks.specs.declared.extent.Kind.TheVariants.{Used}
 use Rattle.dlmalloc.specs.Extents.{extent_at}
 use Rattle.dlmalloc.specs.State.{HeapState, Segment, extents_in, shown}
-use Rattle.dlmalloc_chunks.specs.Request.{padded}
+use Rattle.dlmalloc_chunks.specs.Request.{padded, enlarged}
 use Rattle.dlmalloc.specs.Blocks.{IsBlock}
 use Rattle.dlmalloc.specs.Freed.{freed}
+use Rattle.dlmalloc.specs.Aligned.{aligned_place, aligned}
+use Rattle.dlmalloc.specs.Resized.{in_place}
 use Rattle.dlmalloc.specs.Served.{IsCut}
 use Rattle.dlmalloc.specs.declared.heap.Dlmalloc.{Dlmalloc}
+use Rattle.dlmalloc.specs.declared.malloc_error.MallocError.{MallocError}
+use Rattle.dlmalloc.specs.declared.malloc_error.MallocError.TheVariants.{TooLarge, System}
+use Rattle.heap_memory.specs.declared.grant.GrantFault.TheVariants.{NoSpace, NoFrames, OutOfMemory}
 use Rattle.heap_model.specs.declared.live.Live.{Live}
 use Rattle.heap_model.specs.declared.call.Call.{Call}
-use Rattle.heap_model.specs.declared.call.Call.TheVariants.{Malloc, Free, Write, Read, Extents}
+use Rattle.heap_model.specs.declared.call.Call.TheVariants.{Malloc, Calloc, Realloc, CRealloc, Free, Extents}
+use Rattle.heap_model.specs.declared.answer.Answer.{Answer}
 use Rattle.heap_model.specs.declared.answer.Reply.{Reply}
-use Rattle.heap_model.specs.declared.answer.Reply.TheVariants.{Block as Placed, Done, Extents as Listed}
+use Rattle.heap_model.specs.declared.answer.Reply.TheVariants.{Block as Placed, Done, Extents as Listed, Refused}
 use Rattle.heap_model.specs.declared.answer.Refusal.{Refusal}
-use Rattle.heap_model.specs.declared.answer.Refusal.TheVariants.{UnknownBlock, OutOfBlock}
+use Rattle.heap_model.specs.declared.answer.Refusal.TheVariants.{TooLarge as IsTooLarge, NoSpace as HasNoSpace, NoFrames as HasNoFrames, UnknownBlock, OutOfBlock}
 use Rattle.heap_model.specs.Machine.{Paged, Seen}
 use Rattle.kernel_heap.specs.Layout.{regions_end}
 use Rattle.kernel_heap.specs.System.{paged}
@@ -27,8 +34,12 @@ use Rattle.kernel_heap.specs.declared.numbered_heap.NumberedHeap.{NumberedHeap}
 abbrev pub system_of : NumberedHeap → PagedSystem
 system_of machine = machine.heap.system
 
+-- what is seen of a heap with these blocks
+abbrev pub seen_of : Dlmalloc PagedSystem → List (Option Live) → Seen
+seen_of heap blocks = record { paged = paged heap.system; granularity = heap.granularity; blocks = blocks }
+
 abbrev pub seen : NumberedHeap → Seen
-seen machine = record { paged = paged machine.heap.system; granularity = machine.heap.granularity; blocks = machine.blocks.items }
+seen machine = seen_of machine.heap machine.blocks.items
 
 -- the state of the machine's heap
 abbrev pub heap_of : NumberedHeap → HeapState
@@ -56,10 +67,10 @@ Spans [] p = p.regions ≡ []
 Spans (segment ∷ []) p = (segment.base ≡ p.base) × (segment.base + segment.size ≡ regions_end p)
 Spans (first ∷ second ∷ segments) p = ⊥
 
--- a live block is one of the heap's
+-- a live block is one of the heap's, at an alignment
 pub record IsLive (heap : HeapState) (live : Live) : Type 0 where
   pub block : IsBlock heap live.address live.size
-  pub align : live.align ≡ 16
+  pub align : IsPowerOfTwo live.align
 
 -- an extent in use is that of a live block
 pub record HasLive (blocks : List (Option Live)) (extent : Extent) : Type 0 where
@@ -81,19 +92,66 @@ pub record IsLaidOut (heap : Dlmalloc PagedSystem) (blocks : List (Option Live))
 abbrev pub IsSound : NumberedHeap → Type 0
 IsSound machine = IsLaidOut machine.heap machine.blocks.items
 
--- the calls that are served: blocks at a multiple of 16
-abbrev pub IsServable : Call → Type 0
-IsServable (Malloc size align) = align ≡ 16
-IsServable (Free number) = ⊤
-IsServable (Write number offset bytes) = ⊤
-IsServable (Read number offset count) = ⊤
-IsServable Extents = ⊤
+-- How a block at an alignment comes: a chunk is cut for it; above 16 a greater chunk is cut, and what is in it before the
+-- aligned place and behind the block there is freed.
+abbrev pub IsCutAt : PagedSystem → HeapState → ℕ → ℕ → ℕ → PagedSystem → HeapState → Type 0
+IsCutAt system old size align address system' new =
+    ((align ≤ 16) × IsCut follows regions system old (padded size) (address - 16) system' new)
+    ⊎ ((16 < align) × ((middle : PagedSystem) × (heap : HeapState) × (at : ℕ) × IsCut follows regions system old (padded (enlarged size align)) at middle heap × follows middle [] system'
+    × (address ≡ aligned_place at align + 16) × (new ≡ aligned heap at align (padded size))))
 
--- How the state of the heap moves in a step: a block is cut, a block is freed, and nothing else changes it. The extents
--- that are listed are the heap's.
+-- so it comes, and is cleared then where that is asked for
+abbrev pub IsCutFor : Bool → PagedSystem → HeapState → ℕ → ℕ → ℕ → PagedSystem → HeapState → Type 0
+IsCutFor false system old size align address system' new = IsCutAt system old size align address system' new
+IsCutFor true system old size align address system' new = (middle : PagedSystem) × IsCutAt system old size align address middle new × follows middle [] system'
+
+-- the words that hold so many bytes from an address on are 0
+abbrev pub AreZero : (ℕ → ℕ) → ℕ → ℕ → Type 0
+AreZero words address size = (k : ℕ) → address ≤ k → k < address + size → k % 8 ≡ 0 → words k ≡ 0
+
+-- the refusal that the heap gives; want of memory is none
+abbrev pub refusal_of : MallocError → Option Refusal
+refusal_of TooLarge = Some IsTooLarge
+refusal_of (System NoSpace) = Some HasNoSpace
+refusal_of (System NoFrames) = Some HasNoFrames
+refusal_of (System OutOfMemory) = None
+
+-- an answer is the refusal that the heap gave
+abbrev pub IsRefusalOf : MallocError → Answer → Type 0
+IsRefusalOf error answer = (refusal : Refusal) × (refusal_of error ≡ Some refusal) × (answer ≡ record { reply = Refused refusal; regions = None })
+
+-- the call that asks for a block, of value 0 or not
+abbrev pub request : Bool → ℕ → ℕ → Call
+request false size align = Malloc size align
+request true size align = Calloc size align
+
+-- the call that gives a block another size, with its own alignment or the least
+abbrev pub resizing : Bool → ℕ → ℕ → Call
+resizing true number size = Realloc number size
+resizing false number size = CRealloc number size
+
+-- the alignment that a live block has then
+abbrev pub align_kept : Bool → Live → ℕ
+align_kept true live = live.align
+align_kept false live = 16
+
+-- How a block gets another size: where it stands if that can be, and never so above 16; else a block is cut for it, its
+-- bytes are copied, and it is freed.
+abbrev pub IsResizedTo : PagedSystem → HeapState → ℕ → ℕ → ℕ → ℕ → PagedSystem → HeapState → Type 0
+IsResizedTo system old from size align address system' new =
+    ((align ≤ 16) × (address ≡ from) × (in_place old (from - 16) (padded size) ≡ Some new) × follows system [] system')
+    ⊎ ((align ≤ 16 → in_place old (from - 16) (padded size) ≡ None)
+    × ((middle : PagedSystem) × (heap : HeapState) × IsCutAt system old size align address middle heap × follows middle [] system' × (new ≡ freed heap (from - 16))))
+
+-- How the state of the heap moves in a step: a block is cut, and may be cleared then, a block gets another size or is
+-- freed, and nothing else changes it. The extents that are listed are the heap's.
 abbrev pub HeapMoves : NumberedHeap → Call → Reply → NumberedHeap → Type 0
-HeapMoves old (Malloc size align) (Placed number address) new =
-    IsCut follows regions (system_of old) (heap_of old) (padded size) (address - 16) (system_of new) (heap_of new)
+HeapMoves old (Malloc size align) (Placed number address) new = IsCutFor false (system_of old) (heap_of old) size align address (system_of new) (heap_of new)
+HeapMoves old (Calloc size align) (Placed number address) new = IsCutFor true (system_of old) (heap_of old) size align address (system_of new) (heap_of new)
+HeapMoves old (Realloc number size) (Placed given address) new =
+    MatchOption (live_at old.blocks.items number) ⊥ (λ live. IsResizedTo (system_of old) (heap_of old) live.address size live.align address (system_of new) (heap_of new))
+HeapMoves old (CRealloc number size) (Placed given address) new =
+    MatchOption (live_at old.blocks.items number) ⊥ (λ live. IsResizedTo (system_of old) (heap_of old) live.address size 16 address (system_of new) (heap_of new))
 HeapMoves old (Free number) Done new = MatchOption (live_at old.blocks.items number) ⊥ (λ live. heap_of new ≡ freed (heap_of old) (live.address - 16))
 HeapMoves old Extents (Listed list) new = (heap_of new ≡ heap_of old) × (list ≡ map (shown (heap_of old)) (extents_in (heap_of old)))
 HeapMoves old call reply new = heap_of new ≡ heap_of old

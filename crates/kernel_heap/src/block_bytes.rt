@@ -20,7 +20,7 @@ impl NumberedHeap {
         ensures placed { ArePlaced (regions (system_of self.now)) (heap_of self.now) }
     {
         self.heap.blocks_are_placed();
-        let Some(Some(live)) = self.blocks.get(number as usize) else {
+        let Some(live) = self.live(number) else {
             return Err(Refusal::UnknownBlock);
         };
         if offset > live.size || count > live.size - offset {

@@ -38,7 +38,7 @@ impl Model for Machine {
 }
 
 impl Machine {
-    ghost use Rattle.kernel_heap.specs.Machine.{seen, system_of, heap_of, HeapMoves, IsServable};
+    ghost use Rattle.kernel_heap.specs.Machine.{seen, system_of, heap_of, HeapMoves};
 
     /// A machine with the configuration's window, granularity and frames. A configuration from which none can be
     /// made is refused before any memory is taken.
@@ -75,7 +75,6 @@ impl Machine {
     /// machine stands for the state that the answer leaves. An `Err` leaves the machine as it was. A write and a free
     /// take no memory, and are always answered.
     pub fn step(&mut self, call: &Call) -> Result<Answer, AllocError>
-        requires { IsServable call.now }
         ensures ok { (s : State) → IsGood s → Stands (seen self.old) s → IfOk result (λ answer. IsStep s call.now answer (seen self.new)) }
         ensures err { OnErr result (seen self.new ≡ seen self.old) }
         ensures heap { IfOk result (λ answer. HeapMoves self.old call.now answer.reply self.new) }
@@ -84,7 +83,10 @@ impl Machine {
         ensures write { (number offset : ℕ) (bytes : List ℕ) → call.now ≡ Call.Write number offset bytes → IsOk result }
     {
         match call {
-            Call::Malloc { size, .. } => self.heap.malloc(*size),
+            Call::Malloc { size, align } => self.heap.hand_out(*size, *align, false),
+            Call::Calloc { size, align } => self.heap.hand_out(*size, *align, true),
+            Call::Realloc { block, size } => self.heap.resize(*block, *size, true),
+            Call::CRealloc { block, size } => self.heap.resize(*block, *size, false),
             Call::Free { block } => Ok(self.heap.free(*block)),
             Call::Write {
                 block,

@@ -3,6 +3,7 @@ ghost use Rattle.std.specs.Prelude.{◌≡◌, ◌≢◌, ℕ, ◌<◌, ◌≤�
 ghost use Rattle.heap_model.specs.State.{State};
 ghost use Rattle.heap_model.specs.Run.{IsGood};
 ghost use Rattle.heap_model.specs.Machine.{Stands, IsStep};
+ghost use Rattle.kernel_heap.specs.Machine.{refusal_of, IsRefusalOf, align_kept};
 
 use crate::heap_calls;
 use crate::paged_system::PagedSystem;
@@ -13,8 +14,8 @@ use std::alloc::{AllocError, Global};
 use std::marker::Brand;
 use std::sync::ledger::Blank;
 
-/// The alignment of the blocks that are handed out, in bytes.
-const ALIGNMENT: u64 = 16;
+/// The alignment that every block has, in bytes.
+const LEAST_ALIGNMENT: u64 = 16;
 
 /// The answer that refuses a call.
 pub(crate) fn refused(refusal: Refusal) -> Answer
@@ -23,6 +24,26 @@ pub(crate) fn refused(refusal: Refusal) -> Answer
     Answer {
         reply: Reply::Refused(refusal),
         regions: None,
+    }
+}
+
+/// The alignment that a live block has with another size: its own, or the least.
+fn alignment_kept(live: Live, keeps: bool) -> u64
+    ensures { result ≡ align_kept keeps live }
+{
+    if keeps { live.align } else { LEAST_ALIGNMENT }
+}
+
+/// The answer where the heap refuses. Want of memory leaves none.
+fn refused_by(error: MallocError) -> Result<Answer, AllocError>
+    ensures ok { IfOk result (λ answer. IsRefusalOf error answer) }
+    ensures err { OnErr result (refusal_of error ≡ None) }
+{
+    match error {
+        MallocError::TooLarge => Ok(refused(Refusal::TooLarge)),
+        MallocError::System(GrantFault::NoSpace) => Ok(refused(Refusal::NoSpace)),
+        MallocError::System(GrantFault::NoFrames) => Ok(refused(Refusal::NoFrames)),
+        MallocError::System(GrantFault::OutOfMemory) => Err(AllocError),
     }
 }
 
@@ -37,38 +58,92 @@ pub(crate) struct NumberedHeap {
 }
 
 impl NumberedHeap {
-    ghost use Rattle.kernel_heap.specs.Machine.{seen, heap_of, HeapMoves, IsSound};
+    ghost use Rattle.kernel_heap.specs.Machine.{seen, heap_of, live_at, request, resizing, HeapMoves, IsSound};
 
-    /// Hands out a block of `size` bytes. The answer and the block have their places before anything changes.
-    pub(crate) fn malloc(&mut self, size: u64) -> Result<Answer, AllocError>
+    /// Hands out a block of `size` bytes at a multiple of `align`, of value 0 where that is asked for. The answer and the
+    /// block have their places before anything changes.
+    pub(crate) fn hand_out(
+        &mut self,
+        size: u64,
+        align: u64,
+        cleared: bool,
+    ) -> Result<Answer, AllocError>
         requires sound { IsSound self.old }
         ensures sound { IsSound self.new }
-        ensures ok { (s : State) → IsGood s → Stands (seen self.old) s → IfOk result (λ answer. IsStep s (Call.Malloc size 16) answer (seen self.new)) }
+        ensures ok { (s : State) → IsGood s → Stands (seen self.old) s → IfOk result (λ answer. IsStep s (request cleared size align) answer (seen self.new)) }
         ensures err { OnErr result (seen self.new ≡ seen self.old) }
-        ensures heap { IfOk result (λ answer. HeapMoves self.old (Call.Malloc size 16) answer.reply self.new) }
+        ensures heap { IfOk result (λ answer. HeapMoves self.old (request cleared size align) answer.reply self.new) }
         ensures heap_err { OnErr result (heap_of self.new ≡ heap_of self.old) }
     {
+        if !align.is_power_of_two() {
+            return Ok(refused(Refusal::BadAlign));
+        }
         let count = self.heap.allocator().region_count();
         self.blocks.reserve(1)?;
         self.list.clear();
         self.list.reserve(count + 1)?;
-        match heap_calls::malloc::<Brand>(&mut self.heap, size, Blank::new(1)) {
+        match heap_calls::hand_out::<Brand>(&mut self.heap, size, align, cleared, Blank::new(1)) {
             Ok(address) => Ok(Answer {
-                reply: self.add_block(address, size),
+                reply: self.add_block(address, size, align),
                 regions: self.changed_regions(count),
             }),
-            Err(MallocError::TooLarge) => Ok(refused(Refusal::TooLarge)),
-            Err(MallocError::System(GrantFault::NoSpace)) => Ok(refused(Refusal::NoSpace)),
-            Err(MallocError::System(GrantFault::NoFrames)) => Ok(refused(Refusal::NoFrames)),
-            Err(MallocError::System(GrantFault::OutOfMemory)) => Err(AllocError),
+            Err(error) => refused_by(error),
+        }
+    }
+
+    /// Gives a block another size, at its own alignment or at the least. The answer has its places before anything
+    /// changes.
+    pub(crate) fn resize(
+        &mut self,
+        number: u64,
+        size: u64,
+        keeps_alignment: bool,
+    ) -> Result<Answer, AllocError>
+        requires sound { IsSound self.old }
+        ensures sound { IsSound self.new }
+        ensures ok { (s : State) → IsGood s → Stands (seen self.old) s → IfOk result (λ answer. IsStep s (resizing keeps_alignment number size) answer (seen self.new)) }
+        ensures err { OnErr result (seen self.new ≡ seen self.old) }
+        ensures heap { IfOk result (λ answer. HeapMoves self.old (resizing keeps_alignment number size) answer.reply self.new) }
+        ensures heap_err { OnErr result (heap_of self.new ≡ heap_of self.old) }
+    {
+        let Some(live) = self.live(number) else {
+            return Ok(refused(Refusal::UnknownBlock));
+        };
+        let align = alignment_kept(live, keeps_alignment);
+        let count = self.heap.allocator().region_count();
+        self.list.clear();
+        self.list.reserve(count + 1)?;
+        match heap_calls::resize::<Brand>(&mut self.heap, live, size, keeps_alignment, Blank::new(1)) {
+            Ok(address) => {
+                self.blocks[number as usize] = Some(Live {
+                    address,
+                    size,
+                    align,
+                });
+                Ok(Answer {
+                    reply: Reply::Block { number, address },
+                    regions: self.changed_regions(count),
+                })
+            }
+            Err(error) => refused_by(error),
+        }
+    }
+
+    /// The live block of a number, if there is one.
+    pub(crate) fn live(&self, number: u64) -> Option<Live>
+        ensures { result ≡ live_at (seen self.now).blocks number }
+    {
+        match self.blocks.get(number as usize) {
+            Some(live) => *live,
+            None => None,
         }
     }
 
     /// Numbers a block. It has its place among the blocks.
-    fn add_block(&mut self, address: u64, size: u64) -> Reply
+    fn add_block(&mut self, address: u64, size: u64, align: u64) -> Reply
         requires place { vec_len self.old.blocks < vec_capacity self.old.blocks }
         ensures reply { result ≡ Reply.Block (length self.old.blocks.items) address }
-        ensures blocks { self.new.blocks.items ≡ self.old.blocks.items ++ Some (record { address = address; size = size; align = 16 }) ∷ [] }
+        ensures blocks { self.new.blocks.items ≡ self.old.blocks.items ++ Some (record { address = address; size = size; align = align }) ∷ [] }
         ensures heap { self.new.heap ≡ self.old.heap }
         ensures list { self.new.list ≡ self.old.list }
     {
@@ -76,7 +151,7 @@ impl NumberedHeap {
         self.blocks.push_reserved(Some(Live {
             address,
             size,
-            align: ALIGNMENT,
+            align,
         }));
         Reply::Block { number, address }
     }
@@ -104,10 +179,9 @@ impl NumberedHeap {
         ensures ok { (s : State) → IsGood s → Stands (seen self.old) s → IsStep s (Call.Free number) result (seen self.new) }
         ensures heap { HeapMoves self.old (Call.Free number) result.reply self.new }
     {
-        let Some(Some(live)) = self.blocks.get(number as usize) else {
+        let Some(live) = self.live(number) else {
             return refused(Refusal::UnknownBlock);
         };
-        let live = *live;
         heap_calls::free::<Brand>(&mut self.heap, live, Blank::new(1));
         self.blocks[number as usize] = None;
         Answer {

@@ -5,11 +5,7 @@ use Rattle.heap_model.specs.declared.call.Call.{Call}
 use Rattle.heap_model.specs.Answer.{after}
 use Rattle.heap_model.specs.Run.{RunsTo}
 use Rattle.heap_program.specs.Text.{line_text}
-use Rattle.heap_program.proofs.Servable.{item_servable}
 use Rattle.heap_program.proofs.session.answer_line.Goals as goal
-
-pub step-requires : goal.step-requires
-step-requires c = item_servable c.args.line.now c.in-Some.call (sym c.in_ok-call.ensures ∙ c.in-Some.is)
 
 pub returns-in_ok-answer-in-Some : goal.returns-in_ok-answer-in-Some
 unfolding line_text

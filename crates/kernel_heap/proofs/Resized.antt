@@ -1,0 +1,257 @@
+-- A block gets another size, where it is or elsewhere: the answer is allowed, and the machine stands for the state with it.
+use Rattle.std.proofs.Common.{◌≡◌, ◌≢◌, ℕ, ◌+◌, ◌-◌, ◌*◌, ◌/◌, ◌%◌, ◌<◌, ◌≤◌, ◌⊎◌, min, max, inl, inr, List, [], ◌∷◌, length, map, slice_set, refl, sym, ap, ◌∙◌, subst, arith, Bool, true, false, not, ◌==◌, if◌then◌else◌, Option, Some, None, option_map}
+use Rattle.std.specs.Prelude.{slice_index}
+use Rattle.std.specs.List.{list_any}
+use Rattle.std.specs.Int.{w64, to_le_bytes, is_power_of_two, IsPowerOfTwo}
+use Rattle.paging_core.specs.Prefix.{Prefix}
+use Rattle.paging_core.specs.Walk.{reached}
+use Rattle.dlmalloc_chunks.specs.Request.{padded, limit, wanted}
+use Rattle.dlmalloc_chunks.proofs.PowersOfTwo.{test_of_power}
+use Rattle.dlmalloc_chunks.specs.declared.extent.Extent.{Extent}
+use Rattle.dlmalloc.specs.Extents.{extent_at}
+use Rattle.dlmalloc.specs.State.{extents_in}
+use Rattle.std.proofs.lemmas.Bool.Decides.{nat_tests}
+use Rattle.dlmalloc.specs.Blocks.{ArePlaced, BlocksAreApart}
+use Rattle.dlmalloc.specs.Requested.{asked, IsFound}
+use Rattle.dlmalloc.specs.Moved.{others_at, IsGivenSize}
+use Rattle.dlmalloc.specs.Served.{IsRefusedWith}
+use Rattle.dlmalloc.specs.declared.malloc_error.MallocError.{MallocError}
+use Rattle.heap_model.specs.declared.answer.Answer.{Answer}
+use Rattle.dlmalloc.specs.declared.heap.Dlmalloc.{Dlmalloc}
+use Rattle.heap_model.specs.declared.live.Live.{Live}
+use Rattle.heap_model.specs.declared.region.Region.{Region}
+use Rattle.heap_model.specs.declared.call.Call.{Call}
+use Rattle.heap_model.specs.declared.answer.Reply.TheVariants.{Block as Placed}
+use Rattle.heap_model.specs.declared.answer.Refusal.TheVariants.{UnknownBlock, TooLarge}
+use Rattle.heap_model.specs.State.{State, Known, Block, block_at, cell_at, cover, is_within}
+use Rattle.heap_model.specs.Memory.{HoldsBytes}
+use Rattle.heap_model.specs.Room.{AreApart, IsGrowth}
+use Rattle.heap_model.specs.Refusal.{own_align, least_align, refuse_resizing, must_refuse, wanted_by}
+use Rattle.heap_model.specs.Answer.{with_block, resized_block, heap_after, IsResizing, IsServed, changed}
+use Rattle.heap_model.specs.Run.{IsGood, IsGoodBlock}
+use Rattle.heap_model.specs.Machine.{Paged, Seen, Stands, IsStep, IsStill, outline}
+use Rattle.heap_model.proofs.Known.{known_within}
+use Rattle.heap_model.proofs.Placed.{outline_of, outline_at}
+use Rattle.heap_model.proofs.Resized.{length-resized, outline_changed, good_resized, holds_resized}
+use Rattle.kernel_heap.specs.System.{paged}
+use Rattle.kernel_heap.specs.Words.{word_reached}
+use Rattle.kernel_heap.specs.Heap.{regions, word, follows, refuses, denies, heap_state}
+use Rattle.kernel_heap.specs.Machine.{seen_of, live_at, IsLaidOut, IsRefusalOf, resizing, align_kept, IsResizedTo, HeapMoves}
+use Rattle.kernel_heap.specs.declared.numbered_heap.NumberedHeap.{NumberedHeap}
+use Rattle.kernel_heap.specs.declared.paged_system.PagedSystem.{PagedSystem}
+use Rattle.kernel_heap.proofs.BlockPlaces.{byte_kept, bytes_within}
+use Rattle.kernel_heap.proofs.Bytes.{reached_byte}
+use Rattle.kernel_heap.proofs.Found.{step_found}
+use Rattle.kernel_heap.proofs.Full.{behind}
+use Rattle.kernel_heap.proofs.Laid.{next_live, block_place, block_there, live_stays, live_beside}
+use Rattle.kernel_heap.proofs.Refused.{refused_with, step_refused, step_denied, wanted_asked, large_resizing, not_refused_resizing}
+use Rattle.kernel_heap.proofs.Still.{granted_same}
+
+-- an extent that is found elsewhere is found among the others
+other_there : (at : ℕ) (extent : Extent) (extents : List Extent) → extent.at ≢ at → extent_at extent.at extents ≡ Some extent → extent_at extent.at (others_at at extents) ≡ Some extent
+other_there at extent [] apart there = there
+other_there at extent (first ∷ extents) apart there = go (first.at == at) refl (first.at == extent.at) refl there (λ later. other_there at extent extents apart later)
+  where
+    go : (b : Bool) → (first.at == at) ≡ b → (c : Bool) → (first.at == extent.at) ≡ c → (if c then Some first else extent_at extent.at extents) ≡ Some extent →
+        (extent_at extent.at extents ≡ Some extent → extent_at extent.at (others_at at extents) ≡ Some extent) →
+        extent_at extent.at (if not b then first ∷ others_at at extents else others_at at extents) ≡ Some extent
+    go true is true same found later = absurd (let one : first.at ≡ at = grind (arith, nat_tests) in let two : first.at ≡ extent.at = grind (arith, nat_tests) in apart (sym two ∙ one))
+    go true is false other found later = later found
+    go false is true same found later = rw same found
+    go false is false other found later = rw other (later found)
+
+-- the alignment that a block of the state has then
+abbrev align_then : Bool → Block → ℕ
+align_then true = own_align
+align_then false = least_align
+
+changed_resizing : (keeps : Bool) (s : State) (number size given address : ℕ) → changed s (resizing keeps number size) (Placed given address) ≡ record s { blocks = with_block s.blocks number (resized_block address size (align_then keeps)) }
+changed_resizing true s number size given address = refl
+changed_resizing false s number size given address = refl
+
+pub refused_resizing : (keeps : Bool) (s : State) (number size : ℕ) → must_refuse s (resizing keeps number size) ≡ refuse_resizing s.granularity size (align_then keeps) (block_at s.blocks number)
+refused_resizing true s number size = refl
+refused_resizing false s number size = refl
+
+wanted_resizing : (keeps : Bool) (s : State) (number size : ℕ) → wanted_by s (resizing keeps number size) ≡ option_map (λ (b : Block). wanted size (align_then keeps b)) (block_at s.blocks number)
+wanted_resizing true s number size = refl
+wanted_resizing false s number size = refl
+
+serves_resizing : (keeps : Bool) (s : State) (number size address : ℕ) (block : Block) (list : Option (List Region)) → block_at s.blocks number ≡ Some block → IsResizing s block (wanted size (align_then keeps block)) address list →
+    IsServed s (resizing keeps number size) (Placed number address) list
+serves_resizing true s number size address block list is h = rw is (refl, h)
+serves_resizing false s number size address block list is h = rw is (refl, h)
+
+module _ (heap new : Dlmalloc PagedSystem) (blocks : List (Option Live)) (number : ℕ) (live : Live) (keeps : Bool) (size address : ℕ) (laid : IsLaidOut heap blocks)
+    (is : live_at blocks number ≡ Some live) (out : IsGivenSize regions word follows heap live.address live.size (align_kept keeps live) size address new)
+    (placed_before : ArePlaced (regions heap.system) (heap_state heap)) (placed_now : ArePlaced (regions new.system) (heap_state new)) (blocks_apart : BlocksAreApart (heap_state new))
+    (s : State) (good : IsGood s) (stands : Stands (seen_of heap blocks) s) where
+  abbrev align : ℕ
+  align = align_kept keeps live
+
+  -- the block of the state
+  old : (block : Block) × (block_at s.blocks number ≡ Some block) × (outline block ≡ live)
+  old = behind heap blocks laid s good stands number live is
+
+  abbrev block : Block
+  block = old.0
+
+  block_address : block.address ≡ live.address
+  block_address = ap (λ (l : Live). l.address) old.2
+
+  block_size : block.size ≡ live.size
+  block_size = ap (λ (l : Live). l.size) old.2
+
+  block_align : block.align ≡ live.align
+  block_align = ap (λ (l : Live). l.align) old.2
+
+  abbrev change : Block → Block
+  change = resized_block address size (align_then keeps)
+
+  -- the alignment that the block has then is the one that the machine keeps
+  align_same : align_then keeps block ≡ align
+  align_same = same keeps
+    where
+      same : (keeps : Bool) → align_then keeps block ≡ align_kept keeps live
+      same true = block_align
+      same false = refl
+
+  abbrev after_it : List (Option Block)
+  after_it = with_block s.blocks number change
+
+  abbrev blocks' : List (Option Live)
+  blocks' = slice_set blocks number (Some (next_live address size align))
+
+  live_of : (i : ℕ) (it : Block) → block_at s.blocks i ≡ Some it → live_at blocks i ≡ Some (outline it)
+  live_of i it at = outline_of s.blocks blocks (sym stands.blocks) i it at
+
+  -- ---- bytes
+
+  -- what was known of the other blocks holds still
+  others : (i k byte : ℕ) (it : Block) → i ≢ number → block_at s.blocks i ≡ Some it → cell_at it.cells k ≡ Known byte → reached (paged new.system).words (paged new.system).root (it.address + k) ≡ Some byte
+  others i k byte it differ at cell =
+      let there = live_of i it at in
+      let b = (laid.lives i (outline it) there).block in
+      let b' = (live_stays heap new blocks number live size align address laid is out i (outline it) differ there).block in
+      let many = (good.each i it at).cells in
+      let less = known_within it.cells k byte cell in
+      let place = block_place (heap_state heap) it.address it.size b in
+      let here = block_place (heap_state heap) live.address live.size (laid.lives number live is).block in
+      let apart = laid.distinct i number (outline it) live there is differ in
+      byte_kept heap new placed_before placed_now (others_at (live.address - 16) (extents_in (heap_state heap))) out.kept it.address it.size b b'
+      (other_there (live.address - 16) b.extent (extents_in (heap_state heap)) (λ e. apart (omega arith)) (block_there (heap_state heap) it.address it.size b)) k (omega arith)
+      ∙ stands.bytes.known i k byte it at cell
+
+  -- and of those of the block that both sizes have
+  here : (k byte : ℕ) → k < size → cell_at block.cells k ≡ Known byte → reached (paged new.system).words (paged new.system).root (address + k) ≡ Some byte
+  here k byte less cell =
+      let many = (good.each number block old.1).cells in
+      let within = known_within block.cells k byte cell in
+      let aligned = (placed_before live.address live.size (laid.lives number live is).block).aligned in
+      let whole = out.aligned in
+      let in_old = bytes_within heap placed_before live.address live.size (laid.lives number live is).block (live.address + k) (omega arith) (omega (arith, block_size)) in
+      let in_new = bytes_within new placed_now address size out.block (address + k) (omega arith) (omega arith) in
+      let same : word_reached (paged new.system) (address + (k - k % 8)) ≡ word_reached (paged heap.system) (live.address + (k - k % 8)) = out.contents (k - k % 8) (omega (arith, block_size)) (omega arith) in
+      let one : address + k - (address + k) % 8 ≡ address + (k - k % 8) = omega arith in
+      let two : live.address + k - (live.address + k) % 8 ≡ live.address + (k - k % 8) = omega arith in
+      let rest : (address + k) % 8 ≡ (live.address + k) % 8 = omega arith in
+      let words : word_reached (paged new.system) (address + k - (address + k) % 8) ≡ word_reached (paged heap.system) (live.address + k - (live.address + k) % 8) =
+      ap (word_reached (paged new.system)) one ∙ (same ∙ ap (word_reached (paged heap.system)) (sym two)) in
+      reached_byte (paged new.system) (address + k) new.system.kept in_new
+      ∙ (ap (λ w. Some (slice_index (to_le_bytes w64 w) ((address + k) % 8))) words
+      ∙ (ap (λ b. Some (slice_index (to_le_bytes w64 (word_reached (paged heap.system) (live.address + k - (live.address + k) % 8))) b)) rest
+      ∙ (sym (reached_byte (paged heap.system) (live.address + k) heap.system.kept in_old)
+      ∙ (ap (λ a. reached (paged heap.system).words (paged heap.system).root (a + k)) (sym block_address) ∙ stands.bytes.known number k byte block old.1 cell))))
+
+  holds : HoldsBytes (reached (paged new.system).words (paged new.system).root) after_it
+  holds = holds_resized (reached (paged new.system).words (paged new.system).root) s.blocks number address size (align_then keeps) block old.1 others here
+
+  lives_same : blocks' ≡ map (option_map outline) after_it
+  lives_same = ap (λ list. slice_set list number (Some (next_live address size align))) stands.blocks 
+      ∙ (ap (λ a. slice_set (map (option_map outline) s.blocks) number (Some (next_live address size a))) (sym align_same) ∙ sym (outline_changed s.blocks number change block old.1))
+
+  -- ---- the state
+
+  -- the alignment that it keeps, or 16, divides its address
+  multiple : address % align ≡ 0
+  multiple = out.multiple (aligned_before keeps)
+    where
+      aligned_before : (keeps : Bool) → live.address % align_kept keeps live ≡ 0
+      aligned_before true = ap (λ (l : Live). l.address % l.align) (sym old.2) ∙ (good.each number block old.1).aligned
+      aligned_before false = ap (λ a. a % 16) (sym block_address) ∙ (good.each number block old.1).aligned_16
+
+  good_blocks : (list : List Region) (tables : List Prefix) → list ≡ (paged new.system).regions → IsGood (record s { heap = list; tables = tables }) → IsGood (record s { heap = list; tables = tables; blocks = after_it })
+  good_blocks list tables same good' = good_resized (record s { heap = list; tables = tables }) number change block good' old.1
+      (record {
+        aligned = ap (λ a. address % a) align_same ∙ multiple;
+        aligned_16 = out.aligned;
+        cells = length-resized size block.cells;
+        granted = λ k less. ap (list_any (is_within (address + k))) same
+            ∙ (sym (granted_same (paged new.system).regions (address + k)) ∙ out.granted (address + k) (omega arith) (omega arith));
+      })
+      (λ i it differ at.
+      let there = live_of i it at in
+      elim (blocks_apart it.address it.size address size (live_stays heap new blocks number live size align address laid is out i (outline it) differ there).block out.block
+      (live_beside heap new blocks number live size align address laid is out i (outline it) differ there)) [ inl before ↦ inl (omega arith) | inr after ↦ inr (omega arith) ])
+
+  -- ---- the step
+
+  -- where it stays, no region is granted
+  stays : (list : Option (List Region)) → (list ≡ None) ⊎ (length (paged new.system).regions ≢ length (paged heap.system).regions) → address ≡ block.address → list ≡ None
+  stays list (inl none) at = none
+  stays list (inr more) at = absurd (more (ap (λ p. length p.regions) (out.here (at ∙ block_address)).others))
+
+  pub step_resized : IsPowerOfTwo align → (answered : Option (List Region)) →
+      (length (paged new.system).regions ≡ length (paged heap.system).regions → answered ≡ None) →
+      (length (paged new.system).regions ≢ length (paged heap.system).regions → answered ≡ Some (paged new.system).regions) →
+      IsStep s (resizing keeps number size) (record { reply = Placed number address; regions = answered }) (seen_of new blocks')
+  step_resized is_power answered same more =
+      let power : is_power_of_two align ≡ true = test_of_power align is_power in
+      let small : asked size align < limit s.granularity = subst (λ g. asked size align < limit g) stands.granularity out.small in
+      let must : must_refuse s (resizing keeps number size) ≡ None =
+      refused_resizing keeps s number size ∙ (ap (refuse_resizing s.granularity size (align_then keeps)) old.1 ∙ not_refused_resizing s.granularity size (align_then keeps) block (subst (λ a. asked size a < limit s.granularity) (sym align_same) small)) in
+      let wants : wanted_by s (resizing keeps number size) ≡ Some (wanted size align) =
+      wanted_resizing keeps s number size ∙ (ap (option_map (λ (b : Block). wanted size (align_then keeps b))) old.1 ∙ ap (λ a. Some (wanted size a)) align_same) in
+      step_found heap new blocks blocks' laid (wanted size align) (subst (λ n. IsFound follows regions heap.system (heap_state heap) n new.system (heap_state new)) (wanted_asked size align power) out.found)
+      out.granularity s good stands (resizing keeps number size) number address after_it (changed_resizing keeps s number size number address) must wants
+      (λ list growth how. serves_resizing keeps s number size address block list old.1 (record { here = stays list how; growth = subst (λ a. IsGrowth s (wanted size a) (heap_after s list)) (sym align_same) growth }))
+      lives_same holds good_blocks answered same more
+
+-- no block has the number
+pub step_unknown : (heap : Dlmalloc PagedSystem) (blocks : List (Option Live)) (number size : ℕ) (keeps : Bool) (s : State) → IsGood s → Stands (seen_of heap blocks) s → live_at blocks number ≡ None →
+    IsStep s (resizing keeps number size) (refused_with UnknownBlock) (seen_of heap blocks)
+step_unknown heap blocks number size keeps s good stands none =
+    step_refused (seen_of heap blocks) s (resizing keeps number size) UnknownBlock
+    (refused_resizing keeps s number size ∙ ap (refuse_resizing s.granularity size (align_then keeps)) (no_outline (block_at s.blocks number) (sym (outline_at s.blocks number) ∙ (ap (λ list. live_at list number) (sym stands.blocks) ∙ none)))) good stands
+  where
+    no_outline : (found : Option Block) → option_map outline found ≡ None → found ≡ None
+    no_outline None is = refl
+    no_outline (Some block) is = cc
+
+-- the alignment that a block has then is a power of two
+pub kept_power : (keeps : Bool) (live : Live) → IsPowerOfTwo live.align → IsPowerOfTwo (align_kept keeps live)
+kept_power true live power = power
+kept_power false live power = (4, refl)
+
+-- the heap refuses the size
+pub step_not_resized : (heap new : Dlmalloc PagedSystem) (blocks : List (Option Live)) (number size : ℕ) (keeps : Bool) (live : Live) (laid : IsLaidOut heap blocks) → live_at blocks number ≡ Some live →
+    (s : State) (good : IsGood s) (stands : Stands (seen_of heap blocks) s) → IsPowerOfTwo (align_kept keeps live) → (error : MallocError) → IsRefusedWith regions word follows refuses denies heap (asked size (align_kept keeps live)) error new →
+    (answer : Answer) → IsRefusalOf error answer → IsStep s (resizing keeps number size) answer (seen_of new blocks)
+step_not_resized heap new blocks number size keeps live laid is s good stands power error denied answer given =
+    let old = behind heap blocks laid s good stands number live is in
+    let align : align_then keeps old.0 ≡ align_kept keeps live = same keeps old.0 old.2 in
+    step_denied heap new blocks laid s good stands (resizing keeps number size) (asked size (align_kept keeps live)) (wanted size (align_kept keeps live)) (wanted_asked size (align_kept keeps live) (test_of_power (align_kept keeps live) power))
+    (λ most. refused_resizing keeps s number size ∙ (ap (refuse_resizing s.granularity size (align_then keeps)) old.1 ∙ large_resizing s.granularity size (align_then keeps) old.0 (subst (λ a. limit s.granularity ≤ asked size a) (sym align) most)))
+    (λ less. refused_resizing keeps s number size ∙ (ap (refuse_resizing s.granularity size (align_then keeps)) old.1 ∙ not_refused_resizing s.granularity size (align_then keeps) old.0 (subst (λ a. asked size a < limit s.granularity) (sym align) less)))
+    (wanted_resizing keeps s number size ∙ (ap (option_map (λ (b : Block). wanted size (align_then keeps b))) old.1 ∙ ap (λ a. Some (wanted size a)) align))
+    error denied answer given
+  where
+    same : (keeps : Bool) (block : Block) → outline block ≡ live → align_then keeps block ≡ align_kept keeps live
+    same true block is = ap (λ (l : Live). l.align) is
+    same false block is = refl
+
+-- how the heap moves is told by the call
+pub moves_resizing : (keeps : Bool) (old : NumberedHeap) (number size address : ℕ) (live : Live) (new : NumberedHeap) → live_at old.blocks.items number ≡ Some live →
+    IsResizedTo old.heap.system (heap_state old.heap) live.address size (align_kept keeps live) address new.heap.system (heap_state new.heap) → HeapMoves old (resizing keeps number size) (Placed number address) new
+moves_resizing true old number size address live new is moves = rw is moves
+moves_resizing false old number size address live new is moves = rw is moves

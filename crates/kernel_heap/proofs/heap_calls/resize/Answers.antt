@@ -1,0 +1,32 @@
+use Rattle.std.proofs.lemmas.Result.{IfOk-weaker}
+use Rattle.std.proofs.Common.{◌-◌, ◌==◌, IfOk, sym, subst, true, false}
+use Rattle.dlmalloc.specs.State.{extents_in, size_where}
+use Rattle.dlmalloc.specs.Moved.{IsResized, IsGivenSize}
+use Rattle.kernel_heap.specs.Heap.{regions, word, zeros, follows, heap_state}
+use Rattle.kernel_heap.specs.Machine.{IsResizedTo}
+use Rattle.kernel_heap.proofs.HeapCalls.{resized_to, given_fewer, bytes_held}
+use Rattle.kernel_heap.proofs.heap_calls.resize.Goals as goal
+use Rattle.kernel_heap.proofs.heap_calls.resize.Goals.{then-keeps_alignment, else-keeps_alignment}
+
+pub returns-clause-ok : goal.returns-clause-ok
+returns-clause-ok g c =
+    let heap = c.args.heap.now in
+    let live = c.args.live in
+    elim c.if-keeps_alignment.branch [
+      | then-keeps_alignment w ↦ rw (w.heap-is, w.answer-is, w.if-keeps_alignment.true) w.realloc-answer.ensures.given
+      | else-keeps_alignment w ↦ rw (w.heap-is, w.answer-is, w.if-keeps_alignment.false)
+          (IfOk-weaker w.c_realloc-answer.result _ _ (λ address out. given_fewer heap w.c_realloc-answer.new.self live.address (size_where (λ extent. extent.at == live.address - 16) (extents_in (heap_state heap)) - 8) c.args.size 16 address live.size (bytes_held (heap_state heap) live.address live.size c.requires.block.block) out)
+          w.c_realloc-answer.ensures.given)
+    ]
+
+pub returns-clause-moves : goal.returns-clause-moves
+returns-clause-moves g c =
+    let heap = c.args.heap.now in
+    let live = c.args.live in
+    elim c.if-keeps_alignment.branch [
+      | then-keeps_alignment w ↦ rw (w.heap-is, w.answer-is, w.if-keeps_alignment.true)
+          (IfOk-weaker w.realloc-answer.result _ _ (λ address out. resized_to heap w.realloc-answer.new.self live.address live.size c.args.size live.align address out) w.realloc-answer.ensures.resized)
+      | else-keeps_alignment w ↦ rw (w.heap-is, w.answer-is, w.if-keeps_alignment.false)
+          (IfOk-weaker w.c_realloc-answer.result _ _ (λ address out. resized_to heap w.c_realloc-answer.new.self live.address (size_where (λ extent. extent.at == live.address - 16) (extents_in (heap_state heap)) - 8) c.args.size 16 address out)
+          w.c_realloc-answer.ensures.resized)
+    ]
