@@ -50,11 +50,6 @@ pub record IsRestored {E : Type 0} (l : Tree E) (e : E) (r : Tree E) (t : Tree E
   pub not_higher : levels t ≤ max (levels l) (levels r) + 1
   pub in_balance : DifferByAtMost 1 (levels l) (levels r) → levels t ≡ max (levels l) (levels r) + 1
 
--- the tree of an entry, if there is one, or else the first
-abbrev pub whole_by : {E O : Type 0} → (O → Tree E) → Tree E → Option O → Tree E
-whole_by f t None = t
-whole_by f t (Some o) = f o
-
 -- F(1) = F(2) = 1
 abbrev pub fibonacci : ℕ → ℕ
 fibonacci zero = 0

@@ -1,121 +1,104 @@
 //! The pairs that overlap an interval, one after the other, with values that may be changed.
-ghost use Rattle.std.specs.Prelude.{◌≡◌, ◌≤◌, ◌^◌, ◌==◌, ◌&&◌, length, false, None, [], ◌+◌, ◌<◌, IfSome, MatchOption};
+ghost use Rattle.std.specs.Prelude.{◌≡◌, ◌≤◌, ◌^◌, ◌==◌, ◌&&◌, ◌∷◌, length, false, None, [], ◌+◌, ◌<◌, IfSome, IsSome, IsTrue, MatchOption, Some, ◌↔◌};
 ghost use Rattle.std.specs.Option.{option_map};
 ghost use Rattle.std.specs.Borrow.{sem};
 ghost use Rattle.meminterval.specs.Entries.{IsOrdered};
+ghost use Rattle.meminterval.specs.Entry.{pair_of};
 ghost use Rattle.meminterval.specs.Interval.{by_ends, overlaps};
+ghost use Rattle.meminterval.specs.Lending.{ends_moved};
 ghost use Rattle.meminterval.specs.Place.{place_from};
 ghost use Rattle.meminterval.specs.Query.{IsSoundNode};
+ghost use Rattle.meminterval.specs.QueryMut.{last_passed, left_of, moved, with_value_there};
 ghost use Rattle.meminterval.specs.Subtree.{tree_of, tree_of_node, IsRecorded};
 ghost use Rattle.meminterval.specs.Tree.{entries, visited};
 
-use crate::entry_mut::EntryMut;
+use crate::entry::Entry;
 use crate::interval::Interval;
 use crate::node::{Node, Subtree};
 use crate::tree::IntervalTree;
 
-/// What can be put back into a tree as a whole one.
-pub trait Reclose<T: Ord + Clone, V> {
-    ghost use Rattle.meminterval.specs.Tree.{Tree};
-    ghost use Rattle.meminterval.specs.declared.interval.Interval.{Interval};
-
-    ghost whole: { Self → Tree (Interval T × V) };
-
-    /// Puts the whole tree in place of `tree`.
-    fn reclose(self, tree: &mut IntervalTree<T, V>)
-        ensures { tree.new ≡ whole self };
-}
-
-impl<T: Ord + Clone, V: Drop> Reclose<T, V> for EntryMut<T, V> {
-    ghost use Rattle.meminterval.specs.Place.{OpenTree};
-
-    ghost whole = { λ e. e.tree };
-
-    fn reclose(self, tree: &mut IntervalTree<T, V>) {
-        tree.close(self);
-    }
-}
-
 /// A cursor over the pairs of a tree that overlap an interval, each once, in the order node, right
-/// subtree, left subtree. It lends one pair at a time, so that its value can be changed.
+/// subtree, left subtree. The value of the pair that it answered last can be replaced.
 ///
-/// The tree is open at the pair that was lent last, and whole again when the cursor is dropped. A
-/// cursor that is forgotten leaves an empty tree.
-pub struct IntervalTreeIteratorMut<'a, T: Ord + Clone, V, E: Reclose<T, V>> {
-    // Empty while there is an entry, which then has the whole tree.
+/// The tree is whole at every moment, so a cursor may be dropped or forgotten anywhere. No call
+/// needs memory.
+///
+/// ```text
+/// let mut pairs = tree.query_mut(interval);
+/// while let Some(pair) = pairs.next() {
+///     let next = *pair.value ^ 1;
+///     pairs.replace(next);
+/// }
+/// ```
+#[derive(Drop)]
+pub struct IntervalTreeIteratorMut<'a, T: Ord + Clone, V> {
     tree: &'a mut IntervalTree<T, V>,
-    entry: Option<E>,
     interval: Interval<T>,
-    // How many places need no look.
+    // How many places were passed. The pair that was answered last stands at the last of them.
     passed: usize,
 }
 
-impl<'a, T: Ord + Clone, V: Drop> IntervalTreeIteratorMut<'a, T, V, EntryMut<T, V>> {
-    ghost use Rattle.meminterval.specs.Lending.{lends_entry};
-    ghost use Rattle.meminterval.specs.QueryMut.{left_of, settled, moved, IsNext};
-
+impl<'a, T: Ord + Clone, V> IntervalTreeIteratorMut<'a, T, V> {
     /// A cursor before the first pair.
     pub(crate) fn new(tree: &'a mut IntervalTree<T, V>, interval: Interval<T>) -> Self
         ensures same { result.tree.ghost_name ≡ tree.entry.ghost_name }
         ensures tree { result.tree.now ≡ tree.old }
-        ensures entry { result.entry ≡ None }
         ensures interval { result.interval ≡ interval }
         ensures passed { result.passed ≡ 0 }
     {
         IntervalTreeIteratorMut {
             tree,
-            entry: None,
             interval,
             passed: 0,
         }
     }
 
-    // Puts the tree back whole.
-    fn settle(&mut self)
-        ensures { self.new ≡ settled T.cmp self.old }
+    /// The next pair, and None where all were answered.
+    pub fn next(&mut self) -> Option<Entry<'_, T, V>>
+        ensures* cursor { sem 𝓛 (ends_moved T.row V.row (record { eq = T.eq; partial_cmp = T.partial_cmp; cmp = T.cmp; is_clone = T.is_clone; is_infallible = T.is_infallible }) self.entry) }
+        ensures pairs { MatchOption result (left_of T.cmp self.old ≡ []) (λ e. left_of T.cmp self.old ≡ pair_of e ∷ left_of T.cmp (moved T.cmp self.old)) }
+        ensures last { IfSome result (λ e. last_passed (moved T.cmp self.old) ≡ Some (pair_of e)) }
     {
-        if let Some(entry) = self.entry.take() {
-            self.tree.close(entry);
-        }
+        if self.advance() { self.pair() } else { None }
     }
 
     // Goes to the next pair that overlaps, if there is one.
-    fn advance(&mut self)
-        ensures { self.new ≡ moved T.cmp self.old }
+    fn advance(&mut self) -> bool
+        ensures cursor { self.new ≡ moved T.cmp self.old }
+        ensures moved { IsTrue result ↔ IsSome (place_from (λ e. overlaps T.cmp e.0 self.old.interval) self.old.passed (visited self.old.tree.now)) }
     {
-        self.settle();
-        if let Some(place) = self.tree.place_from(self.passed, &self.interval) {
-            self.entry = Some(self.tree.open(place));
-            self.passed = place + 1;
+        match self.tree.place_from(self.passed, &self.interval) {
+            Some(place) => {
+                self.passed = place + 1;
+                true
+            }
+            None => false,
         }
     }
 
-    /// Lends the next pair, and none where all were lent.
-    pub fn next(&mut self) -> Option<&mut EntryMut<T, V>>
-        ensures* lends { sem 𝓛 (lends_entry T.row V.row (record { eq = T.eq; partial_cmp = T.partial_cmp; cmp = T.cmp; is_clone = T.is_clone; is_infallible = T.is_infallible }) self.entry result) }
-        ensures pairs { MatchOption result (left_of T.cmp self.old ≡ []) (λ e. IsNext T.cmp self.old (moved T.cmp self.old) e.now) }
+    /// The pair that was answered last, as it is now, and None before the first one.
+    pub fn pair(&self) -> Option<Entry<'_, T, V>>
+        ensures { option_map pair_of result ≡ last_passed self.now }
     {
-        self.advance();
-        let entry = &mut self.entry;
-        entry.as_mut()
+        match self.passed.checked_sub(1) {
+            Some(place) => self.tree.pair_at(place),
+            None => None,
+        }
     }
-}
 
-impl<T: Ord + Clone, V, E: Reclose<T, V>> Drop for IntervalTreeIteratorMut<'_, T, V, E> {
-    ghost use Rattle.meminterval.specs.Tree.{whole_by};
-
-    fn drop(self)
-        ensures { self.exit.0.now ≡ whole_by E.whole self.entry.tree.now self.entry.entry }
+    /// Puts `value` in place of the one of the pair that was answered last, and answers that one.
+    /// All else of the tree stays, and the same pairs are left. None before the first pair: then
+    /// `value` is dropped.
+    pub fn replace(&mut self, value: V) -> Option<V>
+    where
+        V: Drop,
+        ensures value { result ≡ option_map (λ e. e.1) (last_passed self.old) }
+        ensures cursor { self.new ≡ with_value_there self.old value }
+        ensures left { left_of T.cmp self.new ≡ left_of T.cmp self.old }
     {
-        let IntervalTreeIteratorMut {
-            tree,
-            entry,
-            interval: _interval,
-            passed: _passed,
-        } = self;
-        match entry {
-            Some(entry) => entry.reclose(tree),
-            None => {}
+        match self.passed.checked_sub(1) {
+            Some(place) => self.tree.replace_at(place, value),
+            None => None,
         }
     }
 }

@@ -3,13 +3,12 @@
 
 mod deletion;
 mod entry;
-mod entry_mut;
 mod insertion;
 mod interval;
 mod iterators;
 mod iterators_mut;
 mod node;
-mod opening;
+mod replacing;
 mod rotation;
 mod shortening;
 #[cfg(test)]
@@ -17,8 +16,7 @@ mod tests;
 mod tree;
 
 pub use entry::Entry;
-pub use entry_mut::EntryMut;
 pub use interval::Interval;
 pub use iterators::IntervalTreeIterator;
-pub use iterators_mut::{IntervalTreeIteratorMut, Reclose};
+pub use iterators_mut::IntervalTreeIteratorMut;
 pub use tree::IntervalTree;

@@ -1,21 +1,22 @@
 //! The tree of intervals.
-ghost use Rattle.std.specs.Prelude.{◌≡◌, ◌+◌, ◌-◌, ◌^◌, ◌<◌, ◌≤◌, [], drop, length, map, take, IfOk, IfSome, IsOk, IsSome, IsTrue, OnErr, OnOk, ◌↔◌};
+ghost use Rattle.std.specs.Prelude.{◌≡◌, ◌+◌, ◌-◌, ◌^◌, ◌<◌, ◌≤◌, [], drop, length, map, take, IfOk, IfSome, IsOk, IsSome, IsTrue, OnErr, OnOk, Some, ◌↔◌};
+ghost use Rattle.std.specs.List.{slice_get};
 ghost use Rattle.std.specs.Option.{option_map, option_copied};
 ghost use Rattle.meminterval.specs.Entries.{AllItems, IsOrdered, first, last, value_at, with_entries, with_entry, without_key};
 ghost use Rattle.meminterval.specs.Entry.{pair_of};
 ghost use Rattle.meminterval.specs.Interval.{ClonesEqual, ClonesItself, HasOwnStart, by_ends, overlaps, starts_below, starts_from, with_end};
-ghost use Rattle.meminterval.specs.Place.{place_from};
+ghost use Rattle.meminterval.specs.Place.{map_at, place_from, with_value};
 ghost use Rattle.meminterval.specs.Query.{overlapping};
 ghost use Rattle.meminterval.specs.Tree.{Leaf, entries, fibonacci, height, levels, map_pairs, visited, IsBalanced};
 
 use crate::deletion::{delete_below, take_greatest, take_least};
 use crate::entry::Entry;
-use crate::entry_mut::EntryMut;
 use crate::insertion::{Insertion, insert_below};
 use crate::interval::Interval;
 use crate::iterators::IntervalTreeIterator;
 use crate::iterators_mut::{IntervalTreeIteratorMut, place_below};
 use crate::node::{Subtree, clone_below};
+use crate::replacing::replace_below;
 use crate::shortening::shorten_below;
 use std::alloc::{AllocError, Global};
 use std::cmp::Ordering;
@@ -49,7 +50,7 @@ impl<T: Ord + Clone, V> Model for IntervalTree<T, V> {
 }
 
 impl<T: Ord + Clone, V> IntervalTree<T, V> {
-    ghost use Rattle.meminterval.specs.QueryMut.{left_of, whole};
+    ghost use Rattle.meminterval.specs.QueryMut.{left_of};
 
     /// Makes the empty tree.
     pub fn new() -> Self
@@ -163,16 +164,11 @@ impl<T: Ord + Clone, V> IntervalTree<T, V> {
         IntervalTreeIterator::new(alloc, &self.root, interval)
     }
 
-    /// A cursor over the pairs whose intervals overlap `interval`, which lends their values to be
-    /// changed.
-    pub fn query_mut(
-        &mut self,
-        interval: Interval<T>,
-    ) -> IntervalTreeIteratorMut<'_, T, V, EntryMut<T, V>>
-    where
-        V: Drop,
+    /// A cursor over the pairs whose intervals overlap `interval`, in the same order, which lends
+    /// their values to be changed. It needs no memory.
+    pub fn query_mut(&mut self, interval: Interval<T>) -> IntervalTreeIteratorMut<'_, T, V>
         ensures same { result.tree.ghost_name ≡ self.entry.ghost_name }
-        ensures whole { whole result ≡ self.old }
+        ensures tree { result.tree.now ≡ self.old }
         ensures pairs { left_of T.cmp result ≡ overlapping T.cmp interval self.old }
     {
         IntervalTreeIteratorMut::new(self, interval)
@@ -188,26 +184,40 @@ impl<T: Ord + Clone, V> IntervalTree<T, V> {
         place_below(&self.root, passed, interval)
     }
 
-    /// Opens the tree at a place, and leaves the empty one.
-    pub(crate) fn open(&mut self, place: usize) -> EntryMut<T, V>
-    where
-        V: Drop,
-        requires { place < length (visited self.old) }
-        ensures whole { result.tree ≡ self.old }
-        ensures place { result.place ≡ place }
-        ensures empty { self.new ≡ Leaf }
+    /// The pair at a place, in the order of a query, if there is one.
+    pub(crate) fn pair_at(&self, place: usize) -> Option<Entry<'_, T, V>>
+        ensures { option_map pair_of result ≡ slice_get (visited self.now) place }
     {
-        let root = mem::replace(&mut self.root, Subtree::Empty);
-        EntryMut::new(root, place)
+        let mut at = &self.root;
+        let mut place = place;
+        while let Subtree::Fork(node) = at {
+            if place == 0 {
+                return Some(Entry {
+                    value: &node.value,
+                    interval: &node.interval,
+                });
+            }
+            let right_size = node.right.size();
+            if place <= right_size {
+                at = &node.right;
+                place -= 1;
+            } else {
+                at = &node.left;
+                place -= right_size + 1;
+            }
+        }
+        None
     }
 
-    /// Puts the tree of an entry in place of this one.
-    pub(crate) fn close(&mut self, entry: EntryMut<T, V>)
+    /// Puts `value` in place of the one at a place, in the order of a query, and answers that one.
+    /// None where there is no such place: then `value` is dropped.
+    pub(crate) fn replace_at(&mut self, place: usize, value: V) -> Option<V>
     where
         V: Drop,
-        ensures { self.new ≡ entry.tree }
+        ensures value { result ≡ option_map (λ e. e.1) (slice_get (visited self.old) place) }
+        ensures tree { self.new ≡ map_at (with_value value) self.old place }
     {
-        self.root = entry.close();
+        replace_below(&mut self.root, place, value)
     }
 
     /// Puts a pair in. Where its interval is there already, the old value stays, the new one is
