@@ -1,7 +1,8 @@
 -- What the pairs of a tree are, from left to right: intervals of page numbers, each with the kind of its region.
-use Rattle.std.specs.Prelude.{ℕ, ◌-◌, ◌*◌, ◌<◌, ◌≤◌, List, [], ◌∷◌, map}
+use Rattle.std.specs.Prelude.{ℕ, ◌-◌, ◌*◌, ◌^◌, ◌<◌, ◌≤◌, List, [], ◌∷◌, map}
 use Rattle.heap_model.specs.declared.region.Region.{Region}
 use Rattle.meminterval.specs.declared.interval.Interval.{Interval}
+use Rattle.region_tree.specs.Regions.{AreHeld}
 use Rattle.region_tree.specs.declared.region_tree.Kind.{Kind}
 
 -- the region of the pages in an interval, with the kind at it
@@ -15,3 +16,10 @@ regions_of es = map region_of es
 abbrev pub Follow : ℕ → List (Interval ℕ × Kind) → ℕ → Type 0
 Follow from [] to = from ≤ to
 Follow from (e ∷ es) to = (from ≤ e.0.start) × (e.0.start < e.0.end) × Follow e.0.end es to
+
+-- What a tree keeps for a window from the page base on: its intervals follow each other, and the pages of the window
+-- before the page hint are in regions.
+pub record IsKept (base hint : ℕ) (es : List (Interval ℕ × Kind)) : Type 0 where
+  pub follow : Follow 0 es (2 ^ 52)
+  pub above : base ≤ hint
+  pub held : AreHeld (4096 * base) (4096 * hint) (regions_of es)

@@ -1,5 +1,5 @@
 -- Regions by ascending address: how they lie, which of them is at a place, and how they change.
-use Rattle.std.specs.Prelude.{◌≡◌, ℕ, ◌-◌, ◌/◌, ◌%◌, ◌<◌, ◌≤◌, ◌⊎◌, ◌==◌, ◌&&◌, Bool, nat_le, nat_lt, if◌then◌else◌, IsTrue, List, [], ◌∷◌, find, Option, None, option_map}
+use Rattle.std.specs.Prelude.{◌≡◌, ℕ, ◌-◌, ◌/◌, ◌%◌, ◌<◌, ◌≤◌, ◌⊎◌, ◌==◌, ◌&&◌, Bool, nat_le, nat_lt, if◌then◌else◌, IsTrue, List, [], ◌∷◌, find, Option, Some, None, option_map}
 use Rattle.std.specs.List.{list_any, AllByRecursion}
 use Rattle.paging_core.specs.declared.page_table.Rights.{Rights}
 use Rattle.heap_model.specs.declared.region.Region.{Region}
@@ -57,3 +57,7 @@ cut_of address pages (region ∷ rest) =
 -- the addresses from one on and below another were taken out, and every other one is in a region of the kind that it was
 abbrev pub AreTakenOut : ℕ → ℕ → List Region → List Region → Type 0
 AreTakenOut from to old new = (address : ℕ) → kind_at new address ≡ (if nat_le from address && nat_lt address to then None else kind_at old address)
+
+-- the region joined: it is at its addresses, and every other one is in a region of the kind that it was
+abbrev pub IsPutIn : Region → List Region → List Region → Type 0
+IsPutIn region old new = (address : ℕ) → kind_at new address ≡ (if is_within address region then Some (region.heap, region.rights) else kind_at old address)

@@ -3,8 +3,9 @@ ghost use Rattle.std.specs.Prelude.{◌≡◌, ℕ, ◌+◌, ◌-◌, ◌*◌, �
 ghost use Rattle.std.specs.Prelude.{IsFalse, IsTrue, OnOk, OnErr, find, map, length, vec_capacity};
 ghost use Rattle.std.specs.List.{list_any};
 ghost use Rattle.heap_model.specs.Place.{IsPlace, HasNoPlace, meets, meets_any, with_region};
-ghost use Rattle.region_tree.specs.Pairs.{region_of};
-ghost use Rattle.region_tree.specs.Regions.{AreLaid, AreHeld, IsBoundary, AreTakenOut, is_at, meets_heap, without, with_pages, cut_of};
+ghost use Rattle.meminterval.specs.Tree.{entries};
+ghost use Rattle.region_tree.specs.Pairs.{region_of, regions_of, Follow};
+ghost use Rattle.region_tree.specs.Regions.{AreLaid, AreHeld, IsBoundary, AreTakenOut, IsPutIn, is_at, meets_heap, without, with_pages, cut_of};
 
 use heap_model::{Region, RegionList, Rights};
 use meminterval::{Interval, IntervalTree};
@@ -46,38 +47,80 @@ fn pages_of(region: &Region) -> Interval<u64>
     Interval::new(first, first + region.pages)
 }
 
+/// The end of the regions that follow each other from a page on.
+fn run_end(tree: &IntervalTree<u64, Kind>, from: u64) -> u64
+    requires { Follow 0 (entries tree.now) (2 ^ 52) }
+    ensures above { from ≤ result }
+    ensures held { AreHeld (4096 * from) (4096 * result) (regions_of (entries tree.now)) }
+{
+    let mut at = from;
+    while let Some(entry) = tree.first_from(&at) {
+        if entry.interval.start != at {
+            return at;
+        }
+        at = entry.interval.end;
+    }
+    at
+}
+
+/// The hint of a window from the page `base` on, when pages from `first` on have become free.
+fn lowered(hint: u64, base: u64, first: u64) -> u64
+    requires { base ≤ hint }
+    ensures above { base ≤ result }
+    ensures below { result ≤ hint }
+    ensures before { base < result → result ≤ first }
+{
+    if hint <= first {
+        hint
+    } else if base <= first {
+        first
+    } else {
+        base
+    }
+}
+
 /// Regions of pages, none of which meets another. A contract sees them as a list by ascending address.
+///
+/// A tree is made for the window from a page on, and remembers how far the pages from there on are all taken. A search
+/// for a place in that window begins behind them.
 #[derive(Drop)]
 pub struct RegionTree {
     tree: IntervalTree<u64, Kind>,
+    /// The first page of the window.
+    base: u64,
+    /// No page of the window before this one is free.
+    hint: u64,
 }
 
 impl Model for RegionTree {
     ghost use Rattle.std.specs.Prelude.{ℕ, List, ◌^◌};
     ghost use Rattle.heap_model.specs.declared.region.Region.{Region};
     ghost use Rattle.meminterval.specs.Tree.{entries};
-    ghost use Rattle.region_tree.specs.Pairs.{regions_of, Follow};
+    ghost use Rattle.region_tree.specs.Pairs.{regions_of, IsKept};
 
     ghost Value = { List Region };
 
     ghost view = { λ t. regions_of (entries t.tree) };
 
-    ghost invariant = { λ t. Follow 0 (entries t.tree) (2 ^ 52) };
+    ghost invariant = { λ t. IsKept t.base t.hint (entries t.tree) };
 }
 
 impl RegionTree {
-    /// No regions. Takes no memory.
-    pub fn new() -> Self
+    /// No regions, for a window from the page `base` on. Takes no memory.
+    pub fn new(base: u64) -> Self
         ensures { result ≡ [] }
     {
         RegionTree {
             tree: IntervalTree::new(),
+            base,
+            hint: base,
         }
     }
 
     /// How many regions there are.
     pub fn count(&self) -> usize
         ensures count { result ≡ length self.now }
+        ensures few { result ≤ 2 ^ 52 }
 
         // Each region has pages and ends before the next one begins.
         ensures laid { AreLaid 0 self.now (2 ^ 64) }
@@ -101,7 +144,49 @@ impl RegionTree {
 
     /// The lowest page of the window of `pages` pages from the page `base` on, from which `n` pages lie in the window
     /// and meet no region.
+    ///
+    /// In the window for which the tree was made, it takes two look-ups where no region lies behind the first free page.
     pub fn lowest_place(&self, base: u64, pages: u64, n: u64) -> Option<u64>
+        requires some { 0 < n }
+        requires window { base + pages ≤ 2 ^ 52 }
+        ensures place { IfSome result (λ page. IsPlace (4096 * base) pages self.now n (4096 * page)) }
+        ensures none { IfNone result (HasNoPlace (4096 * base) pages self.now n) }
+    {
+        let hint = self.hint_in(base, base + pages);
+        self.place_behind(hint, base, pages, n)
+    }
+
+    /// A page of the window from `base` to `end` before which none is free.
+    fn hint_in(&self, base: u64, end: u64) -> u64
+        requires { base ≤ end }
+        ensures from { base ≤ result }
+        ensures to { result ≤ end }
+        ensures held { AreHeld (4096 * base) (4096 * result) self.now }
+    {
+        if base != self.base {
+            return base;
+        }
+        if self.hint > end {
+            return base;
+        }
+        self.hint
+    }
+
+    /// The lowest place, where no page of the window before the page `hint` is free.
+    fn place_behind(&self, hint: u64, base: u64, pages: u64, n: u64) -> Option<u64>
+        requires some { 0 < n }
+        requires window { base + pages ≤ 2 ^ 52 }
+        requires from { base ≤ hint }
+        requires to { hint ≤ base + pages }
+        requires held { AreHeld (4096 * base) (4096 * hint) self.now }
+        ensures place { IfSome result (λ page. IsPlace (4096 * base) pages self.now n (4096 * page)) }
+        ensures none { IfNone result (HasNoPlace (4096 * base) pages self.now n) }
+    {
+        self.place_from(hint, base + pages - hint, n)
+    }
+
+    /// The lowest place, by a search from the page `base` on.
+    fn place_from(&self, base: u64, pages: u64, n: u64) -> Option<u64>
         requires window { base + pages ≤ 2 ^ 52 }
         ensures place { IfSome result (λ page. IsPlace (4096 * base) pages self.now n (4096 * page)) }
         ensures none { IfNone result (HasNoPlace (4096 * base) pages self.now n) }
@@ -125,20 +210,6 @@ impl RegionTree {
             }
         }
         None
-    }
-
-    /// The same as `lowest_place`, by a search from the page `hint` on, where no page of the window before it is free.
-    /// Where nothing is behind the hint it takes two look-ups, however many regions are before it.
-    pub fn lowest_place_from(&self, hint: u64, base: u64, pages: u64, n: u64) -> Option<u64>
-        requires some { 0 < n }
-        requires window { base + pages ≤ 2 ^ 52 }
-        requires from { base ≤ hint }
-        requires to { hint ≤ base + pages }
-        requires held { AreHeld (4096 * base) (4096 * hint) self.now }
-        ensures place { IfSome result (λ page. IsPlace (4096 * base) pages self.now n (4096 * page)) }
-        ensures none { IfNone result (HasNoPlace (4096 * base) pages self.now n) }
-    {
-        self.lowest_place(hint, base + pages - hint, n)
     }
 
     /// The lowest region that `pages` pages from the page `first` on meet.
@@ -192,6 +263,7 @@ impl RegionTree {
         requires within { region.start + 4096 * region.pages ≤ 2 ^ 64 }
         requires clear { IsFalse (meets_any region.start region.pages self.old) }
         ensures ok { OnOk result (self.new ≡ with_region region self.old) }
+        ensures put { OnOk result (IsPutIn region self.old self.new) }
         ensures err { OnErr result (self.new ≡ self.old) }
     {
         let pages = pages_of(&region);
@@ -199,17 +271,27 @@ impl RegionTree {
             heap: region.heap,
             rights: region.rights,
         };
-        self.tree.insert(alloc, pages, kind)
+        let first = pages.start;
+        let end = pages.end;
+        self.tree.insert(alloc, pages, kind)?;
+        if first == self.hint {
+            self.hint = run_end(&self.tree, end);
+        }
+        Ok(())
     }
 
     /// Takes a region out, if it is there.
     pub fn remove(&mut self, region: &Region)
         requires at_page { region.now.start % 4096 ≡ 0 }
         requires within { region.now.start + 4096 * region.now.pages ≤ 2 ^ 64 }
-        ensures { self.new ≡ without region.now.start region.now.pages self.old }
+        ensures regions { self.new ≡ without region.now.start region.now.pages self.old }
+
+        // Where it is there, its addresses leave and no others.
+        ensures taken { IsTrue (list_any (is_at region.now.start region.now.pages) self.old) → AreTakenOut region.now.start (region.now.start + 4096 * region.now.pages) self.old self.new }
     {
         let pages = pages_of(region);
         self.tree.delete(&pages);
+        self.hint = lowered(self.hint, self.base, pages.start);
     }
 
     /// Cuts a region at its end, so that `left` of its pages are left.
@@ -224,6 +306,7 @@ impl RegionTree {
         let pages = pages_of(region);
         let end = pages.start + left;
         self.tree.shorten(&pages, end);
+        self.hint = lowered(self.hint, self.base, end);
     }
 
     /// Takes `pages` pages from the page `first` on out of the regions: one that meets them ends where they begin, and
@@ -234,6 +317,7 @@ impl RegionTree {
 
         // Where no region reaches over their end, these pages leave and no others.
         ensures taken { IsBoundary (4096 * (first + pages)) self.old → AreTakenOut (4096 * first) (4096 * (first + pages)) self.old self.new }
+        ensures laid { AreLaid 0 self.old (2 ^ 64) }
     {
         // With a field of it, what the type keeps is known of the regions as they were.
         let _ = &self.tree;

@@ -58,7 +58,7 @@ fn start_page(met: Option<Region>) -> u64 {
 
 // The user has 1028 to 1030, 1042 and 1080 to 1100, the heap has 1031 to 1040.
 fn four_regions(alloc: Global) -> Result<RegionTree, AllocError> {
-    let mut tree = RegionTree::new();
+    let mut tree = RegionTree::new(1024);
     for (page, pages, heap) in [
         (1042, 1, false),
         (1028, 2, false),
@@ -70,11 +70,19 @@ fn four_regions(alloc: Global) -> Result<RegionTree, AllocError> {
     Ok(tree)
 }
 
+/// The lowest place of so many pages, if there are some.
+fn place(tree: &RegionTree, base: u32, pages: u32, n: u64) -> Option<u64> {
+    if n == 0 {
+        return None;
+    }
+    tree.lowest_place(base.into(), pages.into(), n)
+}
+
 #[test]
 fn places_among_regions(rt: HostRuntime) -> Result<(), Fail> {
     let tree = four_regions(rt.alloc())?;
     for (base, pages, n, want) in [
-        (1024u32, 64u32, 1, Some(1024)),
+        (1024, 64, 1, Some(1024)),
         (1024, 64, 4, Some(1024)),
         (1024, 64, 5, Some(1043)),
         (1024, 64, 37, Some(1043)),
@@ -89,8 +97,8 @@ fn places_among_regions(rt: HostRuntime) -> Result<(), Fail> {
         (1081, 19, 1, None),
         (1081, 20, 1, Some(1100)),
     ] {
-        let place = tree.lowest_place(base.into(), pages.into(), n);
-        assert_eq!(rt; place, want, "{n} from {base} on");
+        let found = place(&tree, base, pages, n);
+        assert_eq!(rt; found, want, "{n} from {base} on");
     }
     Ok(())
 }
@@ -123,7 +131,7 @@ fn regions_that_are_met(rt: HostRuntime) -> Result<(), Fail> {
 #[test]
 fn the_last_pages(rt: HostRuntime) -> Result<(), Fail> {
     let alloc = rt.alloc();
-    let mut tree = RegionTree::new();
+    let mut tree = RegionTree::new(1024);
     assert!(rt; put(&mut tree, alloc, TOP - 16, 16, false)?);
     assert!(rt; !put(&mut tree, alloc, TOP - 17, 2, true)?);
     assert_eq!(rt; tree.lowest_place(TOP - 32, 32, 16), Some(TOP - 32));
@@ -159,5 +167,124 @@ fn changes_of_one_region(rt: HostRuntime) -> Result<(), Fail> {
     );
     assert_eq!(rt; tree.count(), 2);
     assert_eq!(rt; tree.lowest_place(1024, 56, 40), Some(1029));
+    Ok(())
+}
+
+/// Pages that a region has, in a plain list.
+#[derive(Clone, Copy)]
+struct Span {
+    first: u32,
+    pages: u32,
+    heap: bool,
+}
+
+fn is_met(span: Span, first: u64, pages: u64) -> bool {
+    let start = u64::from(span.first);
+    let end = start + u64::from(span.pages);
+    first < end && start < first.saturating_add(pages)
+}
+
+fn plain_met(spans: &[Span], first: u64, pages: u64, heap: bool) -> u64 {
+    for span in spans {
+        if is_met(*span, first, pages) && (span.heap || !heap) {
+            return span.first.into();
+        }
+    }
+    0
+}
+
+fn plain_place(spans: &[Span], base: u64, pages: u64, n: u64) -> Option<u64> {
+    let end = base.saturating_add(pages);
+    for page in base..end {
+        if page.saturating_add(n) <= end && plain_met(spans, page, n, false) == 0 {
+            return Some(page);
+        }
+    }
+    None
+}
+
+fn with_span(alloc: Global, spans: &[Span], new: Span) -> Result<Vec<Span>, AllocError> {
+    let mut list = Vec::new(alloc);
+    let mut waits = true;
+    for span in spans {
+        if waits && new.first < span.first {
+            list.push(new)?;
+            waits = false;
+        }
+        list.push(*span)?;
+    }
+    if waits {
+        list.push(new)?;
+    }
+    Ok(list)
+}
+
+fn without_pages(
+    alloc: Global,
+    spans: &[Span],
+    first: u32,
+    pages: u32,
+) -> Result<Vec<Span>, AllocError> {
+    let mut list = Vec::new(alloc);
+    for span in spans {
+        if !is_met(*span, first.into(), pages.into()) {
+            list.push(*span)?;
+        } else if span.first < first {
+            list.push(Span {
+                pages: first - span.first,
+                ..*span
+            })?;
+        }
+    }
+    Ok(list)
+}
+
+#[test]
+fn a_tree_beside_a_plain_list(rt: HostRuntime) -> Result<(), Fail> {
+    let alloc = rt.alloc();
+    let mut tree = RegionTree::new(1024);
+    let mut spans = Vec::new(alloc);
+    let mut draw = 1u32;
+    for turn in 0..300 {
+        draw = draw.wrapping_mul(1_664_525).wrapping_add(1_013_904_223);
+        let first = 1024 + (draw >> 16) % 64;
+        let pages = 1 + (draw >> 22) % 8;
+        let heap = (draw >> 13) % 2 == 0;
+        if (draw >> 28) < 12 {
+            let free = plain_met(&spans, first.into(), pages.into(), false) == 0;
+            let added = put(&mut tree, alloc, first.into(), pages.into(), heap)?;
+            assert_eq!(rt; added, free, "turn {turn}");
+            if added {
+                spans = with_span(alloc, &spans, Span { first, pages, heap })?;
+            }
+        } else {
+            tree.cut(first.into(), pages.into());
+            spans = without_pages(alloc, &spans, first, pages)?;
+        }
+        for n in 1..6 {
+            let place = tree.lowest_place(1024, 72, n);
+            assert_eq!(rt;
+                place,
+                plain_place(&spans, 1024, 72, n),
+                "turn {turn}, {n} pages"
+            );
+        }
+        let met = tree.lowest_heap_met(first.into(), 20);
+        assert_eq!(rt;
+            start_page(met),
+            plain_met(&spans, first.into(), 20, true),
+            "turn {turn}"
+        );
+        let list = listed(&tree, alloc)?;
+        assert_eq!(rt; list.len(), spans.len() as u64, "turn {turn}");
+        for (i, span) in spans.iter().enumerate() {
+            let want = region(span.first.into(), span.pages.into(), span.heap);
+            assert_eq!(rt;
+                list.get(i as u64).copied(),
+                Some(want),
+                "turn {turn}, region {i}"
+            );
+        }
+    }
     Ok(())
 }

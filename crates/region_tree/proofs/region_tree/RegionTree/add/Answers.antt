@@ -5,19 +5,14 @@ use Rattle.meminterval.specs.declared.interval.Interval.{Interval}
 use Rattle.meminterval.specs.Tree.{Tree, entries}
 use Rattle.region_tree.specs.declared.region_tree.Kind.{Kind}
 use Rattle.region_tree.specs.Pairs.{region_of, regions_of, Follow}
+use Rattle.region_tree.specs.Regions.{IsPutIn}
+use Rattle.region_tree.proofs.Taken.{put_in}
+use Rattle.region_tree.proofs.Held.{held_add, held_add_on}
 use Rattle.region_tree.proofs.Changes.{follow_length, added, IsAdded}
 use Rattle.region_tree.proofs.region_tree.RegionTree.add.Goals as goal
 
-either_way : {A B : Type 0} (r : Result A B) (P Q R : Type 0) → OnOk r P → OnErr r Q → (P → R) → (Q → R) → R
-either_way (Ok a) P Q R p q f g = f p
-either_way (Err e) P Q R p q f g = g q
-
-if_ok : {A B : Type 0} (r : Result A B) (P Q : Type 0) → OnOk r P → (P → Q) → OnOk r Q
-if_ok (Ok a) P Q p f = f p
-if_ok (Err e) P Q p f = p
-
 pub insert-requires-clause-room : goal.insert-requires-clause-room
-insert-requires-clause-room c = let h = follow_length 0 (entries c.self.inside.tree) (2 ^ 52) c.self.invariant in omega (arith, h)
+insert-requires-clause-room c = let h = follow_length 0 (entries c.self.inside.tree) (2 ^ 52) c.self.invariant.follow in omega (arith, h)
 
 -- what the pages and the kind of the region add
 adds : (region : Region) (i : Interval ℕ) (es : List (Interval ℕ × Kind)) (rs : List Region) → regions_of es ≡ rs → Follow 0 es (2 ^ 52) → 4096 * i.start ≡ region.start → i.end ≡ i.start + region.pages → i.end ≤ 2 ^ 52 → 0 < region.pages → meets_any region.start region.pages rs ≡ false →
@@ -34,20 +29,65 @@ is_region region i start pages =
     ap (λ (s : ℕ). record { start = s; pages = i.end - i.start; heap = region.heap; rights = region.rights }) start
     ∙ ap (λ (m : ℕ). record { start = region.start; pages = m; heap = region.heap; rights = region.rights }) n
 
-pub invariant_of-self : goal.invariant_of-self
-invariant_of-self c =
+pub run_end-self-inside-requires : goal.run_end-self-inside-requires
+run_end-self-inside-requires c =
     let es = entries c.self.inside.tree in
-    let i = c.pages_of-pages.result in
     let p = c.pages_of-pages.ensures in
-    let a = adds c.args.region i es c.args.self.now c.self.view_is c.self.invariant p.start p.pages p.within c.requires.some c.requires.clear in
-    either_way c.insert.result _ _ (Follow 0 (entries c.insert.new.self) (2 ^ 52)) c.insert.ensures.ok c.insert.ensures.err
-    (λ is. subst (λ (fs : List (Interval ℕ × Kind)). Follow 0 fs (2 ^ 52)) (sym is) a.follow)
-    (λ is. subst (λ (t : Tree (Interval ℕ × Kind)). Follow 0 (entries t) (2 ^ 52)) (sym is) c.self.invariant)
+    let a = adds c.args.region c.pages_of-pages.result es c.args.self.now c.self.view_is c.self.invariant.follow p.start p.pages p.within c.requires.some c.requires.clear in
+    subst (λ (fs : List (Interval ℕ × Kind)). Follow 0 fs (2 ^ 52)) (sym c.in_ok-insert.ensures.ok) a.follow
 
-pub returns-clause-ok : goal.returns-clause-ok
-returns-clause-ok c =
+pub invariant_of-self-then-first-self : goal.invariant_of-self-then-first-self
+invariant_of-self-then-first-self c =
+    let es = entries c.self.inside.tree in
+    let new = entries c.insert.new.self in
+    let i = c.pages_of-pages.result in
+    let p = c.pages_of-pages.ensures in
+    let is = c.in_ok-insert.ensures.ok in
+    let x : Interval ℕ × Kind = (i, record { heap = c.args.region.heap; rights = c.args.region.rights }) in
+    let a = adds c.args.region i es c.args.self.now c.self.view_is c.self.invariant.follow p.start p.pages p.within c.requires.some c.requires.clear in
+    let above = c.self.invariant.above in
+    let later = c.run_end-self-inside.ensures.above in
+    record {
+      follow = subst (λ (fs : List (Interval ℕ × Kind)). Follow 0 fs (2 ^ 52)) (sym is) a.follow;
+      above = omega (arith, above, later, c.if-first-self.true, p.pages);
+      held = held_add_on x c.self.inside.base c.self.inside.hint c.run_end-self-inside.result es new (omega (arith, p.pages, c.requires.some)) c.if-first-self.true (ap regions_of is ∙ a.regions) c.self.invariant.held c.run_end-self-inside.ensures.held;
+    }
+
+pub invariant_of-self-else-first-self : goal.invariant_of-self-else-first-self
+invariant_of-self-else-first-self c =
+    let es = entries c.self.inside.tree in
+    let new = entries c.insert.new.self in
+    let i = c.pages_of-pages.result in
+    let p = c.pages_of-pages.ensures in
+    let is = c.in_ok-insert.ensures.ok in
+    let x : Interval ℕ × Kind = (i, record { heap = c.args.region.heap; rights = c.args.region.rights }) in
+    let a = adds c.args.region i es c.args.self.now c.self.view_is c.self.invariant.follow p.start p.pages p.within c.requires.some c.requires.clear in
+    record {
+      follow = subst (λ (fs : List (Interval ℕ × Kind)). Follow 0 fs (2 ^ 52)) (sym is) a.follow;
+      above = c.self.invariant.above;
+      held = held_add x c.self.inside.base c.self.inside.hint es new (ap regions_of is ∙ a.regions) c.self.invariant.held;
+    }
+
+pub returns-then-first-self-clause-ok : goal.returns-then-first-self-clause-ok
+returns-then-first-self-clause-ok c =
     let es = entries c.self.inside.tree in
     let i = c.pages_of-pages.result in
     let p = c.pages_of-pages.ensures in
-    let a = adds c.args.region i es c.args.self.now c.self.view_is c.self.invariant p.start p.pages p.within c.requires.some c.requires.clear in
-    if_ok c.insert.result _ _ c.insert.ensures.ok (λ is. ap regions_of is ∙ (a.regions ∙ (ap (λ r. with_region r (regions_of es)) (is_region c.args.region i p.start p.pages) ∙ ap (with_region c.args.region) c.self.view_is)))
+    let a = adds c.args.region i es c.args.self.now c.self.view_is c.self.invariant.follow p.start p.pages p.within c.requires.some c.requires.clear in
+    ap regions_of c.in_ok-insert.ensures.ok ∙ (a.regions ∙ (ap (λ r. with_region r (regions_of es)) (is_region c.args.region i p.start p.pages) ∙ ap (with_region c.args.region) c.self.view_is))
+
+pub returns-else-first-self-clause-ok : goal.returns-else-first-self-clause-ok
+returns-else-first-self-clause-ok c =
+    let es = entries c.self.inside.tree in
+    let i = c.pages_of-pages.result in
+    let p = c.pages_of-pages.ensures in
+    let a = adds c.args.region i es c.args.self.now c.self.view_is c.self.invariant.follow p.start p.pages p.within c.requires.some c.requires.clear in
+    ap regions_of c.in_ok-insert.ensures.ok ∙ (a.regions ∙ (ap (λ r. with_region r (regions_of es)) (is_region c.args.region i p.start p.pages) ∙ ap (with_region c.args.region) c.self.view_is))
+
+pub returns-then-first-self-clause-put : goal.returns-then-first-self-clause-put
+returns-then-first-self-clause-put c =
+    subst (λ (rs : List Region). IsPutIn c.args.region c.args.self.now rs) (sym (returns-then-first-self-clause-ok c)) (put_in c.args.region c.args.self.now c.requires.clear)
+
+pub returns-else-first-self-clause-put : goal.returns-else-first-self-clause-put
+returns-else-first-self-clause-put c =
+    subst (λ (rs : List Region). IsPutIn c.args.region c.args.self.now rs) (sym (returns-else-first-self-clause-ok c)) (put_in c.args.region c.args.self.now c.requires.clear)

@@ -59,7 +59,7 @@ loop-region-smaller c =
     let r = c.in-Some.region in
     let f = found at n 0 c.loop-region.self (2 ^ 64) r c.in-Some.ensures.laid (sym c.in-Some.ensures.value) in
     let s = removes at n c.loop-region.self r f.met (sym c.in-Some.ensures.value) (omega (arith, f.at_page, c.if-start-first.false)) in
-    subst (λ (rs : List Region). count_met at n rs < count_met at n c.loop-region.self) (sym c.remove.ensures) s.fewer
+    subst (λ (rs : List Region). count_met at n rs < count_met at n c.loop-region.self) (sym c.remove.ensures.regions) s.fewer
 
 pub loop-region-preserved : goal.loop-region-preserved
 loop-region-preserved c =
@@ -68,7 +68,7 @@ loop-region-preserved c =
     let r = c.in-Some.region in
     let f = found at n 0 c.loop-region.self (2 ^ 64) r c.in-Some.ensures.laid (sym c.in-Some.ensures.value) in
     let s = removes at n c.loop-region.self r f.met (sym c.in-Some.ensures.value) (omega (arith, f.at_page, c.if-start-first.false)) in
-    ap (cut_of at n) c.remove.ensures ∙ (s.same ∙ c.loop-region.invariant)
+    ap (cut_of at n) c.remove.ensures.regions ∙ (s.same ∙ c.loop-region.invariant)
 
 pub returns-clause-regions : goal.returns-clause-regions
 returns-clause-regions c = sym (none_left (4096 * c.args.first) c.args.pages c.loop-region.self (sym c.in_default.ensures.value)) ∙ c.loop-region.invariant
@@ -78,8 +78,11 @@ returns-clause-taken c = λ boundary.
     let low = 4096 * c.args.first in
     let n = c.args.pages in
     let old = c.args.self.now in
-    let lie : AreLaid 0 old (2 ^ 64) = subst (λ (rs : List Region). AreLaid 0 rs (2 ^ 64)) c.self.view_is (laid 0 (entries c.self.inside.tree) (2 ^ 52) c.self.invariant) in
+    let lie : AreLaid 0 old (2 ^ 64) = subst (λ (rs : List Region). AreLaid 0 rs (2 ^ 64)) c.self.view_is (laid 0 (entries c.self.inside.tree) (2 ^ 52) c.self.invariant.follow) in
     let end : 4096 * (c.args.first + n) ≡ low + 4096 * n = omega arith in
     let taken = taken_out low n 0 old (2 ^ 64) (omega arith) lie (subst (λ (a : ℕ). IsBoundary a old) end boundary) in
     subst (λ (rs : List Region). AreTakenOut low (4096 * (c.args.first + n)) old rs) (sym (returns-clause-regions c))
     (subst (λ (a : ℕ). AreTakenOut low a old (cut_of low n old)) (sym end) taken)
+
+pub returns-clause-laid : goal.returns-clause-laid
+returns-clause-laid c = subst (λ (rs : List Region). AreLaid 0 rs (2 ^ 64)) c.self.view_is (laid 0 (entries c.self.inside.tree) (2 ^ 52) c.self.invariant.follow)

@@ -5,7 +5,8 @@ use Rattle.meminterval.specs.declared.interval.Interval.{Interval}
 use Rattle.meminterval.specs.Tree.{entries}
 use Rattle.region_tree.specs.declared.region_tree.Kind.{Kind}
 use Rattle.region_tree.specs.Pairs.{regions_of, Follow}
-use Rattle.region_tree.specs.Regions.{is_at, with_pages}
+use Rattle.region_tree.proofs.Held.{held_shorter}
+use Rattle.region_tree.specs.Regions.{AreHeld, is_at, with_pages}
 use Rattle.region_tree.proofs.Changes.{cut, own_start}
 use Rattle.region_tree.proofs.region_tree.RegionTree.shorten.Goals as goal
 
@@ -20,14 +21,24 @@ shorten-requires-clause-alone c =
     let es = entries c.self.inside.tree in
     let i = c.pages_of-pages.result in
     let p = c.pages_of-pages.ensures in
-    own_start i 0 es (2 ^ 52) c.self.invariant (omega (arith, p.pages)) (listed i c.args.region.now.start c.args.region.now.pages (regions_of es) c.args.self.now c.self.view_is p.start p.pages c.requires.there)
+    own_start i 0 es (2 ^ 52) c.self.invariant.follow (omega (arith, p.pages)) (listed i c.args.region.now.start c.args.region.now.pages (regions_of es) c.args.self.now c.self.view_is p.start p.pages c.requires.there)
 
 pub invariant_of-self : goal.invariant_of-self
 invariant_of-self c =
+    let base = c.self.inside.base in
+    let lower = c.lowered-self-inside.result in
+    let es = entries c.self.inside.tree in
     let i = c.pages_of-pages.result in
     let p = c.pages_of-pages.ensures in
-    let r = cut i (i.start + c.args.left) 0 (entries c.self.inside.tree) (2 ^ 52) c.self.invariant (omega (arith, c.requires.some)) (omega (arith, p.pages, c.requires.less)) in
-    subst (λ (es : List (Interval ℕ × Kind)). Follow 0 es (2 ^ 52)) (sym c.shorten.ensures.pairs) r.follow
+    let end = i.start + c.args.left in
+    let r = cut i end 0 es (2 ^ 52) c.self.invariant.follow (omega (arith, c.requires.some)) (omega (arith, p.pages, c.requires.less)) in
+    record {
+      follow = subst (λ (es : List (Interval ℕ × Kind)). Follow 0 es (2 ^ 52)) (sym c.shorten.ensures.pairs) r.follow;
+      above = c.lowered-self-inside.ensures.above;
+      held = subst (λ (rs : List Region). AreHeld (4096 * base) (4096 * lower) rs) (sym (ap regions_of c.shorten.ensures.pairs ∙ r.regions))
+          (held_shorter base c.self.inside.hint lower (4096 * i.start) (i.end - i.start) (end - i.start) (regions_of es) c.self.invariant.held c.lowered-self-inside.ensures.below
+          (λ h. let b = c.lowered-self-inside.ensures.before h in omega (arith, b)));
+    }
 
 pub returns : goal.returns
 returns c =
@@ -35,7 +46,7 @@ returns c =
     let i = c.pages_of-pages.result in
     let p = c.pages_of-pages.ensures in
     let left = c.args.left in
-    let r = cut i (i.start + left) 0 es (2 ^ 52) c.self.invariant (omega (arith, c.requires.some)) (omega (arith, p.pages, c.requires.less)) in
+    let r = cut i (i.start + left) 0 es (2 ^ 52) c.self.invariant.follow (omega (arith, c.requires.some)) (omega (arith, p.pages, c.requires.less)) in
     let n : i.end - i.start ≡ c.args.region.now.pages = omega (arith, p.pages) in
     let m : i.start + left - i.start ≡ left = omega arith in
     ap regions_of c.shorten.ensures.pairs ∙ (r.regions

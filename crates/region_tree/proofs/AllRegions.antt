@@ -1,0 +1,104 @@
+-- The regions of a state, those of the heap and of the user together, when one joins or leaves.
+use Rattle.std.proofs.Common.{◌≢◌, fold, [], ◌∷◌, ◌≡◌, ◌∙◌, ap, sym, refl, ℕ, ◌*◌, ◌<◌, ◌≤◌, Bool, true, false, ◌||◌, ◌⊎◌, inl, inr, nat_lt, List, arith, find, is_some}
+use Rattle.std.proofs.lemmas.Bool.{cases_lt}
+use Rattle.std.proofs.lemmas.Bool.Decides.{nat_tests}
+use Rattle.std.specs.List.{AllByRecursion, list_any}
+use Rattle.heap_model.specs.declared.region.Region.{Region}
+use Rattle.heap_model.specs.State.{State}
+use Rattle.heap_model.specs.Place.{with_region, meets, meets_any, all_regions}
+use Rattle.heap_model.proofs.Regions.{any_all, all_with}
+use Rattle.region_tree.specs.Regions.{meets_heap, is_at, without}
+
+-- ---- a region that joins the heap of a state joins all of its regions
+
+commute : (a b : Region) (list : List Region) → a.start ≢ b.start → with_region a (with_region b list) ≡ with_region b (with_region a list)
+commute a b [] h = grind (arith, nat_tests)
+commute a b (x ∷ xs) h = grind (arith, nat_tests, commute a b xs h)
+
+pub joined_all : (region : Region) (heap users : List Region) → AllByRecursion (λ user. user.start ≢ region.start) users →
+    fold (λ list r. with_region r list) (with_region region heap) users ≡ with_region region (fold (λ list r. with_region r list) heap users)
+joined_all region heap [] h = refl
+joined_all region heap (user ∷ users) h =
+    ap (λ list. fold (λ list r. with_region r list) list users) (commute user region heap h.0) ∙ joined_all region (with_region user heap) users h.1
+
+-- ---- the regions of the heap and of the user
+
+of_heap : (at n : ℕ) (list : List Region) → AllByRecursion (λ r. r.heap ≡ true) list → list_any (meets_heap at n) list ≡ meets_any at n list
+of_heap at n [] h = refl
+of_heap at n (r ∷ rs) h = rw h.0 (ap (λ t. meets at n r || t) (of_heap at n rs h.1))
+
+of_users : (at n : ℕ) (list : List Region) → AllByRecursion (λ r. r.heap ≡ false) list → list_any (meets_heap at n) list ≡ false
+of_users at n [] h = refl
+of_users at n (r ∷ rs) h = rw h.0 (of_users at n rs h.1)
+
+or_with : (a b : Bool) → b ≡ false → (a || b) ≡ a
+or_with true b h = refl
+or_with false b h = h
+
+-- a search finds one where a test passes
+found_any : (test : Region → Bool) (rs : List Region) → is_some (find test rs) ≡ list_any test rs
+found_any test [] = refl
+found_any test (r ∷ rs) = go (test r) refl (found_any test rs) where
+  go : (t : Bool) → test r ≡ t → is_some (find test rs) ≡ list_any test rs → is_some (find test (r ∷ rs)) ≡ list_any test (r ∷ rs)
+  go true is rest = rw is refl
+  go false is rest = rw is rest
+
+-- pages meet a region of the heap among all regions where they meet one of the heap
+pub state_heap :
+    (s : State) (at n : ℕ) → AllByRecursion (λ r. r.heap ≡ true) s.heap → AllByRecursion (λ r. r.heap ≡ false) s.users →
+    is_some (find (meets_heap at n) (all_regions s)) ≡ meets_any at n s.heap
+state_heap s at n heap users =
+    found_any (meets_heap at n) (all_regions s)
+    ∙ (any_all (meets_heap at n) s.heap s.users ∙ (or_with _ _ (of_users at n s.users users) ∙ of_heap at n s.heap heap))
+
+-- ---- a region that leaves
+
+-- regions in the order of their starts
+abbrev pub Sorted : List Region → Type 0
+Sorted [] = Unit {0}
+Sorted (r ∷ rs) = AllByRecursion (λ later. r.start ≤ later.start) rs × Sorted rs
+
+all_up : (low high : ℕ) (rs : List Region) → low ≤ high → AllByRecursion (λ later. high ≤ later.start) rs → AllByRecursion (λ later. low ≤ later.start) rs
+all_up low high [] h a = tt
+all_up low high (r ∷ rs) h a = (omega (arith, h, a.0), all_up low high rs h a.1)
+
+pub sorted_with : (r : Region) (list : List Region) → Sorted list → Sorted (with_region r list)
+sorted_with r [] s = (tt, tt)
+sorted_with r (x ∷ xs) s = go (cases_lt r.start x.start) (sorted_with r xs s.1) where
+  go : (r.start < x.start) ⊎ (x.start ≤ r.start) → Sorted (with_region r xs) → Sorted (with_region r (x ∷ xs))
+  go (inl before) i =
+      let t : nat_lt r.start x.start ≡ true = grind (arith, nat_tests) in
+      rw t ((omega (arith, before), all_up r.start x.start xs (omega (arith, before)) s.0), s)
+  go (inr behind) i =
+      let t : nat_lt r.start x.start ≡ false = grind (arith, nat_tests) in
+      rw t (all_with (λ later. x.start ≤ later.start) r xs behind s.0, i)
+
+-- before all of them it is the first
+goes_first : (r : Region) (low : ℕ) (list : List Region) → r.start < low → AllByRecursion (λ later. low ≤ later.start) list → with_region r list ≡ r ∷ list
+goes_first r low [] h a = refl
+goes_first r low (x ∷ xs) h a = let t : nat_lt r.start x.start ≡ true = grind (arith, nat_tests, h, a.0) in rw t refl
+
+skips : (start pages : ℕ) (r : Region) (list : List Region) → Sorted list → is_at start pages r ≡ false → without start pages (with_region r list) ≡ with_region r (without start pages list)
+skips start pages r [] s other = rw other refl
+skips start pages r (x ∷ xs) s other = go (cases_lt r.start x.start) (is_at start pages x) refl (skips start pages r xs s.1 other) where
+  go : (r.start < x.start) ⊎ (x.start ≤ r.start) → (t : Bool) → is_at start pages x ≡ t → without start pages (with_region r xs) ≡ with_region r (without start pages xs) →
+      without start pages (with_region r (x ∷ xs)) ≡ with_region r (without start pages (x ∷ xs))
+  go (inl before) true is i =
+      let t : nat_lt r.start x.start ≡ true = grind (arith, nat_tests) in
+      rw t (rw other (rw is (sym (goes_first r x.start xs before s.0))))
+  go (inl before) false is i =
+      let t : nat_lt r.start x.start ≡ true = grind (arith, nat_tests) in
+      rw t (rw other (rw is (rw t refl)))
+  go (inr behind) true is i =
+      let t : nat_lt r.start x.start ≡ false = grind (arith, nat_tests) in
+      rw t (rw is refl)
+  go (inr behind) false is i =
+      let t : nat_lt r.start x.start ≡ false = grind (arith, nat_tests) in
+      rw t (rw is (rw t (ap (λ ys. x ∷ ys) i)))
+
+-- a region that is none of the user's leaves all regions as it leaves the heap
+pub left_all : (start pages : ℕ) (heap users : List Region) → Sorted heap → AllByRecursion (λ user. is_at start pages user ≡ false) users →
+    fold (λ list r. with_region r list) (without start pages heap) users ≡ without start pages (fold (λ list r. with_region r list) heap users)
+left_all start pages heap [] s h = refl
+left_all start pages heap (user ∷ users) s h =
+    ap (λ list. fold (λ list r. with_region r list) list users) (sym (skips start pages user heap s h.0)) ∙ left_all start pages (with_region user heap) users (sorted_with user heap s) h.1
