@@ -1,17 +1,17 @@
 -- A run that is put in and joined.
-use Rattle.std.proofs.Common.{◌≡◌, ◌≢◌, ◌∙◌, ap, sym, refl, ℕ, ◌+◌, ◌^◌, ◌<◌, ◌≤◌, ◌==◌, ◌&&◌, Bool, true, false, cond, ◌||◌, Option, Some, None, List, [], ◌∷◌, ◌++◌, arith, subst, ◌⊎◌, inl, inr}
+use Rattle.std.proofs.Common.{◌≡◌, ◌∙◌, ap, sym, refl, ℕ, ◌+◌, ◌^◌, ◌<◌, ◌≤◌, ◌==◌, ◌&&◌, Bool, true, false, cond, ◌||◌, Some, List, ◌∷◌, ◌++◌, arith, subst, ◌⊎◌, inl, inr}
 use Rattle.std.proofs.lemmas.Bool.{cases_lt}
 use Rattle.std.proofs.lemmas.Bool.Decides.{nat_tests}
-use Rattle.std.specs.Prelude.{IsTrue, nat_lt, nat_le}
+use Rattle.std.specs.Prelude.{nat_lt, nat_le}
 use Rattle.std.specs.Ordering.{nat_cmp}
 use Rattle.meminterval.specs.declared.interval.Interval.{Interval}
-use Rattle.meminterval.specs.Entries.{or_else, with_entry}
+use Rattle.meminterval.specs.Entries.{with_entry}
 use Rattle.meminterval.specs.Interval.{by_ends}
 use Rattle.paging_core.specs.declared.page_table.Rights.{Rights}
-use Rattle.address_space.specs.Runs.{Follow, AreLongest, rights_in, begins_at, holds}
+use Rattle.address_space.specs.Runs.{Follow, AreLongest, rights_in, begins_at}
 use Rattle.address_space.specs.Joining.{IsJoined, IsAdded, IsLongestAfter}
 use Rattle.address_space.proofs.Splits.{follow_append}
-use Rattle.address_space.proofs.Changes.{rights_append, begins_append, none_above, none_below, entry_between, begins_mapped}
+use Rattle.address_space.proofs.Changes.{rights_append, begins_append, none_above, entry_between, begins_mapped}
 use Rattle.address_space.proofs.Clear.{AreClear, IsSplit, clear_split}
 
 -- the run is in, and not joined yet

@@ -1,22 +1,20 @@
 -- Runs after one was put in, taken out, or got another end, where they stand around it.
-use Rattle.std.proofs.Common.{◌≡◌, ◌≢◌, ◌∙◌, ap, sym, refl, ℕ, ◌+◌, ◌<◌, ◌≤◌, Bool, true, false, ◌==◌, ◌||◌, Option, Some, None, List, [], ◌∷◌, ◌++◌, map, arith, subst}
+use Rattle.std.proofs.Common.{◌≡◌, ap, sym, refl, ℕ, ◌<◌, ◌≤◌, Bool, true, false, ◌==◌, ◌||◌, Some, None, List, [], ◌∷◌, ◌++◌, map, arith}
 use Rattle.std.proofs.lemmas.Bool.Decides.{nat_tests}
-use Rattle.std.specs.Prelude.{nat_lt, nat_le}
 use Rattle.std.specs.Cmp.{nat_cmp_is}
-use Rattle.std.specs.Ordering.{is_lt, is_eq, nat_cmp}
-use Rattle.std.specs.declared.cmp.Ordering.{Ordering}
+use Rattle.std.specs.Ordering.{nat_cmp}
 use Rattle.std.specs.declared.cmp.Ordering.TheVariants.{Less, Equal, Greater}
 use Rattle.meminterval.specs.declared.interval.Interval.{Interval}
 use Rattle.meminterval.specs.Entries.{AllItems, or_else, with_entry, without_key}
 use Rattle.meminterval.specs.Interval.{by_ends, with_end, HasOwnStart}
 use Rattle.paging_core.specs.declared.page_table.Rights.{Rights}
 use Rattle.address_space.specs.Runs.{Follow, rights_in, begins_at, holds}
-use Rattle.address_space.proofs.Splits.{follow_to, follow_down, follow_append}
+use Rattle.address_space.proofs.Splits.{follow_to}
 
-less : (x e : Interval ℕ) → x.start < e.start → by_ends nat_cmp x e ≡ Less
+pub less : (x e : Interval ℕ) → x.start < e.start → by_ends nat_cmp x e ≡ Less
 less x e h = let c : nat_cmp x.start e.start ≡ Less = sym (nat_cmp_is x.start e.start Less h) in rw c refl
 
-greater : (x e : Interval ℕ) → e.start < x.start → by_ends nat_cmp x e ≡ Greater
+pub greater : (x e : Interval ℕ) → e.start < x.start → by_ends nat_cmp x e ≡ Greater
 greater x e h = let c : nat_cmp x.start e.start ≡ Greater = sym (nat_cmp_is x.start e.start Greater h) in rw c refl
 
 equal_itself : (i : Interval ℕ) → by_ends nat_cmp i i ≡ Equal

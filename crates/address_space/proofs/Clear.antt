@@ -1,13 +1,13 @@
 -- Runs around pages that none of them holds.
-use Rattle.std.proofs.Common.{◌≡◌, ◌≢◌, ◌∙◌, ap, sym, refl, ℕ, ◌+◌, ◌^◌, ◌<◌, ◌≤◌, Bool, true, false, Option, Some, None, List, [], ◌∷◌, ◌++◌, max, arith, subst, ◌⊎◌, inl, inr, append_assoc}
+use Rattle.std.proofs.Common.{◌≡◌, ◌∙◌, ap, sym, refl, ℕ, ◌<◌, ◌≤◌, Option, Some, None, List, [], ◌∷◌, ◌++◌, arith, ◌⊎◌, inl, inr, append_assoc}
 use Rattle.std.proofs.lemmas.Bool.{cases_lt}
 use Rattle.std.specs.Ordering.{nat_cmp}
 use Rattle.meminterval.specs.declared.interval.Interval.{Interval}
 use Rattle.meminterval.specs.Entries.{last, or_else}
 use Rattle.meminterval.specs.Interval.{starts_below}
 use Rattle.paging_core.specs.declared.page_table.Rights.{Rights}
-use Rattle.address_space.specs.Runs.{Follow, rights_in, holds}
-use Rattle.address_space.proofs.Splits.{follow_to, follow_append, IsLast, none_last, last_is}
+use Rattle.address_space.specs.Runs.{Follow, rights_in}
+use Rattle.address_space.proofs.Splits.{follow_append, IsLast, none_last, last_is}
 use Rattle.address_space.proofs.Changes.{rights_append, none_above, none_below, holds_inside}
 
 abbrev pub AreClear : List (Interval ℕ × Rights) → ℕ → ℕ → Type 0

@@ -1,16 +1,14 @@
 -- Two runs that meet are made one.
-use Rattle.std.proofs.Common.{◌≡◌, ◌≢◌, ◌∙◌, ap, sym, refl, ℕ, ◌+◌, ◌^◌, ◌<◌, ◌≤◌, Bool, true, false, cond, ◌||◌, Option, Some, None, List, [], ◌∷◌, ◌++◌, map, arith, subst, ◌⊎◌, inl, inr, append_assoc, ◌==◌}
-use Rattle.std.proofs.lemmas.Bool.{cases_lt}
+use Rattle.std.proofs.Common.{◌≡◌, ◌∙◌, ap, sym, refl, ℕ, ◌+◌, ◌^◌, ◌<◌, Bool, true, false, cond, ◌||◌, Some, None, List, [], ◌∷◌, ◌++◌, map, arith, subst, append_assoc, ◌==◌}
 use Rattle.std.proofs.lemmas.Bool.Decides.{nat_tests}
-use Rattle.std.specs.Prelude.{IsTrue, nat_lt, nat_le}
 use Rattle.std.specs.Ordering.{nat_cmp}
 use Rattle.meminterval.specs.declared.interval.Interval.{Interval}
 use Rattle.meminterval.specs.Entries.{AllItems, first, or_else, without_key}
 use Rattle.meminterval.specs.Interval.{by_ends, with_end, starts_from, HasOwnStart}
 use Rattle.paging_core.specs.declared.page_table.Rights.{Rights}
-use Rattle.address_space.specs.Runs.{Follow, rights_in, begins_at, holds}
-use Rattle.address_space.specs.Joining.{AreMeeting, IsMeeting, IsJoined, IsLongestAfter}
-use Rattle.address_space.proofs.Splits.{follow_to, follow_append, IsLast, past_front, head_is, none_is, all_before}
+use Rattle.address_space.specs.Runs.{Follow, rights_in, begins_at}
+use Rattle.address_space.specs.Joining.{AreMeeting, IsMeeting, IsJoined}
+use Rattle.address_space.proofs.Splits.{follow_append, IsLast, past_front, head_is, none_is, all_before}
 use Rattle.address_space.proofs.Changes.{rights_append, begins_append, none_above, none_below, none_begins_above, none_begins_below, without_between, end_between, own_between, begins_mapped, holds_inside}
 use Rattle.address_space.proofs.Clear.{last_holds, or_none, or_first}
 

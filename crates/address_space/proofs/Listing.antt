@@ -1,9 +1,9 @@
 -- The areas, listed one after the other.
-use Rattle.std.proofs.Common.{◌≡◌, ◌∙◌, ap, sym, refl, ℕ, ◌+◌, ◌-◌, ◌*◌, ◌<◌, ◌≤◌, List, [], ◌∷◌, ◌++◌, Option, Some, None, subst, arith, append_assoc, append-nil}
+use Rattle.std.proofs.Common.{◌≡◌, ◌∙◌, ap, sym, refl, ℕ, ◌<◌, ◌≤◌, List, [], ◌∷◌, ◌++◌, Some, None, subst, arith, append_assoc, append-nil}
 use Rattle.std.specs.Ordering.{nat_cmp}
 use Rattle.meminterval.specs.declared.interval.Interval.{Interval}
 use Rattle.meminterval.specs.Entries.{AllItems, first}
-use Rattle.meminterval.specs.Interval.{starts_below, starts_from}
+use Rattle.meminterval.specs.Interval.{starts_from}
 use Rattle.paging_core.specs.declared.page_table.Rights.{Rights}
 use Rattle.address_space.specs.declared.area.Area.{Area}
 use Rattle.address_space.specs.Runs.{Follow, area_of, areas_of}

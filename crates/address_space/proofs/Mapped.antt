@@ -1,17 +1,17 @@
 -- A space after pages were mapped.
-use Rattle.std.proofs.Common.{◌≡◌, ◌∙◌, ap, sym, refl, ℕ, ◌+◌, ◌-◌, ◌*◌, ◌/◌, ◌^◌, ◌<◌, ◌≤◌, ◌==◌, ◌||◌, ◌&&◌, Bool, true, false, cond, Option, Some, None, option_map, List, length, subst, arith}
+use Rattle.std.proofs.Common.{◌≡◌, ◌∙◌, ap, sym, refl, ℕ, ◌+◌, ◌-◌, ◌*◌, ◌/◌, ◌^◌, ◌<◌, ◌≤◌, ◌==◌, ◌||◌, Bool, true, false, cond, Option, Some, None, option_map, List, subst, arith}
 use Rattle.std.proofs.lemmas.Bool.Decides.{nat_tests}
-use Rattle.std.specs.Prelude.{nat_lt, nat_le, IsTrue, IsSome, is_some}
+use Rattle.std.specs.Prelude.{IsTrue, IsSome, is_some}
 use Rattle.paging_core.specs.Address.{IsCanonicalRange, is_canonical}
 use Rattle.paging_core.specs.Memory.{frame_count}
-use Rattle.paging_core.specs.Pool.{is_free, FreeBelow}
-use Rattle.paging_core.specs.Walk.{Place, reach, walk_of, reached, granted}
+use Rattle.paging_core.specs.Pool.{FreeBelow}
+use Rattle.paging_core.specs.Walk.{walk_of, reached}
 use Rattle.paging_core.specs.Mapping.{IsRangeAdded}
 use Rattle.paging_core.specs.declared.page_table.Rights.{Rights}
 use Rattle.meminterval.specs.declared.interval.Interval.{Interval}
 use Rattle.address_space.specs.Runs.{rights_in, is_among}
 use Rattle.address_space.specs.Joining.{IsAdded}
-use Rattle.address_space.specs.PageMap.{PageMap, IsMap, mapped, IsClear}
+use Rattle.address_space.specs.PageMap.{IsMap, mapped}
 use Rattle.address_space.specs.Space.{Tables, IsKept, map_of, rights_of}
 
 -- ---- ranges
@@ -41,7 +41,7 @@ some_of : {A B : Type 0} (f : A → B) (o : Option A) (b : B) → option_map f o
 some_of {A} {B} f None b h = absurd (cc)
 some_of {A} {B} f (Some a) b h = refl
 
-is_some_of : {A : Type 0} (o : Option A) (a : A) → o ≡ Some a → IsSome o
+pub is_some_of : {A : Type 0} (o : Option A) (a : A) → o ≡ Some a → IsSome o
 is_some_of {A} o a h = rw h refl
 
 pub walks : (t : Tables) (page : ℕ) (rights : Rights) → IsKept t → rights_in t.runs page ≡ Some rights → IsSome (walk_of t.words t.root page)

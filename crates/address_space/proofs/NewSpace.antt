@@ -1,5 +1,5 @@
 -- A new space: the root alone is a table, and the other frames are free.
-use Rattle.std.proofs.Common.{◌≡◌, ◌≢◌, ◌∙◌, ap, sym, refl, ℕ, ◌+◌, ◌*◌, ◌^◌, ◌<◌, ◌≤◌, Bool, true, false, Option, Some, None, option_map, List, [], length, set, replicate, subst, arith, ◌==◌}
+use Rattle.std.proofs.Common.{◌≡◌, ◌≢◌, ◌∙◌, ap, sym, refl, ℕ, ◌*◌, ◌^◌, ◌<◌, Bool, true, false, Some, None, option_map, List, [], length, set, replicate, subst, arith}
 use Rattle.std.specs.Prelude.{IsSome, IsTrue}
 use Rattle.std.proofs.lemmas.List.{get_or-replicate, get_or-set_other}
 use Rattle.paging_core.specs.Address.{is_canonical}
@@ -7,8 +7,8 @@ use Rattle.meminterval.specs.declared.interval.Interval.{Interval}
 use Rattle.paging_core.specs.declared.page_table.Rights.{Rights}
 use Rattle.address_space.specs.Runs.{Follow, AreLongest, rights_in}
 use Rattle.paging_core.specs.Memory.{frame_count}
-use Rattle.paging_core.specs.Pool.{is_free, FreeBelow, free_count}
-use Rattle.paging_core.specs.Walk.{Place, reach, walk_of, top}
+use Rattle.paging_core.specs.Pool.{is_free, FreeBelow}
+use Rattle.paging_core.specs.Walk.{reach, walk_of, top}
 use Rattle.paging_core.specs.Tree.{IsTree}
 use Rattle.address_space.specs.Space.{Tables, IsKept, rights_of}
 

@@ -1,10 +1,10 @@
 -- Pages that were passed in the search for a place.
-use Rattle.std.proofs.Common.{◌≡◌, ◌≢◌, ◌∙◌, ap, sym, refl, ℕ, ◌+◌, ◌-◌, ◌*◌, ◌/◌, ◌^◌, ◌<◌, ◌≤◌, Option, Some, None, List, arith, ◌⊎◌, inl, inr}
+use Rattle.std.proofs.Common.{◌≡◌, ◌∙◌, sym, ℕ, ◌+◌, ◌<◌, ◌≤◌, Some, None, List, arith, ◌⊎◌, inl, inr}
 use Rattle.std.proofs.lemmas.Bool.{cases_lt}
 use Rattle.meminterval.specs.declared.interval.Interval.{Interval}
 use Rattle.paging_core.specs.declared.page_table.Rights.{Rights}
 use Rattle.address_space.specs.Runs.{rights_in}
-use Rattle.address_space.specs.PageMap.{IsFit, IsPlace, HasNoPlace}
+use Rattle.address_space.specs.PageMap.{IsPlace, HasNoPlace}
 use Rattle.address_space.proofs.Splits.{IsLast}
 use Rattle.address_space.proofs.Clear.{AreClear, last_holds}
 

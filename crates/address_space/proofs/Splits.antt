@@ -1,17 +1,13 @@
 -- Runs as those before a page and those behind it.
-use Rattle.std.proofs.Common.{◌≡◌, ◌≢◌, ◌∙◌, ap, sym, refl, ℕ, ◌+◌, ◌-◌, ◌*◌, ◌<◌, ◌≤◌, Bool, true, false, ◌||◌, ◌==◌, subst, Option, Some, None, List, [], ◌∷◌, ◌++◌, length, map, arith, ◌⊎◌, inl, inr}
-use Rattle.std.proofs.lemmas.Bool.{cases_lt}
+use Rattle.std.proofs.Common.{◌≡◌, ◌∙◌, ap, sym, refl, ℕ, ◌+◌, ◌<◌, ◌≤◌, Bool, true, false, subst, Option, Some, None, List, [], ◌∷◌, ◌++◌, length, arith}
 use Rattle.std.proofs.lemmas.Bool.Decides.{nat_tests}
-use Rattle.std.specs.Prelude.{nat_lt, nat_le, IsTrue, IsSome}
-use Rattle.std.specs.Cmp.{nat_cmp_is}
-use Rattle.std.specs.Ordering.{is_lt, is_eq, nat_cmp}
-use Rattle.std.specs.declared.cmp.Ordering.{Ordering}
-use Rattle.std.specs.declared.cmp.Ordering.TheVariants.{Less, Equal, Greater}
+use Rattle.std.specs.Prelude.{nat_lt}
+use Rattle.std.specs.Ordering.{is_lt, nat_cmp}
 use Rattle.meminterval.specs.declared.interval.Interval.{Interval}
-use Rattle.meminterval.specs.Entries.{AllItems, first, last, or_else, with_entry, without_key}
-use Rattle.meminterval.specs.Interval.{by_ends, starts_below, starts_from, with_end, HasOwnStart}
+use Rattle.meminterval.specs.Entries.{AllItems, first, last, or_else}
+use Rattle.meminterval.specs.Interval.{starts_below, starts_from}
 use Rattle.paging_core.specs.declared.page_table.Rights.{Rights}
-use Rattle.address_space.specs.Runs.{Follow, rights_in, begins_at, holds}
+use Rattle.address_space.specs.Runs.{Follow}
 
 below : (a b : ℕ) → is_lt (nat_cmp a b) ≡ nat_lt a b
 below a b = grind (arith, nat_tests)

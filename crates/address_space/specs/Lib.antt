@@ -3,4 +3,7 @@ pub mod PageMap
 pub mod Space
 pub mod Seen
 pub mod Joining
+pub mod RunChanges
 pub mod Mapping
+pub mod Access
+pub mod Changing

@@ -1,5 +1,5 @@
 -- A space of pages as a plain map: each mapped page, by its number, has rights and 4096 bytes.
-use Rattle.std.specs.Prelude.{◌≡◌, ℕ, ◌+◌, ◌-◌, ◌/◌, ◌%◌, ◌<◌, ◌≤◌, if◌then◌else◌, Option, Some, None}
+use Rattle.std.specs.Prelude.{◌≡◌, ℕ, zero, suc, ◌+◌, ◌-◌, ◌*◌, ◌/◌, ◌%◌, ◌<◌, ◌≤◌, ◌&&◌, nat_le, nat_lt, IsSome, is_some, if◌then◌else◌, List, length, slice_index, Option, Some, None}
 use Rattle.paging_core.specs.Address.{IsCanonicalRange}
 use Rattle.paging_core.specs.declared.page_table.Rights.{Rights}
 use Rattle.address_space.specs.Runs.{is_among}
@@ -23,6 +23,34 @@ mapped first pages rights map = record {
   byte = λ address. (if is_among first pages (address / 4096) then Some 0 else map.byte address);
 }
 
+-- the pages leave
+abbrev pub unmapped : ℕ → ℕ → PageMap → PageMap
+unmapped first pages map = record {
+  rights = λ page. (if is_among first pages page then None else map.rights page);
+  byte = λ address. (if is_among first pages (address / 4096) then None else map.byte address);
+}
+
+-- the pages get other rights, and every byte stays
+abbrev pub protected : ℕ → ℕ → Rights → PageMap → PageMap
+protected first pages rights map = record {
+  rights = λ page. (if is_among first pages page then Some rights else map.rights page);
+  byte = map.byte;
+}
+
+-- the pages from `to` on get the rights and the bytes of as many pages from `from` on
+abbrev pub duplicated : ℕ → ℕ → ℕ → PageMap → PageMap
+duplicated from pages to map = record {
+  rights = λ page. (if is_among to pages page then map.rights (page - to + from) else map.rights page);
+  byte = λ address. (if is_among to pages (address / 4096) then map.byte (address - 4096 * to + 4096 * from) else map.byte address);
+}
+
+-- the bytes from an address on are these
+abbrev pub stored : ℕ → List ℕ → PageMap → PageMap
+stored at bytes map = record {
+  rights = map.rights;
+  byte = λ address. (if nat_le at address && nat_lt address (at + length bytes) then Some (slice_index bytes (address - at)) else map.byte address);
+}
+
 -- ---- the causes
 
 -- a range is good: it begins at a page, has pages, and lies in one canonical half
@@ -33,6 +61,22 @@ pub record IsGoodRange (start pages : ℕ) : Type 0 where
 -- no page of a range is mapped
 abbrev pub IsClear : PageMap → ℕ → ℕ → Type 0
 IsClear map first pages = (page : ℕ) → first ≤ page → page < first + pages → map.rights page ≡ None
+
+-- each page of a range is mapped
+abbrev pub IsFull : PageMap → ℕ → ℕ → Type 0
+IsFull map first pages = (page : ℕ) → first ≤ page → page < first + pages → IsSome (map.rights page)
+
+-- a page is the lowest of a range that is not mapped
+pub record IsHole (map : PageMap) (first pages page : ℕ) : Type 0 where
+  pub from : first ≤ page
+  pub within : page < first + pages
+  pub gone : map.rights page ≡ None
+  pub lowest : (other : ℕ) → first ≤ other → other < page → IsSome (map.rights other)
+
+-- how many pages of a range are mapped
+unfoldable pub mapped_count : (ℕ → Option Rights) → ℕ → ℕ → ℕ
+mapped_count rights first zero = 0
+mapped_count rights first (suc pages) = (if is_some (rights first) then 1 else 0) + mapped_count rights (first + 1) pages
 
 -- ---- places
 

@@ -1,5 +1,5 @@
 -- Runs of pages with equal rights, as the pairs of an interval tree, by ascending page number.
-use Rattle.std.specs.Prelude.{◌≡◌, ℕ, ◌+◌, ◌-◌, ◌*◌, ◌^◌, ◌<◌, ◌≤◌, ◌==◌, ◌&&◌, Bool, true, false, nat_lt, nat_le, IsTrue, if◌then◌else◌, List, [], ◌∷◌, map, Option, Some, None}
+use Rattle.std.specs.Prelude.{◌≡◌, ℕ, ◌+◌, ◌-◌, ◌*◌, ◌^◌, ◌<◌, ◌≤◌, ◌==◌, ◌&&◌, Bool, true, false, nat_lt, nat_le, IsTrue, if◌then◌else◌, List, [], ◌∷◌, ◌++◌, map, Option, Some, None}
 use Rattle.std.proofs.Props.{props}
 use Rattle.paging_core.specs.declared.page_table.Rights.{Rights}
 use Rattle.meminterval.specs.declared.interval.Interval.{Interval}
@@ -23,10 +23,24 @@ abbrev pub begins_at : List (Interval ℕ × Rights) → ℕ → Bool
 begins_at [] page = false
 begins_at (run ∷ runs) page = (if run.0.start == page then true else begins_at runs page)
 
+-- whether a run begins before a page and goes on behind it
+abbrev pub crosses : List (Interval ℕ × Rights) → ℕ → Bool
+crosses [] page = false
+crosses (run ∷ runs) page = (if nat_lt run.0.start page && nat_lt page run.0.end then true else crosses runs page)
+
 -- runs one behind the other between two pages, each of some pages
 abbrev pub Follow : ℕ → List (Interval ℕ × Rights) → ℕ → Type 0
 Follow from [] to = from ≤ to
 Follow from (run ∷ runs) to = (from ≤ run.0.start) × (run.0.start < run.0.end) × Follow run.0.end runs to
+
+-- a run stands among others
+pub record HasRun (runs : List (Interval ℕ × Rights)) (start end : ℕ) (rights : Rights) : Type 0 where
+  pub front : List (Interval ℕ × Rights)
+  pub back : List (Interval ℕ × Rights)
+  pub whole : runs ≡ front ++ (record { start = start; end = end }, rights) ∷ back
+  pub before : Follow 0 front start
+  pub some : start < end
+  pub behind : Follow end back (2 ^ 52)
 
 -- no run could be longer: the page before it has other rights, or is not mapped
 abbrev pub AreLongest : List (Interval ℕ × Rights) → Type 0

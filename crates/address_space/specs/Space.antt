@@ -1,13 +1,12 @@
 -- What a space keeps: physical memory with its page tables and its free frames, and the runs of its pages.
-use Rattle.std.specs.Prelude.{◌≡◌, ℕ, ◌+◌, ◌*◌, ◌/◌, ◌^◌, ◌<◌, ◌≤◌, Bool, true, IsTrue, IsSome, is_some, if◌then◌else◌, List, length, Option, Some, None}
+use Rattle.std.specs.Prelude.{◌≡◌, ℕ, ◌*◌, ◌/◌, ◌^◌, ◌<◌, ◌≤◌, Bool, true, IsTrue, IsSome, is_some, if◌then◌else◌, List, length, Some, None}
 use Rattle.std.specs.Option.{option_map}
 use Rattle.std.proofs.Props.{props}
 use Rattle.paging_core.specs.Address.{is_canonical}
 use Rattle.paging_core.specs.Memory.{frame_count}
-use Rattle.paging_core.specs.Pool.{is_free, FreeBelow, free_count}
+use Rattle.paging_core.specs.Pool.{is_free, FreeBelow}
 use Rattle.paging_core.specs.Walk.{Place, reach, walk_of, reached}
 use Rattle.paging_core.specs.Tree.{IsTree}
-use Rattle.paging_core.specs.Missing.{missing_of}
 use Rattle.paging_core.specs.declared.page_table.Rights.{Rights}
 use Rattle.meminterval.specs.declared.interval.Interval.{Interval}
 use Rattle.address_space.specs.Runs.{Follow, Follow-prop, AreLongest, rights_in}

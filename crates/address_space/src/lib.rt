@@ -4,15 +4,20 @@
 //! reads it, and the longest runs of pages with equal rights in an interval tree, by which every search goes.
 #![tactic(auto)]
 
+mod access;
 mod area;
+mod bytes;
+mod changing;
 mod mapping;
 mod range;
+mod run_changes;
 mod runs;
 mod space;
 mod space_fault;
 #[cfg(test)]
 mod tests;
 
+pub use access::Bytes;
 pub use area::{Area, AreaList};
 pub use space::Space;
 pub use space_fault::SpaceFault;

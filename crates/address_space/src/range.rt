@@ -1,5 +1,7 @@
 //! Ranges of pages and bytes that callers name.
-ghost use Rattle.std.specs.Prelude.{◌≡◌, ◌+◌, ◌-◌, ◌*◌, ◌/◌, ◌≤◌, ◌^◌, IfSome, IfNone};
+ghost use Rattle.std.specs.Prelude.{◌≡◌, ◌+◌, ◌-◌, ◌*◌, ◌/◌, ◌≤◌, ◌^◌, ◌<◌, ◌↔◌, IsTrue, IfSome, IfNone};
+ghost use Rattle.paging_core.specs.Address.{is_canonical};
+ghost use Rattle.address_space.specs.Access.{IsGoodSpan};
 ghost use Rattle.address_space.specs.PageMap.{IsGoodRange, IsGoodWindow};
 
 use paging_core::{Page, VirtAddr};
@@ -39,4 +41,27 @@ pub(crate) fn first_page_below(low: u64, high: u64) -> Option<Page>
         return None;
     }
     first_page(low, (high - low) / 4096)
+}
+
+/// The page with the number.
+pub(crate) fn page_at(number: u64) -> Page
+    requires { IsTrue (is_canonical (number * 4096)) }
+    ensures { result ≡ number }
+{
+    Page::containing_address(VirtAddr::new(number * 4096))
+}
+
+/// How many bytes a canonical half has.
+const HALF: u64 = 1 << 47;
+
+/// Whether so many bytes from the address on lie in one canonical half.
+pub(crate) fn is_good_span(at: u64, count: u64) -> bool
+    requires { 0 < count }
+    ensures good { IsTrue result ↔ IsGoodSpan at count }
+    ensures fits { IsTrue result → at + count ≤ 2 ^ 64 }
+{
+    match VirtAddr::try_new(at) {
+        Ok(_) => count <= HALF - at % HALF,
+        Err(_) => false,
+    }
 }

@@ -1,7 +1,8 @@
 //! Runs of pages in an interval tree.
-ghost use Rattle.std.specs.Prelude.{◌≡◌, ℕ, ◌+◌, ◌*◌, ◌^◌, ◌<◌, ◌≤◌, ◌↔◌, None, IsTrue, IfOk, IfSome, IfNone, OnOk, OnErr};
+ghost use Rattle.std.specs.Prelude.{◌≡◌, ℕ, ◌+◌, ◌*◌, ◌^◌, ◌<◌, ◌≤◌, ◌↔◌, false, Some, None, IsTrue, IfOk, IfSome, IfNone, OnOk, OnErr};
 ghost use Rattle.meminterval.specs.Tree.{entries};
-ghost use Rattle.address_space.specs.Runs.{Follow, AreLongest, rights_in, area_of, areas_of};
+ghost use Rattle.address_space.specs.Runs.{Follow, AreLongest, HasRun, rights_in, crosses, area_of, areas_of};
+ghost use Rattle.address_space.specs.RunChanges.{AreHeld, AreFree, IsGap};
 ghost use Rattle.address_space.specs.Joining.{IsMeeting, IsJoined, IsAdded};
 ghost use Rattle.address_space.specs.PageMap.{IsPlace, HasNoPlace};
 
@@ -133,6 +134,72 @@ pub(crate) fn lowest_place(
                 at = entry.interval.end;
             }
         }
+    }
+    None
+}
+
+/// A run: consecutive pages with equal rights.
+#[derive(Clone, Copy)]
+pub(crate) struct Run {
+    pub(crate) start: u64,
+    pub(crate) end: u64,
+    pub(crate) rights: Rights,
+}
+
+/// The last run that begins below a page.
+pub(crate) fn run_below(runs: &IntervalTree<u64, Rights>, page: u64) -> Option<Run>
+    requires follow { Follow 0 (entries runs.now) (2 ^ 52) }
+    requires within { page ≤ 2 ^ 52 }
+    ensures run { IfSome result (λ run. HasRun (entries runs.now) run.start run.end run.rights) }
+    ensures starts { IfSome result (λ run. run.start < page) }
+    ensures last { IfSome result (λ run. AreFree (entries runs.now) run.end page) }
+    ensures apart { IfSome result (λ run. run.end ≤ page → crosses (entries runs.now) page ≡ false) }
+    ensures none { IfNone result (AreFree (entries runs.now) 0 page) }
+    ensures alone { IfNone result (crosses (entries runs.now) page ≡ false) }
+{
+    let Some(entry) = runs.last_before(&page) else {
+        return None;
+    };
+    Some(Run {
+        start: entry.interval.start,
+        end: entry.interval.end,
+        rights: *entry.value,
+    })
+}
+
+/// The run that holds a page.
+pub(crate) fn run_at(runs: &IntervalTree<u64, Rights>, page: u64) -> Option<Run>
+    requires follow { Follow 0 (entries runs.now) (2 ^ 52) }
+    requires page { page < 2 ^ 52 }
+    ensures run { IfSome result (λ run. HasRun (entries runs.now) run.start run.end run.rights) }
+    ensures from { IfSome result (λ run. run.start ≤ page) }
+    ensures more { IfSome result (λ run. page < run.end) }
+    ensures within { IfSome result (λ run. run.end ≤ 2 ^ 52) }
+    ensures pages { IfSome result (λ run. (any : ℕ) → run.start ≤ any → any < run.end → rights_in (entries runs.now) any ≡ Some run.rights) }
+    ensures none { IfNone result (rights_in (entries runs.now) page ≡ None) }
+{
+    let Some(run) = run_below(runs, page + 1) else {
+        return None;
+    };
+    if run.end <= page {
+        return None;
+    }
+    Some(run)
+}
+
+/// The lowest page from `first` up to `end` that is in no run. It goes from run to run.
+pub(crate) fn first_gap(runs: &IntervalTree<u64, Rights>, first: u64, end: u64) -> Option<u64>
+    requires follow { Follow 0 (entries runs.now) (2 ^ 52) }
+    requires within { end ≤ 2 ^ 52 }
+    ensures gap { IfSome result (IsGap (entries runs.now) first end) }
+    ensures none { IfNone result (AreHeld (entries runs.now) first end) }
+{
+    let mut page = first;
+    while page < end {
+        let Some(run) = run_at(runs, page) else {
+            return Some(page);
+        };
+        page = run.end;
     }
     None
 }

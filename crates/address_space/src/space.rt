@@ -21,11 +21,11 @@ use std::alloc::{AllocError, Global};
 /// their own.
 #[derive(Drop)]
 pub struct Space {
-    alloc: Global,
-    frames: Frames,
-    pool: FramePool,
-    root: PhysFrame,
-    runs: IntervalTree<u64, Rights>,
+    pub(crate) alloc: Global,
+    pub(crate) frames: Frames,
+    pub(crate) pool: FramePool,
+    pub(crate) root: PhysFrame,
+    pub(crate) runs: IntervalTree<u64, Rights>,
     ghost kept: { IsKept (record { words = frames; root = root; free = pool; runs = entries runs }) } by { IsKept-prop (record { words = frames; root = root; free = pool; runs = entries runs }) },
 }
 

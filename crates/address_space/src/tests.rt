@@ -14,6 +14,20 @@ const TEXT: Rights = Rights {
     fetch: true,
 };
 
+const READ: Rights = Rights {
+    write: false,
+    user: false,
+    fetch: false,
+};
+
+fn area(start: u64, pages: u64, rights: Rights) -> Area {
+    Area {
+        start,
+        pages,
+        rights,
+    }
+}
+
 // 16 frames: one is the root, and the pages from 0x1000 on miss three tables.
 #[test]
 fn pages_are_mapped_at_their_places(rt: HostRuntime) -> Result<(), Fail> {
@@ -76,5 +90,42 @@ fn each_refusal_comes_once(rt: HostRuntime) -> Result<(), Fail> {
         Err(SpaceFault::NoFrames)
     );
     assert_eq!(rt; space.free_frames(), 0);
+    assert_eq!(rt; space.unmap(0x1001, 1), Err(SpaceFault::BadRange));
+    assert_eq!(rt; space.unmap(0x1000, 0), Err(SpaceFault::BadRange));
+    assert_eq!(rt; space.protect(0x1000, 0, READ), bad);
+    assert_eq!(rt; space.protect(1 << 47, 1, READ), bad);
+    let hole = Err(SpaceFault::Hole { at: 0x5000 });
+    assert_eq!(rt; space.protect(0x3000, 9, READ), hole);
+    Ok(())
+}
+
+// Runs are split at their ends, joined again, and leave.
+#[test]
+fn rights_change_and_pages_leave(rt: HostRuntime) -> Result<(), Fail> {
+    let alloc = rt.alloc();
+    let mut space = Space::new(alloc, 16)?;
+    assert_eq!(rt; space.map_at(0x1000, 6, DATA), Ok(()));
+    assert_eq!(rt; space.protect(0x2000, 3, READ), Ok(()));
+    assert_eq!(rt; space.protect(0x3000, 1, TEXT), Ok(()));
+    let areas = space.areas(alloc)?;
+    let parts = [
+        area(0x1000, 1, DATA),
+        area(0x2000, 1, READ),
+        area(0x3000, 1, TEXT),
+        area(0x4000, 1, READ),
+        area(0x5000, 2, DATA),
+    ];
+    assert_eq!(rt; areas.as_slice(), parts.as_slice());
+    assert_eq!(rt; space.protect(0x2000, 3, DATA), Ok(()));
+    let areas = space.areas(alloc)?;
+    assert_eq!(rt; areas.as_slice(), [area(0x1000, 6, DATA)].as_slice());
+    assert_eq!(rt; space.free_frames(), 6);
+    assert_eq!(rt; space.unmap(0x3000, 2), Ok(2));
+    let areas = space.areas(alloc)?;
+    let parts = [area(0x1000, 2, DATA), area(0x5000, 2, DATA)];
+    assert_eq!(rt; areas.as_slice(), parts.as_slice());
+    assert_eq!(rt; space.unmap(0x0000, 0x10_0000), Ok(4));
+    assert_eq!(rt; space.unmap(0x0000, 0x10_0000), Ok(0));
+    assert_eq!(rt; space.free_frames(), 12);
     Ok(())
 }

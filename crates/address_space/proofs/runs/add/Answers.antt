@@ -1,4 +1,4 @@
-use Rattle.std.proofs.Common.{◌≡◌, ◌∙◌, ◌^◌, ℕ, List, arith, refl, sym, ap, subst}
+use Rattle.std.proofs.Common.{◌≡◌, ◌∙◌, ◌^◌, ℕ, List, arith, ap}
 use Rattle.std.specs.Ordering.{nat_cmp}
 use Rattle.paging_core.specs.declared.page_table.Rights.{Rights}
 use Rattle.meminterval.specs.declared.interval.Interval.{Interval}
@@ -6,7 +6,7 @@ use Rattle.meminterval.specs.Tree.{entries}
 use Rattle.meminterval.specs.Entries.{with_entry}
 use Rattle.meminterval.specs.Interval.{by_ends}
 use Rattle.address_space.proofs.Splits.{follow_length}
-use Rattle.address_space.proofs.Adding.{IsPut, put, added}
+use Rattle.address_space.proofs.Adding.{put, added}
 use Rattle.address_space.proofs.runs.add.Goals as goal
 
 put_in : (es new : List (Interval ℕ × Rights)) (i : Interval ℕ) (first end : ℕ) (rights : Rights) → i.start ≡ first → i.end ≡ end → new ≡ with_entry (by_ends nat_cmp) (i, rights) es →

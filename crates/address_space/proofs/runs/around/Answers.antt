@@ -1,4 +1,4 @@
-use Rattle.std.proofs.Common.{◌∙◌, ◌^◌, refl, sym, arith, ◌⊎◌, inl, inr}
+use Rattle.std.proofs.Common.{◌∙◌, ◌^◌, sym, arith, inl, inr}
 use Rattle.address_space.proofs.RightsEqual.{equal_rights, other_rights}
 use Rattle.meminterval.specs.Entry.{pair_of}
 use Rattle.meminterval.specs.Tree.{entries}

@@ -1,6 +1,5 @@
-use Rattle.std.proofs.Common.{◌≡◌, ◌∙◌, ℕ, List, map, refl, sym, ap, subst}
+use Rattle.std.proofs.Common.{◌≡◌, ◌∙◌, ℕ, map, sym, ap, subst}
 use Rattle.std.specs.Ordering.{nat_cmp}
-use Rattle.paging_core.specs.declared.page_table.Rights.{Rights}
 use Rattle.meminterval.specs.declared.interval.Interval.{Interval}
 use Rattle.meminterval.specs.Tree.{entries}
 use Rattle.meminterval.specs.Entries.{AllItems, without_key}

@@ -1,6 +1,5 @@
-use Rattle.std.proofs.Common.{◌≡◌, ℕ, ◌+◌, ◌-◌, ◌<◌, ◌≤◌}
+use Rattle.std.proofs.Common.{◌+◌, ◌-◌}
 use Rattle.meminterval.specs.Tree.{entries}
-use Rattle.address_space.specs.Runs.{rights_in}
 use Rattle.address_space.proofs.Places.{Passed}
 use Rattle.address_space.proofs.runs.lowest_place.Given as goal
 

@@ -1,6 +1,5 @@
-use Rattle.std.proofs.Common.{refl, sym, ap, ◌∙◌, set, false, length, true, List, Bool, ◌/◌}
+use Rattle.std.proofs.Common.{ap, ◌∙◌, set, false, length, true, List, Bool, ◌/◌}
 use Rattle.std.proofs.lemmas.List.{length-replicate}
-use Rattle.paging_core.specs.Memory.{frame_count}
 use Rattle.meminterval.specs.Tree.{entries}
 use Rattle.address_space.proofs.NewSpace.{new_kept}
 use Rattle.address_space.proofs.space.Space.new.Goals as goal

@@ -1,0 +1,43 @@
+use Rattle.std.proofs.Common.{ℕ, ◌+◌, refl, subst}
+use Rattle.meminterval.specs.Tree.{entries}
+use Rattle.address_space.specs.Joining.{IsAdded}
+use Rattle.address_space.specs.Seen.{tables_of}
+use Rattle.address_space.proofs.Protected.{AreProtected, protected_kept, protected_map}
+use Rattle.address_space.proofs.space.Space.protect_full.Goals as goal
+
+pub invariant_of-self-2 : goal.invariant_of-self-2
+invariant_of-self-2 c =
+    let t = tables_of c.args.self.now in
+    let m : AreProtected t c.protect_range.new.frames (entries c.set_rights.new.runs) c.args.first c.args.pages c.args.rights = record {
+      kept = c.args.self.now.kept;
+      range = c.requires.range;
+      full = c.requires.full;
+      changed = c.protect_range.ensures.changed;
+      tree = c.protect_range.ensures.tree c.args.self.now.pool c.args.self.now.kept.tree;
+      there = c.protect_range.ensures.granted;
+      elsewhere = c.protect_range.ensures.elsewhere;
+      bytes = c.protect_range.ensures.bytes;
+      added = subst (λ (n : ℕ). IsAdded (entries c.args.self.now.runs) (entries c.set_rights.new.runs) n (n + c.args.pages) c.args.rights) c.number-number.ensures.value c.in_ok-set_rights.ensures.ok;
+    } in
+    record { kept = protected_kept t c.protect_range.new.frames (entries c.set_rights.new.runs) c.args.first c.args.pages c.args.rights m }
+
+pub returns-clause-ok : goal.returns-clause-ok
+returns-clause-ok c =
+    let t = tables_of c.args.self.now in
+    let m : AreProtected t c.protect_range.new.frames (entries c.set_rights.new.runs) c.args.first c.args.pages c.args.rights = record {
+      kept = c.args.self.now.kept;
+      range = c.requires.range;
+      full = c.requires.full;
+      changed = c.protect_range.ensures.changed;
+      tree = c.protect_range.ensures.tree c.args.self.now.pool c.args.self.now.kept.tree;
+      there = c.protect_range.ensures.granted;
+      elsewhere = c.protect_range.ensures.elsewhere;
+      bytes = c.protect_range.ensures.bytes;
+      added = subst (λ (n : ℕ). IsAdded (entries c.args.self.now.runs) (entries c.set_rights.new.runs) n (n + c.args.pages) c.args.rights) c.number-number.ensures.value c.in_ok-set_rights.ensures.ok;
+    } in
+    record {
+      map = protected_map t c.protect_range.new.frames (entries c.set_rights.new.runs) c.args.first c.args.pages c.args.rights m;
+      free = refl;
+      root = refl;
+      entries = c.protect_range.ensures.changed;
+    }

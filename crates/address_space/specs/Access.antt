@@ -1,0 +1,65 @@
+-- Accesses to bytes: when one is denied, and what is read.
+use Rattle.std.specs.Prelude.{◌≡◌, ℕ, ◌+◌, ◌-◌, ◌*◌, ◌/◌, ◌^◌, ◌<◌, ◌≤◌, ◌%◌, ◌&&◌, ◌||◌, nat_le, nat_lt, not, Bool, true, false, IsTrue, is_some, if◌then◌else◌, List, length, slice_index, Option, Some, None, Result, Ok, Err}
+use Rattle.paging_core.specs.Address.{is_canonical}
+use Rattle.paging_core.specs.Memory.{byte_of}
+use Rattle.paging_core.specs.declared.page_table.Rights.{Rights}
+use Rattle.x86_tables.specs.PageFaultErrorCode.{page_fault_bits}
+use Rattle.address_space.specs.PageMap.{PageMap}
+use Rattle.address_space.specs.declared.space_fault.SpaceFault.{SpaceFault}
+use Rattle.address_space.specs.declared.space_fault.SpaceFault.TheVariants.{BadRange, Denied, OutOfMemory}
+
+-- bytes from an address on: at least one, and all in one canonical half
+pub record IsGoodSpan (at length : ℕ) : Type 0 where
+  pub some : 0 < length
+  pub canonical : IsTrue (is_canonical at)
+  pub one_half : (at + length - 1) / 2 ^ 47 ≡ at / 2 ^ 47
+
+-- whether the rights of a page deny an access: it is not mapped, a write is not granted, or one by the user is not
+abbrev pub denies : Bool → Bool → Option Rights → Bool
+denies write user None = true
+denies write user (Some rights) = (write && not rights.write) || (user && not rights.user)
+
+-- the page fault's code (AMD64 volume 2, section 8.4.2): 1 where the page is mapped, 2 for a write, 4 for the user
+abbrev pub fault_code : Bool → Bool → Option Rights → ℕ
+fault_code write user rights = (if is_some rights then 1 else 0) + (if write then 2 else 0) + (if user then 4 else 0)
+
+-- the access is granted at each of so many bytes from an address on
+abbrev pub IsGranted : (ℕ → Option Rights) → Bool → Bool → ℕ → ℕ → Type 0
+IsGranted rights write user at length = (any : ℕ) → at ≤ any → any < at + length → denies write user (rights (any / 4096)) ≡ false
+
+-- the access is denied at a byte of them, and granted at each before it
+pub record IsDenied (rights : ℕ → Option Rights) (write user : Bool) (at length byte code : ℕ) : Type 0 where
+  pub from : at ≤ byte
+  pub within : byte < at + length
+  pub denied : denies write user (rights (byte / 4096)) ≡ true
+  pub first : (any : ℕ) → at ≤ any → any < byte → denies write user (rights (any / 4096)) ≡ false
+  pub code_is : code ≡ fault_code write user (rights (byte / 4096))
+
+-- the bytes are those of the map from an address on
+pub record AreBytesAt (byte : ℕ → Option ℕ) (at : ℕ) (bytes : List ℕ) : Type 0 where
+  pub each : (k : ℕ) → k < length bytes → byte (at + k) ≡ Some (slice_index bytes k)
+
+-- the bytes of words, eight to a word, the lowest first
+abbrev pub byte_at : List ℕ → ℕ → ℕ
+byte_at words place = byte_of (slice_index words (place / 8)) (place % 8)
+
+-- these bytes were put into words from an offset on, and every other byte is as it was
+pub record AreBytesPut (old new : List ℕ) (offset count : ℕ) (bytes : List ℕ) : Type 0 where
+  pub size : length new ≡ length old
+  pub each :
+      (place : ℕ) → place < 8 * length old →
+      byte_at new place ≡ (if nat_le offset place && nat_lt place (offset + count) then slice_index bytes (place - offset) else byte_at old place)
+
+-- so many of these bytes were written from an address on, and every other byte is as it was
+pub record AreWritten (old new : ℕ → Option ℕ) (at count : ℕ) (bytes : List ℕ) : Type 0 where
+  pub each :
+      (address : ℕ) → IsTrue (is_canonical address) →
+      new address ≡ (if nat_le at address && nat_lt address (at + count) then Some (slice_index bytes (address - at)) else old address)
+
+-- When each answer comes of an access to so many bytes. One to no bytes is always served.
+abbrev pub IsAccessAnswer : {A : Type 0} → PageMap → Bool → Bool → ℕ → ℕ → Result A SpaceFault → Type 0
+IsAccessAnswer {A} map write user at length (Ok done) = 0 < length → IsGoodSpan at length × IsGranted map.rights write user at length
+IsAccessAnswer {A} map write user at length (Err BadRange) = (0 < length) × (IsGoodSpan at length → ⊥)
+IsAccessAnswer {A} map write user at length (Err (Denied byte code)) = IsGoodSpan at length × IsDenied map.rights write user at length byte (page_fault_bits code)
+IsAccessAnswer {A} map write user at length (Err OutOfMemory) = IsGoodSpan at length × IsGranted map.rights write user at length
+IsAccessAnswer {A} map write user at length (Err fault) = ⊥
