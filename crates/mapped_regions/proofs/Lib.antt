@@ -1,0 +1,3 @@
+pub mod Looked
+pub mod Mapped
+pub mod UserRegions

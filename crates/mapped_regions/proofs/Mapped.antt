@@ -1,0 +1,234 @@
+-- What is kept is kept when a region joins and when one leaves.
+use Rattle.std.proofs.Common.{◌≡◌, ℕ, ◌+◌, ◌-◌, ◌*◌, ◌/◌, ◌%◌, ◌^◌, ◌<◌, ◌≤◌, ◌||◌, ◌&&◌, nat_le, nat_lt, nat_eq, List, [], ◌∷◌, length, find, refl, sym, ap, ◌∙◌, subst, arith, Bool, true, false, cond, IsTrue, Option, Some, None, option_map, IsSome}
+use Rattle.std.specs.List.{list_any, AllByRecursion}
+use Rattle.std.proofs.lemmas.Bool.Decides.{nat_tests}
+use Rattle.paging_core.specs.Address.{is_canonical}
+use Rattle.paging_core.specs.Memory.{frame_count}
+use Rattle.paging_core.specs.Pool.{is_free, FreeBelow}
+use Rattle.paging_core.specs.Walk.{Place, reach, walk_of, granted}
+use Rattle.paging_core.specs.Tree.{IsTree}
+use Rattle.paging_core.specs.declared.page_table.Rights.{Rights}
+use Rattle.heap_model.specs.declared.region.Region.{Region}
+use Rattle.heap_model.specs.State.{is_within, total_pages}
+use Rattle.heap_model.specs.Place.{meets_any}
+use Rattle.heap_model.specs.Machine.{Paged, rights_of}
+use Rattle.heap_model.proofs.Regions.{within, within_bounds, all_with, pages_with, none_within}
+use Rattle.region_tree.specs.Regions.{kind_at, is_at, without, IsPutIn, AreTakenOut}
+use Rattle.mapped_regions.specs.Mapped.{IsPageRange, IsRegion, IsMapped, CanMap, IsJoined, IsLeft}
+
+-- ---- regions of a list
+
+-- no region has an address of pages that meet none
+find_none : (test : Region → Bool) (list : List Region) → list_any test list ≡ false → find test list ≡ None
+find_none test [] none = refl
+find_none test (r ∷ rs) none = go (test r) refl (find_none test rs) where
+  go : (b : Bool) → test r ≡ b → (list_any test rs ≡ false → find test rs ≡ None) → find test (r ∷ rs) ≡ None
+  go true is rest = let no : true ≡ false = rw is at none in absurd (cc)
+  go false is rest = rw is (rest (rw is at none))
+
+pub kind_none : (start pages at : ℕ) (list : List Region) → meets_any start pages list ≡ false → start ≤ at → at < start + 4096 * pages → kind_at list at ≡ None
+kind_none start pages at list clear above below = ap (option_map (λ (r : Region). (r.heap, r.rights))) (find_none (is_within at) list (none_within start pages at list above below clear))
+
+-- the region of so many pages at an address has each of their addresses
+pub kind_there : (start pages at : ℕ) (list : List Region) → list_any (is_at start pages) list ≡ true → start ≤ at → at < start + 4096 * pages → IsSome (kind_at list at)
+kind_there start pages at [] there above below = let no : false ≡ true = there in absurd (cc)
+kind_there start pages at (r ∷ rs) there above below = go (is_within at r) (is_at start pages r) refl refl (λ t. kind_there start pages at rs t above below) where
+  same : is_at start pages r ≡ true → is_within at r ≡ true
+  same is = grind (arith, nat_tests)
+
+  go : (w t : Bool) → is_within at r ≡ w → is_at start pages r ≡ t → (list_any (is_at start pages) rs ≡ true → IsSome (kind_at rs at)) → IsSome (kind_at (r ∷ rs) at)
+  go true t is here rest = rw is refl
+  go false true is here rest = let no = same here in absurd (cc)
+  go false false is here rest = rw is (rest (rw here at there))
+
+-- what holds of all regions holds of it
+pub listed_is : (P : Region → Type 0) (start pages : ℕ) (list : List Region) → AllByRecursion P list → list_any (is_at start pages) list ≡ true →
+    (r : Region) × P r × (r.start ≡ start) × (r.pages ≡ pages)
+listed_is P start pages [] all there = let no : false ≡ true = there in absurd (cc)
+listed_is P start pages (r ∷ rs) all there = go (is_at start pages r) refl (listed_is P start pages rs all.1) where
+  go : (t : Bool) → is_at start pages r ≡ t → (list_any (is_at start pages) rs ≡ true → (r : Region) × P r × (r.start ≡ start) × (r.pages ≡ pages)) →
+      (r : Region) × P r × (r.start ≡ start) × (r.pages ≡ pages)
+  go true is rest = (r, all.0, grind (arith, nat_tests), grind (arith, nat_tests))
+  go false is rest = rest (rw is at there)
+
+all_without : (P : Region → Type 0) (start pages : ℕ) (list : List Region) → AllByRecursion P list → AllByRecursion P (without start pages list)
+all_without P start pages [] all = tt
+all_without P start pages (r ∷ rs) all = go (is_at start pages r) (all_without P start pages rs all.1) where
+  go : (t : Bool) → AllByRecursion P (without start pages rs) → AllByRecursion P (cond t rs (r ∷ without start pages rs))
+  go true rest = all.1
+  go false rest = (all.0, rest)
+
+pages_without : (start pages : ℕ) (list : List Region) → list_any (is_at start pages) list ≡ true → total_pages (without start pages list) + pages ≡ total_pages list
+pages_without start pages [] there = let no : false ≡ true = there in absurd (cc)
+pages_without start pages (r ∷ rs) there = go (is_at start pages r) refl (pages_without start pages rs) where
+  go : (t : Bool) → is_at start pages r ≡ t → (list_any (is_at start pages) rs ≡ true → total_pages (without start pages rs) + pages ≡ total_pages rs) →
+      total_pages (without start pages (r ∷ rs)) + pages ≡ total_pages (r ∷ rs)
+  go true is rest = let same : r.pages ≡ pages = grind (arith, nat_tests) in rw is (omega arith)
+  go false is rest = let more = rest (rw is at there) in rw is (omega arith)
+
+-- ---- pages of a range
+
+-- the pages of a range are canonical
+pub page_canonical : (start pages k : ℕ) → IsPageRange start pages → k < pages → IsTrue (is_canonical ((start / 4096 + k) * 4096))
+page_canonical start pages k range less =
+    let half = range.1.one_half in
+    let same : (start / 4096 + k) * 4096 / 2 ^ 47 ≡ start / 4096 * 4096 / 2 ^ 47 = omega arith in
+    ap (λ q. nat_eq q 0 || nat_eq q (2 ^ 17 - 1)) same ∙ range.1.canonical
+
+pub range_canonical : (start pages : ℕ) → IsPageRange start pages → IsTrue (is_canonical start)
+range_canonical start pages range =
+    let same : start / 2 ^ 47 ≡ start / 4096 * 4096 / 2 ^ 47 = (let whole = range.0 in omega arith) in
+    ap (λ q. nat_eq q 0 || nat_eq q (2 ^ 17 - 1)) same ∙ range.1.canonical
+
+-- the rights of a page, as they are found
+abbrev rights_at : Paged → ℕ → Option Rights
+rights_at p page = option_map rights_of (walk_of p.words p.root page)
+
+none_mapped : (o : Option Place) → option_map rights_of o ≡ None → o ≡ None
+none_mapped None is = refl
+none_mapped (Some place) is = absurd (cc)
+
+pub some_mapped : (o : Option Place) (k : Option (Bool × Rights)) → option_map rights_of o ≡ option_map (λ kind. kind.1) k → IsSome k → IsSome o
+some_mapped (Some place) k is some = refl
+some_mapped None (Some kind) is some = absurd (cc)
+some_mapped None None is some = absurd (cc)
+
+-- pages that meet no region are not mapped, and those of a region are
+pub unmapped : (p : Paged) (start pages k : ℕ) → IsMapped p → CanMap p start pages → k < pages → walk_of p.words p.root (start / 4096 + k) ≡ None
+unmapped p start pages k m can less =
+    let whole = can.range.0 in
+    none_mapped (walk_of p.words p.root (start / 4096 + k)) (m.found (start / 4096 + k) (page_canonical start pages k can.range less)
+    ∙ ap (option_map (λ (kind : Bool × Rights). kind.1)) (kind_none start pages (4096 * (start / 4096 + k)) p.regions can.clear (omega arith) (omega arith)))
+
+pub mapped : (p : Paged) (start pages k : ℕ) → IsMapped p → IsPageRange start pages → list_any (is_at start pages) p.regions ≡ true → k < pages → IsSome (walk_of p.words p.root (start / 4096 + k))
+mapped p start pages k m range there less =
+    let whole = range.0 in
+    some_mapped (walk_of p.words p.root (start / 4096 + k)) (kind_at p.regions (4096 * (start / 4096 + k))) (m.found (start / 4096 + k) (page_canonical start pages k range less))
+    (kind_there start pages (4096 * (start / 4096 + k)) p.regions there (omega arith) (omega arith))
+
+-- ---- a region joins
+
+pub joined_mapped : (old new : Paged) (region : Region) → IsMapped old → IsRegion old.base old.pages region → CanMap old region.start region.pages → IsJoined old new region →
+    IsPutIn region old.regions new.regions →
+    ((other : ℕ) → IsTrue (is_canonical (other * 4096)) → ((k : ℕ) → k < region.pages → other ≡ region.start / 4096 + k → ⊥) → walk_of new.words old.root other ≡ walk_of old.words old.root other) →
+    IsMapped new
+joined_mapped old new region m kind can j put elsewhere = record {
+  window = subst (λ b. IsPageRange b new.pages) (sym j.base) (subst (λ n. IsPageRange old.base n) (sym j.pages) m.window);
+  tree = subst (λ r. IsTree new.words r new.free) (sym j.root) j.added.tree;
+  known = known;
+  flags = (let s = j.added.size in let f = j.added.flags in let h = m.flags in omega arith);
+  root_in = (let r = j.root in let s = j.added.size in let h = m.root_in in omega arith);
+  few_frames = (let s = j.added.size in let h = m.few_frames in omega arith);
+  count = (let s = j.added.size in let h = m.count in let c = j.added.count in let t = j.tables in
+      let all : total_pages new.regions ≡ region.pages + total_pages old.regions = ap total_pages j.regions ∙ pages_with region old.regions in omega arith);
+  regions = subst (λ b. AllByRecursion (IsRegion b new.pages) new.regions) (sym j.base) (subst (λ n. AllByRecursion (IsRegion old.base n) new.regions) (sym j.pages)
+      (subst (AllByRecursion (IsRegion old.base old.pages)) (sym j.regions) (all_with (IsRegion old.base old.pages) region old.regions kind m.regions)));
+  found = λ page canonical. subst (λ r. option_map rights_of (walk_of new.words r page) ≡ option_map (λ (kind : Bool × Rights). kind.1) (kind_at new.regions (4096 * page))) (sym j.root)
+      (found page canonical (is_within (4096 * page) region) refl);
+}
+  where
+    known : FreeBelow new.free (frame_count new.words)
+    known f free = elim (is_free old.free f) as (λ b. is_free old.free f ≡ b → f < frame_count new.words) [
+      | true ↦ λ was. (let h = m.known f was in let s = j.added.size in omega arith)
+      | false ↦ λ was. (let h = j.added.fewer f was in absurd (cc))
+    ] refl
+
+    found : (page : ℕ) → IsTrue (is_canonical (page * 4096)) → (b : Bool) → is_within (4096 * page) region ≡ b →
+        option_map rights_of (walk_of new.words old.root page) ≡ option_map (λ (kind : Bool × Rights). kind.1) (kind_at new.regions (4096 * page))
+    found page canonical true is =
+        let whole = can.range.0 in
+        let bounds = within_bounds (4096 * page) region is in
+        let n = j.added.mapped (page - region.start / 4096) (omega (arith, bounds.0, bounds.1)) in
+        let same : region.start / 4096 + (page - region.start / 4096) ≡ page = omega (arith, bounds.0) in
+        let at : walk_of new.words old.root page ≡ Some (granted n.frame region.rights) = subst (λ q. walk_of new.words old.root q ≡ Some (granted n.frame region.rights)) same n.found in
+        let here : kind_at new.regions (4096 * page) ≡ Some (region.heap, region.rights) = put (4096 * page) ∙ rw is refl in
+        ap (option_map rights_of) at ∙ sym (ap (option_map (λ (kind : Bool × Rights). kind.1)) here)
+    found page canonical false is =
+        let whole = can.range.0 in
+        let apart : (k : ℕ) → k < region.pages → page ≡ region.start / 4096 + k → ⊥ = λ k less e. (
+        let yes = within (4096 * page) region (omega (arith, less, e)) (omega (arith, less, e)) in absurd (cc)) in
+        let here : kind_at new.regions (4096 * page) ≡ kind_at old.regions (4096 * page) = put (4096 * page) ∙ rw is refl in
+        ap (option_map rights_of) (elsewhere page canonical apart) ∙ (m.found page canonical ∙ sym (ap (option_map (λ (kind : Bool × Rights). kind.1)) here))
+
+-- ---- a region leaves
+
+pub left_mapped : (old new : Paged) (start pages : ℕ) → IsMapped old → list_any (is_at start pages) old.regions ≡ true → IsLeft old new start pages →
+    AreTakenOut start (start + 4096 * pages) old.regions new.regions → IsTree new.words old.root new.free → FreeBelow new.free (frame_count new.words) →
+    ((k : ℕ) → k < pages → walk_of new.words old.root (start / 4096 + k) ≡ None) →
+    ((other : ℕ) → IsTrue (is_canonical (other * 4096)) → ((k : ℕ) → k < pages → other ≡ start / 4096 + k → ⊥) → walk_of new.words old.root other ≡ walk_of old.words old.root other) →
+    IsMapped new
+left_mapped old new start pages m there l taken tree known none elsewhere = record {
+  window = subst (λ b. IsPageRange b new.pages) (sym l.base) (subst (λ n. IsPageRange old.base n) (sym l.pages_is) m.window);
+  tree = subst (λ r. IsTree new.words r new.free) (sym l.root) tree;
+  known = known;
+  flags = (let s = l.freed.removed.size in let f = l.freed.flags in let h = m.flags in omega arith);
+  root_in = (let r = l.root in let s = l.freed.removed.size in let h = m.root_in in omega arith);
+  few_frames = (let s = l.freed.removed.size in let h = m.few_frames in omega arith);
+  count = (let s = l.freed.removed.size in let h = m.count in let c = l.count in let t = l.tables in
+      let all : total_pages new.regions + pages ≡ total_pages old.regions = ap (λ rs. total_pages rs + pages) l.regions ∙ pages_without start pages old.regions there in omega arith);
+  regions = subst (λ b. AllByRecursion (IsRegion b new.pages) new.regions) (sym l.base) (subst (λ n. AllByRecursion (IsRegion old.base n) new.regions) (sym l.pages_is)
+      (subst (AllByRecursion (IsRegion old.base old.pages)) (sym l.regions) (all_without (IsRegion old.base old.pages) start pages old.regions m.regions)));
+  found = λ page canonical. subst (λ r. option_map rights_of (walk_of new.words r page) ≡ option_map (λ (kind : Bool × Rights). kind.1) (kind_at new.regions (4096 * page))) (sym l.root)
+      (found page canonical (nat_le start (4096 * page) && nat_lt (4096 * page) (start + 4096 * pages)) refl);
+}
+  where
+    whole : start % 4096 ≡ 0
+    whole = let r = listed_is (IsRegion old.base old.pages) start pages old.regions m.regions there in let w = r.1.range.0 in let s = r.2 in omega arith
+
+    found : (page : ℕ) → IsTrue (is_canonical (page * 4096)) → (b : Bool) → (nat_le start (4096 * page) && nat_lt (4096 * page) (start + 4096 * pages)) ≡ b →
+        option_map rights_of (walk_of new.words old.root page) ≡ option_map (λ (kind : Bool × Rights). kind.1) (kind_at new.regions (4096 * page))
+    found page canonical true is =
+        let w = whole in
+        let above : start ≤ 4096 * page = grind (arith, nat_tests) in
+        let below : 4096 * page < start + 4096 * pages = grind (arith, nat_tests) in
+        let same : start / 4096 + (page - start / 4096) ≡ page = omega arith in
+        let gone : walk_of new.words old.root page ≡ None = subst (λ q. walk_of new.words old.root q ≡ None) same (none (page - start / 4096) (omega arith)) in
+        let here : kind_at new.regions (4096 * page) ≡ None = taken (4096 * page) ∙ rw is refl in
+        ap (option_map rights_of) gone ∙ sym (ap (option_map (λ (kind : Bool × Rights). kind.1)) here)
+    found page canonical false is =
+        let w = whole in
+        let apart : (k : ℕ) → k < pages → page ≡ start / 4096 + k → ⊥ = λ k less e. (
+        let above : start ≤ 4096 * page = omega arith in
+        let below : 4096 * page < start + 4096 * pages = omega arith in
+        let yes : (nat_le start (4096 * page) && nat_lt (4096 * page) (start + 4096 * pages)) ≡ true = grind (arith, nat_tests) in absurd (cc)) in
+        let here : kind_at new.regions (4096 * page) ≡ kind_at old.regions (4096 * page) = taken (4096 * page) ∙ rw is refl in
+        ap (option_map rights_of) (elsewhere page canonical apart) ∙ (m.found page canonical ∙ sym (ap (option_map (λ (kind : Bool × Rights). kind.1)) here))
+
+-- ---- a range, and the region that has it
+
+-- a range ends with the address space at the latest
+pub range_ends : (start pages : ℕ) → IsPageRange start pages → start / 4096 + pages ≤ 2 ^ 52
+range_ends start pages range =
+    let low : start / 4096 * 4096 / 2 ^ 47 ≤ 2 ^ 17 - 1 = grind (arith, nat_tests, range.1.canonical) in
+    let half = range.1.one_half in
+    let some = range.1.some in
+    omega arith
+
+pub range_ends_at : (start pages : ℕ) → IsPageRange start pages → start + 4096 * pages ≤ 2 ^ 64
+range_ends_at start pages range =
+    let ends = range_ends start pages range in
+    let whole = range.0 in
+    omega arith
+
+-- a region that is listed has a range
+pub listed_range : (p : Paged) (start pages : ℕ) → IsMapped p → list_any (is_at start pages) p.regions ≡ true → IsPageRange start pages
+listed_range p start pages m there =
+    let r = listed_is (IsRegion p.base p.pages) start pages p.regions m.regions there in
+    subst (λ s. IsPageRange s pages) r.2 (subst (λ n. IsPageRange r.0.start n) r.3 r.1.range)
+
+-- ---- a word is stored
+
+pub stored_mapped : (p : Paged) (words : List ℕ) → IsMapped p → length words ≡ length p.words → IsTree words p.root p.free →
+    ((level number : ℕ) → level ≤ 4 → reach words p.root level number ≡ reach p.words p.root level number) → IsMapped (record p { words = words })
+unfolding walk_of
+stored_mapped p words m size tree walks = record {
+  window = m.window;
+  tree = tree;
+  known = λ f free. (let h = m.known f free in omega arith);
+  flags = (let h = m.flags in omega arith);
+  root_in = (let h = m.root_in in omega arith);
+  few_frames = (let h = m.few_frames in omega arith);
+  count = (let h = m.count in omega arith);
+  regions = m.regions;
+  found = λ page canonical. ap (option_map rights_of) (walks 4 (page % 2 ^ 36) (omega arith)) ∙ m.found page canonical;
+}

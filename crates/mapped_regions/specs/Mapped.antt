@@ -1,0 +1,112 @@
+-- What is kept where regions are mapped, and how they join and leave. `old` is what is seen before, `new` after.
+use Rattle.std.specs.Prelude.{◌≡◌, ℕ, ◌+◌, ◌*◌, ◌/◌, ◌%◌, ◌^◌, ◌<◌, ◌≤◌, true, IsTrue, IsFalse, IsSome, List, [], length, Option, Some, None}
+use Rattle.std.specs.Option.{option_map}
+use Rattle.std.specs.List.{AllByRecursion, AllByRecursion-prop}
+use Rattle.std.proofs.Props.{props}
+use Rattle.paging_core.specs.Address.{is_canonical, IsCanonicalRange}
+use Rattle.paging_core.specs.Memory.{frame_count, word_at}
+use Rattle.paging_core.specs.Pool.{FreeBelow, free_count}
+use Rattle.paging_core.specs.Walk.{reach, walk_of, reached, Place}
+use Rattle.paging_core.specs.Tree.{IsTree}
+use Rattle.paging_core.specs.Missing.{missing_of}
+use Rattle.paging_core.specs.Mapping.{IsRangeAdded}
+use Rattle.paging_core.specs.PageChanges.{ArePagesFreed, among}
+use Rattle.heap_model.specs.declared.region.Region.{Region}
+use Rattle.heap_model.specs.State.{end_of, is_within, total_pages}
+use Rattle.heap_model.specs.Place.{meets_any, with_region}
+use Rattle.heap_model.specs.Room.{heap_rights}
+use Rattle.heap_model.specs.Machine.{Paged, rights_of}
+use Rattle.region_tree.specs.Regions.{kind_at, without}
+
+-- whole pages from an address on: at least one, and all in one canonical half
+abbrev pub IsPageRange : ℕ → ℕ → Type 0
+IsPageRange start pages = (start % 4096 ≡ 0) × IsCanonicalRange (start / 4096) pages
+
+-- A region has whole pages; one of the heap lies in the window, of so many pages from `base` on, with the heap's rights.
+pub record IsRegion (base window : ℕ) (region : Region) : Type 0 where
+  pub range : IsPageRange region.start region.pages
+  pub from : region.heap ≡ true → base ≤ region.start
+  pub within : region.heap ≡ true → end_of region ≤ base + 4096 * window
+  pub rights : region.heap ≡ true → region.rights ≡ heap_rights
+
+-- The tables form a tree; the walk finds a page exactly where a region has it, with the region's rights; and each frame
+-- is free, or a table, or that of a page of a region.
+pub record IsMapped (p : Paged) : Type 0 where
+  pub window : IsPageRange p.base p.pages
+  pub tree : IsTree p.words p.root p.free
+  pub known : FreeBelow p.free (frame_count p.words)
+  pub flags : length p.free ≡ frame_count p.words
+  pub root_in : p.root < frame_count p.words
+  pub few_frames : frame_count p.words < 2 ^ 32
+  pub count : p.tables + free_count p.free + total_pages p.regions ≡ frame_count p.words
+  pub regions : AllByRecursion (IsRegion p.base p.pages) p.regions
+  pub found :
+      (page : ℕ) → IsTrue (is_canonical (page * 4096)) →
+      option_map rights_of (walk_of p.words p.root page) ≡ option_map (λ kind. kind.1) (kind_at p.regions (4096 * page))
+
+-- nothing is mapped, and all frames but that of the root are free
+pub record IsEmpty (p : Paged) (base pages frames : ℕ) : Type 0 where
+  pub base_is : p.base ≡ base
+  pub pages_is : p.pages ≡ pages
+  pub regions_is : p.regions ≡ []
+  pub tables_is : p.tables ≡ 1
+  pub frames_are : frame_count p.words ≡ frames
+  pub free_frames : free_count p.free + 1 ≡ frames
+  pub no_tables : (level number : ℕ) → 0 < level → reach p.words p.root level number ≡ None
+  pub unmapped : (page : ℕ) → walk_of p.words p.root page ≡ None
+
+-- there are frames for so many pages from a page on, and for the tables that they lack
+abbrev pub HasFrames : Paged → ℕ → ℕ → Type 0
+HasFrames p page pages = pages + missing_of p.words p.root page pages ≤ free_count p.free
+
+-- so many pages from an address on can be mapped: they meet no region, and there are frames for them
+pub record CanMap (p : Paged) (start pages : ℕ) : Type 0 where
+  pub range : IsPageRange start pages
+  pub clear : IsFalse (meets_any start pages p.regions)
+  pub frames : HasFrames p (start / 4096) pages
+
+-- A region joined the others. Its pages are mapped with its rights, each at a new frame that reads as 0, with the
+-- tables that they lacked; every byte that was mapped stays.
+pub record IsJoined (old new : Paged) (region : Region) : Type 0 where
+  pub base : new.base ≡ old.base
+  pub pages : new.pages ≡ old.pages
+  pub root : new.root ≡ old.root
+  pub regions : new.regions ≡ with_region region old.regions
+  pub tables : new.tables ≡ old.tables + missing_of old.words old.root (region.start / 4096) region.pages
+  pub added : IsRangeAdded old.words new.words old.free new.free old.root (region.start / 4096) region.pages region.rights
+  pub zeros : (address : ℕ) → IsTrue (is_within address region) → reached new.words old.root address ≡ Some 0
+  pub bytes : (address : ℕ) → IsSome (walk_of old.words old.root (address / 4096)) → reached new.words old.root address ≡ reached old.words old.root address
+
+-- The region of so many pages at an address left. Its pages are mapped no more and their frames are free; the tables
+-- stay, and so does every byte that is still mapped.
+pub record IsLeft (old new : Paged) (start pages : ℕ) : Type 0 where
+  pub base : new.base ≡ old.base
+  pub pages_is : new.pages ≡ old.pages
+  pub root : new.root ≡ old.root
+  pub tables : new.tables ≡ old.tables
+  pub regions : new.regions ≡ without start pages old.regions
+  pub freed : ArePagesFreed old.words new.words old.free new.free old.root (among (start / 4096) pages)
+  pub count : free_count new.free ≡ free_count old.free + pages
+  pub bytes : (address : ℕ) → IsSome (walk_of new.words old.root (address / 4096)) → reached new.words old.root address ≡ reached old.words old.root address
+
+-- a word stands at the address, in a page that is mapped
+pub record IsMappedWord (p : Paged) (at : ℕ) : Type 0 where
+  pub aligned : at % 8 ≡ 0
+  pub canonical : IsTrue (is_canonical at)
+  pub mapped : IsSome (walk_of p.words p.root (at / 4096))
+
+-- the word that the walk to an address reaches
+abbrev pub word_in : List ℕ → ℕ → Option Place → ℕ
+word_in words at None = 0
+word_in words at (Some place) = word_at words place.frame (at % 4096 / 8)
+
+abbrev pub word_reached : Paged → ℕ → ℕ
+word_reached p at = word_in p.words at (walk_of p.words p.root (at / 4096))
+
+-- ---- this is kept in one way
+
+IsRegion-prop : (base window : ℕ) (region : Region) → IsProp (IsRegion base window region)
+IsRegion-prop base window region = hlevel props
+
+pub IsMapped-prop : (p : Paged) → IsProp (IsMapped p)
+IsMapped-prop p = hlevel (props, AllByRecursion-prop (IsRegion p.base p.pages) (IsRegion-prop p.base p.pages) p.regions)

@@ -1,0 +1,232 @@
+// Regions that are mapped in page tables over a physical memory.
+ghost use Rattle.std.specs.Prelude.{◌≡◌, ℕ, ◌+◌, ◌*◌, ◌/◌, ◌%◌, ◌^◌, ◌≤◌, ◌<◌, ◌↔◌, IsTrue, IsSome, IfOk, IfErr, IfSome, IfNone, OnOk, OnErr, List, Bool, set, length, vec_capacity, Some, []};
+ghost use Rattle.std.specs.List.{list_any};
+ghost use Rattle.std.specs.Option.{option_map};
+ghost use Rattle.paging_core.specs.Address.{is_canonical, IsCanonicalRange};
+ghost use Rattle.paging_core.specs.Memory.{word_at};
+ghost use Rattle.paging_core.specs.Pool.{free_count};
+ghost use Rattle.paging_core.specs.Walk.{walk_of, reach, reached};
+ghost use Rattle.paging_core.specs.Tree.{IsTree};
+ghost use Rattle.heap_model.specs.Place.{IsPlace, HasNoPlace};
+ghost use Rattle.region_tree.specs.Regions.{is_at, kind_at};
+ghost use Rattle.mapped_regions.specs.Mapped.{IsPageRange, IsMapped, IsMapped-prop};
+
+use heap_model::{Region, RegionList, Rights};
+use paging_core::{
+    FramePool, Frames, Page, PageSize, PhysFrame, Size4KiB, VirtAddr, load_word, make_root,
+    map_range, missing_tables, store_word, unmap_range, walk,
+};
+use region_tree::RegionTree;
+use std::alloc::{AllocError, Global};
+
+/// Physical memory with its page tables and its free frames, and regions of pages that are mapped in it, each page at
+/// a frame of its own: regions of the heap in a window, and regions of the user anywhere.
+#[derive(Drop)]
+pub struct MappedRegions {
+    alloc: Global,
+    base: u64,
+    pages: u64,
+    frames: Frames,
+    pool: FramePool,
+    root: PhysFrame,
+    tables: u64,
+    pub(crate) regions: RegionTree,
+    ghost mapped: { IsMapped (record { base = base; pages = pages; words = frames; root = root; free = pool; tables = tables; regions = regions }) } by { IsMapped-prop (record { base = base; pages = pages; words = frames; root = root; free = pool; tables = tables; regions = regions }) },
+}
+
+impl MappedRegions {
+    ghost use Rattle.mapped_regions.specs.Mapped.{IsEmpty, IsRegion, HasFrames, CanMap, IsJoined, IsLeft, IsMappedWord, word_reached};
+    ghost use Rattle.mapped_regions.specs.Shown.{shown};
+
+    /// A memory with `frames` frames, of which one holds the root table, and with a window of `pages` pages from the
+    /// address `base` on. Nothing is mapped.
+    pub fn new(alloc: Global, base: u64, pages: u64, frames: u32) -> Result<Self, AllocError>
+        requires window { IsPageRange base pages }
+        requires frames { 0 < frames }
+        ensures { IfOk result (λ memory. IsEmpty (shown memory) base pages frames) }
+    {
+        let mut memory = Frames::new(alloc, frames)?;
+        let mut pool = FramePool::new(alloc, frames)?;
+        let Some(root) = make_root(&mut memory, &mut pool) else {
+            unreachable!()
+        };
+        Ok(MappedRegions {
+            alloc,
+            base,
+            pages,
+            frames: memory,
+            pool,
+            root,
+            tables: 1,
+            regions: RegionTree::new(base / Size4KiB::SIZE),
+        })
+    }
+
+    /// The regions, by ascending address.
+    pub fn regions(&self, alloc: Global) -> Result<RegionList, AllocError>
+        ensures { IfOk result (λ list. list ≡ (shown self.now).regions) }
+    {
+        let list = Vec::with_capacity(alloc, self.regions.count())?;
+        Ok(self.regions.list(list))
+    }
+
+    /// The physical memory.
+    pub fn frames(&self) -> &Frames
+        ensures words { result.now ≡ (shown self.now).words }
+
+        // In it the walk finds a page exactly where a region has it, with the region's rights, and no frame serves two
+        // pages.
+        ensures mapped { IsMapped (shown self.now) }
+    {
+        &self.frames
+    }
+
+    /// The frame of the root table.
+    pub fn root(&self) -> PhysFrame
+        ensures { result ≡ (shown self.now).root }
+    {
+        self.root
+    }
+
+    /// The number of free frames.
+    pub fn free_frames(&self) -> u64
+        ensures { result ≡ free_count (shown self.now).free }
+    {
+        self.pool.free_count()
+    }
+
+    /// The number of tables, with the root.
+    pub fn tables(&self) -> u64
+        ensures { result ≡ (shown self.now).tables }
+    {
+        self.tables
+    }
+
+    /// The number of regions.
+    pub fn count(&self) -> usize
+        ensures count { result ≡ length (shown self.now).regions }
+        ensures few { result ≤ 2 ^ 52 }
+    {
+        self.regions.count()
+    }
+
+    /// Puts the regions into a list that has places for them.
+    pub fn list(&self, list: Vec<Region>) -> RegionList
+        requires empty { list.items ≡ [] }
+        requires places { length (shown self.now).regions ≤ vec_capacity list }
+        ensures { result ≡ (shown self.now).regions }
+    {
+        self.regions.list(list)
+    }
+
+    /// Whether there are frames for so many pages, and for the tables that they lack.
+    pub fn has_frames(&self, page: u64, pages: u64) -> bool
+        requires { IsCanonicalRange page pages }
+        ensures { IsTrue result ↔ HasFrames (shown self.now) page pages }
+    {
+        let free = self.pool.free_count();
+        if free < pages {
+            return false;
+        }
+        missing_tables(&self.frames, self.root, page, pages) <= free - pages
+    }
+
+    /// The lowest place in the window for so many pages.
+    pub fn lowest_place(&self, pages: u64) -> Option<u64>
+        requires some { 0 < pages }
+        ensures place { IfSome result (λ start. IsPlace (shown self.now).base (shown self.now).pages (shown self.now).regions pages start) }
+        ensures range { IfSome result (λ start. IsPageRange start pages) }
+        ensures none { IfNone result (HasNoPlace (shown self.now).base (shown self.now).pages (shown self.now).regions pages) }
+    {
+        let base = self.base / Size4KiB::SIZE;
+        let page = self.regions.lowest_place(base, self.pages, pages)?;
+        Some(page * Size4KiB::SIZE)
+    }
+
+    /// Maps the pages of a region, and puts it among the others. An `Err` changes nothing.
+    pub fn join(&mut self, region: Region) -> Result<(), AllocError>
+        requires region { IsRegion (shown self.old).base (shown self.old).pages region }
+        requires can { CanMap (shown self.old) region.start region.pages }
+        ensures ok { OnOk result (IsJoined (shown self.old) (shown self.new) region) }
+        ensures err { OnErr result (shown self.new ≡ shown self.old) }
+    {
+        let free = self.pool.free_count();
+        self.regions.add(self.alloc, region)?;
+        map_range(
+            &mut self.frames,
+            &mut self.pool,
+            self.root,
+            Page::containing_address(VirtAddr::new(region.start)),
+            region.pages,
+            region.rights,
+        );
+        self.tables += free - region.pages - self.pool.free_count();
+        Ok(())
+    }
+
+    /// Unmaps the pages of a region, and takes it out. It takes no memory.
+    pub fn leave(&mut self, region: &Region)
+        requires there { IsTrue (list_any (is_at region.now.start region.now.pages) (shown self.old).regions) }
+        ensures { IsLeft (shown self.old) (shown self.new) region.now.start region.now.pages }
+    {
+        self.regions.remove(region);
+        unmap_range(
+            &mut self.frames,
+            &mut self.pool,
+            self.root,
+            Page::containing_address(VirtAddr::new(region.start)),
+            region.pages,
+        );
+    }
+
+    /// What may be done at an address: the rights of the region that has it, if there is one, by a walk.
+    pub fn rights_at(&self, address: u64) -> Option<Rights>
+        requires { IsTrue (is_canonical address) }
+        ensures { result ≡ option_map (λ kind. kind.1) (kind_at (shown self.now).regions address) }
+    {
+        let page = Page::containing_address(VirtAddr::new(address));
+        let Some(mapped) = walk(&self.frames, self.root, page) else {
+            return None;
+        };
+        Some(Rights {
+            write: mapped.write,
+            user: mapped.user,
+            fetch: mapped.fetch,
+        })
+    }
+
+    /// The byte at an address that a region has, by a walk.
+    pub fn byte(&self, address: u64) -> u8
+        requires canonical { IsTrue (is_canonical address) }
+        requires there { IsSome (kind_at (shown self.now).regions address) }
+        ensures { reached (shown self.now).words (shown self.now).root address ≡ Some result }
+    {
+        let place = VirtAddr::new(address - address % 8);
+        let word = load_word(&self.frames, self.root, place);
+        word.to_le_bytes()[(address % 8) as usize]
+    }
+
+    /// The word at a multiple of 8 in a page that is mapped, by a walk.
+    pub fn word(&self, at: u64) -> u64
+        requires word { IsMappedWord (shown self.now) at }
+        ensures { result ≡ word_reached (shown self.now) at }
+    {
+        load_word(&self.frames, self.root, VirtAddr::new(at))
+    }
+
+    /// Puts a word at a multiple of 8 in a page that is mapped, by a walk, and changes nothing else.
+    pub fn set_word(&mut self, at: u64, value: u64)
+        requires word { IsMappedWord (shown self.old) at }
+        ensures others { shown self.new ≡ record (shown self.old) { words = (shown self.new).words } }
+        ensures size { length (shown self.new).words ≡ length (shown self.old).words }
+        ensures set { IfSome (walk_of (shown self.old).words (shown self.old).root (at / 4096)) (λ place. (shown self.new).words ≡ set (shown self.old).words (512 * place.frame + at % 4096 / 8) value) }
+        ensures walks { (free : List Bool) → IsTree (shown self.old).words (shown self.old).root free → (level number : ℕ) → level ≤ 4 → reach (shown self.new).words (shown self.old).root level number ≡ reach (shown self.old).words (shown self.old).root level number }
+        ensures tree { (free : List Bool) → IsTree (shown self.old).words (shown self.old).root free → IsTree (shown self.new).words (shown self.old).root free }
+        ensures stored { (free : List Bool) → IsTree (shown self.old).words (shown self.old).root free → IfSome (walk_of (shown self.old).words (shown self.old).root (at / 4096)) (λ place. word_at (shown self.new).words place.frame (at % 4096 / 8) ≡ value) }
+        ensures other_words { (free : List Bool) → IsTree (shown self.old).words (shown self.old).root free → (other : ℕ) → IsTrue (is_canonical other) → (other / 8 ≡ at / 8 → ⊥) →
+            IfSome (walk_of (shown self.old).words (shown self.old).root (other / 4096)) (λ place. word_at (shown self.new).words place.frame (other % 4096 / 8) ≡ word_at (shown self.old).words place.frame (other % 4096 / 8)) }
+        ensures bytes { (free : List Bool) → IsTree (shown self.old).words (shown self.old).root free → (other : ℕ) → IsTrue (is_canonical other) → (other / 8 ≡ at / 8 → ⊥) → reached (shown self.new).words (shown self.old).root other ≡ reached (shown self.old).words (shown self.old).root other }
+    {
+        store_word(&mut self.frames, self.root, VirtAddr::new(at), value);
+    }
+}
