@@ -13,7 +13,8 @@ use Rattle.heap_model.specs.Place.{with_region}
 use Rattle.heap_model.specs.Room.{heap_region, heap_rights}
 use Rattle.heap_model.specs.Machine.{Paged}
 use Rattle.kernel_heap.specs.Layout.{AreConsecutive, IsKept, IsGrantedFor, regions_end}
-use Rattle.kernel_heap.specs.Words.{grant_of, grants_of, word_reached}
+use Rattle.kernel_heap.specs.Words.{grant_of, grants_of}
+use Rattle.mapped_regions.specs.Mapped.{word_reached}
 use Rattle.kernel_heap.proofs.Consecutive.{ends, last_place}
 use Rattle.kernel_heap.proofs.Places.{place_end}
 use Rattle.kernel_heap.proofs.Pages.{pages_hold}

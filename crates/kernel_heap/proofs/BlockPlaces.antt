@@ -7,7 +7,7 @@ use Rattle.dlmalloc_chunks.specs.declared.extent.Extent.{Extent}
 use Rattle.dlmalloc.specs.Extents.{extent_at}
 use Rattle.dlmalloc.specs.Blocks.{IsBlock, ArePlaced, KeepsBlocks}
 use Rattle.dlmalloc.specs.declared.heap.Dlmalloc.{Dlmalloc}
-use Rattle.kernel_heap.specs.Words.{word_reached}
+use Rattle.mapped_regions.specs.Mapped.{word_reached}
 use Rattle.kernel_heap.specs.System.{paged}
 use Rattle.kernel_heap.specs.Heap.{regions, word, heap_state}
 use Rattle.kernel_heap.specs.Written.{AreInside}

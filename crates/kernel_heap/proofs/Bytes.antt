@@ -11,25 +11,15 @@ use Rattle.heap_memory.specs.Regions.{IsWordOf}
 use Rattle.heap_memory.specs.Words.{IsStored, with_byte}
 use Rattle.heap_model.specs.Machine.{Paged, IsStill}
 use Rattle.kernel_heap.specs.Layout.{IsKept, regions_end}
-use Rattle.kernel_heap.specs.Words.{grants_of, word_reached}
+use Rattle.kernel_heap.specs.Words.{grants_of}
+use Rattle.mapped_regions.specs.Mapped.{word_reached}
+use Rattle.mapped_regions.proofs.Looked.{le_byte}
 use Rattle.kernel_heap.specs.Written.{AreInside, AreRead, IsWritten}
 use Rattle.kernel_heap.specs.Follows.{still_on}
 use Rattle.kernel_heap.proofs.Consecutive.{lt_or_le, same_or_other, covered}
 use Rattle.kernel_heap.proofs.Still.{granted_same, region_mapped, kept_still, place_at, word_at_place}
 
 -- ---- bytes of a word
-
--- byte b of a word is the one that its bytes have there
-le_byte : (word b : ℕ) → b < 8 → slice_index (to_le_bytes w64 word) b ≡ byte_of word b
-le_byte word zero less = omega arith
-le_byte word (suc zero) less = omega arith
-le_byte word (suc (suc zero)) less = omega arith
-le_byte word (suc (suc (suc zero))) less = omega arith
-le_byte word (suc (suc (suc (suc zero)))) less = omega arith
-le_byte word (suc (suc (suc (suc (suc zero))))) less = omega arith
-le_byte word (suc (suc (suc (suc (suc (suc zero)))))) less = omega arith
-le_byte word (suc (suc (suc (suc (suc (suc (suc zero))))))) less = omega arith
-le_byte word (suc (suc (suc (suc (suc (suc (suc (suc b)))))))) less = absurd (omega arith)
 
 byte_small : (word b : ℕ) → get_or (to_le_bytes w64 word) b 0 < 256
 byte_small word b = elim (dec_lt b 8) [ yes less ↦ rw (le_byte word b less) (omega arith) | no more ↦ past word b (omega arith) ]

@@ -1,8 +1,8 @@
 -- Regions one after the other.
-use Rattle.std.proofs.Common.{◌≡◌, ◌≢◌, ℕ, zero, suc, ◌+◌, ◌*◌, ◌<◌, ◌≤◌, ◌⊎◌, inl, inr, nat_lt, List, [], ◌∷◌, ◌++◌, length, get_or, refl, sym, ap, ◌∙◌, arith, Contains, true, false, not, ◌-◌, Some}
+use Rattle.std.proofs.Common.{◌≡◌, ◌≢◌, ℕ, zero, suc, ◌+◌, ◌*◌, ◌<◌, ◌≤◌, ◌⊎◌, inl, inr, nat_lt, List, [], ◌∷◌, ◌++◌, length, get_or, refl, sym, ap, ◌∙◌, arith, Contains, true, false, not}
 use Rattle.std.proofs.lemmas.Bool.{le-ltb}
 use native.Mathlib.Decide.{dec_lt}
-use Rattle.std.specs.List.{list_any, slice_get}
+use Rattle.std.specs.List.{list_any}
 use Rattle.heap_model.specs.declared.region.Region.{Region}
 use Rattle.heap_model.specs.State.{end_of, is_within, total_pages}
 use Rattle.heap_model.specs.Place.{meets, meets_any, with_region}
@@ -100,17 +100,3 @@ all_heap from to [] all = refl
 all_heap from to (first ∷ rest) all =
     let heap : first.heap ≡ true = ap (λ r. r.heap) all.0 in
     or_neither (not first.heap) (list_any (λ region. not region.heap) rest) (ap not heap) (all_heap (from + 4096 * first.pages) to rest all.2)
-
--- the last one ends where they end
-pub last_ends : (from to : ℕ) (list : List Region) (region : Region) → AreConsecutive from list to → slice_get list (length list - 1) ≡ Some region → end_of region ≡ to
-last_ends from to [] region all is = cc
-last_ends from to (first ∷ []) region all is =
-    let same : first ≡ region = cc in
-    let start : first.start ≡ from = ap (λ r. r.start) all.0 in
-    ap end_of (sym same) ∙ (let e = all.2 in omega arith)
-last_ends from to (first ∷ second ∷ rest) region all is = last_ends (from + 4096 * first.pages) to (second ∷ rest) region all.2 (at_tail is)
-  where
-    at_tail : slice_get (first ∷ second ∷ rest) (length (first ∷ second ∷ rest) - 1) ≡ Some region → slice_get (second ∷ rest) (length (second ∷ rest) - 1) ≡ Some region
-    at_tail is =
-        let e : length (first ∷ second ∷ rest) - 1 ≡ suc (length (second ∷ rest) - 1) = omega arith in
-        sym (ap (slice_get (first ∷ second ∷ rest)) e) ∙ is

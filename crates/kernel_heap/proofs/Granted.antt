@@ -4,7 +4,9 @@ use Rattle.paging_core.specs.Memory.{frame_count}
 use Rattle.paging_core.specs.Pool.{is_free}
 use Rattle.paging_core.specs.Walk.{Place, walk_of, granted as granted_place}
 use Rattle.paging_core.specs.Tree.{IsTree}
+use Rattle.heap_model.specs.declared.region.Region.{Region}
 use Rattle.heap_model.specs.State.{total_pages}
+use Rattle.mapped_regions.specs.Mapped.{IsRegion, CanMap, IsJoined}
 use Rattle.heap_model.specs.Room.{heap_region, heap_rights}
 use Rattle.heap_model.specs.Machine.{Paged}
 use Rattle.heap_model.proofs.Granted.{walk_beside}
@@ -12,7 +14,7 @@ use Rattle.heap_model.proofs.Regions.{pages_with}
 use Rattle.kernel_heap.specs.Config.{IsGoodWindow}
 use Rattle.kernel_heap.specs.Layout.{AreConsecutive, regions_end, window_end, IsKept, CanGrant, IsGranted}
 use Rattle.kernel_heap.proofs.Consecutive.{lt_or_le, last_place, one_more}
-use Rattle.kernel_heap.proofs.Places.{place_end}
+use Rattle.kernel_heap.proofs.Places.{place_end, range_within}
 
 -- the regions have the granted pages more
 pub granted_end : (old new : Paged) (pages address : ℕ) → IsGranted old new pages address → regions_end new ≡ regions_end old + 4096 * pages
@@ -79,3 +81,28 @@ kept_granted old new pages address kept can is =
     let end : address ≡ regions_end old = place_end old pages kept can.some address can.place in
     let within = can.place.fit.within in
     kept_behind old new pages kept can.some (omega arith) (subst (IsGranted old new pages) end is)
+
+-- the region of a grant is one of the heap in the window, and it can be mapped
+pub granted_region : (p : Paged) (pages address : ℕ) → IsKept p → CanGrant p pages address → IsRegion p.base p.pages (heap_region address pages)
+granted_region p pages address kept can = record {
+  range = (can.place.fit.aligned, range_within p pages address kept.window can.some can.place.fit);
+  from = λ heap. can.place.fit.from;
+  within = λ heap. can.place.fit.within;
+  rights = λ heap. refl;
+}
+
+pub can_map : (p : Paged) (pages address : ℕ) → IsKept p → CanGrant p pages address → CanMap p address pages
+can_map p pages address kept can = record {
+  range = (can.place.fit.aligned, range_within p pages address kept.window can.some can.place.fit);
+  clear = can.place.fit.clear;
+  frames = can.frames;
+}
+
+-- where it joined, the pages were granted
+pub granted_joined : (old new : Paged) (region : Region) (pages address : ℕ) → region ≡ heap_region address pages → IsJoined old new region → IsGranted old new pages address
+granted_joined old new region pages address is joined =
+    let j = subst (IsJoined old new) is joined in
+    record {
+      grant = record { base = j.base; pages_is = j.pages; root = j.root; tables = j.tables; added = j.added };
+      regions = j.regions;
+    }

@@ -73,7 +73,7 @@ module _ (heap new : Dlmalloc PagedSystem) (blocks : List (Option Live)) (size a
     after_it = s.blocks ++ Some (next_block address size align cell) ∷ []
 
     holds : ((k byte : ℕ) → k < size → cell ≡ Known byte → reached (paged new.system).words (paged new.system).root (address + k) ≡ Some byte) →
-         HoldsBytes (reached (paged new.system).words (paged new.system).root) after_it
+        HoldsBytes (reached (paged new.system).words (paged new.system).root) after_it
     holds filled = holds_pushed (reached (paged new.system).words (paged new.system).root) s.blocks (next_block address size align cell) held
         (λ k byte is. let alike = known_alike size k byte cell is in filled k byte alike.0 alike.1)
 

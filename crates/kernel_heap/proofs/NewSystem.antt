@@ -1,46 +1,40 @@
 -- A new system, and the start of a run.
-use Rattle.std.proofs.Common.{◌≡◌, ℕ, ◌+◌, ◌*◌, ◌^◌, ◌<◌, List, [], length, refl, sym, ap, ◌∙◌, arith, Bool, Option, None, option_map, subst}
+use Rattle.std.proofs.Common.{◌≡◌, ℕ, ◌+◌, ◌*◌, [], sym, ap, arith, Option, None, option_map, subst}
 use Rattle.std.specs.Prelude.{IsSome}
-use Rattle.paging_core.specs.Memory.{frame_count}
-use Rattle.paging_core.specs.Pool.{FreeBelow, free_count}
-use Rattle.paging_core.specs.Walk.{reach, walk_of}
-use Rattle.paging_core.specs.Tree.{IsTree}
 use Rattle.heap_model.specs.declared.config.Config.{Config}
 use Rattle.heap_model.specs.State.{start, total_pages}
 use Rattle.heap_model.specs.Machine.{Paged, Seen, Stands, rights_of}
 use Rattle.heap_model.specs.Run.{IsGood}
+use Rattle.mapped_regions.specs.Mapped.{IsMapped, IsEmpty}
 use Rattle.kernel_heap.specs.Config.{IsGoodWindow, IsGoodConfig}
 use Rattle.kernel_heap.specs.Layout.{AreConsecutive, IsNew}
 
--- where the root is alone, nothing is mapped, and the other frames are free
-pub new_is : (p : Paged) (memory : List ℕ) (pool : List Bool) (frames : ℕ) → IsGoodWindow p.base p.pages → frames < 2 ^ 32 →
-    frame_count memory ≡ frames → free_count pool ≡ frames → length p.words ≡ length memory → free_count p.free + 1 ≡ free_count pool →
-    FreeBelow p.free (frame_count p.words) → p.root < frame_count p.words → IsTree p.words p.root p.free →
-    ((level number : ℕ) → 0 < level → reach p.words p.root level number ≡ None) → ((page : ℕ) → walk_of p.words p.root page ≡ None) → p.tables ≡ 1 → p.regions ≡ [] → IsNew p p.base p.pages frames
-new_is p memory pool frames window few count_memory count_pool size count flags root tree no_tables nothing tables regions =
-    let frames_are : frame_count p.words ≡ frames = omega arith in
-    let free : free_count p.free + 1 ≡ frames = count ∙ count_pool in
+-- where nothing is mapped, the system is new
+pub new_is : (p : Paged) (base pages frames : ℕ) → IsGoodWindow base pages → IsMapped p → IsEmpty p base pages frames → IsNew p base pages frames
+new_is p base pages frames window m e =
+    let none : total_pages p.regions ≡ 0 = ap total_pages e.regions_is in
+    let count = m.count in
     record {
       kept = record {
-        window = window;
-        tree = tree;
-        flags = flags;
-        root_in = root;
-        few_frames = omega arith;
+        window = subst (λ b. IsGoodWindow b p.pages) (sym e.base_is) (subst (IsGoodWindow base) (sym e.pages_is) window);
+        tree = m.tree;
+        flags = m.known;
+        root_in = m.root_in;
+        few_frames = m.few_frames;
         held = omega arith;
-        consecutive = (let t = ap total_pages regions in subst (λ xs. AreConsecutive p.base xs (p.base + 4096 * total_pages p.regions)) (sym regions) (omega arith));
-        inside = (let t = ap total_pages regions in omega arith);
-        mapped = λ page above below. (let t = ap total_pages regions in absurd (omega arith));
-        unmapped = λ page above below. nothing page;
+        consecutive = subst (λ xs. AreConsecutive p.base xs (p.base + 4096 * total_pages p.regions)) (sym e.regions_is) (omega arith);
+        inside = omega arith;
+        mapped = λ page above below. absurd (omega arith);
+        unmapped = λ page above below. e.unmapped page;
       };
-      base_is = refl;
-      pages_is = refl;
-      regions_is = regions;
-      tables_is = tables;
-      frames_are = frames_are;
-      free_frames = free;
-      no_tables = no_tables;
-      unmapped = nothing;
+      base_is = e.base_is;
+      pages_is = e.pages_is;
+      regions_is = e.regions_is;
+      tables_is = e.tables_is;
+      frames_are = e.frames_are;
+      free_frames = e.free_frames;
+      no_tables = e.no_tables;
+      unmapped = e.unmapped;
     }
 
 -- a machine over it, without blocks, stands for the start

@@ -4,9 +4,9 @@ use Rattle.paging_core.specs.Address.{IsCanonicalRange}
 use Rattle.heap_model.specs.declared.region.Region.{Region}
 use Rattle.heap_model.specs.Machine.{Paged}
 use Rattle.heap_model.specs.Room.{heap_region}
-use Rattle.heap_model.specs.Place.{meets_any, with_region, IsFit, IsPlace, HasNoPlace}
+use Rattle.heap_model.specs.Place.{meets_any, with_region, IsFit, IsPlace}
 use Rattle.kernel_heap.specs.Config.{IsGoodWindow}
-use Rattle.kernel_heap.specs.Layout.{AreConsecutive, IsKept, regions_end, window_end}
+use Rattle.kernel_heap.specs.Layout.{AreConsecutive, IsKept, regions_end}
 use Rattle.kernel_heap.proofs.Consecutive.{lt_or_le, ends, covered, met, behind, last_place}
 
 module _ (base window to pages : ℕ) (list : List Region) (some : 0 < pages) (whole : base % 4096 ≡ 0) (all : AreConsecutive base list to) where
@@ -22,18 +22,6 @@ module _ (base window to pages : ℕ) (list : List Region) (some : 0 < pages) (w
       let end = ends base to list all in
       record { aligned = omega arith; from = omega arith; within = inside; clear = behind base to pages list all to (omega arith) }
 
-  end_is_place : to + 4096 * pages ≤ base + 4096 * window → IsPlace base window list pages to
-  end_is_place inside = record {
-    fit = end_fits inside;
-    least = λ other less fit. (let more : to ≤ other = fits_behind other fit in omega arith);
-  }
-
-  none_behind : base + 4096 * window < to + 4096 * pages → HasNoPlace base window list pages
-  none_behind outside address fit =
-      let more : to ≤ address = fits_behind address fit in
-      let within : address + 4096 * pages ≤ base + 4096 * window = fit.within in
-      omega arith
-
   place_is_end : (address : ℕ) → IsPlace base window list pages address → address ≡ to
   place_is_end address place =
       let more : to ≤ address = fits_behind address place.fit in
@@ -46,12 +34,6 @@ module _ (base window to pages : ℕ) (list : List Region) (some : 0 < pages) (w
 -- ---- in a system
 
 module _ (p : Paged) (pages : ℕ) (kept : IsKept p) (some : 0 < pages) where
-  pub end_place : regions_end p + 4096 * pages ≤ window_end p → IsPlace p.base p.pages p.regions pages (regions_end p)
-  end_place inside = end_is_place p.base p.pages (regions_end p) pages p.regions some kept.window.whole kept.consecutive inside
-
-  pub no_place : window_end p < regions_end p + 4096 * pages → HasNoPlace p.base p.pages p.regions pages
-  no_place outside = none_behind p.base p.pages (regions_end p) pages p.regions some kept.window.whole kept.consecutive outside
-
   pub place_end : (address : ℕ) → IsPlace p.base p.pages p.regions pages address → address ≡ regions_end p
   place_end address place = place_is_end p.base p.pages (regions_end p) pages p.regions some kept.window.whole kept.consecutive address place
 

@@ -34,7 +34,7 @@ use Rattle.heap_model.proofs.Known.{known_within}
 use Rattle.heap_model.proofs.Placed.{outline_of, outline_at}
 use Rattle.heap_model.proofs.Resized.{length-resized, outline_changed, good_resized, holds_resized}
 use Rattle.kernel_heap.specs.System.{paged}
-use Rattle.kernel_heap.specs.Words.{word_reached}
+use Rattle.mapped_regions.specs.Mapped.{word_reached}
 use Rattle.kernel_heap.specs.Heap.{regions, word, follows, refuses, denies, heap_state}
 use Rattle.kernel_heap.specs.Machine.{seen_of, live_at, IsLaidOut, IsRefusalOf, resizing, align_kept, IsResizedTo, HeapMoves}
 use Rattle.kernel_heap.specs.declared.numbered_heap.NumberedHeap.{NumberedHeap}
@@ -167,7 +167,7 @@ module _ (heap new : Dlmalloc PagedSystem) (blocks : List (Option Live)) (number
   holds = holds_resized (reached (paged new.system).words (paged new.system).root) s.blocks number address size (align_then keeps) block old.1 others here
 
   lives_same : blocks' ≡ map (option_map outline) after_it
-  lives_same = ap (λ list. slice_set list number (Some (next_live address size align))) stands.blocks 
+  lives_same = ap (λ list. slice_set list number (Some (next_live address size align))) stands.blocks
       ∙ (ap (λ a. slice_set (map (option_map outline) s.blocks) number (Some (next_live address size a))) (sym align_same) ∙ sym (outline_changed s.blocks number change block old.1))
 
   -- ---- the state

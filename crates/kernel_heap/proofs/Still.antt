@@ -13,7 +13,8 @@ use Rattle.heap_model.specs.declared.region.Region.{Region}
 use Rattle.heap_model.specs.State.{is_within}
 use Rattle.heap_model.specs.Machine.{Paged, IsStill, is_of_user}
 use Rattle.kernel_heap.specs.Layout.{AreConsecutive, IsKept, regions_end}
-use Rattle.kernel_heap.specs.Words.{grant_of, grants_of, word_in, word_reached}
+use Rattle.kernel_heap.specs.Words.{grant_of, grants_of}
+use Rattle.mapped_regions.specs.Mapped.{IsMappedWord, word_in, word_reached}
 use Rattle.kernel_heap.proofs.Consecutive.{inside}
 
 -- regions of the heap have no byte of the user
@@ -53,6 +54,13 @@ pub granted_mapped : (p : Paged) (address a : ℕ) → IsKept p → IsTrue (is_g
 granted_mapped p address a kept granted same =
     let bounds = granted_inside p address kept granted in
     subst (λ b. IsSome (walk_of p.words p.root (b / 4096))) (sym same) (region_mapped p address kept bounds.0 bounds.1)
+
+pub mapped_word : (p : Paged) (at : ℕ) → IsKept p → IsWordOf (grants_of p) at → IsMappedWord p at
+mapped_word p at kept word = record {
+  aligned = word.aligned;
+  canonical = granted_canonical p at kept word.granted;
+  mapped = granted_mapped p at at kept word.granted refl;
+}
 
 -- what a system keeps, it keeps while nothing is granted
 pub kept_still : (old new : Paged) → IsKept old → IsStill old new → IsKept new

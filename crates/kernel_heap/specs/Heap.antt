@@ -8,7 +8,8 @@ use Rattle.dlmalloc.specs.Heap.{state_of, IsSound}
 use Rattle.dlmalloc.specs.declared.heap.Dlmalloc.{Dlmalloc}
 use Rattle.heap_model.specs.Request.{pages_in}
 use Rattle.kernel_heap.specs.Layout.{Lacks}
-use Rattle.kernel_heap.specs.Words.{grants_of, word_reached}
+use Rattle.kernel_heap.specs.Words.{grants_of}
+use Rattle.mapped_regions.specs.Mapped.{word_reached}
 use Rattle.kernel_heap.specs.Follows.{Follows}
 use Rattle.kernel_heap.specs.System.{paged}
 use Rattle.kernel_heap.specs.declared.paged_system.PagedSystem.{PagedSystem}

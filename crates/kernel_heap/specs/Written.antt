@@ -4,7 +4,8 @@ use Rattle.paging_core.specs.Walk.{reached}
 use Rattle.heap_memory.specs.Regions.{IsWordOf}
 use Rattle.heap_model.specs.Machine.{Paged, IsStill}
 use Rattle.kernel_heap.specs.Layout.{regions_end}
-use Rattle.kernel_heap.specs.Words.{grants_of, word_reached}
+use Rattle.kernel_heap.specs.Words.{grants_of}
+use Rattle.mapped_regions.specs.Mapped.{word_reached}
 
 -- so many bytes from an address lie in the regions
 pub record AreInside (p : Paged) (address count : ℕ) : Type 0 where

@@ -113,7 +113,13 @@ impl NumberedHeap {
         let count = self.heap.allocator().region_count();
         self.list.clear();
         self.list.reserve(count + 1)?;
-        match heap_calls::resize::<Brand>(&mut self.heap, live, size, keeps_alignment, Blank::new(1)) {
+        match heap_calls::resize::<Brand>(
+            &mut self.heap,
+            live,
+            size,
+            keeps_alignment,
+            Blank::new(1),
+        ) {
             Ok(address) => {
                 self.blocks[number as usize] = Some(Live {
                     address,

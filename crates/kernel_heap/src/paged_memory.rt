@@ -10,7 +10,8 @@ use step_count::Steps;
 impl Links for PagedSystem {
     ghost use Rattle.kernel_heap.specs.Follows.{Follows, still_none, follows_on as paged_follows_on};
     ghost use Rattle.kernel_heap.specs.Ordered.{regions_whole};
-    ghost use Rattle.kernel_heap.specs.Words.{grants_of, word_reached};
+    ghost use Rattle.kernel_heap.specs.Words.{grants_of};
+    ghost use Rattle.mapped_regions.specs.Mapped.{word_reached};
 
     ghost regions = { λ system. grants_of (paged system) };
 

@@ -1,19 +1,17 @@
-// The paged system: physical memory, its page tables, and the regions that are mapped.
+// The paged system: regions of the heap that are mapped one behind the other.
 ghost use Rattle.std.specs.Prelude.{◌≡◌, ℕ, ◌+◌, ◌*◌, ◌/◌, ◌^◌, ◌<◌, ◌≤◌, ◌%◌, ◌≢◌, IfOk, IfErr, OnOk, OnErr, length, vec_capacity, []};
 ghost use Rattle.paging_core.specs.Pool.{free_count};
-ghost use Rattle.paging_core.specs.Missing.{missing_of};
 ghost use Rattle.heap_model.specs.Room.{heap_region as granted_region, heap_rights as granted_rights};
 ghost use Rattle.kernel_heap.specs.Config.{IsGoodWindow};
 ghost use Rattle.heap_memory.specs.declared.grant.GrantFault.TheVariants.{OutOfMemory};
 ghost use Rattle.heap_model.specs.Request.{pages_in};
 ghost use Rattle.kernel_heap.specs.Layout.{IsKept, IsKept-prop};
+ghost use Rattle.mapped_regions.specs.Shown.{shown};
 
 use heap_memory::{Grant, GrantFault};
 use heap_model::{Region, RegionList, Rights};
-use paging_core::{
-    FramePool, Frames, Page, PageSize, PhysFrame, Size4KiB, VirtAddr, load_word, make_root,
-    map_range, missing_tables, store_word,
-};
+use mapped_regions::MappedRegions;
+use paging_core::{Frames, PageSize, PhysFrame, Size4KiB};
 use std::alloc::{AllocError, Global};
 
 /// The rights of the heap: its pages may be written, and neither used by the user nor fetched from.
@@ -47,24 +45,18 @@ fn heap_region(start: u64, pages: u64) -> Region
     }
 }
 
-/// Physical memory with its page tables and its free frames, and a window of virtual memory in which pages are
-/// granted, each with a frame of its own.
+/// Mapped regions of the heap, one behind the other from the start of the window on.
 #[derive(Drop)]
 pub struct PagedSystem {
-    base: u64,
-    pages: u64,
-    frames: Frames,
-    pool: FramePool,
-    root: PhysFrame,
-    tables: u64,
-    regions: Vec<Region>,
-    ghost kept: { IsKept (record { base = base; pages = pages; words = frames; root = root; free = pool; tables = tables; regions = regions.items }) } by { IsKept-prop (record { base = base; pages = pages; words = frames; root = root; free = pool; tables = tables; regions = regions.items }) },
+    regions: MappedRegions,
+    ghost kept: { IsKept (shown regions) } by { IsKept-prop (shown regions) },
 }
 
 impl PagedSystem {
-    ghost use Rattle.kernel_heap.specs.Layout.{IsNew, CanGrant, Lacks, IsGranted, IsGrantedFor, regions_end};
+    ghost use Rattle.kernel_heap.specs.Layout.{IsNew, CanGrant, Lacks, IsGranted, IsGrantedFor};
     ghost use Rattle.kernel_heap.specs.System.{paged};
-    ghost use Rattle.kernel_heap.specs.Words.{grants_of, word_reached};
+    ghost use Rattle.kernel_heap.specs.Words.{grants_of};
+    ghost use Rattle.mapped_regions.specs.Mapped.{word_reached};
     ghost use Rattle.heap_memory.specs.Regions.{IsWordOf};
     ghost use Rattle.heap_memory.specs.Words.{IsStored};
     ghost use Rattle.heap_model.specs.Machine.{IsStill};
@@ -76,103 +68,72 @@ impl PagedSystem {
         requires frames { 0 < frames }
         ensures { IfOk result (λ system. IsNew (paged system) base pages frames) }
     {
-        let mut memory = Frames::new(alloc, frames)?;
-        let mut pool = FramePool::new(alloc, frames)?;
-        let Some(root) = make_root(&mut memory, &mut pool) else {
-            unreachable!()
-        };
-        Ok(PagedSystem {
-            base,
-            pages,
-            frames: memory,
-            pool,
-            root,
-            tables: 1,
-            regions: Vec::new(alloc),
-        })
+        let regions = MappedRegions::new(alloc, base, pages, frames)?;
+        Ok(PagedSystem { regions })
     }
 
     /// The regions, by ascending address.
     pub fn regions(&self, alloc: Global) -> Result<RegionList, AllocError>
         ensures { IfOk result (λ list. list ≡ (paged self.now).regions) }
     {
-        Ok(RegionList::from_vec(Vec::from_slice(alloc, &self.regions)?))
+        self.regions.regions(alloc)
     }
 
     /// The physical memory.
     pub fn frames(&self) -> &Frames
         ensures { result.now ≡ (paged self.now).words }
     {
-        &self.frames
+        self.regions.frames()
     }
 
     /// The frame of the root table.
     pub fn root(&self) -> PhysFrame
         ensures { result ≡ (paged self.now).root }
     {
-        self.root
+        self.regions.root()
     }
 
     /// The number of free frames.
     pub fn free_frames(&self) -> u64
         ensures { result ≡ free_count (paged self.now).free }
     {
-        self.pool.free_count()
+        self.regions.free_frames()
     }
 
     /// The number of tables, with the root.
     pub fn tables(&self) -> u64
         ensures { result ≡ (paged self.now).tables }
     {
-        self.tables
-    }
-
-    /// The address after the last region.
-    pub(crate) fn end(&self) -> u64
-        ensures end { result ≡ regions_end (paged self.now) }
-    {
-        match self.regions.last() {
-            Some(region) => region.start + region.pages * Size4KiB::SIZE,
-            None => self.base,
-        }
+        self.regions.tables()
     }
 
     /// The number of regions.
     pub(crate) fn region_count(&self) -> usize
-        ensures { result ≡ length (paged self.now).regions }
+        ensures count { result ≡ length (paged self.now).regions }
+        ensures few { result ≤ 2 ^ 52 }
     {
-        self.regions.len()
+        self.regions.count()
     }
 
     /// Puts the regions into a list that has places for them.
-    pub(crate) fn list_regions(&self, mut list: Vec<Region>) -> RegionList
+    pub(crate) fn list_regions(&self, list: Vec<Region>) -> RegionList
         requires empty { list.items ≡ [] }
         requires places { length (paged self.now).regions ≤ vec_capacity list }
         ensures { result ≡ (paged self.now).regions }
     {
-        for i in 0..self.regions.len() {
-            list.push_reserved(self.regions[i]);
-        }
-        RegionList::from_vec(list)
+        self.regions.list(list)
     }
 
-    /// The place of so many pages, where they have one and can be granted there. The regions follow each other from
-    /// the start of the window, so it is their end.
+    /// The place of so many pages, where they have one and can be granted there.
     fn plan(&self, pages: u64) -> Result<u64, GrantFault>
         requires some { 0 < pages }
         ensures ok { IfOk result (λ place. CanGrant (paged self.now) pages place) }
         ensures lacks { IfErr result (λ fault. Lacks (paged self.now) pages fault) }
     {
-        let place = self.end();
-        if pages > self.pages - (place - self.base) / Size4KiB::SIZE {
+        let Some(place) = self.regions.lowest_place(pages) else {
             return Err(GrantFault::NoSpace);
-        }
-        let free = self.pool.free_count();
-        if free < pages {
-            return Err(GrantFault::NoFrames);
-        }
-        let missing = missing_tables(&self.frames, self.root, place / Size4KiB::SIZE, pages);
-        if free - pages < missing {
+        };
+        if !self.regions.has_frames(place / Size4KiB::SIZE, pages) {
             return Err(GrantFault::NoFrames);
         }
         Ok(place)
@@ -184,20 +145,7 @@ impl PagedSystem {
         ensures ok { OnOk result (IsGranted (paged self.old) (paged self.new) pages place) }
         ensures err { OnErr result (paged self.new ≡ paged self.old) }
     {
-        let free = self.pool.free_count();
-        self.regions.reserve(1)?;
-        let first = Page::containing_address(VirtAddr::new(place));
-        map_range(
-            &mut self.frames,
-            &mut self.pool,
-            self.root,
-            first,
-            pages,
-            heap_rights(),
-        );
-        self.tables += free - pages - self.pool.free_count();
-        self.regions.push_reserved(heap_region(place, pages));
-        Ok(())
+        self.regions.join(heap_region(place, pages))
     }
 
     /// Grants the pages that hold so many bytes. An `Err` changes nothing.
@@ -224,7 +172,7 @@ impl PagedSystem {
         requires { IsWordOf (grants_of (paged self.now)) at }
         ensures { result ≡ word_reached (paged self.now) at }
     {
-        load_word(&self.frames, self.root, VirtAddr::new(at))
+        self.regions.word(at)
     }
 
     /// Puts a word at a multiple of 8 in the regions, by a walk, and changes nothing else.
@@ -233,6 +181,6 @@ impl PagedSystem {
         ensures still { IsStill (paged self.old) (paged self.new) }
         ensures stored { IsStored (grants_of (paged self.old)) (word_reached (paged self.old)) at value (word_reached (paged self.new)) }
     {
-        store_word(&mut self.frames, self.root, VirtAddr::new(at), value);
+        self.regions.set_word(at, value);
     }
 }

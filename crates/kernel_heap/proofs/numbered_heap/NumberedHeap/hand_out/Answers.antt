@@ -30,7 +30,7 @@ pub changed_regions-requires-clause-places : goal.changed_regions-requires-claus
 changed_regions-requires-clause-places c =
     let few = few_regions c.args.self.now.heap c.hand_out.new.heap (padded (asked c.args.size c.args.align)) c.in-Ok.ensures.ok.found in
     let same = ap (λ heap. length (paged heap.system).regions) c.add_block.ensures.heap in
-    let count : c.region_count-count.result ≡ length (paged c.args.self.now.heap.system).regions = c.region_count-count.ensures ∙ ap (λ system. length (paged system).regions) c.allocator.ensures in
+    let count : c.region_count-count.result ≡ length (paged c.args.self.now.heap.system).regions = c.region_count-count.ensures.count ∙ ap (λ system. length (paged system).regions) c.allocator.ensures in
     let places : c.region_count-count.result + 1 ≤ vec_capacity c.add_block.new.self.list = search rules in
     omega arith
 
@@ -43,7 +43,7 @@ returns-in-Ok-clause-sound c =
 pub returns-in-Ok-clause-ok : goal.returns-in-Ok-clause-ok
 returns-in-Ok-clause-ok c = λ s good stands.
     let power : is_power_of_two c.args.align ≡ true = search rules in
-    let count : c.region_count-count.result ≡ length (paged c.args.self.now.heap.system).regions = c.region_count-count.ensures ∙ ap (λ system. length (paged system).regions) c.allocator.ensures in
+    let count : c.region_count-count.result ≡ length (paged c.args.self.now.heap.system).regions = c.region_count-count.ensures.count ∙ ap (λ system. length (paged system).regions) c.allocator.ensures in
     rw (c.changed_regions.ensures.heap, c.changed_regions.ensures.blocks, c.add_block.ensures.heap, c.add_block.ensures.blocks, c.add_block.ensures.reply, c.in_ok-reserve.ensures.items)
     (step_request c.args.self.now.heap c.hand_out.new.heap c.args.self.now.blocks.items c.args.size c.args.align c.in-Ok.address c.requires.sound c.in-Ok.ensures.ok c.hand_out.ensures.placed_before c.hand_out.ensures.placed c.hand_out.ensures.apart s good stands
     power c.changed_regions.result

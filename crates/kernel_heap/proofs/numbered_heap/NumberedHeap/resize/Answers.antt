@@ -22,7 +22,7 @@ resize-requires-clause-block c = c.requires.sound.lives c.args.number c.in-Some.
 pub changed_regions-requires-clause-places : goal.changed_regions-requires-clause-places
 changed_regions-requires-clause-places c =
     let few = few_regions c.args.self.now.heap c.resize.new.heap (padded (asked c.args.size (align_kept c.args.keeps_alignment c.in-Some.live))) c.in-Ok.ensures.ok.found in
-    let count : c.region_count-count.result ≡ length (paged c.args.self.now.heap.system).regions = c.region_count-count.ensures ∙ ap (λ system. length (paged system).regions) c.allocator.ensures in
+    let count : c.region_count-count.result ≡ length (paged c.args.self.now.heap.system).regions = c.region_count-count.ensures.count ∙ ap (λ system. length (paged system).regions) c.allocator.ensures in
     let places : c.region_count-count.result + 1 ≤ vec_capacity c.reserve.new.self = search rules in
     omega arith
 
@@ -37,7 +37,7 @@ pub returns-in-Ok-clause-ok : goal.returns-in-Ok-clause-ok
 returns-in-Ok-clause-ok c = λ s good stands.
     let is = sym c.live.ensures ∙ c.in-Some.is in
     let power = kept_power c.args.keeps_alignment c.in-Some.live (c.requires.sound.lives c.args.number c.in-Some.live is).align in
-    let count : c.region_count-count.result ≡ length (paged c.args.self.now.heap.system).regions = c.region_count-count.ensures ∙ ap (λ system. length (paged system).regions) c.allocator.ensures in
+    let count : c.region_count-count.result ≡ length (paged c.args.self.now.heap.system).regions = c.region_count-count.ensures.count ∙ ap (λ system. length (paged system).regions) c.allocator.ensures in
     rw (c.changed_regions.ensures.heap, c.changed_regions.ensures.blocks, c.alignment_kept-align.ensures)
     (step_resized c.args.self.now.heap c.resize.new.heap c.args.self.now.blocks.items c.args.number c.in-Some.live c.args.keeps_alignment c.args.size c.in-Ok.address c.requires.sound is c.in-Ok.ensures.ok
     c.resize.ensures.placed_before c.resize.ensures.placed c.resize.ensures.apart s good stands power c.changed_regions.result

@@ -6,7 +6,8 @@ use Rattle.heap_memory.specs.Regions.{IsWordOf}
 use Rattle.heap_model.specs.Machine.{Paged}
 use Rattle.kernel_heap.specs.Layout.{IsKept, IsGrantedFor}
 use Rattle.kernel_heap.specs.System.{paged}
-use Rattle.kernel_heap.specs.Words.{grants_of, word_reached}
+use Rattle.kernel_heap.specs.Words.{grants_of}
+use Rattle.mapped_regions.specs.Mapped.{word_reached}
 use Rattle.kernel_heap.proofs.Allocated.{good, apart, next, regions, zeros, words}
 use Rattle.kernel_heap.proofs.paged_allocator.PagedSystemAllocator.alloc.Goals as goal
 

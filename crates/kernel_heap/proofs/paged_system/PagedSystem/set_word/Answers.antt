@@ -1,23 +1,28 @@
+use Rattle.std.proofs.Common.{refl, sym, subst}
+use Rattle.heap_memory.specs.Words.{IsStored}
+use Rattle.heap_model.specs.Machine.{Paged, IsStill}
+use Rattle.mapped_regions.specs.Shown.{shown}
+use Rattle.kernel_heap.specs.Layout.{IsKept}
 use Rattle.kernel_heap.specs.System.{paged}
-use Rattle.kernel_heap.proofs.Still.{granted_canonical, granted_mapped, still_stored, kept_stored, is_stored}
+use Rattle.kernel_heap.specs.Words.{grants_of}
+use Rattle.mapped_regions.specs.Mapped.{word_reached}
+use Rattle.kernel_heap.proofs.Still.{mapped_word, still_stored, kept_stored, is_stored}
 use Rattle.kernel_heap.proofs.paged_system.PagedSystem.set_word.Goals as goal
+
+pub set_word-requires : goal.set_word-requires
+set_word-requires c = record { word = mapped_word (paged c.args.self.now) c.args.at c.args.self.now.kept c.requires }
 
 pub invariant_of-self : goal.invariant_of-self
 invariant_of-self c = record {
-  kept = kept_stored (paged c.args.self.now) c.store_word.new.frames c.args.at c.args.value c.new.result c.args.self.now.kept c.requires c.new.ensures
-      c.store_word.ensures.size c.store_word.ensures.word c.store_word.ensures.walks c.store_word.ensures.tree c.store_word.ensures.stored c.store_word.ensures.other_words;
+  kept = subst IsKept (sym c.set_word.ensures.others) (kept_stored (paged c.args.self.now) (shown c.set_word.new.self).words c.args.at c.args.value c.args.at c.args.self.now.kept c.requires refl
+      c.set_word.ensures.size c.set_word.ensures.set c.set_word.ensures.walks c.set_word.ensures.tree c.set_word.ensures.stored c.set_word.ensures.other_words);
 }
 
 pub returns-clause-still : goal.returns-clause-still
-returns-clause-still c = still_stored (paged c.args.self.now) c.store_word.new.frames c.args.at c.args.value c.new.result c.args.self.now.kept c.requires c.new.ensures
-    c.store_word.ensures.size c.store_word.ensures.word c.store_word.ensures.walks c.store_word.ensures.tree c.store_word.ensures.stored c.store_word.ensures.other_words
+returns-clause-still c = subst (IsStill (paged c.args.self.now)) (sym c.set_word.ensures.others) (still_stored (paged c.args.self.now) (shown c.set_word.new.self).words c.args.at c.args.value c.args.at c.args.self.now.kept c.requires refl
+    c.set_word.ensures.size c.set_word.ensures.set c.set_word.ensures.walks c.set_word.ensures.tree c.set_word.ensures.stored c.set_word.ensures.other_words)
 
 pub returns-clause-stored : goal.returns-clause-stored
-returns-clause-stored c = is_stored (paged c.args.self.now) c.store_word.new.frames c.args.at c.args.value c.new.result c.args.self.now.kept c.requires c.new.ensures
-    c.store_word.ensures.size c.store_word.ensures.word c.store_word.ensures.walks c.store_word.ensures.tree c.store_word.ensures.stored c.store_word.ensures.other_words
-
-pub new-requires : goal.new-requires
-new-requires c = granted_canonical (paged c.args.self.now) c.args.at c.args.self.now.kept c.requires.granted
-
-pub store_word-requires-clause-mapped : goal.store_word-requires-clause-mapped
-store_word-requires-clause-mapped c = granted_mapped (paged c.args.self.now) c.args.at c.new.result c.args.self.now.kept c.requires.granted c.new.ensures
+returns-clause-stored c = subst (λ (p : Paged). IsStored (grants_of (paged c.args.self.now)) (word_reached (paged c.args.self.now)) c.args.at c.args.value (word_reached p)) (sym c.set_word.ensures.others)
+    (is_stored (paged c.args.self.now) (shown c.set_word.new.self).words c.args.at c.args.value c.args.at c.args.self.now.kept c.requires refl
+    c.set_word.ensures.size c.set_word.ensures.set c.set_word.ensures.walks c.set_word.ensures.tree c.set_word.ensures.stored c.set_word.ensures.other_words)
