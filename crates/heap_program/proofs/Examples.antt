@@ -1,5 +1,5 @@
 -- Worked values: the definitions computed on short inputs.
-use Rattle.std.proofs.Common.{◌≡◌, ◌^◌, ◌-◌, true, false, [], ◌∷◌, codes, refl, Some, None}
+use Rattle.std.proofs.Common.{◌≡◌, ◌^◌, ◌-◌, ℕ, true, false, [], ◌∷◌, ◌++◌, map, codes, refl, Some, None, lit<, lit≤}
 use Rattle.dlmalloc_chunks.specs.declared.extent.Kind.TheVariants.{Used, Free as Binned, Victim, Top, Record, Foot}
 use Rattle.heap_model.specs.declared.call.Call.TheVariants.{Malloc, Calloc, Realloc, CRealloc, Free, Write, Read, Extents}
 use Rattle.heap_model.specs.declared.answer.Reply.TheVariants.{Block, Bytes, Extents as Listed, Refused}
@@ -9,11 +9,14 @@ use Rattle.hex.proofs.OnLiterals.{hex_on_literals}
 use Rattle.heap_model.specs.Room.{heap_region}
 use Rattle.heap_model.specs.State.{start}
 use Rattle.heap_program.specs.Grammar.{item_of}
-use Rattle.heap_program.specs.Headline.{default_config}
+use Rattle.heap_program.specs.declared.arguments.Command.TheVariants.{Run, Generate}
+use Rattle.kernel_heap.specs.Config.{IsGoodConfig}
+use Rattle.heap_program.specs.Command.{default_config, config_of, named_command}
+use Rattle.heap_program.specs.Generator.{drawn, first_state, pick, call_of_draws, drawn_call, state_after, numbers_given}
 use Rattle.heap_program.specs.Lines.{items_of, lines_of}
 use Rattle.heap_program.specs.Number.{number_of}
 use Rattle.heap_program.specs.Status.{status_text_of}
-use Rattle.heap_program.specs.Text.{text_of, region_line, end_text_of}
+use Rattle.heap_program.specs.Text.{text_of, region_line, tally_line, end_text_of}
 use Rattle.heap_program.specs.Words.{words_of}
 
 -- numbers
@@ -98,9 +101,80 @@ text-user_region : region_line (record { start = 0x410000; pages = 1; heap = fal
 unfolding digits
 text-user_region = refl
 
+text-tally : tally_line 10000 3794 2241 ≡ codes "calls 10000 blocks 3794 refused 2241\n"
+unfolding digits
+text-tally = refl
+
 text-start : end_text_of (start default_config) ≡ codes "frames 1023 tables 1\n"
 unfolding end_text_of digits
 text-start = refl
+
+-- commands
+
+command-run : named_command (codes "run" ∷ []) ≡ Some (Run default_config)
+command-run = refl
+
+command-numbers : named_command (codes "run" ∷ codes "0x400000" ∷ codes "16" ∷ codes "65536" ∷ codes "4294967295" ∷ codes "0" ∷ []) ≡ Some (Run (record { base = 0x400000; pages = 16; granularity = 65536; frames = 4294967295; rate = 0 }))
+command-numbers = refl
+
+command-frames : config_of (codes "0x400000" ∷ codes "16" ∷ codes "65536" ∷ codes "4294967296" ∷ codes "0" ∷ []) ≡ None
+command-frames = refl
+
+command-four_numbers : config_of (codes "0x400000" ∷ codes "16" ∷ codes "65536" ∷ codes "1024" ∷ []) ≡ None
+command-four_numbers = refl
+
+command-no_number : config_of (codes "0x400000" ∷ codes "16" ∷ codes "65536" ∷ codes "1024" ∷ codes "-1" ∷ []) ≡ None
+command-no_number = refl
+
+command-gen : named_command (codes "gen" ∷ codes "0x7" ∷ codes "1000000" ∷ []) ≡ Some (Generate 7 1000000 default_config)
+command-gen = refl
+
+command-too_many : named_command (codes "gen" ∷ codes "7" ∷ codes "1000001" ∷ []) ≡ None
+command-too_many = refl
+
+command-no_count : named_command (codes "gen" ∷ codes "7" ∷ []) ≡ None
+command-no_count = refl
+
+-- a machine can be made from the default configuration
+command-default : IsGoodConfig default_config
+command-default = record {
+  window = record { whole = refl; canonical = record { some = lit< tt; canonical = refl; one_half = refl }; after_first = lit≤ tt; before_last = lit≤ tt };
+  granularity = ((16, refl), lit≤ tt);
+  frames = lit< tt;
+}
+
+-- drawn calls
+
+drawn-seed_1 : drawn (first_state 1) ≡ 0x40822041
+unfolding drawn
+drawn-seed_1 = refl
+
+drawn-seed_0 : first_state 0 ≡ 1
+drawn-seed_0 = refl
+
+drawn-first : drawn_call 1 0 ≡ Malloc 1089 512
+unfolding drawn_call call_of_draws drawn
+drawn-first = refl
+
+drawn-state : state_after 1 ≡ 0x9b1e842f6e862629
+unfolding state_after drawn
+drawn-state = refl
+
+drawn-kinds : map (λ (a : ℕ). call_of_draws 100 a 5000 0x509) (8 ∷ 1 ∷ 2 ∷ 3 ∷ 4 ∷ 5 ∷ 6 ∷ 15 ∷ []) ≡ Malloc 904 16 ∷ Malloc 904 512 ∷ Calloc 904 16 ∷ Realloc 94 904 ∷ Write 94 0 (136 ∷ []) ∷ Free 94 ∷ Free 94 ∷ Free 94 ∷ []
+unfolding call_of_draws
+drawn-kinds = refl
+
+drawn-no_block : map (λ (a : ℕ). call_of_draws 0 a 5000 0x509) (2 ∷ 3 ∷ 7 ∷ []) ≡ Calloc 904 16 ∷ Malloc 904 16 ∷ Malloc 904 16 ∷ []
+unfolding call_of_draws
+drawn-no_block = refl
+
+-- the last number that was given, the 64th before it, and the first of two
+drawn-picks : map (λ (given : ℕ). pick given 0x3fff) (100 ∷ 64 ∷ 2 ∷ 1 ∷ []) ++ pick 100 0x4000 ∷ [] ≡ 36 ∷ 0 ∷ 0 ∷ 0 ∷ 99 ∷ []
+drawn-picks = refl
+
+-- a block that got another size has its number already
+drawn-numbers : numbers_given (Malloc 8 16) (Block 0 0x400010) ∷ numbers_given (Calloc 8 16) (Block 1 0x400030) ∷ numbers_given (Realloc 0 9) (Block 0 0x400010) ∷ numbers_given (Malloc 8 16) (Refused NoFrames) ∷ [] ≡ 1 ∷ 1 ∷ 0 ∷ 0 ∷ []
+drawn-numbers = refl
 
 -- statuses
 

@@ -1,5 +1,5 @@
 pub mod Commands
-pub mod Defaults
+pub mod Draws
 pub mod Endings
 pub mod Errors
 mod Examples
@@ -7,6 +7,7 @@ pub mod Fits
 pub mod Known
 pub mod LineLemmas
 pub mod Numerals
+pub mod Powers
 pub mod Runs
 pub mod Sessions
 pub mod Spellings

@@ -2,9 +2,6 @@
 use Rattle.std.proofs.Common.{◌≡◌, ℕ, List, [], ◌++◌, string_bytes, sym, subst, ◌∙◌, ap, append_assoc}
 use Rattle.std.proofs.lemmas.List.{append-nil}
 use Rattle.heap_model.specs.State.{State}
-use Rattle.heap_model.specs.Run.{IsGood}
-use Rattle.heap_model.specs.Machine.{Stands}
-use Rattle.kernel_heap.specs.Machine.{seen}
 use Rattle.kernel_heap.specs.declared.machine.Machine.{Machine}
 use Rattle.heap_program.specs.declared.session.Session.{Session}
 use Rattle.heap_program.specs.Advanced.{Advanced}
@@ -12,8 +9,8 @@ use Rattle.heap_program.specs.Progress.{IsAt}
 use Rattle.heap_program.proofs.Runs.{answered_none, answered_more}
 
 -- a session with a machine that stands for a good state
-pub begun : (s : State) (session : Session) (machine : Machine) → session.machine ≡ machine → IsGood s → Stands (seen machine) s → IsAt session.machine s
-begun s session machine is good stands = subst (λ (m : Machine). IsAt m s) (sym is) (record { good = good; stands = stands })
+pub begun : (s : State) (session : Session) (machine : Machine) → session.machine ≡ machine → IsAt machine s → IsAt session.machine s
+begun s session machine is at = subst (λ (m : Machine). IsAt m s) (sym is) at
 
 pub advanced_none : (s : State) (session : Session) → IsAt session.machine s → Advanced s session session []
 advanced_none s session at = record { state = s; told = []; at = at; output = sym (append-nil (string_bytes session.output)); answered = answered_none s session.line }

@@ -4,7 +4,6 @@ use Rattle.std.specs.Io.KnownBytes.{Appends, Consumes}
 use Rattle.std.specs.List.{AllByRecursion}
 use Rattle.heap_model.specs.declared.answer.Answer.{Answer}
 use Rattle.heap_model.specs.declared.call.Call.{Call}
-use Rattle.heap_model.specs.declared.config.Config.{Config}
 use Rattle.heap_model.specs.State.{State}
 use Rattle.heap_model.specs.Run.{IsGood, RunsTo}
 use Rattle.heap_model.specs.Machine.{Stands}
@@ -15,10 +14,6 @@ use Rattle.heap_program.specs.Lines.{items_of}
 use Rattle.heap_program.specs.Progress.{texts_of}
 use Rattle.heap_program.specs.Spelling.{AnswerFits}
 use Rattle.heap_program.specs.Text.{end_text_of}
-
--- the configuration of the command `run`
-abbrev pub default_config : Config
-default_config = record { base = 0x400000; pages = 1024; granularity = 65536; frames = 1024; rate = 4095 }
 
 -- the input is all that the source had, and none of it is left; nothing is said of a source that tells no bytes
 abbrev pub IsReadWhole : Option (List ℕ) → Option (List ℕ) → List ℕ → Type 0

@@ -1,6 +1,10 @@
 pub mod Advanced
+pub mod Command
+pub mod Drawing
 pub mod Faults
 pub mod Flushed
+pub mod Generated
+pub mod Generator
 pub mod Grammar
 pub mod Headline
 pub mod Lines

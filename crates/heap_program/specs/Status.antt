@@ -1,10 +1,23 @@
--- The words of a command, and the statuses.
-use Rattle.std.specs.Prelude.{◌≡◌, ℕ, List, [], ◌∷◌, map, codes, String, string_bytes, slice_index_or}
-use Rattle.std.specs.declared.alloc.Global.{Global}
+-- The statuses.
+use Rattle.std.specs.Prelude.{◌≡◌, ◌≤◌, ◌⊎◌, ◌↔◌, ℕ, List, [], ◌∷◌, codes, slice_index_or}
+use Rattle.heap_model.specs.declared.config.Config.{Config}
+use Rattle.kernel_heap.specs.Config.{IsGoodConfig, IsRefused}
+use Rattle.kernel_heap.specs.declared.run_error.RunError.{RunError}
+use Rattle.kernel_heap.specs.declared.run_error.RunError.TheVariants.{BadWindow, BadGranularity, TooFewFrames, OutOfMemory}
 
--- the single word `run`
-abbrev pub IsRunCommand : List (String Global) → Type 0
-IsRunCommand words = map string_bytes words ≡ codes "run" ∷ []
+-- the status where no machine was made
+abbrev pub refusal_status : RunError → ℕ
+refusal_status BadWindow = 2
+refusal_status BadGranularity = 3
+refusal_status TooFewFrames = 4
+refusal_status OutOfMemory = 5
+
+-- statuses 2 to 4 come exactly where no machine can be made from the configuration, and tell why
+pub record TellsRefusal (config : Config) (status : ℕ) : Type 0 where
+  pub window : status ≡ 2 ↔ IsRefused config BadWindow
+  pub granularity : status ≡ 3 ↔ IsRefused config BadGranularity
+  pub frames : status ≡ 4 ↔ IsRefused config TooFewFrames
+  pub good : (status ≡ 0) ⊎ (5 ≤ status) → IsGoodConfig config
 
 -- the texts of the statuses from 0 on
 abbrev pub status_texts : List (List ℕ)

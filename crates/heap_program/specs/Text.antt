@@ -103,6 +103,10 @@ region_line region = codes "region " ++ (pages_text region ++ (codes " " ++ (own
 abbrev pub counts_line : ℕ → ℕ → List ℕ
 counts_line frames tables = codes "frames " ++ (decimal frames ++ (codes " tables " ++ (decimal tables ++ codes "\n")))
 
+-- how many calls were drawn, how many numbers were given and how many calls were refused
+abbrev pub tally_line : ℕ → ℕ → ℕ → List ℕ
+tally_line calls blocks refused = codes "calls " ++ (decimal calls ++ (codes " blocks " ++ (decimal blocks ++ (codes " refused " ++ (decimal refused ++ codes "\n")))))
+
 -- the text at the end: all regions by address, the free frames, and the tables with the root
 unfoldable pub end_text_of : State → List ℕ
 end_text_of s = flat_map region_line (all_regions s) ++ counts_line (free_frames s) (1 + length s.tables)

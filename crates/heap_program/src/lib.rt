@@ -1,7 +1,11 @@
 //! Lines in, text out: the program over the machine.
 #![tactic(auto)]
 
+mod arguments;
 mod command;
+mod ended;
+mod generate;
+mod generator;
 mod grammar;
 mod laws;
 mod line;
@@ -14,7 +18,9 @@ mod source;
 mod text;
 mod words;
 
-pub use command::{Ended, heap_main, status_text};
+pub use command::heap_main;
+pub use ended::{Ended, status_text};
+pub use generator::next_call;
 pub use grammar::parse_call;
 pub use laws::one_spelling;
 pub use memory::{MemorySink, MemorySource};

@@ -1,8 +1,7 @@
 // A whole run, from the source to the sink.
 ghost use Rattle.std.specs.Prelude.{◌≡◌, ◌≤◌, ◌<◌, ◌^◌, ◌+◌, ◌⊎◌, ◌↔◌, [], ℕ, length, take, unwrap_or, string_bytes, IfSome, IfOk, IfErr, OnOk, OnErr, IsErrOf};
 ghost use Rattle.std.specs.Io.KnownBytes.{Appends, IsAtEnd};
-ghost use Rattle.heap_model.specs.State.{State, start};
-ghost use Rattle.kernel_heap.specs.Config.{IsGoodConfig};
+ghost use Rattle.heap_model.specs.State.{State};
 ghost use Rattle.heap_program.specs.Faults.{HasRisen};
 ghost use Rattle.heap_program.specs.Flushed.{IsAllFlushed, IsUpToDate};
 ghost use Rattle.heap_program.specs.Progress.{IsAt};
@@ -13,7 +12,7 @@ ghost use Rattle.heap_program.specs.declared.run.Stop.TheVariants.{Memory, ReadF
 use crate::session::Session;
 use crate::sink::{Sink, SinkFault};
 use crate::source::{Failed, Source};
-use kernel_heap::{Config, Machine};
+use kernel_heap::Machine;
 use std::alloc::{AllocError, Global};
 
 /// The greatest number of bytes that a run takes.
@@ -77,7 +76,7 @@ fn write_all<K: Sink>(sink: &mut K, bytes: &[u8]) -> Result<(), SinkFault>
 }
 
 // Writes the text that waits, and flushes it, so that whoever waits for it sees it.
-fn write_out<K: Sink>(output: &mut String, sink: &mut K) -> Result<(), Stop>
+pub fn write_out<K: Sink>(output: &mut String, sink: &mut K) -> Result<(), Stop>
     ensures ok { OnOk result (Appends (K.taken sink.old) (K.taken sink.new) (string_bytes output.old)) }
     ensures emptied { OnOk result (string_bytes output.new ≡ []) }
     ensures flushed { OnOk result (IsAllFlushed (K.taken sink.new) (K.flushed sink.new)) }
@@ -146,30 +145,28 @@ fn close<K: Sink>(session: &mut Session, sink: &mut K) -> Result<(), Stop>
     write_out(&mut session.output, sink)
 }
 
-/// Runs a new machine over the source.
+/// Runs a machine to which no call came yet over the source, and answers the machine as it is then.
 pub fn run<S: Source, K: Sink>(
     alloc: Global,
-    config: &Config,
+    machine: Machine,
     source: &mut S,
     sink: &mut K,
 ) -> Result<Machine, Stop>
-    requires { IsGoodConfig config.now }
-    ensures answered { IfOk result (λ machine.
-        IsAnswered (start config.now) (S.left source.old) (S.left source.new) (K.taken sink.old) (K.taken sink.new) (K.flushed sink.new) machine) }
-    ensures stopped { OnErr result (IsStopped (start config.now) (S.left source.old) (S.left source.new) (K.taken sink.old) (K.taken sink.new)) }
-    ensures too_long { IfSome (S.left source.old) (λ input.
+    ensures answered { IfOk result (λ last. (s : State) → IsAt machine s → s.blocks ≡ [] →
+        IsAnswered s (S.left source.old) (S.left source.new) (K.taken sink.old) (K.taken sink.new) (K.flushed sink.new) last) }
+    ensures stopped { OnErr result ((s : State) → IsAt machine s →
+        IsStopped s (S.left source.old) (S.left source.new) (K.taken sink.old) (K.taken sink.new)) }
+    ensures too_long { (s : State) → IsAt machine s → IfSome (S.left source.old) (λ input.
         IsErrOf result TooLong ↔ (2 ^ 30 + length (unwrap_or (S.left source.new) []) < length input)) }
     ensures read_cause { IsErrOf result ReadFault → HasRisen (S.faults source.old) (S.faults source.new) }
     ensures write_cause { IsErrOf result WriteFault → HasRisen (K.faults sink.old) (K.faults sink.new) }
     ensures flushed_fault { IsErrOf result ReadFault → IsUpToDate K.taken K.flushed sink.old sink.new }
     ensures flushed_long { IsErrOf result TooLong → IsUpToDate K.taken K.flushed sink.old sink.new }
-    ensures at_fault { IsErrOf result ReadFault → IsInterrupted (start config.now) 0 (S.left source.old) (S.left source.new) (K.taken sink.old) (K.taken sink.new) }
-    ensures at_length { IsErrOf result TooLong → IsInterrupted (start config.now) 4096 (S.left source.old) (S.left source.new) (K.taken sink.old) (K.taken sink.new) }
+    ensures at_fault { IsErrOf result ReadFault → (s : State) → IsAt machine s →
+        IsInterrupted s 0 (S.left source.old) (S.left source.new) (K.taken sink.old) (K.taken sink.new) }
+    ensures at_length { IsErrOf result TooLong → (s : State) → IsAt machine s →
+        IsInterrupted s 4096 (S.left source.old) (S.left source.new) (K.taken sink.old) (K.taken sink.new) }
 {
-    // Of a good configuration memory alone can be wanting.
-    let Ok(machine) = Machine::new(alloc, config) else {
-        return Err(Stop::Memory);
-    };
     let mut session = Session::new(alloc, machine);
     read_all(&mut session, source, sink)?;
     close(&mut session, sink)?;

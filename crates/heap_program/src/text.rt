@@ -4,7 +4,7 @@ ghost use Rattle.std.specs.List.{flat_map};
 ghost use Rattle.heap_model.specs.State.{State};
 ghost use Rattle.heap_model.specs.Machine.{Stands};
 ghost use Rattle.kernel_heap.specs.Machine.{seen};
-ghost use Rattle.heap_program.specs.Text.{text_of, reply_text, bytes_text, refusal_word, span_text, spaced, kind_word, extent_text, pages_text, regions_text, heap_line, right_text, rights_text, owner_text, region_line, counts_line, end_text_of};
+ghost use Rattle.heap_program.specs.Text.{text_of, reply_text, bytes_text, refusal_word, span_text, spaced, kind_word, extent_text, pages_text, regions_text, heap_line, right_text, rights_text, owner_text, region_line, counts_line, tally_line, end_text_of};
 
 use kernel_heap::{
     Answer, Bytes, Extent, Kind, Machine, Refusal, Region, RegionList, Reply, Rights,
@@ -194,6 +194,13 @@ fn push_counts(out: &mut String, frames: u64, tables: u64) -> Result<(), AllocEr
     ensures { OnOk result (string_bytes out.new ≡ string_bytes out.old ++ counts_line frames tables) }
 {
     writeln!(out, "frames {frames} tables {tables}")
+}
+
+/// Puts what came of the calls that were drawn at the end.
+pub fn push_tally(out: &mut String, calls: u64, blocks: u64, refused: u64) -> Result<(), AllocError>
+    ensures { OnOk result (string_bytes out.new ≡ string_bytes out.old ++ tally_line calls blocks refused) }
+{
+    writeln!(out, "calls {calls} blocks {blocks} refused {refused}")
 }
 
 /// Puts the end text of a machine at the end.

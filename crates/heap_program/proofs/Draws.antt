@@ -1,0 +1,124 @@
+-- Calls that are drawn, one after another.
+use Rattle.std.proofs.Common.{◌≡◌, ℕ, ◌+◌, List, [], ◌∷◌, ◌++◌, length, map, Option, Some, refl, sym, ◌∙◌, ap, subst, append_assoc, length-append, arith, take, drop, take-append-drop, inl, inr}
+use Rattle.std.proofs.lemmas.List.{append-nil}
+use Rattle.std.specs.Io.KnownBytes.{Appends}
+use Rattle.heap_model.specs.declared.answer.Answer.{Answer}
+use Rattle.heap_model.specs.declared.call.Call.{Call}
+use Rattle.heap_model.specs.State.{State}
+use Rattle.heap_model.specs.Run.{RunsTo}
+use Rattle.heap_model.proofs.Runs.{runs_none, run_on}
+use Rattle.heap_program.specs.declared.generate.Drawing.{Drawing}
+use Rattle.heap_program.specs.Drawing.{HasDrawnOne, HasDrawn}
+use Rattle.heap_program.specs.Flushed.{IsAllFlushed}
+use Rattle.heap_program.specs.Generated.{AreDrawn, generated_text, IsGenerated, IsGenerationStopped}
+use Rattle.heap_program.specs.Generator.{first_state, drawn_call, refusals, drawn_calls, blocks_given, refused_count}
+use Rattle.heap_program.specs.Progress.{IsAt}
+use Rattle.heap_program.specs.Text.{tally_line, end_text_of}
+use Rattle.heap_program.proofs.Known.{appends_nothing}
+
+refused-append : (xs : List Answer) (y : Answer) → refused_count (xs ++ y ∷ []) ≡ refused_count xs + refusals y.reply
+refused-append [] y = omega arith
+refused-append (x ∷ xs) y = let more = refused-append xs y in omega (arith, more)
+
+some-append : (xs : List Call) (y : Call) → map Some (xs ++ y ∷ []) ≡ map Some xs ++ Some y ∷ []
+some-append [] y = refl
+some-append (x ∷ xs) y = ap (λ (l : List (Option Call)). Some x ∷ l) (some-append xs y)
+
+answers-append : (xs : List Answer) (y : Answer) → map Some (xs ++ y ∷ []) ≡ map Some xs ++ Some y ∷ []
+answers-append [] y = refl
+answers-append (x ∷ xs) y = ap (λ (l : List (Option Answer)). Some x ∷ l) (answers-append xs y)
+
+-- no call
+pub drawn_none : (s : State) (drawing : Drawing) → IsAt drawing.machine s → HasDrawn s drawing drawing 0
+drawn_none s drawing at = record {
+  more = [];
+  answers = sym (append-nil drawing.answers);
+  counted = refl;
+  calls = λ rest. refl;
+  given = λ rest. refl;
+  refused = omega arith;
+  state = s;
+  run = runs_none s;
+  at = at;
+}
+
+-- some calls, and one more
+pub drawn_more : (s : State) (old mid new : Drawing) (count : ℕ) (h : HasDrawn s old mid count) → HasDrawnOne h.state mid new → HasDrawn s old new (count + 1)
+drawn_more s old mid new count h k =
+    let call = drawn_call mid.state mid.given in
+    let before = drawn_calls old.state old.given h.more in
+    let last : List Answer = k.answer ∷ [] in
+    let one : drawn_calls old.state old.given (h.more ++ last) ≡ before ++ call ∷ [] = h.calls last in
+    record {
+      more = h.more ++ last;
+      answers = k.answers ∙ ap (λ (l : List Answer). l ++ last) h.answers ∙ append_assoc old.answers h.more last;
+      counted = let len = length-append h.more last in let counted = h.counted in omega (arith, len, counted);
+      calls = λ rest.
+          ap (drawn_calls old.state old.given) (append_assoc h.more last rest)
+          ∙ h.calls (k.answer ∷ rest)
+          ∙ (λ i. before ++ call ∷ drawn_calls (sym k.next i) (sym k.given i) rest)
+          ∙ sym (append_assoc before (call ∷ []) (drawn_calls new.state new.given rest))
+          ∙ ap (λ (l : List Call). l ++ drawn_calls new.state new.given rest) (sym one);
+      given = λ rest.
+          ap (blocks_given old.state old.given) (append_assoc h.more last rest)
+          ∙ h.given (k.answer ∷ rest)
+          ∙ (λ i. blocks_given (sym k.next i) (sym k.given i) rest);
+      refused = let sum = refused-append h.more k.answer in let first = h.refused in let then = k.refused in omega (arith, sum, first, then);
+      state = k.state;
+      run = subst (λ (calls : List (Option Call)). RunsTo s calls (map Some (h.more ++ last)) k.state) (sym (ap (map Some) one ∙ some-append before call))
+          (subst (λ (answers : List (Option Answer)). RunsTo s (map Some before ++ Some call ∷ []) answers k.state) (sym (answers-append h.more k.answer))
+          (run_on s h.state k.state (map Some before) (Some call ∷ []) (map Some h.more) (Some k.answer ∷ []) h.run k.run));
+      at = k.at;
+    }
+
+-- what stands once all calls came
+pub record IsWhole (s : State) (seed count : ℕ) (drawing : Drawing) : Type 0 where
+  pub state : State
+  pub counted : length drawing.answers ≡ count
+  pub drawn : AreDrawn s seed drawing.answers state
+  pub tally : tally_line count drawing.given drawing.refused ≡ tally_line (length drawing.answers) (blocks_given (first_state seed) 0 drawing.answers) (refused_count drawing.answers)
+  pub at : IsAt drawing.machine state
+
+pub all_drawn : (s : State) (seed count : ℕ) (old new : Drawing) → old.answers ≡ [] → old.state ≡ first_state seed → old.given ≡ 0 → old.refused ≡ 0 → HasDrawn s old new count → IsWhole s seed count new
+all_drawn s seed count old new none first zero unrefused h =
+    let all : new.answers ≡ h.more = h.answers ∙ ap (λ (l : List Answer). l ++ h.more) none in
+    let counted : length new.answers ≡ count = ap (λ (l : List Answer). length l) all ∙ h.counted in
+    let calls : drawn_calls old.state old.given h.more ≡ drawn_calls (first_state seed) 0 new.answers = (λ i. drawn_calls (first i) (zero i) (sym all i)) in
+    let given : new.given ≡ blocks_given (first_state seed) 0 new.answers = sym (h.given []) ∙ (λ i. blocks_given (first i) (zero i) ((append-nil h.more ∙ sym all) i)) in
+    let refused : new.refused ≡ refused_count new.answers = (let same = ap refused_count all in let more = h.refused in omega (arith, same, more, unrefused)) in
+    record {
+      state = h.state;
+      counted = counted;
+      drawn = subst (λ (c : List Call). RunsTo s (map Some c) (map Some new.answers) h.state) calls (subst (λ (a : List Answer). RunsTo s (map Some (drawn_calls old.state old.given h.more)) (map Some a) h.state) (sym all) h.run);
+      tally = λ i. tally_line (sym counted i) (given i) (refused i);
+      at = h.at;
+    }
+
+-- the counts, and the end text behind them
+pub whole_text : (s : State) (seed count : ℕ) (drawing : Drawing) (w : IsWhole s seed count drawing) (empty told out : List ℕ) → empty ≡ [] → told ≡ empty ++ tally_line count drawing.given drawing.refused → out ≡ told ++ end_text_of w.state → out ≡ generated_text seed drawing.answers w.state
+whole_text s seed count drawing w empty told out none counts end =
+    end ∙ ap (λ (text : List ℕ). text ++ end_text_of w.state) (counts ∙ ap (λ (text : List ℕ). text ++ tally_line count drawing.given drawing.refused) none ∙ w.tally)
+
+-- nothing was written
+pub none_generated : (s : State) (seed count : ℕ) (taken : Option (List ℕ)) → IsGenerationStopped s seed count taken taken
+none_generated s seed count taken = record { text = []; written = appends_nothing taken; front = inl refl }
+
+-- a front of the text was written
+pub part_generated : (s : State) (seed count : ℕ) (drawing : Drawing) (w : IsWhole s seed count drawing) (out : List ℕ) (before after : Option (List ℕ)) (n : ℕ) → out ≡ generated_text seed drawing.answers w.state → Appends before after (take n out) → IsGenerationStopped s seed count before after
+part_generated s seed count drawing w out before after n is written = record {
+  text = take n out;
+  written = written;
+  front = inr (record { answers = drawing.answers; state = w.state; counted = w.counted; drawn = w.drawn; more = drop n out; front = take-append-drop n out ∙ is });
+}
+
+-- all of it was
+pub all_generated : (s : State) (seed count : ℕ) (drawing : Drawing) (w : IsWhole s seed count drawing) (out : List ℕ) (before after : Option (List ℕ)) (flushed : Option ℕ) → out ≡ generated_text seed drawing.answers w.state → Appends before after out → IsAllFlushed after flushed → IsGenerated s seed count before after flushed drawing.answers drawing.machine
+all_generated s seed count drawing w out before after flushed is written all = record {
+  state = w.state;
+  counted = w.counted;
+  drawn = w.drawn;
+  written = subst (Appends before after) is written;
+  flushed_all = all;
+  good = w.at.good;
+  stands = w.at.stands;
+}
