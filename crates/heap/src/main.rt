@@ -16,8 +16,17 @@ heap 0.1.0: a kernel heap over four-level page tables in a modelled memory
 Usage: heap COMMAND
 
 Commands:
-  run          answers each line of standard input on standard output, then
-               prints the regions, the free frames and the page tables
+  run [BASE PAGES GRANULARITY FRAMES RATE]
+               answers each line of standard input on standard output, then
+               prints the regions, the free frames and the page tables. The
+               heap has PAGES pages from BASE on, asks for multiples of
+               GRANULARITY bytes over FRAMES frames, and frees RATE large
+               chunks between two release passes. The default is
+               0x400000 1024 65536 1024 4095.
+  gen SEED COUNT [BASE PAGES GRANULARITY FRAMES RATE]
+               draws COUNT calls from SEED, at most 1000000, in place of lines,
+               then prints how many calls there were, how many numbers they gave
+               and how many were refused, and then what `run` prints at its end
   --help       prints this text
   --version    prints the name and the version
 
@@ -46,8 +55,9 @@ A number is decimal, or 0x and hexadecimal digits, and below 2^64. Words stand
 between single spaces. Any other line, and one of more than 8192 bytes, is
 answered `bad line`.
 
-Exit status: 0 ok, 1 usage, 5 out of memory, 6 read fault, 7 write fault,
-8 input too long (more than 2^30 bytes)
+Exit status: 0 ok, 1 usage, 2 bad window, 3 bad granularity, 4 too few frames,
+5 out of memory, 6 read fault, 7 write fault, 8 input too long (more than 2^30
+bytes)
 ";
 
 /// The words behind the program's own name.
