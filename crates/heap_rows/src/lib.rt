@@ -2,7 +2,11 @@
 #![tactic(auto)]
 
 #[cfg(test)]
+mod commands;
+#[cfg(test)]
 mod error_words;
+#[cfg(test)]
+mod requests;
 #[cfg(test)]
 mod streams;
 #[cfg(test)]

@@ -40,7 +40,7 @@ pub(crate) const ROWS: [Row; 18] = [
     },
     // Two spaces, none, one at the end, a carriage return, and a word more.
     Row {
-        input: "malloc  3\nmalloc3\nmalloc 3 \nmalloc 3\r\nmalloc 3 16\n",
+        input: "malloc  3\nmalloc3\nmalloc 3 \nmalloc 3\r\nmalloc 3 16 1\n",
         output: "bad line\nbad line\nbad line\nbad line\nbad line\nframes 1023 tables 1\n",
     },
     // An empty line, another case, and a line that nothing ends.
@@ -109,7 +109,11 @@ pub(crate) fn strings(alloc: Global, words: &[&str]) -> Result<Vec<String>, Allo
 }
 
 /// Runs a command over an input in memory.
-fn outcome(alloc: Global, words: &[&str], input: &[u8]) -> Result<(Ended, SureSink), AllocError> {
+pub(crate) fn outcome(
+    alloc: Global,
+    words: &[&str],
+    input: &[u8],
+) -> Result<(Ended, SureSink), AllocError> {
     let mut source = SureSource::new(input.to_vec(alloc)?);
     let mut sink = SureSink::new(alloc);
     let ended = heap_main(alloc, &strings(alloc, words)?, &mut source, &mut sink);
@@ -181,18 +185,6 @@ fn the_longest_line_is_a_call(rt: HostRuntime) -> Result<(), Fail> {
 }
 
 #[test]
-fn other_words_are_no_command(rt: HostRuntime) -> Result<(), Fail> {
-    let commands: [&[&str]; 5] = [&[], &["Run"], &["run", "run"], &["--help"], &["run 1"]];
-    for words in commands {
-        let (ended, sink) = outcome(rt.alloc(), words, b"malloc 24\n")?;
-        assert_eq!(rt; ended.status, 1);
-        assert!(rt; ended.machine.is_none());
-        assert!(rt; sink.written().is_empty());
-    }
-    Ok(())
-}
-
-#[test]
 fn texts_are_made_alone(rt: HostRuntime) -> Result<(), Fail> {
     let Some(Call::Malloc { size, align }) = parse_call(rt.alloc(), b"malloc 0x18")? else {
         panic!(rt; "no call");
@@ -205,7 +197,8 @@ fn texts_are_made_alone(rt: HostRuntime) -> Result<(), Fail> {
     let text = text_of(rt.alloc(), &answer)?;
     assert_eq!(rt; text.as_slice(), b"refused no-frames\n".as_slice());
     let (ended, _sink) = outcome(rt.alloc(), &["run"], b"malloc 24\n")?;
-    let Some(machine) = ended.machine else {
+    let Ended { machine, .. } = ended;
+    let Some(machine) = machine else {
         panic!(rt; "no machine");
     };
     let text = end_text(rt.alloc(), &machine)?;
@@ -289,109 +282,50 @@ const DEFAULT: Config = Config {
     rate: 4095,
 };
 
-/// What `run_calls` answers to requests for blocks of these sizes in a window of so many pages, at a granularity and
-/// over so many frames, and the end text of its machine.
+/// What `run_calls` answers to requests for blocks of these sizes at a granularity, and the end text of its machine.
 struct CallsRow {
-    pages: u64,
     granularity: u64,
-    frames: u32,
     sizes: &'static [u64],
-    /// Whether the extents are asked for at the end.
-    extents: bool,
     answers: &'static str,
     end: &'static str,
 }
 
-const CALLS: [CallsRow; 8] = [
+const CALLS: [CallsRow; 4] = [
     CallsRow {
-        pages: 1024,
         granularity: 65536,
-        frames: 1024,
         sizes: &[0, 24, 25],
-        extents: false,
         answers: "block 0 0x400010\nheap 0x400000+16\nblock 1 0x400030\nblock 2 0x400050\n",
         end: "region 0x400000+16 heap\nframes 1004 tables 4\n",
     },
     CallsRow {
-        pages: 1024,
         granularity: 65536,
-        frames: 1024,
         sizes: &[],
-        extents: false,
         answers: "",
-        end: "frames 1023 tables 1\n",
-    },
-    // As many frames as one grant takes, and one frame less.
-    CallsRow {
-        pages: 1024,
-        granularity: 65536,
-        frames: 20,
-        sizes: &[1],
-        extents: false,
-        answers: "block 0 0x400010\nheap 0x400000+16\n",
-        end: "region 0x400000+16 heap\nframes 0 tables 4\n",
-    },
-    CallsRow {
-        pages: 1024,
-        granularity: 65536,
-        frames: 19,
-        sizes: &[1],
-        extents: false,
-        answers: "refused no-frames\n",
-        end: "frames 18 tables 1\n",
-    },
-    // The greatest block of a window that holds one grant, and one byte more.
-    CallsRow {
-        pages: 16,
-        granularity: 65536,
-        frames: 1024,
-        sizes: &[65432],
-        extents: true,
-        answers: "block 0 0x400010\nheap 0x400000+16\nextents used:0x400000+65440 top:0x40ffa0+16 foot:0x40ffb0+80\n",
-        end: "region 0x400000+16 heap\nframes 1004 tables 4\n",
-    },
-    CallsRow {
-        pages: 16,
-        granularity: 65536,
-        frames: 1024,
-        sizes: &[65433],
-        extents: false,
-        answers: "refused no-space\n",
         end: "frames 1023 tables 1\n",
     },
     // Grants of single pages, and of a mebibyte.
     CallsRow {
-        pages: 1024,
         granularity: 4096,
-        frames: 1024,
         sizes: &[20000, 1],
-        extents: false,
         answers: "block 0 0x400010\nheap 0x400000+5\nblock 1 0x404e40\n",
         end: "region 0x400000+5 heap\nframes 1015 tables 4\n",
     },
     CallsRow {
-        pages: 1024,
         granularity: 1 << 20,
-        frames: 1024,
         sizes: &[0],
-        extents: false,
         answers: "block 0 0x400010\nheap 0x400000+256\n",
         end: "region 0x400000+256 heap\nframes 764 tables 4\n",
     },
 ];
 
-/// Requests for blocks of these sizes, and then for the extents where these are wanted.
-fn requests(alloc: Global, sizes: &[u64], extents: bool) -> Result<CallList, AllocError>
-{
+/// Requests for blocks of these sizes.
+fn requests(alloc: Global, sizes: &[u64]) -> Result<CallList, AllocError> {
     let mut calls = CallList::new(alloc);
     for size in sizes {
         calls.push(Call::Malloc {
             size: *size,
             align: 16,
         })?;
-    }
-    if extents {
-        calls.push(Call::Extents)?;
     }
     Ok(calls)
 }
@@ -408,12 +342,10 @@ fn texts(alloc: Global, answers: &AnswerList) -> Result<Vec<u8>, AllocError> {
 fn calls_are_run_as_values(rt: HostRuntime) -> Result<(), Fail> {
     for row in &CALLS {
         let config = Config {
-            pages: row.pages,
             granularity: row.granularity,
-            frames: row.frames,
             ..DEFAULT
         };
-        let calls = requests(rt.alloc(), row.sizes, row.extents)?;
+        let calls = requests(rt.alloc(), row.sizes)?;
         let Ok(run) = run_calls(rt.alloc(), &config, &calls) else {
             panic!(rt; "no run");
         };
@@ -454,7 +386,7 @@ fn bad_configurations_are_refused(rt: HostRuntime) -> Result<(), Fail> {
             frames,
             rate: 4095,
         };
-        let calls = requests(rt.alloc(), &[1], false)?;
+        let calls = requests(rt.alloc(), &[1])?;
         let found = Machine::new(rt.alloc(), &config).err();
         assert_eq!(rt; found, Some(error));
         let found = run_calls(rt.alloc(), &config, &calls).err();

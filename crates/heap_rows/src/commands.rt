@@ -1,0 +1,242 @@
+// The words of the program: configurations, and commands that are refused.
+use crate::tests::{Row, outcome, strings};
+use heap_program::{MemorySink, MemorySource, SureSink, heap_main, status_text};
+use std::test::Fail;
+
+/// What a command prints for an input. Each run ends with status 0.
+struct Command {
+    words: &'static [&'static str],
+    row: Row,
+}
+
+const COMMANDS: [Command; 10] = [
+    // The greatest block of a window that holds one grant, and one byte more.
+    Command {
+        words: &["run", "0x400000", "16", "65536", "1024", "4095"],
+        row: Row {
+            input: "malloc 65432\nextents\n",
+            output: "block 0 0x400010\nheap 0x400000+16\nextents used:0x400000+65440 top:0x40ffa0+16 foot:0x40ffb0+80\nregion 0x400000+16 heap\nframes 1004 tables 4\n",
+        },
+    },
+    Command {
+        words: &["run", "0x400000", "16", "65536", "1024", "4095"],
+        row: Row {
+            input: "malloc 65433\n",
+            output: "refused no-space\nframes 1023 tables 1\n",
+        },
+    },
+    // As many frames as one grant takes, and one frame less.
+    Command {
+        words: &["run", "0x400000", "1024", "65536", "20", "4095"],
+        row: Row {
+            input: "malloc 1\n",
+            output: "block 0 0x400010\nheap 0x400000+16\nregion 0x400000+16 heap\nframes 0 tables 4\n",
+        },
+    },
+    Command {
+        words: &["run", "0x400000", "1024", "65536", "19", "4095"],
+        row: Row {
+            input: "malloc 1\n",
+            output: "refused no-frames\nframes 18 tables 1\n",
+        },
+    },
+    // A block of twelve mebibytes behind a free chunk.
+    Command {
+        words: &["run", "0x400000", "4096", "65536", "8192", "4095"],
+        row: Row {
+            input: "malloc 256\nmalloc 256\nfree 0\nmalloc 12582905\n",
+            output: "block 0 0x400010\nheap 0x400000+16\nblock 1 0x400120\ndone\nblock 2 0x400230\nheap 0x400000+16 0x410000+3088\nregion 0x400000+16 heap\nregion 0x410000+3088 heap\nframes 5078 tables 10\n",
+        },
+    },
+    // The default configuration in other digits, and with a rate of 0.
+    Command {
+        words: &["run", "04194304", "0x400", "0x10000", "01024", "0"],
+        row: Row {
+            input: "malloc 0\nmalloc 24\nmalloc 25\n",
+            output: "block 0 0x400010\nheap 0x400000+16\nblock 1 0x400030\nblock 2 0x400050\nregion 0x400000+16 heap\nframes 1004 tables 4\n",
+        },
+    },
+    // The least granularity: a grant is one page.
+    Command {
+        words: &["run", "0x400000", "1024", "16", "1024", "4095"],
+        row: Row {
+            input: "malloc 1\n",
+            output: "block 0 0x400010\nheap 0x400000+1\nregion 0x400000+1 heap\nframes 1019 tables 4\n",
+        },
+    },
+    // The greatest granularity, at which the greatest alignment is too large.
+    Command {
+        words: &[
+            "run",
+            "0x400000",
+            "1024",
+            "0x8000000000000000",
+            "1024",
+            "4095",
+        ],
+        row: Row {
+            input: "malloc 1 0x8000000000000000\n",
+            output: "refused too-large\nframes 1023 tables 1\n",
+        },
+    },
+    // The second page of the address space, and the last but one.
+    Command {
+        words: &["run", "0x1000", "1", "16", "1024", "4095"],
+        row: Row {
+            input: "malloc 1\n",
+            output: "block 0 0x1010\nheap 0x1000+1\nregion 0x1000+1 heap\nframes 1019 tables 4\n",
+        },
+    },
+    Command {
+        words: &["run", "0xFFFFFFFFFFFFE000", "1", "16", "1024", "4095"],
+        row: Row {
+            input: "malloc 1\n",
+            output: "block 0 0xffffffffffffe010\nheap 0xffffffffffffe000+1\nregion 0xffffffffffffe000+1 heap\nframes 1019 tables 4\n",
+        },
+    },
+];
+
+#[test]
+fn commands_have_configurations(rt: HostRuntime) -> Result<(), Fail> {
+    for command in &COMMANDS {
+        let (ended, sink) = outcome(rt.alloc(), command.words, command.row.input.as_bytes())?;
+        assert_eq!(rt; ended.status, 0);
+        assert_eq!(rt;
+            sink.written(),
+            command.row.output.as_bytes(),
+            "for {}",
+            command.row.input
+        );
+    }
+    Ok(())
+}
+
+/// Words that end before anything is read or written, and their status.
+const REFUSED: [(&'static [&'static str], u8); 28] = [
+    (&[], 1),
+    (&["Run"], 1),
+    (&["run", "run"], 1),
+    (&["--help"], 1),
+    (&["run 1"], 1),
+    (&["run", ""], 1),
+    (&["", "run"], 1),
+    // One number too few, and one too many.
+    (&["run", "0x400000", "1024", "65536", "1024"], 1),
+    (
+        &["run", "0x400000", "1024", "65536", "1024", "4095", "0"],
+        1,
+    ),
+    // A word that is no number, and 2^64.
+    (&["run", "0x400000", "1024", "65536", "1024", "-1"], 1),
+    (
+        &[
+            "run",
+            "18446744073709551616",
+            "1024",
+            "65536",
+            "1024",
+            "4095",
+        ],
+        1,
+    ),
+    // 2^32 frames.
+    (
+        &["run", "0x400000", "1024", "65536", "4294967296", "4095"],
+        1,
+    ),
+    (&["run", "0", "1", "65536", "1", "0"], 2),
+    (&["run", "0x7ffffffff000", "2", "65536", "1", "0"], 2),
+    (&["run", "0xfffffffffffff000", "1", "65536", "1", "0"], 2),
+    (&["run", "0x400000", "0", "65536", "1", "0"], 2),
+    (&["run", "0x400001", "1", "65536", "1", "0"], 2),
+    (&["run", "0x400000", "1", "8", "1", "0"], 3),
+    (&["run", "0x400000", "1", "16", "0", "0"], 4),
+    // Each cause comes before the later ones.
+    (&["run", "0", "1", "8", "0x100000000", "0"], 1),
+    (&["run", "0", "1", "8", "0", "0"], 2),
+    (&["run", "0x400000", "1", "3072", "0", "0"], 3),
+    // A drawing without a count, of one call too many, and of configurations that are refused.
+    (&["gen", "1"], 1),
+    (&["gen", "1", "1000001"], 1),
+    (&["gen", "1", "1", "0x400000", "1024"], 1),
+    (&["gen", "1", "1", "0", "1", "65536", "1", "0"], 2),
+    (&["gen", "1", "1", "0x400000", "1", "8", "1", "0"], 3),
+    (&["gen", "1", "1", "0x400000", "1", "16", "0", "0"], 4),
+];
+
+#[test]
+fn refused_words_touch_nothing(rt: HostRuntime) -> Result<(), Fail> {
+    for (words, status) in REFUSED {
+        let words = strings(rt.alloc(), words)?;
+        // The first read fails, and so does the first write.
+        let input = b"malloc 24\n".to_vec(rt.alloc())?;
+        let mut source = MemorySource::new(input, 4096, vec![in rt.alloc(); 0; 1]?);
+        let mut sink = MemorySink::new(rt.alloc(), 4096, vec![in rt.alloc(); 0; 1]?);
+        let ended = heap_main(rt.alloc(), &words, &mut source, &mut sink);
+        assert_eq!(rt; ended.status, status);
+        assert!(rt; ended.machine.is_none());
+        assert!(rt; sink.written().is_empty());
+    }
+    Ok(())
+}
+
+#[test]
+fn statuses_have_texts(rt: HostRuntime) -> Result<(), Fail> {
+    let texts = [
+        "ok",
+        "usage",
+        "bad window",
+        "bad granularity",
+        "too few frames",
+    ];
+    for status in 0..5 {
+        assert_eq!(rt; status_text(status as u8), texts[status]);
+    }
+    Ok(())
+}
+
+/// What `gen` prints where the source fails at its first read, which never comes.
+const DRAWN: [(&'static [&'static str], &'static str); 3] = [
+    (
+        &["gen", "1", "1"],
+        "calls 1 blocks 1 refused 0\nregion 0x400000+16 heap\nframes 1004 tables 4\n",
+    ),
+    // A seed of 0 counts as 1.
+    (
+        &["gen", "0", "1"],
+        "calls 1 blocks 1 refused 0\nregion 0x400000+16 heap\nframes 1004 tables 4\n",
+    ),
+    (
+        &["gen", "7", "0", "0x400000", "16", "65536", "8", "0"],
+        "calls 0 blocks 0 refused 0\nframes 7 tables 1\n",
+    ),
+];
+
+#[test]
+fn drawings_are_printed(rt: HostRuntime) -> Result<(), Fail> {
+    for (words, output) in DRAWN {
+        let mut source = MemorySource::new(Vec::new(rt.alloc()), 4096, vec![in rt.alloc(); 0; 1]?);
+        let mut sink = SureSink::new(rt.alloc());
+        let ended = heap_main(
+            rt.alloc(),
+            &strings(rt.alloc(), words)?,
+            &mut source,
+            &mut sink,
+        );
+        assert_eq!(rt; ended.status, 0);
+        assert_eq!(rt; sink.written(), output.as_bytes());
+        assert!(rt; ended.answers.is_some());
+    }
+    Ok(())
+}
+
+#[test]
+fn the_same_seed_draws_the_same(rt: HostRuntime) -> Result<(), Fail> {
+    let (first, sink) = outcome(rt.alloc(), &["gen", "7", "1000"], b"")?;
+    let (second, other) = outcome(rt.alloc(), &["gen", "7", "1000"], b"")?;
+    assert_eq!(rt; first.status, 0);
+    assert_eq!(rt; second.status, 0);
+    assert_eq!(rt; sink.written(), other.written());
+    assert!(rt; sink.written().starts_with(b"calls 1000 blocks ".as_slice()));
+    Ok(())
+}
