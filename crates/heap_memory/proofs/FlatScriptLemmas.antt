@@ -11,7 +11,7 @@ use Rattle.heap_memory.specs.declared.grant.Grant.{Grant}
 use Rattle.heap_memory.specs.declared.grant.GrantFault.TheVariants.{NoSpace}
 use Rattle.heap_memory.specs.declared.flat_script.FlatStep.{FlatStep}
 use Rattle.heap_memory.specs.declared.flat_script.FlatStep.TheVariants.{Give, Refuse}
-use Rattle.heap_memory.specs.Regions.{is_granted, is_next, with_grant, IsApart, is_whole}
+use Rattle.heap_memory.specs.Regions.{is_granted, with_grant, IsApart, is_whole}
 use Rattle.heap_memory.specs.RegionLaws.{granted_split}
 use Rattle.heap_memory.specs.Runs.{without}
 use Rattle.heap_memory.specs.FlatScript.{gives, overlaps, is_given, next_answer, is_promised}
@@ -113,10 +113,9 @@ not_given_next before left taken at is none =
     grind (arith, nat_tests, list_any-append (λ step. gives at step) before (take 1 left))
 
 -- what an answer that grants says
-pub record IsServed (before : List FlatStep) (regions : List Grant) (left : List FlatStep) (asked : ℕ) (grant : Grant) : Type 0 where
+pub record IsServed (before : List FlatStep) (left : List FlatStep) (asked : ℕ) (grant : Grant) : Type 0 where
   pub long : asked ≤ grant.size
   pub clear : list_any (λ step. overlaps grant step) before ≡ false
-  pub next : IsTrue (is_next grant regions)
   pub whole : 0 < asked → IsTrue (is_whole grant)
   pub promised : (at : ℕ) → grant.base ≤ at → at < grant.base + grant.size → IsTrue (is_promised before left at)
   pub gives : (at : ℕ) → grant.base ≤ at → at < grant.base + grant.size → IsTrue (list_any (λ step. gives at step) (before ++ take 1 left))
@@ -126,18 +125,17 @@ granted_only : (b : Bool) (give grant : Grant) → (if b then Ok give else Err N
 granted_only true give grant is = (refl, cc)
 granted_only false give grant is = absurd cc
 
-pub served : (before : List FlatStep) (regions : List Grant) (left : List FlatStep) (asked : ℕ) (grant : Grant) →
-    next_answer before regions left asked ≡ Ok grant → IsServed before regions left asked grant
-served before regions [] asked grant is = cc
-served before regions (Refuse fault ∷ left) asked grant is = cc
-served before regions (Give base size flags ∷ left) asked grant is =
+pub served : (before left : List FlatStep) (asked : ℕ) (grant : Grant) →
+    next_answer before left asked ≡ Ok grant → IsServed before left asked grant
+served before [] asked grant is = cc
+served before (Refuse fault ∷ left) asked grant is = cc
+served before (Give base size flags ∷ left) asked grant is =
     let give : Grant = record { base = base; size = size; flags = flags } in
-    let both = granted_only (is_given before regions asked give) give grant is in
+    let both = granted_only (is_given before asked give) give grant is in
     let yes = both.0 in
-    subst (λ (g : Grant). IsServed before regions (Give base size flags ∷ left) asked g) both.1 (record {
+    subst (λ (g : Grant). IsServed before (Give base size flags ∷ left) asked g) both.1 (record {
       long = grind (arith, nat_tests);
       clear = grind (arith, nat_tests);
-      next = grind (arith, nat_tests);
       whole = λ some. grind (arith, nat_tests);
       promised = λ at low high. grind (arith, nat_tests);
       gives = λ at low high. grind (arith, nat_tests, list_any-append (λ step. gives at step) before (Give base size flags ∷ []));

@@ -1,5 +1,4 @@
 mod FlatWordsLemmas
-mod RegionsLemmas
 mod FlatScriptLemmas
 mod WordRuns
 mod RunExamples

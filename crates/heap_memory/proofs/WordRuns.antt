@@ -1,9 +1,9 @@
 -- Words that are filled and copied one after the other.
-use Rattle.std.proofs.Common.{◌≡◌, ◌≢◌, ℕ, ◌+◌, ◌*◌, ◌%◌, ◌<◌, ◌≤◌, ◌⊎◌, inl, inr, List, refl, sym, ◌∙◌, ap, subst, arith}
+use Rattle.std.proofs.Common.{◌≡◌, ℕ, ◌+◌, ◌*◌, ◌<◌, ◌≤◌, ◌⊎◌, inl, inr, List, refl, sym, ◌∙◌, ap, arith}
 use native.Mathlib.Decide.{dec_lt}
 use Rattle.heap_memory.specs.declared.grant.Grant.{Grant}
 use Rattle.heap_memory.specs.Regions.{IsWordOf}
-use Rattle.heap_memory.specs.Words.{IsStored, AreWordsOf, IsBeside, AreFilled, AreCopied}
+use Rattle.heap_memory.specs.Words.{IsStored, AreWordsOf, AreFilled, AreCopied}
 
 pub word_of_run : (regions : List Grant) (at count i : ℕ) → AreWordsOf regions at count → i < count → IsWordOf regions (at + 8 * i)
 word_of_run regions at count i words less = record {

@@ -1,7 +1,6 @@
 -- The script of a flat system: what each step of it grants or denies (own).
 use Rattle.std.specs.Prelude.{ℕ, ◌+◌, ◌%◌, ◌^◌, Bool, false, not, ◌&&◌, ◌||◌, ◌==◌, nat_le, nat_lt, if◌then◌else◌, List, [], ◌∷◌, ◌++◌, Result, Ok, Err}
 use Rattle.std.specs.List.{list_any}
-use Rattle.heap_memory.specs.Regions.{is_next}
 use Rattle.heap_memory.specs.declared.grant.Grant.{Grant}
 use Rattle.heap_memory.specs.declared.grant.GrantFault.{GrantFault}
 use Rattle.heap_memory.specs.declared.grant.GrantFault.TheVariants.{NoSpace}
@@ -28,17 +27,16 @@ is_in_bounds grant =
 abbrev pub has_place : List FlatStep → Grant → Bool
 has_place before grant = is_in_bounds grant && not (list_any (λ step. overlaps grant step) before)
 
--- whether a Give is granted for so many bytes, after these steps and with these regions granted
-abbrev pub is_given : List FlatStep → List Grant → ℕ → Grant → Bool
-is_given before regions asked grant =
-    nat_le asked grant.size && has_place before grant && grant.flags == 0 && is_next grant regions
+-- whether a Give is granted for so many bytes, after these steps
+abbrev pub is_given : List FlatStep → ℕ → Grant → Bool
+is_given before asked grant = nat_le asked grant.size && has_place before grant && grant.flags == 0
 
 -- what the next of the steps that are left answers to a request for so many bytes: past the end it is no space
-abbrev pub next_answer : List FlatStep → List Grant → List FlatStep → ℕ → Result Grant GrantFault
-next_answer before regions [] asked = Err NoSpace
-next_answer before regions (Refuse fault ∷ left) asked = Err fault
-next_answer before regions (Give base size flags ∷ left) asked =
-    if is_given before regions asked (record { base = base; size = size; flags = flags })
+abbrev pub next_answer : List FlatStep → List FlatStep → ℕ → Result Grant GrantFault
+next_answer before [] asked = Err NoSpace
+next_answer before (Refuse fault ∷ left) asked = Err fault
+next_answer before (Give base size flags ∷ left) asked =
+    if is_given before asked (record { base = base; size = size; flags = flags })
     then Ok (record { base = base; size = size; flags = flags }) else Err NoSpace
 
 -- whether a step is a Give that has a place of its own after these steps, and the byte at an address

@@ -54,4 +54,4 @@ refused_none system = record { regions = refl; words = λ at. refl; kind = same_
 
 -- a request for so many bytes is denied with the fault that the next step answers
 abbrev pub DeniesNext : FlatSystem → ℕ → GrantFault → Type 0
-DeniesNext system asked fault = next_answer (taken_of system.script) (regions_of system) (left_of system.script) asked ≡ Err fault
+DeniesNext system asked fault = next_answer (taken_of system.script) (left_of system.script) asked ≡ Err fault

@@ -1,12 +1,10 @@
 -- What is granted with a further grant.
-use Rattle.std.specs.Prelude.{◌≡◌, ℕ, ◌+◌, ◌<◌, ◌≤◌, ◌⊎◌, Bool, true, false, ◌&&◌, ◌||◌, nat_le, nat_lt, if◌then◌else◌, List, [], ◌∷◌, ◌++◌, IsTrue}
+use Rattle.std.specs.Prelude.{◌≡◌, ℕ, ◌+◌, ◌<◌, ◌≤◌, ◌⊎◌, Bool, true, false, ◌&&◌, ◌||◌, nat_le, nat_lt, if◌then◌else◌, List, [], ◌∷◌, IsTrue}
 use Rattle.std.specs.List.{AllByRecursion, list_all}
-use Rattle.std.proofs.Common.{refl, sym, ap, subst, inl, inr, arith}
-use Rattle.std.proofs.lemmas.List.Folds.{list_all-append}
-use Rattle.std.proofs.lemmas.Bool.{le-ltb}
+use Rattle.std.proofs.Common.{refl, sym, subst, inl, inr, arith}
 use Rattle.std.proofs.lemmas.Bool.Decides.{nat_tests}
 use Rattle.heap_memory.specs.declared.grant.Grant.{Grant}
-use Rattle.heap_memory.specs.Regions.{is_granted, is_next, with_grant, are_ordered, IsWhole, is_whole, are_whole}
+use Rattle.heap_memory.specs.Regions.{is_granted, IsApart, with_grant, are_ordered, IsWhole, is_whole, are_whole}
 
 -- a byte is granted with a further grant where it is in the grant, or was granted
 pub granted_with : (grant : Grant) (regions : List Grant) (at : ℕ) →
@@ -29,47 +27,50 @@ granted_split grant regions at granted = split (is_granted regions at) refl
     split true was = inr was
     split false fresh = inl (grind (arith, nat_tests, granted_with grant regions at), grind (arith, nat_tests, granted_with grant regions at))
 
--- ---- a grant at the end of the regions
+-- ---- the order of the regions
 
 both_true : (a b : Bool) → IsTrue (a && b) → IsTrue a × IsTrue b
 both_true true b h = (refl, h)
 both_true false b h = absurd (cc)
 
--- the next grant begins behind each of the regions
-next_above : (grant region : Grant) (regions : List Grant) → IsTrue (are_ordered (region ∷ regions)) → IsTrue (is_next grant (region ∷ regions)) → region.base + region.size ≤ grant.base
-next_above grant region [] ordered next = grind (arith, nat_tests)
-next_above grant region (second ∷ regions) ordered next =
-    let parts = both_true (list_all (λ later. nat_le (region.base + region.size) later.base) (second ∷ regions)) (are_ordered (second ∷ regions)) ordered in
-    let first = both_true (nat_le (region.base + region.size) second.base) (list_all (λ later. nat_le (region.base + region.size) later.base) regions) parts.0 in
-    let rest = next_above grant second regions parts.1 next in
-    grind (arith, nat_tests)
-
--- so it stands behind them in the list
-pub with_next : (grant : Grant) (regions : List Grant) → IsTrue (are_ordered regions) → IsTrue (is_next grant regions) → with_grant grant regions ≡ regions ++ grant ∷ []
-with_next grant [] ordered next = refl
-with_next grant (region ∷ []) ordered next =
-    let above = next_above grant region [] ordered next in
-    rw (le-ltb grant.base region.base (omega arith)) refl
-with_next grant (region ∷ second ∷ regions) ordered next =
-    let above = next_above grant region (second ∷ regions) ordered next in
-    let parts = both_true (list_all (λ later. nat_le (region.base + region.size) later.base) (second ∷ regions)) (are_ordered (second ∷ regions)) ordered in
-    rw (le-ltb grant.base region.base (omega arith)) (ap (λ (l : List Grant). region ∷ l) (with_next grant (second ∷ regions) parts.1 next))
-
 both : {a b : Bool} → IsTrue a → IsTrue b → IsTrue (a && b)
 both {a} {b} h k = subst (λ (c : Bool). IsTrue (c && b)) (sym h) k
 
--- and the regions stay ordered with it
-ordered_next : (grant : Grant) (regions : List Grant) → IsTrue (are_ordered regions) → IsTrue (is_next grant regions) → IsTrue (are_ordered (regions ++ grant ∷ []))
-ordered_next grant [] ordered next = refl
-ordered_next grant (region ∷ []) ordered next = let above = next_above grant region [] ordered next in grind (arith, nat_tests)
-ordered_next grant (region ∷ second ∷ regions) ordered next =
-    let above = next_above grant region (second ∷ regions) ordered next in
-    let parts = both_true (list_all (λ later. nat_le (region.base + region.size) later.base) (second ∷ regions)) (are_ordered (second ∷ regions)) ordered in
-    both (subst IsTrue (sym (list_all-append (λ (later : Grant). nat_le (region.base + region.size) later.base) (second ∷ regions) (grant ∷ []))) (both parts.0 (grind (arith, nat_tests))))
-    (ordered_next grant (second ∷ regions) parts.1 next)
+-- what a test says of all regions it says of them with a further one of which it says so
+tests_with : (test : Grant → Bool) (grant : Grant) (regions : List Grant) → IsTrue (test grant) → IsTrue (list_all test regions) → IsTrue (list_all test (with_grant grant regions))
+tests_with test grant [] here all = both here refl
+tests_with test grant (region ∷ regions) here all =
+    let parts = both_true (test region) (list_all test regions) all in
+    go (nat_lt grant.base region.base) parts.0 parts.1 (tests_with test grant regions here parts.1)
+  where
+    go : (b : Bool) → IsTrue (test region) → IsTrue (list_all test regions) → IsTrue (list_all test (with_grant grant regions)) → IsTrue (list_all test (if b then grant ∷ region ∷ regions else region ∷ with_grant grant regions))
+    go true first others rest = both here (both first others)
+    go false first others rest = both first rest
 
-pub ordered_with : (grant : Grant) (regions : List Grant) → IsTrue (are_ordered regions) → IsTrue (is_next grant regions) → IsTrue (are_ordered (with_grant grant regions))
-ordered_with grant regions ordered next = subst (λ (rs : List Grant). IsTrue (are_ordered rs)) (sym (with_next grant regions ordered next)) (ordered_next grant regions ordered next)
+-- what begins behind one address begins behind each one before it
+begins_later : (low high : ℕ) (regions : List Grant) → low ≤ high → IsTrue (list_all (λ later. nat_le high later.base) regions) → IsTrue (list_all (λ later. nat_le low later.base) regions)
+begins_later low high [] below all = refl
+begins_later low high (region ∷ regions) below all =
+    let parts = both_true (nat_le high region.base) (list_all (λ later. nat_le high later.base) regions) all in
+    both (grind (arith, nat_tests)) (begins_later low high regions below parts.1)
+
+-- the regions stay ordered with a grant that is apart from them
+pub ordered_with : (grant : Grant) (regions : List Grant) → 0 < grant.size → AllByRecursion (IsApart grant.base (grant.base + grant.size)) regions → IsTrue (are_ordered regions) → IsTrue (are_ordered (with_grant grant regions))
+ordered_with grant [] some apart ordered = refl
+ordered_with grant (region ∷ regions) some apart ordered =
+    let parts = both_true (list_all (λ later. nat_le (region.base + region.size) later.base) regions) (are_ordered regions) ordered in
+    go (nat_lt grant.base region.base) refl parts.0 parts.1 (ordered_with grant regions some apart.1 parts.1)
+  where
+    go : (b : Bool) → nat_lt grant.base region.base ≡ b → IsTrue (list_all (λ later. nat_le (region.base + region.size) later.base) regions) → IsTrue (are_ordered regions) → IsTrue (are_ordered (with_grant grant regions)) →
+        IsTrue (are_ordered (if b then grant ∷ region ∷ regions else region ∷ with_grant grant regions))
+    go true before later all rest =
+        let first : grant.base < region.base = grind (arith, nat_tests) in
+        let ends : grant.base + grant.size ≤ region.base = elim (apart.0) [ inl low ↦ absurd (omega arith) | inr high ↦ omega arith ] in
+        both (both (grind (arith, nat_tests)) (begins_later (grant.base + grant.size) (region.base + region.size) regions (omega arith) later)) (both later all)
+    go false behind later all rest =
+        let second : region.base ≤ grant.base = grind (arith, nat_tests) in
+        let ends : region.base + region.size ≤ grant.base = elim (apart.0) [ inl low ↦ omega arith | inr high ↦ absurd (omega arith) ] in
+        both (tests_with (λ later. nat_le (region.base + region.size) later.base) grant regions (grind (arith, nat_tests)) later) rest
 
 -- what holds of all regions holds of them with a further one for which it holds
 pub all_with : (Is : Grant → Type 0) (grant : Grant) (regions : List Grant) → Is grant → AllByRecursion Is regions → AllByRecursion Is (with_grant grant regions)

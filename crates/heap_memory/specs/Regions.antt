@@ -44,12 +44,6 @@ is_whole region = region.base % 16 == 0 && region.size % 16 == 0 && nat_lt 0 reg
 abbrev pub are_whole : List Grant → Bool
 are_whole regions = list_all is_whole regions
 
--- whether a grant begins where the last region ends, if there is one
-abbrev pub is_next : Grant → List Grant → Bool
-is_next grant [] = true
-is_next grant (last ∷ []) = grant.base == last.base + last.size
-is_next grant (first ∷ region ∷ regions) = is_next grant (region ∷ regions)
-
 -- whether each region ends before every later one begins
 abbrev pub are_ordered : List Grant → Bool
 are_ordered [] = true

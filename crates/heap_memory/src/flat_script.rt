@@ -2,7 +2,6 @@
 ghost use Rattle.std.specs.Prelude.{◌≡◌, ◌≤◌, ◌++◌, [], take, drop, vec_len};
 ghost use Rattle.std.specs.List.{list_any};
 ghost use Rattle.heap_memory.specs.FlatScript.{overlaps, is_in_bounds, has_place, is_given};
-ghost use Rattle.heap_memory.specs.Regions.{is_next};
 
 use crate::grant::{Grant, GrantFault};
 
@@ -68,21 +67,11 @@ impl Grant {
         self.is_in_bounds() && !self.is_overlapped(before)
     }
 
-    /// Whether it begins where the last region ends, if there is one.
-    fn is_next(&self, regions: &[Grant]) -> bool
-        ensures { result ≡ is_next self.now regions.now }
+    /// Whether it is granted for so many bytes, after these steps.
+    pub(crate) fn is_given(&self, before: &[FlatStep], asked: u64) -> bool
+        ensures { result ≡ is_given before.now asked self.now }
     {
-        match regions.last() {
-            Some(last) => self.base >= last.base && self.base - last.base == last.size,
-            None => true,
-        }
-    }
-
-    /// Whether it is granted for so many bytes, after these steps and with these regions granted.
-    pub(crate) fn is_given(&self, before: &[FlatStep], regions: &[Grant], asked: u64) -> bool
-        ensures { result ≡ is_given before.now regions.now asked self.now }
-    {
-        asked <= self.size && self.has_place(before) && self.flags == 0 && self.is_next(regions)
+        asked <= self.size && self.has_place(before) && self.flags == 0
     }
 }
 

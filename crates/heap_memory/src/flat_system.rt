@@ -21,8 +21,8 @@ use step_count::Steps;
 /// stored, and are made with the system, so that no request wants memory.
 ///
 /// A Give is granted where it is as long as asked, its base and size are multiples of 16, its base is at least 4096
-/// and its end below 2^64, no byte of it is in a Give before it (granted or not), its flags are 0, and it begins where
-/// the grant before it ends. Any other Give is denied as `NoSpace`, and so is a request past the end of the script.
+/// and its end below 2^64, no byte of it is in a Give before it (granted or not), and its flags are 0. Any other Give is
+/// denied as `NoSpace`, and so is a request past the end of the script.
 #[derive(Drop)]
 pub struct FlatSystem {
     script: Script,
@@ -79,7 +79,7 @@ impl FlatSystem {
 
     /// What the next step answers to a request.
     fn answer(&self, size: u64) -> Result<Grant, GrantFault>
-        ensures { result ≡ next_answer (taken_of self.now.script) (regions_of self.now) (left_of self.now.script) size }
+        ensures { result ≡ next_answer (taken_of self.now.script) (left_of self.now.script) size }
     {
         match self.script.left().first() {
             Some(
@@ -94,7 +94,7 @@ impl FlatSystem {
                     size: given,
                     flags,
                 };
-                if grant.is_given(self.script.taken(), &self.regions, size) {
+                if grant.is_given(self.script.taken(), size) {
                     Ok(grant)
                 } else {
                     Err(GrantFault::NoSpace)
@@ -223,7 +223,7 @@ impl Memory for FlatSystem {
 impl Allocator for FlatSystem {
     ghost use Rattle.heap_memory.specs.FlatSystem.{DeniesNext, regions_of, word_of};
     ghost use Rattle.heap_memory.specs.FlatScript.{next_answer};
-    ghost use Rattle.heap_memory.specs.Regions.{IsWordOf, IsApart, IsGoodGrant, is_next};
+    ghost use Rattle.heap_memory.specs.Regions.{IsWordOf, IsApart, IsGoodGrant};
     ghost use Rattle.heap_memory.specs.FlatSystem.{IsSameKind, IsRefused, refused_none, unit_of, same_fixed};
     ghost use Rattle.heap_memory.specs.Runs.{IsRun, is_in_units};
 
@@ -249,12 +249,11 @@ impl Allocator for FlatSystem {
     fn alloc(&mut self, size: u64) -> Result<Grant, GrantFault>
         requires some { 0 < size }
         requires whole { size % 16 ≡ 0 }
-        ensures answer { result ≡ next_answer (taken_of self.old.script) (regions_of self.old) (left_of self.old.script) size }
+        ensures answer { result ≡ next_answer (taken_of self.old.script) (left_of self.old.script) size }
         ensures taken { taken_of self.new.script ≡ taken_of self.old.script ++ take 1 (left_of self.old.script) }
         ensures left { left_of self.new.script ≡ drop 1 (left_of self.old.script) }
         ensures good { IfOk result (λ grant. IsGoodGrant size grant) }
         ensures apart { IfOk result (λ grant. AllByRecursion (IsApart grant.base (grant.base + grant.size)) (regions_of self.old)) }
-        ensures next { IfOk result (λ grant. IsTrue (is_next grant (regions_of self.old))) }
         ensures flags { IfOk result (λ grant. grant.flags ≡ 0) }
         ensures regions { IfOk result (λ grant. regions_of self.new ≡ with_grant grant (regions_of self.old)) }
         ensures zeros { IfOk result (λ grant. (at : ℕ) → grant.base ≤ at → at < grant.base + grant.size → at % 8 ≡ 0 → word_of self.new at ≡ 0) }

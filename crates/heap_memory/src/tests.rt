@@ -102,9 +102,15 @@ fn each_step_is_answered(rt: HostRuntime) -> Result<(), Fail> {
         ("flags", no_space, 2, [FIRST, give(0x11000, 4096, 1), FIRST]),
         (
             "behind a gap",
-            no_space,
+            granted(0x20000, 4096),
             2,
             [FIRST, give(0x20000, 4096, 0), FIRST],
+        ),
+        (
+            "before the first",
+            granted(0xf000, 4096),
+            2,
+            [FIRST, give(0xf000, 4096, 0), FIRST],
         ),
         (
             "refused",

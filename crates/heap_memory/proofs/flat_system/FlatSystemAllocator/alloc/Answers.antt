@@ -9,8 +9,8 @@ use Rattle.heap_memory.proofs.flat_system.FlatSystemAllocator.alloc.Goals as goa
 use Rattle.heap_memory.proofs.flat_system.FlatSystemAllocator.alloc.Goals.{In_ok-grant}
 
 -- the answer is a grant, and the next step of the script gives it
-served_here : (c : In_ok-grant) → IsServed (taken_of c.args.self.now.script) c.args.self.now.regions.items (left_of c.args.self.now.script) c.args.size c.in_ok-grant.grant
-served_here c = served (taken_of c.args.self.now.script) c.args.self.now.regions.items (left_of c.args.self.now.script) c.args.size c.in_ok-grant.grant (sym c.answer-answer.ensures ∙ c.in_ok-grant.was)
+served_here : (c : In_ok-grant) → IsServed (taken_of c.args.self.now.script) (left_of c.args.self.now.script) c.args.size c.in_ok-grant.grant
+served_here c = served (taken_of c.args.self.now.script) (left_of c.args.self.now.script) c.args.size c.in_ok-grant.grant (sym c.answer-answer.ensures ∙ c.in_ok-grant.was)
 
 pub returns-clause-apart : goal.returns-clause-apart
 returns-clause-apart c =
@@ -52,7 +52,8 @@ invariant_of-self-2-clause-zero c = λ at whole held none.
 pub invariant_of-self-2-clause-ordered : goal.invariant_of-self-2-clause-ordered
 invariant_of-self-2-clause-ordered c =
     let s = served_here (goal.at.invariant_of-self-2-clause-ordered c).In_ok-grant in
-    rw c.add_region.ensures.items (ordered_with c.in_ok-grant.grant c.args.self.now.regions.items c.args.self.now.ordered s.next)
+    rw c.add_region.ensures.items (ordered_with c.in_ok-grant.grant c.args.self.now.regions.items (omega (arith, s.long))
+    (regions_apart c.in_ok-grant.grant c.args.self.now.regions.items (taken_of c.args.self.now.script) (omega (arith, s.long)) c.args.self.now.some s.clear c.args.self.now.given) c.args.self.now.ordered)
 
 pub invariant_of-self-2-clause-some : goal.invariant_of-self-2-clause-some
 invariant_of-self-2-clause-some c =
