@@ -1,8 +1,7 @@
 -- The chunks of blocks.
-use Rattle.std.proofs.Common.{◌≡◌, ℕ, ◌+◌, ◌-◌, ◌%◌, ◌<◌, ◌≤◌, ◌≢◌, ◌⊎◌, inl, inr, max, IsTrue, true, List, Some, sym, ◌∙◌, ap, subst, arith}
+use Rattle.std.proofs.Common.{◌≡◌, ℕ, ◌+◌, ◌-◌, inl, inr, true, List, Some, sym, ◌∙◌, ap, subst, arith}
 use Rattle.heap_memory.specs.declared.grant.Grant.{Grant}
 use Rattle.heap_memory.specs.Events.{Event}
-use Rattle.heap_memory.specs.Regions.{is_granted}
 use Rattle.dlmalloc_chunks.specs.declared.extent.Kind.TheVariants.{Used}
 use Rattle.dlmalloc_chunks.specs.Chunk.{HasHead}
 use Rattle.dlmalloc_chunks.specs.Head.{size_of}

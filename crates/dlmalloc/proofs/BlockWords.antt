@@ -1,11 +1,9 @@
 -- The words of a block.
-use Rattle.std.proofs.Common.{◌≡◌, ℕ, ◌+◌, ◌-◌, ◌*◌, ◌/◌, ◌%◌, ◌<◌, ◌≤◌, ◌⊎◌, inl, inr, Bool, List, [], Some, ◌∙◌, ap, arith}
+use Rattle.std.proofs.Common.{◌≡◌, ℕ, ◌+◌, ◌-◌, ◌*◌, ◌≤◌, inl, inr, Bool, List, [], Some, ◌∙◌, ap, arith}
 use Rattle.heap_memory.specs.declared.grant.Grant.{Grant}
 use Rattle.heap_memory.specs.Events.{Event}
 use Rattle.heap_memory.specs.Regions.{IsWordOf}
-use Rattle.heap_memory.specs.Words.{AreWordsOf, IsBeside, AreFilled}
-use Rattle.dlmalloc_chunks.specs.declared.extent.Extent.{Extent}
-use Rattle.dlmalloc_chunks.specs.declared.extent.Kind.TheVariants.{Used}
+use Rattle.heap_memory.specs.Words.{AreWordsOf, IsBeside}
 use Rattle.dlmalloc.specs.Extents.{extent_at}
 use Rattle.dlmalloc.specs.State.{extents_in}
 use Rattle.dlmalloc.specs.Blocks.{IsBlock, IsInside}

@@ -1,5 +1,5 @@
 -- That blocks keep their words follows from the clause on words, where both heaps are sound.
-use Rattle.std.proofs.Common.{◌≡◌, ℕ, ◌+◌, ◌/◌, ◌<◌, ◌≤◌, ◌⊎◌, inl, inr, Bool, true, false, ◌==◌, if◌then◌else◌, List, [], ◌∷◌, Option, Some, IsTrue, sym, ◌∙◌, ap, subst, arith}
+use Rattle.std.proofs.Common.{◌≡◌, ℕ, ◌+◌, ◌/◌, ◌%◌, ◌<◌, ◌≤◌, ◌⊎◌, inl, inr, Bool, true, false, ◌==◌, if◌then◌else◌, List, [], ◌∷◌, Option, Some, IsTrue, sym, ◌∙◌, ap, subst, arith}
 use Rattle.std.specs.Prelude.{unwrap_or}
 use Rattle.std.specs.List.{AllByRecursion}
 use Rattle.heap_memory.specs.declared.grant.Grant.{Grant}
@@ -10,7 +10,7 @@ use Rattle.dlmalloc_chunks.specs.declared.extent.Kind.TheVariants.{Used, Free, V
 use Rattle.dlmalloc_chunks.specs.Tiling.{extent_at}
 use Rattle.dlmalloc.specs.Extents.{is_used}
 use Rattle.dlmalloc.specs.State.{Segment, extents_in, is_plain}
-use Rattle.dlmalloc.specs.Boundaries.{OnlyBoundariesChange}
+use Rattle.dlmalloc.specs.Boundaries.{OnlyBoundariesChange, OnlyTagsChange}
 use Rattle.dlmalloc.specs.Blocks.{KeepsBlocks}
 use Rattle.dlmalloc.proofs.Places.{found_either}
 use Rattle.dlmalloc.specs.Moves.{IsSpared, AllSpare}
@@ -19,7 +19,8 @@ use Rattle.dlmalloc.specs.Heap.{segments_of, state_of, IsSound}
 use Rattle.dlmalloc.specs.declared.heap.Dlmalloc.{Dlmalloc}
 use Rattle.dlmalloc.proofs.Spared.{spared_before, spared_behind, spared_append, inner_spared}
 use Rattle.dlmalloc.proofs.Moving.{standing, half}
-use Rattle.dlmalloc.proofs.Segments.{extents_all, located, of_located}
+use Rattle.dlmalloc.proofs.Segments.{extents_all, located, of_located, in_part}
+use Rattle.dlmalloc.proofs.Apart.{beside}
 
 -- a word of a segment is at no boundary of others
 spared_beside : (regions : List Grant) (words : ℕ → ℕ) (segment : Segment) (segments : List Segment) → AreSegments regions words segments → AllByRecursion (IsApartFrom segment) segments →
@@ -71,27 +72,54 @@ no_boundary k Top at size h is = elim is [ inl a ↦ h a | inr b ↦ (let p = b.
 no_boundary k Record at size h is = elim is [ inl a ↦ h a | inr b ↦ (let p = b.0 in cc) ]
 no_boundary k Foot at size h is = elim is [ inl a ↦ h a | inr b ↦ (let p = b.0 in cc) ]
 
+-- a word of a block is in no record
+no_record : (regions : List Grant) (words : ℕ → ℕ) (segments : List Segment) → AreSegments regions words segments → AreApart segments → (block tail : Extent) → extent_at block.at (extents_all segments) ≡ Some block → block.kind ≡ Used →
+    extent_at tail.at (extents_all segments) ≡ Some tail → tail.kind ≡ Record → (k : ℕ) → block.at + 16 ≤ k → k < block.at + block.size + 8 → k % 8 ≡ 0 → tail.at < k → k < tail.at + tail.size → ⊥
+no_record regions words segments parts apart block tail there used tail_there is k low high m above below =
+    elim (beside regions words segments parts apart block tail there tail_there differ) [
+      | inl before ↦ omega (arith, before, high, m, above, whole)
+      | inr behind ↦ omega (arith, behind, low, below)
+    ]
+  where
+    differ : block.at ≡ tail.at → ⊥
+    differ same =
+        let one : Some block ≡ Some tail = sym there ∙ (ap (λ (a : ℕ). extent_at a (extents_all segments)) same ∙ tail_there) in
+        let no : Used ≡ Record = sym used ∙ (ap (λ (o : Option Extent). (unwrap_or o block).kind) one ∙ is) in
+        cc
+
+    whole : tail.at % 16 ≡ 0
+    whole =
+        let l = located tail.at tail segments tail_there in
+        let p = of_located (IsSegment regions words) tail.at tail segments l parts in
+        (in_part words Used l.segment.base l.segment.extents (l.segment.base + l.segment.size) tail p.extents l.there).stands.whole
+
 -- a block keeps its words, if it is one of the new heap
-pub kept_in : {A : Type 0} (regions : A → List Grant) (word : A → ℕ → ℕ) (old new : Dlmalloc A) → IsSound regions word new →
-    OnlyBoundariesChange (regions old.system) (state_of word new) (word old.system) (word new.system) → (block : Extent) → extent_at block.at (extents_in (state_of word new)) ≡ Some block → block.kind ≡ Used →
+kept_in_tags : {A : Type 0} (regions : A → List Grant) (word : A → ℕ → ℕ) (old new : Dlmalloc A) → IsSound regions word new →
+    OnlyTagsChange (regions old.system) (state_of word new) (word old.system) (word new.system) → (block : Extent) → extent_at block.at (extents_in (state_of word new)) ≡ Some block → block.kind ≡ Used →
     (k : ℕ) → block.at + 16 ≤ k → k < block.at + block.size + 8 → IsWordOf (regions old.system) k → word new.system k ≡ word old.system k
-kept_in regions word old new sound same block there used k low high is =
+kept_in_tags regions word old new sound same block there used k low high is =
     let spared = all_spared (regions new.system) (word new.system) (segments_of word new) sound.segments sound.apart block there used k low high in
     same k is
     (λ boundary. no_boundary k boundary.extent.kind boundary.extent.at boundary.extent.size (spared_found (extents_in (state_of word new)) k boundary.extent.at boundary.extent spared boundary.there) boundary.is)
+    (λ recorded. no_record (regions new.system) (word new.system) (segments_of word new) sound.segments sound.apart block recorded.extent there used recorded.there recorded.is k low high is.aligned recorded.low recorded.high)
 
-pub blocks_law : {A : Type 0} (regions : A → List Grant) (word : A → ℕ → ℕ) (old new : Dlmalloc A) → IsSound regions word old → IsSound regions word new →
-    OnlyBoundariesChange (regions old.system) (state_of word new) (word old.system) (word new.system) → (blocks : List Extent) →
+pub kept_in : {A : Type 0} (regions : A → List Grant) (word : A → ℕ → ℕ) (old new : Dlmalloc A) → IsSound regions word new →
+    OnlyBoundariesChange (regions old.system) (state_of word new) (word old.system) (word new.system) → (block : Extent) → extent_at block.at (extents_in (state_of word new)) ≡ Some block → block.kind ≡ Used →
+    (k : ℕ) → block.at + 16 ≤ k → k < block.at + block.size + 8 → IsWordOf (regions old.system) k → word new.system k ≡ word old.system k
+kept_in regions word old new sound same = kept_in_tags regions word old new sound (λ k inside apart recorded. same k inside apart)
+
+pub blocks_law_tags : {A : Type 0} (regions : A → List Grant) (word : A → ℕ → ℕ) (old new : Dlmalloc A) → IsSound regions word old → IsSound regions word new →
+    OnlyTagsChange (regions old.system) (state_of word new) (word old.system) (word new.system) → (blocks : List Extent) →
     ((block : Extent) → extent_at block.at blocks ≡ Some block → block.kind ≡ Used → (extent_at block.at (extents_in (state_of word old)) ≡ Some block) × (extent_at block.at (extents_in (state_of word new)) ≡ Some block)) →
     KeepsBlocks blocks (word old.system) (word new.system)
-blocks_law regions word old new sound sound' same blocks both = record {
+blocks_law_tags regions word old new sound sound' same blocks both = record {
   words = λ block there used k low high m.
       let b = both block there used in
       let l = located block.at block (segments_of word old) b.0 in
       let p = of_located (IsSegment (regions old.system) (word old.system)) block.at block (segments_of word old) l sound.segments in
       let is = standing (word old.system) Used l.segment.base l.segment.extents (l.segment.base + l.segment.size) block p.extents p.tail l.there used in
       let from = is.low in let to = is.high in
-      kept_in regions word old new sound' same block b.1 used k low high (record { granted = p.run.covered k (omega arith) (omega arith); aligned = m });
+      kept_in_tags regions word old new sound' same block b.1 used k low high (record { granted = p.run.covered k (omega arith) (omega arith); aligned = m });
   heads = λ block there used.
       let b = both block there used in
       let l = located block.at block (segments_of word old) b.0 in
@@ -103,6 +131,12 @@ blocks_law regions word old new sound sound' same blocks both = record {
       let whole = is.size_whole in
       ap (λ (w : ℕ). w / 2) was.head ∙ (half block.size was.before is.before (omega arith) ∙ ap (λ (w : ℕ). w / 2) (sym is.head));
 }
+
+pub blocks_law : {A : Type 0} (regions : A → List Grant) (word : A → ℕ → ℕ) (old new : Dlmalloc A) → IsSound regions word old → IsSound regions word new →
+    OnlyBoundariesChange (regions old.system) (state_of word new) (word old.system) (word new.system) → (blocks : List Extent) →
+    ((block : Extent) → extent_at block.at blocks ≡ Some block → block.kind ≡ Used → (extent_at block.at (extents_in (state_of word old)) ≡ Some block) × (extent_at block.at (extents_in (state_of word new)) ≡ Some block)) →
+    KeepsBlocks blocks (word old.system) (word new.system)
+blocks_law regions word old new sound sound' same blocks both = blocks_law_tags regions word old new sound sound' (λ k inside apart recorded. same k inside apart) blocks both
 
 -- blocks that keep their words twice keep them
 pub keeps_on : (blocks : List Extent) (first second third : ℕ → ℕ) → KeepsBlocks blocks first second → KeepsBlocks blocks second third → KeepsBlocks blocks first third

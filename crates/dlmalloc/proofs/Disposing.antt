@@ -42,6 +42,7 @@ pub record IsFree {A : Type 0} (regions : A → List Grant) (word : A → ℕ �
   pub less : HasOneMore (state_of word new) (state_of word old) at
   pub sound : IsSound regions word new
   pub words : OnlyBoundariesChange (regions old.system) (state_of word new) (word old.system) (word new.system)
+  pub records : (one : Extent) → one.kind ≡ Record → extent_at one.at (extents_in (state_of word old)) ≡ Some one → extent_at one.at (extents_in (state_of word new)) ≡ Some one
 
 pub begins_whole : (words : ℕ → ℕ) (before : Kind) (from : ℕ) (front : List Extent) (extent : Extent) (back : List Extent) (to : ℕ) → Tiles words before from (front ++ extent ∷ back) to → from % 16 ≡ 0
 begins_whole words before from [] extent back to h = let place = h.0 in let whole = h.1.whole in omega arith
@@ -283,6 +284,7 @@ module _ {A : Type 0} (regions : A → List Grant) (word : A → ℕ → ℕ) (h
             less = has_less regions word heap (after victim victim_size) sound less more (step victim victim_size) chunk fewer;
             sound = stays_sound regions word heap (after victim victim_size) sound less more (step victim victim_size) same refl refl refl refl none named;
             words = keeps_words regions word heap (after victim victim_size) sound less more (step victim victim_size);
+            records = λ one is there. found_again regions word heap (after victim victim_size) sound less more (step victim victim_size) one.at one (λ found. (tails one.at one found).0 is) there;
           }
 
       -- the victim was one of those that are joined

@@ -1,16 +1,16 @@
 -- A block gets another size: where it stands, or elsewhere with its words.
-use Rattle.std.proofs.Common.{◌≡◌, ◌≢◌, ℕ, ◌+◌, ◌-◌, ◌*◌, ◌/◌, ◌%◌, ◌<◌, ◌≤◌, ◌⊎◌, inl, inr, min, max, Bool, true, false, not, ◌==◌, if◌then◌else◌, List, [], ◌∷◌, Option, Some, IsTrue, refl, sym, ◌∙◌, ap, subst, arith}
+use Rattle.std.proofs.Common.{◌≡◌, ◌≢◌, ℕ, ◌+◌, ◌-◌, ◌*◌, ◌/◌, ◌%◌, ◌<◌, ◌≤◌, ◌⊎◌, inl, inr, min, Bool, true, false, not, ◌==◌, if◌then◌else◌, List, [], ◌∷◌, Option, Some, IsTrue, refl, sym, ◌∙◌, ap, subst, arith}
 use Rattle.std.specs.Prelude.{unwrap_or, option_map, IfSome}
 use Rattle.heap_memory.specs.declared.grant.Grant.{Grant}
 use Rattle.heap_memory.specs.Events.{Event}
-use Rattle.heap_memory.specs.Regions.{is_granted, IsWordOf}
+use Rattle.heap_memory.specs.Regions.{is_granted}
 use Rattle.heap_memory.specs.Words.{AreWordsOf, IsBeside, AreCopied}
 use Rattle.dlmalloc_chunks.specs.Request.{padded, limit}
 use Rattle.dlmalloc_chunks.specs.declared.extent.Extent.{Extent}
 use Rattle.dlmalloc_chunks.specs.declared.extent.Kind.TheVariants.{Used}
 use Rattle.dlmalloc.specs.Extents.{extent_at}
 use Rattle.dlmalloc.specs.State.{HeapState, extents_in, size_where}
-use Rattle.dlmalloc.specs.Blocks.{IsBlock, IsInside, HasOneMore, KeepsBlocks}
+use Rattle.dlmalloc.specs.Blocks.{IsBlock, HasOneMore, KeepsBlocks}
 use Rattle.dlmalloc.specs.Resized.{in_place, HasSameOthers}
 use Rattle.dlmalloc.specs.Heap.{state_of, IsSound}
 use Rattle.dlmalloc.specs.Served.{IsMoved, IsFreed}

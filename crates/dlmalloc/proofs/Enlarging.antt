@@ -1,11 +1,11 @@
 -- A chunk in use takes bytes of the free extent behind it: the moves, over plain words.
-use Rattle.std.proofs.Common.{◌≡◌, ◌≢◌, ℕ, ◌+◌, ◌-◌, ◌%◌, ◌<◌, ◌≤◌, ◌⊎◌, inl, inr, Bool, true, false, ◌==◌, if◌then◌else◌, List, [], ◌∷◌, ◌++◌, refl, sym, ◌∙◌, ap, subst, arith}
+use Rattle.std.proofs.Common.{◌≡◌, ℕ, ◌+◌, ◌-◌, ◌%◌, ◌<◌, ◌≤◌, ◌⊎◌, inl, inr, Bool, true, false, ◌==◌, List, [], ◌∷◌, ◌++◌, refl, sym, ◌∙◌, ap, subst, arith}
 use Rattle.heap_memory.specs.declared.grant.Grant.{Grant}
 use Rattle.heap_memory.specs.Regions.{IsWordOf}
 use Rattle.dlmalloc_chunks.specs.Chunk.{AreStored}
 use Rattle.dlmalloc_chunks.specs.declared.extent.Extent.{Extent}
 use Rattle.dlmalloc_chunks.specs.declared.extent.Kind.{Kind}
-use Rattle.dlmalloc_chunks.specs.declared.extent.Kind.TheVariants.{Used, Free, Top, Record}
+use Rattle.dlmalloc_chunks.specs.declared.extent.Kind.TheVariants.{Used, Free, Top}
 use Rattle.dlmalloc_chunks.specs.Head.{pinuse_of, head_of, with_pinuse}
 use Rattle.dlmalloc_chunks.specs.HeadLaws.{pinuse_of-head_of, with_pinuse-head_of}
 use Rattle.dlmalloc.specs.Extents.{is_used, told_size, Stands, Tiles}
@@ -13,7 +13,7 @@ use Rattle.dlmalloc.specs.State.{Segment}
 use Rattle.dlmalloc.specs.Moves.{IsMove, IsRunOf}
 use Rattle.dlmalloc.specs.Resized.{replaced_both}
 use Rattle.dlmalloc.specs.Taken.{in_segments}
-use Rattle.dlmalloc.specs.Segments.{IsSegment, AreSegments, IsApartFrom, AreApart}
+use Rattle.dlmalloc.specs.Segments.{AreSegments, IsApartFrom, AreApart}
 use Rattle.dlmalloc.proofs.Places.{extent, nat_isnt, nat_same}
 use Rattle.dlmalloc.proofs.Tiling.{sized, tiles_le}
 use Rattle.dlmalloc.proofs.Cutting.{rehung, may_stand, behind_free, told_whole, no_head}

@@ -21,7 +21,7 @@ foot = run 0x40ffb0 80 Foot
 
 -- ---- a grant, and blocks from the top
 
-first-grant : granted (record { base = 0x400000; size = 65536; flags = 0 }) new_heap ≡ heap (run 0x400000 65456 Top ∷ foot ∷ []) 0
+first-grant : granted (record { base = 0x400000; size = 65536; flags = 0 }) 32 new_heap ≡ heap (run 0x400000 65456 Top ∷ foot ∷ []) 0
 first-grant = refl
 
 from-top : taken (heap (run 0x400000 65456 Top ∷ foot ∷ []) 0) (run 0x400000 65456 Top) 32 ≡ heap (run 0x400000 32 Used ∷ run 0x400020 65424 Top ∷ foot ∷ []) 0
@@ -38,7 +38,7 @@ top-is-not-used-up : chosen (heap (run 0x400000 65456 Top ∷ foot ∷ []) 0) 65
 top-is-not-used-up = refl
 
 -- a grant behind the segment makes the top longer, and its foot moves
-second-grant : granted (record { base = 0x410000; size = 65536; flags = 0 }) (heap (run 0x400000 65440 Used ∷ run 0x40ffa0 16 Top ∷ foot ∷ []) 0) ≡
+second-grant : granted (record { base = 0x410000; size = 65536; flags = 0 }) 32 (heap (run 0x400000 65440 Used ∷ run 0x40ffa0 16 Top ∷ foot ∷ []) 0) ≡
     record new_heap {
       segments = (record { base = 0x400000; size = 131072; flags = 0; extents = run 0x400000 65440 Used ∷ run 0x40ffa0 65552 Top ∷ run 0x41ffb0 80 Foot ∷ [] }) ∷ [];
       countdown = 4095;

@@ -1,7 +1,6 @@
 -- What holds of each block that gets another size, and of each that is cleared.
-use Rattle.std.proofs.Common.{◌≡◌, ◌≢◌, ℕ, ◌+◌, ◌-◌, ◌*◌, ◌/◌, ◌%◌, IsTrue, ◌<◌, ◌≤◌, ◌⊎◌, inl, inr, min, max, Bool, true, false, nat_le, if◌then◌else◌, List, [], ◌++◌, Option, None, Some, refl, sym, ◌∙◌, ap, subst, arith}
+use Rattle.std.proofs.Common.{◌≡◌, ℕ, ◌+◌, ◌-◌, ◌/◌, ◌%◌, IsTrue, ◌<◌, ◌≤◌, inl, inr, max, Bool, true, false, nat_le, List, [], ◌++◌, Option, None, Some, refl, sym, ◌∙◌, ap, subst, arith}
 use Rattle.std.specs.Int.{IsPowerOfTwo}
-use Rattle.std.proofs.lemmas.Bool.Decides.{nat_tests}
 use Rattle.heap_memory.specs.declared.grant.Grant.{Grant}
 use Rattle.heap_memory.specs.Events.{Event}
 use Rattle.heap_memory.specs.Regions.{is_granted, IsWordOf}
@@ -10,14 +9,14 @@ use Rattle.dlmalloc_chunks.specs.Request.{padded, limit}
 use Rattle.dlmalloc_chunks.specs.declared.extent.Extent.{Extent}
 use Rattle.dlmalloc_chunks.specs.declared.extent.Kind.TheVariants.{Used}
 use Rattle.dlmalloc.specs.Extents.{extent_at}
-use Rattle.dlmalloc.specs.State.{HeapState, Segment, extents_in}
+use Rattle.dlmalloc.specs.State.{HeapState, extents_in}
 use Rattle.dlmalloc.specs.Taken.{replaced, cut, in_segments}
 use Rattle.dlmalloc.specs.Freed.{freed_in}
-use Rattle.dlmalloc.specs.Blocks.{IsBlock, IsInside, HasOneMore, KeepsBlocks}
-use Rattle.dlmalloc.specs.Resized.{halves, tail_freed, joined, has_room, replaced_both, grown_into, shrunk, in_place}
+use Rattle.dlmalloc.specs.Blocks.{IsBlock, IsInside, HasOneMore}
+use Rattle.dlmalloc.specs.Resized.{halves, tail_freed, joined, has_room, replaced_both, grown_into, in_place}
 use Rattle.dlmalloc.specs.Aligned.{HasOneMoved}
 use Rattle.dlmalloc.specs.Heap.{state_of, IsSound}
-use Rattle.dlmalloc.specs.Requested.{asked, spans, IsFound, IsHandedOut, IsServedAt}
+use Rattle.dlmalloc.specs.Requested.{spans, IsHandedOut}
 use Rattle.dlmalloc.specs.Written.{words_in, IsSameHeap}
 use Rattle.dlmalloc.specs.Moved.{IsInPlace, IsElsewhere, IsResized, IsGivenSize}
 use Rattle.dlmalloc.specs.declared.heap.Dlmalloc.{Dlmalloc}

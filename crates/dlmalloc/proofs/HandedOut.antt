@@ -1,5 +1,6 @@
 -- What holds of each block that is handed out.
 use Rattle.std.proofs.Common.{◌≡◌, ℕ, ◌+◌, ◌-◌, ◌%◌, ◌^◌, ◌<◌, ◌≤◌, inl, inr, Bool, true, false, ◌==◌, nat_le, nat_lt, if◌then◌else◌, List, [], ◌∷◌, ◌++◌, map, Result, Ok, Err, IfOk, zero, suc, refl, sym, ◌∙◌, ap, subst, arith, pow_mono}
+use Rattle.std.specs.List.{list_any}
 use Rattle.std.specs.Int.{IsPowerOfTwo}
 use native.Mathlib.Decide.{dec_lt}
 use Rattle.std.proofs.lemmas.Bool.Decides.{nat_tests}
@@ -8,13 +9,13 @@ use Rattle.heap_memory.specs.Events.{Event}
 use Rattle.dlmalloc_chunks.specs.Request.{padded, enlarged, limit}
 use Rattle.dlmalloc_chunks.specs.declared.extent.Extent.{Extent}
 use Rattle.dlmalloc.specs.State.{HeapState, Segment, extents_in, size_where}
-use Rattle.dlmalloc.specs.Granted.{granted}
+use Rattle.dlmalloc.specs.Granted.{is_behind, is_before, is_put_before, granted}
 use Rattle.dlmalloc.specs.Taken.{replaced, cut, in_segments}
 use Rattle.dlmalloc.specs.Freed.{freed, freed_in}
 use Rattle.dlmalloc.specs.Resized.{exchanged, halves, tail_freed}
 use Rattle.dlmalloc.specs.Aligned.{aligned_place, lead_freed, tail_cut, aligned}
 use Rattle.dlmalloc.specs.Heap.{state_of}
-use Rattle.dlmalloc.specs.Served.{IsServed}
+use Rattle.dlmalloc.specs.Served.{IsTakenNew, IsServed}
 use Rattle.dlmalloc.specs.Requested.{asked, spans, IsFound, IsHandedOut, IsServedAligned}
 use Rattle.dlmalloc.specs.declared.heap.Dlmalloc.{Dlmalloc}
 
@@ -48,10 +49,16 @@ spans_aligned heap at align n = spans_tail (lead_freed heap at (aligned_place at
 
 -- ---- and regions are asked for in the same multiples
 
-granularity_granted : (segments : List Segment) (victim granularity rate countdown trim_check : ℕ) (grant : Grant) →
-    (granted grant (record { segments = segments; victim = victim; granularity = granularity; rate = rate; countdown = countdown; trim_check = trim_check })).granularity ≡ granularity
-granularity_granted [] victim granularity rate countdown trim_check grant = refl
-granularity_granted (segment ∷ segments) victim granularity rate countdown trim_check grant = refl
+granularity_granted : (segments : List Segment) (victim granularity rate countdown trim_check : ℕ) (grant : Grant) (n : ℕ) →
+    (granted grant n (record { segments = segments; victim = victim; granularity = granularity; rate = rate; countdown = countdown; trim_check = trim_check })).granularity ≡ granularity
+granularity_granted [] victim granularity rate countdown trim_check grant n = refl
+granularity_granted (head ∷ rest) victim granularity rate countdown trim_check grant n = go (is_behind grant head) refl (list_any (is_before grant) (head ∷ rest)) refl
+  where
+    go : (b : Bool) → is_behind grant head ≡ b → (c : Bool) → list_any (is_before grant) (head ∷ rest) ≡ c →
+        (granted grant n (record { segments = head ∷ rest; victim = victim; granularity = granularity; rate = rate; countdown = countdown; trim_check = trim_check })).granularity ≡ granularity
+    go true behind c before = rw behind refl
+    go false behind true before = rw (behind, before) refl
+    go false behind false before = rw (behind, before) refl
 
 granularity_lead : (heap : HeapState) (at place : ℕ) → (lead_freed heap at place).granularity ≡ heap.granularity
 granularity_lead heap at place = go (place == at)
@@ -98,23 +105,34 @@ pub asked_high : (size align : ℕ) → 16 < align → enlarged size align ≡ a
 asked_high size align many = let test : nat_le align 16 ≡ false = grind (arith, nat_tests) in rw test refl
 
 module _ {A : Type 0} (regions : A → List Grant) (word : A → ℕ → ℕ) (zeros : A → Bool) (follows : A → List Event → A → Type 0) (old new : Dlmalloc A) (size align address : ℕ) where
+  -- where a region was granted, they are those that it makes
+  spans_new : (n at : ℕ) (grant : Grant) (new : HeapState) → IsTakenNew (state_of word old) n at grant new → spans new ≡ spans (granted grant n (state_of word old))
+  spans_new n at grant new is = go (is_put_before grant (state_of word old).segments) refl
+    where
+      go : (b : Bool) → is_put_before grant (state_of word old).segments ≡ b → spans new ≡ spans (granted grant n (state_of word old))
+      go true before = ap spans (is.of_grant before).1
+      go false apart = let top = is.of_top apart in ap spans top.state ∙ spans_changed (replaced top.top.at (cut n)) (granted grant n (state_of word old)).segments
+
+  granularity_new : (n at : ℕ) (grant : Grant) (new : HeapState) → IsTakenNew (state_of word old) n at grant new → new.granularity ≡ old.granularity
+  granularity_new n at grant new is = go (is_put_before grant (state_of word old).segments) refl
+    where
+      granted_same : (granted grant n (state_of word old)).granularity ≡ old.granularity
+      granted_same = let h = state_of word old in granularity_granted h.segments h.victim h.granularity h.rate h.countdown h.trim_check grant n
+
+      go : (b : Bool) → is_put_before grant (state_of word old).segments ≡ b → new.granularity ≡ old.granularity
+      go true before = ap (λ (h : HeapState). h.granularity) (is.of_grant before).1 ∙ granted_same
+      go false apart = ap (λ (h : HeapState). h.granularity) (is.of_top apart).state ∙ granted_same
+
   found_served : (n : ℕ) (at : ℕ) (middle : Dlmalloc A) → IsServed regions word zeros follows old n at middle → IsFound follows regions old.system (state_of word old) (padded n) middle.system (state_of word middle)
   found_served n at middle served = elim served.cut [
     | inl here ↦ inl (ap spans here.0.state ∙ spans_changed (replaced here.0.extent.at (cut (padded n))) (state_of word old).segments, here.1, here.2)
-    | inr there ↦ inr (
-      there.0,
-      there.1.none_chosen,
-      there.1.full,
-      ap spans there.1.state ∙ spans_changed (replaced there.1.top.at (cut (padded n))) (granted there.0 (state_of word old)).segments,
-      there.2,
-      there.3,
-    )
+    | inr there ↦ inr (there.0, there.1.none_chosen, there.1.full, spans_new (padded n) (at - 16) there.0 (state_of word middle) there.1, there.2, there.3)
   ]
 
   granularity_served : (n : ℕ) (at : ℕ) (middle : Dlmalloc A) → IsServed regions word zeros follows old n at middle → middle.granularity ≡ old.granularity
   granularity_served n at middle served = elim served.cut [
     | inl here ↦ ap (λ (h : HeapState). h.granularity) here.0.state
-    | inr there ↦ (let h = state_of word old in ap (λ (h : HeapState). h.granularity) there.1.state ∙ granularity_granted h.segments h.victim h.granularity h.rate h.countdown h.trim_check there.0)
+    | inr there ↦ granularity_new (padded n) (at - 16) there.0 (state_of word middle) there.1
   ]
 
   pub handed_low : IsPowerOfTwo align → align ≤ 16 → IsServed regions word zeros follows old size address new → IsHandedOut regions word follows old size align address new

@@ -1,5 +1,5 @@
 -- A chunk in use takes bytes of a free chunk behind it, or all of them.
-use Rattle.std.proofs.Common.{◌≡◌, ◌≢◌, ℕ, ◌+◌, ◌-◌, ◌%◌, ◌^◌, ◌<◌, ◌≤◌, inl, inr, Bool, true, false, ◌==◌, nat_le, if◌then◌else◌, List, [], ◌∷◌, ◌++◌, Option, None, Some, refl, sym, ◌∙◌, ap, subst, arith}
+use Rattle.std.proofs.Common.{◌≡◌, ◌≢◌, ℕ, ◌+◌, ◌-◌, ◌%◌, ◌^◌, ◌<◌, ◌≤◌, inl, inr, Bool, true, false, ◌==◌, nat_le, if◌then◌else◌, List, [], ◌∷◌, ◌++◌, None, Some, refl, sym, ◌∙◌, ap, subst, arith}
 use Rattle.std.proofs.lemmas.Bool.Decides.{nat_tests}
 use Rattle.heap_memory.specs.declared.grant.Grant.{Grant}
 use Rattle.dlmalloc_chunks.specs.Chunk.{AreStored, HasHead, HasFoot}
@@ -16,7 +16,7 @@ use Rattle.dlmalloc.specs.declared.heap.Dlmalloc.{Dlmalloc}
 use Rattle.dlmalloc.proofs.Places.{extent, the_extent, nat_isnt, nat_same, found_either}
 use Rattle.dlmalloc.proofs.Tiling.{sized, tiles_le}
 use Rattle.dlmalloc.proofs.Enlarging.{grown_split, grown_whole}
-use Rattle.dlmalloc.proofs.Enlarged.{IsEnlarged, in_two, no_kind, no_other, next, two, low, high, end_small, head_there, enlarged}
+use Rattle.dlmalloc.proofs.Enlarged.{IsEnlarged, in_two, no_kind, no_other, next, two, low, end_small, head_there, enlarged}
 use Rattle.dlmalloc.proofs.Segments.{with_extents}
 use Rattle.dlmalloc.proofs.Splitting.{differ}
 use Rattle.dlmalloc.proofs.Steps.{IsStep, found_new, found_again}

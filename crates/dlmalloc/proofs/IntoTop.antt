@@ -1,5 +1,5 @@
 -- A chunk in use takes bytes of the top behind it.
-use Rattle.std.proofs.Common.{◌≡◌, ◌≢◌, ℕ, ◌+◌, ◌-◌, ◌%◌, ◌<◌, ◌≤◌, inl, inr, true, false, ◌==◌, List, [], ◌∷◌, ◌++◌, Some, refl, sym, ◌∙◌, ap, subst, arith}
+use Rattle.std.proofs.Common.{◌≡◌, ℕ, ◌+◌, ◌-◌, ◌%◌, ◌<◌, ◌≤◌, inl, inr, true, false, ◌==◌, List, [], ◌∷◌, ◌++◌, Some, refl, sym, ◌∙◌, ap, subst, arith}
 use Rattle.heap_memory.specs.declared.grant.Grant.{Grant}
 use Rattle.heap_memory.specs.Words.{IsStored}
 use Rattle.dlmalloc_chunks.specs.Chunk.{AreStored, HasHead}
@@ -15,7 +15,7 @@ use Rattle.dlmalloc.proofs.Places.{extent, nat_isnt, nat_same, found_later}
 use Rattle.dlmalloc.proofs.More.{none_outside}
 use Rattle.dlmalloc.proofs.Cutting.{stored_over}
 use Rattle.dlmalloc.proofs.Enlarging.{grown_top}
-use Rattle.dlmalloc.proofs.Enlarged.{IsEnlarged, no_kind, no_other, next, two, low, high, end_small, head_there, enlarged}
+use Rattle.dlmalloc.proofs.Enlarged.{IsEnlarged, no_kind, no_other, next, two, high, head_there, enlarged}
 use Rattle.dlmalloc.proofs.Steps.{IsStep, found_again}
 use Rattle.dlmalloc.proofs.Run.{step_top}
 use Rattle.dlmalloc.proofs.Told.{head_is}

@@ -1,5 +1,5 @@
 -- Laws of a sound heap, for the layers above it.
-use Rattle.std.proofs.Common.{◌≡◌, ◌≢◌, ℕ, ◌+◌, ◌<◌, ◌≤◌, ◌⊎◌, List, [], ◌∷◌, ◌++◌, Some, None, sym, ap, subst, arith}
+use Rattle.std.proofs.Common.{◌≡◌, ◌≢◌, ℕ, ◌+◌, ◌≤◌, ◌⊎◌, List, [], ◌∷◌, Some, ap, arith}
 use Rattle.std.specs.List.{AllByRecursion}
 use Rattle.heap_memory.specs.declared.grant.Grant.{Grant}
 use Rattle.heap_memory.specs.Events.{Event}
@@ -10,7 +10,7 @@ use Rattle.dlmalloc.specs.Extents.{extent_at}
 use Rattle.dlmalloc.specs.State.{Segment, extents_in}
 use Rattle.dlmalloc.specs.Blocks.{IsInside}
 use Rattle.dlmalloc.specs.Segments.{IsSegment}
-use Rattle.dlmalloc.specs.Heap.{segments_of, state_of, IsLast, IsSound}
+use Rattle.dlmalloc.specs.Heap.{segments_of, state_of, IsSound}
 use Rattle.dlmalloc.specs.Grown.{IsAsItWas}
 use Rattle.dlmalloc.specs.Served.{regions_in, KeepsRegions}
 use Rattle.dlmalloc.specs.declared.heap.Dlmalloc.{Dlmalloc}
@@ -41,11 +41,8 @@ module _ {A : Type 0} (regions : A → List Grant) (word : A → ℕ → ℕ) (h
   used_apart a b there_a there_b other = beside (regions heap.system) (word heap.system) (segments_of word heap) sound.segments sound.apart a b there_a there_b other
 
   -- a system with the same regions has those of the segments
-  pub same_regions : (system : A) → regions system ≡ regions heap.system → KeepsRegions heap (segments_of word heap) (regions heap.system) (regions system)
-  same_regions system same = record {
-    same = go (segments_of word heap);
-    last = λ some. subst (λ (rs : List Grant). IsLast rs heap) (sym same) (sound.last some);
-  }
+  pub same_regions : (system : A) → regions system ≡ regions heap.system → KeepsRegions (segments_of word heap) (regions heap.system) (regions system)
+  same_regions system same = go (segments_of word heap)
     where
       go : (segments : List Segment) → AllByRecursion (λ (segment : Segment). regions_in segment (regions system) ≡ regions_in segment (regions heap.system)) segments
       go [] = tt

@@ -1,5 +1,6 @@
 mod Examples
 mod ResizedExamples
+mod GrantExamples
 pub mod Places
 pub mod Merging
 pub mod Tiling
@@ -39,7 +40,14 @@ pub mod Answering
 pub mod IntoTop
 pub mod IntoFree
 pub mod Resizing
+pub mod Retold
 pub mod Growing
+pub mod NewHead
+pub mod Fresh
+pub mod Prepending
+pub mod SegmentBehind
+pub mod PutBefore
+pub mod Beforehand
 pub mod Least
 pub mod Walking
 pub mod Apart
@@ -53,7 +61,9 @@ pub mod Elsewhere
 pub mod Choosing
 pub mod Shown
 pub mod Spans
+pub mod ByAddress
 pub mod AllTiled
+pub mod SpanList
 pub mod Full
 pub mod FreeExtents
 mod TwoSegments

@@ -105,7 +105,7 @@ has_its segment k low high =
     rw (from, to) refl
 
 module _ {A : Type 0} (regions : A → List Grant) (word : A → ℕ → ℕ) (heap : Dlmalloc A) (sound : IsSound regions word heap) (system : A)
-    (stay : KeepsRegions heap (segments_of word heap) (regions heap.system) (regions system))
+    (stay : KeepsRegions (segments_of word heap) (regions heap.system) (regions system))
     (outside : OnlyBlocksChange (regions heap.system) (state_of word heap) (word heap.system) (word system)) where
   abbrev words : ℕ → ℕ
   words = word heap.system
@@ -184,7 +184,7 @@ module _ {A : Type 0} (regions : A → List Grant) (word : A → ℕ → ℕ) (h
   )
 
   still_segments : AreSegments (regions system) now (segments_of word heap)
-  still_segments = still_in [] (segments_of word heap) refl sound.segments stay.same
+  still_segments = still_in [] (segments_of word heap) refl sound.segments stay
 
   -- the records tell the same
   still_records : (front segments : List Segment) → segments_of word heap ≡ front ++ segments → AreSegments (regions heap.system) words segments → (payload : ℕ) → AreRecords words payload segments → AreRecords now payload segments
@@ -234,7 +234,6 @@ module _ {A : Type 0} (regions : A → List Grant) (word : A → ℕ → ℕ) (h
     none = sound.none;
     no_victim = sound.no_victim;
     victim = λ some. ap (λ (ss : List Segment). extent_at heap.victim (extents_all ss)) still_read ∙ sound.victim some;
-    last = λ some. (let last = stay.last some in record { place = last.place; flags = last.flags });
   }
 
   pub still_state : state_of word after ≡ state_of word heap

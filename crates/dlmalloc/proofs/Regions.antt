@@ -1,27 +1,13 @@
 -- Regions with a further grant.
-use Rattle.std.proofs.Common.{◌≡◌, ℕ, ◌+◌, ◌%◌, ◌<◌, ◌≤◌, ◌⊎◌, inl, inr, List, [], ◌∷◌, ◌++◌, IsTrue, refl, sym, subst, arith}
+use Rattle.std.proofs.Common.{◌≡◌, ℕ, ◌+◌, ◌%◌, ◌<◌, ◌≤◌, ◌⊎◌, inl, inr, Bool, true, false, if◌then◌else◌, List, [], ◌∷◌, IsTrue, refl, sym, ap, subst, arith}
 use native.Mathlib.Decide.{dec_lt}
+use Rattle.std.specs.Prelude.{length, nat_lt}
 use Rattle.std.specs.List.{AllByRecursion}
 use Rattle.std.proofs.lemmas.Bool.Decides.{nat_tests}
 use Rattle.heap_memory.specs.declared.grant.Grant.{Grant}
-use Rattle.heap_memory.specs.Regions.{IsWordOf, IsApart, IsWhole, is_granted, is_next, with_grant}
+use Rattle.heap_memory.specs.Regions.{IsWordOf, IsApart, IsWhole, is_granted, with_grant}
 use Rattle.heap_memory.specs.RegionLaws.{granted_kept, granted_new, granted_split, all_with}
 use Rattle.dlmalloc.specs.Segments.{IsWithin, IsRun}
-
--- a grant that begins where the last region ends is the next one
-pub next_after : (grant next : Grant) (regions : List Grant) → next.base ≡ grant.base + grant.size → IsTrue (is_next next (regions ++ grant ∷ []))
-next_after grant next [] is = grind (arith, nat_tests)
-next_after grant next (region ∷ []) is = next_after grant next [] is
-next_after grant next (region ∷ second ∷ regions) is = next_after grant next (second ∷ regions) is
-
--- two next grants of the same regions begin at one place, where there are regions
-same_next : (a b region : Grant) (regions : List Grant) → IsTrue (is_next a (region ∷ regions)) → IsTrue (is_next b (region ∷ regions)) → a.base ≡ b.base
-same_next a b region [] one two = grind (arith, nat_tests)
-same_next a b region (second ∷ regions) one two = same_next a b second regions one two
-
-pub next_same : (a b : Grant) (regions : List Grant) (k : ℕ) → IsTrue (is_granted regions k) → IsTrue (is_next a regions) → IsTrue (is_next b regions) → a.base ≡ b.base
-next_same a b [] k some one two = absurd (cc)
-next_same a b (region ∷ regions) k some one two = same_next a b region regions one two
 
 -- a word that was granted still is
 pub word_kept : (grant : Grant) (old new : List Grant) → new ≡ with_grant grant old → (k : ℕ) → IsWordOf old k → IsWordOf new k
@@ -49,6 +35,18 @@ word_fresh grant old new with_it k inside fresh =
 pub none_fresh : (old new : List Grant) → new ≡ old → (k : ℕ) → IsWordOf new k → (IsWordOf old k → ⊥) → ⊥
 none_fresh old new same k inside fresh = fresh (subst (λ (rs : List Grant). IsWordOf rs k) same inside)
 
+-- regions with a further one are others
+pub with_other : (grant : Grant) (regions : List Grant) → with_grant grant regions ≡ regions → ⊥
+with_other grant regions same = (let more = longer regions in let as_many = ap length same in omega arith)
+  where
+    longer : (regions : List Grant) → length (with_grant grant regions) ≡ length regions + 1
+    longer [] = refl
+    longer (region ∷ regions) = go (nat_lt grant.base region.base) (longer regions)
+      where
+        go : (b : Bool) → length (with_grant grant regions) ≡ length regions + 1 → length (if b then grant ∷ region ∷ regions else region ∷ with_grant grant regions) ≡ length (region ∷ regions) + 1
+        go true rest = omega arith
+        go false rest = omega arith
+
 -- ---- runs of regions
 
 -- no byte of regions apart from a range is one of it
@@ -72,36 +70,27 @@ run_apart regions base size flags run some grant more apart =
       | no behind ↦ inl (omega arith)
     ]
 
--- it is a run still, with the grant
-pub run_beside : (regions : List Grant) (base size flags : ℕ) → IsRun regions base size flags → 0 < size → (grant : Grant) → 0 < grant.size → AllByRecursion (IsApart grant.base (grant.base + grant.size)) regions →
-    IsRun (with_grant grant regions) base size flags
-run_beside regions base size flags run some grant more apart = record {
-  covered = λ k low high. granted_kept grant regions k (run.covered k low high);
-  whole = all_with (λ (region : Grant). IsApart base (base + size) region ⊎ IsWithin base (base + size) flags region) grant regions
-      (inl (elim (run_apart regions base size flags run some grant more apart) [ inl before ↦ inl before | inr behind ↦ inr behind ])) run.whole;
-}
-
--- a grant at its end that has its flags makes it longer
-pub run_longer : (regions : List Grant) (base size flags : ℕ) → IsRun regions base size flags → (grant : Grant) → grant.base ≡ base + size → grant.flags ≡ flags → AllByRecursion IsWhole regions → AllByRecursion (IsApart grant.base (grant.base + grant.size)) regions →
-    IsRun (with_grant grant regions) base (size + grant.size) flags
-run_longer regions base size flags run grant place same whole apart = record {
-  covered = λ k low high. elim (dec_lt k (base + size)) [
-    | yes below ↦ granted_kept grant regions k (run.covered k low below)
-    | no above ↦ granted_new grant regions k (omega arith) (omega arith)
+-- two runs of the same flags, one at the end of the other, are one
+pub runs_joined : (regions : List Grant) (base one next two flags : ℕ) → next ≡ base + one → IsRun regions base one flags → IsRun regions next two flags → AllByRecursion IsWhole regions → IsRun regions base (one + two) flags
+runs_joined regions base one next two flags place first second whole = record {
+  covered = λ k low high. elim (dec_lt k next) [
+    | yes below ↦ first.covered k low (omega arith)
+    | no above ↦ second.covered k (omega arith) (omega arith)
   ];
-  whole = all_with (λ (region : Grant). IsApart base (base + (size + grant.size)) region ⊎ IsWithin base (base + (size + grant.size)) flags region) grant regions (inr (omega arith, omega arith, same)) (go regions run.whole whole apart);
+  whole = go regions first.whole second.whole whole;
 }
   where
-    go : (regions : List Grant) → AllByRecursion (λ (region : Grant). IsApart base (base + size) region ⊎ IsWithin base (base + size) flags region) regions → AllByRecursion IsWhole regions → AllByRecursion (IsApart grant.base (grant.base + grant.size)) regions →
-        AllByRecursion (λ (region : Grant). IsApart base (base + (size + grant.size)) region ⊎ IsWithin base (base + (size + grant.size)) flags region) regions
-    go [] all whole apart = tt
-    go (region ∷ regions) all whole apart = (one (all.0) (apart.0), go regions all.1 whole.1 apart.1)
+    go : (regions : List Grant) → AllByRecursion (λ (region : Grant). IsApart base (base + one) region ⊎ IsWithin base (base + one) flags region) regions → AllByRecursion (λ (region : Grant). IsApart next (next + two) region ⊎ IsWithin next (next + two) flags region) regions → AllByRecursion IsWhole regions →
+        AllByRecursion (λ (region : Grant). IsApart base (base + (one + two)) region ⊎ IsWithin base (base + (one + two)) flags region) regions
+    go [] a b whole = tt
+    go (region ∷ regions) a b whole = (each a.0 b.0, go regions a.1 b.1 whole.1)
       where
-        one : IsApart base (base + size) region ⊎ IsWithin base (base + size) flags region → IsApart grant.base (grant.base + grant.size) region → IsApart base (base + (size + grant.size)) region ⊎ IsWithin base (base + (size + grant.size)) flags region
-        one (inr within) beyond = inr (within.0, omega (arith, within.1), within.2)
-        one (inl (inl before)) beyond = inl (inl before)
-        one (inl (inr behind)) (inl before) = let some = whole.0.some in absurd (omega arith)
-        one (inl (inr behind)) (inr after) = inl (inr (omega arith))
+        each : IsApart base (base + one) region ⊎ IsWithin base (base + one) flags region → IsApart next (next + two) region ⊎ IsWithin next (next + two) flags region → IsApart base (base + (one + two)) region ⊎ IsWithin base (base + (one + two)) flags region
+        each (inr within) b = inr (within.0, omega (arith, within.1), within.2)
+        each (inl a) (inr within) = inr (omega (arith, within.0, place), omega (arith, within.1, place), within.2)
+        each (inl (inl before)) (inl b) = inl (inl before)
+        each (inl (inr behind)) (inl (inl before)) = let some = whole.0.some in absurd (omega arith)
+        each (inl (inr behind)) (inl (inr after)) = inl (inr (omega arith))
 
 -- a grant is one
 pub run_alone : (regions : List Grant) (grant : Grant) → AllByRecursion (IsApart grant.base (grant.base + grant.size)) regions → IsRun (with_grant grant regions) grant.base grant.size grant.flags

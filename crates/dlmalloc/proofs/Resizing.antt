@@ -1,5 +1,5 @@
 -- Where a chunk in use gets another size where it stands.
-use Rattle.std.proofs.Common.{◌≡◌, ◌≢◌, ℕ, ◌+◌, ◌-◌, ◌%◌, ◌<◌, ◌≤◌, Bool, true, false, not, nat_le, nat_lt, List, [], ◌∷◌, None, Some, refl, sym, ◌∙◌, ap, subst, arith}
+use Rattle.std.proofs.Common.{◌≡◌, ◌≢◌, ℕ, ◌+◌, ◌%◌, ◌<◌, ◌≤◌, Bool, true, false, not, nat_le, List, [], ◌∷◌, None, Some, refl, sym, ◌∙◌, ap, subst, arith}
 use Rattle.std.proofs.lemmas.Bool.Decides.{nat_tests}
 use Rattle.heap_memory.specs.declared.grant.Grant.{Grant}
 use Rattle.dlmalloc_chunks.specs.declared.extent.Extent.{Extent}
@@ -9,7 +9,7 @@ use Rattle.dlmalloc_chunks.specs.Head.{size_of, free_of, head_of}
 use Rattle.dlmalloc_chunks.specs.HeadLaws.{size_of-head_of, pinuse_of-head_of, cinuse_of-head_of}
 use Rattle.dlmalloc.specs.Extents.{extent_at, is_used, told_size, MayStand, Tiles}
 use Rattle.dlmalloc.specs.State.{HeapState, extents_in}
-use Rattle.dlmalloc.specs.Resized.{in_place, tail_freed, shrunk, joined, has_room, grown_into}
+use Rattle.dlmalloc.specs.Resized.{in_place, tail_freed, joined, has_room, grown_into}
 use Rattle.dlmalloc.specs.Heap.{segments_of, state_of, IsSound}
 use Rattle.dlmalloc.specs.declared.heap.Dlmalloc.{Dlmalloc}
 use Rattle.dlmalloc.proofs.Places.{extent}

@@ -99,7 +99,7 @@ as_many (first ∷ front) one other back = ap suc (as_many front one other back)
 
 -- ---- each extent begins at an address of its own
 
-none_there : (regions : List Grant) (words : ℕ → ℕ) (segment : Segment) (segments : List Segment) → AreSegments regions words segments → AllByRecursion (IsApartFrom segment) segments →
+pub none_there : (regions : List Grant) (words : ℕ → ℕ) (segment : Segment) (segments : List Segment) → AreSegments regions words segments → AllByRecursion (IsApartFrom segment) segments →
     (k : ℕ) → segment.base ≤ k → k < segment.base + segment.size → extent_at k (extents_all segments) ≡ None
 none_there regions words segment [] parts apart k low high = refl
 none_there regions words segment (other ∷ segments) parts apart k low high =

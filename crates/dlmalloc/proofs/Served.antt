@@ -1,26 +1,27 @@
 -- A chunk that is cut, as one step or as two.
-use Rattle.std.proofs.Common.{◌≡◌, ℕ, ◌+◌, ◌-◌, ◌^◌, ◌<◌, ◌≤◌, inl, inr, Bool, List, [], ◌∷◌, None, refl, sym, ◌∙◌, ap, subst, arith}
+use Rattle.std.proofs.Common.{◌≡◌, ◌≢◌, ℕ, ◌+◌, ◌-◌, ◌^◌, ◌<◌, ◌≤◌, inl, inr, Bool, true, false, ◌==◌, List, [], ◌∷◌, Some, None, refl, sym, ◌∙◌, ap, subst, arith}
+use Rattle.std.proofs.lemmas.Bool.Decides.{nat_tests}
 use Rattle.heap_memory.specs.declared.grant.Grant.{Grant}
 use Rattle.heap_memory.specs.Events.{Event, Granted}
 use Rattle.heap_memory.specs.Regions.{IsWordOf}
 use Rattle.dlmalloc_chunks.specs.Request.{padded, limit, round_up}
 use Rattle.dlmalloc_chunks.specs.declared.extent.Extent.{Extent}
-use Rattle.dlmalloc_chunks.specs.declared.extent.Kind.TheVariants.{Top}
+use Rattle.dlmalloc_chunks.specs.declared.extent.Kind.TheVariants.{Top, Record}
 use Rattle.dlmalloc.specs.Extents.{extent_at}
-use Rattle.dlmalloc.specs.State.{HeapState, extents_in}
+use Rattle.dlmalloc.specs.State.{HeapState, extents_in, is_plain}
 use Rattle.dlmalloc.specs.Blocks.{IsBlock, HasOneMore}
-use Rattle.dlmalloc.specs.Boundaries.{IsBoundary, OnlyBoundariesChange}
+use Rattle.dlmalloc.specs.Boundaries.{IsBoundary, IsInRecord, OnlyTagsChange}
 use Rattle.dlmalloc.specs.Choice.{chosen, IsChosen}
 use Rattle.dlmalloc.specs.Taken.{taken}
 use Rattle.dlmalloc.specs.Heap.{state_of, IsSound}
 use Rattle.dlmalloc.specs.Grown.{IsGrown}
 use Rattle.dlmalloc.specs.Served.{IsCut, IsMoved, IsCutOut, IsServed}
 use Rattle.dlmalloc.specs.declared.heap.Dlmalloc.{Dlmalloc}
-use Rattle.dlmalloc.proofs.Places.{extent}
-use Rattle.dlmalloc.proofs.BlocksLaw.{blocks_law}
+use Rattle.dlmalloc.proofs.Places.{extent, nat_is, the_extent}
+use Rattle.dlmalloc.proofs.BlocksLaw.{blocks_law, blocks_law_tags}
 use Rattle.dlmalloc.proofs.BlockChunks.{block_placed}
 use Rattle.dlmalloc.proofs.Full.{full}
-use Rattle.dlmalloc.proofs.Regions.{word_kept, word_fresh, none_fresh}
+use Rattle.dlmalloc.proofs.Regions.{word_kept, word_fresh, none_fresh, with_other}
 use Rattle.dlmalloc.proofs.Requests.{taken_block}
 use Rattle.dlmalloc.proofs.Tops.{top_among}
 
@@ -34,51 +35,88 @@ module _ {A : Type 0} (regions : A → List Grant) (word : A → ℕ → ℕ) (z
     more = more;
     holds = λ size holds near. subst (λ (s : HeapState). IsBlock s (chunk.at + 16) size) (sym state) (taken_block (state_of word old) chunk n size is.there fits holds near);
     kept = blocks_law regions word old new sound moved.sound moved.words (extents_in (state_of word old)) (λ block there used. (there, more.kept block used there));
-    words = moved.words;
+    words = λ k inside apart recorded. moved.words k inside apart;
+    boundaries = λ same. moved.words;
     new_words = λ zero k inside fresh apart. absurd (none_fresh (regions old.system) (regions new.system) moved.regions_same k inside fresh);
     sound = moved.sound;
   }
 
   -- a region was granted, and the top that it made cut
-  pub cut_new : (middle new : Dlmalloc A) → chosen (state_of word old) n ≡ None → (grown : IsGrown regions word zeros follows old n middle) → state_of word new ≡ taken (state_of word middle) (extent middle.top middle.top_size Top) n →
-      HasOneMore (state_of word middle) (state_of word new) middle.top → IsMoved regions word follows middle new → IsBoundary (state_of word new) (middle.top + 8) → IsBoundary (state_of word new) (middle.top + middle.top_size + 8) → middle.top + 16 < 2 ^ 64 →
-      follows old.system (Granted (round_up (n + 96) old.granularity) grown.grant ∷ []) new.system → IsCutOut regions word zeros follows old n middle.top new
-  cut_new middle new none grown state after moved head foot small followed =
-      let room = grown.room in
-      let more : HasOneMore (state_of word old) (state_of word new) middle.top = record {
-        kept = λ used is there. after.kept used is (grown.used_still used is there);
-        only = λ used is there other. grown.used_before used is (after.only used is there other);
-        new = λ used is there. after.new used is (grown.used_still used is there);
-      } in
-      let words : OnlyBoundariesChange (regions old.system) (state_of word new) (word old.system) (word new.system) = λ k inside apart. moved.words k (word_kept grown.grant (regions old.system) (regions middle.system) grown.with_it k inside) apart
-      ∙ grown.words k inside (λ is. apart (subst (IsBoundary (state_of word new)) (sym is) head)) (λ is. apart (subst (IsBoundary (state_of word new)) (sym is) foot)) in
-      record {
-        cut = inr (
-          grown.grant,
-          record {
-            none_chosen = none;
-            full = full regions word old sound n none;
+  module _ (middle new : Dlmalloc A) (grown : IsGrown regions word zeros follows old n middle) (state : state_of word new ≡ taken (state_of word middle) (extent middle.top middle.top_size Top) n)
+      (after : HasOneMore (state_of word middle) (state_of word new) middle.top) (moved : IsMoved regions word follows middle new)
+      (head : IsBoundary (state_of word new) (middle.top + 8)) (foot : IsBoundary (state_of word new) (middle.top + middle.top_size + 8))
+      (others : (one : Extent) → one.at ≢ middle.top → extent_at one.at (extents_in (state_of word middle)) ≡ Some one → extent_at one.at (extents_in (state_of word new)) ≡ Some one) where
+    the_top : extent_at middle.top (extents_in (state_of word middle)) ≡ Some (extent middle.top middle.top_size Top)
+    the_top = top_among regions word middle grown.sound grown.there
+
+    -- what is found there is the top
+    is_the_top : (one : Extent) → extent_at one.at (extents_in (state_of word middle)) ≡ Some one → one.at ≡ middle.top → extent middle.top middle.top_size Top ≡ one
+    is_the_top one there same = the_extent (sym the_top ∙ (ap (λ (a : ℕ). extent_at a (extents_in (state_of word middle))) (sym same) ∙ there))
+
+    boundary_still : (k : ℕ) → IsBoundary (state_of word middle) k → IsBoundary (state_of word new) k
+    boundary_still k b = go (b.extent.at == middle.top) refl
+      where
+        go : (t : Bool) → (b.extent.at == middle.top) ≡ t → IsBoundary (state_of word new) k
+        go true same =
+            let one = is_the_top b.extent b.there (nat_is same) in
+            elim (b.is) [
+              | inl is ↦ subst (IsBoundary (state_of word new)) (ap (λ (a : ℕ). a + 8) (sym (nat_is same)) ∙ sym is) head
+              | inr is ↦ absurd (let plain = is.0 in let no : is_plain Top ≡ is_plain b.extent.kind = ap (λ (e : Extent). is_plain e.kind) one in cc)
+            ]
+        go false other = record { extent = b.extent; there = others b.extent (λ same. (let test : (b.extent.at == middle.top) ≡ true = grind (arith, nat_tests) in cc)) b.there; is = b.is }
+
+    record_still : (k : ℕ) → IsInRecord (state_of word middle) k → IsInRecord (state_of word new) k
+    record_still k r = record {
+      extent = r.extent;
+      there = others r.extent (λ same. (let one = ap (λ (e : Extent). e.kind) (is_the_top r.extent r.there same) in let no : Top ≡ Record = one ∙ r.is in cc)) r.there;
+      is = r.is;
+      low = r.low;
+      high = r.high;
+    }
+
+    words_cut : OnlyTagsChange (regions old.system) (state_of word new) (word old.system) (word new.system)
+    words_cut k inside apart recorded = moved.words k (word_kept grown.grant (regions old.system) (regions middle.system) grown.with_it k inside) apart
+        ∙ grown.words k inside (λ b. apart (boundary_still k b)) (λ r. recorded (record_still k r))
+
+    more_cut : HasOneMore (state_of word old) (state_of word new) middle.top
+    more_cut = record {
+      kept = λ used is there. after.kept used is (grown.used.still used is there);
+      only = λ used is there other. grown.used.before used is (after.only used is there other);
+      new = λ used is there. after.new used is (grown.used.still used is there);
+    }
+
+    pub cut_new : chosen (state_of word old) n ≡ None → middle.top + 16 < 2 ^ 64 → follows old.system (Granted (round_up (n + 96) old.granularity) grown.grant ∷ []) new.system → IsCutOut regions word zeros follows old n middle.top new
+    cut_new none small followed = record {
+      cut = inr (
+        grown.grant,
+        record {
+          none_chosen = none;
+          full = full regions word old sound n none;
+          of_grant = λ is. absurd (let no = grown.apart in cc);
+          of_top = λ is. record {
             top = extent middle.top middle.top_size Top;
             is = refl;
-            there = ap (λ (s : HeapState). extent_at middle.top (extents_in s)) (sym grown.state) ∙ top_among regions word middle grown.sound grown.there;
+            there = ap (λ (s : HeapState). extent_at middle.top (extents_in s)) (sym grown.state) ∙ the_top;
             place = refl;
             state = state ∙ ap (λ (s : HeapState). taken s (extent middle.top middle.top_size Top) n) grown.state;
-          },
-          followed,
-          moved.regions_same ∙ grown.with_it,
-        );
-        small = small;
-        more = more;
-        holds = λ size holds near. subst (λ (s : HeapState). IsBlock s (middle.top + 16) size) (sym state)
-            (taken_block (state_of word middle) (extent middle.top middle.top_size Top) n size (top_among regions word middle grown.sound grown.there) (omega arith) holds near);
-        kept = blocks_law regions word old new sound moved.sound words (extents_in (state_of word old)) (λ block there used. (there, more.kept block used there));
-        words = words;
-        new_words = λ zero k inside fresh apart.
-            let there = subst (λ (rs : List Grant). IsWordOf rs k) moved.regions_same inside in
-            let within = word_fresh grown.grant (regions old.system) (regions middle.system) grown.with_it k there fresh in
-            moved.words k there apart ∙ grown.new_words zero k within.0 within.1 inside.aligned (λ is. apart (subst (IsBoundary (state_of word new)) (sym is) head)) (λ is. apart (subst (IsBoundary (state_of word new)) (sym is) foot));
-        sound = moved.sound;
-      }
+          };
+        },
+        followed,
+        moved.regions_same ∙ grown.with_it,
+      );
+      small = small;
+      more = more_cut;
+      holds = λ size holds near. subst (λ (s : HeapState). IsBlock s (middle.top + 16) size) (sym state)
+          (taken_block (state_of word middle) (extent middle.top middle.top_size Top) n size the_top (let room = grown.room in omega arith) holds near);
+      kept = blocks_law_tags regions word old new sound moved.sound words_cut (extents_in (state_of word old)) (λ block there used. (there, more_cut.kept block used there));
+      words = words_cut;
+      boundaries = λ same. absurd (with_other grown.grant (regions old.system) (sym (moved.regions_same ∙ grown.with_it) ∙ same));
+      new_words = λ zero k inside fresh apart.
+          let there = subst (λ (rs : List Grant). IsWordOf rs k) moved.regions_same inside in
+          let within = word_fresh grown.grant (regions old.system) (regions middle.system) grown.with_it k there fresh in
+          moved.words k there apart ∙ grown.new_words zero k within.0 within.1 inside.aligned (λ is. apart (subst (IsBoundary (state_of word new)) (sym is) head)) (λ is. apart (subst (IsBoundary (state_of word new)) (sym is) foot));
+      sound = moved.sound;
+    }
 
 -- so a block is handed out
 pub served : {A : Type 0} (regions : A → List Grant) (word : A → ℕ → ℕ) (zeros : A → Bool) (follows : A → List Event → A → Type 0) (old new : Dlmalloc A) (size n at : ℕ) → n ≡ padded size → size + 8 ≤ n → n ≤ size + 32 → size < limit old.granularity →
@@ -97,6 +135,7 @@ served regions word zeros follows old new size n at is holds near small cut =
       more = subst (HasOneMore (state_of word old) (state_of word new)) back cut.more;
       kept = cut.kept;
       words = cut.words;
+      boundaries = cut.boundaries;
       new_words = cut.new_words;
       sound = cut.sound;
     }

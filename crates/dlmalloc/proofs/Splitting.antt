@@ -1,14 +1,13 @@
 -- A chunk in use is split into two.
-use Rattle.std.proofs.Common.{◌≡◌, ◌≢◌, ℕ, ◌+◌, ◌-◌, ◌%◌, ◌^◌, ◌<◌, ◌≤◌, inl, inr, Bool, true, false, ◌==◌, if◌then◌else◌, List, [], ◌∷◌, ◌++◌, Option, None, Some, refl, sym, ◌∙◌, ap, subst, arith}
+use Rattle.std.proofs.Common.{◌≡◌, ◌≢◌, ℕ, ◌+◌, ◌-◌, ◌%◌, ◌^◌, ◌<◌, ◌≤◌, inl, Bool, true, false, ◌==◌, List, [], ◌∷◌, None, Some, refl, sym, ◌∙◌, ap, subst, arith}
 use Rattle.std.proofs.lemmas.Bool.Decides.{nat_tests}
 use Rattle.heap_memory.specs.declared.grant.Grant.{Grant}
-use Rattle.heap_memory.specs.Regions.{IsWordOf}
 use Rattle.heap_memory.specs.Words.{IsStored}
 use Rattle.dlmalloc_chunks.specs.Chunk.{AreStored, HasHead}
 use Rattle.dlmalloc_chunks.specs.declared.extent.Extent.{Extent}
 use Rattle.dlmalloc_chunks.specs.declared.extent.Kind.{Kind}
 use Rattle.dlmalloc_chunks.specs.declared.extent.Kind.TheVariants.{Used, Free, Top, Record}
-use Rattle.dlmalloc_chunks.specs.Head.{pinuse_of, head_of, with_pinuse}
+use Rattle.dlmalloc_chunks.specs.Head.{pinuse_of, head_of}
 use Rattle.dlmalloc_chunks.specs.HeadLaws.{pinuse_of-head_of}
 use Rattle.dlmalloc.specs.Extents.{extent_at, is_used, Stands, last_kind}
 use Rattle.dlmalloc.specs.State.{Segment, extents_in}
@@ -17,11 +16,11 @@ use Rattle.dlmalloc.specs.Boundaries.{OnlyBoundariesChange}
 use Rattle.dlmalloc.specs.Moves.{IsMove, IsRunOf}
 use Rattle.dlmalloc.specs.Heap.{segments_of, state_of, IsSound}
 use Rattle.dlmalloc.specs.declared.heap.Dlmalloc.{Dlmalloc}
-use Rattle.dlmalloc.proofs.Places.{extent, nat_isnt, nat_same, found}
+use Rattle.dlmalloc.proofs.Places.{extent, nat_isnt, nat_same}
 use Rattle.dlmalloc.proofs.Cutting.{stored_over}
-use Rattle.dlmalloc.proofs.Tiling.{sized, tiles_le}
+use Rattle.dlmalloc.proofs.Tiling.{tiles_le}
 use Rattle.dlmalloc.proofs.Steps.{IsStep, read, found_new, found_again, found_before, keeps_words, stays_sound}
-use Rattle.dlmalloc.proofs.Run.{run_of, step_beside, has_next, behind, run_part, run_word}
+use Rattle.dlmalloc.proofs.Run.{run_of, step_beside, run_part, run_word}
 use Rattle.dlmalloc.proofs.Taken.{replaced_run}
 use Rattle.dlmalloc.proofs.Taking.{found_one}
 

@@ -1,9 +1,8 @@
 -- What a move leaves of a heap.
-use Rattle.std.proofs.Common.{◌≡◌, ◌≢◌, ℕ, suc, ◌+◌, ◌/◌, ◌^◌, ◌<◌, ◌≤◌, inl, inr, Bool, true, false, ◌==◌, if◌then◌else◌, List, [], ◌∷◌, ◌++◌, Option, Some, None, IsTrue, refl, sym, ◌∙◌, ap, subst, arith, append_assoc}
+use Rattle.std.proofs.Common.{◌≡◌, ◌≢◌, ℕ, suc, ◌+◌, ◌/◌, ◌^◌, ◌<◌, ◌≤◌, inl, inr, Bool, true, false, ◌==◌, if◌then◌else◌, List, [], ◌∷◌, ◌++◌, Option, Some, None, refl, sym, ◌∙◌, ap, subst, arith, append_assoc}
 use Rattle.std.specs.Prelude.{length}
 use Rattle.std.proofs.lemmas.Bool.Decides.{nat_tests}
 use Rattle.heap_memory.specs.declared.grant.Grant.{Grant}
-use Rattle.heap_memory.specs.Regions.{is_next}
 use Rattle.dlmalloc_chunks.specs.declared.extent.Extent.{Extent}
 use Rattle.dlmalloc_chunks.specs.declared.extent.Kind.TheVariants.{Free, Used}
 use Rattle.dlmalloc.specs.Extents.{extent_at, chunks_from}
@@ -13,7 +12,7 @@ use Rattle.dlmalloc.specs.Boundaries.{OnlyBoundariesChange}
 use Rattle.dlmalloc.specs.Blocks.{HasOneMore}
 use Rattle.dlmalloc.specs.Moves.{HasMore, used_of}
 use Rattle.dlmalloc.specs.Segments.{AreSegments, AreApart, records_from}
-use Rattle.dlmalloc.specs.Heap.{segments_of, state_of, AreTold, IsGranularity, IsLast, IsSound}
+use Rattle.dlmalloc.specs.Heap.{segments_of, state_of, AreTold, IsGranularity, IsSound}
 use Rattle.dlmalloc.specs.declared.heap.Dlmalloc.{Dlmalloc}
 use Rattle.dlmalloc.proofs.Places.{extent, nat_isnt, found_either, found_more}
 use Rattle.dlmalloc.proofs.Reading.{read_top, records_read, records_few}
@@ -170,9 +169,9 @@ module _ {A : Type 0} (regions : A → List Grant) (word : A → ℕ → ℕ) (h
       distinct_front (extent ∷ one) other d = (none_first extent.at one other d.0, distinct_front one other d.1)
 
   -- it is sound, where the victim is one of its extents
-  pub keeps_sound : IsGranularity new.granularity → 0 < new.size → IsLast (regions new.system) new →
+  pub keeps_sound : IsGranularity new.granularity → 0 < new.size →
       (new.victim_size ≡ 0 → new.victim ≡ 0) → (new.victim_size ≢ 0 → extent_at new.victim (extents_in (state_of word new)) ≡ Some (extent new.victim new.victim_size Free)) → IsSound regions word new
-  keeps_sound granularity some last none named = record {
+  keeps_sound granularity some none named = record {
     granularity = granularity;
     segments = segments_now;
     apart = apart_now;
@@ -180,7 +179,6 @@ module _ {A : Type 0} (regions : A → List Grant) (word : A → ℕ → ℕ) (h
     none = λ gone. absurd (omega (arith, gone, some));
     no_victim = none;
     victim = named;
-    last = λ there. last;
   }
 
   -- ---- extents in use
@@ -212,15 +210,8 @@ module _ {A : Type 0} (regions : A → List Grant) (word : A → ℕ → ℕ) (h
       go [] h = h.0
       go (first ∷ front) h = h.0
 
-  -- it is sound where the regions and the head segment's bounds stayed
+  -- it is sound where the head segment's size stayed
   pub stays_sound : regions new.system ≡ regions heap.system → new.granularity ≡ heap.granularity → new.base ≡ heap.base → new.size ≡ heap.size → new.flags ≡ heap.flags →
       (new.victim_size ≡ 0 → new.victim ≡ 0) → (new.victim_size ≢ 0 → extent_at new.victim (extents_in (state_of word new)) ≡ Some (extent new.victim new.victim_size Free)) → IsSound regions word new
   stays_sound same granularity base size flags none named =
-      let last = sound.last some_there in
-      keeps_sound (subst IsGranularity (sym granularity) sound.granularity) (subst (λ (n : ℕ). 0 < n) (sym size) some_there)
-      (record {
-        place = subst (λ (rs : List Grant). IsTrue (is_next (record { base = new.base + new.size; size = 0; flags = 0 }) rs)) (sym same)
-            (subst (λ (end : ℕ). IsTrue (is_next (record { base = end; size = 0; flags = 0 }) (regions heap.system))) (λ i. (sym base) i + (sym size) i) last.place);
-        flags = flags ∙ last.flags;
-      })
-      none named
+      keeps_sound (subst IsGranularity (sym granularity) sound.granularity) (subst (λ (n : ℕ). 0 < n) (sym size) some_there) none named

@@ -1,5 +1,5 @@
 -- The top of a heap is cut.
-use Rattle.std.proofs.Common.{◌≡◌, ℕ, ◌+◌, ◌-◌, ◌%◌, ◌^◌, ◌<◌, ◌≤◌, inl, inr, true, false, ◌==◌, List, [], ◌∷◌, ◌++◌, Some, refl, sym, ◌∙◌, ap, subst, arith}
+use Rattle.std.proofs.Common.{◌≡◌, ◌≢◌, ℕ, ◌+◌, ◌-◌, ◌%◌, ◌^◌, ◌<◌, ◌≤◌, inl, inr, true, false, ◌==◌, List, [], ◌∷◌, ◌++◌, Some, refl, sym, ◌∙◌, ap, subst, arith}
 use Rattle.heap_memory.specs.declared.grant.Grant.{Grant}
 use Rattle.heap_memory.specs.Words.{IsStored}
 use Rattle.dlmalloc_chunks.specs.Chunk.{AreStored, HasHead}
@@ -7,7 +7,7 @@ use Rattle.dlmalloc_chunks.specs.declared.extent.Extent.{Extent}
 use Rattle.dlmalloc_chunks.specs.declared.extent.Kind.TheVariants.{Used, Free, Top, Record, Foot}
 use Rattle.dlmalloc_chunks.specs.Head.{head_of}
 use Rattle.dlmalloc.specs.Extents.{extent_at, Stands, last_kind}
-use Rattle.dlmalloc.specs.State.{Segment}
+use Rattle.dlmalloc.specs.State.{Segment, extents_in}
 use Rattle.dlmalloc.specs.Taken.{cut}
 use Rattle.dlmalloc.specs.Boundaries.{IsBoundary}
 use Rattle.dlmalloc.specs.Moves.{IsRunOf}
@@ -108,6 +108,11 @@ module _ {A : Type 0} (regions : A → List Grant) (word : A → ℕ → ℕ) (h
           (λ found. absurd (let no : Top ≡ Free = top_one heap.victim (extent heap.victim heap.victim_size Free) found in cc)) (sound.victim more));
       words = keeps_words regions word heap after sound (chunk ∷ []) halves cut_step;
     }
+
+    -- all others are found as before
+    pub others_still : (one : Extent) → one.at ≢ heap.top → extent_at one.at (extents_in (state_of word heap)) ≡ Some one → extent_at one.at (extents_in (state_of word after)) ≡ Some one
+    others_still one other there = found_again regions word heap after sound (chunk ∷ []) halves cut_step one.at one
+        (λ found. absurd (other (ap (λ (e : Extent). e.at) (sym (found_one one.at chunk one found))))) there
 
     -- the heads that the top and its foot had are boundaries still
     pub head_boundary : IsBoundary (state_of word after) (heap.top + 8)

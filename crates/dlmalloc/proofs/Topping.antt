@@ -228,6 +228,7 @@ module _ {A : Type 0} (regions : A → List Grant) (word : A → ℕ → ℕ) (h
             less = has_less regions word heap (after victim victim_size) sound less more (step victim victim_size) chunk fewer;
             sound = stays_sound regions word heap (after victim victim_size) sound less more (step victim victim_size) same refl refl refl refl none named;
             words = keeps_words regions word heap (after victim victim_size) sound less more (step victim victim_size);
+            records = λ one is there. found_again regions word heap (after victim victim_size) sound less more (step victim victim_size) one.at one (λ found. tails one.at one found is) there;
           }
 
       -- the victim went into it

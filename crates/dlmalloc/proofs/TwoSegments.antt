@@ -103,5 +103,4 @@ two_sound = record {
   none = λ gone. absurd (cc);
   no_victim = λ none. refl;
   victim = λ some. absurd (some refl);
-  last = λ some. record { place = refl; flags = refl };
 }

@@ -174,13 +174,13 @@ record_tail regions words segment part at there = has_tail regions words segment
 -- ---- the segments of a heap
 
 -- the segments up to a record's, of which something is known
-pub record PassedSegments {A : Type 0} (word : A → ℕ → ℕ) (heap : Dlmalloc A) (payload : ℕ) (known : List Extent → Type 0) : Type 0 where
+pub record PassedSegments {A : Type 0} (word : A → ℕ → ℕ) (heap : Dlmalloc A) (payload : ℕ) (known : List Segment → Type 0) : Type 0 where
   pub passed : List Segment
   pub rest : List Segment
   pub is : segments_of word heap ≡ passed ++ rest
   pub some : 0 < length passed
   pub told : AreRecords (word heap.system) payload rest
-  pub so_far : known (extents_all passed)
+  pub so_far : known passed
 
 -- the segment that a record tells, and those behind it
 pub record NextSegment (regions : List Grant) (words : ℕ → ℕ) (payload : ℕ) (rest : List Segment) : Type 0 where
@@ -213,8 +213,8 @@ rest_segments regions words [] back parts = parts
 rest_segments regions words (first ∷ front) back parts = rest_segments regions words front back parts.1
 
 -- the head is passed
-pub head_passed : {A : Type 0} (regions : A → List Grant) (word : A → ℕ → ℕ) (heap : Dlmalloc A) → IsSound regions word heap → 0 < heap.size → (known : List Extent → Type 0) →
-    ((segment : Segment) → segment.base ≡ heap.base → HasTail (regions heap.system) (word heap.system) segment heap.top (extent heap.top heap.top_size Top ∷ extent (heap.top + heap.top_size) 80 Foot ∷ []) → known segment.extents) →
+pub head_passed : {A : Type 0} (regions : A → List Grant) (word : A → ℕ → ℕ) (heap : Dlmalloc A) → IsSound regions word heap → 0 < heap.size → (known : List Segment → Type 0) →
+    ((segment : Segment) → segment.base ≡ heap.base → HasTail (regions heap.system) (word heap.system) segment heap.top (extent heap.top heap.top_size Top ∷ extent (heap.top + heap.top_size) 80 Foot ∷ []) → known (segment ∷ [])) →
     PassedSegments word heap heap.next known
 head_passed regions word heap sound some known holds = go (segments_of word heap) refl sound.segments sound.told
   where
@@ -226,7 +226,7 @@ head_passed regions word heap sound some known holds = go (segments_of word heap
       is = is;
       some = omega arith;
       told = h.5;
-      so_far = subst known (sym (append-nil segment.extents)) (holds segment (sym h.1) (top_tail (regions heap.system) (word heap.system) segment parts.0 heap.top heap.top_size h.4));
+      so_far = holds segment (sym h.1) (top_tail (regions heap.system) (word heap.system) segment parts.0 heap.top heap.top_size h.4);
     }
 
 module _ {A : Type 0} (regions : A → List Grant) (word : A → ℕ → ℕ) (heap : Dlmalloc A) (sound : IsSound regions word heap) where
@@ -238,7 +238,7 @@ module _ {A : Type 0} (regions : A → List Grant) (word : A → ℕ → ℕ) (h
       go [] parts h = absurd (omega (arith, some, h))
       go (segment ∷ segments) parts h = subst (λ (base : ℕ). IsChunkRun (regions heap.system) (word heap.system) base heap.top) (sym h.1) (top_tail (regions heap.system) (word heap.system) segment parts.0 heap.top heap.top_size h.4).run
 
-  module _ (payload : ℕ) (known : List Extent → Type 0) (p : PassedSegments word heap payload known) where
+  module _ (payload : ℕ) (known : List Segment → Type 0) (p : PassedSegments word heap payload known) where
     parts_left : AreSegments (regions heap.system) (word heap.system) p.rest
     parts_left = rest_segments (regions heap.system) (word heap.system) p.passed p.rest (subst (AreSegments (regions heap.system) (word heap.system)) p.is sound.segments)
 
@@ -249,8 +249,8 @@ module _ {A : Type 0} (regions : A → List Grant) (word : A → ℕ → ℕ) (h
     left_read = records_read (regions heap.system) (word heap.system) (2 ^ 64) payload p.rest few_left parts_left p.told
 
     -- all are passed where no record is left
-    pub all_segments : payload ≡ 0 → known (extents_all (segments_of word heap))
-    all_segments none = subst known (ap extents_all (sym (p.is ∙ (ap (λ (ss : List Segment). p.passed ++ ss) (empty p.rest p.told) ∙ append-nil p.passed)))) p.so_far
+    pub all_segments : payload ≡ 0 → known (segments_of word heap)
+    all_segments none = subst known (sym (p.is ∙ (ap (λ (ss : List Segment). p.passed ++ ss) (empty p.rest p.told) ∙ append-nil p.passed))) p.so_far
       where
         empty : (rest : List Segment) → AreRecords (word heap.system) payload rest → rest ≡ []
         empty [] h = refl
@@ -311,16 +311,22 @@ module _ {A : Type 0} (regions : A → List Grant) (word : A → ℕ → ℕ) (h
       payload_run = subst (λ (base : ℕ). IsChunkRun (regions heap.system) words base (payload - 16)) (sym ahead_segment.base) tail_there.run
 
       -- it is passed
-      pub onward_segment : (known' : List Extent → Type 0) → known' (extents_all p.passed ++ (chunks_between words (words payload) (payload - 16) ++ record_of (payload - 16) (words payload + words (payload + 8)) ∷ [])) → PassedSegments word heap (words (payload + 16)) known'
+      pub onward_segment : (known' : List Segment → Type 0) → known' (p.passed ++ segment ∷ []) → PassedSegments word heap (words (payload + 16)) known'
       onward_segment known' holds = record {
         passed = p.passed ++ segment ∷ [];
         rest = ahead_segment.others;
         is = p.is ∙ (ap (λ (ss : List Segment). p.passed ++ ss) ahead_segment.is ∙ sym (append_assoc p.passed (segment ∷ []) ahead_segment.others));
         some = (let sum = length-append p.passed (segment ∷ []) in omega arith);
         told = ahead_segment.told;
-        so_far = subst known' (sym (all_among p.passed segment [] ∙ ap (λ (es : List Extent). extents_all p.passed ++ es) (append-nil segment.extents ∙ tail_there.is))
-            ) (subst (λ (es : List Extent). known' (extents_all p.passed ++ es)) (λ i. chunks_between words (ahead_segment.base i) (payload - 16) ++ record_of (payload - 16) (ahead_segment.base i + ahead_segment.size i) ∷ []) holds);
+        so_far = holds;
       }
+
+      -- its extents
+      pub extents_told : segment.extents ≡ chunks_between words (words payload) (payload - 16) ++ record_of (payload - 16) (words payload + words (payload + 8)) ∷ []
+      extents_told = tail_there.is ∙ (λ i. chunks_between words ((sym ahead_segment.base) i) (payload - 16) ++ record_of (payload - 16) ((sym ahead_segment.base) i + (sym ahead_segment.size) i) ∷ [])
+
+      pub passed_more : extents_all (p.passed ++ segment ∷ []) ≡ extents_all p.passed ++ (chunks_between words (words payload) (payload - 16) ++ record_of (payload - 16) (words payload + words (payload + 8)) ∷ [])
+      passed_more = all_among p.passed segment [] ∙ ap (λ (es : List Extent). extents_all p.passed ++ es) (append-nil segment.extents ∙ extents_told)
 
       -- and fewer are left
       pub fewer_left : length (records_from words (2 ^ 64) (words (payload + 16))) < length (records_from words (2 ^ 64) payload)

@@ -1,8 +1,9 @@
 -- The words in which a heap tells its extents.
-use Rattle.std.specs.Prelude.{◌≡◌, ℕ, ◌+◌, ◌⊎◌, List, Some, IsTrue}
+use Rattle.std.specs.Prelude.{◌≡◌, ℕ, ◌+◌, ◌<◌, ◌⊎◌, List, Some, IsTrue}
 use Rattle.heap_memory.specs.declared.grant.Grant.{Grant}
 use Rattle.heap_memory.specs.Regions.{IsWordOf}
 use Rattle.dlmalloc_chunks.specs.declared.extent.Extent.{Extent}
+use Rattle.dlmalloc_chunks.specs.declared.extent.Kind.TheVariants.{Record}
 use Rattle.dlmalloc.specs.Extents.{extent_at}
 use Rattle.dlmalloc.specs.State.{HeapState, extents_in, is_plain}
 
@@ -17,6 +18,18 @@ pub record IsBoundary (heap : HeapState) (k : ℕ) : Type 0 where
 -- into the top.
 abbrev pub OnlyBoundariesChange : List Grant → HeapState → (ℕ → ℕ) → (ℕ → ℕ) → Type 0
 OnlyBoundariesChange regions heap old new = (k : ℕ) → IsWordOf regions k → (IsBoundary heap k → ⊥) → new k ≡ old k
+
+-- a word of a record, behind its first, which is that of the extent before it
+pub record IsInRecord (heap : HeapState) (k : ℕ) : Type 0 where
+  pub extent : Extent
+  pub there : extent_at extent.at (extents_in heap) ≡ Some extent
+  pub is : extent.kind ≡ Record
+  pub low : extent.at < k
+  pub high : k < extent.at + extent.size
+
+-- Where segments are told anew, words of records may change too.
+abbrev pub OnlyTagsChange : List Grant → HeapState → (ℕ → ℕ) → (ℕ → ℕ) → Type 0
+OnlyTagsChange regions heap old new = (k : ℕ) → IsWordOf regions k → (IsBoundary heap k → ⊥) → (IsInRecord heap k → ⊥) → new k ≡ old k
 
 -- Each word that a call was granted is 0, unless it stands at a boundary of the heap.
 abbrev pub NewWordsAreZero : List Grant → List Grant → HeapState → (ℕ → ℕ) → Type 0

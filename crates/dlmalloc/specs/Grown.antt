@@ -1,5 +1,6 @@
 -- A heap before and after it asked its system for a region.
-use Rattle.std.specs.Prelude.{◌≡◌, ◌≢◌, ℕ, ◌+◌, ◌%◌, ◌<◌, ◌≤◌, Bool, true, List, [], ◌∷◌, Some}
+use Rattle.std.specs.Prelude.{◌≡◌, ◌≢◌, ℕ, ◌+◌, ◌-◌, ◌%◌, ◌^◌, ◌<◌, ◌≤◌, ◌⊎◌, Bool, true, false, List, [], ◌∷◌, Some}
+use Rattle.std.specs.List.{AllByRecursion}
 use Rattle.heap_memory.specs.declared.grant.Grant.{Grant}
 use Rattle.heap_memory.specs.Regions.{IsWordOf, with_grant}
 use Rattle.heap_memory.specs.Events.{Event, Granted}
@@ -7,24 +8,82 @@ use Rattle.dlmalloc_chunks.specs.Request.{round_up}
 use Rattle.dlmalloc_chunks.specs.declared.extent.Extent.{Extent}
 use Rattle.dlmalloc_chunks.specs.declared.extent.Kind.TheVariants.{Used}
 use Rattle.dlmalloc.specs.Extents.{extent_at}
-use Rattle.dlmalloc.specs.State.{extents_in}
-use Rattle.dlmalloc.specs.Granted.{granted}
+use Rattle.dlmalloc.specs.State.{HeapState, Segment, extents_in}
+use Rattle.dlmalloc.specs.Boundaries.{IsBoundary, IsInRecord, OnlyTagsChange}
+use Rattle.dlmalloc.specs.Granted.{opened, is_put_before, prepended, granted}
+use Rattle.dlmalloc.specs.Freed.{freed}
+use Rattle.dlmalloc.specs.Blocks.{HasOneMore}
+use Rattle.dlmalloc.specs.Segments.{IsRun, IsApartFrom}
 use Rattle.dlmalloc.specs.Heap.{state_of, IsSound}
 use Rattle.dlmalloc.specs.declared.heap.Dlmalloc.{Dlmalloc}
+
+-- A grant is a region that no segment has.
+pub record IsFresh (regions : List Grant) (segments : List Segment) (grant : Grant) : Type 0 where
+  pub run : IsRun regions grant.base grant.size grant.flags
+  pub apart : AllByRecursion (λ (segment : Segment). IsApartFrom segment (opened grant)) segments
+  pub long : 128 ≤ grant.size
+  pub base_aligned : grant.base % 16 ≡ 0
+  pub size_aligned : grant.size % 16 ≡ 0
+  pub low : 4096 ≤ grant.base
+  pub high : grant.base + grant.size < 2 ^ 64
+
+-- the same extents are in use
+pub record HasSameUsed (old new : HeapState) : Type 0 where
+  pub still : (used : Extent) → used.kind ≡ Used → extent_at used.at (extents_in old) ≡ Some used → extent_at used.at (extents_in new) ≡ Some used
+  pub before : (used : Extent) → used.kind ≡ Used → extent_at used.at (extents_in new) ≡ Some used → extent_at used.at (extents_in old) ≡ Some used
+
+-- A grant became part of a heap, and the top is in it.
+pub record IsJoined {A : Type 0} (regions : A → List Grant) (word : A → ℕ → ℕ) (follows : A → List Event → A → Type 0) (old : Dlmalloc A) (grant : Grant) (new : Dlmalloc A) : Type 0 where
+  pub state : (n : ℕ) → state_of word new ≡ granted grant n (state_of word old)
+  pub sound : IsSound regions word new
+  pub there : 0 < new.size
+  pub room : grant.size ≤ new.top_size + 80
+  pub regions_same : regions new.system ≡ regions old.system
+  pub followed : follows old.system [] new.system
+  pub used : HasSameUsed (state_of word old) (state_of word new)
+  pub words : OnlyTagsChange (regions old.system) (state_of word new) (word old.system) (word new.system)
+  -- of the grant the heads of the top and of its foot alone are written
+  pub new_words : (k : ℕ) → IsWordOf (regions old.system) k → grant.base ≤ k → k < grant.base + grant.size → k ≢ new.top + 8 → k ≢ new.top + new.top_size + 8 → word new.system k ≡ word old.system k
+
+-- A grant stands before a segment of a heap, in two parts that are in use.
+pub record IsPrepended {A : Type 0} (regions : A → List Grant) (word : A → ℕ → ℕ) (follows : A → List Event → A → Type 0) (old : Dlmalloc A) (grant : Grant) (n : ℕ) (new : Dlmalloc A) : Type 0 where
+  pub state : state_of word new ≡ prepended grant n (state_of word old)
+  pub sound : IsSound regions word new
+  pub regions_same : regions new.system ≡ regions old.system
+  pub followed : follows old.system [] new.system
+  pub chunk : extent_at grant.base (extents_in (state_of word new)) ≡ Some (record { at = grant.base; size = n; kind = Used })
+  pub rest : extent_at (grant.base + n) (extents_in (state_of word new)) ≡ Some (record { at = grant.base + n; size = grant.size - n; kind = Used })
+  -- what was found still is, and nothing else but those two is
+  pub still : (one : Extent) → extent_at one.at (extents_in (state_of word old)) ≡ Some one → extent_at one.at (extents_in (state_of word new)) ≡ Some one
+  pub before : (one : Extent) → one.at ≢ grant.base → one.at ≢ grant.base + n → extent_at one.at (extents_in (state_of word new)) ≡ Some one → extent_at one.at (extents_in (state_of word old)) ≡ Some one
+  pub apart : (one : Extent) → extent_at one.at (extents_in (state_of word old)) ≡ Some one → (one.at ≢ grant.base) × (one.at ≢ grant.base + n)
+  pub words : (k : ℕ) → IsWordOf (regions old.system) k → (k < grant.base) ⊎ (grant.base + grant.size ≤ k) → (IsInRecord (state_of word new) k → ⊥) → word new.system k ≡ word old.system k
+  pub new_words : (k : ℕ) → IsWordOf (regions old.system) k → grant.base ≤ k → k < grant.base + grant.size → k ≢ grant.base + 8 → k ≢ grant.base + n + 8 → word new.system k ≡ word old.system k
+
+-- Of such a grant the first part is a block's, and the other was freed.
+pub record IsPutBefore {A : Type 0} (regions : A → List Grant) (word : A → ℕ → ℕ) (follows : A → List Event → A → Type 0) (old : Dlmalloc A) (grant : Grant) (n : ℕ) (new : Dlmalloc A) : Type 0 where
+  pub state : state_of word new ≡ freed (prepended grant n (state_of word old)) (grant.base + n)
+  pub sound : IsSound regions word new
+  pub regions_same : regions new.system ≡ regions old.system
+  pub followed : follows old.system [] new.system
+  pub chunk : extent_at grant.base (extents_in (state_of word new)) ≡ Some (record { at = grant.base; size = n; kind = Used })
+  pub more : HasOneMore (state_of word old) (state_of word new) grant.base
+  pub words : (k : ℕ) → IsWordOf (regions old.system) k → (k < grant.base) ⊎ (grant.base + grant.size ≤ k) → (IsBoundary (state_of word new) k → ⊥) → (IsInRecord (state_of word new) k → ⊥) → word new.system k ≡ word old.system k
+  pub new_words : (k : ℕ) → IsWordOf (regions old.system) k → grant.base ≤ k → k < grant.base + grant.size → (IsBoundary (state_of word new) k → ⊥) → word new.system k ≡ word old.system k
 
 -- A region was granted, with room for a chunk of n bytes at the top. The extents in use are the same.
 pub record IsGrown {A : Type 0} (regions : A → List Grant) (word : A → ℕ → ℕ) (zeros : A → Bool) (follows : A → List Event → A → Type 0) (old : Dlmalloc A) (n : ℕ) (new : Dlmalloc A) : Type 0 where
   pub grant : Grant
   pub followed : follows old.system (Granted (round_up (n + 96) old.granularity) grant ∷ []) new.system
-  pub state : state_of word new ≡ granted grant (state_of word old)
+  pub apart : is_put_before grant (state_of word old).segments ≡ false
+  pub state : state_of word new ≡ granted grant n (state_of word old)
   pub sound : IsSound regions word new
   pub there : 0 < new.size
   pub room : n < new.top_size
   pub with_it : regions new.system ≡ with_grant grant (regions old.system)
-  pub used_still : (used : Extent) → used.kind ≡ Used → extent_at used.at (extents_in (state_of word old)) ≡ Some used → extent_at used.at (extents_in (state_of word new)) ≡ Some used
-  pub used_before : (used : Extent) → used.kind ≡ Used → extent_at used.at (extents_in (state_of word new)) ≡ Some used → extent_at used.at (extents_in (state_of word old)) ≡ Some used
-  -- the heads of the top and of its foot alone are written
-  pub words : (k : ℕ) → IsWordOf (regions old.system) k → k ≢ new.top + 8 → k ≢ new.top + new.top_size + 8 → word new.system k ≡ word old.system k
+  pub used : HasSameUsed (state_of word old) (state_of word new)
+  pub words : OnlyTagsChange (regions old.system) (state_of word new) (word old.system) (word new.system)
+  -- of the grant the heads of the top and of its foot alone are written
   pub new_words : zeros old.system ≡ true → (k : ℕ) → grant.base ≤ k → k < grant.base + grant.size → k % 8 ≡ 0 → k ≢ new.top + 8 → k ≢ new.top + new.top_size + 8 → word new.system k ≡ 0
 
 -- Nothing was granted, and all is as it was.

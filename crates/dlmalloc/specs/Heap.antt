@@ -1,8 +1,7 @@
 -- What the fields of a heap and the words of its system mean.
-use Rattle.std.specs.Prelude.{◌≡◌, ◌≢◌, ℕ, ◌+◌, ◌/◌, ◌^◌, ◌<◌, ◌≤◌, ◌==◌, if◌then◌else◌, List, [], ◌∷◌, ◌++◌, IsTrue, Some}
+use Rattle.std.specs.Prelude.{◌≡◌, ◌≢◌, ℕ, ◌+◌, ◌/◌, ◌^◌, ◌<◌, ◌≤◌, ◌==◌, if◌then◌else◌, List, [], ◌∷◌, ◌++◌, Some}
 use Rattle.std.specs.Int.{IsPowerOfTwo}
 use Rattle.heap_memory.specs.declared.grant.Grant.{Grant}
-use Rattle.heap_memory.specs.Regions.{is_next}
 use Rattle.dlmalloc_chunks.specs.declared.extent.Kind.TheVariants.{Free, Top}
 use Rattle.dlmalloc.specs.Extents.{chunks_from, extent_at}
 use Rattle.dlmalloc.specs.State.{HeapState, Segment, extents_in}
@@ -32,12 +31,6 @@ AreTold words heap (segment ∷ segments) =
     (0 < heap.size) × (heap.base ≡ segment.base) × (heap.size ≡ segment.size) × (heap.flags ≡ segment.flags)
     × (extent_at heap.top segment.extents ≡ Some (record { at = heap.top; size = heap.top_size; kind = Top })) × AreRecords words heap.next segments
 
--- The region that is granted next begins where the head segment ends, and has its flags: systems grant behind all regions,
--- with no flags.
-pub record IsLast {A : Type 0} (regions : List Grant) (heap : Dlmalloc A) : Type 0 where
-  pub place : IsTrue (is_next (record { base = heap.base + heap.size; size = 0; flags = 0 }) regions)
-  pub flags : heap.flags ≡ 0
-
 -- The heap keeps to its rules: each of its segments is one, they are apart and told by the fields and the records, and the
 -- victim is one of the free extents.
 pub record IsSound {A : Type 0} (regions : A → List Grant) (word : A → ℕ → ℕ) (heap : Dlmalloc A) : Type 0 where
@@ -48,4 +41,3 @@ pub record IsSound {A : Type 0} (regions : A → List Grant) (word : A → ℕ �
   pub none : heap.size ≡ 0 → heap.top_size ≡ 0
   pub no_victim : heap.victim_size ≡ 0 → heap.victim ≡ 0
   pub victim : heap.victim_size ≢ 0 → extent_at heap.victim (extents_in (state_of word heap)) ≡ Some (record { at = heap.victim; size = heap.victim_size; kind = Free })
-  pub last : 0 < heap.size → IsLast (regions heap.system) heap

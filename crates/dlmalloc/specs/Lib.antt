@@ -7,12 +7,14 @@ pub mod Resized
 pub mod Aligned
 pub mod Granted
 pub mod Segments
+pub mod Record
 pub mod FreeExtents
 pub mod Moves
 pub mod Walk
 pub mod Heap
 pub mod Blocks
 pub mod Boundaries
+pub mod Prepended
 pub mod Grown
 pub mod Served
 pub mod Requested

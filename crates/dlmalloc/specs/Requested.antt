@@ -59,7 +59,7 @@ spans heap = map {B = Segment} (λ segment. record segment { extents = [] }) hea
 abbrev pub IsFound : {A : Type 0} → (A → List Event → A → Type 0) → (A → List Grant) → A → HeapState → ℕ → A → HeapState → Type 0
 IsFound follows regions system old n system' new =
     ((spans new ≡ spans old) × follows system [] system' × (regions system' ≡ regions system))
-    ⊎ ((grant : Grant) × (chosen old n ≡ None) × IsFull old (n + 256) × (spans new ≡ spans (granted grant old))
+    ⊎ ((grant : Grant) × (chosen old n ≡ None) × IsFull old (n + 256) × (spans new ≡ spans (granted grant n old))
     × follows system (Granted (round_up (n + 96) old.granularity) grant ∷ []) system' × (regions system' ≡ with_grant grant (regions system)))
 
 -- What holds of each block that is handed out, at whatever alignment.

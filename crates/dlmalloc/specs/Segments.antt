@@ -39,12 +39,6 @@ abbrev pub AreApart : List Segment → Type 0
 AreApart [] = ⊤
 AreApart (segment ∷ segments) = AllByRecursion (IsApartFrom segment) segments × AreApart segments
 
--- each segment ends before the next one begins
-abbrev pub AreAscending : List Segment → Type 0
-AreAscending [] = ⊤
-AreAscending (segment ∷ []) = ⊤
-AreAscending (segment ∷ next ∷ segments) = (segment.base + segment.size ≤ next.base) × AreAscending (next ∷ segments)
-
 -- whether a segment has the byte at an address
 abbrev pub has_byte_in : ℕ → Segment → Bool
 has_byte_in address segment = nat_le segment.base address && nat_lt address (segment.base + segment.size)

@@ -1,5 +1,5 @@
 -- A request is served, or it is refused; a block is freed (dlmalloc: `malloc`, `free`).
-use Rattle.std.specs.Prelude.{◌≡◌, ◌≢◌, ℕ, ◌+◌, ◌-◌, ◌%◌, ◌^◌, ◌<◌, ◌≤◌, ◌⊎◌, ⊤, max, Bool, true, ◌&&◌, ◌==◌, nat_lt, List, [], ◌∷◌, map, filter, option_map, None, Some, IsTrue}
+use Rattle.std.specs.Prelude.{◌≡◌, ◌≢◌, ℕ, ◌+◌, ◌-◌, ◌%◌, ◌^◌, ◌<◌, ◌≤◌, ◌⊎◌, ⊤, max, Bool, true, false, ◌&&◌, ◌==◌, nat_lt, List, [], ◌∷◌, map, filter, option_map, None, Some, IsTrue}
 use Rattle.std.specs.List.{list_any, AllByRecursion}
 use Rattle.heap_memory.specs.declared.grant.Grant.{Grant}
 use Rattle.heap_memory.specs.declared.grant.GrantFault.{GrantFault}
@@ -10,17 +10,17 @@ use Rattle.dlmalloc_chunks.specs.Request.{padded, limit, round_up}
 use Rattle.dlmalloc_chunks.specs.declared.extent.Extent.{Extent}
 use Rattle.dlmalloc_chunks.specs.declared.extent.Kind.TheVariants.{Used}
 use Rattle.dlmalloc.specs.Extents.{extent_at}
-use Rattle.dlmalloc.specs.State.{HeapState, Segment, extents_in, is_top, shown}
-use Rattle.dlmalloc.specs.Segments.{AreAscending, has_byte_in}
+use Rattle.dlmalloc.specs.State.{HeapState, Segment, extents_in, extents_by_address, is_top, shown}
+use Rattle.dlmalloc.specs.Segments.{has_byte_in}
 use Rattle.dlmalloc_chunks.specs.Kinds.{ends_segment}
 use Rattle.dlmalloc_chunks.specs.Tiling.{AreExtents, has_byte}
 use Rattle.dlmalloc.specs.Choice.{chosen, IsChosen}
 use Rattle.dlmalloc.specs.Taken.{taken}
-use Rattle.dlmalloc.specs.Granted.{granted}
+use Rattle.dlmalloc.specs.Granted.{is_put_before, granted}
 use Rattle.dlmalloc.specs.Freed.{freed}
 use Rattle.dlmalloc.specs.Blocks.{IsBlock, HasOneMore, IsFull, KeepsBlocks}
-use Rattle.dlmalloc.specs.Boundaries.{OnlyBoundariesChange, NewWordsAreZero}
-use Rattle.dlmalloc.specs.Heap.{state_of, IsLast, IsSound}
+use Rattle.dlmalloc.specs.Boundaries.{OnlyBoundariesChange, OnlyTagsChange, NewWordsAreZero}
+use Rattle.dlmalloc.specs.Heap.{state_of, IsSound}
 use Rattle.dlmalloc.specs.Grown.{IsAsItWas}
 use Rattle.dlmalloc.specs.declared.heap.Dlmalloc.{Dlmalloc}
 use Rattle.dlmalloc.specs.declared.malloc_error.MallocError.{MallocError}
@@ -33,16 +33,21 @@ pub record IsTaken (old : HeapState) (n at : ℕ) (new : HeapState) : Type 0 whe
   pub place : at ≡ extent.at
   pub state : new ≡ taken old extent n
 
--- None was chosen, and so blocks leave no run of n + 256 bytes: a region was granted, and the chunk was cut from the top that
--- it makes.
+-- a chunk of n bytes at an address was cut from the top
+pub record IsTopTaken (old : HeapState) (n at : ℕ) (new : HeapState) : Type 0 where
+  pub top : Extent
+  pub is : IsTrue (is_top top.kind)
+  pub there : extent_at top.at (extents_in old) ≡ Some top
+  pub place : at ≡ top.at
+  pub state : new ≡ taken old top n
+
+-- None was chosen, and so blocks leave no run of n + 256 bytes: a region was granted. Where it is put before a segment, the
+-- chunk is cut from its start, and else from the top that it makes.
 pub record IsTakenNew (old : HeapState) (n at : ℕ) (grant : Grant) (new : HeapState) : Type 0 where
   pub none_chosen : chosen old n ≡ None
   pub full : IsFull old (n + 256)
-  pub top : Extent
-  pub is : IsTrue (is_top top.kind)
-  pub there : extent_at top.at (extents_in (granted grant old)) ≡ Some top
-  pub place : at ≡ top.at
-  pub state : new ≡ taken (granted grant old) top n
+  pub of_grant : is_put_before grant old.segments ≡ true → (at ≡ grant.base) × (new ≡ granted grant n old)
+  pub of_top : is_put_before grant old.segments ≡ false → IsTopTaken (granted grant n old) n at new
 
 -- a chunk of n bytes was cut at an address, with what the system says of the time, and its regions at the end
 abbrev pub IsCut : {A : Type 0} → (A → List Event → A → Type 0) → (A → List Grant) → A → HeapState → ℕ → ℕ → A → HeapState → Type 0
@@ -72,14 +77,16 @@ pub record IsMoved {A : Type 0} (regions : A → List Grant) (word : A → ℕ �
   pub regions_same : regions new.system ≡ regions old.system
   pub followed : follows old.system [] new.system
 
--- A chunk of n bytes was cut at an address: it holds each block whose padded size it is.
+-- A chunk of n bytes was cut at an address: it holds each block whose padded size it is. Where no region was granted, words
+-- at boundaries alone changed, and else words of records too.
 pub record IsCutOut {A : Type 0} (regions : A → List Grant) (word : A → ℕ → ℕ) (zeros : A → Bool) (follows : A → List Event → A → Type 0) (old : Dlmalloc A) (n at : ℕ) (new : Dlmalloc A) : Type 0 where
   pub cut : IsCut follows regions old.system (state_of word old) n at new.system (state_of word new)
   pub small : at + 16 < 2 ^ 64
   pub more : HasOneMore (state_of word old) (state_of word new) at
   pub holds : (size : ℕ) → size + 8 ≤ n → n ≤ size + 32 → IsBlock (state_of word new) (at + 16) size
   pub kept : KeepsBlocks (extents_in (state_of word old)) (word old.system) (word new.system)
-  pub words : OnlyBoundariesChange (regions old.system) (state_of word new) (word old.system) (word new.system)
+  pub words : OnlyTagsChange (regions old.system) (state_of word new) (word old.system) (word new.system)
+  pub boundaries : regions new.system ≡ regions old.system → OnlyBoundariesChange (regions old.system) (state_of word new) (word old.system) (word new.system)
   pub new_words : zeros old.system ≡ true → NewWordsAreZero (regions old.system) (regions new.system) (state_of word new) (word new.system)
   pub sound : IsSound regions word new
 
@@ -93,7 +100,8 @@ pub record IsServed {A : Type 0} (regions : A → List Grant) (word : A → ℕ 
   pub granted : (k : ℕ) → address ≤ k → k < address + max size 1 → IsTrue (is_granted (regions new.system) k)
   pub more : HasOneMore (state_of word old) (state_of word new) (address - 16)
   pub kept : KeepsBlocks (extents_in (state_of word old)) (word old.system) (word new.system)
-  pub words : OnlyBoundariesChange (regions old.system) (state_of word new) (word old.system) (word new.system)
+  pub words : OnlyTagsChange (regions old.system) (state_of word new) (word old.system) (word new.system)
+  pub boundaries : regions new.system ≡ regions old.system → OnlyBoundariesChange (regions old.system) (state_of word new) (word old.system) (word new.system)
   pub new_words : zeros old.system ≡ true → NewWordsAreZero (regions old.system) (regions new.system) (state_of word new) (word new.system)
   pub sound : IsSound regions word new
 
@@ -121,10 +129,10 @@ AreSpans segments begins (extent ∷ extents) =
     × (IsTrue (ends_segment extent.kind) → IsTrue (list_any (λ segment. segment.base + segment.size == extent.at + extent.size) segments))
     × AreSpans segments (ends_segment extent.kind) extents
 
--- The extents of a heap, in a list, segment by segment.
+-- The extents of a heap, in a list, by ascending address.
 pub record IsListed {A : Type 0} (word : A → ℕ → ℕ) (heap : Dlmalloc A) (list : List Extent) : Type 0 where
-  pub is : list ≡ map (shown (state_of word heap)) (extents_in (state_of word heap))
-  pub tiled : AreAscending (state_of word heap).segments → AreExtents list
+  pub is : list ≡ map (shown (state_of word heap)) (extents_by_address (state_of word heap))
+  pub tiled : AreExtents list
   pub bytes : (address : ℕ) → list_any (has_byte address) list ≡ list_any (has_byte_in address) (state_of word heap).segments
   pub spans : AreSpans (state_of word heap).segments true list
   -- the search of the list and that of the state find the same
@@ -136,10 +144,9 @@ pub record IsListed {A : Type 0} (word : A → ℕ → ℕ) (heap : Dlmalloc A) 
 abbrev pub regions_in : Segment → List Grant → List Grant
 regions_in segment regions = filter (λ region. nat_lt region.base (segment.base + segment.size) && nat_lt segment.base (region.base + region.size)) regions
 
--- The regions of a heap's segments stay, and the last region still ends where the head segment does.
-pub record KeepsRegions {A : Type 0} (heap : Dlmalloc A) (segments : List Segment) (old new : List Grant) : Type 0 where
-  pub same : AllByRecursion (λ segment. regions_in segment new ≡ regions_in segment old) segments
-  pub last : 0 < heap.size → IsLast new heap
+-- The regions of a heap's segments stay.
+abbrev pub KeepsRegions : List Segment → List Grant → List Grant → Type 0
+KeepsRegions segments old new = AllByRecursion (λ (segment : Segment). regions_in segment new ≡ regions_in segment old) segments
 
 -- Of a heap's segments words of blocks alone changed: those behind a block's head, and the first word of the extent behind
 -- it.
@@ -150,6 +157,6 @@ OnlyBlocksChange regions heap old new = (k : ℕ) → IsWordOf regions k → IsT
 -- A sound heap rests on the regions of its segments, and on their words outside of its blocks: with a system that has these
 -- regions and words, it is sound and in the same state.
 abbrev pub RestsOutside : {A : Type 0} → (A → List Grant) → (A → ℕ → ℕ) → Dlmalloc A → Type 0
-RestsOutside {A} regions word heap = IsSound regions word heap → (system : A) → KeepsRegions heap (state_of word heap).segments (regions heap.system) (regions system) →
+RestsOutside {A} regions word heap = IsSound regions word heap → (system : A) → KeepsRegions (state_of word heap).segments (regions heap.system) (regions system) →
     OnlyBlocksChange (regions heap.system) (state_of word heap) (word heap.system) (word system) →
     IsSound regions word (record heap { system = system }) × (state_of word (record heap { system = system }) ≡ state_of word heap)

@@ -1,5 +1,5 @@
 -- The state of a heap: its segments with their extents, and the numbers that steer it.
-use Rattle.std.specs.Prelude.{ℕ, ◌-◌, ◌^◌, Bool, true, false, not, ◌&&◌, ◌==◌, if◌then◌else◌, List, [], flat_map, find, unwrap_or, option_map}
+use Rattle.std.specs.Prelude.{ℕ, ◌-◌, ◌^◌, Bool, true, false, not, ◌&&◌, ◌==◌, nat_lt, if◌then◌else◌, List, [], ◌∷◌, flat_map, find, unwrap_or, option_map}
 use Rattle.dlmalloc_chunks.specs.declared.extent.Extent.{Extent}
 use Rattle.dlmalloc_chunks.specs.declared.extent.Kind.{Kind}
 use Rattle.dlmalloc_chunks.specs.declared.extent.Kind.TheVariants.{Used, Free, Victim, Top, Record, Foot}
@@ -28,6 +28,20 @@ pub record HeapState : Type 0 where
 -- the extents of all segments
 abbrev pub extents_in : HeapState → List Extent
 extents_in heap = flat_map (λ segment. segment.extents) heap.segments
+
+-- an item before the first that has a greater key
+abbrev pub with_item : {X : Type 0} → (X → ℕ) → X → List X → List X
+with_item key item [] = item ∷ []
+with_item key item (first ∷ rest) = if nat_lt (key item) (key first) then item ∷ first ∷ rest else first ∷ with_item key item rest
+
+-- segments by ascending address
+abbrev pub by_address : List Segment → List Segment
+by_address [] = []
+by_address (segment ∷ segments) = with_item (λ (one : Segment). one.base) segment (by_address segments)
+
+-- the extents of all segments, by ascending address
+abbrev pub extents_by_address : HeapState → List Extent
+extents_by_address heap = flat_map (λ segment. segment.extents) (by_address heap.segments)
 
 -- whether an extent is free and not the top
 abbrev pub is_plain : Kind → Bool

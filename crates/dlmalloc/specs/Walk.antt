@@ -1,15 +1,18 @@
--- Walking over the chunks of a segment, and the least binned one among some extents.
-use Rattle.std.specs.Prelude.{◌≡◌, ◌≢◌, ℕ, ◌+◌, ◌/◌, ◌^◌, ◌<◌, ◌≤◌, ◌⊎◌, ⊤, List, [], ◌∷◌, map, filter, option_map, IfSome, Option, IsTrue}
+-- Walking over the chunks of a segment, the least binned one among some extents, and segments as spans of chunks.
+use Rattle.std.specs.Prelude.{◌≡◌, ◌≢◌, ℕ, ◌+◌, ◌/◌, ◌^◌, ◌<◌, ◌≤◌, ◌⊎◌, ⊤, List, [], ◌∷◌, ◌++◌, map, filter, option_map, IfSome, Option, IsTrue}
 use Rattle.heap_memory.specs.declared.grant.Grant.{Grant}
 use Rattle.heap_memory.specs.Regions.{is_granted}
 use Rattle.dlmalloc_chunks.specs.declared.extent.Extent.{Extent}
 use Rattle.dlmalloc_chunks.specs.declared.extent.Kind.{Kind}
-use Rattle.dlmalloc_chunks.specs.declared.extent.Kind.TheVariants.{Used, Free}
+use Rattle.dlmalloc_chunks.specs.declared.extent.Kind.TheVariants.{Used, Free, Top, Record, Foot}
 use Rattle.dlmalloc_chunks.specs.Head.{size_of}
 use Rattle.dlmalloc.specs.Extents.{kind_of, chunks_from, Tiles}
-use Rattle.dlmalloc.specs.State.{HeapState, is_binned}
+use Rattle.dlmalloc.specs.State.{HeapState, Segment, is_binned}
 use Rattle.dlmalloc.specs.Choice.{least_from}
 use Rattle.dlmalloc.specs.declared.walk.Place.{Place}
+use Rattle.dlmalloc.specs.declared.walk.Span.{Span}
+use Rattle.dlmalloc.specs.declared.walk.Tail.{Tail}
+use Rattle.dlmalloc.specs.declared.walk.Tail.TheVariants.{TopAndFoot, OneRecord}
 
 -- the chunk at an address, as its head tells it
 abbrev pub chunk_told : (ℕ → ℕ) → ℕ → Extent
@@ -50,3 +53,27 @@ pub record Best (heap : HeapState) (n : ℕ) (best : Option Place) (extents : Li
   pub there : IfSome best (λ place. IsAmong (record { at = place.at; size = place.size; kind = Free }) extents)
   pub other : IfSome best (λ place. place.at ≢ heap.victim)
   pub fits : IfSome best (λ place. n ≤ place.size)
+
+-- ---- segments as spans
+
+-- what stands behind the chunks of a segment, from an address on
+abbrev pub tail_at : (top top_size at : ℕ) → Tail → List Extent
+tail_at top top_size at TopAndFoot = (record { at = top; size = top_size; kind = Top }) ∷ (record { at = top + top_size; size = 80; kind = Foot }) ∷ []
+tail_at top top_size at (OneRecord size) = (record { at = at; size = size; kind = Record }) ∷ []
+
+-- the extents of a segment that a span tells
+abbrev pub span_extents : (words : ℕ → ℕ) (top top_size : ℕ) → Span → List Extent
+span_extents words top top_size span = chunks_between words span.from span.to ++ tail_at top top_size span.to span.tail
+
+-- a span tells a segment
+pub record IsSpan (regions : List Grant) (words : ℕ → ℕ) (top top_size : ℕ) (span : Span) (segment : Segment) : Type 0 where
+  pub base : span.from ≡ segment.base
+  pub run : IsChunkRun regions words span.from span.to
+  pub extents : span_extents words top top_size span ≡ segment.extents
+
+-- spans tell segments, one each
+abbrev pub AreSpansOf : (regions : List Grant) (words : ℕ → ℕ) (top top_size : ℕ) → List Span → List Segment → Type 0
+AreSpansOf regions words top top_size [] [] = ⊤
+AreSpansOf regions words top top_size [] (segment ∷ segments) = ⊥
+AreSpansOf regions words top top_size (span ∷ spans) [] = ⊥
+AreSpansOf regions words top top_size (span ∷ spans) (segment ∷ segments) = IsSpan regions words top top_size span segment × AreSpansOf regions words top top_size spans segments

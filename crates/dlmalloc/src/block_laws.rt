@@ -23,7 +23,7 @@ impl<A: Allocator> Dlmalloc<A> {
     {}
 
     /// A sound heap rests on the regions of its segments, and on their words outside of blocks: what is done through
-    /// `allocator_mut` leaves it sound and in its state where it leaves these, and where the next region is granted (own).
+    /// `allocator_mut` leaves it sound and in its state where it leaves these (own).
     pub fn rests_outside(&self)
         ensures { RestsOutside A.regions A.word self.now }
     {}

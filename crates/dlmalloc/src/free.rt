@@ -1,6 +1,7 @@
 // Freeing a block.
 ghost use Rattle.std.specs.Prelude.{◌≡◌, ◌≢◌, ℕ, ◌+◌, ◌-◌, ◌^◌, ◌<◌, ◌≤◌, ◌%◌, ◌==◌, true, false, if◌then◌else◌, [], ◌∷◌, Some, IfSome, IfNone};
-ghost use Rattle.dlmalloc_chunks.specs.declared.extent.Kind.TheVariants.{Used};
+ghost use Rattle.dlmalloc_chunks.specs.declared.extent.Extent.{Extent};
+ghost use Rattle.dlmalloc_chunks.specs.declared.extent.Kind.TheVariants.{Used, Record};
 ghost use Rattle.dlmalloc_chunks.specs.Chunk.{HasHead, HasFoot, AreStored};
 ghost use Rattle.dlmalloc_chunks.specs.Head.{size_of, pinuse_of, free_of, head_of, without_pinuse};
 ghost use Rattle.dlmalloc.specs.Extents.{extent_at};
@@ -63,6 +64,7 @@ impl<A: Allocator> Dlmalloc<A> {
         requires chunk { extent_at at (extents_in (state_of A.word self.old)) ≡ Some (record { at = at; size = size; kind = Used }) }
         ensures state { state_of A.word self.new ≡ freed (state_of A.word self.old) at }
         ensures less { HasOneMore (state_of A.word self.new) (state_of A.word self.old) at }
+        ensures records { (one : Extent) → one.kind ≡ Record → extent_at one.at (extents_in (state_of A.word self.old)) ≡ Some one → extent_at one.at (extents_in (state_of A.word self.new)) ≡ Some one }
         ensures moved { IsMoved A.regions A.word A.follows self.old self.new }
         ensures counted { steps.new ≤ steps.old + 8 }
     {

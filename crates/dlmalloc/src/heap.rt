@@ -101,7 +101,7 @@ impl<A: Allocator> Dlmalloc<A> {
     }
 
     /// The system, to be changed. The heap stays sound, and in its state, where what is done leaves the regions of its
-    /// segments, the place of the next region, and every word of the segments outside of blocks: `rests_outside`.
+    /// segments, and every word of the segments outside of blocks: `rests_outside`.
     pub fn allocator_mut(&mut self) -> &mut A
         ensures* lends { sem 𝓛 (Lends (the_row A.row) A.row self.entry result (λ w. record self.old { system = w })) }
         ensures value { result.now ≡ self.old.system }

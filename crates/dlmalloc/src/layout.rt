@@ -15,6 +15,14 @@ pub(crate) const LEAST_LARGE: u64 = 256;
 /// The size of the foot behind the top.
 pub(crate) const FOOT: u64 = 80;
 
+/// The size that the head of a record tells, and the place in a record where its fences begin.
+pub(crate) const RECORD_CHUNK: u64 = 48;
+
+pub(crate) const FENCES: u64 = 56;
+
+/// A word of a fence: the head of a chunk of 8 bytes in use, behind another.
+pub(crate) const FENCE: u64 = 11;
+
 /// What a grant has beside the chunk that it is asked for: the foot, and a least rest of the top.
 pub(crate) const OVERHEAD: u64 = 96;
 
@@ -23,6 +31,9 @@ pub(crate) const TRIM_THRESHOLD: u64 = 2 * 1024 * 1024;
 
 /// The bit of a head that says that the chunk before is in use.
 pub(crate) const PINUSE: u64 = 1;
+
+/// The bit of a head that says that this chunk is in use.
+pub(crate) const CINUSE: u64 = 2;
 
 /// The alignment that every block has.
 pub(crate) const LEAST_ALIGN: u64 = 16;

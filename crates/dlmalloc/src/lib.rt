@@ -7,12 +7,16 @@
 mod block_laws;
 mod contents;
 mod free;
+mod grow;
 mod heap;
 mod layout;
+mod listing;
 mod malloc;
 mod malloc_error;
 mod memalign;
+mod prepend;
 mod realloc;
+mod record;
 mod resize;
 mod split;
 mod take;
@@ -23,6 +27,8 @@ pub use dlmalloc_chunks::{Extent, ExtentList, Kind};
 pub use heap::{Dlmalloc, is_granularity};
 pub use malloc_error::MallocError;
 
+#[cfg(test)]
+mod grant_tests;
 #[cfg(test)]
 mod resize_tests;
 #[cfg(test)]

@@ -1,6 +1,7 @@
 // Requests for blocks.
-ghost use Rattle.std.specs.Prelude.{◌≡◌, ◌≢◌, ℕ, ◌+◌, ◌-◌, ◌%◌, ◌^◌, ◌<◌, ◌≤◌, OnErr, IfOk, IfErr};
+ghost use Rattle.std.specs.Prelude.{◌≡◌, ◌≢◌, ℕ, ◌+◌, ◌-◌, ◌%◌, ◌^◌, ◌<◌, ◌≤◌, None, OnErr, IfOk, IfErr};
 ghost use Rattle.std.specs.Int.{IsPowerOfTwo};
+ghost use Rattle.dlmalloc.specs.Choice.{chosen};
 ghost use Rattle.dlmalloc.specs.Heap.{state_of, IsSound};
 ghost use Rattle.dlmalloc.specs.Grown.{IsAsItWas};
 ghost use Rattle.dlmalloc.specs.Requested.{asked, IsServedAt, IsHandedOut};
@@ -96,7 +97,23 @@ impl<A: Allocator> Dlmalloc<A> {
                 None => {}
             }
         }
-        self.grow(n, steps)?;
-        Ok(self.take_top(n, steps))
+        self.cut_new(n, steps)
+    }
+
+    /// Cuts a chunk of `n` bytes from a new region, since no free extent serves.
+    fn cut_new<L: Ledger>(&mut self, n: u64, steps: &mut Steps<L>) -> Result<u64, GrantFault>
+        requires sound { IsSound A.regions A.word self.old }
+        requires none { chosen (state_of A.word self.old) n ≡ None }
+        requires whole { n % 16 ≡ 0 }
+        requires least { 32 ≤ n }
+        requires small { n + 96 + self.old.granularity ≤ 2 ^ 64 }
+        ensures cut { IfOk result (λ at. IsCutOut A.regions A.word A.zeros A.follows self.old n at self.new) }
+        ensures denied { IfErr result (λ fault. IsDenied A.denies self.old.system (state_of A.word self.old) n fault) }
+        ensures err { OnErr result (IsAsItWas A.regions A.word A.follows A.refuses self.old self.new) }
+    {
+        match self.grow(n, steps)? {
+            Some(chunk) => Ok(chunk),
+            None => Ok(self.take_top(n, steps)),
+        }
     }
 }

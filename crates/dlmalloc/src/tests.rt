@@ -90,7 +90,7 @@ fn power<R: Abort>(rt: &R, align: u64) -> u64
 }
 
 /// Makes a call.
-fn apply<L: Ledger, R: Abort>(
+pub(crate) fn apply<L: Ledger, R: Abort>(
     rt: &R,
     alloc: Global,
     heap: &mut Dlmalloc<FlatSystem>,

@@ -5,19 +5,18 @@ ghost use Rattle.dlmalloc_chunks.specs.declared.extent.Extent.{Extent};
 ghost use Rattle.dlmalloc_chunks.specs.declared.extent.Kind.TheVariants.{Used, Free, Top};
 ghost use Rattle.dlmalloc_chunks.specs.Chunk.{HasHead};
 ghost use Rattle.dlmalloc.specs.Extents.{extent_at};
-ghost use Rattle.dlmalloc.specs.State.{is_plain, is_binned, shown, extents_in};
+ghost use Rattle.dlmalloc.specs.State.{is_plain, is_binned, extents_in};
 ghost use Rattle.dlmalloc.specs.Choice.{least_fit, goes_first, chosen, IsChosen};
 ghost use Rattle.dlmalloc.specs.Walk.{chunk_told, chunks_between, IsChunkRun, Best};
 ghost use Rattle.dlmalloc.specs.declared.walk.Place.{Place};
 ghost use Rattle.dlmalloc.specs.declared.walk.Choice.TheVariants.{Chunk, Top as OfTop};
+ghost use Rattle.dlmalloc.specs.declared.walk.Tail.TheVariants.{OneRecord};
 ghost use Rattle.dlmalloc.specs.Heap.{state_of, IsSound};
-ghost use Rattle.dlmalloc.specs.Served.{IsListed};
 
 use crate::heap::Dlmalloc;
-use crate::layout::{BLOCK, FOOT, LEAST_LARGE};
-use dlmalloc_chunks::{Extent, ExtentList, Kind, chunk};
+use crate::layout::{BLOCK, LEAST_LARGE};
+use dlmalloc_chunks::{Extent, Kind, chunk};
 use heap_memory::Allocator;
-use std::alloc::{AllocError, Global};
 use std::sync::ledger::Ledger;
 use step_count::Steps;
 
@@ -30,17 +29,26 @@ pub(crate) struct Place {
     pub(crate) size: u64,
 }
 
-/// A segment that a record tells.
+/// What stands behind the chunks of a segment.
 #[derive(Clone, Copy)]
-struct Span {
+pub(crate) enum Tail {
+    /// The top and its foot.
+    TopAndFoot,
+    /// A record of so many bytes.
+    OneRecord(u64),
+}
+
+/// A segment, as its chunks and what stands behind them.
+#[derive(Clone, Copy)]
+pub(crate) struct Span {
     /// Where its chunks begin.
-    from: u64,
-    /// Where they end, and its record begins.
-    to: u64,
-    /// The bytes of its record.
-    tail: u64,
+    pub(crate) from: u64,
+    /// Where they end.
+    pub(crate) to: u64,
+    /// What stands behind them.
+    pub(crate) tail: Tail,
     /// The payload of the next segment's record, 0 where there is none.
-    next: u64,
+    pub(crate) next: u64,
 }
 
 /// What serves a request.
@@ -60,7 +68,7 @@ fn kind_where(inuse: bool) -> Kind
 }
 
 /// Whether an extent is free and not the top.
-fn is_plain(kind: Kind) -> bool
+pub(crate) fn is_plain(kind: Kind) -> bool
     ensures { result ≡ is_plain kind }
 {
     matches!(kind, Kind::Free | Kind::Victim)
@@ -75,7 +83,7 @@ fn is_better(size: u64, best: Option<Place>) -> bool
 
 impl<A: Allocator> Dlmalloc<A> {
     /// The chunk that begins at an address, as its head tells it.
-    fn chunk_at<L: Ledger>(&self, at: u64, steps: &mut Steps<L>) -> Extent
+    pub(crate) fn chunk_at<L: Ledger>(&self, at: u64, steps: &mut Steps<L>) -> Extent
         requires { HasHead (A.regions self.now.system) at }
         ensures { result ≡ chunk_told (A.word self.now.system) at }
     {
@@ -87,7 +95,7 @@ impl<A: Allocator> Dlmalloc<A> {
     }
 
     /// The segment that a record tells whose payload begins at an address.
-    fn span_at<L: Ledger>(&self, payload: u64, steps: &mut Steps<L>) -> Span
+    pub(crate) fn span_at<L: Ledger>(&self, payload: u64, steps: &mut Steps<L>) -> Span
         requires low { 16 < payload }
         requires high { payload + 16 < 2 ^ 64 }
         requires base { IsWordOf (A.regions self.now.system) payload }
@@ -95,7 +103,7 @@ impl<A: Allocator> Dlmalloc<A> {
         requires next { IsWordOf (A.regions self.now.system) (payload + 16) }
         requires ends { A.word self.now.system payload + A.word self.now.system (payload + 8) < 2 ^ 64 }
         requires within { payload ≤ A.word self.now.system payload + A.word self.now.system (payload + 8) }
-        ensures { result ≡ record { from = A.word self.now.system payload; to = payload - 16; tail = A.word self.now.system payload + A.word self.now.system (payload + 8) - (payload - 16); next = A.word self.now.system (payload + 16) } }
+        ensures { result ≡ record { from = A.word self.now.system payload; to = payload - 16; tail = OneRecord (A.word self.now.system payload + A.word self.now.system (payload + 8) - (payload - 16)); next = A.word self.now.system (payload + 16) } }
     {
         let from = self.system.load_counted(payload, steps);
         let size = self.system.load_counted(payload + 8, steps);
@@ -104,7 +112,7 @@ impl<A: Allocator> Dlmalloc<A> {
         Span {
             from,
             to,
-            tail: from + size - to,
+            tail: Tail::OneRecord(from + size - to),
             next,
         }
     }
@@ -198,93 +206,5 @@ impl<A: Allocator> Dlmalloc<A> {
             None if n < self.top_size => Some(Choice::Top),
             None => None,
         }
-    }
-
-    /// An extent, where the victim is told from the other free ones.
-    fn shown(&self, extent: Extent) -> Extent
-        ensures { result ≡ shown (state_of A.word self.now) extent }
-    {
-        if is_plain(extent.kind) && extent.at == self.victim {
-            Extent {
-                kind: Kind::Victim,
-                ..extent
-            }
-        } else {
-            extent
-        }
-    }
-
-    /// Adds a range of chunks to a list.
-    fn push_between<L: Ledger>(
-        &self,
-        extents: &mut ExtentList,
-        from: u64,
-        to: u64,
-        steps: &mut Steps<L>,
-    ) -> Result<(), AllocError>
-        requires { IsChunkRun (A.regions self.now.system) (A.word self.now.system) from to }
-        ensures ok { OnOk result (extents.new ≡ extents.old ++ map (shown (state_of A.word self.now)) (chunks_between (A.word self.now.system) from to)) }
-    {
-        let mut at = from;
-        while at < to {
-            let chunk = self.chunk_at(at, steps);
-            extents.push(self.shown(chunk))?;
-            at += chunk.size;
-        }
-        Ok(())
-    }
-
-    /// Adds the extents of all segments to a list with none, the head segment's first.
-    fn push_segments<L: Ledger>(
-        &self,
-        extents: &mut ExtentList,
-        steps: &mut Steps<L>,
-    ) -> Result<(), AllocError>
-        requires sound { IsSound A.regions A.word self.now }
-        requires there { 0 < self.now.size }
-        requires empty { extents.old ≡ [] }
-        ensures ok { OnOk result (extents.new ≡ map (shown (state_of A.word self.now)) (extents_in (state_of A.word self.now))) }
-    {
-        self.push_between(extents, self.base, self.top, steps)?;
-        extents.push(Extent {
-            at: self.top,
-            size: self.top_size,
-            kind: Kind::Top,
-        })?;
-        extents.push(Extent {
-            at: self.top + self.top_size,
-            size: FOOT,
-            kind: Kind::Foot,
-        })?;
-        let mut payload = self.next;
-        while payload != 0 {
-            let span = self.span_at(payload, steps);
-            self.push_between(extents, span.from, span.to, steps)?;
-            extents.push(Extent {
-                at: span.to,
-                size: span.tail,
-                kind: Kind::Record,
-            })?;
-            payload = span.next;
-        }
-        Ok(())
-    }
-
-    /// All extents, segment by segment, the head first: its chunks, as their heads tell them, and behind them its tail. They
-    /// tile the segment: the first begins where it does, and each other one where the one before ends. A heap with no segment
-    /// has none. An `Err` means that memory ran out (own).
-    pub fn extents<L: Ledger>(
-        &self,
-        alloc: Global,
-        steps: &mut Steps<L>,
-    ) -> Result<ExtentList, AllocError>
-        requires sound { IsSound A.regions A.word self.now }
-        ensures { IfOk result (λ list. IsListed A.word self.now list) }
-    {
-        let mut extents = ExtentList::new(alloc);
-        if self.size > 0 {
-            self.push_segments(&mut extents, steps)?;
-        }
-        Ok(extents)
     }
 }

@@ -56,23 +56,23 @@ overflow_add-self-then-to-self g c = let s = small_top g.A.Links.regions g.A.Lin
 pub returns-then-self-to : goal.returns-then-self-to
 returns-then-self-to g c =
     let o = top_victim g.A.Links.regions g.A.Links.word c.args.self.now c.requires.sound c.args.at c.args.size c.requires.chunk c.free_begin-from.result c.free_begin-from.ensures.value c.free_end-to.result c.free_end-to.ensures.value c.if-to-self.true c.store_counted.new.self c.store_counted.ensures.regions c.store_counted.ensures.stored c.if-from-self.true c.if-self-to.true in
-    record { state = o.state; less = o.less; moved = record { sound = o.sound; words = o.words; regions_same = search rules; followed = search rules }; counted = omega arith }
+    record { state = o.state; less = o.less; records = o.records; moved = record { sound = o.sound; words = o.words; regions_same = search rules; followed = search rules }; counted = omega arith }
 
 pub returns-else-from-self : goal.returns-else-from-self
 returns-else-from-self g c =
     let out : (c.args.self.now.victim < c.free_begin-from.result) ⊎ (c.free_end-to.result ≤ c.args.self.now.victim) =
     elim c.else-from-self.branch [ else-from-self-via-then-from-self+else-self-to w ↦ inr w.if-self-to.false | else-from-self-via-else-from-self w ↦ inl w.if-from-self.false ] in
     let o = top_other g.A.Links.regions g.A.Links.word c.args.self.now c.requires.sound c.args.at c.args.size c.requires.chunk c.free_begin-from.result c.free_begin-from.ensures.value c.free_end-to.result c.free_end-to.ensures.value c.if-to-self.true c.store_counted.new.self c.store_counted.ensures.regions c.store_counted.ensures.stored out in
-    record { state = o.state; less = o.less; moved = record { sound = o.sound; words = o.words; regions_same = search rules; followed = search rules }; counted = omega arith }
+    record { state = o.state; less = o.less; records = o.records; moved = record { sound = o.sound; words = o.words; regions_same = search rules; followed = search rules }; counted = omega arith }
 
 pub returns-then-self-to-2 : goal.returns-then-self-to-2
 returns-then-self-to-2 g c =
     let o = as_victim g.A.Links.regions g.A.Links.word c.args.self.now c.requires.sound c.args.at c.args.size c.requires.chunk (no_top g.A.Links.regions g.A.Links.word c.args.self.now c.requires.sound c.args.at c.args.size c.requires.chunk (goes_on g.A.Links.regions g.A.Links.word c.args.self.now c.requires.sound c.args.at c.args.size c.requires.chunk c.free_begin-from.result c.free_begin-from.ensures.value c.free_end-to.result c.free_end-to.ensures.value c.if-to-self.false)) c.free_begin-from.result c.free_begin-from.ensures.value c.free_end-to.result (ends_at g.A.Links.regions g.A.Links.word c.args.self.now c.requires.sound c.args.at c.args.size c.requires.chunk c.free_begin-from.result c.free_begin-from.ensures.value c.free_end-to.result c.free_end-to.ensures.value (goes_on g.A.Links.regions g.A.Links.word c.args.self.now c.requires.sound c.args.at c.args.size c.requires.chunk c.free_begin-from.result c.free_begin-from.ensures.value c.free_end-to.result c.free_end-to.ensures.value c.if-to-self.false)) c.make_free.new.memory c.make_free.ensures.regions c.make_free.ensures.stored c.if-from-self-2.true c.if-self-to-2.true in
-    record { state = o.state; less = o.less; moved = record { sound = o.sound; words = o.words; regions_same = search rules; followed = search rules }; counted = omega arith }
+    record { state = o.state; less = o.less; records = o.records; moved = record { sound = o.sound; words = o.words; regions_same = search rules; followed = search rules }; counted = omega arith }
 
 pub returns-else-from-self-2 : goal.returns-else-from-self-2
 returns-else-from-self-2 g c =
     let out : (c.args.self.now.victim < c.free_begin-from.result) ⊎ (c.free_end-to.result ≤ c.args.self.now.victim) =
     elim c.else-from-self-2.branch [ else-from-self-2-via-then-from-self-2+else-self-to-2 w ↦ inr w.if-self-to-2.false | else-from-self-2-via-else-from-self-2 w ↦ inl w.if-from-self-2.false ] in
     let o = as_other g.A.Links.regions g.A.Links.word c.args.self.now c.requires.sound c.args.at c.args.size c.requires.chunk (no_top g.A.Links.regions g.A.Links.word c.args.self.now c.requires.sound c.args.at c.args.size c.requires.chunk (goes_on g.A.Links.regions g.A.Links.word c.args.self.now c.requires.sound c.args.at c.args.size c.requires.chunk c.free_begin-from.result c.free_begin-from.ensures.value c.free_end-to.result c.free_end-to.ensures.value c.if-to-self.false)) c.free_begin-from.result c.free_begin-from.ensures.value c.free_end-to.result (ends_at g.A.Links.regions g.A.Links.word c.args.self.now c.requires.sound c.args.at c.args.size c.requires.chunk c.free_begin-from.result c.free_begin-from.ensures.value c.free_end-to.result c.free_end-to.ensures.value (goes_on g.A.Links.regions g.A.Links.word c.args.self.now c.requires.sound c.args.at c.args.size c.requires.chunk c.free_begin-from.result c.free_begin-from.ensures.value c.free_end-to.result c.free_end-to.ensures.value c.if-to-self.false)) c.make_free.new.memory c.make_free.ensures.regions c.make_free.ensures.stored out in
-    record { state = o.state; less = o.less; moved = record { sound = o.sound; words = o.words; regions_same = search rules; followed = search rules }; counted = omega arith }
+    record { state = o.state; less = o.less; records = o.records; moved = record { sound = o.sound; words = o.words; regions_same = search rules; followed = search rules }; counted = omega arith }

@@ -1,4 +1,4 @@
-use Rattle.std.proofs.Common.{ℕ, ◌+◌, ◌^◌, ◌<◌, [], refl, ◌∙◌, arith}
+use Rattle.std.proofs.Common.{[], refl, ◌∙◌, arith}
 use Rattle.dlmalloc.proofs.Splitting.{end_small}
 use Rattle.dlmalloc.proofs.Parting.{IsSplit, tail_state, tail_first, tail_others, tail_words}
 use Rattle.dlmalloc.proofs.heap.Dlmalloc.free_tail.Goals as goal

@@ -1,4 +1,4 @@
-use Rattle.std.proofs.Common.{◌≡◌, ℕ, ◌+◌, ◌-◌, ◌%◌, ◌<◌, ◌≤◌, List, sym, subst, ◌∙◌, arith, rules}
+use Rattle.std.proofs.Common.{◌+◌, ◌-◌, List, sym, subst, ◌∙◌, arith, rules}
 use Rattle.heap_memory.specs.declared.grant.Grant.{Grant}
 use Rattle.dlmalloc_chunks.specs.Chunk.{HasHead, HasFoot}
 use Rattle.dlmalloc.proofs.IntoFree.{free_end_small, free_at_whole, free_sizes_whole, free_head_there, free_foot_there, free_stores, into_victim, into_binned, whole_victim, whole_binned}

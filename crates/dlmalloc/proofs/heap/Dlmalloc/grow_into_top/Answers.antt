@@ -1,4 +1,4 @@
-use Rattle.std.proofs.Common.{◌≡◌, ℕ, ◌+◌, ◌-◌, ◌<◌, sym, subst, ◌∙◌, arith, rules}
+use Rattle.std.proofs.Common.{◌≡◌, ◌+◌, ◌-◌, sym, subst, ◌∙◌, arith, rules}
 use Rattle.heap_memory.specs.Regions.{IsWordOf}
 use Rattle.dlmalloc.proofs.IntoTop.{top_first_head, top_rest_head, into_top}
 use Rattle.dlmalloc.proofs.heap.Dlmalloc.grow_into_top.Goals as goal

@@ -1,4 +1,4 @@
-use Rattle.std.proofs.Common.{◌≡◌, ℕ, ◌+◌, ◌-◌, ◌*◌, ◌≤◌, ◌⊎◌, min, sym, subst, ◌∙◌, ap}
+use Rattle.std.proofs.Common.{ℕ, ◌+◌, ◌-◌, ◌*◌, ◌≤◌, ◌⊎◌, sym, subst, ◌∙◌, ap}
 use Rattle.heap_memory.specs.Words.{AreWordsOf, AreCopied}
 use Rattle.dlmalloc.specs.Written.{words_in}
 use Rattle.dlmalloc.proofs.Elsewhere.{from_words, to_words, words_apart, copied_heap, copied_block, moved_block, moved_contents, moved_kept}

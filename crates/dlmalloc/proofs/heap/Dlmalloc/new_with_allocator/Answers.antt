@@ -10,5 +10,4 @@ returns-clause-sound g c = record {
   none = λ empty. refl;
   no_victim = λ none. refl;
   victim = λ some. absurd (some refl);
-  last = λ more. absurd (omega (arith, more));
 }

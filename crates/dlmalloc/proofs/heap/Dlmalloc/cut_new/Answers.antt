@@ -1,0 +1,32 @@
+use Rattle.std.proofs.Common.{rules, ℕ, ◌+◌, [], ◌∷◌, refl, sym, subst}
+use Rattle.heap_memory.specs.Events.{Granted}
+use Rattle.dlmalloc_chunks.specs.Request.{round_up}
+use Rattle.dlmalloc.specs.Blocks.{IsFull}
+use Rattle.dlmalloc.specs.Heap.{state_of}
+use Rattle.dlmalloc.specs.Served.{IsCutOut}
+use Rattle.dlmalloc.proofs.Full.{full}
+use Rattle.dlmalloc.proofs.Choosing.{top_below}
+use Rattle.dlmalloc.proofs.Served.{cut_new}
+use Rattle.dlmalloc.proofs.heap.Dlmalloc.cut_new.Goals as goal
+
+pub returns-in-None-clause-cut : goal.returns-in-None-clause-cut
+returns-in-None-clause-cut g c =
+    let heap = c.args.self.now in
+    let middle = c.grow.new.self in
+    let new = c.take_top.new.self in
+    let grown = c.in_ok-chunk.ensures.top c.in-None.is in
+    let events = Granted (round_up (c.args.n + 96) heap.granularity) grown.grant ∷ [] in
+    subst (λ (k : ℕ). IsCutOut g.A.Links.regions g.A.Links.word g.A.Allocator.zeros g.A.Links.follows heap c.args.n k new) (sym c.take_top.ensures.chunk)
+    (cut_new g.A.Links.regions g.A.Links.word g.A.Allocator.zeros g.A.Links.follows heap c.requires.sound c.args.n middle new grown
+    c.take_top.ensures.state c.take_top.ensures.more c.take_top.ensures.moved c.take_top.ensures.head c.take_top.ensures.foot c.take_top.ensures.others
+    c.requires.none
+    (top_below g.A.Links.regions g.A.Links.word middle grown.sound grown.there)
+    (g.A.Links.follows_on heap.system middle.system new.system events [] events grown.followed c.take_top.ensures.moved.followed refl))
+
+pub returns-in-Some-clause-cut : goal.returns-in-Some-clause-cut
+returns-in-Some-clause-cut g c = c.in_ok-chunk.ensures.cut c.in-Some.chunk c.in-Some.is
+
+pub returns-in_err-chunk-clause-denied : goal.returns-in_err-chunk-clause-denied
+returns-in_err-chunk-clause-denied g c =
+    let full : IsFull (state_of g.A.Links.word c.args.self.now) (c.args.n + 256) = full g.A.Links.regions g.A.Links.word c.args.self.now c.requires.sound c.args.n c.requires.none in
+    search rules

@@ -1,0 +1,11 @@
+use Rattle.std.proofs.Common.{◌^◌}
+use Rattle.std.specs.Prelude.{length}
+use Rattle.dlmalloc.specs.Segments.{records_from}
+use Rattle.dlmalloc.proofs.SegmentBehind.{PassedBehind}
+use Rattle.dlmalloc.proofs.heap.Dlmalloc.find_behind.Given as goal
+
+abbrev pub invariant-loop-payload : goal.invariant-loop-payload
+invariant-loop-payload g l = PassedBehind g.A.Links.word l.self l.grant l.payload
+
+abbrev pub decreases-loop-payload : goal.decreases-loop-payload
+decreases-loop-payload g l = length (records_from (g.A.Links.word l.self.system) (2 ^ 64) l.payload)

@@ -1,0 +1,99 @@
+use Rattle.std.proofs.Common.{◌≡◌, ℕ, ◌+◌, ◌≤◌, ◌∙◌, true, false, List, [], ◌∷◌, refl, ap, subst, arith}
+use Rattle.std.specs.Prelude.{Option, unwrap_or}
+use Rattle.heap_memory.specs.Events.{Granted}
+use Rattle.dlmalloc.specs.State.{Segment}
+use Rattle.dlmalloc.specs.Granted.{is_put_before, granted}
+use Rattle.dlmalloc.specs.Grown.{HasSameUsed}
+use Rattle.dlmalloc.specs.Heap.{state_of}
+use Rattle.dlmalloc.specs.Served.{IsCutOut}
+use Rattle.dlmalloc.proofs.Regions.{word_kept, word_new}
+use Rattle.dlmalloc.proofs.Fresh.{granted_sound, granted_same, fresh_grant}
+use Rattle.dlmalloc.proofs.PutBefore.{cut_before}
+use Rattle.dlmalloc.proofs.Laws.{as_it_was}
+use Rattle.dlmalloc.proofs.Requests.{on_err}
+use Rattle.dlmalloc.proofs.heap.Dlmalloc.grow.Goals as goal
+
+pub returns-in_err-grant-clause-err : goal.returns-in_err-grant-clause-err
+returns-in_err-grant-clause-err g c =
+    let denied = c.in_err-grant.ensures in
+    on_err c.from_residual.result (as_it_was g.A.Links.regions g.A.Links.word c.args.self.now c.requires.sound g.A.Links.follows g.A.Allocator.refuses c.alloc.new.self denied.err denied.words denied.err_follows denied.err_refuses)
+
+pub segment_behind-requires-clause-sound : goal.segment_behind-requires-clause-sound
+segment_behind-requires-clause-sound g c = granted_sound g.A.Links.regions g.A.Links.word c.args.self.now c.requires.sound c.alloc.new.self c.asked-asked.result (let e = c.asked-asked.ensures.enough in let l = c.requires.least in omega arith) c.in_ok-grant.grant c.in_ok-grant.ensures.good c.in_ok-grant.ensures.apart c.in_ok-grant.ensures.regions c.in_ok-grant.ensures.words
+
+pub segment_behind-requires-clause-high : goal.segment_behind-requires-clause-high
+segment_behind-requires-clause-high g c = c.in_ok-grant.ensures.good.high
+
+pub put_before-requires-clause-sound : goal.put_before-requires-clause-sound
+put_before-requires-clause-sound g c = granted_sound g.A.Links.regions g.A.Links.word c.args.self.now c.requires.sound c.alloc.new.self c.asked-asked.result (let e = c.asked-asked.ensures.enough in let l = c.requires.least in omega arith) c.in_ok-grant.grant c.in_ok-grant.ensures.good c.in_ok-grant.ensures.apart c.in_ok-grant.ensures.regions c.in_ok-grant.ensures.words
+
+pub put_before-requires-clause-fresh : goal.put_before-requires-clause-fresh
+put_before-requires-clause-fresh g c = fresh_grant g.A.Links.regions g.A.Links.word c.args.self.now c.requires.sound c.alloc.new.self c.asked-asked.result (let e = c.asked-asked.ensures.enough in let l = c.requires.least in omega arith) c.in_ok-grant.grant c.in_ok-grant.ensures.good c.in_ok-grant.ensures.apart c.in_ok-grant.ensures.regions c.in_ok-grant.ensures.words
+
+pub put_before-requires-clause-behind : goal.put_before-requires-clause-behind
+put_before-requires-clause-behind g c = c.in-Some.ensures.found
+
+pub put_before-requires-clause-room : goal.put_before-requires-clause-room
+put_before-requires-clause-room g c = let e = c.asked-asked.ensures.enough in let long = c.in_ok-grant.ensures.good.long in omega arith
+
+pub join-requires-clause-sound : goal.join-requires-clause-sound
+join-requires-clause-sound g c = granted_sound g.A.Links.regions g.A.Links.word c.args.self.now c.requires.sound c.alloc.new.self c.asked-asked.result (let e = c.asked-asked.ensures.enough in let l = c.requires.least in omega arith) c.in_ok-grant.grant c.in_ok-grant.ensures.good c.in_ok-grant.ensures.apart c.in_ok-grant.ensures.regions c.in_ok-grant.ensures.words
+
+pub join-requires-clause-fresh : goal.join-requires-clause-fresh
+join-requires-clause-fresh g c = fresh_grant g.A.Links.regions g.A.Links.word c.args.self.now c.requires.sound c.alloc.new.self c.asked-asked.result (let e = c.asked-asked.ensures.enough in let l = c.requires.least in omega arith) c.in_ok-grant.grant c.in_ok-grant.ensures.good c.in_ok-grant.ensures.apart c.in_ok-grant.ensures.regions c.in_ok-grant.ensures.words
+
+pub join-requires-clause-apart : goal.join-requires-clause-apart
+join-requires-clause-apart g c = c.in-None.ensures.none refl
+
+pub returns-in-Some-clause-cut : goal.returns-in-Some-clause-cut
+returns-in-Some-clause-cut g c = λ at is.
+    let regions = g.A.Links.regions in
+    let word = g.A.Links.word in
+    let heap = c.args.self.now in
+    let grant = c.in_ok-grant.grant in
+    let given = c.in_ok-grant.ensures in
+    let asked = c.asked-asked.result in
+    let enough = c.asked-asked.ensures.enough in
+    let least = c.requires.least in
+    let long = given.good.long in
+    let middle = c.alloc.new.self in
+    let new = c.put_before.new.self in
+    let put = c.put_before.ensures.put in
+    let same = granted_same regions word heap c.requires.sound middle asked (omega arith) grant given.good given.apart given.regions given.words in
+    let followed = g.A.Links.follows_on heap.system middle new.system (Granted asked grant ∷ []) [] (Granted asked grant ∷ []) given.follows put.followed refl in
+    let at_is : grant.base ≡ at = ap (λ (o : Option ℕ). unwrap_or o grant.base) is in
+    subst (λ (a : ℕ). IsCutOut regions word g.A.Allocator.zeros g.A.Links.follows heap c.args.n a new) at_is
+    (cut_before regions word g.A.Allocator.zeros g.A.Links.follows heap c.requires.sound c.args.n asked c.requires.none grant given.good (omega arith) given.apart middle given.regions same
+    (subst (λ (ss : List Segment). is_put_before grant ss ≡ true) (λ i. (same i).segments) c.in-Some.ensures.some)
+    given.words given.zeros new put (subst (λ (bytes : ℕ). g.A.Links.follows heap.system (Granted bytes grant ∷ []) new.system) c.asked-asked.ensures.asked followed))
+
+pub returns-in-None-clause-top : goal.returns-in-None-clause-top
+returns-in-None-clause-top g c = λ is.
+    let regions = g.A.Links.regions in
+    let word = g.A.Links.word in
+    let heap = c.args.self.now in
+    let grant = c.in_ok-grant.grant in
+    let given = c.in_ok-grant.ensures in
+    let asked = c.asked-asked.result in
+    let enough : c.args.n + 96 ≤ asked = c.asked-asked.ensures.enough in
+    let least = c.requires.least in
+    let middle = c.alloc.new.self in
+    let new = c.join.new.self in
+    let joined = c.join.ensures.joined in
+    let long = given.good.long in
+    let room = joined.room in
+    let same = granted_same regions word heap c.requires.sound middle asked (omega arith) grant given.good given.apart given.regions given.words in
+    let followed = g.A.Links.follows_on heap.system middle new.system (Granted asked grant ∷ []) [] (Granted asked grant ∷ []) given.follows joined.followed refl in
+    record {
+      grant = grant;
+      followed = subst (λ (bytes : ℕ). g.A.Links.follows heap.system (Granted bytes grant ∷ []) new.system) c.asked-asked.ensures.asked followed;
+      apart = subst (λ (ss : List Segment). is_put_before grant ss ≡ false) (λ i. (same i).segments) (c.in-None.ensures.none refl);
+      state = joined.state c.args.n ∙ ap (granted grant c.args.n) same;
+      sound = joined.sound;
+      there = joined.there;
+      room = omega arith;
+      with_it = joined.regions_same ∙ given.regions;
+      used = subst (λ s. HasSameUsed s (state_of word new)) same joined.used;
+      words = λ k inside apart recorded. joined.words k (word_kept grant (regions heap.system) (regions middle) given.regions k inside) apart recorded ∙ given.words k inside;
+      new_words = λ zeros k low high multiple a b. joined.new_words k (word_new grant (regions heap.system) (regions middle) given.regions k low high multiple) low high a b ∙ given.zeros zeros k low high multiple;
+    }

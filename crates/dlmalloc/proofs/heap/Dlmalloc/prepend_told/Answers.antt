@@ -1,0 +1,80 @@
+use Rattle.std.proofs.Common.{◌≡◌, ℕ, ◌+◌, ◌∙◌, [], refl, sym, subst, arith}
+use Rattle.heap_memory.specs.Regions.{IsWordOf}
+use Rattle.heap_memory.specs.RegionLaws.{whole_each}
+use Rattle.dlmalloc_chunks.specs.Chunk.{HasHead}
+use Rattle.dlmalloc.specs.Heap.{segments_of}
+use Rattle.dlmalloc.proofs.Beforehand.{part_head, before_told, told_place}
+use Rattle.dlmalloc.proofs.heap.Dlmalloc.prepend_told.Goals as goal
+
+pub load_counted-size-requires : goal.load_counted-size-requires
+load_counted-size-requires g c = (told_place g.A.Links.regions g.A.Links.word c.args.self.now c.requires.sound c.args.grant.now c.args.payload c.requires.behind).size_word
+
+pub store_counted-requires : goal.store_counted-requires
+store_counted-requires g c = (told_place g.A.Links.regions g.A.Links.word c.args.self.now c.requires.sound c.args.grant.now c.args.payload c.requires.behind).base_word
+
+pub store_counted-requires-2 : goal.store_counted-requires-2
+store_counted-requires-2 g c = subst (λ rs. IsWordOf rs (c.args.payload + 8)) (sym c.store_counted.ensures.regions)
+    (told_place g.A.Links.regions g.A.Links.word c.args.self.now c.requires.sound c.args.grant.now c.args.payload c.requires.behind).size_word
+
+pub overflow_add-payload : goal.overflow_add-payload
+overflow_add-payload g c = let high = (told_place g.A.Links.regions g.A.Links.word c.args.self.now c.requires.sound c.args.grant.now c.args.payload c.requires.behind).high in grind arith
+
+pub overflow_add-payload-2 : goal.overflow_add-payload-2
+overflow_add-payload-2 g c = let high = (told_place g.A.Links.regions g.A.Links.word c.args.self.now c.requires.sound c.args.grant.now c.args.payload c.requires.behind).high in grind arith
+
+pub overflow_add-grant : goal.overflow_add-grant
+overflow_add-grant g c =
+    let sum = (told_place g.A.Links.regions g.A.Links.word c.args.self.now c.requires.sound c.args.grant.now c.args.payload c.requires.behind).sum in
+    let size = c.load_counted-size.ensures.value in
+    grind arith
+
+pub put_two-requires-clause-head : goal.put_two-requires-clause-head
+put_two-requires-clause-head g c =
+    let f = c.requires.fresh in
+    subst (λ rs. HasHead rs c.args.grant.now.base) (sym (c.store_counted-2.ensures.regions ∙ c.store_counted.ensures.regions))
+    (part_head (g.A.Links.regions c.args.self.now.system) (segments_of g.A.Links.word c.args.self.now) c.args.grant.now f c.args.grant.now.base (omega arith) (omega (arith, f.long)) f.base_aligned)
+
+pub put_two-requires-clause-behind : goal.put_two-requires-clause-behind
+put_two-requires-clause-behind g c =
+    let f = c.requires.fresh in
+    let whole = c.requires.whole in let room = c.requires.room in let least = c.requires.least in
+    subst (λ rs. HasHead rs (c.args.grant.now.base + c.args.n)) (sym (c.store_counted-2.ensures.regions ∙ c.store_counted.ensures.regions))
+    (part_head (g.A.Links.regions c.args.self.now.system) (segments_of g.A.Links.word c.args.self.now) c.args.grant.now f (c.args.grant.now.base + c.args.n) (omega arith) (omega arith) (omega (arith, f.base_aligned)))
+
+pub put_two-requires-clause-second : goal.put_two-requires-clause-second
+put_two-requires-clause-second g c = let size = c.requires.fresh.size_aligned in let whole = c.requires.whole in let room = c.requires.room in omega arith
+
+pub put_two-requires-clause-ends : goal.put_two-requires-clause-ends
+put_two-requires-clause-ends g c = let high = c.requires.fresh.high in let room = c.requires.room in omega arith
+
+pub returns : goal.returns
+returns g c =
+    let regions = g.A.Links.regions in
+    let word = g.A.Links.word in
+    let heap = c.args.self.now in
+    let grant = c.args.grant.now in
+    let payload = c.args.payload in
+    let one = c.store_counted.ensures in
+    let two = c.store_counted-2.ensures in
+    let put = c.put_two.ensures in
+    let p = told_place regions word heap c.requires.sound grant payload c.requires.behind in
+    let at_first = c.store_counted.new.self in
+    let at_second = c.store_counted-2.new.self in
+    let system = c.put_two.new.memory in
+    let same = two.regions ∙ one.regions in
+    let into : (k : ℕ) → IsWordOf (regions heap.system) k → IsWordOf (regions at_second) k = λ k inside. subst (λ rs. IsWordOf rs k) (sym same) inside in
+    let onto : (k : ℕ) → IsWordOf (regions heap.system) k → IsWordOf (regions at_first) k = λ k inside. subst (λ rs. IsWordOf rs k) (sym one.regions) inside in
+    let room = c.requires.room in
+    let base : word system payload ≡ grant.base =
+    put.elsewhere payload (into payload p.base_word) (λ is. p.apart payload (omega arith) (omega arith) (omega (arith, is)) (omega (arith, is))) (λ is. p.apart payload (omega arith) (omega arith) (omega (arith, is)) (omega (arith, is)))
+    ∙ (two.stored.elsewhere payload (onto payload p.base_word) (λ is. omega (arith, is)) ∙ one.stored.here) in
+    let size : word system (payload + 8) ≡ grant.size + word heap.system (payload + 8) =
+    put.elsewhere (payload + 8) (into (payload + 8) p.size_word) (λ is. p.apart (payload + 8) (omega arith) (omega arith) (omega (arith, is)) (omega (arith, is))) (λ is. p.apart (payload + 8) (omega arith) (omega arith) (omega (arith, is)) (omega (arith, is)))
+    ∙ (two.stored.here ∙ (λ i. grant.size + c.load_counted-size.ensures.value i)) in
+    record {
+      prepended = before_told regions word g.A.Links.follows heap c.requires.sound grant c.requires.fresh c.args.n c.requires.whole c.requires.least c.requires.room (whole_each (regions heap.system) (g.A.Links.whole heap.system))
+          system (put.regions ∙ same) put.first put.second
+          (g.A.Links.follows_on heap.system at_second system [] [] [] (g.A.Links.follows_on heap.system at_first at_second [] [] [] one.follows two.follows refl) put.follows refl)
+          payload c.requires.behind base size
+          (λ k inside not_first not_second not_base not_size. put.elsewhere k (into k inside) not_first not_second ∙ (two.stored.elsewhere k (onto k inside) not_size ∙ one.stored.elsewhere k inside not_base));
+    }

@@ -1,0 +1,21 @@
+use Rattle.std.proofs.Common.{[], refl}
+use Rattle.dlmalloc.proofs.PutBefore.{put_before_is}
+use Rattle.dlmalloc.proofs.heap.Dlmalloc.put_before.Goals as goal
+
+pub dispose_chunk-requires-clause-sound : goal.dispose_chunk-requires-clause-sound
+dispose_chunk-requires-clause-sound g c = c.prepend.ensures.prepended.sound
+
+pub dispose_chunk-requires-clause-chunk : goal.dispose_chunk-requires-clause-chunk
+dispose_chunk-requires-clause-chunk g c = c.prepend.ensures.prepended.rest
+
+pub returns : goal.returns
+returns g c =
+    let heap = c.args.self.now in
+    let middle = c.prepend.new.self in
+    let new = c.dispose_chunk.new.self in
+    let first = c.prepend.ensures.prepended in
+    let last = c.dispose_chunk.ensures in
+    record {
+      put = put_before_is g.A.Links.regions g.A.Links.word g.A.Links.follows heap middle new c.args.grant.now c.args.n c.requires.least first last.state last.less last.moved last.records
+          (g.A.Links.follows_on heap.system middle.system new.system [] [] [] first.followed last.moved.followed refl);
+    }

@@ -1,0 +1,6 @@
+use Rattle.std.proofs.Common.{arith}
+use Rattle.dlmalloc.proofs.Growing.{head_small}
+use Rattle.dlmalloc.proofs.heap.Dlmalloc.segment_behind.Goals as goal
+
+pub is_behind-requires : goal.is_behind-requires
+is_behind-requires g c = head_small g.A.Links.regions g.A.Links.word c.args.self.now c.requires.sound (let some = c.if-self-eq0.false in omega arith)

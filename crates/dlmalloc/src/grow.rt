@@ -1,0 +1,212 @@
+// Asking the system for a region, and what becomes of it.
+ghost use Rattle.std.specs.Prelude.{◌≡◌, ◌≢◌, ℕ, ◌+◌, ◌-◌, ◌%◌, ◌^◌, ◌<◌, ◌≤◌, ◌⊎◌, true, false, ◌&&◌, ◌==◌, nat_lt, if◌then◌else◌, [], None, Some, IfOk, OnErr, IfErr};
+ghost use Rattle.std.specs.List.{AllByRecursion};
+ghost use Rattle.dlmalloc_chunks.specs.Request.{round_up};
+ghost use Rattle.heap_memory.specs.Regions.{IsWordOf};
+ghost use Rattle.dlmalloc_chunks.specs.Chunk.{HasFoot};
+ghost use Rattle.dlmalloc.specs.State.{trim_threshold};
+ghost use Rattle.dlmalloc.specs.Granted.{is_behind, is_put_before};
+ghost use Rattle.dlmalloc.specs.Choice.{chosen};
+ghost use Rattle.dlmalloc.specs.Served.{IsCutOut};
+ghost use Rattle.dlmalloc.specs.Heap.{state_of, segments_of, IsSound, IsGranularity};
+ghost use Rattle.dlmalloc.specs.Grown.{IsFresh, IsJoined, IsGrown, IsAsItWas};
+
+use crate::heap::{Dlmalloc, countdown_from};
+use crate::layout::{BLOCK, FOOT, HEAD, LEAST_CHUNK, OVERHEAD, PINUSE, TRIM_THRESHOLD};
+use crate::record::{SegmentRecord, put_record};
+use dlmalloc_chunks::chunk;
+use heap_memory::{Allocator, Grant, GrantFault};
+use std::sync::ledger::Ledger;
+use step_count::Steps;
+
+impl<A: Allocator> Dlmalloc<A> {
+    /// The bytes that the system is asked for, so that a chunk of `n` bytes can be cut from the top that they make.
+    #[tactic(auto, using(crate::proofs::Growing::asked_whole))]
+    fn asked(&self, n: u64) -> u64
+        requires granularity { IsGranularity self.now.granularity }
+        requires small { n + 96 + self.now.granularity ≤ 2 ^ 64 }
+        ensures asked { result ≡ round_up (n + 96) self.now.granularity }
+        ensures whole { result % 16 ≡ 0 }
+        ensures enough { n + 96 ≤ result }
+    {
+        (n + OVERHEAD + (self.granularity - 1)) / self.granularity * self.granularity
+    }
+
+    /// Asks the system for a region with room for a chunk of `n` bytes. Where it is put before a segment, the chunk is cut
+    /// from its start, and that is answered; else it becomes part of the top or the new head segment. An `Err` leaves the
+    /// heap as it was.
+    pub(crate) fn grow<L: Ledger>(
+        &mut self,
+        n: u64,
+        steps: &mut Steps<L>,
+    ) -> Result<Option<u64>, GrantFault>
+        requires sound { IsSound A.regions A.word self.old }
+        requires none { chosen (state_of A.word self.old) n ≡ None }
+        requires whole { n % 16 ≡ 0 }
+        requires least { 32 ≤ n }
+        requires small { n + 96 + self.old.granularity ≤ 2 ^ 64 }
+        ensures cut { IfOk result (λ chunk. (at : ℕ) → chunk ≡ Some at → IsCutOut A.regions A.word A.zeros A.follows self.old n at self.new) }
+        ensures top { IfOk result (λ chunk. chunk ≡ None → IsGrown A.regions A.word A.zeros A.follows self.old n self.new) }
+        ensures err { OnErr result (IsAsItWas A.regions A.word A.follows A.refuses self.old self.new) }
+        ensures denied { IfErr result (λ fault. fault ≢ GrantFault.OutOfMemory → A.denies self.old.system (round_up (n + 96) self.old.granularity) fault) }
+    {
+        let asked = self.asked(n);
+        let grant = self.system.alloc(asked)?;
+        match self.segment_behind(&grant, steps) {
+            Some(behind) => {
+                self.put_before(&grant, n, behind, steps);
+                Ok(Some(grant.base))
+            }
+            None => {
+                self.join(&grant, steps);
+                Ok(None)
+            }
+        }
+    }
+
+    /// Makes a grant part of the heap. It is put before no segment.
+    fn join<L: Ledger>(&mut self, grant: &Grant, steps: &mut Steps<L>)
+        requires sound { IsSound A.regions A.word self.old }
+        requires fresh { IsFresh (A.regions self.old.system) (segments_of A.word self.old) grant.now }
+        requires apart { is_put_before grant.now (segments_of A.word self.old) ≡ false }
+        ensures joined { IsJoined A.regions A.word A.follows self.old grant.now self.new }
+    {
+        if self.size == 0 {
+            self.open(grant, steps);
+        } else if self.is_behind(grant) {
+            self.extend(grant, steps);
+        } else {
+            self.add_segment(grant, steps);
+        }
+    }
+
+    /// Whether a grant begins at the end of the head segment, and may become part of it.
+    pub(crate) fn is_behind(&self, grant: &Grant) -> bool
+        requires { self.now.base + self.now.size < 2 ^ 64 }
+        ensures { result ≡ is_behind grant.now (record { base = self.now.base; size = self.now.size; flags = self.now.flags; extents = [] }) }
+    {
+        grant.base == self.base + self.size
+            && may_join(u64::from(grant.flags), u64::from(self.flags))
+    }
+
+    /// Makes the head segment of a grant, where there is no segment.
+    fn open<L: Ledger>(&mut self, grant: &Grant, steps: &mut Steps<L>)
+        requires sound { IsSound A.regions A.word self.old }
+        requires none { self.old.size ≡ 0 }
+        requires fresh { IsFresh (A.regions self.old.system) (segments_of A.word self.old) grant.now }
+        ensures joined { IsJoined A.regions A.word A.follows self.old grant.now self.new }
+    {
+        self.next = 0;
+        self.countdown = countdown_from(self.rate);
+        self.make_head(grant, steps);
+    }
+
+    /// Makes the top longer by a grant at the end of the head segment.
+    fn extend<L: Ledger>(&mut self, grant: &Grant, steps: &mut Steps<L>)
+        requires sound { IsSound A.regions A.word self.old }
+        requires there { 0 < self.old.size }
+        requires fresh { IsFresh (A.regions self.old.system) (segments_of A.word self.old) grant.now }
+        requires behind { is_behind grant.now (record { base = self.old.base; size = self.old.size; flags = self.old.flags; extents = [] }) ≡ true }
+        ensures joined { IsJoined A.regions A.word A.follows self.old grant.now self.new }
+    {
+        self.size += grant.size;
+        self.trim_check = TRIM_THRESHOLD;
+        self.close_top(steps);
+    }
+
+    /// Makes a grant the head segment. What was the top is freed, and a record behind it tells the segment that it is in.
+    fn add_segment<L: Ledger>(&mut self, grant: &Grant, steps: &mut Steps<L>)
+        requires sound { IsSound A.regions A.word self.old }
+        requires there { 0 < self.old.size }
+        requires fresh { IsFresh (A.regions self.old.system) (segments_of A.word self.old) grant.now }
+        requires apart { is_put_before grant.now (segments_of A.word self.old) ≡ false }
+        requires beside { is_behind grant.now (record { base = self.old.base; size = self.old.size; flags = self.old.flags; extents = [] }) ≡ false }
+        ensures joined { IsJoined A.regions A.word A.follows self.old grant.now self.new }
+    {
+        let record = self.leave_top(steps);
+        let told = SegmentRecord {
+            base: self.base,
+            size: self.size,
+            next: self.next,
+            flags: self.flags,
+        };
+        let end = self.base + self.size;
+        put_record(
+            &mut self.system,
+            record,
+            end,
+            record == self.top,
+            &told,
+            steps,
+        );
+        self.next = record + BLOCK;
+        self.make_head(grant, steps);
+    }
+
+    /// Leaves the top as a free chunk, or to the record where it has 16 bytes alone, and answers where the record begins.
+    fn leave_top<L: Ledger>(&mut self, steps: &mut Steps<L>) -> u64
+        requires foot { HasFoot (A.regions self.old.system) (self.old.top + self.old.top_size) }
+        ensures place { result ≡ (if nat_lt self.old.top_size 32 then self.old.top else self.old.top + self.old.top_size) }
+        ensures fields { self.new ≡ record self.old { system = self.new.system } }
+        ensures foot { 32 ≤ self.old.top_size → A.word self.new.system (self.old.top + self.old.top_size) ≡ self.old.top_size }
+        ensures elsewhere { (k : ℕ) → IsWordOf (A.regions self.old.system) k → (k ≡ self.old.top + self.old.top_size → self.old.top_size < 32) → A.word self.new.system k ≡ A.word self.old.system k }
+        ensures regions { A.regions self.new.system ≡ A.regions self.old.system }
+        ensures follows { A.follows self.old.system [] self.new.system }
+    {
+        if self.top_size < LEAST_CHUNK {
+            self.top
+        } else {
+            chunk::set_foot(&mut self.system, self.top, self.top_size, steps);
+            self.top + self.top_size
+        }
+    }
+
+    /// Makes the head segment of a grant, and all of it the top.
+    fn make_head<L: Ledger>(&mut self, grant: &Grant, steps: &mut Steps<L>)
+        requires high { grant.now.base + grant.now.size < 2 ^ 64 }
+        requires long { 96 ≤ grant.now.size }
+        requires top { IsWordOf (A.regions self.old.system) (grant.now.base + 8) }
+        requires foot { IsWordOf (A.regions self.old.system) (grant.now.base + grant.now.size - 72) }
+        ensures fields { self.new ≡ record self.old { system = self.new.system; base = grant.now.base; size = grant.now.size; flags = grant.now.flags; top = grant.now.base; top_size = grant.now.base + grant.now.size - 80 - grant.now.base; trim_check = trim_threshold } }
+        ensures head { A.word self.new.system (grant.now.base + 8) ≡ grant.now.base + grant.now.size - 80 - grant.now.base + 1 }
+        ensures foot_head { A.word self.new.system (grant.now.base + grant.now.size - 72) ≡ 80 }
+        ensures elsewhere { (k : ℕ) → IsWordOf (A.regions self.old.system) k → k ≢ grant.now.base + 8 → k ≢ grant.now.base + grant.now.size - 72 → A.word self.new.system k ≡ A.word self.old.system k }
+        ensures regions { A.regions self.new.system ≡ A.regions self.old.system }
+        ensures follows { A.follows self.old.system [] self.new.system }
+    {
+        self.base = grant.base;
+        self.size = grant.size;
+        self.flags = grant.flags;
+        self.top = grant.base;
+        self.trim_check = TRIM_THRESHOLD;
+        self.close_top(steps);
+    }
+
+    /// Writes the heads of the top and of its foot, where the top reaches up to the foot at the segment's end.
+    fn close_top<L: Ledger>(&mut self, steps: &mut Steps<L>)
+        requires low { self.old.base ≤ self.old.top }
+        requires room { self.old.top + 96 ≤ self.old.base + self.old.size }
+        requires high { self.old.base + self.old.size < 2 ^ 64 }
+        requires top { IsWordOf (A.regions self.old.system) (self.old.top + 8) }
+        requires foot { IsWordOf (A.regions self.old.system) (self.old.base + self.old.size - 72) }
+        ensures fields { self.new ≡ record self.old { system = self.new.system; top_size = self.old.base + self.old.size - 80 - self.old.top } }
+        ensures head { A.word self.new.system (self.old.top + 8) ≡ self.old.base + self.old.size - 80 - self.old.top + 1 }
+        ensures foot_head { A.word self.new.system (self.old.base + self.old.size - 72) ≡ 80 }
+        ensures elsewhere { (k : ℕ) → IsWordOf (A.regions self.old.system) k → k ≢ self.old.top + 8 → k ≢ self.old.base + self.old.size - 72 → A.word self.new.system k ≡ A.word self.old.system k }
+        ensures regions { A.regions self.new.system ≡ A.regions self.old.system }
+        ensures follows { A.follows self.old.system [] self.new.system }
+    {
+        let foot = self.base + self.size - FOOT;
+        self.top_size = foot - self.top;
+        self.system
+            .store_counted(self.top + HEAD, self.top_size + PINUSE, steps);
+        self.system.store_counted(foot + HEAD, FOOT, steps);
+    }
+}
+
+/// Whether a grant and a segment with these flags may become one: neither is extern, and the flags are equal.
+pub(crate) fn may_join(grant: u64, segment: u64) -> bool
+    ensures { result ≡ (grant % 2 == 0 && grant == segment) }
+{
+    grant % 2 == 0 && grant == segment
+}

@@ -1,0 +1,186 @@
+// A grant that is put before a segment.
+ghost use Rattle.std.specs.Prelude.{◌≡◌, ◌≢◌, ℕ, ◌+◌, ◌-◌, ◌%◌, ◌^◌, ◌<◌, ◌≤◌, true, false, ◌&&◌, ◌==◌, [], None, Some, IfSome};
+ghost use Rattle.std.specs.List.{list_any};
+ghost use Rattle.heap_memory.specs.Regions.{IsWordOf};
+ghost use Rattle.dlmalloc_chunks.specs.Chunk.{HasHead};
+ghost use Rattle.dlmalloc_chunks.specs.Head.{head_of};
+ghost use Rattle.dlmalloc.specs.Granted.{is_before, is_put_before};
+ghost use Rattle.dlmalloc.specs.Heap.{state_of, segments_of, IsSound};
+ghost use Rattle.dlmalloc.specs.Grown.{IsFresh, IsPrepended, IsPutBefore};
+ghost use Rattle.dlmalloc.specs.Prepended.{IsBehindAt};
+ghost use Rattle.dlmalloc.specs.declared.prepend.Behind.TheVariants.{Head, Told};
+
+use crate::grow::may_join;
+use crate::heap::Dlmalloc;
+use dlmalloc_chunks::chunk;
+use heap_memory::{Allocator, Grant, Links};
+use std::sync::ledger::Ledger;
+use step_count::Steps;
+
+/// A segment that a grant is put before.
+#[derive(Clone, Copy)]
+pub(crate) enum Behind {
+    /// The head segment.
+    Head,
+    /// The one that a record tells whose payload begins at this address.
+    Told(u64),
+}
+
+impl<A: Allocator> Dlmalloc<A> {
+    /// The segment, if there is one, that a grant is put before: it is not, where it makes the head segment longer.
+    pub(crate) fn segment_behind<L: Ledger>(
+        &self,
+        grant: &Grant,
+        steps: &mut Steps<L>,
+    ) -> Option<Behind>
+        requires sound { IsSound A.regions A.word self.now }
+        requires high { grant.now.base + grant.now.size < 2 ^ 64 }
+        ensures none { result ≡ None → is_put_before grant.now (segments_of A.word self.now) ≡ false }
+        ensures some { IfSome result (λ behind. is_put_before grant.now (segments_of A.word self.now) ≡ true) }
+        ensures found { IfSome result (λ behind. IsBehindAt A.word self.now grant.now behind) }
+    {
+        if self.size == 0 {
+            None
+        } else if self.is_behind(grant) {
+            None
+        } else {
+            self.find_behind(grant, steps)
+        }
+    }
+
+    /// The segment, if there is one, that begins where a grant ends and that the grant may join.
+    fn find_behind<L: Ledger>(&self, grant: &Grant, steps: &mut Steps<L>) -> Option<Behind>
+        requires sound { IsSound A.regions A.word self.now }
+        requires there { 0 < self.now.size }
+        requires high { grant.now.base + grant.now.size < 2 ^ 64 }
+        ensures none { result ≡ None → list_any (is_before grant.now) (segments_of A.word self.now) ≡ false }
+        ensures found { IfSome result (λ behind. IsBehindAt A.word self.now grant.now behind) }
+    {
+        if self.is_before_head(grant) {
+            return Some(Behind::Head);
+        }
+        let mut payload = self.next;
+        while payload != 0 {
+            if self.is_before_told(payload, grant, steps) {
+                return Some(Behind::Told(payload));
+            }
+            payload = self.system.load_counted(payload + 16, steps);
+        }
+        None
+    }
+
+    /// Whether a grant ends where the head segment begins, and may join it.
+    fn is_before_head(&self, grant: &Grant) -> bool
+        requires { grant.now.base + grant.now.size < 2 ^ 64 }
+        ensures { result ≡ is_before grant.now (record { base = self.now.base; size = self.now.size; flags = self.now.flags; extents = [] }) }
+    {
+        self.base == grant.base + grant.size
+            && may_join(u64::from(grant.flags), u64::from(self.flags))
+    }
+
+    /// Whether it does so at the segment that a record tells whose payload begins at an address.
+    fn is_before_told<L: Ledger>(&self, payload: u64, grant: &Grant, steps: &mut Steps<L>) -> bool
+        requires end { grant.now.base + grant.now.size < 2 ^ 64 }
+        requires high { payload + 32 < 2 ^ 64 }
+        requires base { IsWordOf (A.regions self.now.system) payload }
+        requires flags { IsWordOf (A.regions self.now.system) (payload + 24) }
+        ensures { result ≡ (A.word self.now.system payload == grant.now.base + grant.now.size
+            && (grant.now.flags % 2 == 0 && grant.now.flags == A.word self.now.system (payload + 24))) }
+    {
+        let base = self.system.load_counted(payload, steps);
+        let flags = self.system.load_counted(payload + 24, steps);
+        base == grant.base + grant.size && may_join(u64::from(grant.flags), flags)
+    }
+
+    /// Puts a grant before a segment, and cuts a chunk of `n` bytes from its start. What is left of it is freed.
+    pub(crate) fn put_before<L: Ledger>(
+        &mut self,
+        grant: &Grant,
+        n: u64,
+        behind: Behind,
+        steps: &mut Steps<L>,
+    )
+        requires sound { IsSound A.regions A.word self.old }
+        requires fresh { IsFresh (A.regions self.old.system) (segments_of A.word self.old) grant.now }
+        requires behind { IsBehindAt A.word self.old grant.now behind }
+        requires whole { n % 16 ≡ 0 }
+        requires least { 32 ≤ n }
+        requires room { n + 96 ≤ grant.now.size }
+        ensures put { IsPutBefore A.regions A.word A.follows self.old grant.now n self.new }
+    {
+        self.prepend(grant, n, behind, steps);
+        self.dispose_chunk(grant.base + n, grant.size - n, steps);
+    }
+
+    /// Puts a grant before a segment, in two chunks that are in use.
+    fn prepend<L: Ledger>(&mut self, grant: &Grant, n: u64, behind: Behind, steps: &mut Steps<L>)
+        requires sound { IsSound A.regions A.word self.old }
+        requires fresh { IsFresh (A.regions self.old.system) (segments_of A.word self.old) grant.now }
+        requires behind { IsBehindAt A.word self.old grant.now behind }
+        requires whole { n % 16 ≡ 0 }
+        requires least { 32 ≤ n }
+        requires room { n + 96 ≤ grant.now.size }
+        ensures prepended { IsPrepended A.regions A.word A.follows self.old grant.now n self.new }
+    {
+        match behind {
+            Behind::Head => self.prepend_head(grant, n, steps),
+            Behind::Told(payload) => self.prepend_told(payload, grant, n, steps),
+        }
+    }
+
+    /// Puts a grant before the head segment, in two chunks that are in use.
+    fn prepend_head<L: Ledger>(&mut self, grant: &Grant, n: u64, steps: &mut Steps<L>)
+        requires sound { IsSound A.regions A.word self.old }
+        requires fresh { IsFresh (A.regions self.old.system) (segments_of A.word self.old) grant.now }
+        requires behind { IsBehindAt A.word self.old grant.now Head }
+        requires whole { n % 16 ≡ 0 }
+        requires least { 32 ≤ n }
+        requires room { n + 96 ≤ grant.now.size }
+        ensures prepended { IsPrepended A.regions A.word A.follows self.old grant.now n self.new }
+    {
+        self.base = grant.base;
+        self.size += grant.size;
+        put_two(&mut self.system, grant.base, n, grant.size - n, steps);
+    }
+
+    /// Puts a grant before the segment that a record tells, in two chunks that are in use.
+    fn prepend_told<L: Ledger>(&mut self, payload: u64, grant: &Grant, n: u64, steps: &mut Steps<L>)
+        requires sound { IsSound A.regions A.word self.old }
+        requires fresh { IsFresh (A.regions self.old.system) (segments_of A.word self.old) grant.now }
+        requires behind { IsBehindAt A.word self.old grant.now (Told payload) }
+        requires whole { n % 16 ≡ 0 }
+        requires least { 32 ≤ n }
+        requires room { n + 96 ≤ grant.now.size }
+        ensures prepended { IsPrepended A.regions A.word A.follows self.old grant.now n self.new }
+    {
+        let size = self.system.load_counted(payload + 8, steps);
+        self.system.store_counted(payload, grant.base, steps);
+        self.system
+            .store_counted(payload + 8, grant.size + size, steps);
+        put_two(&mut self.system, grant.base, n, grant.size - n, steps);
+    }
+}
+
+/// Puts the heads of two chunks in use, one behind the other, at the beginning of a segment.
+fn put_two<M: Links, L: Ledger>(
+    memory: &mut M,
+    at: u64,
+    first: u64,
+    second: u64,
+    steps: &mut Steps<L>,
+)
+    requires head { HasHead (M.regions memory.old) at }
+    requires behind { HasHead (M.regions memory.old) (at + first) }
+    requires first { first % 16 ≡ 0 }
+    requires second { second % 16 ≡ 0 }
+    requires least { 32 ≤ first }
+    requires ends { at + first + second < 2 ^ 64 }
+    ensures first { M.word memory.new (at + 8) ≡ head_of first true true }
+    ensures second { M.word memory.new (at + first + 8) ≡ head_of second true true }
+    ensures elsewhere { (k : ℕ) → IsWordOf (M.regions memory.old) k → k ≢ at + 8 → k ≢ at + first + 8 → M.word memory.new k ≡ M.word memory.old k }
+    ensures regions { M.regions memory.new ≡ M.regions memory.old }
+    ensures follows { M.follows memory.old [] memory.new }
+{
+    chunk::set_size_and_pinuse_of_inuse_chunk(memory, at, first, steps);
+    chunk::set_size_and_pinuse_of_inuse_chunk(memory, at + first, second, steps);
+}
