@@ -1,21 +1,24 @@
 -- Worked values: the definitions computed on the numbers of a few runs.
 use Rattle.std.proofs.Common.{◌≡◌, ◌-◌, ◌^◌, List, [], ◌∷◌, length, refl, ◌*◌, true, false, Some, None, arith}
+use Rattle.paging_core.specs.declared.page_table.Rights.{Rights}
 use Rattle.heap_model.specs.declared.region.Region.{Region}
 use Rattle.heap_model.specs.declared.config.Config.{Config}
-use Rattle.heap_model.specs.declared.call.Call.TheVariants.{Malloc, Calloc, Free as Freeing, Read}
-use Rattle.heap_model.specs.declared.answer.Reply.TheVariants.{Block as Placed, Done, Bytes}
-use Rattle.heap_model.specs.declared.answer.Refusal.TheVariants.{BadAlign, TooLarge}
+use Rattle.heap_model.specs.declared.call.Call.TheVariants.{Malloc, Calloc, Free as Freeing, Read, Map, Unmap, Probe}
+use Rattle.heap_model.specs.declared.call.Access.TheVariants.{Read as Reading, Write as Writing, Fetch}
+use Rattle.heap_model.specs.declared.answer.Reply.TheVariants.{Block as Placed, Done, Bytes, Byte}
+use Rattle.heap_model.specs.declared.answer.Refusal.TheVariants.{BadAlign, TooLarge, NoFrames, BadRange, HeapRegion, Overlap, UnknownRegion, NotCanonical}
 use Rattle.heap_model.specs.declared.answer.Answer.{Answer}
 use Rattle.dlmalloc_chunks.specs.declared.extent.Extent.{Extent}
 use Rattle.dlmalloc_chunks.specs.declared.extent.Kind.TheVariants.{Free, Top, Record, Foot}
 use Rattle.paging_core.specs.Prefix.{prefix_of, prefixes_from, prefixes_of}
 use Rattle.dlmalloc_chunks.specs.Request.{padded, enlarged, wanted, limit}
 use Rattle.heap_model.specs.Request.{pages_in, pages_for}
-use Rattle.heap_model.specs.State.{State, start, block_at}
+use Rattle.heap_model.specs.State.{State, Known, Fresh, start, block_at, cell_at}
 use Rattle.heap_model.specs.Tables.{missing, with_tables, free_frames}
 use Rattle.heap_model.specs.Place.{place, all_regions}
 use Rattle.heap_model.specs.Room.{heap_region}
 use Rattle.heap_model.specs.Extents.{AreRuns, IsTiling}
+use Rattle.heap_model.specs.Probe.{rights_at, is_granted, fault_code}
 use Rattle.heap_model.specs.Refusal.{is_too_large, must_refuse}
 use Rattle.heap_model.specs.Answer.{after, IsAllowed}
 
@@ -214,6 +217,94 @@ bad-align-0 = refl
 bad-align-24 : must_refuse (start config) (Malloc 0xFFFFFFFFFFFFFFFF 24) ≡ Some BadAlign
 unfolding config lib.Count.ones
 bad-align-24 = refl
+
+-- the heap's page, at its first block: a read is granted, and neither a fetch nor the user's access
+probed-rights : rights_at one 0x400010 ≡ Some (record { write = true; user = false; fetch = false })
+unfolding one config first
+probed-rights = refl
+
+probed-read : is_granted (rights_at one 0x400010) Reading false ≡ true
+unfolding one config first
+probed-read = refl
+
+probed-fetch : is_granted (rights_at one 0x400010) Fetch false ≡ false
+unfolding one config first
+probed-fetch = refl
+
+code-fetch : fault_code true Fetch false ≡ 0x11
+code-fetch = refl
+
+code-user : fault_code true Reading true ≡ 0x5
+code-user = refl
+
+-- no page is mapped there
+code-unmapped : fault_code false Writing true ≡ 0x6
+code-unmapped = refl
+
+not-canonical : must_refuse (start config) (Probe 0x800000000000 Reading false) ≡ Some NotCanonical
+unfolding config
+not-canonical = refl
+
+last-canonical : must_refuse (start config) (Probe 0x7fffffffffff Reading false) ≡ None
+unfolding config
+last-canonical = refl
+
+-- a page of the user behind the heap's region, which `one` has
+abbrev reading : Rights
+reading = record { write = false; user = true; fetch = false }
+
+map-user : must_refuse one (Map 0x410000 1 reading) ≡ None
+unfolding one first config prefixes_of prefixes_from pages_for wanted padded pages_in
+map-user = refl
+
+map-heap : must_refuse one (Map 0x40f000 2 reading) ≡ Some HeapRegion
+unfolding one config first
+map-heap = refl
+
+-- no page, a start off a page, and pages over the end of a canonical half
+map-no_pages : must_refuse one (Map 0x410000 0 reading) ≡ Some BadRange
+unfolding one config first
+map-no_pages = refl
+
+map-off_page : must_refuse one (Map 0x410001 1 reading) ≡ Some BadRange
+unfolding one config first
+map-off_page = refl
+
+map-gap : must_refuse one (Map 0x7ffffffff000 2 reading) ≡ Some BadRange
+unfolding one config first
+map-gap = refl
+
+map-last : must_refuse (start config) (Map 0xfffffffffffff000 1 reading) ≡ None
+unfolding config prefixes_of prefixes_from
+map-last = refl
+
+map-behind_last : must_refuse (start config) (Map 0xfffffffffffff000 2 reading) ≡ Some BadRange
+unfolding config
+map-behind_last = refl
+
+-- the state after the map of two pages
+abbrev mapped : State
+mapped = after one (Map 0x410000 2 reading) (record { reply = Done; regions = None })
+
+mapped-met : must_refuse mapped (Map 0x411000 1 reading) ≡ Some Overlap
+unfolding one config first
+mapped-met = refl
+
+unmap-part : must_refuse mapped (Unmap 0x410000 1) ≡ Some UnknownRegion
+unfolding one config first
+unmap-part = refl
+
+unmap-heap : must_refuse mapped (Unmap 0x400000 16) ≡ Some HeapRegion
+unfolding one config first
+unmap-heap = refl
+
+unmap-whole : must_refuse mapped (Unmap 0x410000 2) ≡ None
+unfolding one config first
+unmap-whole = refl
+
+unmapped-regions : all_regions (after mapped (Unmap 0x410000 2) (record { reply = Done; regions = None })) ≡ all_regions one
+unfolding one config first
+unmapped-regions = refl
 
 -- no state allows a read that answers a number that is no byte
 no-byte : (s : State) → IsAllowed s (Read 0 0 1) (record { reply = Bytes (300 ∷ []); regions = None }) → ⊥

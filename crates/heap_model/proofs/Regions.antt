@@ -1,12 +1,13 @@
 -- Regions that join a sorted list.
-use Rattle.std.proofs.Common.{◌≡◌, ℕ, ◌+◌, ◌*◌, ◌<◌, ◌≤◌, ◌⊎◌, inl, inr, ◌||◌, nat_lt, List, [], ◌∷◌, ◌++◌, length, find, fold, refl, sym, ap, ◌∙◌, arith, Bool, true, false, cond, Some}
+use Rattle.std.proofs.Common.{◌≡◌, ℕ, ◌+◌, ◌*◌, ◌/◌, ◌%◌, ◌^◌, ◌<◌, ◌≤◌, ◌⊎◌, inl, inr, ◌||◌, nat_lt, nat_eq, List, [], ◌∷◌, ◌++◌, length, find, fold, refl, sym, ap, ◌∙◌, subst, ◌-◌, arith, Bool, true, false, cond, IsTrue, Some, None}
 use Rattle.std.proofs.lemmas.Bool.Decides.{nat_tests}
 use Rattle.std.specs.List.{list_any, AllByRecursion}
+use Rattle.paging_core.specs.Address.{is_canonical, IsCanonicalRange}
 use Rattle.heap_model.specs.declared.region.Region.{Region}
 use Rattle.heap_model.specs.State.{end_of, is_within, total_pages}
-use Rattle.heap_model.specs.Place.{meets, meets_any, with_region}
-use Rattle.heap_model.specs.Run.{AreInOrder}
-use Rattle.heap_model.proofs.Booleans.{or_false, or_swap, neither_or}
+use Rattle.heap_model.specs.Place.{meets, meets_any, with_region, is_at, without}
+use Rattle.heap_model.specs.Run.{AreInOrder, IsWhole}
+use Rattle.heap_model.proofs.Booleans.{or_false, or_left, or_right, or_cases, or_swap, neither_or}
 
 -- ---- one region
 
@@ -137,3 +138,157 @@ none_within address pages at (first ∷ rest) above below none =
     let both : (meets address pages first ≡ false) × (meets_any address pages rest ≡ false) = neither_or (meets address pages first) (meets_any address pages rest) none in
     let here : is_within at first ≡ false = elim (beside address pages first both.0) [ inl behind ↦ not_within at first (inr (omega arith)) | inr before ↦ not_within at first (inl (omega arith)) ] in
     rw here (none_within address pages at rest above below both.1)
+
+-- ---- two lists, one behind the other
+
+append_none : (xs : List Region) → xs ++ [] ≡ xs
+append_none [] = refl
+append_none (x ∷ xs) = ap (λ ys. x ∷ ys) (append_none xs)
+
+-- the only one that passes is found in one list
+pub find_only : (test : Region → Bool) (region : Region) (list : List Region) → test region ≡ true → list_any test list ≡ false → find test (with_region region list) ≡ Some region
+find_only test region list passes none = ap (find test) (sym (append_none (with_region region list))) ∙ find_alone test region list [] passes none
+
+-- and one that fails is passed over
+pub find_past : (test : Region → Bool) (region : Region) (list : List Region) → test region ≡ false → find test (with_region region list) ≡ find test list
+find_past test region list fails =
+    ap (find test) (sym (append_none (with_region region list))) ∙ (find_without test region list [] fails ∙ ap (find test) (append_none list))
+
+-- where none of the first list passes, the second one is searched
+pub find_behind : (test : Region → Bool) (first second : List Region) → list_any test first ≡ false → find test (first ++ second) ≡ find test second
+find_behind test [] second none = refl
+find_behind test (region ∷ rest) second none =
+    let both : (test region ≡ false) × (list_any test rest ≡ false) = neither_or (test region) (list_any test rest) none in
+    rw both.0 (find_behind test rest second both.1)
+
+-- what is found in the second one alone counts
+pub find_same : (test : Region → Bool) (first old new : List Region) → find test new ≡ find test old → find test (first ++ new) ≡ find test (first ++ old)
+find_same test [] old new same = same
+find_same test (region ∷ rest) old new same = ap (λ later. cond (test region) (Some region) later) (find_same test rest old new same)
+
+-- none is found where none passes
+pub find_none : (test : Region → Bool) (list : List Region) → list_any test list ≡ false → find test list ≡ None
+find_none test [] none = refl
+find_none test (region ∷ rest) none =
+    let both : (test region ≡ false) × (list_any test rest ≡ false) = neither_or (test region) (list_any test rest) none in
+    rw both.0 (find_none test rest both.1)
+
+-- ---- a list with one less
+
+-- what holds of all holds with one less
+pub all_without : (P : Region → Type 0) (start pages : ℕ) (list : List Region) → AllByRecursion P list → AllByRecursion P (without start pages list)
+all_without P start pages [] all = tt
+all_without P start pages (region ∷ rest) all = go (is_at start pages region) (all_without P start pages rest all.1)
+  where
+    go : (b : Bool) → AllByRecursion P (without start pages rest) → AllByRecursion P (cond b rest (region ∷ without start pages rest))
+    go true later = all.1
+    go false later = (all.0, later)
+
+-- its pages are taken off
+pub pages_without : (start pages : ℕ) (list : List Region) → list_any (is_at start pages) list ≡ true → total_pages (without start pages list) + pages ≡ total_pages list
+pages_without start pages [] there = let no : false ≡ true = there in absurd (cc)
+pages_without start pages (region ∷ rest) there = go (is_at start pages region) refl (pages_without start pages rest)
+  where
+    go : (b : Bool) → is_at start pages region ≡ b → (list_any (is_at start pages) rest ≡ true → total_pages (without start pages rest) + pages ≡ total_pages rest) →
+        total_pages (without start pages (region ∷ rest)) + pages ≡ total_pages (region ∷ rest)
+    go true is later = let same : region.pages ≡ pages = grind (arith, nat_tests) in rw is (omega arith)
+    go false is later = let more = later (rw is at there) in rw is (omega arith)
+
+-- the list stays sorted
+pub in_order_without : (start pages : ℕ) (list : List Region) → AreInOrder list → AreInOrder (without start pages list)
+in_order_without start pages [] order = tt
+in_order_without start pages (region ∷ rest) order = go (is_at start pages region) (in_order_without start pages rest order.1)
+  where
+    go : (b : Bool) → AreInOrder (without start pages rest) → AreInOrder (cond b rest (region ∷ without start pages rest))
+    go true later = order.1
+    go false later = (all_without (λ later. end_of region ≤ later.start) start pages rest order.0, later)
+
+-- what fails for the one that leaves is found as before
+pub find_left : (test : Region → Bool) (start pages : ℕ) (list : List Region) → ((region : Region) → is_at start pages region ≡ true → test region ≡ false) →
+    find test (without start pages list) ≡ find test list
+find_left test start pages [] fails = refl
+find_left test start pages (region ∷ rest) fails = go (is_at start pages region) refl (find_left test start pages rest fails)
+  where
+    go : (b : Bool) → is_at start pages region ≡ b → find test (without start pages rest) ≡ find test rest → find test (without start pages (region ∷ rest)) ≡ find test (region ∷ rest)
+    go true is later = let no = fails region is in rw (is, no) refl
+    go false is later = rw is (ap (λ o. cond (test region) (Some region) o) later)
+
+-- what passes with one less passes
+pub any_left : (test : Region → Bool) (start pages : ℕ) (list : List Region) → list_any test (without start pages list) ≡ true → list_any test list ≡ true
+any_left test start pages [] is = is
+any_left test start pages (region ∷ rest) is = go (is_at start pages region) is (any_left test start pages rest)
+  where
+    go : (b : Bool) → list_any test (cond b rest (region ∷ without start pages rest)) ≡ true → (list_any test (without start pages rest) ≡ true → list_any test rest ≡ true) →
+        (test region || list_any test rest) ≡ true
+    go true is later = or_right (test region) (list_any test rest) is
+    go false is later = elim (or_cases (test region) (list_any test (without start pages rest)) is) [
+      | inl here ↦ or_left (test region) (list_any test rest) here
+      | inr there ↦ or_right (test region) (list_any test rest) (later there)
+    ]
+
+-- a listed one starts where all do, or behind
+starts_behind : (start pages from : ℕ) (list : List Region) → AllByRecursion (λ later. from ≤ later.start) list → list_any (is_at start pages) list ≡ true → from ≤ start
+starts_behind start pages from [] all there = let no : false ≡ true = there in absurd (cc)
+starts_behind start pages from (region ∷ rest) all there = go (is_at start pages region) refl (starts_behind start pages from rest all.1)
+  where
+    go : (b : Bool) → is_at start pages region ≡ b → (list_any (is_at start pages) rest ≡ true → from ≤ start) → from ≤ start
+    go true is later = let same : region.start ≡ start = grind (arith, nat_tests) in omega (arith, all.0)
+    go false is later = later (rw is at there)
+
+none_behind : (at from : ℕ) (list : List Region) → at < from → AllByRecursion (λ later. from ≤ later.start) list → list_any (is_within at) list ≡ false
+none_behind at from [] less all = refl
+none_behind at from (region ∷ rest) less all = let here = not_within at region (inl (omega (arith, all.0))) in rw here (none_behind at from rest less all.1)
+
+-- an address of the one that leaves lies in no other
+pub none_left : (start pages at : ℕ) (list : List Region) → AreInOrder list → list_any (is_at start pages) list ≡ true → start ≤ at → at < start + 4096 * pages →
+    list_any (is_within at) (without start pages list) ≡ false
+none_left start pages at [] order there above below = let no : false ≡ true = there in absurd (cc)
+none_left start pages at (region ∷ rest) order there above below = go (is_at start pages region) refl (λ t. none_left start pages at rest order.1 t above below)
+  where
+    go : (b : Bool) → is_at start pages region ≡ b → (list_any (is_at start pages) rest ≡ true → list_any (is_within at) (without start pages rest) ≡ false) →
+        list_any (is_within at) (without start pages (region ∷ rest)) ≡ false
+    go true is later =
+        let same : region.start ≡ start = grind (arith, nat_tests) in
+        let long : region.pages ≡ pages = grind (arith, nat_tests) in
+        rw is (none_behind at (end_of region) rest (omega arith) order.0)
+    go false is later =
+        let in_rest : list_any (is_at start pages) rest ≡ true = rw is at there in
+        let end : end_of region ≤ start = starts_behind start pages (end_of region) rest order.0 in_rest in
+        let here = not_within at region (inr (omega arith)) in
+        rw (is, here) (later in_rest)
+
+-- a listed region has what all have
+pub listed : (P : Region → Type 0) (start pages : ℕ) (list : List Region) → AllByRecursion P list → list_any (is_at start pages) list ≡ true →
+    (region : Region) × P region × (region.start ≡ start) × (region.pages ≡ pages)
+listed P start pages [] all there = let no : false ≡ true = there in absurd (cc)
+listed P start pages (region ∷ rest) all there = go (is_at start pages region) refl (listed P start pages rest all.1)
+  where
+    go : (b : Bool) → is_at start pages region ≡ b →
+        (list_any (is_at start pages) rest ≡ true → (other : Region) × P other × (other.start ≡ start) × (other.pages ≡ pages)) →
+        (other : Region) × P other × (other.start ≡ start) × (other.pages ≡ pages)
+    go true is later = (region, all.0, grind (arith, nat_tests), grind (arith, nat_tests))
+    go false is later = later (rw is at there)
+
+-- ---- canonical addresses
+
+-- each page of a canonical range is canonical
+pub page_canonical : (first pages k : ℕ) → IsCanonicalRange first pages → k < pages → IsTrue (is_canonical ((first + k) * 4096))
+page_canonical first pages k range less =
+    let same : (first + k) * 4096 / 2 ^ 47 ≡ first * 4096 / 2 ^ 47 = (let h = range.one_half in omega arith) in
+    ap (λ q. nat_eq q 0 || nat_eq q (2 ^ 17 - 1)) same ∙ range.canonical
+
+-- the page of an address in whole regions is canonical
+pub within_canonical : (P : Region → Type 0) → ((region : Region) → P region → IsWhole region) → (at : ℕ) (list : List Region) → AllByRecursion P list →
+    list_any (is_within at) list ≡ true → IsTrue (is_canonical (at / 4096 * 4096))
+within_canonical P whole at [] all there = let no : false ≡ true = there in absurd (cc)
+within_canonical P whole at (region ∷ rest) all there = go (is_within at region) refl (within_canonical P whole at rest all.1)
+  where
+    go : (b : Bool) → is_within at region ≡ b → (list_any (is_within at) rest ≡ true → IsTrue (is_canonical (at / 4096 * 4096))) → IsTrue (is_canonical (at / 4096 * 4096))
+    go true is later =
+        let w = whole region all.0 in
+        let start : region.start % 4096 ≡ 0 = w.0 in
+        let bounds = within_bounds at region is in
+        let page : region.start / 4096 + (at / 4096 - region.start / 4096) ≡ at / 4096 = omega (arith, start, bounds.0) in
+        subst (λ p. IsTrue (is_canonical (p * 4096))) page
+        (page_canonical (region.start / 4096) region.pages (at / 4096 - region.start / 4096) w.1 (omega (arith, start, bounds.0, bounds.1)))
+    go false is later = later (rw is at there)

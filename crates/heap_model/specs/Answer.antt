@@ -1,19 +1,22 @@
 -- One call: which answers are allowed, and the state after each.
-use Rattle.std.specs.Prelude.{◌≡◌, ◌≢◌, ℕ, zero, suc, ◌+◌, ◌^◌, ◌<◌, Bool, not, ◌==◌, ◌⊎◌, ⊤, List, [], ◌∷◌, ◌++◌, length, find, replicate, slice_index, slice_set, option_map, unwrap_or, Option, Some, None, MatchOption}
+use Rattle.std.specs.Prelude.{◌≡◌, ◌≢◌, ℕ, zero, suc, ◌+◌, ◌-◌, ◌^◌, ◌<◌, Bool, not, ◌==◌, ◌⊎◌, ⊤, nat_le, IsTrue, IsFalse, is_some, if◌then◌else◌, List, [], ◌∷◌, ◌++◌, length, map, find, replicate, slice_index, slice_set, option_map, unwrap_or, Option, Some, None, MatchOption}
 use Rattle.std.specs.List.{list_any, AllByRecursion}
 use Rattle.heap_model.specs.declared.region.Region.{Region}
 use Rattle.heap_model.specs.declared.call.Call.{Call}
-use Rattle.heap_model.specs.declared.call.Call.TheVariants.{Malloc, Calloc, Realloc, CRealloc, Free, Write, Read, Extents}
+use Rattle.heap_model.specs.declared.call.Call.TheVariants.{Malloc, Calloc, Realloc, CRealloc, Free, Write, Read, Map, Unmap, Probe, Extents}
 use Rattle.heap_model.specs.declared.answer.Reply.{Reply}
-use Rattle.heap_model.specs.declared.answer.Reply.TheVariants.{Block as Placed, Done, Bytes, Extents as Listed, Refused}
+use Rattle.heap_model.specs.declared.answer.Reply.TheVariants.{Block as Placed, Done, Bytes, Byte, Fault, Extents as Listed, Refused}
 use Rattle.heap_model.specs.declared.answer.Answer.{Answer}
 use Rattle.paging_core.specs.Prefix.{Prefix}
 use Rattle.dlmalloc_chunks.specs.Request.{wanted}
 use Rattle.heap_model.specs.Request.{pages_for}
 use Rattle.heap_model.specs.State.{State, Cell, Fresh, Known, Block, block_at, cell_at, with_bytes}
 use Rattle.heap_model.specs.Tables.{with_tables}
-use Rattle.heap_model.specs.Room.{IsGrowth}
+use Rattle.heap_model.specs.Place.{with_region, without}
+use Rattle.heap_model.specs.Room.{user_region, IsGrowth}
 use Rattle.heap_model.specs.Extents.{IsTiling}
+use Rattle.x86_tables.specs.PageFaultErrorCode.{page_fault_bits}
+use Rattle.heap_model.specs.Probe.{rights_at, is_granted, fault_code, IsByteAt}
 use Rattle.heap_model.specs.Refusal.{own_align, least_align, must_refuse, MayRefuse, wanted_by}
 
 -- a block of whose bytes the same is known
@@ -42,6 +45,10 @@ resized_cells (suc n) (cell ∷ cells) = cell ∷ resized_cells n cells
 abbrev pub resized_block : ℕ → ℕ → (Block → ℕ) → Block → Block
 resized_block address size align block = record { address = address; size = size; align = align block; cells = resized_cells size block.cells }
 
+-- the block, with the byte at an address known, where it is one of the block's
+abbrev pub seen_block : ℕ → ℕ → Block → Block
+seen_block address byte block = if nat_le block.address address then known_block (address - block.address) (byte ∷ []) block else block
+
 -- what the reply alone changes; every other reply, a refusal too, changes nothing
 abbrev pub changed : State → Call → Reply → State
 changed s (Malloc size align) (Placed number address) = record s { blocks = s.blocks ++ new_block address size align Fresh ∷ [] }
@@ -51,6 +58,9 @@ changed s (CRealloc number size) (Placed given address) = record s { blocks = wi
 changed s (Free number) Done = record s { blocks = without_block s.blocks number }
 changed s (Write number offset bytes) Done = record s { blocks = with_block s.blocks number (known_block offset bytes) }
 changed s (Read number offset count) (Bytes bytes) = record s { blocks = with_block s.blocks number (known_block offset bytes) }
+changed s (Map start pages rights) Done = record s { users = with_region (user_region start pages rights) s.users; tables = with_tables s.tables start pages }
+changed s (Unmap start pages) Done = record s { users = without start pages s.users }
+changed s (Probe at access user) (Byte byte) = record s { blocks = map (option_map (seen_block at byte)) s.blocks }
 changed s call reply = s
 
 -- whether a region starts where none of these does
@@ -98,6 +108,10 @@ IsServed s (CRealloc number size) (Placed given address) regions = (given ≡ nu
 IsServed s (Free number) Done regions = regions ≡ None
 IsServed s (Write number offset bytes) Done regions = regions ≡ None
 IsServed s (Read number offset count) (Bytes bytes) regions = (regions ≡ None) × (length bytes ≡ count) × AreBytes bytes × ((block : Block) → block_at s.blocks number ≡ Some block → AgreeWith block.cells offset bytes)
+IsServed s (Map start pages rights) Done regions = regions ≡ None
+IsServed s (Unmap start pages) Done regions = regions ≡ None
+IsServed s (Probe at access user) (Byte byte) regions = (regions ≡ None) × IsTrue (is_granted (rights_at s at) access user) × IsByteAt s at byte
+IsServed s (Probe at access user) (Fault code) regions = (regions ≡ None) × IsFalse (is_granted (rights_at s at) access user) × (page_fault_bits code ≡ fault_code (is_some (rights_at s at)) access user)
 IsServed s Extents (Listed extents) regions = (regions ≡ None) × IsTiling s extents
 IsServed s call reply regions = ⊥
 

@@ -5,6 +5,7 @@ pub mod Place
 pub mod Room
 pub mod Extents
 pub mod Refusal
+pub mod Probe
 pub mod Answer
 pub mod Run
 pub mod Memory

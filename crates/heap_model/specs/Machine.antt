@@ -1,5 +1,5 @@
 -- When a machine stands for a state.
-use Rattle.std.specs.Prelude.{◌≡◌, ℕ, ◌+◌, ◌*◌, ◌/◌, ◌<◌, ◌≤◌, ◌↔◌, Bool, not, ◌&&◌, IsTrue, List, ◌++◌, length, map, find, option_map, Option, Some, IsSome}
+use Rattle.std.specs.Prelude.{◌≡◌, ℕ, ◌+◌, ◌*◌, ◌/◌, ◌<◌, ◌≤◌, ◌↔◌, Bool, not, ◌&&◌, IsTrue, List, length, map, option_map, Option, Some, IsSome}
 use Rattle.std.specs.List.{list_any}
 use Rattle.paging_core.specs.declared.page_table.Rights.{Rights}
 use Rattle.paging_core.specs.Address.{is_canonical}
@@ -13,7 +13,7 @@ use Rattle.heap_model.specs.declared.live.Live.{Live}
 use Rattle.heap_model.specs.declared.region.Region.{Region}
 use Rattle.heap_model.specs.declared.call.Call.{Call}
 use Rattle.heap_model.specs.declared.answer.Answer.{Answer}
-use Rattle.heap_model.specs.State.{State, Block, is_within}
+use Rattle.heap_model.specs.State.{State, Block, is_within, region_at}
 use Rattle.heap_model.specs.Tables.{has_table, free_frames}
 use Rattle.heap_model.specs.Place.{all_regions}
 use Rattle.heap_model.specs.Room.{heap_rights}
@@ -40,13 +40,17 @@ pub record Paged : Type 0 where
   -- the regions, by address
   pub regions : List Region
 
--- Pages of the heap were added to a system from an address on, each at a new frame, with the tables that they lacked.
-pub record IsPagedGrant (old new : Paged) (address pages : ℕ) : Type 0 where
+-- Pages with these rights were added to a system from an address on, each at a new frame, with the tables that they lacked.
+pub record ArePagesAdded (old new : Paged) (address pages : ℕ) (rights : Rights) : Type 0 where
   pub base : new.base ≡ old.base
   pub pages_is : new.pages ≡ old.pages
   pub root : new.root ≡ old.root
   pub tables : new.tables ≡ old.tables + missing_of old.words old.root (address / 4096) pages
-  pub added : IsRangeAdded old.words new.words old.free new.free old.root (address / 4096) pages heap_rights
+  pub added : IsRangeAdded old.words new.words old.free new.free old.root (address / 4096) pages rights
+
+-- so pages of the heap are
+abbrev pub IsPagedGrant : Paged → Paged → ℕ → ℕ → Type 0
+IsPagedGrant old new address pages = ArePagesAdded old new address pages heap_rights
 
 -- whether an address lies in a region of the user
 abbrev pub is_of_user : List Region → ℕ → Bool
@@ -70,10 +74,6 @@ pub record Seen : Type 0 where
   pub granularity : ℕ
   -- the live blocks, by number
   pub blocks : List (Option Live)
-
--- the region that holds an address
-abbrev pub region_at : State → ℕ → Option Region
-region_at s address = find (is_within address) (s.heap ++ s.users)
 
 -- what may be done at a page that the walk finds
 abbrev pub rights_of : Place → Rights

@@ -1,5 +1,5 @@
 -- Places in the window for regions.
-use Rattle.std.specs.Prelude.{◌≡◌, ℕ, zero, suc, ◌+◌, ◌-◌, ◌*◌, ◌%◌, ◌<◌, ◌≤◌, Bool, ◌&&◌, nat_lt, IsFalse, List, [], ◌∷◌, fold, Option, Some, None, if◌then◌else◌}
+use Rattle.std.specs.Prelude.{◌≡◌, ℕ, zero, suc, ◌+◌, ◌-◌, ◌*◌, ◌%◌, ◌<◌, ◌≤◌, Bool, ◌&&◌, ◌==◌, nat_lt, IsFalse, List, [], ◌∷◌, fold, Option, Some, None, if◌then◌else◌}
 use Rattle.std.specs.List.{list_any}
 use Rattle.heap_model.specs.declared.region.Region.{Region}
 use Rattle.heap_model.specs.State.{State, end_of}
@@ -37,6 +37,15 @@ first_fit regions pages address (suc tries) = if meets_any address pages regions
 abbrev pub with_region : Region → List Region → List Region
 with_region region [] = region ∷ []
 with_region region (first ∷ rest) = if nat_lt region.start first.start then region ∷ first ∷ rest else first ∷ with_region region rest
+
+-- whether a region is the one of so many pages at an address
+abbrev pub is_at : ℕ → ℕ → Region → Bool
+is_at start pages region = (region.start == start) && (region.pages == pages)
+
+-- the regions without the one of so many pages at an address
+abbrev pub without : ℕ → ℕ → List Region → List Region
+without start pages [] = []
+without start pages (region ∷ rest) = if is_at start pages region then rest else region ∷ without start pages rest
 
 -- all regions by address
 abbrev pub all_regions : State → List Region

@@ -1,15 +1,18 @@
 -- When a call is refused.
-use Rattle.std.specs.Prelude.{ℕ, ◌+◌, ◌<◌, Bool, nat_lt, nat_le, length, option_map, Option, Some, None, if◌then◌else◌}
+use Rattle.std.specs.Prelude.{ℕ, ◌+◌, ◌-◌, ◌*◌, ◌/◌, ◌%◌, ◌^◌, ◌<◌, Bool, ◌&&◌, ◌==◌, nat_lt, nat_le, length, option_map, Option, Some, None, if◌then◌else◌}
 use Rattle.std.specs.Int.{is_power_of_two}
+use Rattle.std.specs.List.{list_any}
+use Rattle.std.specs.Option.{option_or}
 use Rattle.heap_model.specs.declared.call.Call.{Call}
-use Rattle.heap_model.specs.declared.call.Call.TheVariants.{Malloc, Calloc, Realloc, CRealloc, Free, Write, Read, Extents}
+use Rattle.heap_model.specs.declared.call.Call.TheVariants.{Malloc, Calloc, Realloc, CRealloc, Free, Write, Read, Map, Unmap, Probe, Extents}
 use Rattle.heap_model.specs.declared.answer.Refusal.{Refusal}
-use Rattle.heap_model.specs.declared.answer.Refusal.TheVariants.{BadAlign, TooLarge, NoSpace, NoFrames, UnknownBlock, OutOfBlock}
+use Rattle.heap_model.specs.declared.answer.Refusal.TheVariants.{BadAlign, TooLarge, NoSpace, NoFrames, UnknownBlock, OutOfBlock, BadRange, HeapRegion, Overlap, UnknownRegion, NotCanonical}
+use Rattle.paging_core.specs.Address.{is_canonical}
 use Rattle.dlmalloc_chunks.specs.Request.{limit, enlarged, wanted}
 use Rattle.heap_model.specs.Request.{pages_for}
 use Rattle.heap_model.specs.State.{State, Block, block_at}
 use Rattle.heap_model.specs.Tables.{missing, free_frames}
-use Rattle.heap_model.specs.Place.{all_regions, IsPlace, HasNoPlace}
+use Rattle.heap_model.specs.Place.{meets_any, is_at, all_regions, IsPlace, HasNoPlace}
 use Rattle.heap_model.specs.Room.{HasRoom}
 
 -- sizes that no heap serves; above 16 the alignment counts too
@@ -42,6 +45,24 @@ abbrev pub refuse_bytes : Option Block → ℕ → ℕ → Option Refusal
 refuse_bytes None offset count = Some UnknownBlock
 refuse_bytes (Some block) offset count = if nat_lt block.size (offset + count) then Some OutOfBlock else None
 
+-- whether these are whole pages, at least one, and all in one canonical half
+abbrev pub is_page_range : ℕ → ℕ → Bool
+is_page_range start pages = start % 4096 == 0 && (nat_lt 0 pages && (is_canonical start && (start + 4096 * pages - 1) / 2 ^ 47 == start / 2 ^ 47))
+
+-- why a range of pages is not the user's to map and unmap, if it is not
+abbrev pub refuse_range : State → ℕ → ℕ → Option Refusal
+refuse_range s start pages = if is_page_range start pages then (if meets_any start pages s.heap then Some HeapRegion else None) else Some BadRange
+
+-- why no region of the user is mapped there
+abbrev pub refuse_map : State → ℕ → ℕ → Option Refusal
+refuse_map s start pages =
+    if meets_any start pages s.users then Some Overlap else
+    if nat_lt (free_frames s) (pages + missing s.tables start pages) then Some NoFrames else None
+
+-- why none is unmapped there: only a whole region is
+abbrev pub refuse_unmap : State → ℕ → ℕ → Option Refusal
+refuse_unmap s start pages = if list_any (is_at start pages) s.users then None else Some UnknownRegion
+
 -- the refusal that must come, if any: it depends on the call and the state alone
 abbrev pub must_refuse : State → Call → Option Refusal
 must_refuse s (Malloc size align) = refuse_request s.granularity size align
@@ -51,6 +72,9 @@ must_refuse s (CRealloc number size) = refuse_resizing s.granularity size least_
 must_refuse s (Free number) = refuse_block (block_at s.blocks number)
 must_refuse s (Write number offset bytes) = refuse_bytes (block_at s.blocks number) offset (length bytes)
 must_refuse s (Read number offset count) = refuse_bytes (block_at s.blocks number) offset count
+must_refuse s (Map start pages rights) = option_or (refuse_range s start pages) (refuse_map s start pages)
+must_refuse s (Unmap start pages) = option_or (refuse_range s start pages) (refuse_unmap s start pages)
+must_refuse s (Probe at access user) = if is_canonical at then None else Some NotCanonical
 must_refuse s Extents = None
 
 -- the chunk that a heap call wants, if it is one
@@ -62,6 +86,9 @@ wanted_by s (CRealloc number size) = option_map (λ block. wanted size (least_al
 wanted_by s (Free number) = None
 wanted_by s (Write number offset bytes) = None
 wanted_by s (Read number offset count) = None
+wanted_by s (Map start pages rights) = None
+wanted_by s (Unmap start pages) = None
+wanted_by s (Probe at access user) = None
 wanted_by s Extents = None
 
 -- a heap call that has no room may be refused where its pages have no place, or where frames are lacking at their place
@@ -72,4 +99,9 @@ MayRefuse s (Some n) BadAlign = ⊥
 MayRefuse s (Some n) TooLarge = ⊥
 MayRefuse s (Some n) UnknownBlock = ⊥
 MayRefuse s (Some n) OutOfBlock = ⊥
+MayRefuse s (Some n) BadRange = ⊥
+MayRefuse s (Some n) HeapRegion = ⊥
+MayRefuse s (Some n) Overlap = ⊥
+MayRefuse s (Some n) UnknownRegion = ⊥
+MayRefuse s (Some n) NotCanonical = ⊥
 MayRefuse s None refusal = ⊥

@@ -32,6 +32,10 @@ heap_rights = record { write = true; user = false; fetch = false }
 abbrev pub heap_region : ℕ → ℕ → Region
 heap_region address pages = record { start = address; pages = pages; heap = true; rights = heap_rights }
 
+-- a region of the user
+abbrev pub user_region : ℕ → ℕ → Rights → Region
+user_region start pages rights = record { start = start; pages = pages; heap = false; rights = rights }
+
 -- there is no room, but a place and frames for the pages of the request, and their region joins
 pub record IsGrant (s : State) (n : ℕ) (list : List Region) : Type 0 where
   pub full : HasRoom s n → ⊥

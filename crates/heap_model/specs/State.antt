@@ -1,5 +1,5 @@
 -- The state of the machine, as the answers so far determine it. It says nothing of how the machine keeps it.
-use Rattle.std.specs.Prelude.{ℕ, zero, suc, ◌+◌, ◌*◌, max, Bool, ◌&&◌, nat_lt, nat_le, List, [], ◌∷◌, slice_index_or, Option, None}
+use Rattle.std.specs.Prelude.{ℕ, zero, suc, ◌+◌, ◌*◌, max, Bool, ◌&&◌, nat_lt, nat_le, List, [], ◌∷◌, ◌++◌, find, slice_index_or, Option, None}
 use Rattle.heap_model.specs.declared.region.Region.{Region}
 use Rattle.heap_model.specs.declared.config.Config.{Config}
 use Rattle.paging_core.specs.Prefix.{Prefix}
@@ -61,6 +61,10 @@ end_of region = region.start + 4096 * region.pages
 -- whether an address lies in the region
 abbrev pub is_within : ℕ → Region → Bool
 is_within address region = nat_le region.start address && nat_lt address (end_of region)
+
+-- the region that holds an address
+abbrev pub region_at : State → ℕ → Option Region
+region_at s address = find (is_within address) (s.heap ++ s.users)
 
 -- the pages of all of these regions
 abbrev pub total_pages : List Region → ℕ

@@ -1,6 +1,7 @@
 use crate::{Bytes, RegionList};
 use dlmalloc_chunks::ExtentList;
 use public_list::PublicList;
+use x86_tables::idt::PageFaultErrorCode;
 
 /// Why a call was refused. A refused call changes nothing.
 #[derive(Clone, Copy, PartialEq, Eq, Debug)]
@@ -11,12 +12,23 @@ pub enum Refusal {
     TooLarge,
     /// No heap region has room for the request, and the window has no place for its pages.
     NoSpace,
-    /// No heap region has room for the request, and there are too few free frames for its pages and their tables.
+    /// No heap region has room for the request, and there are too few free frames for its pages and their tables. For a
+    /// map, there are too few for its pages and their tables.
     NoFrames,
     /// No live block has this number.
     UnknownBlock,
     /// The block is live, and the bytes reach past its end.
     OutOfBlock,
+    /// There are no pages, the first starts off a page, or not all of them are canonical.
+    BadRange,
+    /// The pages meet a region of the heap.
+    HeapRegion,
+    /// The pages meet a region of the user.
+    Overlap,
+    /// No region of the user has just these pages.
+    UnknownRegion,
+    /// The address is not canonical.
+    NotCanonical,
 }
 
 /// What a call answers.
@@ -28,6 +40,10 @@ pub enum Reply {
     Done,
     /// The bytes that were asked for.
     Bytes(Bytes),
+    /// The byte at the address, to which the access is granted.
+    Byte(u8),
+    /// The access is a page fault with this code.
+    Fault(PageFaultErrorCode),
     /// The extents of the heap, by ascending address.
     Extents(ExtentList),
     /// The call was refused, and changed nothing.

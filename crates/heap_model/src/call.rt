@@ -1,5 +1,17 @@
 use crate::Bytes;
+use paging_core::Rights;
 use public_list::PublicList;
+
+/// What an access does with a byte.
+#[derive(Clone, Copy, PartialEq, Eq, Debug)]
+pub enum Access {
+    /// It reads the byte, which every mapped page grants.
+    Read,
+    /// It writes to the byte.
+    Write,
+    /// It fetches an instruction there.
+    Fetch,
+}
 
 /// A call of the machine. A block is named by its number.
 #[derive(Drop)]
@@ -40,6 +52,23 @@ pub enum Call {
         block: u64,
         offset: u64,
         length: u64,
+    },
+    /// Maps `pages` pages from the address `start` on as a region of the user, with these rights.
+    Map {
+        start: u64,
+        pages: u64,
+        rights: Rights,
+    },
+    /// Unmaps the region of the user that has just `pages` pages from the address `start` on.
+    Unmap {
+        start: u64,
+        pages: u64,
+    },
+    /// Looks at the byte at an address as an access does, by the user or by the kernel.
+    Probe {
+        at: u64,
+        access: Access,
+        user: bool,
     },
     /// Asks for the extents of the heap.
     Extents,

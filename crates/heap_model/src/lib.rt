@@ -11,13 +11,14 @@ mod live;
 mod region;
 
 pub use answer::{Answer, AnswerList, Refusal, Reply};
-pub use call::{Call, CallList};
+pub use call::{Access, Call, CallList};
 pub use config::Config;
 pub use dlmalloc_chunks::{Extent, ExtentList, Kind};
 pub use live::Live;
 pub use paging_core::Rights;
 pub use public_list::PublicList;
 pub use region::{Region, RegionList};
+pub use x86_tables::idt::PageFaultErrorCode;
 
 /// Bytes, as a list.
 pub type Bytes = PublicList<u8>;
