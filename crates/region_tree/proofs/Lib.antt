@@ -8,3 +8,4 @@ pub mod Cutting
 pub mod Taken
 pub mod OfHeap
 pub mod AllRegions
+pub mod Laying

@@ -1,6 +1,7 @@
 -- The regions, listed one after the other.
-use Rattle.std.proofs.Common.{◌≡◌, ◌∙◌, ap, sym, refl, ℕ, ◌+◌, ◌-◌, ◌*◌, ◌<◌, ◌≤◌, true, false, subst, List, [], ◌∷◌, ◌++◌, length, arith, Some, None, append_assoc, append-nil}
+use Rattle.std.proofs.Common.{◌≡◌, ◌∙◌, ap, sym, refl, ℕ, ◌+◌, ◌-◌, ◌*◌, ◌<◌, ◌≤◌, Bool, true, false, cond, filter, subst, List, [], ◌∷◌, ◌++◌, length, arith, Some, None, append_assoc, append-nil}
 use Rattle.std.proofs.lemmas.Bool.Decides.{nat_tests}
+use Rattle.std.proofs.lemmas.List.Elements.{filter-append}
 use Rattle.std.specs.Ordering.{nat_cmp}
 use Rattle.heap_model.specs.declared.region.Region.{Region}
 use Rattle.meminterval.specs.declared.interval.Interval.{Interval}
@@ -90,3 +91,24 @@ listed_on at es items to next l h =
       };
       fewer = subst (λ (rs : List Region). length rs < length (regions_of es)) (sym l.items_are) (subst (λ (fs : List (Interval ℕ × Kind)). length (regions_of l.front) < length (regions_of fs)) (sym whole) (length_front l.front rest next));
     }
+
+-- ---- those of the heap
+
+fewer_of_heap : (rs : List Region) → length (filter (λ r. r.heap) rs) ≤ length rs
+fewer_of_heap [] = omega arith
+fewer_of_heap (r ∷ rs) = go r.heap (fewer_of_heap rs) where
+  go : (b : Bool) → length (filter (λ r. r.heap) rs) ≤ length rs → length (cond b (r ∷ filter (λ r. r.heap) rs) (filter (λ r. r.heap) rs)) ≤ length (r ∷ rs)
+  go true more = omega (arith, more)
+  go false more = omega (arith, more)
+
+-- the list has a place for one more
+pub heap_place : (at : ℕ) (es : List (Interval ℕ × Kind)) (all items : List Region) (to capacity : ℕ) (next : Interval ℕ × Kind) → IsListedOn at es all to next → items ≡ filter (λ r. r.heap) all →
+    length (regions_of es) ≤ capacity → length items < capacity
+heap_place at es all items to capacity next on is places =
+    let few = fewer_of_heap all in
+    let same : length items ≡ length (filter (λ r. r.heap) all) = ap length is in
+    omega (arith, few, same, on.fewer, places)
+
+pub heap_more : (all items items' : List Region) (region next : Region) → items ≡ filter (λ r. r.heap) all → region ≡ next → items' ≡ items ++ filter (λ r. r.heap) (region ∷ []) → items' ≡ filter (λ r. r.heap) (all ++ next ∷ [])
+heap_more all items items' region next is same more =
+    more ∙ (ap (λ rs. rs ++ filter (λ r. r.heap) (region ∷ [])) is ∙ (ap (λ r. filter (λ r. r.heap) all ++ filter (λ r. r.heap) (r ∷ [])) same ∙ sym (filter-append (λ r. r.heap) all (next ∷ []))))

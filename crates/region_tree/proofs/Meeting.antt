@@ -11,14 +11,6 @@ use Rattle.region_tree.specs.declared.region_tree.Kind.{Kind}
 use Rattle.region_tree.specs.Pairs.{region_of, regions_of, Follow}
 use Rattle.region_tree.proofs.Passed.{EndBefore, start_lt, start_ge, meets_pair, misses_before, last_is}
 
--- where none passes, none is found
-pub find_none : (test : Region → Bool) (rs : List Region) → list_any test rs ≡ false → find test rs ≡ None
-find_none test [] h = refl
-find_none test (r ∷ rs) h = by_test (test r) refl (find_none test rs) where
-  by_test : (t : Bool) → test r ≡ t → (list_any test rs ≡ false → find test rs ≡ None) → find test (r ∷ rs) ≡ None
-  by_test true is rest = let no : true ≡ false = rw is at h in absurd (cc)
-  by_test false is rest = rw is (rest (rw is at h))
-
 -- where none is found, none passes
 pub none_found : (test : Region → Bool) (rs : List Region) → find test rs ≡ None → list_any test rs ≡ false
 none_found test [] h = refl

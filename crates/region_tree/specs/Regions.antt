@@ -1,10 +1,11 @@
 -- Regions by ascending address: how they lie, which of them is at a place, and how they change.
-use Rattle.std.specs.Prelude.{◌≡◌, ℕ, ◌-◌, ◌/◌, ◌%◌, ◌<◌, ◌≤◌, ◌⊎◌, ◌==◌, ◌&&◌, Bool, nat_le, nat_lt, if◌then◌else◌, IsTrue, List, [], ◌∷◌, find, Option, Some, None, option_map}
+use Rattle.std.specs.Prelude.{◌≡◌, ℕ, ◌-◌, ◌/◌, ◌%◌, ◌<◌, ◌≤◌, ◌⊎◌, ◌&&◌, Bool, nat_le, nat_lt, if◌then◌else◌, IsTrue, List, [], ◌∷◌, find, Option, Some, None, option_map}
 use Rattle.std.specs.List.{list_any, AllByRecursion}
 use Rattle.paging_core.specs.declared.page_table.Rights.{Rights}
 use Rattle.heap_model.specs.declared.region.Region.{Region}
 use Rattle.heap_model.specs.State.{end_of, is_within}
 use Rattle.heap_model.specs.Place.{meets}
+pub use Rattle.heap_model.specs.Place.{is_at, without}
 
 -- ---- how regions lie
 
@@ -23,10 +24,6 @@ IsBoundary address regions = AllByRecursion (λ region. (end_of region ≤ addre
 
 -- ---- single regions
 
--- whether a region is the one of so many pages at an address
-abbrev pub is_at : ℕ → ℕ → Region → Bool
-is_at start pages region = (region.start == start) && (region.pages == pages)
-
 -- whether a region is of the heap, and so many pages from an address meet it
 abbrev pub meets_heap : ℕ → ℕ → Region → Bool
 meets_heap address pages region = region.heap && meets address pages region
@@ -36,11 +33,6 @@ abbrev pub kind_at : List Region → ℕ → Option (Bool × Rights)
 kind_at regions address = option_map (λ region. (region.heap, region.rights)) (find (is_within address) regions)
 
 -- ---- changes
-
--- the regions without the one of so many pages at an address
-abbrev pub without : ℕ → ℕ → List Region → List Region
-without start pages [] = []
-without start pages (region ∷ rest) = if is_at start pages region then rest else region ∷ without start pages rest
 
 -- a region with another number of pages, if it is the one of so many pages at an address
 abbrev pub with_pages : ℕ → ℕ → ℕ → Region → Region

@@ -1,6 +1,6 @@
 //! Regions by page number.
-ghost use Rattle.std.specs.Prelude.{◌≡◌, ℕ, ◌+◌, ◌-◌, ◌*◌, ◌%◌, ◌^◌, ◌<◌, ◌≤◌, IfSome, IfNone, []};
-ghost use Rattle.std.specs.Prelude.{IsFalse, IsTrue, OnOk, OnErr, find, map, length, vec_capacity};
+ghost use Rattle.std.specs.Prelude.{◌≡◌, ℕ, ◌+◌, ◌-◌, ◌*◌, ◌%◌, ◌^◌, ◌<◌, ◌≤◌, IfSome, IfNone, [], ◌∷◌, ◌++◌};
+ghost use Rattle.std.specs.Prelude.{IsFalse, IsTrue, OnOk, OnErr, filter, find, map, length, vec_len, vec_capacity};
 ghost use Rattle.std.specs.List.{list_any};
 ghost use Rattle.heap_model.specs.Place.{IsPlace, HasNoPlace, meets, meets_any, with_region};
 ghost use Rattle.meminterval.specs.Tree.{entries};
@@ -45,6 +45,17 @@ fn pages_of(region: &Region) -> Interval<u64>
 {
     let first = region.start / Size4KiB::SIZE;
     Interval::new(first, first + region.pages)
+}
+
+/// Puts a region behind those of a list that has a place for it, if it is the heap's.
+fn push_of_heap(list: &mut Vec<Region>, region: Region)
+    requires place { vec_len list.old < vec_capacity list.old }
+    ensures items { list.new.items ≡ list.old.items ++ filter (λ region. region.heap) (region ∷ []) }
+    ensures capacity { vec_capacity list.new ≡ vec_capacity list.old }
+{
+    if region.heap {
+        list.push_reserved(region);
+    }
 }
 
 /// The end of the regions that follow each other from a page on.
@@ -138,6 +149,20 @@ impl RegionTree {
         while let Some(entry) = self.tree.first_from(&at) {
             list.push_reserved(region(entry.interval, *entry.value));
             at = entry.interval.end;
+        }
+        RegionList::from_vec(list)
+    }
+
+    /// Puts the regions of the heap into a list that has places for all regions, by ascending address.
+    pub fn list_of_heap(&self, mut list: Vec<Region>) -> RegionList
+        requires empty { list.items ≡ [] }
+        requires places { length self.now ≤ vec_capacity list }
+        ensures { result ≡ filter (λ region. region.heap) self.now }
+    {
+        let mut page = 0;
+        while let Some(entry) = self.tree.first_from(&page) {
+            push_of_heap(&mut list, region(entry.interval, *entry.value));
+            page = entry.interval.end;
         }
         RegionList::from_vec(list)
     }

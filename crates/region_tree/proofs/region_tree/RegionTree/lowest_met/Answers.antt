@@ -7,7 +7,8 @@ use Rattle.meminterval.specs.Tree.{entries}
 use Rattle.region_tree.proofs.Passed.{EndBefore, behind_first, last_is, clear_gap, clear_end, ends_none}
 use Rattle.region_tree.specs.Regions.{AreLaid}
 use Rattle.region_tree.proofs.Listing.{laid}
-use Rattle.region_tree.proofs.Meeting.{find_none, none_found, meets_last, meets_next}
+use Rattle.heap_model.proofs.Regions.{find_none}
+use Rattle.region_tree.proofs.Meeting.{none_found, meets_last, meets_next}
 use Rattle.region_tree.proofs.region_tree.RegionTree.lowest_met.Goals as goal
 use Rattle.region_tree.proofs.region_tree.RegionTree.lowest_met.Goals.{in-Some+else-entry-first, in_default}
 
