@@ -4,28 +4,22 @@ use Rattle.std.specs.List.{list_any, AllByRecursion}
 use Rattle.std.proofs.lemmas.Bool.Decides.{nat_tests}
 use Rattle.paging_core.specs.Address.{is_canonical}
 use Rattle.paging_core.specs.Memory.{frame_count}
-use Rattle.paging_core.specs.Pool.{is_free, FreeBelow}
-use Rattle.paging_core.specs.Walk.{Place, reach, walk_of, granted}
+use Rattle.paging_core.specs.PageChanges.{ArePagesFreed, among}
+use Rattle.paging_core.specs.Pool.{is_free, free_count, FreeBelow}
+use Rattle.paging_core.specs.Walk.{Place, reach, walk_of, reached, granted}
 use Rattle.paging_core.specs.Tree.{IsTree}
 use Rattle.paging_core.specs.declared.page_table.Rights.{Rights}
 use Rattle.heap_model.specs.declared.region.Region.{Region}
 use Rattle.heap_model.specs.State.{is_within, total_pages}
 use Rattle.heap_model.specs.Place.{meets_any}
 use Rattle.heap_model.specs.Machine.{Paged, rights_of}
-use Rattle.heap_model.proofs.Regions.{within, within_bounds, all_with, pages_with, none_within}
+use Rattle.heap_model.proofs.Regions.{within, within_bounds, all_with, pages_with, none_within, find_none, all_without, pages_without, listed, page_canonical}
 use Rattle.region_tree.specs.Regions.{kind_at, is_at, without, IsPutIn, AreTakenOut}
 use Rattle.mapped_regions.specs.Mapped.{IsPageRange, IsRegion, IsMapped, CanMap, IsJoined, IsLeft}
 
 -- ---- regions of a list
 
 -- no region has an address of pages that meet none
-find_none : (test : Region → Bool) (list : List Region) → list_any test list ≡ false → find test list ≡ None
-find_none test [] none = refl
-find_none test (r ∷ rs) none = go (test r) refl (find_none test rs) where
-  go : (b : Bool) → test r ≡ b → (list_any test rs ≡ false → find test rs ≡ None) → find test (r ∷ rs) ≡ None
-  go true is rest = let no : true ≡ false = rw is at none in absurd (cc)
-  go false is rest = rw is (rest (rw is at none))
-
 pub kind_none : (start pages at : ℕ) (list : List Region) → meets_any start pages list ≡ false → start ≤ at → at < start + 4096 * pages → kind_at list at ≡ None
 kind_none start pages at list clear above below = ap (option_map (λ (r : Region). (r.heap, r.rights))) (find_none (is_within at) list (none_within start pages at list above below clear))
 
@@ -41,39 +35,7 @@ kind_there start pages at (r ∷ rs) there above below = go (is_within at r) (is
   go false true is here rest = let no = same here in absurd (cc)
   go false false is here rest = rw is (rest (rw here at there))
 
--- what holds of all regions holds of it
-pub listed_is : (P : Region → Type 0) (start pages : ℕ) (list : List Region) → AllByRecursion P list → list_any (is_at start pages) list ≡ true →
-    (r : Region) × P r × (r.start ≡ start) × (r.pages ≡ pages)
-listed_is P start pages [] all there = let no : false ≡ true = there in absurd (cc)
-listed_is P start pages (r ∷ rs) all there = go (is_at start pages r) refl (listed_is P start pages rs all.1) where
-  go : (t : Bool) → is_at start pages r ≡ t → (list_any (is_at start pages) rs ≡ true → (r : Region) × P r × (r.start ≡ start) × (r.pages ≡ pages)) →
-      (r : Region) × P r × (r.start ≡ start) × (r.pages ≡ pages)
-  go true is rest = (r, all.0, grind (arith, nat_tests), grind (arith, nat_tests))
-  go false is rest = rest (rw is at there)
-
-all_without : (P : Region → Type 0) (start pages : ℕ) (list : List Region) → AllByRecursion P list → AllByRecursion P (without start pages list)
-all_without P start pages [] all = tt
-all_without P start pages (r ∷ rs) all = go (is_at start pages r) (all_without P start pages rs all.1) where
-  go : (t : Bool) → AllByRecursion P (without start pages rs) → AllByRecursion P (cond t rs (r ∷ without start pages rs))
-  go true rest = all.1
-  go false rest = (all.0, rest)
-
-pages_without : (start pages : ℕ) (list : List Region) → list_any (is_at start pages) list ≡ true → total_pages (without start pages list) + pages ≡ total_pages list
-pages_without start pages [] there = let no : false ≡ true = there in absurd (cc)
-pages_without start pages (r ∷ rs) there = go (is_at start pages r) refl (pages_without start pages rs) where
-  go : (t : Bool) → is_at start pages r ≡ t → (list_any (is_at start pages) rs ≡ true → total_pages (without start pages rs) + pages ≡ total_pages rs) →
-      total_pages (without start pages (r ∷ rs)) + pages ≡ total_pages (r ∷ rs)
-  go true is rest = let same : r.pages ≡ pages = grind (arith, nat_tests) in rw is (omega arith)
-  go false is rest = let more = rest (rw is at there) in rw is (omega arith)
-
 -- ---- pages of a range
-
--- the pages of a range are canonical
-pub page_canonical : (start pages k : ℕ) → IsPageRange start pages → k < pages → IsTrue (is_canonical ((start / 4096 + k) * 4096))
-page_canonical start pages k range less =
-    let half = range.1.one_half in
-    let same : (start / 4096 + k) * 4096 / 2 ^ 47 ≡ start / 4096 * 4096 / 2 ^ 47 = omega arith in
-    ap (λ q. nat_eq q 0 || nat_eq q (2 ^ 17 - 1)) same ∙ range.1.canonical
 
 pub range_canonical : (start pages : ℕ) → IsPageRange start pages → IsTrue (is_canonical start)
 range_canonical start pages range =
@@ -97,13 +59,13 @@ some_mapped None None is some = absurd (cc)
 pub unmapped : (p : Paged) (start pages k : ℕ) → IsMapped p → CanMap p start pages → k < pages → walk_of p.words p.root (start / 4096 + k) ≡ None
 unmapped p start pages k m can less =
     let whole = can.range.0 in
-    none_mapped (walk_of p.words p.root (start / 4096 + k)) (m.found (start / 4096 + k) (page_canonical start pages k can.range less)
+    none_mapped (walk_of p.words p.root (start / 4096 + k)) (m.found (start / 4096 + k) (page_canonical (start / 4096) pages k can.range.1 less)
     ∙ ap (option_map (λ (kind : Bool × Rights). kind.1)) (kind_none start pages (4096 * (start / 4096 + k)) p.regions can.clear (omega arith) (omega arith)))
 
 pub mapped : (p : Paged) (start pages k : ℕ) → IsMapped p → IsPageRange start pages → list_any (is_at start pages) p.regions ≡ true → k < pages → IsSome (walk_of p.words p.root (start / 4096 + k))
 mapped p start pages k m range there less =
     let whole = range.0 in
-    some_mapped (walk_of p.words p.root (start / 4096 + k)) (kind_at p.regions (4096 * (start / 4096 + k))) (m.found (start / 4096 + k) (page_canonical start pages k range less))
+    some_mapped (walk_of p.words p.root (start / 4096 + k)) (kind_at p.regions (4096 * (start / 4096 + k))) (m.found (start / 4096 + k) (page_canonical (start / 4096) pages k range.1 less))
     (kind_there start pages (4096 * (start / 4096 + k)) p.regions there (omega arith) (omega arith))
 
 -- ---- a region joins
@@ -152,14 +114,32 @@ joined_mapped old new region m kind can j put elsewhere = record {
 
 -- ---- a region leaves
 
+-- its pages are removed and their frames freed, and it is listed no more
+pub is_left : (old : Paged) (words : List ℕ) (free : List Bool) (regions : List Region) (first start pages : ℕ) → first ≡ start / 4096 → regions ≡ without start pages old.regions →
+    ArePagesFreed old.words words old.free free old.root (among first pages) → IsTree words old.root free → free_count free ≡ free_count old.free + pages →
+    ((k : ℕ) → k < pages → walk_of words old.root (first + k) ≡ None) →
+    ((other : ℕ) → IsTrue (is_canonical (other * 4096)) → ((k : ℕ) → k < pages → other ≡ first + k → ⊥) → walk_of words old.root other ≡ walk_of old.words old.root other) →
+    ((address : ℕ) → IsSome (walk_of words old.root (address / 4096)) → reached words old.root address ≡ reached old.words old.root address) →
+    IsLeft old (record old { words = words; free = free; regions = regions }) start pages
+is_left old words free regions first start pages first_is gone freed tree count unmapped others bytes = record {
+  base = refl;
+  pages_is = refl;
+  root = refl;
+  tables = refl;
+  regions = gone;
+  freed = subst (λ f. ArePagesFreed old.words words old.free free old.root (among f pages)) first_is freed;
+  tree = tree;
+  count = count;
+  unmapped = λ k less. subst (λ f. walk_of words old.root (f + k) ≡ None) first_is (unmapped k less);
+  others = λ other canonical apart. others other canonical (λ k less e. apart k less (e ∙ ap (λ f. f + k) first_is));
+  bytes = bytes;
+}
+
 pub left_mapped : (old new : Paged) (start pages : ℕ) → IsMapped old → list_any (is_at start pages) old.regions ≡ true → IsLeft old new start pages →
-    AreTakenOut start (start + 4096 * pages) old.regions new.regions → IsTree new.words old.root new.free → FreeBelow new.free (frame_count new.words) →
-    ((k : ℕ) → k < pages → walk_of new.words old.root (start / 4096 + k) ≡ None) →
-    ((other : ℕ) → IsTrue (is_canonical (other * 4096)) → ((k : ℕ) → k < pages → other ≡ start / 4096 + k → ⊥) → walk_of new.words old.root other ≡ walk_of old.words old.root other) →
-    IsMapped new
-left_mapped old new start pages m there l taken tree known none elsewhere = record {
+    AreTakenOut start (start + 4096 * pages) old.regions new.regions → FreeBelow new.free (frame_count new.words) → IsMapped new
+left_mapped old new start pages m there l taken known = record {
   window = subst (λ b. IsPageRange b new.pages) (sym l.base) (subst (λ n. IsPageRange old.base n) (sym l.pages_is) m.window);
-  tree = subst (λ r. IsTree new.words r new.free) (sym l.root) tree;
+  tree = subst (λ r. IsTree new.words r new.free) (sym l.root) l.tree;
   known = known;
   flags = (let s = l.freed.removed.size in let f = l.freed.flags in let h = m.flags in omega arith);
   root_in = (let r = l.root in let s = l.freed.removed.size in let h = m.root_in in omega arith);
@@ -173,7 +153,7 @@ left_mapped old new start pages m there l taken tree known none elsewhere = reco
 }
   where
     whole : start % 4096 ≡ 0
-    whole = let r = listed_is (IsRegion old.base old.pages) start pages old.regions m.regions there in let w = r.1.range.0 in let s = r.2 in omega arith
+    whole = let r = listed (IsRegion old.base old.pages) start pages old.regions m.regions there in let w = r.1.range.0 in let s = r.2 in omega arith
 
     found : (page : ℕ) → IsTrue (is_canonical (page * 4096)) → (b : Bool) → (nat_le start (4096 * page) && nat_lt (4096 * page) (start + 4096 * pages)) ≡ b →
         option_map rights_of (walk_of new.words old.root page) ≡ option_map (λ (kind : Bool × Rights). kind.1) (kind_at new.regions (4096 * page))
@@ -182,7 +162,7 @@ left_mapped old new start pages m there l taken tree known none elsewhere = reco
         let above : start ≤ 4096 * page = grind (arith, nat_tests) in
         let below : 4096 * page < start + 4096 * pages = grind (arith, nat_tests) in
         let same : start / 4096 + (page - start / 4096) ≡ page = omega arith in
-        let gone : walk_of new.words old.root page ≡ None = subst (λ q. walk_of new.words old.root q ≡ None) same (none (page - start / 4096) (omega arith)) in
+        let gone : walk_of new.words old.root page ≡ None = subst (λ q. walk_of new.words old.root q ≡ None) same (l.unmapped (page - start / 4096) (omega arith)) in
         let here : kind_at new.regions (4096 * page) ≡ None = taken (4096 * page) ∙ rw is refl in
         ap (option_map rights_of) gone ∙ sym (ap (option_map (λ (kind : Bool × Rights). kind.1)) here)
     found page canonical false is =
@@ -192,7 +172,7 @@ left_mapped old new start pages m there l taken tree known none elsewhere = reco
         let below : 4096 * page < start + 4096 * pages = omega arith in
         let yes : (nat_le start (4096 * page) && nat_lt (4096 * page) (start + 4096 * pages)) ≡ true = grind (arith, nat_tests) in absurd (cc)) in
         let here : kind_at new.regions (4096 * page) ≡ kind_at old.regions (4096 * page) = taken (4096 * page) ∙ rw is refl in
-        ap (option_map rights_of) (elsewhere page canonical apart) ∙ (m.found page canonical ∙ sym (ap (option_map (λ (kind : Bool × Rights). kind.1)) here))
+        ap (option_map rights_of) (l.others page canonical apart) ∙ (m.found page canonical ∙ sym (ap (option_map (λ (kind : Bool × Rights). kind.1)) here))
 
 -- ---- a range, and the region that has it
 
@@ -213,7 +193,7 @@ range_ends_at start pages range =
 -- a region that is listed has a range
 pub listed_range : (p : Paged) (start pages : ℕ) → IsMapped p → list_any (is_at start pages) p.regions ≡ true → IsPageRange start pages
 listed_range p start pages m there =
-    let r = listed_is (IsRegion p.base p.pages) start pages p.regions m.regions there in
+    let r = listed (IsRegion p.base p.pages) start pages p.regions m.regions there in
     subst (λ s. IsPageRange s pages) r.2 (subst (λ n. IsPageRange r.0.start n) r.3 r.1.range)
 
 -- ---- a word is stored

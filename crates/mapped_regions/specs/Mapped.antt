@@ -86,7 +86,11 @@ pub record IsLeft (old new : Paged) (start pages : ℕ) : Type 0 where
   pub tables : new.tables ≡ old.tables
   pub regions : new.regions ≡ without start pages old.regions
   pub freed : ArePagesFreed old.words new.words old.free new.free old.root (among (start / 4096) pages)
+  pub tree : IsTree new.words old.root new.free
   pub count : free_count new.free ≡ free_count old.free + pages
+  pub unmapped : (k : ℕ) → k < pages → walk_of new.words old.root (start / 4096 + k) ≡ None
+  pub others :
+      (page : ℕ) → IsTrue (is_canonical (page * 4096)) → ((k : ℕ) → k < pages → page ≡ start / 4096 + k → ⊥) → walk_of new.words old.root page ≡ walk_of old.words old.root page
   pub bytes : (address : ℕ) → IsSome (walk_of new.words old.root (address / 4096)) → reached new.words old.root address ≡ reached old.words old.root address
 
 -- a word stands at the address, in a page that is mapped

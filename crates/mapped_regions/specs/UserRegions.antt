@@ -1,20 +1,15 @@
 -- When a region of the user is mapped or unmapped, and why it is not: the causes in their order.
-use Rattle.std.specs.Prelude.{ℕ, ◌/◌, Bool, not, ◌&&◌, false, IsTrue, IsFalse}
+use Rattle.std.specs.Prelude.{ℕ, ◌/◌, Bool, not, ◌&&◌, IsTrue, IsFalse}
 use Rattle.std.specs.List.{list_any}
-use Rattle.paging_core.specs.declared.page_table.Rights.{Rights}
-use Rattle.heap_model.specs.declared.region.Region.{Region}
 use Rattle.heap_model.specs.Place.{meets_any}
 use Rattle.heap_model.specs.Machine.{Paged}
+pub use Rattle.heap_model.specs.Room.{user_region}
 use Rattle.region_tree.specs.Regions.{is_at, meets_heap}
 use Rattle.mapped_regions.specs.declared.map_fault.MapFault.{MapFault}
 use Rattle.mapped_regions.specs.declared.map_fault.MapFault.TheVariants as Map
 use Rattle.mapped_regions.specs.declared.map_fault.UnmapFault.{UnmapFault}
 use Rattle.mapped_regions.specs.declared.map_fault.UnmapFault.TheVariants as Unmap
 use Rattle.mapped_regions.specs.Mapped.{IsPageRange, HasFrames, CanMap}
-
--- a region of the user
-abbrev pub user_region : ℕ → ℕ → Rights → Region
-user_region start pages rights = record { start = start; pages = pages; heap = false; rights = rights }
 
 -- so many pages from an address on meet a region of the heap
 abbrev pub meets_any_heap : Paged → ℕ → ℕ → Bool

@@ -1,23 +1,31 @@
 // Regions that are mapped in page tables over a physical memory.
-ghost use Rattle.std.specs.Prelude.{◌≡◌, ℕ, ◌+◌, ◌*◌, ◌/◌, ◌%◌, ◌^◌, ◌≤◌, ◌<◌, ◌↔◌, IsTrue, IsSome, IfOk, IfErr, IfSome, IfNone, OnOk, OnErr, List, Bool, set, length, vec_capacity, Some, []};
+ghost use Rattle.std.specs.Prelude.{◌≡◌, ℕ, ◌+◌, ◌*◌, ◌/◌, ◌%◌, ◌^◌, ◌≤◌, ◌<◌, ◌↔◌, IsTrue, IsSome, IfOk, IfErr, IfSome, IfNone, OnOk, OnErr, List, Bool, set, filter, length, slice_index, vec_capacity, Some, [], ◌⊎◌};
 ghost use Rattle.std.specs.List.{list_any};
 ghost use Rattle.std.specs.Option.{option_map};
 ghost use Rattle.paging_core.specs.Address.{is_canonical, IsCanonicalRange};
-ghost use Rattle.paging_core.specs.Memory.{word_at};
+ghost use Rattle.paging_core.specs.Memory.{word_at, byte_of, AreWordsWritten};
 ghost use Rattle.paging_core.specs.Pool.{free_count};
 ghost use Rattle.paging_core.specs.Walk.{walk_of, reach, reached};
 ghost use Rattle.paging_core.specs.Tree.{IsTree};
 ghost use Rattle.heap_model.specs.Place.{IsPlace, HasNoPlace};
+ghost use Rattle.heap_model.specs.Machine.{rights_of};
 ghost use Rattle.region_tree.specs.Regions.{is_at, kind_at};
 ghost use Rattle.mapped_regions.specs.Mapped.{IsPageRange, IsMapped, IsMapped-prop};
 
 use heap_model::{Region, RegionList, Rights};
 use paging_core::{
-    FramePool, Frames, Page, PageSize, PhysFrame, Size4KiB, VirtAddr, load_word, make_root,
-    map_range, missing_tables, store_word, unmap_range, walk,
+    FramePool, Frames, Page, PageSize, PhysFrame, Size4KiB, VirtAddr, load_word, load_words,
+    make_root, map_range, missing_tables, store_word, store_words, unmap_range, walk,
 };
 use region_tree::RegionTree;
 use std::alloc::{AllocError, Global};
+
+/// The place in its page of the word at a multiple of 8.
+fn word_index(at: u64) -> u16
+    ensures { result ≡ at % 4096 / 8 }
+{
+    (at % Size4KiB::SIZE / 8) as u16
+}
 
 /// Physical memory with its page tables and its free frames, and regions of pages that are mapped in it, each page at
 /// a frame of its own: regions of the heap in a window, and regions of the user anywhere.
@@ -119,6 +127,15 @@ impl MappedRegions {
         self.regions.list(list)
     }
 
+    /// Puts the regions of the heap into a list that has places for all regions.
+    pub fn list_of_heap(&self, list: Vec<Region>) -> RegionList
+        requires empty { list.items ≡ [] }
+        requires places { length (shown self.now).regions ≤ vec_capacity list }
+        ensures { result ≡ filter (λ region. region.heap) (shown self.now).regions }
+    {
+        self.regions.list_of_heap(list)
+    }
+
     /// Whether there are frames for so many pages, and for the tables that they lack.
     pub fn has_frames(&self, page: u64, pages: u64) -> bool
         requires { IsCanonicalRange page pages }
@@ -182,7 +199,8 @@ impl MappedRegions {
     /// What may be done at an address: the rights of the region that has it, if there is one, by a walk.
     pub fn rights_at(&self, address: u64) -> Option<Rights>
         requires { IsTrue (is_canonical address) }
-        ensures { result ≡ option_map (λ kind. kind.1) (kind_at (shown self.now).regions address) }
+        ensures region { result ≡ option_map (λ kind. kind.1) (kind_at (shown self.now).regions address) }
+        ensures walk { result ≡ option_map rights_of (walk_of (shown self.now).words (shown self.now).root (address / 4096)) }
     {
         let page = Page::containing_address(VirtAddr::new(address));
         let Some(mapped) = walk(&self.frames, self.root, page) else {
@@ -228,5 +246,35 @@ impl MappedRegions {
         ensures bytes { (free : List Bool) → IsTree (shown self.old).words (shown self.old).root free → (other : ℕ) → IsTrue (is_canonical other) → (other / 8 ≡ at / 8 → ⊥) → reached (shown self.new).words (shown self.old).root other ≡ reached (shown self.old).words (shown self.old).root other }
     {
         store_word(&mut self.frames, self.root, VirtAddr::new(at), value);
+    }
+
+    /// Reads words from a multiple of 8 on in a page that is mapped, by one walk. The page has as many.
+    pub fn words(&self, at: u64, words: &mut [u64])
+        requires word { IsMappedWord (shown self.now) at }
+        requires fits { at % 4096 / 8 + length words.old ≤ 512 }
+        ensures read { (k : ℕ) → k < length words.new → slice_index words.new k ≡ word_reached (shown self.now) (at + 8 * k) }
+        ensures length { length words.new ≡ length words.old }
+    {
+        let page = Page::containing_address(VirtAddr::new(at));
+        load_words(&self.frames, self.root, page, word_index(at), words);
+    }
+
+    /// Puts words from a multiple of 8 on in a page that is mapped, by one walk, and changes nothing else. The page has
+    /// as many.
+    pub fn set_words(&mut self, at: u64, words: &[u64])
+        requires word { IsMappedWord (shown self.old) at }
+        requires fits { at % 4096 / 8 + length words.now ≤ 512 }
+        ensures others { shown self.new ≡ record (shown self.old) { words = (shown self.new).words } }
+        ensures size { length (shown self.new).words ≡ length (shown self.old).words }
+        ensures set { IfSome (walk_of (shown self.old).words (shown self.old).root (at / 4096)) (λ place. AreWordsWritten (shown self.old).words (shown self.new).words place.frame (at % 4096 / 8) words.now) }
+        ensures walks { (free : List Bool) → IsTree (shown self.old).words (shown self.old).root free → (level number : ℕ) → level ≤ 4 → reach (shown self.new).words (shown self.old).root level number ≡ reach (shown self.old).words (shown self.old).root level number }
+        ensures tree { (free : List Bool) → IsTree (shown self.old).words (shown self.old).root free → IsTree (shown self.new).words (shown self.old).root free }
+        ensures bytes { (free : List Bool) → IsTree (shown self.old).words (shown self.old).root free → (k : ℕ) → k < 8 * length words.now →
+            reached (shown self.new).words (shown self.old).root (at + k) ≡ Some (byte_of (slice_index words.now (k / 8)) (k % 8)) }
+        ensures other_bytes { (free : List Bool) → IsTree (shown self.old).words (shown self.old).root free → (other : ℕ) → IsTrue (is_canonical other) → (other < at) ⊎ (at + 8 * length words.now ≤ other) →
+            reached (shown self.new).words (shown self.old).root other ≡ reached (shown self.old).words (shown self.old).root other }
+    {
+        let page = Page::containing_address(VirtAddr::new(at));
+        store_words(&mut self.frames, self.root, page, word_index(at), words);
     }
 }
