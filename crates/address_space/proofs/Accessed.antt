@@ -1,10 +1,9 @@
 -- A space whose bytes are read or written.
-use Rattle.std.proofs.Common.{◌≡◌, ◌∙◌, ap, sym, refl, ℕ, ◌+◌, ◌-◌, ◌/◌, ◌<◌, ◌≤◌, ◌&&◌, ◌||◌, not, Bool, true, false, cond, Option, Some, None, List, length, slice_index, arith, ◌⊎◌, inl, inr}
-use Rattle.std.specs.Prelude.{nat_le, nat_lt, IsSome, is_some}
+use Rattle.std.proofs.Common.{◌≡◌, ◌∙◌, sym, refl, ℕ, ◌+◌, ◌-◌, ◌/◌, ◌<◌, ◌≤◌, Bool, false, cond, Option, Some, None, List, length, slice_index, arith, ◌⊎◌, inl, inr}
+use Rattle.std.specs.Prelude.{IsSome, is_some}
 use Rattle.paging_core.specs.Walk.{reached}
 use Rattle.paging_core.specs.declared.page_table.Rights.{Rights}
 use Rattle.address_space.specs.Runs.{rights_in}
-use Rattle.address_space.specs.PageMap.{stored}
 use Rattle.address_space.specs.Access.{denies, IsGranted, AreBytesAt}
 use Rattle.address_space.specs.Changing.{IsStored}
 use Rattle.address_space.specs.Space.{Tables, map_of}

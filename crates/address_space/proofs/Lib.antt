@@ -11,7 +11,7 @@ mod Cutting
 mod RunChanges
 mod Unique
 mod Setting
-mod Copying
+mod CopiedRuns
 mod Counting
 mod Unmapped
 mod Protected
@@ -20,6 +20,7 @@ mod Read
 mod WordBytes
 mod Written
 mod Accessed
+mod Duplicated
 mod Listing
 mod NewSpace
 mod Examples

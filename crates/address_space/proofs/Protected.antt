@@ -88,7 +88,7 @@ byte_in None p a b h k same = absurd (cc)
 byte_in (Some o) None a b h k same = absurd (cc)
 byte_in (Some o) (Some p) a b h k same = same
 
-byte_out : (o p : Option Rights) (a b : Option ℕ) → o ≡ p → a ≡ b → cond (is_some o) a None ≡ cond (is_some p) b None
+pub byte_out : (o p : Option Rights) (a b : Option ℕ) → o ≡ p → a ≡ b → cond (is_some o) a None ≡ cond (is_some p) b None
 byte_out o p a b h same = ap (λ (q : Option Rights). cond (is_some q) a None) h ∙ ap (λ (c : Option ℕ). cond (is_some p) c None) same
 
 pub protected_map : (old : Tables) (words : List ℕ) (runs : List (Interval ℕ × Rights)) (first pages : ℕ) (rights : Rights) → AreProtected old words runs first pages rights →

@@ -195,7 +195,7 @@ unmapped_none t first pages free = record {
 
 -- ---- one range after another
 
-among_parts : (first half pages more n : ℕ) → IsCanonicalRange first (pages + more) → half ≡ first + pages → among first (pages + more) n ≡ false → (among first pages n ≡ false) × (among half more n ≡ false)
+pub among_parts : (first half pages more n : ℕ) → IsCanonicalRange first (pages + more) → half ≡ first + pages → among first (pages + more) n ≡ false → (among first pages n ≡ false) × (among half more n ≡ false)
 among_parts first half pages more n range is h =
     (among_more first pages (pages + more) n (omega arith) h, go (nat_lt n (prefix_of half 4)) (nat_lt n (prefix_of half 4 + more)) refl refl) where
       go : (a b : Bool) → nat_lt n (prefix_of half 4) ≡ a → nat_lt n (prefix_of half 4 + more) ≡ b → (not a && b) ≡ false

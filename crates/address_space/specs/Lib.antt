@@ -6,4 +6,5 @@ pub mod Joining
 pub mod RunChanges
 pub mod Mapping
 pub mod Access
+pub mod PageCopies
 pub mod Changing

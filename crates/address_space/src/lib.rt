@@ -6,9 +6,16 @@
 
 mod access;
 mod area;
+#[cfg(test)]
+mod byte_tests;
 mod bytes;
 mod changing;
+#[cfg(test)]
+mod copy_tests;
+mod copying;
 mod mapping;
+#[cfg(test)]
+mod plain_tests;
 mod range;
 mod run_changes;
 mod runs;

@@ -1,8 +1,9 @@
+//! Pages that are mapped, get other rights and leave.
 use crate::{Area, Space, SpaceFault};
 use paging_core::Rights;
 use std::test::Fail;
 
-const DATA: Rights = Rights {
+pub(crate) const DATA: Rights = Rights {
     write: true,
     user: false,
     fetch: false,
@@ -14,13 +15,14 @@ const TEXT: Rights = Rights {
     fetch: true,
 };
 
-const READ: Rights = Rights {
+pub(crate) const READ: Rights = Rights {
     write: false,
     user: false,
     fetch: false,
 };
 
-fn area(start: u64, pages: u64, rights: Rights) -> Area {
+/// So many pages from an address on, with the rights.
+pub(crate) fn area(start: u64, pages: u64, rights: Rights) -> Area {
     Area {
         start,
         pages,

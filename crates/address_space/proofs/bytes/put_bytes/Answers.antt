@@ -1,4 +1,4 @@
-use Rattle.std.proofs.Common.{◌+◌, arith, refl, slice_index}
+use Rattle.std.proofs.Common.{arith, refl, slice_index}
 use Rattle.address_space.proofs.WordBytes.{none_put, one_put}
 use Rattle.address_space.proofs.bytes.put_bytes.Goals as goal
 

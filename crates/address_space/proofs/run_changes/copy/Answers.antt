@@ -4,7 +4,7 @@ use Rattle.meminterval.specs.declared.interval.Interval.{Interval}
 use Rattle.paging_core.specs.declared.page_table.Rights.{Rights}
 use Rattle.address_space.specs.Runs.{rights_in}
 use Rattle.address_space.proofs.OneRun.{crosses_free}
-use Rattle.address_space.proofs.Copying.{AreCopiedTo, none_copied, target_free, copied_on, copied_undone}
+use Rattle.address_space.proofs.CopiedRuns.{AreCopiedTo, none_copied, target_free, copied_on, copied_undone}
 use Rattle.address_space.proofs.run_changes.copy.Goals as goal
 
 pub loop-done-init : goal.loop-done-init

@@ -1,6 +1,6 @@
 use Rattle.std.proofs.Common.{◌-◌}
 use Rattle.meminterval.specs.Tree.{entries}
-use Rattle.address_space.proofs.Copying.{AreCopiedTo}
+use Rattle.address_space.proofs.CopiedRuns.{AreCopiedTo}
 use Rattle.address_space.proofs.run_changes.copy.Given as goal
 
 abbrev pub invariant-loop-done : goal.invariant-loop-done

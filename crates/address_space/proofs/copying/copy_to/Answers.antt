@@ -1,0 +1,40 @@
+use Rattle.std.proofs.Common.{◌∙◌, ap, option_map, sym, subst}
+use Rattle.std.specs.Prelude.{IsSome}
+use Rattle.paging_core.specs.Walk.{walk_of, place_of}
+use Rattle.address_space.proofs.Unmapped.{not_there}
+use Rattle.address_space.proofs.Written.{walk_same}
+use Rattle.address_space.proofs.Duplicated.{one_copied}
+use Rattle.address_space.proofs.copying.copy_to.Goals as goal
+
+pub protect_page-requires-clause-mapped : goal.protect_page-requires-clause-mapped
+protect_page-requires-clause-mapped c =
+    let t = c.requires.tree in
+    subst IsSome (sym (walk_same c.args.frames.now c.copy_page.new.frames c.args.root c.args.target (c.copy_page.ensures.walks t.0 t.1))) c.requires.target
+
+pub unreachable-requires : goal.unreachable-requires
+unreachable-requires c =
+    let t = c.requires.tree in
+    let one = c.copy_page.new.frames in
+    not_there (walk_of one c.args.root c.args.source) (sym c.walk.ensures.found ∙ ap (option_map place_of) c.in_default.is)
+    (subst IsSome (sym (walk_same c.args.frames.now one c.args.root c.args.source (c.copy_page.ensures.walks t.0 t.1))) c.requires.source)
+
+pub returns : goal.returns
+returns c =
+    let t = c.requires.tree in
+    let tree = c.copy_page.ensures.tree t.0 t.1 in
+    let walks = c.copy_page.ensures.walks t.0 t.1 in
+    one_copied c.args.frames.now c.copy_page.new.frames c.protect_page.new.frames c.args.root c.args.source c.args.target (place_of c.in-Some.place)
+    (record {
+      there = sym c.in-Some.ensures.found;
+      mapped = subst IsSome (sym (walk_same c.args.frames.now c.copy_page.new.frames c.args.root c.args.target walks)) c.requires.target;
+      size = c.copy_page.ensures.size;
+      walks = walks;
+      tree = c.copy_page.ensures.tree;
+      tree_on = c.protect_page.ensures.tree;
+      copied = c.copy_page.ensures.bytes t.0 t.1;
+      others = c.copy_page.ensures.others t.0 t.1;
+      changed = c.protect_page.ensures.pages t.0 tree;
+      gave = c.protect_page.ensures.granted t.0 tree;
+      elsewhere = c.protect_page.ensures.elsewhere t.0 tree;
+      bytes = c.protect_page.ensures.bytes t.0 tree;
+    })

@@ -1,0 +1,77 @@
+use Rattle.std.proofs.Common.{ℕ, ◌+◌, false, refl, sym, subst, arith}
+use Rattle.std.specs.Prelude.{IsSome}
+use Rattle.meminterval.specs.Tree.{entries}
+use Rattle.paging_core.specs.Walk.{walk_of}
+use Rattle.address_space.specs.RunChanges.{AreCopied}
+use Rattle.address_space.specs.PageCopies.{ArePagesCopied}
+use Rattle.address_space.specs.Seen.{tables_of}
+use Rattle.address_space.proofs.Duplicated.{AreDuplicated, duplicated_kept, duplicated_map, duplicated_is, ranges_apart, source_mapped, target_mapped}
+use Rattle.address_space.proofs.space.Space.copy_clear.Goals as goal
+
+pub copy_pages-requires-clause-tree : goal.copy_pages-requires-clause-tree
+copy_pages-requires-clause-tree c = (c.map_range.new.pool, c.map_range.ensures.added.tree)
+
+pub copy_pages-requires-clause-read : goal.copy_pages-requires-clause-read
+copy_pages-requires-clause-read c = λ k less.
+    let t = tables_of c.args.self.now in
+    subst (λ (n : ℕ). IsSome (walk_of c.map_range.new.frames t.root (n + k))) (sym c.number-from.ensures.value)
+    (source_mapped t c.map_range.new.frames c.args.source c.args.pages c.args.target k c.args.self.now.kept c.requires.source c.requires.full c.requires.clear c.map_range.ensures.elsewhere less)
+
+pub copy_pages-requires-clause-written : goal.copy_pages-requires-clause-written
+copy_pages-requires-clause-written c = λ k less.
+    let t = tables_of c.args.self.now in
+    subst (λ (n : ℕ). IsSome (walk_of c.map_range.new.frames t.root (n + k))) (sym c.number-to.ensures.value)
+    (target_mapped t.words c.map_range.new.frames t.free c.map_range.new.pool t.root c.args.target c.args.pages k _ c.map_range.ensures.added less)
+
+pub copy_pages-requires-clause-apart : goal.copy_pages-requires-clause-apart
+copy_pages-requires-clause-apart c = λ j k few less is.
+    let from_is = c.number-from.ensures.value in
+    let to_is = c.number-to.ensures.value in
+    ranges_apart (entries c.args.self.now.runs) c.args.source c.args.pages c.args.target j k c.requires.full c.requires.clear few less (omega (arith, from_is, to_is, is))
+
+pub invariant_of-self-2 : goal.invariant_of-self-2
+invariant_of-self-2 c =
+    let t = tables_of c.args.self.now in
+    let one = c.map_range.new.frames in
+    let words = c.copy_pages.new.frames in
+    let runs = entries c.copy.new.runs in
+    let m : AreDuplicated t one words c.map_range.new.pool runs c.args.source c.args.pages c.args.target (record { write = false; user = false; fetch = false }) = record {
+      kept = c.args.self.now.kept;
+      source = c.requires.source;
+      target = c.requires.target;
+      full = c.requires.full;
+      clear = c.requires.clear;
+      added = c.map_range.ensures.added;
+      known = c.map_range.ensures.known;
+      elsewhere = c.map_range.ensures.elsewhere;
+      bytes = c.map_range.ensures.bytes;
+      copied = subst (λ (n : ℕ). ArePagesCopied one words t.root n c.args.pages c.args.target) c.number-from.ensures.value
+          (subst (λ (n : ℕ). ArePagesCopied one words t.root c.number-from.result c.args.pages n) c.number-to.ensures.value c.copy_pages.ensures);
+      runs_copied = subst (λ (n : ℕ). AreCopied t.runs runs n c.args.pages c.args.target) c.number-from.ensures.value
+          (subst (λ (n : ℕ). AreCopied t.runs runs c.number-from.result c.args.pages n) c.number-to.ensures.value c.in_ok-copy.ensures.ok);
+    } in
+    record { kept = duplicated_kept t one words c.map_range.new.pool runs c.args.source c.args.pages c.args.target (record { write = false; user = false; fetch = false }) m }
+
+pub returns-clause-ok : goal.returns-clause-ok
+returns-clause-ok c =
+    let t = tables_of c.args.self.now in
+    let one = c.map_range.new.frames in
+    let words = c.copy_pages.new.frames in
+    let runs = entries c.copy.new.runs in
+    let m : AreDuplicated t one words c.map_range.new.pool runs c.args.source c.args.pages c.args.target (record { write = false; user = false; fetch = false }) = record {
+      kept = c.args.self.now.kept;
+      source = c.requires.source;
+      target = c.requires.target;
+      full = c.requires.full;
+      clear = c.requires.clear;
+      added = c.map_range.ensures.added;
+      known = c.map_range.ensures.known;
+      elsewhere = c.map_range.ensures.elsewhere;
+      bytes = c.map_range.ensures.bytes;
+      copied = subst (λ (n : ℕ). ArePagesCopied one words t.root n c.args.pages c.args.target) c.number-from.ensures.value
+          (subst (λ (n : ℕ). ArePagesCopied one words t.root c.number-from.result c.args.pages n) c.number-to.ensures.value c.copy_pages.ensures);
+      runs_copied = subst (λ (n : ℕ). AreCopied t.runs runs n c.args.pages c.args.target) c.number-from.ensures.value
+          (subst (λ (n : ℕ). AreCopied t.runs runs c.number-from.result c.args.pages n) c.number-to.ensures.value c.in_ok-copy.ensures.ok);
+    } in
+    duplicated_is t (record { words = words; root = t.root; free = c.map_range.new.pool; runs = runs }) one c.args.source c.args.pages c.args.target (record { write = false; user = false; fetch = false }) m refl
+    (duplicated_map t one words c.map_range.new.pool runs c.args.source c.args.pages c.args.target (record { write = false; user = false; fetch = false }) m)
