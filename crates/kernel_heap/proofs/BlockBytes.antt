@@ -1,5 +1,5 @@
 -- Bytes of live blocks are written and read.
-use Rattle.std.proofs.Common.{◌≡◌, ℕ, suc, ◌+◌, ◌-◌, ◌/◌, ◌%◌, ◌^◌, ◌<◌, ◌≤◌, inl, inr, max, nat_lt, true, false, List, [], ◌∷◌, length, refl, sym, ap, ◌∙◌, subst, arith, Option, Some, None, option_map}
+use Rattle.std.proofs.Common.{◌≡◌, ℕ, suc, ◌+◌, ◌-◌, ◌/◌, ◌%◌, ◌^◌, ◌<◌, ◌≤◌, inl, inr, nat_lt, true, false, List, [], ◌∷◌, length, refl, sym, ap, ◌∙◌, subst, arith, Option, Some, None, option_map}
 use Rattle.std.specs.Prelude.{slice_index}
 use Rattle.std.specs.List.{list_any}
 use Rattle.std.proofs.lemmas.Bool.Decides.{nat_tests}
@@ -20,17 +20,16 @@ use Rattle.heap_model.specs.Machine.{Paged, Seen, Stands, IsStep, outline}
 use Rattle.heap_model.proofs.Placed.{outline_at}
 use Rattle.heap_model.proofs.Known.{good_known}
 use Rattle.heap_model.proofs.Written.{stands_written}
-use Rattle.kernel_heap.specs.Layout.{regions_end}
 use Rattle.kernel_heap.specs.Follows.{still_none}
-use Rattle.kernel_heap.specs.Words.{grants_of}
+use Rattle.kernel_heap.specs.Words.{heap_regions, grants_of}
 use Rattle.kernel_heap.specs.System.{paged}
 use Rattle.kernel_heap.specs.Heap.{regions, word, heap_state}
 use Rattle.kernel_heap.specs.Machine.{live_at, refuse_live, HasBytes, IsLaidOut}
 use Rattle.kernel_heap.specs.Written.{AreInside, AreRead, IsWritten}
 use Rattle.kernel_heap.specs.declared.paged_system.PagedSystem.{PagedSystem}
 use Rattle.kernel_heap.proofs.BlockPlaces.{bytes_within}
-use Rattle.kernel_heap.proofs.Consecutive.{inside}
 use Rattle.kernel_heap.proofs.Full.{behind}
+use Rattle.kernel_heap.proofs.HeapRegions.{granted_same}
 use Rattle.kernel_heap.proofs.Laid.{block_place, block_there, same_regions, laid_outside}
 use Rattle.kernel_heap.proofs.Refused.{regions_are}
 
@@ -77,9 +76,7 @@ module _ (heap : Dlmalloc PagedSystem) (blocks : List (Option Live)) (number off
       let b = (laid.lives number has.live has.is).block in
       let at = has.place in
       let within = has.within in
-      let low = bytes_within heap placed has.live.address has.live.size b has.live.address (omega arith) (omega arith) in
-      let high = bytes_within heap placed has.live.address has.live.size b (has.live.address + max has.live.size 1 - 1) (omega arith) (omega arith) in
-      record { from = omega (arith, low.from); before = omega (arith, high.before) }
+      λ k above below. bytes_within heap placed has.live.address has.live.size b k (omega (arith, above)) (omega (arith, below)) k (omega arith) (omega arith)
 
   module _ (system : PagedSystem) (bytes : List ℕ) (many : length bytes ≡ count) (written : IsWritten (paged heap.system) (paged system) address bytes (length bytes)) (rests : RestsOutside regions word heap) where
     -- no word outside of the block is changed
@@ -102,7 +99,7 @@ module _ (heap : Dlmalloc PagedSystem) (blocks : List (Option Live)) (number off
     heap_written = (rests laid.heap_sound system (same_regions heap laid.heap_sound system (ap grants_of written.still.others)) outside).1
 
     pub laid_written : IsLaidOut (record heap { system = system }) blocks
-    laid_written = laid_outside heap blocks system laid written.still rests outside
+    laid_written = laid_outside heap blocks system laid (ap grants_of written.still.others) rests outside
 
   -- ---- the steps
 
@@ -125,9 +122,10 @@ module _ (heap : Dlmalloc PagedSystem) (blocks : List (Option Live)) (number off
     -- bytes of the state's heap are bytes of the regions
     in_regions : (other : ℕ) → list_any (is_within other) s.heap ≡ true → AreInside (paged heap.system) other 1
     in_regions other is =
-        let same = regions_are heap.system m refl s good stands in
-        let bounds = inside (paged heap.system).base (regions_end (paged heap.system)) other (paged heap.system).regions heap.system.kept.consecutive (ap (list_any (is_within other)) (sym same) ∙ is) in
-        record { from = bounds.0; before = omega (arith, bounds.1) }
+        let same : s.heap ≡ heap_regions (paged heap.system).regions = regions_are heap.system m refl s good stands in
+        λ k above below.
+        let one : other ≡ k = omega arith in
+        granted_same (heap_regions (paged heap.system).regions) k ∙ (ap (list_any (is_within k)) (sym same) ∙ subst (λ a. list_any (is_within a) s.heap ≡ true) one is)
 
     pub step_written : (new : Paged) (bytes : List ℕ) → length bytes ≡ count → IsWritten (paged heap.system) new address bytes (length bytes) →
         IsStep s (Write number offset bytes) (record { reply = Done; regions = None }) (record m { paged = new })

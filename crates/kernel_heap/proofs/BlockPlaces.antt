@@ -1,8 +1,9 @@
 -- Where the bytes of blocks lie, and what keeps them.
-use Rattle.std.proofs.Common.{◌≡◌, ℕ, ◌+◌, ◌-◌, ◌%◌, ◌<◌, ◌≤◌, max, List, sym, ap, ◌∙◌, arith, Some}
+use Rattle.std.proofs.Common.{◌≡◌, ℕ, ◌+◌, ◌-◌, ◌%◌, ◌<◌, ◌≤◌, max, List, sym, ap, ◌∙◌, subst, arith, Some, IsTrue}
 use Rattle.std.specs.Prelude.{slice_index}
 use Rattle.std.specs.Int.{w64, to_le_bytes}
 use Rattle.paging_core.specs.Walk.{reached}
+use Rattle.heap_memory.specs.Regions.{is_granted}
 use Rattle.dlmalloc_chunks.specs.declared.extent.Extent.{Extent}
 use Rattle.dlmalloc.specs.Extents.{extent_at}
 use Rattle.dlmalloc.specs.Blocks.{IsBlock, ArePlaced, KeepsBlocks}
@@ -14,14 +15,12 @@ use Rattle.kernel_heap.specs.Written.{AreInside}
 use Rattle.kernel_heap.specs.declared.paged_system.PagedSystem.{PagedSystem}
 use Rattle.kernel_heap.proofs.Bytes.{reached_byte}
 use Rattle.kernel_heap.proofs.Laid.{block_place}
-use Rattle.kernel_heap.proofs.Still.{granted_inside}
 
 -- each byte of a block lies in the regions
 pub bytes_within : (heap : Dlmalloc PagedSystem) → ArePlaced (regions heap.system) (heap_state heap) → (address size : ℕ) → IsBlock (heap_state heap) address size →
     (a : ℕ) → address ≤ a → a < address + max size 1 → AreInside (paged heap.system) a 1
 bytes_within heap placed address size block a from to =
-    let bounds = granted_inside (paged heap.system) a heap.system.kept ((placed address size block).granted a from to) in
-    record { from = bounds.0; before = omega (arith, bounds.1) }
+    λ k above below. subst (λ (at : ℕ). IsTrue (is_granted (regions heap.system) at)) (let same : a ≡ k = omega arith in same) ((placed address size block).granted a from to)
 
 -- a byte of a block is reached as before where the words of the block's extent are kept
 pub byte_kept : (heap new : Dlmalloc PagedSystem) → ArePlaced (regions heap.system) (heap_state heap) → ArePlaced (regions new.system) (heap_state new) → (extents : List Extent) → KeepsBlocks extents (word heap.system) (word new.system) →

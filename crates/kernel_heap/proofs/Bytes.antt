@@ -1,23 +1,26 @@
 -- Bytes that the walk reaches, as bytes of words.
-use Rattle.std.proofs.Common.{◌≡◌, ◌≢◌, ℕ, zero, suc, ◌+◌, ◌-◌, ◌/◌, ◌%◌, ◌<◌, ◌≤◌, ◌⊎◌, inl, inr, List, [], ◌∷◌, ◌++◌, length, length-set, length-append, get_or, slice_index, slice_set, refl, sym, ap, ◌∙◌, subst, arith, Some, option_map}
+use Rattle.std.proofs.Common.{◌≡◌, ◌≢◌, ℕ, zero, suc, ◌+◌, ◌-◌, ◌/◌, ◌%◌, ◌^◌, ◌<◌, ◌≤◌, ◌⊎◌, inl, inr, List, [], ◌∷◌, ◌++◌, length, length-set, length-append, get_or, slice_index, slice_set, refl, sym, ap, ◌∙◌, subst, arith, Some, option_map, nat_eq, IsTrue}
 use native.Mathlib.Decide.{dec_lt}
 use Rattle.std.specs.Int.{w64, to_le_bytes, from_le_bytes}
+use Rattle.std.proofs.lemmas.Bool.Decides.{nat_tests}
 use Rattle.std.proofs.lemmas.Nat.{le_bytes_8}
 use Rattle.std.proofs.lemmas.List.{get_or-set_same, get_or-set_other, get_or_append_left}
 use Rattle.std.proofs.Math.Seq.{get_or-append_seam}
 use Rattle.paging_core.specs.Memory.{word_at, byte_of}
 use Rattle.paging_core.specs.Walk.{walk_of, reached}
-use Rattle.heap_memory.specs.Regions.{IsWordOf}
+use Rattle.heap_memory.specs.Regions.{is_granted, IsWordOf}
 use Rattle.heap_memory.specs.Words.{IsStored, with_byte}
 use Rattle.heap_model.specs.Machine.{Paged, IsStill}
-use Rattle.kernel_heap.specs.Layout.{IsKept, regions_end}
-use Rattle.kernel_heap.specs.Words.{grants_of}
+use Rattle.heap_model.proofs.Booleans.{or_cases}
+use Rattle.kernel_heap.specs.Layout.{IsKept}
+use Rattle.kernel_heap.specs.Words.{heap_regions, grants_of}
 use Rattle.mapped_regions.specs.Mapped.{word_reached}
 use Rattle.mapped_regions.proofs.Looked.{le_byte}
 use Rattle.kernel_heap.specs.Written.{AreInside, AreRead, IsWritten}
 use Rattle.kernel_heap.specs.Follows.{still_on}
-use Rattle.kernel_heap.proofs.Consecutive.{lt_or_le, same_or_other, covered}
-use Rattle.kernel_heap.proofs.Still.{granted_same, region_mapped, kept_still, place_at, word_at_place}
+use Rattle.kernel_heap.proofs.Numbers.{lt_or_le, same_or_other}
+use Rattle.kernel_heap.proofs.HeapRegions.{granted_same, same_page}
+use Rattle.kernel_heap.proofs.Still.{granted_within, granted_canonical, granted_mapped, kept_still, place_at, word_at_place}
 
 -- ---- bytes of a word
 
@@ -53,11 +56,27 @@ bytes_with word b byte less small = le_bytes_8 (slice_set (to_le_bytes w64 word)
 
 -- ---- bytes of a system
 
+-- a part of bytes of the regions
+pub inside_part : (p : Paged) (address count at n : ℕ) → AreInside p address count → address ≤ at → at + n ≤ address + count → AreInside p at n
+inside_part p address count at n there from to k above below = there k (omega arith) (omega arith)
+
+-- the first of them is granted
+first_granted : (p : Paged) (address : ℕ) → AreInside p address 1 → IsTrue (is_granted (grants_of p) address)
+first_granted p address there = there address (omega arith) (omega arith)
+
+-- its address is a u64
+pub inside_below : (p : Paged) (address : ℕ) → IsKept p → AreInside p address 1 → address < 2 ^ 64
+inside_below p address kept there =
+    elim (or_cases (nat_eq (address / 2 ^ 47) 0) (nat_eq (address / 2 ^ 47) (2 ^ 17 - 1)) (granted_canonical p address kept (first_granted p address there))) [
+      | inl low ↦ (let half : address / 2 ^ 47 ≡ 0 = grind (arith, nat_tests) in omega arith)
+      | inr high ↦ (let half : address / 2 ^ 47 ≡ 2 ^ 17 - 1 = grind (arith, nat_tests) in omega arith)
+    ]
+
 -- the word of a byte of the regions is granted
 pub word_of : (p : Paged) (address : ℕ) → IsKept p → AreInside p address 1 → IsWordOf (grants_of p) (address - address % 8)
 word_of p address kept there = record {
-  granted = granted_same p.regions (address - address % 8)
-      ∙ (let from = there.from in let before = there.before in covered p.base (regions_end p) (address - address % 8) p.regions kept.consecutive (let w = kept.window.whole in omega arith) (omega arith));
+  granted = granted_same (heap_regions p.regions) (address - address % 8)
+      ∙ same_page 0 (2 ^ 64) address (address - address % 8) p.regions kept.laid (omega arith) (granted_within p address (first_granted p address there));
   aligned = omega arith;
 }
 
@@ -65,9 +84,7 @@ word_of p address kept there = record {
 pub reached_byte : (p : Paged) (address : ℕ) → IsKept p → AreInside p address 1 →
     reached p.words p.root address ≡ Some (slice_index (to_le_bytes w64 (word_reached p (address - address % 8))) (address % 8))
 reached_byte p address kept there =
-    let from = there.from in
-    let before = there.before in
-    let place = place_at p address (region_mapped p address kept from (omega arith)) in
+    let place = place_at p address (granted_mapped p address address kept (first_granted p address there) refl) in
     let page : (address - address % 8) / 4096 ≡ address / 4096 = omega arith in
     let index : (address - address % 8) % 4096 / 8 ≡ address % 4096 / 8 = omega arith in
     let word : word_reached p (address - address % 8) ≡ word_at p.words place.0.frame (address % 4096 / 8) =
@@ -85,12 +102,7 @@ zero_reached p address kept there is =
 module _ (p new : Paged) (at byte : ℕ) (kept : IsKept p) (still : IsStill p new) (here : AreInside p at 1) (small : byte < 256)
     (stored : IsStored (grants_of p) (word_reached p) (at - at % 8) (with_byte (word_reached p (at - at % 8)) (at % 8) byte) (word_reached new)) where
   moved : (other : ℕ) → AreInside p other 1 → AreInside new other 1
-  moved other there =
-      let b : new.base ≡ p.base = ap (λ q. q.base) still.others in
-      let e : regions_end new ≡ regions_end p = ap regions_end still.others in
-      let from = there.from in
-      let before = there.before in
-      record { from = omega arith; before = omega arith }
+  moved other there = subst (λ q. AreInside q other 1) (sym still.others) there
 
   pub byte_put : reached new.words new.root at ≡ Some byte
   byte_put =
@@ -122,18 +134,14 @@ pub written_more : (old mid new : Paged) (address : ℕ) (bytes : List ℕ) (n :
     IsWritten old new address bytes (n + 1)
 written_more old mid new address bytes n kept there before small still stored = record {
   still = still_on old mid new before.still still;
-  here = λ k less. (let from = there.from in let end = there.before in elim (lt_or_le k n) [
-    | inl earlier ↦ bytes_stay mid new (address + n) (slice_index bytes n) kept_mid still (mid_in (address + n) (omega arith) (omega arith)) small stored (address + k) (mid_in (address + k) (omega arith) (omega arith)) (λ e. absurd (omega arith))
+  here = λ k less. (elim (lt_or_le k n) [
+    | inl earlier ↦ bytes_stay mid new (address + n) (slice_index bytes n) kept_mid still last_in small stored (address + k) (mid_in (address + k) (inside_part old address (n + 1) (address + k) 1 there (omega arith) (omega arith))) (λ e. absurd (omega arith))
         ∙ before.here k earlier
     | inr last ↦ (let same : n ≡ k = omega arith in
-        subst (λ j. reached new.words new.root (address + j) ≡ Some (slice_index bytes j)) same (byte_put mid new (address + n) (slice_index bytes n) kept_mid still (mid_in (address + n) (omega arith) (omega arith)) small stored))
+        subst (λ j. reached new.words new.root (address + j) ≡ Some (slice_index bytes j)) same (byte_put mid new (address + n) (slice_index bytes n) kept_mid still last_in small stored))
   ]);
   elsewhere = λ other is beside. (
-      let from = is.from in
-      let end = is.before in
-      let first = there.from in
-      let last = there.before in
-      bytes_stay mid new (address + n) (slice_index bytes n) kept_mid still (mid_in (address + n) (omega arith) (omega arith)) small stored other (mid_in other from end) (differs other beside)
+      bytes_stay mid new (address + n) (slice_index bytes n) kept_mid still last_in small stored other (mid_in other is) (differs other beside)
       ∙ before.elsewhere other is (elim beside [ inl below ↦ inl below | inr above ↦ inr (omega arith) ]));
   words = λ k word beside. (
       let same : grants_of mid ≡ grants_of old = ap grants_of before.still.others in
@@ -144,11 +152,11 @@ written_more old mid new address bytes n kept there before small still stored = 
     kept_mid : IsKept mid
     kept_mid = kept_still old mid kept before.still
 
-    mid_in : (a : ℕ) → old.base ≤ a → a + 1 ≤ regions_end old → AreInside mid a 1
-    mid_in a from end =
-        let b : mid.base ≡ old.base = ap (λ q. q.base) before.still.others in
-        let e : regions_end mid ≡ regions_end old = ap regions_end before.still.others in
-        record { from = omega arith; before = omega arith }
+    mid_in : (a : ℕ) → AreInside old a 1 → AreInside mid a 1
+    mid_in a is = subst (λ q. AreInside q a 1) (sym before.still.others) is
+
+    last_in : AreInside mid (address + n) 1
+    last_in = mid_in (address + n) (inside_part old address (n + 1) (address + n) 1 there (omega arith) (omega arith))
 
     differs : (other : ℕ) → (other < address) ⊎ (address + (n + 1) ≤ other) → other ≢ address + n
     differs other (inl below) e = absurd (omega arith)
@@ -162,11 +170,9 @@ read_more p address n bytes byte kept there before is = record {
   each = λ k less. elim (lt_or_le k n) [
     | inl earlier ↦ before.each k earlier ∙ ap Some (sym (get_or_append_left bytes (byte ∷ []) 0 k (let m = before.many in omega arith)))
     | inr last ↦ (let same : n ≡ k = omega arith in
-        let from = there.from in
-        let end = there.before in
         let many : length bytes ≡ n = before.many in
         subst (λ j. reached p.words p.root (address + j) ≡ Some (slice_index (bytes ++ byte ∷ []) j)) same
-        (reached_byte p (address + n) kept (record { from = omega arith; before = omega arith })
+        (reached_byte p (address + n) kept (inside_part p address (n + 1) (address + n) 1 there (omega arith) (omega arith))
         ∙ ap Some (sym is ∙ subst (λ j. byte ≡ slice_index (bytes ++ byte ∷ []) j) many (sym (get_or-append_seam bytes byte [] 0)))))
   ];
 }

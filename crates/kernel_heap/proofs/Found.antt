@@ -1,6 +1,6 @@
 -- A chunk was found for a request, in the heap's regions or in a granted one: the answer is allowed, and the machine stands
 -- for the state after it.
-use Rattle.std.proofs.Common.{◌≡◌, ◌≢◌, ℕ, ◌+◌, ◌/◌, ◌<◌, ◌≤◌, ◌⊎◌, inl, inr, List, [], ◌∷◌, ◌++◌, length, map, fold, find, refl, sym, ap, ◌∙◌, subst, arith, false, Option, Some, None, option_map}
+use Rattle.std.proofs.Common.{◌≡◌, ◌≢◌, ℕ, ◌+◌, ◌/◌, ◌^◌, ◌<◌, ◌≤◌, ◌⊎◌, inl, inr, List, [], ◌∷◌, ◌++◌, length, map, find, refl, sym, ap, ◌∙◌, subst, arith, false, Option, Some, None, option_map}
 use Rattle.std.specs.List.{list_any}
 use Rattle.paging_core.specs.Address.{IsCanonicalRange}
 use Rattle.paging_core.specs.Prefix.{Prefix}
@@ -24,17 +24,21 @@ use Rattle.heap_model.specs.Refusal.{must_refuse, wanted_by}
 use Rattle.heap_model.specs.Answer.{changed, with_heap, is_new, granted_tables, heap_after, IsServed}
 use Rattle.heap_model.specs.Run.{IsGood}
 use Rattle.heap_model.specs.Machine.{Paged, Seen, Stands, IsStep, IsStill, outline}
-use Rattle.heap_model.proofs.Granted.{granted, clear_of, good_granted, find_granted, missing_same, stands_granted}
+use Rattle.heap_model.proofs.Added.{missing_same}
+use Rattle.heap_model.proofs.Granted.{granted, clear_of, good_granted, find_granted, stands_granted}
 use Rattle.heap_model.proofs.Moved.{stands_moved, good_bare, holds_none}
 use Rattle.heap_model.proofs.Regions.{length_with}
+use Rattle.region_tree.specs.Regions.{AreLaid}
 use Rattle.kernel_heap.specs.Layout.{IsGrantedFor}
+use Rattle.kernel_heap.specs.Words.{heap_regions}
 use Rattle.kernel_heap.specs.System.{paged}
 use Rattle.kernel_heap.specs.Heap.{regions, follows, heap_state}
 use Rattle.kernel_heap.specs.Machine.{IsLaidOut}
 use Rattle.kernel_heap.specs.declared.paged_system.PagedSystem.{PagedSystem}
 use Rattle.kernel_heap.proofs.Full.{no_room}
+use Rattle.kernel_heap.proofs.HeapRegions.{heap_joined, joined_state}
 use Rattle.kernel_heap.proofs.Places.{range_within}
-use Rattle.kernel_heap.proofs.Refused.{regions_are, alone, place_same}
+use Rattle.kernel_heap.proofs.Refused.{regions_are, place_same}
 
 -- a list with one more is another list
 longer_differs : (list : List Region) (region : Region) → with_region region list ≡ list → ⊥
@@ -72,7 +76,7 @@ module _ (heap new : Dlmalloc PagedSystem) (blocks blocks' : List (Option Live))
     (must : must_refuse s call ≡ None) (wants : wanted_by s call ≡ Some n)
     (serves : (list : Option (List Region)) → IsGrowth s n (heap_after s list) → (list ≡ None) ⊎ (length (paged new.system).regions ≢ length (paged heap.system).regions) → IsServed s call (Placed number address) list)
     (lives_same : blocks' ≡ map (option_map outline) after_it) (holds : HoldsBytes (reached (paged new.system).words (paged new.system).root) after_it)
-    (good_blocks : (list : List Region) (tables : List Prefix) → list ≡ (paged new.system).regions → IsGood (record s { heap = list; tables = tables }) → IsGood (record s { heap = list; tables = tables; blocks = after_it })) where
+    (good_blocks : (list : List Region) (tables : List Prefix) → list ≡ heap_regions (paged new.system).regions → IsGood (record s { heap = list; tables = tables }) → IsGood (record s { heap = list; tables = tables; blocks = after_it })) where
   abbrev m : Seen
   m = record { paged = paged heap.system; granularity = heap.granularity; blocks = blocks }
 
@@ -86,7 +90,7 @@ module _ (heap new : Dlmalloc PagedSystem) (blocks blocks' : List (Option Live))
   -- nothing was granted
   step_here : IsStill (paged heap.system) (paged new.system) → IsStep s call (record { reply = Placed number address; regions = None }) m'
   step_here still =
-      let same : s.heap ≡ (paged new.system).regions = regions_are heap.system m refl s good stands ∙ sym (ap (λ p. p.regions) still.others) in
+      let same : s.heap ≡ heap_regions (paged new.system).regions = regions_are heap.system m refl s good stands ∙ sym (ap (λ p. heap_regions p.regions) still.others) in
       record {
         allowed = record { reply = (must, serves None (inl refl) (inl refl)); listed = tt };
         good = subst IsGood (sym changes) (good_blocks s.heap s.tables same good);
@@ -129,22 +133,26 @@ module _ (heap new : Dlmalloc PagedSystem) (blocks blocks' : List (Option Live))
         omega arith
 
     -- the regions of the machine, with the granted one
-    joined : later.regions ≡ with_region (heap_region at pages) s.heap
-    joined =
-        let heap_is = regions_are heap.system m refl s good stands in
-        is.granted.regions ∙ ap (with_region (heap_region at pages)) (ap (λ p. p.regions) before.others ∙ sym heap_is)
+    laid_mid : AreLaid 0 mid.regions (2 ^ 64)
+    laid_mid = subst (λ (p : Paged). AreLaid 0 p.regions (2 ^ 64)) (sym before.others) heap.system.kept.laid
 
-    regions_after : (paged new.system).regions ≡ with_region (heap_region at pages) s.heap
-    regions_after = ap (λ p. p.regions) behind.others ∙ joined
+    heap_mid : heap_regions mid.regions ≡ s.heap
+    heap_mid = ap (λ p. heap_regions p.regions) before.others ∙ sym (regions_are heap.system m refl s good stands)
+
+    regions_after : heap_regions (paged new.system).regions ≡ with_region (heap_region at pages) s.heap
+    regions_after =
+        ap (λ p. heap_regions p.regions) behind.others
+        ∙ (ap heap_regions is.granted.regions ∙ (heap_joined (heap_region at pages) 0 (2 ^ 64) mid.regions laid_mid refl ∙ ap (with_region (heap_region at pages)) heap_mid))
 
     listed : later.regions ≡ all_regions (granted bare at pages)
-    listed = joined ∙ sym (ap (fold (λ list region. with_region region list) (with_region (heap_region at pages) s.heap)) (alone heap.system m refl s good stands))
+    listed = is.granted.regions
+        ∙ (ap (with_region (heap_region at pages)) stands_mid.regions ∙ joined_state s at pages good is.can.some (clear_of s pages at place.fit).1)
 
     good_later : IsGood (granted bare at pages)
     good_later = good_granted bare at pages (good_bare s good) range place.fit few
 
     stands_later : Stands (record m_mid { paged = later }) (granted bare at pages)
-    stands_later = stands_granted m_mid later bare at pages (good_bare s good) stands_mid range place.fit few is.granted.grant listed
+    stands_later = stands_granted m_mid later bare at pages stands_mid range place.fit few is.granted.grant listed
 
     stands_after : Stands (record m' { granularity = heap.granularity }) (record (granted s at pages) { blocks = after_it })
     stands_after = stands_moved (record m_mid { paged = later }) (granted bare at pages) (paged new.system) blocks' after_it good_later stands_later behind lives_same holds
@@ -157,24 +165,24 @@ module _ (heap new : Dlmalloc PagedSystem) (blocks blocks' : List (Option Live))
         ap length (ap (λ p. p.regions) behind.others ∙ is.granted.regions)
         ∙ (length_with (heap_region at pages) mid.regions ∙ ap (λ n. n + 1) (ap (λ p. length p.regions) before.others))
 
-    step_granted : IsStep s call (record { reply = Placed number address; regions = Some (paged new.system).regions }) m'
+    step_granted : IsStep s call (record { reply = Placed number address; regions = Some (heap_regions (paged new.system).regions) }) m'
     unfolding pages_for
     step_granted =
         let same : pages_for n s.granularity ≡ pages = ap (λ g. pages_in (round_up (n + 96) g)) (sym stands.granularity) in
-        let state : record (granted s at pages) { blocks = after_it } ≡ with_heap (changed s call (Placed number address)) (wanted_by s call) (Some (paged new.system).regions) =
-        state_after s after_it n at pages (paged new.system).regions good is.can.some (clear_of s pages at place.fit).0 regions_after same
-        ∙ (ap (λ t. with_heap t (Some n) (Some (paged new.system).regions)) (sym changes) ∙ ap (λ w. with_heap (changed s call (Placed number address)) w (Some (paged new.system).regions)) (sym wants)) in
+        let state : record (granted s at pages) { blocks = after_it } ≡ with_heap (changed s call (Placed number address)) (wanted_by s call) (Some (heap_regions (paged new.system).regions)) =
+        state_after s after_it n at pages (heap_regions (paged new.system).regions) good is.can.some (clear_of s pages at place.fit).0 regions_after same
+        ∙ (ap (λ t. with_heap t (Some n) (Some (heap_regions (paged new.system).regions))) (sym changes) ∙ ap (λ w. with_heap (changed s call (Placed number address)) w (Some (heap_regions (paged new.system).regions))) (sym wants)) in
         record {
           allowed = record {
             reply = (
               must,
-              serves (Some (paged new.system).regions)
+              serves (Some (heap_regions (paged new.system).regions))
                   (inr (record {
                     full = no_room heap blocks laid s good stands n full;
                     address = at;
                     place = subst (λ k. IsPlace s.base s.pages (all_regions s) k at) (sym same) place;
                     frames = subst (λ k. k + missing s.tables at k ≤ free_frames s) (sym same) few;
-                    joined = subst (λ k. (paged new.system).regions ≡ with_region (heap_region at k) s.heap) (sym same) regions_after;
+                    joined = subst (λ k. heap_regions (paged new.system).regions ≡ with_region (heap_region at k) s.heap) (sym same) regions_after;
                   }))
                   (inr (λ e. let longer = more_regions in absurd (omega arith))),
             );
@@ -187,7 +195,7 @@ module _ (heap new : Dlmalloc PagedSystem) (blocks blocks' : List (Option Live))
   -- the whole step, where the regions are listed if there are more of them
   pub step_found : (answered : Option (List Region)) →
       (length (paged new.system).regions ≡ length (paged heap.system).regions → answered ≡ None) →
-      (length (paged new.system).regions ≢ length (paged heap.system).regions → answered ≡ Some (paged new.system).regions) →
+      (length (paged new.system).regions ≢ length (paged heap.system).regions → answered ≡ Some (heap_regions (paged new.system).regions)) →
       IsStep s call (record { reply = Placed number address; regions = answered }) m'
   step_found answered same more = elim found [
     | inl here ↦ subst (λ (regions : Option (List Region)). IsStep s call (record { reply = Placed number address; regions = regions }) m')

@@ -1,6 +1,7 @@
 -- Where nothing is chosen for a request, no region of the state has room for it.
-use Rattle.std.proofs.Common.{◌≡◌, ℕ, ◌+◌, ◌≤◌, inl, inr, List, [], ◌∷◌, sym, ap, ◌∙◌, subst, arith, Contains, Option, Some}
-use Rattle.std.specs.List.{AllByRecursion}
+use Rattle.std.proofs.Common.{◌≡◌, ℕ, zero, suc, ◌+◌, ◌<◌, ◌≤◌, inl, inr, true, List, [], ◌∷◌, length, get_or, map, sym, ap, ◌∙◌, subst, arith, Contains, Option, Some, IsTrue}
+use Rattle.std.specs.List.{list_any, AllByRecursion}
+use Rattle.heap_memory.specs.declared.grant.Grant.{Grant}
 use Rattle.dlmalloc_chunks.specs.declared.extent.Extent.{Extent}
 use Rattle.dlmalloc.specs.State.{Segment}
 use Rattle.dlmalloc.specs.Blocks.{IsMet, IsFull}
@@ -11,15 +12,25 @@ use Rattle.heap_model.specs.State.{State, Block, block_at}
 use Rattle.heap_model.specs.Room.{HasRoom}
 use Rattle.heap_model.specs.Run.{IsGood}
 use Rattle.heap_model.specs.Machine.{Stands, outline}
+use Rattle.heap_model.proofs.Booleans.{or_cases}
 use Rattle.heap_model.proofs.Placed.{behind_outline, outline_at}
-use Rattle.kernel_heap.specs.Layout.{regions_end}
+use Rattle.kernel_heap.specs.Words.{heap_regions, grant_of}
 use Rattle.kernel_heap.specs.System.{paged}
 use Rattle.kernel_heap.specs.Heap.{heap_state}
-use Rattle.kernel_heap.specs.Machine.{live_at, Spans, IsLaidOut}
+use Rattle.kernel_heap.specs.Machine.{live_at, has_region, IsLaidOut}
 use Rattle.kernel_heap.specs.declared.paged_system.PagedSystem.{PagedSystem}
-use Rattle.kernel_heap.proofs.Alone.{heap_alone}
-use Rattle.kernel_heap.proofs.Consecutive.{bounds}
+use Rattle.kernel_heap.proofs.HeapRegions.{heap_of_all}
+use Rattle.kernel_heap.proofs.SegmentRegions.{has_bounds}
 use Rattle.kernel_heap.proofs.Laid.{block_is}
+
+-- what holds of all grants holds of that of a region
+contained : (P : Grant → Type 0) (list : List Region) (region : Region) → AllByRecursion P (map grant_of list) → Contains list region → P (grant_of region)
+contained P [] region all has = absurd (omega (arith, has.1))
+contained P (first ∷ rest) region all has =
+    elim has.0 as (λ k. k < length (first ∷ rest) → get_or (first ∷ rest) k region ≡ region → P (grant_of region)) [
+      | zero ↦ λ less is. subst (λ r. P (grant_of r)) is all.0
+      | suc k ↦ λ less is. contained P rest region all.1 (k, omega arith, is)
+    ] has.1 has.2
 
 module _ (heap : Dlmalloc PagedSystem) (blocks : List (Option Live)) (laid : IsLaidOut heap blocks) (s : State) (good : IsGood s)
     (stands : Stands (record { paged = paged heap.system; granularity = heap.granularity; blocks = blocks }) s) where
@@ -29,13 +40,10 @@ module _ (heap : Dlmalloc PagedSystem) (blocks : List (Option Live)) (laid : IsL
 
   pub no_room : (n : ℕ) → IsFull (heap_state heap) (n + 256) → HasRoom s n → ⊥
   no_room n full room =
-      let all = heap.system.kept.consecutive in
-      let same = heap_alone s (paged heap.system).base (regions_end (paged heap.system)) (paged heap.system).regions good stands.regions all in
-      let has : Contains (paged heap.system).regions room.region = subst (λ (list : List Region). Contains list room.region) same room.listed in
-      let both = bounds (paged heap.system).base (regions_end (paged heap.system)) (paged heap.system).regions all room.region has in
-      let from = room.from in
-      let within = room.within in
-      let met = meets (heap_state heap).segments laid.spans full has (omega (arith, both.0)) (omega (arith, both.1)) in
+      let same : s.heap ≡ heap_regions (paged heap.system).regions = sym (ap heap_regions stands.regions ∙ heap_of_all s good) in
+      let has : Contains (heap_regions (paged heap.system).regions) room.region = subst (λ (list : List Region). Contains list room.region) same room.listed in
+      let inside = contained (λ region. IsTrue (list_any (has_region region) (heap_state heap).segments)) (heap_regions (paged heap.system).regions) room.region laid.has has in
+      let met = meets (heap_state heap).segments full inside in
       let hit = laid.used met.used met.is met.there in
       let b = (laid.lives hit.number hit.live hit.is).block in
       let old = behind hit.number hit.live hit.is in
@@ -48,8 +56,11 @@ module _ (heap : Dlmalloc PagedSystem) (blocks : List (Option Live)) (laid : IsL
       let ends = met.ends in
       elim (room.clear hit.number old.0 old.1) [ inl before ↦ omega arith | inr after ↦ omega arith ]
     where
-      meets : (segments : List Segment) → Spans segments (paged heap.system) → AllByRecursion (λ (segment : Segment). (from : ℕ) → segment.base ≤ from → from + (n + 256) ≤ segment.base + segment.size → IsMet (heap_state heap) from (from + (n + 256))) segments →
-          Contains (paged heap.system).regions room.region → (paged heap.system).base ≤ room.address → room.address + (n + 256) ≤ regions_end (paged heap.system) → IsMet (heap_state heap) room.address (room.address + (n + 256))
-      meets [] spans full has low high = absurd (let gone : Contains [] room.region = subst (λ (list : List Region). Contains list room.region) spans has in omega (arith, gone.1))
-      meets (segment ∷ []) spans full has low high = full.0 room.address (omega (arith, spans.0)) (omega (arith, spans.1))
-      meets (first ∷ second ∷ segments) spans full has low high = absurd spans
+      -- a segment that has the region has the room
+      meets : (segments : List Segment) → AllByRecursion (λ (segment : Segment). (from : ℕ) → segment.base ≤ from → from + (n + 256) ≤ segment.base + segment.size → IsMet (heap_state heap) from (from + (n + 256))) segments →
+          list_any (has_region (grant_of room.region)) segments ≡ true → IsMet (heap_state heap) room.address (room.address + (n + 256))
+      meets [] full has = absurd (cc)
+      meets (segment ∷ segments) full has = elim (or_cases (has_region (grant_of room.region) segment) (list_any (has_region (grant_of room.region)) segments) has) [
+        | inl here ↦ (let both = has_bounds (grant_of room.region) segment here in full.0 room.address (omega (arith, both.0, room.from)) (omega (arith, both.1, room.within)))
+        | inr later ↦ meets segments full.1 later
+      ]

@@ -22,6 +22,7 @@ use Rattle.heap_model.specs.Machine.{Seen, Stands, IsStep, outline}
 use Rattle.heap_model.proofs.Known.{known_within}
 use Rattle.heap_model.proofs.Placed.{outline_of, outline_push, length_outline, known_alike, holds_pushed, good_placed}
 use Rattle.kernel_heap.specs.System.{paged}
+use Rattle.kernel_heap.specs.Words.{heap_regions}
 use Rattle.kernel_heap.specs.Heap.{regions, word, follows, heap_state}
 use Rattle.kernel_heap.specs.Machine.{live_at, IsLaidOut, AreZero, request}
 use Rattle.kernel_heap.specs.declared.paged_system.PagedSystem.{PagedSystem}
@@ -30,7 +31,7 @@ use Rattle.kernel_heap.proofs.Bytes.{zero_reached}
 use Rattle.kernel_heap.proofs.Found.{step_found}
 use Rattle.kernel_heap.proofs.Laid.{next_live, block_there, live_kept, live_apart}
 use Rattle.kernel_heap.proofs.Refused.{not_refused, wanted_asked}
-use Rattle.kernel_heap.proofs.Still.{granted_same}
+use Rattle.kernel_heap.proofs.Still.{granted_within}
 
 -- the block that is handed out, as the state has it
 abbrev pub next_block : ℕ → ℕ → ℕ → Cell → Block
@@ -81,14 +82,14 @@ module _ (heap new : Dlmalloc PagedSystem) (blocks : List (Option Live)) (size a
     lives_same = ap (λ list. list ++ Some (next_live address size align) ∷ []) stands.blocks ∙ sym (outline_push s.blocks (Some (next_block address size align cell)))
 
     -- the block is good among the regions of the machine
-    good_blocks : (list : List Region) (tables : List Prefix) → list ≡ (paged new.system).regions → IsGood (record s { heap = list; tables = tables }) → IsGood (record s { heap = list; tables = tables; blocks = after_it })
+    good_blocks : (list : List Region) (tables : List Prefix) → list ≡ heap_regions (paged new.system).regions → IsGood (record s { heap = list; tables = tables }) → IsGood (record s { heap = list; tables = tables; blocks = after_it })
     good_blocks list tables same good' = good_placed (record s { heap = list; tables = tables }) (next_block address size align cell) good'
         (record {
           aligned = out.multiple;
           aligned_16 = out.aligned;
           cells = length-replicate size cell;
           granted = λ k less. ap (list_any (is_within (address + k))) same
-              ∙ (sym (granted_same (paged new.system).regions (address + k)) ∙ out.granted (address + k) (omega arith) (omega arith));
+              ∙ granted_within (paged new.system) (address + k) (out.granted (address + k) (omega arith) (omega arith));
         })
         (λ i old is.
         let at = live_of i old is in
@@ -97,7 +98,7 @@ module _ (heap new : Dlmalloc PagedSystem) (blocks : List (Option Live)) (size a
 
   module _ (power : is_power_of_two align ≡ true) (answered : Option (List Region))
       (same : length (paged new.system).regions ≡ length (paged heap.system).regions → answered ≡ None)
-      (more : length (paged new.system).regions ≢ length (paged heap.system).regions → answered ≡ Some (paged new.system).regions) where
+      (more : length (paged new.system).regions ≢ length (paged heap.system).regions → answered ≡ Some (heap_regions (paged new.system).regions)) where
     -- nothing is known of its bytes
     step_handed : IsStep s (Malloc size align) (record { reply = Placed (length blocks) address; regions = answered }) m'
     step_handed =

@@ -1,37 +1,31 @@
 -- The blocks of a machine and the extents of its heap, before and after a call of the heap.
-use Rattle.std.proofs.Common.{◌≡◌, ◌≢◌, ℕ, ◌+◌, ◌-◌, inl, inr, Bool, true, false, ◌==◌, if◌then◌else◌, List, [], ◌∷◌, ◌++◌, length, map, slice_set, refl, sym, ap, ◌∙◌, subst, arith, Option, Some, None}
+use Rattle.std.proofs.Common.{◌≡◌, ◌≢◌, ℕ, ◌+◌, ◌-◌, ◌*◌, ◌%◌, inl, inr, Bool, true, false, ◌==◌, if◌then◌else◌, List, [], ◌∷◌, ◌++◌, length, map, slice_set, refl, sym, ap, ◌∙◌, subst, arith, Option, Some, None}
 use Rattle.std.specs.List.{AllByRecursion}
 use Rattle.std.specs.Int.{IsPowerOfTwo}
 use Rattle.std.proofs.lemmas.Bool.Decides.{nat_tests}
-use Rattle.heap_memory.specs.declared.grant.Grant.{Grant}
 use Rattle.dlmalloc_chunks.specs.Request.{padded}
 use Rattle.dlmalloc_chunks.specs.declared.extent.Extent.{Extent}
 use Rattle.dlmalloc.specs.Extents.{extent_at}
 use Rattle.dlmalloc.specs.State.{HeapState, Segment, extents_in}
-use Rattle.dlmalloc.specs.Granted.{granted as granted_state}
-use Rattle.dlmalloc.specs.Taken.{in_segments}
 use Rattle.dlmalloc.specs.Blocks.{IsBlock}
+use Rattle.dlmalloc.specs.Freed.{freed_in}
 use Rattle.dlmalloc.specs.declared.heap.Dlmalloc.{Dlmalloc}
 use Rattle.dlmalloc.specs.declared.malloc_error.MallocError.{MallocError}
 use Rattle.heap_model.specs.declared.live.Live.{Live}
-use Rattle.heap_model.specs.State.{total_pages}
-use Rattle.heap_model.specs.Machine.{Paged, IsStill, Seen}
 use Rattle.heap_model.proofs.Placed.{appended, stays, last_at}
 use Rattle.heap_model.proofs.Ended.{left_at}
 use Rattle.heap_model.proofs.Resized.{replaced_at, replaced_stays, replaced_here}
-use Rattle.kernel_heap.specs.Layout.{IsKept, IsGrantedFor, regions_end}
-use Rattle.kernel_heap.specs.Words.{grants_of}
+use Rattle.kernel_heap.specs.Beside.{IsBeside}
+use Rattle.kernel_heap.specs.Words.{heap_regions, grant_of, grants_of}
 use Rattle.kernel_heap.specs.System.{paged}
 use Rattle.kernel_heap.specs.Heap.{follows, refuses, denies, regions, word, heap_state, IsHeap}
-use Rattle.dlmalloc.specs.Requested.{asked, IsFound, IsHandedOut}
+use Rattle.dlmalloc.specs.Requested.{asked, IsHandedOut}
 use Rattle.dlmalloc.specs.Moved.{IsGivenSize}
 use Rattle.dlmalloc.specs.Served.{IsRefusedWith, IsFreed, regions_in, KeepsRegions, OnlyBlocksChange, RestsOutside}
-use Rattle.kernel_heap.specs.Machine.{seen_of, live_at, Spans, IsLive, IsLaidOut}
+use Rattle.kernel_heap.specs.Machine.{seen_of, live_at, HaveRegions, IsLive, IsLaidOut}
 use Rattle.kernel_heap.specs.declared.paged_system.PagedSystem.{PagedSystem}
-use Rattle.kernel_heap.proofs.Consecutive.{same_or_other}
-use Rattle.kernel_heap.proofs.Granted.{granted_end}
-use Rattle.kernel_heap.proofs.Places.{place_end}
-use Rattle.kernel_heap.proofs.Still.{kept_still}
+use Rattle.kernel_heap.proofs.Numbers.{same_or_other}
+use Rattle.kernel_heap.proofs.SegmentRegions.{have_changed, have_found}
 
 -- ---- a block and its extent
 
@@ -67,64 +61,6 @@ module _ (heap : HeapState) (address size : ℕ) (block : IsBlock heap address s
     little = block.little;
   }
 
--- ---- the segment has the bytes of the regions
-
-pub spans_changed : (change : List Extent → List Extent) (segments : List Segment) (p : Paged) → Spans segments p → Spans (in_segments change segments) p
-spans_changed change [] p spans = spans
-spans_changed change (segment ∷ []) p spans = spans
-spans_changed change (first ∷ second ∷ segments) p spans = spans
-
--- they are told by where the segments are
-pub spans_same : (segments others : List Segment) (p : Paged) → map {B = Segment} (λ segment. record segment { extents = [] }) segments ≡ map {B = Segment} (λ segment. record segment { extents = [] }) others →
-    Spans segments p → Spans others p
-spans_same [] [] p same spans = spans
-spans_same [] (segment ∷ others) p same spans = absurd (cc)
-spans_same (segment ∷ segments) [] p same spans = absurd (cc)
-spans_same (segment ∷ []) (other ∷ []) p same spans =
-    let one : record segment { extents = [] } ≡ record other { extents = [] } = cc in
-    let base : segment.base ≡ other.base = ap (λ (t : Segment). t.base) one in
-    let size : segment.size ≡ other.size = ap (λ (t : Segment). t.size) one in
-    (omega (arith, spans.0), omega (arith, spans.1))
-spans_same (segment ∷ []) (other ∷ next ∷ others) p same spans = absurd (cc)
-spans_same (segment ∷ next ∷ segments) others p same spans = absurd spans
-
-pub spans_still : (segments : List Segment) (old new : Paged) → IsStill old new → Spans segments old → Spans segments new
-spans_still segments old new still spans = subst (Spans segments) (sym still.others) (same segments spans)
-  where
-    same : (segments : List Segment) → Spans segments old → Spans segments (record old { words = new.words })
-    same [] spans = spans
-    same (segment ∷ []) spans = spans
-    same (first ∷ second ∷ segments) spans = spans
-
-pub spans_granted : (segments : List Segment) (victim granularity rate countdown trim_check : ℕ) (old new : Paged) (asked : ℕ) (grant : Grant) → IsKept old → IsGrantedFor old new asked grant → Spans segments old →
-    Spans (granted_state grant (record { segments = segments; victim = victim; granularity = granularity; rate = rate; countdown = countdown; trim_check = trim_check })).segments new
-spans_granted [] victim granularity rate countdown trim_check old new asked grant kept is spans =
-    let none : total_pages old.regions ≡ 0 = ap total_pages spans in
-    let base : grant.base ≡ regions_end old = place_end old _ kept is.can.some grant.base is.can.place in
-    let size = is.size in
-    let same = is.granted.grant.base in
-    let end = granted_end old new _ _ is.granted in
-    (omega arith, omega arith)
-spans_granted (segment ∷ []) victim granularity rate countdown trim_check old new asked grant kept is spans =
-    let size = is.size in
-    let same = is.granted.grant.base in
-    let end = granted_end old new _ _ is.granted in
-    (omega (arith, spans.0), omega (arith, spans.1))
-spans_granted (first ∷ second ∷ segments) victim granularity rate countdown trim_check old new asked grant kept is spans = absurd spans
-
-pub spans_found : (heap new : Dlmalloc PagedSystem) (n : ℕ) → Spans (heap_state heap).segments (paged heap.system) → IsFound follows regions heap.system (heap_state heap) n new.system (heap_state new) → Spans (heap_state new).segments (paged new.system)
-spans_found heap new n spans found = elim found [
-  | inl here ↦ spans_same (heap_state heap).segments (heap_state new).segments (paged new.system) (sym here.0)
-      (spans_still (heap_state heap).segments (paged heap.system) (paged new.system) here.1 spans)
-  | inr there ↦ (
-      let h = heap_state heap in
-      let followed = there.4 in
-      spans_same (granted_state there.0 h).segments (heap_state new).segments (paged new.system) (sym there.3)
-      (spans_still (granted_state there.0 h).segments followed.1 (paged new.system) followed.4
-      (spans_granted h.segments h.victim h.granularity h.rate h.countdown h.trim_check followed.0 followed.1 _ there.0 (kept_still (paged heap.system) followed.0 heap.system.kept followed.2) followed.3
-      (spans_still h.segments (paged heap.system) followed.0 followed.2 spans))))
-]
-
 -- ---- a block more
 
 -- the block as the machine keeps it
@@ -152,7 +88,7 @@ module _ (heap new : Dlmalloc PagedSystem) (blocks : List (Option Live)) (size a
   pub laid_handed : IsPowerOfTwo align → IsLaidOut new (blocks ++ Some (next_live address size align) ∷ [])
   laid_handed power = record {
     heap_sound = out.sound;
-    spans = spans_found heap new (padded (asked size align)) laid.spans out.found;
+    has = have_found heap new (padded (asked size align)) out.found laid.has;
     lives = λ number live is. elim (appended blocks (Some (next_live address size align)) number live is) [
       | inl old ↦ live_kept number live old
       | inr last ↦ (let same : next_live address size align ≡ live = cc in subst (λ (l : Live). IsLive (heap_state new) l) same (record { block = out.block; align = power }))
@@ -208,7 +144,7 @@ module _ (heap new : Dlmalloc PagedSystem) (blocks : List (Option Live)) (number
   pub laid_resized : IsPowerOfTwo align → IsLaidOut new (slice_set blocks number (Some (next_live address size align)))
   laid_resized power = record {
     heap_sound = out.sound;
-    spans = spans_found heap new (padded (asked size align)) laid.spans out.found;
+    has = have_found heap new (padded (asked size align)) out.found laid.has;
     lives = λ i it at. elim (replaced_at blocks number (next_live address size align) i it at) [
       | inl same ↦ subst (λ (l : Live). IsLive (heap_state new) l) same.1 (record { block = out.block; align = power })
       | inr other ↦ live_stays i it other.0 other.1
@@ -250,7 +186,7 @@ module _ (heap new : Dlmalloc PagedSystem) (blocks : List (Option Live)) (size :
   pub laid_denied : IsLaidOut heap blocks → IsLaidOut new blocks
   laid_denied laid = record {
     heap_sound = denied.same.sound;
-    spans = subst (λ (h : HeapState). Spans h.segments (paged new.system)) (sym denied.same.state) (subst (Spans (heap_state heap).segments) (sym denied.same.refused) laid.spans);
+    has = subst (λ (h : HeapState). HaveRegions h.segments (regions new.system)) (sym denied.same.state) (subst (λ p. HaveRegions (heap_state heap).segments (grants_of p)) (sym denied.same.refused) laid.has);
     lives = λ number live is. subst (λ (h : HeapState). IsLive h live) (sym denied.same.state) (laid.lives number live is);
     used = λ extent used there. laid.used extent used (subst (λ (h : HeapState). extent_at extent.at (extents_in h) ≡ Some extent) denied.same.state there);
     distinct = laid.distinct;
@@ -280,8 +216,8 @@ module _ (heap new : Dlmalloc PagedSystem) (blocks : List (Option Live)) (number
   pub laid_ended : IsLaidOut new (slice_set blocks number None)
   laid_ended = record {
     heap_sound = back.sound;
-    spans = subst (λ (h : HeapState). Spans h.segments (paged new.system)) (sym back.state)
-        (spans_changed _ (heap_state heap).segments (paged new.system) (spans_still (heap_state heap).segments (paged heap.system) (paged new.system) back.followed laid.spans));
+    has = subst (λ (h : HeapState). HaveRegions h.segments (regions new.system)) (sym back.state)
+        (have_changed (freed_in (live.address - 16)) (heap_state heap).segments (regions new.system) (subst (HaveRegions (heap_state heap).segments) (sym back.regions_same) laid.has));
     lives = λ other it at. (let was = left_at blocks number other it at in live_left other it was.0 was.1);
     used = λ extent used there. (
         let was = laid.used extent used (back.less.kept extent used there) in
@@ -299,33 +235,38 @@ module _ (heap new : Dlmalloc PagedSystem) (blocks : List (Option Live)) (number
 -- ---- bytes of blocks
 
 -- a system with the same regions keeps those of the segments
-pub same_regions : (heap : Dlmalloc PagedSystem) → IsHeap heap → (system : PagedSystem) → regions system ≡ regions heap.system → KeepsRegions heap (heap_state heap).segments (regions heap.system) (regions system)
-same_regions heap sound system same = subst (KeepsRegions heap (heap_state heap).segments (regions heap.system)) (sym same) (record { same = each (heap_state heap).segments; last = sound.last })
+pub same_regions : (heap : Dlmalloc PagedSystem) → IsHeap heap → (system : PagedSystem) → regions system ≡ regions heap.system → KeepsRegions (heap_state heap).segments (regions heap.system) (regions system)
+same_regions heap sound system same = subst (KeepsRegions (heap_state heap).segments (regions heap.system)) (sym same) (each (heap_state heap).segments)
   where
     each : (segments : List Segment) → AllByRecursion (λ (segment : Segment). regions_in segment (regions heap.system) ≡ regions_in segment (regions heap.system)) segments
     each [] = tt
     each (segment ∷ segments) = (refl, each segments)
 
--- the blocks stay laid out where words of blocks alone are changed
-pub laid_outside : (heap : Dlmalloc PagedSystem) (blocks : List (Option Live)) (system : PagedSystem) → IsLaidOut heap blocks → IsStill (paged heap.system) (paged system) → RestsOutside regions word heap →
+-- the blocks stay laid out where the regions stay, and words of blocks alone are changed
+pub laid_outside : (heap : Dlmalloc PagedSystem) (blocks : List (Option Live)) (system : PagedSystem) → IsLaidOut heap blocks → regions system ≡ regions heap.system → RestsOutside regions word heap →
     OnlyBlocksChange (regions heap.system) (heap_state heap) (word heap.system) (word system) → IsLaidOut (record heap { system = system }) blocks
-laid_outside heap blocks system laid still rests outside =
-    let rest = rests laid.heap_sound system (same_regions heap laid.heap_sound system (ap grants_of still.others)) outside in
+laid_outside heap blocks system laid same rests outside =
+    let rest = rests laid.heap_sound system (same_regions heap laid.heap_sound system same) outside in
     let state : heap_state (record heap { system = system }) ≡ heap_state heap = rest.1 in
     record {
       heap_sound = rest.0;
-      spans = subst (λ (h : HeapState). Spans h.segments (paged system)) (sym state) (spans_still (heap_state heap).segments (paged heap.system) (paged system) still laid.spans);
+      has = subst (λ (h : HeapState). HaveRegions h.segments (regions system)) (sym state) (subst (HaveRegions (heap_state heap).segments) (sym same) laid.has);
       lives = λ number live is. subst (λ (h : HeapState). IsLive h live) (sym state) (laid.lives number live is);
       used = λ extent used there. laid.used extent used (subst (λ (h : HeapState). extent_at extent.at (extents_in h) ≡ Some extent) state there);
       distinct = laid.distinct;
     }
+
+-- so a heap is as it was where something was done beside it
+pub heap_beside : (heap : Dlmalloc PagedSystem) → IsHeap heap → (system : PagedSystem) → IsBeside (paged heap.system) (paged system) → RestsOutside regions word heap →
+    IsHeap (record heap { system = system }) × (heap_state (record heap { system = system }) ≡ heap_state heap)
+heap_beside heap sound system beside rests = rests sound system (same_regions heap sound system beside.regions) (λ k granted there outside. beside.words k granted)
 
 -- ---- no block
 
 pub laid_new : (heap : Dlmalloc PagedSystem) → IsHeap heap → (heap_state heap).segments ≡ [] → (paged heap.system).regions ≡ [] → IsLaidOut heap []
 laid_new heap sound none empty = record {
   heap_sound = sound;
-  spans = subst (λ (segments : List Segment). Spans segments (paged heap.system)) (sym none) empty;
+  has = subst (λ list. HaveRegions (heap_state heap).segments (map grant_of (heap_regions list))) (sym empty) tt;
   lives = λ number live is. absurd (cc);
   used = λ extent used there. absurd (let gone : extent_at extent.at [] ≡ Some extent = subst (λ (segments : List Segment). extent_at extent.at (Rattle.std.specs.List.flat_map (λ (segment : Segment). segment.extents) segments) ≡ Some extent) none there in cc);
   distinct = λ i j a b is_a is_b differ. absurd (cc);

@@ -1,9 +1,14 @@
-pub mod Consecutive
+pub mod Numbers
 pub mod Places
-pub mod Alone
 pub mod Pages
+pub mod HeapRegions
+pub mod SegmentRegions
 pub mod Still
+pub mod WordsStay
+pub mod StillRuns
 pub mod Bytes
+pub mod ByteRuns
+pub mod WordRuns
 pub mod Calls
 pub mod Granted
 pub mod Allocated
@@ -20,3 +25,5 @@ pub mod BlockBytes
 pub mod WholeRegions
 pub mod Listed
 pub mod NewSystem
+pub mod Probed
+pub mod UserRegions

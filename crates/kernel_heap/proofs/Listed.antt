@@ -6,7 +6,6 @@ use Rattle.dlmalloc_chunks.specs.declared.extent.Extent.{Extent}
 use Rattle.dlmalloc_chunks.specs.declared.extent.Kind.TheVariants.{Used, Victim}
 use Rattle.dlmalloc_chunks.specs.Tiling.{extent_at}
 use Rattle.dlmalloc.specs.Extents.{is_used}
-use Rattle.dlmalloc.specs.Segments.{AreAscending, has_byte_in}
 use Rattle.dlmalloc.specs.State.{HeapState, Segment, extents_in, is_plain, is_victim, shown}
 use Rattle.dlmalloc.specs.declared.heap.Dlmalloc.{Dlmalloc}
 use Rattle.heap_model.specs.declared.live.Live.{Live}
@@ -18,17 +17,15 @@ use Rattle.heap_model.specs.Extents.{AreRuns, HasExtent, HasBlock, IsTiling}
 use Rattle.heap_model.specs.Run.{IsGood}
 use Rattle.heap_model.specs.Machine.{Paged, Seen, Stands, IsStep, outline}
 use Rattle.heap_model.proofs.Placed.{outline_of}
-use Rattle.kernel_heap.specs.Layout.{IsKept, regions_end}
 use Rattle.kernel_heap.specs.System.{paged}
 use Rattle.kernel_heap.specs.Heap.{word, heap_state}
 use Rattle.dlmalloc.specs.Served.{IsListed}
-use Rattle.kernel_heap.specs.Machine.{Spans, IsLaidOut}
+use Rattle.kernel_heap.specs.Machine.{IsLaidOut}
 use Rattle.kernel_heap.specs.declared.paged_system.PagedSystem.{PagedSystem}
-use Rattle.kernel_heap.proofs.Consecutive.{lt_or_le, covered, inside}
 use Rattle.kernel_heap.proofs.Full.{behind}
 use Rattle.kernel_heap.proofs.Laid.{block_place, block_there, block_is}
 use Rattle.kernel_heap.proofs.Refused.{regions_are}
-use Rattle.kernel_heap.proofs.WholeRegions.{heap_runs}
+use Rattle.kernel_heap.proofs.WholeRegions.{segment_bytes, heap_runs}
 
 -- an extent in use is shown as it is, and what is shown as one in use is one
 shown_used : (heap : HeapState) (extent : Extent) → extent.kind ≡ Used → shown heap extent ≡ extent
@@ -42,49 +39,11 @@ used_shown heap (Some one) extent is used = go (is_victim heap one) (let same : 
     go true same = absurd (let k : Victim ≡ extent.kind = ap (λ (e : Extent). e.kind) same in let u = ap is_used (k ∙ used) in cc)
     go false same = ap Some same
 
-or_false : (b : Bool) → (b || false) ≡ b
-or_false true = refl
-or_false false = refl
-
--- the regions have the bytes between their ends
-within_same : (p : Paged) → IsKept p → (address : ℕ) → list_any (is_within address) p.regions ≡ (nat_le p.base address && nat_lt address (regions_end p))
-within_same p kept address = elim (lt_or_le address p.base) [
-  | inl before ↦ outside (list_any (is_within address) p.regions) refl (inl before) ∙ (grind (arith, nat_tests))
-  | inr from ↦ elim (lt_or_le address (regions_end p)) [
-    | inl below ↦ covered p.base (regions_end p) address p.regions kept.consecutive from below ∙ (grind (arith, nat_tests))
-    | inr above ↦ outside (list_any (is_within address) p.regions) refl (inr above) ∙ (grind (arith, nat_tests))
-  ]
-]
-  where
-    outside : (b : Bool) → list_any (is_within address) p.regions ≡ b → Rattle.std.specs.Prelude.◌⊎◌ (address < p.base) (regions_end p ≤ address) → list_any (is_within address) p.regions ≡ false
-    outside false is beside = is
-    outside true is beside = (let both = inside p.base (regions_end p) address p.regions kept.consecutive is in elim beside [ inl before ↦ absurd (omega (arith, both.0)) | inr above ↦ absurd (omega (arith, both.1)) ])
-
 module _ (heap : Dlmalloc PagedSystem) (blocks : List (Option Live)) (laid : IsLaidOut heap blocks) (s : State) (good : IsGood s)
     (stands : Stands (record { paged = paged heap.system; granularity = heap.granularity; blocks = blocks }) s)
     (list : List Extent) (listed : IsListed word heap list) where
   abbrev m : Seen
   m = record { paged = paged heap.system; granularity = heap.granularity; blocks = blocks }
-
-  -- the segment has the bytes of the regions
-  segment_bytes : (address : ℕ) → list_any (has_byte_in address) (heap_state heap).segments ≡ list_any (is_within address) (paged heap.system).regions
-  segment_bytes address = of (heap_state heap).segments laid.spans
-    where
-      of : (segments : List Segment) → Spans segments (paged heap.system) → list_any (has_byte_in address) segments ≡ list_any (is_within address) (paged heap.system).regions
-      of [] spans = sym (ap (list_any (is_within address)) spans)
-      of (segment ∷ []) spans =
-          (λ i. (nat_le (spans.0 i) address && nat_lt address (spans.1 i)) || false)
-          ∙ (or_false (nat_le (paged heap.system).base address && nat_lt address (regions_end (paged heap.system))) ∙ sym (within_same (paged heap.system) heap.system.kept address))
-      of (first ∷ second ∷ segments) spans = absurd spans
-
-  -- there is one segment at most
-  ascending : AreAscending (heap_state heap).segments
-  ascending = of (heap_state heap).segments laid.spans
-    where
-      of : (segments : List Segment) → Spans segments (paged heap.system) → AreAscending segments
-      of [] spans = tt
-      of (segment ∷ []) spans = tt
-      of (first ∷ second ∷ segments) spans = absurd spans
 
   block_has : (number : ℕ) (block : Block) → block_at s.blocks number ≡ Some block → HasExtent list block
   block_has number block is =
@@ -117,12 +76,12 @@ module _ (heap : Dlmalloc PagedSystem) (blocks : List (Option Live)) (laid : IsL
   -- each segment is a run of whole regions
   runs : AreRuns s.heap true list
   runs = subst (λ (regions : List Region). AreRuns regions true list) (sym (regions_are heap.system m refl s good stands))
-      (heap_runs heap laid.heap_sound laid.spans list listed.spans)
+      (heap_runs heap laid.heap_sound list listed.spans)
 
   tiling : IsTiling s list
   tiling = record {
-    extents_are = listed.tiled ascending;
-    bytes = λ address. listed.bytes address ∙ (segment_bytes address ∙ sym (ap (list_any (is_within address)) (regions_are heap.system m refl s good stands)));
+    extents_are = listed.tiled;
+    bytes = λ address. listed.bytes address ∙ (segment_bytes heap laid.heap_sound laid.has address ∙ sym (ap (list_any (is_within address)) (regions_are heap.system m refl s good stands)));
     runs = runs;
     blocks = block_has;
     used = extent_has;

@@ -1,41 +1,32 @@
 -- A new system, and the start of a run.
-use Rattle.std.proofs.Common.{◌≡◌, ℕ, ◌+◌, ◌*◌, [], sym, ap, arith, Option, None, option_map, subst}
+use Rattle.std.proofs.Common.{◌≡◌, ℕ, ◌+◌, ◌^◌, ◌≤◌, ◌<◌, [], sym, ap, arith, Option, None, option_map, subst}
 use Rattle.std.specs.Prelude.{IsSome}
 use Rattle.heap_model.specs.declared.config.Config.{Config}
-use Rattle.heap_model.specs.State.{start, total_pages}
+use Rattle.heap_model.specs.State.{start}
 use Rattle.heap_model.specs.Machine.{Paged, Seen, Stands, rights_of}
 use Rattle.heap_model.specs.Run.{IsGood}
 use Rattle.mapped_regions.specs.Mapped.{IsMapped, IsEmpty}
 use Rattle.kernel_heap.specs.Config.{IsGoodWindow, IsGoodConfig}
-use Rattle.kernel_heap.specs.Layout.{AreConsecutive, IsNew}
+use Rattle.region_tree.specs.Regions.{AreLaid}
+use Rattle.kernel_heap.specs.Layout.{IsNew}
 
 -- where nothing is mapped, the system is new
 pub new_is : (p : Paged) (base pages frames : ℕ) → IsGoodWindow base pages → IsMapped p → IsEmpty p base pages frames → IsNew p base pages frames
-new_is p base pages frames window m e =
-    let none : total_pages p.regions ≡ 0 = ap total_pages e.regions_is in
-    let count = m.count in
-    record {
-      kept = record {
-        window = subst (λ b. IsGoodWindow b p.pages) (sym e.base_is) (subst (IsGoodWindow base) (sym e.pages_is) window);
-        tree = m.tree;
-        flags = m.known;
-        root_in = m.root_in;
-        few_frames = m.few_frames;
-        held = omega arith;
-        consecutive = subst (λ xs. AreConsecutive p.base xs (p.base + 4096 * total_pages p.regions)) (sym e.regions_is) (omega arith);
-        inside = omega arith;
-        mapped = λ page above below. absurd (omega arith);
-        unmapped = λ page above below. e.unmapped page;
-      };
-      base_is = e.base_is;
-      pages_is = e.pages_is;
-      regions_is = e.regions_is;
-      tables_is = e.tables_is;
-      frames_are = e.frames_are;
-      free_frames = e.free_frames;
-      no_tables = e.no_tables;
-      unmapped = e.unmapped;
-    }
+new_is p base pages frames window m e = record {
+  kept = record {
+    window = subst (λ b. IsGoodWindow b p.pages) (sym e.base_is) (subst (IsGoodWindow base) (sym e.pages_is) window);
+    mapped = m;
+    laid = subst (λ regions. AreLaid 0 regions (2 ^ 64)) (sym e.regions_is) (omega arith);
+  };
+  base_is = e.base_is;
+  pages_is = e.pages_is;
+  regions_is = e.regions_is;
+  tables_is = e.tables_is;
+  frames_are = e.frames_are;
+  free_frames = e.free_frames;
+  no_tables = e.no_tables;
+  unmapped = e.unmapped;
+}
 
 -- a machine over it, without blocks, stands for the start
 pub start_good : (config : Config) → IsGoodConfig config → IsGood (start config)
@@ -51,7 +42,7 @@ start_good config good = record {
 
 pub start_stands : (m : Seen) (config : Config) → IsNew m.paged config.base config.pages config.frames → m.granularity ≡ config.granularity → m.blocks ≡ [] → Stands m (start config)
 start_stands m config new granularity blocks = record {
-  tree = new.kept.tree;
+  tree = new.kept.mapped.tree;
   free_frames = (let f = new.free_frames in omega arith);
   table_count = new.tables_is;
   pages_found = λ page canonical. ap (option_map rights_of) (new.unmapped page);

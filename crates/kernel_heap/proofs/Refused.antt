@@ -18,7 +18,7 @@ use Rattle.heap_model.specs.declared.answer.Refusal.TheVariants.{BadAlign, TooLa
 use Rattle.heap_model.specs.declared.answer.Reply.TheVariants.{Refused}
 use Rattle.heap_model.specs.declared.answer.Answer.{Answer}
 use Rattle.heap_model.specs.declared.call.Call.{Call}
-use Rattle.heap_model.specs.declared.call.Call.TheVariants.{Malloc, Calloc, Realloc, CRealloc, Free, Write, Read, Extents}
+use Rattle.heap_model.specs.declared.call.Call.TheVariants.{Malloc, Calloc, Realloc, CRealloc, Free, Write, Read, Map, Unmap, Probe, Extents}
 use Rattle.heap_model.specs.Request.{pages_in, pages_for}
 use Rattle.heap_model.specs.State.{State, Block}
 use Rattle.heap_model.specs.Tables.{missing, free_frames}
@@ -27,13 +27,13 @@ use Rattle.heap_model.specs.Refusal.{is_too_large, refuse_request, refuse_resizi
 use Rattle.heap_model.specs.Answer.{changed}
 use Rattle.heap_model.specs.Run.{IsGood}
 use Rattle.heap_model.specs.Machine.{Seen, Stands, IsStep}
-use Rattle.heap_model.proofs.Granted.{missing_same}
-use Rattle.kernel_heap.specs.Layout.{regions_end}
+use Rattle.heap_model.proofs.Added.{missing_same}
+use Rattle.kernel_heap.specs.Words.{heap_regions}
 use Rattle.kernel_heap.specs.System.{paged}
 use Rattle.kernel_heap.specs.Heap.{regions, word, follows, refuses, denies, heap_state}
 use Rattle.kernel_heap.specs.Machine.{IsLaidOut, seen_of, refusal_of, IsRefusalOf, request}
 use Rattle.kernel_heap.specs.declared.paged_system.PagedSystem.{PagedSystem}
-use Rattle.kernel_heap.proofs.Alone.{heap_alone, no_users}
+use Rattle.kernel_heap.proofs.HeapRegions.{heap_of_all}
 use Rattle.kernel_heap.proofs.Full.{no_room}
 use Rattle.kernel_heap.proofs.Pages.{pages_some, asked_some}
 use Rattle.kernel_heap.proofs.Places.{range_within}
@@ -51,6 +51,9 @@ changed_refused s (CRealloc number size) refusal = refl
 changed_refused s (Free number) refusal = refl
 changed_refused s (Write number offset bytes) refusal = refl
 changed_refused s (Read number offset count) refusal = refl
+changed_refused s (Map start pages rights) refusal = refl
+changed_refused s (Unmap start pages) refusal = refl
+changed_refused s (Probe at access user) refusal = refl
 changed_refused s Extents refusal = refl
 
 -- the refusal that must come
@@ -117,11 +120,8 @@ module _ (system : PagedSystem) (m : Seen) (same : m.paged ≡ paged system) (s 
   regions_same : (paged system).regions ≡ all_regions s
   regions_same = sym (ap (λ p. p.regions) same) ∙ stands.regions
 
-  pub regions_are : s.heap ≡ (paged system).regions
-  regions_are = heap_alone s (paged system).base (regions_end (paged system)) (paged system).regions good regions_same system.kept.consecutive
-
-  pub alone : s.users ≡ []
-  alone = no_users s (paged system).base (regions_end (paged system)) (paged system).regions good regions_same system.kept.consecutive
+  pub regions_are : s.heap ≡ heap_regions (paged system).regions
+  regions_are = sym (ap heap_regions regions_same ∙ heap_of_all s good)
 
   -- what is said of a place in the machine's window among its regions, holds in the state's
   placed : (P : ℕ → ℕ → List Region → Type 0) → P (paged system).base (paged system).pages (paged system).regions → P s.base s.pages (all_regions s)

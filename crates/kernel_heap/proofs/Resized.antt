@@ -34,6 +34,7 @@ use Rattle.heap_model.proofs.Known.{known_within}
 use Rattle.heap_model.proofs.Placed.{outline_of, outline_at}
 use Rattle.heap_model.proofs.Resized.{length-resized, outline_changed, good_resized, holds_resized}
 use Rattle.kernel_heap.specs.System.{paged}
+use Rattle.kernel_heap.specs.Words.{heap_regions}
 use Rattle.mapped_regions.specs.Mapped.{word_reached}
 use Rattle.kernel_heap.specs.Heap.{regions, word, follows, refuses, denies, heap_state}
 use Rattle.kernel_heap.specs.Machine.{seen_of, live_at, IsLaidOut, IsRefusalOf, resizing, align_kept, IsResizedTo, HeapMoves}
@@ -45,7 +46,7 @@ use Rattle.kernel_heap.proofs.Found.{step_found}
 use Rattle.kernel_heap.proofs.Full.{behind}
 use Rattle.kernel_heap.proofs.Laid.{next_live, block_place, block_there, live_stays, live_beside}
 use Rattle.kernel_heap.proofs.Refused.{refused_with, step_refused, step_denied, wanted_asked, large_resizing, not_refused_resizing}
-use Rattle.kernel_heap.proofs.Still.{granted_same}
+use Rattle.kernel_heap.proofs.Still.{granted_within}
 
 -- an extent that is found elsewhere is found among the others
 other_there : (at : ℕ) (extent : Extent) (extents : List Extent) → extent.at ≢ at → extent_at extent.at extents ≡ Some extent → extent_at extent.at (others_at at extents) ≡ Some extent
@@ -180,14 +181,14 @@ module _ (heap new : Dlmalloc PagedSystem) (blocks : List (Option Live)) (number
       aligned_before true = ap (λ (l : Live). l.address % l.align) (sym old.2) ∙ (good.each number block old.1).aligned
       aligned_before false = ap (λ a. a % 16) (sym block_address) ∙ (good.each number block old.1).aligned_16
 
-  good_blocks : (list : List Region) (tables : List Prefix) → list ≡ (paged new.system).regions → IsGood (record s { heap = list; tables = tables }) → IsGood (record s { heap = list; tables = tables; blocks = after_it })
+  good_blocks : (list : List Region) (tables : List Prefix) → list ≡ heap_regions (paged new.system).regions → IsGood (record s { heap = list; tables = tables }) → IsGood (record s { heap = list; tables = tables; blocks = after_it })
   good_blocks list tables same good' = good_resized (record s { heap = list; tables = tables }) number change block good' old.1
       (record {
         aligned = ap (λ a. address % a) align_same ∙ multiple;
         aligned_16 = out.aligned;
         cells = length-resized size block.cells;
         granted = λ k less. ap (list_any (is_within (address + k))) same
-            ∙ (sym (granted_same (paged new.system).regions (address + k)) ∙ out.granted (address + k) (omega arith) (omega arith));
+            ∙ granted_within (paged new.system) (address + k) (out.granted (address + k) (omega arith) (omega arith));
       })
       (λ i it differ at.
       let there = live_of i it at in
@@ -203,7 +204,7 @@ module _ (heap new : Dlmalloc PagedSystem) (blocks : List (Option Live)) (number
 
   pub step_resized : IsPowerOfTwo align → (answered : Option (List Region)) →
       (length (paged new.system).regions ≡ length (paged heap.system).regions → answered ≡ None) →
-      (length (paged new.system).regions ≢ length (paged heap.system).regions → answered ≡ Some (paged new.system).regions) →
+      (length (paged new.system).regions ≢ length (paged heap.system).regions → answered ≡ Some (heap_regions (paged new.system).regions)) →
       IsStep s (resizing keeps number size) (record { reply = Placed number address; regions = answered }) (seen_of new blocks')
   step_resized is_power answered same more =
       let power : is_power_of_two align ≡ true = test_of_power align is_power in

@@ -1,47 +1,28 @@
 -- What a paged system keeps, beside what its state says.
-use Rattle.std.specs.Prelude.{◌≡◌, ℕ, ◌+◌, ◌*◌, ◌/◌, ◌^◌, ◌<◌, ◌≤◌, List, [], ◌∷◌, None, IsSome}
+use Rattle.std.specs.Prelude.{◌≡◌, ℕ, ◌+◌, ◌*◌, ◌/◌, ◌^◌, ◌<◌, ◌≤◌, List, [], ◌∷◌, None}
 use Rattle.paging_core.specs.Memory.{frame_count}
-use Rattle.paging_core.specs.Pool.{FreeBelow, free_count}
+use Rattle.paging_core.specs.Pool.{free_count}
 use Rattle.paging_core.specs.Walk.{reach, walk_of}
-use Rattle.paging_core.specs.Tree.{IsTree}
 use Rattle.paging_core.specs.Missing.{missing_of}
 use Rattle.heap_memory.specs.declared.grant.Grant.{Grant}
 use Rattle.heap_memory.specs.declared.grant.GrantFault.{GrantFault}
 use Rattle.heap_memory.specs.declared.grant.GrantFault.TheVariants.{NoSpace, NoFrames, OutOfMemory}
 use Rattle.heap_model.specs.declared.region.Region.{Region}
 use Rattle.heap_model.specs.Request.{pages_in}
-use Rattle.heap_model.specs.State.{total_pages}
+use Rattle.heap_model.specs.State.{end_of}
 use Rattle.heap_model.specs.Place.{with_region, IsPlace, HasNoPlace}
 use Rattle.heap_model.specs.Room.{heap_region}
 use Rattle.heap_model.specs.Machine.{Paged, IsPagedGrant}
+use Rattle.region_tree.specs.Regions.{AreLaid}
+use Rattle.mapped_regions.specs.Mapped.{IsMapped, IsMapped-prop}
 use Rattle.std.proofs.Props.{props}
 use Rattle.kernel_heap.specs.Config.{IsGoodWindow}
 
--- regions of the heap one after the other, from one address to another
-abbrev pub AreConsecutive : ℕ → List Region → ℕ → Type 0
-AreConsecutive from [] to = from ≡ to
-AreConsecutive from (region ∷ rest) to = (region ≡ heap_region from region.pages) × (0 < region.pages) × AreConsecutive (from + 4096 * region.pages) rest to
-
--- the address after the last region, and the address after the window
-abbrev pub regions_end : Paged → ℕ
-regions_end p = p.base + 4096 * total_pages p.regions
-
-abbrev pub window_end : Paged → ℕ
-window_end p = p.base + 4096 * p.pages
-
--- The tables form a tree, the regions follow each other from the start of the window, and of the window their pages
--- are mapped, and none behind them.
+-- The window is good; the walk finds the pages of the regions, and no others; and the regions lie by ascending address.
 pub record IsKept (p : Paged) : Type 0 where
   pub window : IsGoodWindow p.base p.pages
-  pub tree : IsTree p.words p.root p.free
-  pub flags : FreeBelow p.free (frame_count p.words)
-  pub root_in : p.root < frame_count p.words
-  pub few_frames : frame_count p.words < 2 ^ 32
-  pub held : p.tables + free_count p.free ≤ frame_count p.words
-  pub consecutive : AreConsecutive p.base p.regions (regions_end p)
-  pub inside : regions_end p ≤ window_end p
-  pub mapped : (page : ℕ) → p.base ≤ 4096 * page → 4096 * page < regions_end p → IsSome (walk_of p.words p.root page)
-  pub unmapped : (page : ℕ) → regions_end p ≤ 4096 * page → 4096 * page < window_end p → walk_of p.words p.root page ≡ None
+  pub mapped : IsMapped p
+  pub laid : AreLaid 0 p.regions (2 ^ 64)
 
 -- The system is new: nothing is mapped, and all frames but that of the root are free.
 pub record IsNew (p : Paged) (base pages frames : ℕ) : Type 0 where
@@ -82,9 +63,9 @@ pub record IsGrantedFor (old new : Paged) (asked : ℕ) (grant : Grant) : Type 0
 
 -- ---- a system keeps this in one way
 
-AreConsecutive-prop : (from : ℕ) (list : List Region) (to : ℕ) → IsProp (AreConsecutive from list to)
-AreConsecutive-prop from [] to = hlevel props
-AreConsecutive-prop from (region ∷ rest) to = hlevel (props, AreConsecutive-prop (from + 4096 * region.pages) rest to)
+AreLaid-prop : (from : ℕ) (list : List Region) (to : ℕ) → IsProp (AreLaid from list to)
+AreLaid-prop from [] to = hlevel props
+AreLaid-prop from (region ∷ rest) to = hlevel (props, AreLaid-prop (end_of region) rest to)
 
 pub IsKept-prop : (p : Paged) → IsProp (IsKept p)
-IsKept-prop p = hlevel (props, AreConsecutive-prop p.base p.regions (regions_end p))
+IsKept-prop p = hlevel (props, IsMapped-prop p, AreLaid-prop 0 p.regions (2 ^ 64))

@@ -2,6 +2,7 @@ pub mod Config
 pub mod Layout
 pub mod System
 pub mod Words
+pub mod Beside
 pub mod Follows
 pub mod Ordered
 pub mod Heap

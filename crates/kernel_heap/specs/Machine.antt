@@ -1,10 +1,12 @@
 -- What contracts see of a machine, which is a numbered heap, and how it lays out its blocks.
-use Rattle.std.specs.Prelude.{◌≡◌, ◌≢◌, ℕ, ◌+◌, ◌-◌, ◌%◌, ◌<◌, ◌≤◌, ◌⊎◌, Bool, true, false, List, [], ◌∷◌, map, slice_index_or, Option, Some, None, MatchOption, nat_lt, if◌then◌else◌}
+use Rattle.std.specs.Prelude.{◌≡◌, ◌≢◌, ℕ, ⊤, ◌+◌, ◌-◌, ◌%◌, ◌<◌, ◌≤◌, ◌⊎◌, Bool, true, false, List, [], ◌∷◌, map, slice_index_or, Option, Some, None, MatchOption, ◌&&◌, nat_lt, nat_le, if◌then◌else◌, IsTrue}
 use Rattle.std.specs.Int.{IsPowerOfTwo}
+use Rattle.std.specs.List.{list_any, AllByRecursion}
+use Rattle.paging_core.specs.Walk.{reached}
 use Rattle.dlmalloc_chunks.specs.declared.extent.Extent.{Extent}
 use Rattle.dlmalloc_chunks.specs.declared.extent.Kind.TheVariants.{Used}
 use Rattle.dlmalloc.specs.Extents.{extent_at}
-use Rattle.dlmalloc.specs.State.{HeapState, Segment, extents_in, shown}
+use Rattle.dlmalloc.specs.State.{HeapState, Segment, extents_in, extents_by_address, shown}
 use Rattle.dlmalloc_chunks.specs.Request.{padded, enlarged}
 use Rattle.dlmalloc.specs.Blocks.{IsBlock}
 use Rattle.dlmalloc.specs.Freed.{freed}
@@ -14,17 +16,21 @@ use Rattle.dlmalloc.specs.Served.{IsCut}
 use Rattle.dlmalloc.specs.declared.heap.Dlmalloc.{Dlmalloc}
 use Rattle.dlmalloc.specs.declared.malloc_error.MallocError.{MallocError}
 use Rattle.dlmalloc.specs.declared.malloc_error.MallocError.TheVariants.{TooLarge, System}
+use Rattle.heap_memory.specs.declared.grant.Grant.{Grant}
 use Rattle.heap_memory.specs.declared.grant.GrantFault.TheVariants.{NoSpace, NoFrames, OutOfMemory}
 use Rattle.heap_model.specs.declared.live.Live.{Live}
 use Rattle.heap_model.specs.declared.call.Call.{Call}
-use Rattle.heap_model.specs.declared.call.Call.TheVariants.{Malloc, Calloc, Realloc, CRealloc, Free, Extents}
+use Rattle.heap_model.specs.declared.call.Call.TheVariants.{Malloc, Calloc, Realloc, CRealloc, Free, Probe, Extents}
 use Rattle.heap_model.specs.declared.answer.Answer.{Answer}
 use Rattle.heap_model.specs.declared.answer.Reply.{Reply}
-use Rattle.heap_model.specs.declared.answer.Reply.TheVariants.{Block as Placed, Done, Extents as Listed, Refused}
+use Rattle.heap_model.specs.declared.answer.Reply.TheVariants.{Block as Placed, Done, Byte, Extents as Listed, Refused}
 use Rattle.heap_model.specs.declared.answer.Refusal.{Refusal}
-use Rattle.heap_model.specs.declared.answer.Refusal.TheVariants.{TooLarge as IsTooLarge, NoSpace as HasNoSpace, NoFrames as HasNoFrames, UnknownBlock, OutOfBlock}
-use Rattle.heap_model.specs.Machine.{Paged, Seen}
-use Rattle.kernel_heap.specs.Layout.{regions_end}
+use Rattle.heap_model.specs.declared.answer.Refusal.TheVariants.{TooLarge as IsTooLarge, NoSpace as HasNoSpace, NoFrames as HasNoFrames, UnknownBlock, OutOfBlock, BadRange, HeapRegion, Overlap, UnknownRegion}
+use Rattle.heap_model.specs.Machine.{Seen}
+use Rattle.mapped_regions.specs.declared.map_fault.MapFault.{MapFault}
+use Rattle.mapped_regions.specs.declared.map_fault.MapFault.TheVariants as Mapping
+use Rattle.mapped_regions.specs.declared.map_fault.UnmapFault.{UnmapFault}
+use Rattle.mapped_regions.specs.declared.map_fault.UnmapFault.TheVariants as Unmapping
 use Rattle.kernel_heap.specs.System.{paged}
 use Rattle.kernel_heap.specs.Heap.{regions, follows, heap_state, IsHeap}
 use Rattle.kernel_heap.specs.declared.paged_system.PagedSystem.{PagedSystem}
@@ -61,11 +67,13 @@ pub record HasBytes (blocks : List (Option Live)) (number offset count address :
   pub within : offset + count ≤ live.size
   pub place : address ≡ live.address + offset
 
--- the one segment of the heap has the bytes of the regions
-abbrev pub Spans : List Segment → Paged → Type 0
-Spans [] p = p.regions ≡ []
-Spans (segment ∷ []) p = (segment.base ≡ p.base) × (segment.base + segment.size ≡ regions_end p)
-Spans (first ∷ second ∷ segments) p = ⊥
+-- whether a segment has all bytes of a region
+abbrev pub has_region : Grant → Segment → Bool
+has_region region segment = nat_le segment.base region.base && nat_le (region.base + region.size) (segment.base + segment.size)
+
+-- each region lies in one of the segments
+abbrev pub HaveRegions : List Segment → List Grant → Type 0
+HaveRegions segments regions = AllByRecursion (λ region. IsTrue (list_any (has_region region) segments)) regions
 
 -- a live block is one of the heap's, at an alignment
 pub record IsLive (heap : HeapState) (live : Live) : Type 0 where
@@ -79,11 +87,10 @@ pub record HasLive (blocks : List (Option Live)) (extent : Extent) : Type 0 wher
   pub is : live_at blocks number ≡ Some live
   pub place : live.address ≡ extent.at + 16
 
--- The heap is sound and has the bytes of the regions, and its extents in use and the live blocks correspond to one
--- another.
+-- The heap is sound and has all of the regions, and its extents in use and the live blocks correspond to one another.
 pub record IsLaidOut (heap : Dlmalloc PagedSystem) (blocks : List (Option Live)) : Type 0 where
   pub heap_sound : IsHeap heap
-  pub spans : Spans (heap_state heap).segments (paged heap.system)
+  pub has : HaveRegions (heap_state heap).segments (regions heap.system)
   pub lives : (number : ℕ) (live : Live) → live_at blocks number ≡ Some live → IsLive (heap_state heap) live
   pub used : (extent : Extent) → extent.kind ≡ Used → extent_at extent.at (extents_in (heap_state heap)) ≡ Some extent → HasLive blocks extent
   pub distinct : (i j : ℕ) (a b : Live) → live_at blocks i ≡ Some a → live_at blocks j ≡ Some b → i ≢ j → a.address ≢ b.address
@@ -116,9 +123,27 @@ refusal_of (System NoSpace) = Some HasNoSpace
 refusal_of (System NoFrames) = Some HasNoFrames
 refusal_of (System OutOfMemory) = None
 
--- an answer is the refusal that the heap gave
+-- an answer is a refusal
+abbrev pub IsRefusal : Option Refusal → Answer → Type 0
+IsRefusal why answer = (refusal : Refusal) × (why ≡ Some refusal) × (answer ≡ record { reply = Refused refusal; regions = None })
+
+-- it is the one that the heap gave
 abbrev pub IsRefusalOf : MallocError → Answer → Type 0
-IsRefusalOf error answer = (refusal : Refusal) × (refusal_of error ≡ Some refusal) × (answer ≡ record { reply = Refused refusal; regions = None })
+IsRefusalOf error answer = IsRefusal (refusal_of error) answer
+
+-- the refusal of a map that is not made; want of memory is none
+abbrev pub map_refusal : MapFault → Option Refusal
+map_refusal Mapping.BadRange = Some BadRange
+map_refusal Mapping.HeapRegion = Some HeapRegion
+map_refusal Mapping.Overlap = Some Overlap
+map_refusal Mapping.NoFrames = Some HasNoFrames
+map_refusal Mapping.OutOfMemory = None
+
+-- the refusal of an unmap that is not made
+abbrev pub unmap_refusal : UnmapFault → Refusal
+unmap_refusal Unmapping.BadRange = BadRange
+unmap_refusal Unmapping.HeapRegion = HeapRegion
+unmap_refusal Unmapping.UnknownRegion = UnknownRegion
 
 -- the call that asks for a block, of value 0 or not
 abbrev pub request : Bool → ℕ → ℕ → Call
@@ -143,6 +168,11 @@ IsResizedTo system old from size align address system' new =
     ⊎ ((align ≤ 16 → in_place old (from - 16) (padded size) ≡ None)
     × ((middle : PagedSystem) × (heap : HeapState) × IsCutAt system old size align address middle heap × follows middle [] system' × (new ≡ freed heap (from - 16))))
 
+-- a byte that a probe shows is the one that the walk reaches
+abbrev pub IsReachedByte : Seen → Call → Reply → Type 0
+IsReachedByte m (Probe at access user) (Byte byte) = reached m.paged.words m.paged.root at ≡ Some byte
+IsReachedByte m call reply = ⊤
+
 -- How the state of the heap moves in a step: a block is cut, and may be cleared then, a block gets another size or is
 -- freed, and nothing else changes it. The extents that are listed are the heap's.
 abbrev pub HeapMoves : NumberedHeap → Call → Reply → NumberedHeap → Type 0
@@ -153,5 +183,5 @@ HeapMoves old (Realloc number size) (Placed given address) new =
 HeapMoves old (CRealloc number size) (Placed given address) new =
     MatchOption (live_at old.blocks.items number) ⊥ (λ live. IsResizedTo (system_of old) (heap_of old) live.address size 16 address (system_of new) (heap_of new))
 HeapMoves old (Free number) Done new = MatchOption (live_at old.blocks.items number) ⊥ (λ live. heap_of new ≡ freed (heap_of old) (live.address - 16))
-HeapMoves old Extents (Listed list) new = (heap_of new ≡ heap_of old) × (list ≡ map (shown (heap_of old)) (extents_in (heap_of old)))
+HeapMoves old Extents (Listed list) new = (heap_of new ≡ heap_of old) × (list ≡ map (shown (heap_of old)) (extents_by_address (heap_of old)))
 HeapMoves old call reply new = heap_of new ≡ heap_of old

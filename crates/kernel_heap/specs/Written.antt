@@ -1,16 +1,16 @@
--- Bytes of the regions of a paged system.
-use Rattle.std.specs.Prelude.{◌≡◌, ℕ, ◌+◌, ◌<◌, ◌≤◌, ◌⊎◌, List, length, slice_index, Some}
+-- Bytes and words of the regions of a paged system.
+use Rattle.std.specs.Prelude.{◌≡◌, ℕ, ◌+◌, ◌*◌, ◌/◌, ◌%◌, ◌<◌, ◌≤◌, ◌⊎◌, List, length, slice_index, Some, IsTrue}
 use Rattle.paging_core.specs.Walk.{reached}
-use Rattle.heap_memory.specs.Regions.{IsWordOf}
+use Rattle.heap_memory.specs.declared.grant.Grant.{Grant}
+use Rattle.heap_memory.specs.Regions.{is_granted, IsWordOf}
+use Rattle.heap_memory.specs.Words.{AreWordsOf, IsBeside}
 use Rattle.heap_model.specs.Machine.{Paged, IsStill}
-use Rattle.kernel_heap.specs.Layout.{regions_end}
 use Rattle.kernel_heap.specs.Words.{grants_of}
 use Rattle.mapped_regions.specs.Mapped.{word_reached}
 
--- so many bytes from an address lie in the regions
-pub record AreInside (p : Paged) (address count : ℕ) : Type 0 where
-  pub from : p.base ≤ address
-  pub before : address + count ≤ regions_end p
+-- so many bytes from an address lie in regions of the heap
+abbrev pub AreInside : Paged → ℕ → ℕ → Type 0
+AreInside p address count = (k : ℕ) → address ≤ k → k < address + count → IsTrue (is_granted (grants_of p) k)
 
 -- the first so many of these bytes were put at an address, and every other byte of the regions stays, and every word
 -- that has none of them
@@ -24,3 +24,18 @@ pub record IsWritten (old new : Paged) (address : ℕ) (bytes : List ℕ) (count
 pub record AreRead (p : Paged) (address count : ℕ) (bytes : List ℕ) : Type 0 where
   pub many : length bytes ≡ count
   pub each : (k : ℕ) → k < count → reached p.words p.root (address + k) ≡ Some (slice_index bytes k)
+
+-- the granted words are as they were, but for these, which were put from a place on
+pub record ArePut (regions : List Grant) (old : ℕ → ℕ) (at : ℕ) (words : List ℕ) (new : ℕ → ℕ) : Type 0 where
+  pub here : (k : ℕ) → k < length words → new (at + 8 * k) ≡ slice_index words k
+  pub elsewhere : (other : ℕ) → IsWordOf regions other → IsBeside at (length words) other → new other ≡ old other
+
+-- these words are the ones from a place on
+abbrev pub AreLoaded : (ℕ → ℕ) → ℕ → List ℕ → Type 0
+AreLoaded word at words = (k : ℕ) → k < length words → slice_index words k ≡ word (at + 8 * k)
+
+-- so many words of the regions stand from an address on, at least one, and all in one page
+pub record AreInPage (p : Paged) (at count : ℕ) : Type 0 where
+  pub words : AreWordsOf (grants_of p) at count
+  pub some : 0 < count
+  pub page : at % 4096 / 8 + count ≤ 512

@@ -10,14 +10,22 @@ mod paged_allocator;
 mod paged_bytes;
 mod paged_memory;
 mod paged_system;
+mod paged_words;
+mod probing;
 mod run_error;
 mod runs;
+mod user_calls;
+mod user_regions;
 
 pub use heap_model::{
-    Answer, AnswerList, Bytes, Call, CallList, Config, Extent, ExtentList, Kind, PublicList,
-    Refusal, Region, RegionList, Reply, Rights,
+    Access, Answer, AnswerList, Bytes, Call, CallList, Config, Extent, ExtentList, Kind,
+    PageFaultErrorCode, PublicList, Refusal, Region, RegionList, Reply, Rights,
 };
 pub use machine::Machine;
+pub use mapped_regions::{MapFault, UnmapFault};
 pub use paged_system::PagedSystem;
 pub use run_error::RunError;
 pub use runs::{Run, run_calls};
+
+#[cfg(test)]
+mod tests;

@@ -1,5 +1,6 @@
 // The machine: a numbered heap over a paged system, which is always sound.
-ghost use Rattle.std.specs.Prelude.{◌≡◌, ℕ, IfOk, IfErr, IsOk, OnOk, OnErr, List};
+ghost use Rattle.std.specs.Prelude.{◌≡◌, ℕ, IfOk, IfErr, IsOk, OnOk, OnErr, List, Bool};
+ghost use Rattle.heap_model.specs.declared.call.Access.{Access};
 ghost use Rattle.dlmalloc.specs.State.{new_heap, countdown_from};
 ghost use Rattle.heap_model.specs.State.{State, start};
 ghost use Rattle.heap_model.specs.Run.{IsGood};
@@ -38,7 +39,7 @@ impl Model for Machine {
 }
 
 impl Machine {
-    ghost use Rattle.kernel_heap.specs.Machine.{seen, system_of, heap_of, HeapMoves};
+    ghost use Rattle.kernel_heap.specs.Machine.{seen, system_of, heap_of, HeapMoves, IsReachedByte};
 
     /// A machine with the configuration's window, granularity and frames. A configuration from which none can be
     /// made is refused before any memory is taken.
@@ -72,15 +73,19 @@ impl Machine {
     }
 
     /// Serves a call. The answer is allowed in each good state for which the machine stands, and afterwards the
-    /// machine stands for the state that the answer leaves. An `Err` leaves the machine as it was. A write and a free
-    /// take no memory, and are always answered.
+    /// machine stands for the state that the answer leaves. An `Err` leaves the machine as it was. A write, a free, an
+    /// unmap and a probe take no memory, and are always answered.
     pub fn step(&mut self, call: &Call) -> Result<Answer, AllocError>
         ensures ok { (s : State) → IsGood s → Stands (seen self.old) s → IfOk result (λ answer. IsStep s call.now answer (seen self.new)) }
         ensures err { OnErr result (seen self.new ≡ seen self.old) }
         ensures heap { IfOk result (λ answer. HeapMoves self.old call.now answer.reply self.new) }
         ensures heap_err { OnErr result (heap_of self.new ≡ heap_of self.old) }
+        // A byte that a probe shows is the one that the walk reaches.
+        ensures reached { IfOk result (λ answer. IsReachedByte (seen self.new) call.now answer.reply) }
         ensures free { (number : ℕ) → call.now ≡ Call.Free number → IsOk result }
         ensures write { (number offset : ℕ) (bytes : List ℕ) → call.now ≡ Call.Write number offset bytes → IsOk result }
+        ensures unmap { (start pages : ℕ) → call.now ≡ Call.Unmap start pages → IsOk result }
+        ensures probe { (at : ℕ) (access : Access) (user : Bool) → call.now ≡ Call.Probe at access user → IsOk result }
     {
         match call {
             Call::Malloc { size, align } => self.heap.hand_out(*size, *align, false),
@@ -98,6 +103,13 @@ impl Machine {
                 offset,
                 length,
             } => self.heap.read(*block, *offset, *length),
+            Call::Map {
+                start,
+                pages,
+                rights,
+            } => self.heap.map(*start, *pages, *rights),
+            Call::Unmap { start, pages } => Ok(self.heap.unmap(*start, *pages)),
+            Call::Probe { at, access, user } => Ok(self.heap.probe(*at, *access, *user)),
             Call::Extents => self.heap.extents(),
         }
     }

@@ -58,6 +58,7 @@ pub(crate) struct NumberedHeap {
 }
 
 impl NumberedHeap {
+    ghost use Rattle.kernel_heap.specs.Words.{heap_regions};
     ghost use Rattle.kernel_heap.specs.Machine.{seen, heap_of, live_at, request, resizing, HeapMoves, IsSound};
 
     /// Hands out a block of `size` bytes at a multiple of `align`, of value 0 where that is asked for. The answer and the
@@ -162,12 +163,12 @@ impl NumberedHeap {
         Reply::Block { number, address }
     }
 
-    /// The regions, where there are more than so many. The list has its places.
+    /// The regions of the heap, where there are more or fewer regions than so many. The list has its places.
     fn changed_regions(&mut self, count: usize) -> Option<RegionList>
         requires empty { self.old.list.items ≡ [] }
         requires places { length (seen self.old).paged.regions ≤ vec_capacity self.old.list }
         ensures same { length (seen self.old).paged.regions ≡ count → result ≡ None }
-        ensures more { length (seen self.old).paged.regions ≢ count → result ≡ Some (seen self.old).paged.regions }
+        ensures more { length (seen self.old).paged.regions ≢ count → result ≡ Some (heap_regions (seen self.old).paged.regions) }
         ensures blocks { self.new.blocks ≡ self.old.blocks }
         ensures heap { self.new.heap ≡ self.old.heap }
     {
@@ -175,7 +176,7 @@ impl NumberedHeap {
             return None;
         }
         let list = std::mem::replace(&mut self.list, Vec::new(self.alloc));
-        Some(self.heap.allocator().list_regions(list))
+        Some(self.heap.allocator().list_of_heap(list))
     }
 
     /// Ends a block. It takes no memory.

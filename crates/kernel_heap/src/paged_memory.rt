@@ -1,8 +1,9 @@
 // The paged system as a memory: each load and store walks the raw tables.
-ghost use Rattle.std.specs.Prelude.{◌≡◌, ℕ, ◌+◌, ◌%◌, [], List};
+ghost use Rattle.std.specs.Prelude.{◌≡◌, ℕ, ◌+◌, ◌*◌, ◌%◌, ◌≤◌, ◌⊎◌, [], List};
 ghost use Rattle.kernel_heap.specs.System.{paged};
 
 use crate::paged_system::PagedSystem;
+use crate::paged_words::count_steps;
 use heap_memory::{Links, Memory};
 use std::sync::ledger::Ledger;
 use step_count::Steps;
@@ -33,6 +34,16 @@ impl Links for PagedSystem {
     fn store_counted<L: Ledger>(&mut self, at: u64, value: u64, steps: &mut Steps<L>) {
         self.set_word(at, value);
         steps.tick()
+    }
+
+    fn fill_counted<L: Ledger>(&mut self, at: u64, count: u64, value: u64, steps: &mut Steps<L>) {
+        self.fill_words(at, count, value);
+        count_steps(steps, count)
+    }
+
+    fn copy_counted<L: Ledger>(&mut self, from: u64, to: u64, count: u64, steps: &mut Steps<L>) {
+        self.copy_words(from, to, count);
+        count_steps(steps, 2 * count)
     }
 }
 

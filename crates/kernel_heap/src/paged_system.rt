@@ -1,6 +1,10 @@
-// The paged system: regions of the heap that are mapped one behind the other.
-ghost use Rattle.std.specs.Prelude.{◌≡◌, ℕ, ◌+◌, ◌*◌, ◌/◌, ◌^◌, ◌<◌, ◌≤◌, ◌%◌, ◌≢◌, IfOk, IfErr, OnOk, OnErr, length, vec_capacity, []};
+// The paged system: regions of the heap in a window, and regions of the user anywhere.
+ghost use Rattle.std.specs.Prelude.{◌≡◌, ℕ, ◌+◌, ◌*◌, ◌/◌, ◌^◌, ◌<◌, ◌≤◌, ◌%◌, ◌≢◌, IsTrue, IsSome, Some, option_map, IfOk, IfErr, OnOk, OnErr, length, vec_capacity, []};
+ghost use Rattle.paging_core.specs.Address.{is_canonical};
 ghost use Rattle.paging_core.specs.Pool.{free_count};
+ghost use Rattle.paging_core.specs.Walk.{walk_of, reached};
+ghost use Rattle.region_tree.specs.Regions.{kind_at};
+ghost use Rattle.heap_model.specs.Machine.{rights_of};
 ghost use Rattle.heap_model.specs.Room.{heap_region as granted_region, heap_rights as granted_rights};
 ghost use Rattle.kernel_heap.specs.Config.{IsGoodWindow};
 ghost use Rattle.heap_memory.specs.declared.grant.GrantFault.TheVariants.{OutOfMemory};
@@ -45,21 +49,22 @@ fn heap_region(start: u64, pages: u64) -> Region
     }
 }
 
-/// Mapped regions of the heap, one behind the other from the start of the window on.
+/// Mapped regions: of the heap in a window, and of the user anywhere.
 #[derive(Drop)]
 pub struct PagedSystem {
-    regions: MappedRegions,
+    pub(crate) regions: MappedRegions,
     ghost kept: { IsKept (shown regions) } by { IsKept-prop (shown regions) },
 }
 
 impl PagedSystem {
     ghost use Rattle.kernel_heap.specs.Layout.{IsNew, CanGrant, Lacks, IsGranted, IsGrantedFor};
     ghost use Rattle.kernel_heap.specs.System.{paged};
-    ghost use Rattle.kernel_heap.specs.Words.{grants_of};
+    ghost use Rattle.kernel_heap.specs.Words.{heap_regions, grants_of};
     ghost use Rattle.mapped_regions.specs.Mapped.{word_reached};
     ghost use Rattle.heap_memory.specs.Regions.{IsWordOf};
     ghost use Rattle.heap_memory.specs.Words.{IsStored};
     ghost use Rattle.heap_model.specs.Machine.{IsStill};
+    ghost use Rattle.kernel_heap.specs.Written.{AreInPage, AreLoaded, ArePut};
 
     /// A system with a window of `pages` pages from the address `base` on, and with `frames` frames, of which one
     /// holds the root table. Nothing is mapped.
@@ -115,13 +120,13 @@ impl PagedSystem {
         self.regions.count()
     }
 
-    /// Puts the regions into a list that has places for them.
-    pub(crate) fn list_regions(&self, list: Vec<Region>) -> RegionList
+    /// Puts the regions of the heap into a list that has places for all regions.
+    pub(crate) fn list_of_heap(&self, list: Vec<Region>) -> RegionList
         requires empty { list.items ≡ [] }
         requires places { length (paged self.now).regions ≤ vec_capacity list }
-        ensures { result ≡ (paged self.now).regions }
+        ensures { result ≡ heap_regions (paged self.now).regions }
     {
-        self.regions.list(list)
+        self.regions.list_of_heap(list)
     }
 
     /// The place of so many pages, where they have one and can be granted there.
@@ -167,6 +172,24 @@ impl PagedSystem {
         }
     }
 
+    /// What may be done at an address: the rights of its page, where it is mapped, by a walk.
+    pub(crate) fn rights_at(&self, address: u64) -> Option<Rights>
+        requires { IsTrue (is_canonical address) }
+        ensures region { result ≡ option_map (λ kind. kind.1) (kind_at (paged self.now).regions address) }
+        ensures walk { result ≡ option_map rights_of (walk_of (paged self.now).words (paged self.now).root (address / 4096)) }
+    {
+        self.regions.rights_at(address)
+    }
+
+    /// The byte at an address that a region has, by a walk.
+    pub(crate) fn byte(&self, address: u64) -> u8
+        requires canonical { IsTrue (is_canonical address) }
+        requires there { IsSome (kind_at (paged self.now).regions address) }
+        ensures { reached (paged self.now).words (paged self.now).root address ≡ Some result }
+    {
+        self.regions.byte(address)
+    }
+
     /// The word at a multiple of 8 in the regions, by a walk.
     pub(crate) fn word(&self, at: u64) -> u64
         requires { IsWordOf (grants_of (paged self.now)) at }
@@ -182,5 +205,23 @@ impl PagedSystem {
         ensures stored { IsStored (grants_of (paged self.old)) (word_reached (paged self.old)) at value (word_reached (paged self.new)) }
     {
         self.regions.set_word(at, value);
+    }
+
+    /// Reads words of one page of the regions, by one walk.
+    pub(crate) fn words(&self, at: u64, words: &mut [u64])
+        requires { AreInPage (paged self.now) at (length words.old) }
+        ensures loaded { AreLoaded (word_reached (paged self.now)) at words.new }
+        ensures length { length words.new ≡ length words.old }
+    {
+        self.regions.words(at, words);
+    }
+
+    /// Puts words into one page of the regions, by one walk, and changes nothing else.
+    pub(crate) fn set_words(&mut self, at: u64, words: &[u64])
+        requires { AreInPage (paged self.old) at (length words.now) }
+        ensures still { IsStill (paged self.old) (paged self.new) }
+        ensures put { ArePut (grants_of (paged self.old)) (word_reached (paged self.old)) at words.now (word_reached (paged self.new)) }
+    {
+        self.regions.set_words(at, words);
     }
 }

@@ -7,6 +7,7 @@ use Rattle.dlmalloc.specs.Requested.{asked}
 use Rattle.heap_model.specs.declared.answer.Reply.TheVariants.{Block as Placed}
 use Rattle.heap_model.specs.Machine.{IsStep}
 use Rattle.kernel_heap.specs.System.{paged}
+use Rattle.kernel_heap.specs.Words.{heap_regions}
 use Rattle.kernel_heap.specs.Heap.{heap_state}
 use Rattle.kernel_heap.specs.Machine.{seen, request, IsCutFor, HeapMoves}
 use Rattle.kernel_heap.specs.declared.numbered_heap.NumberedHeap.{NumberedHeap}
@@ -49,7 +50,7 @@ returns-in-Ok-clause-ok c = λ s good stands.
     power c.changed_regions.result
     (λ same. c.changed_regions.ensures.same (ap (λ heap. length (paged heap.system).regions) c.add_block.ensures.heap ∙ (same ∙ sym count)))
     (λ other. c.changed_regions.ensures.more (λ e. other (sym (ap (λ heap. length (paged heap.system).regions) c.add_block.ensures.heap) ∙ (e ∙ count)))
-    ∙ ap (λ heap. Some (paged heap.system).regions) c.add_block.ensures.heap)
+    ∙ ap (λ heap. Some (heap_regions (paged heap.system).regions)) c.add_block.ensures.heap)
     c.args.cleared (λ asked. c.in-Ok.ensures.zeros asked))
 
 pub returns-in-Ok-clause-heap : goal.returns-in-Ok-clause-heap

@@ -8,7 +8,7 @@ use Rattle.kernel_heap.specs.Layout.{IsKept, IsGrantedFor}
 use Rattle.kernel_heap.specs.System.{paged}
 use Rattle.kernel_heap.specs.Words.{grants_of}
 use Rattle.mapped_regions.specs.Mapped.{word_reached}
-use Rattle.kernel_heap.proofs.Allocated.{good, apart, next, regions, zeros, words}
+use Rattle.kernel_heap.proofs.Allocated.{good, apart, regions, zeros, words}
 use Rattle.kernel_heap.proofs.paged_allocator.PagedSystemAllocator.alloc.Goals as goal
 
 pub returns-clause-good : goal.returns-clause-good
@@ -16,9 +16,6 @@ returns-clause-good c = IfOk-weaker c.grant_bytes.result _ _ (λ grant is. good 
 
 pub returns-clause-apart : goal.returns-clause-apart
 returns-clause-apart c = IfOk-weaker c.grant_bytes.result _ _ (λ grant is. apart (paged c.args.self.now) (paged c.grant_bytes.new.self) c.args.size grant c.args.self.now.kept is) c.grant_bytes.ensures.ok
-
-pub returns-clause-next : goal.returns-clause-next
-returns-clause-next c = IfOk-weaker c.grant_bytes.result _ _ (λ grant is. next (paged c.args.self.now) (paged c.grant_bytes.new.self) c.args.size grant c.args.self.now.kept is) c.grant_bytes.ensures.ok
 
 pub returns-clause-regions : goal.returns-clause-regions
 returns-clause-regions c = IfOk-weaker c.grant_bytes.result _ _ (λ grant is. regions (paged c.args.self.now) (paged c.grant_bytes.new.self) c.args.size grant c.args.self.now.kept is) c.grant_bytes.ensures.ok

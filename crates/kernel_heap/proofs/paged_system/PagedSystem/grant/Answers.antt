@@ -1,19 +1,18 @@
-use Rattle.std.proofs.Common.{◌≡◌, Result, Ok, Err, OnOk, OnErr, subst, sym}
+use Rattle.std.proofs.Common.{Result, Ok, Err, OnOk, OnErr, subst, sym}
 use Rattle.heap_model.specs.declared.region.Region.{Region}
 use Rattle.mapped_regions.specs.Mapped.{IsRegion, CanMap, IsJoined}
 use Rattle.mapped_regions.specs.Shown.{shown}
-use Rattle.kernel_heap.specs.Layout.{IsKept}
 use Rattle.kernel_heap.specs.System.{paged}
-use Rattle.kernel_heap.proofs.Granted.{kept_granted, granted_region, can_map, granted_joined}
+use Rattle.kernel_heap.proofs.Granted.{kept_joined, granted_region, can_map, granted_joined}
 use Rattle.kernel_heap.proofs.paged_system.PagedSystem.grant.Goals as goal
-
-either_way : {A B : Type 0} (r : Result A B) (P Q R : Type 0) → OnOk r P → OnErr r Q → (P → R) → (Q → R) → R
-either_way (Ok a) P Q R p q f g = f p
-either_way (Err e) P Q R p q f g = g q
 
 if_ok : {A B : Type 0} (r : Result A B) (P Q : Type 0) → OnOk r P → (P → Q) → OnOk r Q
 if_ok (Ok a) P Q p f = f p
 if_ok (Err e) P Q p f = p
+
+on_ok : {A B : Type 0} (r : Result A B) (P : Type 0) → P → OnOk r P
+on_ok (Ok a) P p = p
+on_ok (Err e) P p = tt
 
 pub join-requires-clause-region : goal.join-requires-clause-region
 join-requires-clause-region c =
@@ -26,10 +25,10 @@ join-requires-clause-can c =
 
 pub invariant_of-self : goal.invariant_of-self
 invariant_of-self c = record {
-  kept = either_way c.join.result (IsJoined (paged c.args.self.now) (shown c.join.new.self) c.heap_region.result) (shown c.join.new.self ≡ paged c.args.self.now) (IsKept (shown c.join.new.self)) c.join.ensures.ok c.join.ensures.err
-      (λ joined. kept_granted (paged c.args.self.now) (shown c.join.new.self) c.args.pages c.args.place c.args.self.now.kept c.requires.can
-      (granted_joined (paged c.args.self.now) (shown c.join.new.self) c.heap_region.result c.args.pages c.args.place c.heap_region.ensures joined))
-      (λ same. subst IsKept (sym same) c.args.self.now.kept);
+  kept = kept_joined c.join.result (paged c.args.self.now) (shown c.join.new.self) c.heap_region.result c.join.ensures.ok
+      (on_ok c.join.result (CanMap (paged c.args.self.now) c.heap_region.result.start c.heap_region.result.pages)
+      (subst (λ (r : Region). CanMap (paged c.args.self.now) r.start r.pages) (sym c.heap_region.ensures) (can_map (paged c.args.self.now) c.args.pages c.args.place c.args.self.now.kept c.requires.can)))
+      c.join.ensures.err c.args.self.now.kept c.join.new.self.mapped;
 }
 
 pub returns-clause-ok : goal.returns-clause-ok

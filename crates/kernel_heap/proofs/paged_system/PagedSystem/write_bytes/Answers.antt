@@ -1,20 +1,17 @@
-use Rattle.std.proofs.Common.{◌+◌, arith, ap}
-use Rattle.kernel_heap.specs.Layout.{regions_end}
+use Rattle.std.proofs.Common.{◌+◌, length, arith}
 use Rattle.kernel_heap.specs.System.{paged}
-use Rattle.kernel_heap.proofs.Bytes.{word_of, written_more}
+use Rattle.kernel_heap.proofs.Bytes.{inside_part, inside_below}
+use Rattle.kernel_heap.proofs.ByteRuns.{written_parts}
 use Rattle.kernel_heap.proofs.paged_system.PagedSystem.write_bytes.Goals as goal
 
-pub store_byte-requires : goal.store_byte-requires
-store_byte-requires c =
-    let from = c.requires.from in
-    let before = c.requires.before in
-    let base = ap (λ q. q.base) c.loop-k.invariant.still.others in
-    let end = ap regions_end c.loop-k.invariant.still.others in
-    word_of (paged c.loop-k.self) (c.args.address + c.loop-k.k) c.loop-k.self.kept (record { from = omega arith; before = omega (arith, c.loop-k-test.true) })
+pub overflow_add-address : goal.overflow_add-address
+overflow_add-address c =
+    let below = inside_below (paged c.args.self.now) (c.args.address + length c.split_at.result.0.now) c.args.self.now.kept
+    (inside_part (paged c.args.self.now) c.args.address _ (c.args.address + length c.split_at.result.0.now) 1 c.requires (omega arith)
+    (omega (arith, c.split_at.ensures.front_len, c.split_at.ensures.back_len, c.if-rest-gt0.true))) in
+    omega (arith, below)
 
-pub loop-k-preserved : goal.loop-k-preserved
-loop-k-preserved c =
-    let from = c.requires.from in
-    let before = c.requires.before in
-    written_more (paged c.args.self.now) (paged c.loop-k.self) (paged c.store_byte.new.self) c.args.address c.args.bytes.now c.loop-k.k c.args.self.now.kept
-    (record { from = from; before = omega (arith, c.loop-k-test.true) }) c.loop-k.invariant (grind (arith, c.type_inv.bytes c.loop-k.k)) c.store_byte.ensures.follows c.store_byte.ensures.stored
+pub returns-then-rest-gt0 : goal.returns-then-rest-gt0
+returns-then-rest-gt0 c =
+    written_parts (paged c.args.self.now) (paged c.write_each.new.self) (paged c.write_from_word.new.self) c.args.address _ c.args.bytes.now c.split_at.result.0.now c.split_at.result.1.now c.requires
+    c.split_at.ensures.front c.split_at.ensures.back c.split_at.ensures.front_len c.split_at.ensures.back_len c.write_each.ensures c.write_from_word.ensures

@@ -1,0 +1,28 @@
+use Rattle.std.proofs.Common.{length, sym, subst}
+use Rattle.heap_model.specs.Machine.{Paged, IsStill}
+use Rattle.mapped_regions.specs.Shown.{shown}
+use Rattle.mapped_regions.specs.Mapped.{word_reached}
+use Rattle.kernel_heap.specs.Layout.{IsKept}
+use Rattle.kernel_heap.specs.System.{paged}
+use Rattle.kernel_heap.specs.Words.{grants_of}
+use Rattle.kernel_heap.specs.Written.{ArePut}
+use Rattle.kernel_heap.proofs.StillRuns.{first_mapped, still_put, kept_put, run_put}
+use Rattle.kernel_heap.proofs.paged_system.PagedSystem.set_words.Goals as goal
+
+pub set_words-requires : goal.set_words-requires
+set_words-requires c = record { word = first_mapped (paged c.args.self.now) c.args.at (length c.args.words.now) c.args.self.now.kept c.requires; fits = c.requires.page }
+
+pub invariant_of-self : goal.invariant_of-self
+invariant_of-self c = record {
+  kept = subst IsKept (sym c.set_words.ensures.others) (kept_put (paged c.args.self.now) (shown c.set_words.new.self).words c.args.words.now c.args.at c.args.self.now.kept c.requires
+      c.set_words.ensures.size c.set_words.ensures.set c.set_words.ensures.walks c.set_words.ensures.tree c.set_words.ensures.other_bytes);
+}
+
+pub returns-clause-still : goal.returns-clause-still
+returns-clause-still c = subst (IsStill (paged c.args.self.now)) (sym c.set_words.ensures.others) (still_put (paged c.args.self.now) (shown c.set_words.new.self).words c.args.words.now c.args.at c.args.self.now.kept c.requires
+    c.set_words.ensures.size c.set_words.ensures.set c.set_words.ensures.walks c.set_words.ensures.tree c.set_words.ensures.other_bytes)
+
+pub returns-clause-put : goal.returns-clause-put
+returns-clause-put c = subst (λ (p : Paged). ArePut (grants_of (paged c.args.self.now)) (word_reached (paged c.args.self.now)) c.args.at c.args.words.now (word_reached p)) (sym c.set_words.ensures.others)
+    (run_put (paged c.args.self.now) (shown c.set_words.new.self).words c.args.words.now c.args.at c.args.self.now.kept c.requires
+    c.set_words.ensures.size c.set_words.ensures.set c.set_words.ensures.walks c.set_words.ensures.tree c.set_words.ensures.other_bytes)

@@ -1,0 +1,78 @@
+// The byte at an address, as an access sees it.
+ghost use Rattle.std.specs.Prelude.{◌≡◌, ℕ, is_some, Some};
+ghost use Rattle.heap_model.specs.State.{State};
+ghost use Rattle.heap_model.specs.Probe.{grants, is_granted, fault_code, access_bit};
+ghost use Rattle.heap_model.specs.Run.{IsGood};
+ghost use Rattle.heap_model.specs.Machine.{Stands, IsStep};
+ghost use Rattle.kernel_heap.specs.Machine.{seen, IsReachedByte};
+ghost use Rattle.x86_tables.specs.PageFaultErrorCode.{page_fault_bits};
+
+use crate::numbered_heap::{NumberedHeap, refused};
+use bitflags::Flags;
+use heap_model::{Access, Answer, Call, PageFaultErrorCode, Refusal, Reply, Rights};
+use paging_core::VirtAddr;
+
+/// Whether rights grant a kind of access.
+fn grants(rights: Rights, access: Access) -> bool
+    ensures { result ≡ grants rights access }
+{
+    match access {
+        Access::Read => true,
+        Access::Write => rights.write,
+        Access::Fetch => rights.fetch,
+    }
+}
+
+/// Whether an access is granted, by the rights of its page where it is mapped.
+fn is_granted(rights: Option<Rights>, access: Access, user: bool) -> bool
+    ensures { result ≡ is_granted rights access user }
+{
+    match rights {
+        None => false,
+        Some(rights) => grants(rights, access) && (!user || rights.user),
+    }
+}
+
+/// What a page fault's code says of the kind of access.
+fn access_bit(access: Access) -> u64
+    ensures { result ≡ access_bit access }
+{
+    match access {
+        Access::Read => 0,
+        Access::Write => 2,
+        Access::Fetch => 16,
+    }
+}
+
+/// The code of the page fault of an access, to a page that is mapped or not.
+fn fault_code(mapped: bool, access: Access, user: bool) -> PageFaultErrorCode
+    ensures { page_fault_bits result ≡ fault_code mapped access user }
+{
+    let present = if mapped { 1 } else { 0 };
+    let from_user = if user { 4 } else { 0 };
+    PageFaultErrorCode::from_bits_retain(present + access_bit(access) + from_user)
+}
+
+impl NumberedHeap {
+    /// Looks at the byte at an address. It takes no memory and changes nothing.
+    pub(crate) fn probe(&self, at: u64, access: Access, user: bool) -> Answer
+        ensures ok { (s : State) → IsGood s → Stands (seen self.now) s → IsStep s (Call.Probe at access user) result (seen self.now) }
+        ensures reached { IsReachedByte (seen self.now) (Call.Probe at access user) result.reply }
+    {
+        if VirtAddr::try_new(at).is_err() {
+            return refused(Refusal::NotCanonical);
+        }
+        let system = self.heap.allocator();
+        let rights = system.rights_at(at);
+        if !is_granted(rights, access, user) {
+            return Answer {
+                reply: Reply::Fault(fault_code(rights.is_some(), access, user)),
+                regions: None,
+            };
+        }
+        Answer {
+            reply: Reply::Byte(system.byte(at)),
+            regions: None,
+        }
+    }
+}

@@ -1,0 +1,78 @@
+// Regions of the user, as calls of the machine.
+ghost use Rattle.std.specs.Prelude.{◌≡◌, IfOk, OnErr, None};
+ghost use Rattle.heap_model.specs.State.{State};
+ghost use Rattle.heap_model.specs.Run.{IsGood};
+ghost use Rattle.heap_model.specs.Machine.{Stands, IsStep};
+ghost use Rattle.kernel_heap.specs.Machine.{seen, heap_of, map_refusal, unmap_refusal, IsRefusal, IsSound};
+
+use crate::numbered_heap::{NumberedHeap, refused};
+use heap_model::{Answer, Call, Refusal, Reply, Rights};
+use mapped_regions::{MapFault, UnmapFault};
+use std::alloc::AllocError;
+
+/// The answer where pages are not mapped. Want of memory leaves none.
+fn refused_map(fault: MapFault) -> Result<Answer, AllocError>
+    ensures ok { IfOk result (λ answer. IsRefusal (map_refusal fault) answer) }
+    ensures err { OnErr result (map_refusal fault ≡ None) }
+{
+    match fault {
+        MapFault::BadRange => Ok(refused(Refusal::BadRange)),
+        MapFault::HeapRegion => Ok(refused(Refusal::HeapRegion)),
+        MapFault::Overlap => Ok(refused(Refusal::Overlap)),
+        MapFault::NoFrames => Ok(refused(Refusal::NoFrames)),
+        MapFault::OutOfMemory => Err(AllocError),
+    }
+}
+
+/// Why pages are not unmapped.
+fn unmap_refusal(fault: UnmapFault) -> Refusal
+    ensures { result ≡ unmap_refusal fault }
+{
+    match fault {
+        UnmapFault::BadRange => Refusal::BadRange,
+        UnmapFault::HeapRegion => Refusal::HeapRegion,
+        UnmapFault::UnknownRegion => Refusal::UnknownRegion,
+    }
+}
+
+impl NumberedHeap {
+    /// Maps pages as a region of the user.
+    pub(crate) fn map(
+        &mut self,
+        start: u64,
+        pages: u64,
+        rights: Rights,
+    ) -> Result<Answer, AllocError>
+        requires sound { IsSound self.old }
+        ensures sound { IsSound self.new }
+        ensures ok { (s : State) → IsGood s → Stands (seen self.old) s → IfOk result (λ answer. IsStep s (Call.Map start pages rights) answer (seen self.new)) }
+        ensures err { OnErr result (seen self.new ≡ seen self.old) }
+        ensures heap { heap_of self.new ≡ heap_of self.old }
+    {
+        self.heap.rests_outside();
+        match self.heap.allocator_mut().map(start, pages, rights) {
+            Ok(()) => Ok(Answer {
+                reply: Reply::Done,
+                regions: None,
+            }),
+            Err(fault) => refused_map(fault),
+        }
+    }
+
+    /// Unmaps a region of the user. It takes no memory.
+    pub(crate) fn unmap(&mut self, start: u64, pages: u64) -> Answer
+        requires sound { IsSound self.old }
+        ensures sound { IsSound self.new }
+        ensures ok { (s : State) → IsGood s → Stands (seen self.old) s → IsStep s (Call.Unmap start pages) result (seen self.new) }
+        ensures heap { heap_of self.new ≡ heap_of self.old }
+    {
+        self.heap.rests_outside();
+        match self.heap.allocator_mut().unmap(start, pages) {
+            Ok(()) => Answer {
+                reply: Reply::Done,
+                regions: None,
+            },
+            Err(fault) => refused(unmap_refusal(fault)),
+        }
+    }
+}
