@@ -1,9 +1,10 @@
 -- Worked values: the definitions computed on short inputs.
 use Rattle.std.proofs.Common.{◌≡◌, ◌^◌, ◌-◌, ℕ, true, false, [], ◌∷◌, ◌++◌, map, codes, refl, Some, None, lit<, lit≤}
 use Rattle.dlmalloc_chunks.specs.declared.extent.Kind.TheVariants.{Used, Free as Binned, Victim, Top, Record, Foot}
-use Rattle.heap_model.specs.declared.call.Call.TheVariants.{Malloc, Calloc, Realloc, CRealloc, Free, Write, Read, Extents}
-use Rattle.heap_model.specs.declared.answer.Reply.TheVariants.{Block, Bytes, Extents as Listed, Refused}
-use Rattle.heap_model.specs.declared.answer.Refusal.TheVariants.{NoFrames}
+use Rattle.heap_model.specs.declared.call.Access.TheVariants.{Read as Reading, Write as Writing, Fetch as Fetching}
+use Rattle.heap_model.specs.declared.call.Call.TheVariants.{Malloc, Calloc, Realloc, CRealloc, Free, Write, Read, Map, Unmap, Probe, Extents}
+use Rattle.heap_model.specs.declared.answer.Reply.TheVariants.{Block, Bytes, Byte, Extents as Listed, Refused}
+use Rattle.heap_model.specs.declared.answer.Refusal.TheVariants.{NoFrames, UnknownRegion, NotCanonical}
 use Rattle.std.specs.Fmt.{digits}
 use Rattle.hex.proofs.OnLiterals.{hex_on_literals}
 use Rattle.heap_model.specs.Room.{heap_region}
@@ -67,6 +68,14 @@ items-extents : items_of (codes "extents\nextents \nextents 0") ≡ Some Extents
 unfolding items_of item_of
 items-extents = refl
 
+items-maps : items_of (codes "map 0x410000 1 rw--\nmap 4096 2 r-ux\nunmap 0x410000 1\nmap 0 1 rwux\nmap 0 1\nmap 0 1 w---\nmap 0 1 rw-\nmap 0 1 rux-\nmap 0 1 rw-- 0\nunmap 0\nunmap 0 1 rw--") ≡ Some (Map 0x410000 1 (record { write = true; user = false; fetch = false })) ∷ Some (Map 4096 2 (record { write = false; user = true; fetch = true })) ∷ Some (Unmap 0x410000 1) ∷ Some (Map 0 1 (record { write = true; user = true; fetch = true })) ∷ None ∷ None ∷ None ∷ None ∷ None ∷ None ∷ None ∷ []
+unfolding items_of item_of
+items-maps = refl
+
+items-probes : items_of (codes "probe 0x10 read\nprobe 16 write user\nprobe 0 fetch\nprobe 0 Read\nprobe 0\nprobe 0 read kernel\nprobe 0 read user user") ≡ Some (Probe 16 Reading false) ∷ Some (Probe 16 Writing true) ∷ Some (Probe 0 Fetching false) ∷ None ∷ None ∷ None ∷ None ∷ []
+unfolding items_of item_of
+items-probes = refl
+
 -- texts
 
 text-bytes : text_of (record { reply = Bytes (0 ∷ 255 ∷ []); regions = None }) ≡ codes "bytes 00ff\n"
@@ -76,6 +85,18 @@ text-bytes = refl
 text-no_bytes : text_of (record { reply = Bytes []; regions = None }) ≡ codes "bytes\n"
 unfolding text_of
 text-no_bytes = refl
+
+text-byte : text_of (record { reply = Byte 0; regions = None }) ≡ codes "byte 00\n"
+unfolding text_of hex_on_literals
+text-byte = refl
+
+text-unknown_region : text_of (record { reply = Refused UnknownRegion; regions = None }) ≡ codes "refused unknown-region\n"
+unfolding text_of
+text-unknown_region = refl
+
+text-not_canonical : text_of (record { reply = Refused NotCanonical; regions = None }) ≡ codes "refused not-canonical\n"
+unfolding text_of
+text-not_canonical = refl
 
 text-block : text_of (record { reply = Block 2 0x40ffd0; regions = Some (heap_region 0x400000 16 ∷ heap_region 0x410000 16 ∷ []) }) ≡ codes "block 2 0x40ffd0\nheap 0x400000+16 0x410000+16\n"
 unfolding text_of digits

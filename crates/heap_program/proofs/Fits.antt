@@ -1,5 +1,5 @@
 -- The answers of a run fit: their numbers are below 2 ^ 64, their bytes are bytes, and their regions are the heap's.
-use Rattle.std.proofs.Common.{◌≡◌, ℕ, zero, suc, ◌+◌, ◌-◌, ◌*◌, ◌/◌, ◌%◌, ◌^◌, ◌<◌, ◌≤◌, ◌⊎◌, inl, inr, ◌==◌, List, [], ◌∷◌, ◌++◌, length, Bool, true, false, cond, Option, None, Some, MatchOption, option_map, slice_set, refl, sym, ◌∙◌, ap, subst, arith, lit<, length-append}
+use Rattle.std.proofs.Common.{◌≡◌, ℕ, zero, suc, ◌+◌, ◌-◌, ◌*◌, ◌/◌, ◌%◌, ◌^◌, ◌<◌, ◌≤◌, ◌⊎◌, inl, inr, ◌==◌, List, [], ◌∷◌, ◌++◌, length, Bool, true, false, cond, Option, None, Some, is_some, MatchOption, option_map, slice_set, refl, sym, ◌∙◌, ap, subst, arith, lit<, length-append}
 use Rattle.std.specs.List.{list_any, onto_first, AllByRecursion}
 use Rattle.std.proofs.lemmas.List.{length-map, length-set}
 use Rattle.std.proofs.lemmas.Bool.Decides.{nat_tests, Decides-eqb}
@@ -13,13 +13,16 @@ use Rattle.dlmalloc_chunks.specs.Request.{wanted}
 use Rattle.dlmalloc_chunks.specs.Tiling.{IsSize, has_byte}
 use Rattle.heap_model.specs.declared.answer.Answer.{Answer}
 use Rattle.heap_model.specs.declared.answer.Reply.{Reply}
-use Rattle.heap_model.specs.declared.answer.Reply.TheVariants.{Block as Placed, Done, Bytes, Extents as Listed, Refused}
+use Rattle.heap_model.specs.declared.answer.Reply.TheVariants.{Block as Placed, Done, Bytes, Byte, Fault, Extents as Listed, Refused}
+use Rattle.heap_model.specs.declared.call.Access.{Access}
+use Rattle.heap_model.specs.declared.call.Access.TheVariants.{Read as Reading, Write as Writing, Fetch as Fetching}
 use Rattle.heap_model.specs.declared.call.Call.{Call}
-use Rattle.heap_model.specs.declared.call.Call.TheVariants.{Malloc, Calloc, Realloc, CRealloc, Free, Write, Read, Extents}
+use Rattle.heap_model.specs.declared.call.Call.TheVariants.{Malloc, Calloc, Realloc, CRealloc, Free, Write, Read, Map, Unmap, Probe, Extents}
 use Rattle.heap_model.specs.declared.region.Region.{Region}
 use Rattle.heap_model.specs.State.{State, Block, Cell, Fresh, Known, block_at, is_within}
 use Rattle.heap_model.specs.Extents.{IsTiling}
-use Rattle.heap_model.specs.Answer.{AreBytes, IsReply, IsResizing, changed, new_block, with_block, resized_block, with_heap, after}
+use Rattle.heap_model.specs.Probe.{rights_at, fault_code}
+use Rattle.heap_model.specs.Answer.{AreBytes, seen_block, IsReply, IsResizing, changed, new_block, with_block, resized_block, with_heap, after}
 use Rattle.heap_model.specs.Refusal.{own_align, least_align, wanted_by}
 use Rattle.heap_model.specs.Run.{IsGood, IsHeapRegion, IsItem, next, IsRun, last_state}
 use Rattle.heap_model.proofs.Booleans.{or_left, or_right, or_cases}
@@ -173,6 +176,21 @@ tiling_fits : (s : State) (extents : List Extent) → IsGood s → IsTiling s ex
 tiling_fits s extents good tiling =
     extents_fit extents tiling.extents_are.sizes (λ address is. heap_half s s.heap address good.heap (sym (tiling.bytes address) ∙ is))
 
+-- the code of a fault is small
+code_small : (mapped : Bool) (access : Access) (user : Bool) → fault_code mapped access user < 2 ^ 64
+code_small true Reading true = lit< tt
+code_small true Reading false = lit< tt
+code_small true Writing true = lit< tt
+code_small true Writing false = lit< tt
+code_small true Fetching true = lit< tt
+code_small true Fetching false = lit< tt
+code_small false Reading true = lit< tt
+code_small false Reading false = lit< tt
+code_small false Writing true = lit< tt
+code_small false Writing false = lit< tt
+code_small false Fetching true = lit< tt
+code_small false Fetching false = lit< tt
+
 reply_fits : (s : State) (call : Call) (reply : Reply) (regions : Option (List Region)) → length s.blocks < 2 ^ 64 → IsReply s call reply regions →
     IsGood (after s call (record { reply = reply; regions = regions })) → ReplyFits reply
 reply_fits s call (Refused why) regions few is good = tt
@@ -186,6 +204,8 @@ reply_fits s (Realloc number size) (Placed given address) regions few is good =
 reply_fits s (CRealloc number size) (Placed given address) regions few is good =
     resized_fits s number given size address (λ block. wanted size (least_align block)) least_align (block_at s.blocks number) (wanted_by s (CRealloc number size)) regions few refl is.1.0 is.1.1 good
 reply_fits s (Read number offset count) (Bytes bytes) regions few is good = bytes_fit bytes is.1.2
+reply_fits s (Probe at access user) (Byte byte) regions few is good = bytes_fit (byte ∷ []) (is.1.2.small, tt)
+reply_fits s (Probe at access user) (Fault code) regions few is good = subst (λ n. n < 2 ^ 64) (sym is.1.2) (code_small (is_some (rights_at s at)) access user)
 reply_fits s Extents (Listed extents) regions few is good =
     tiling_fits s extents (subst (λ r. IsGood (with_heap s None r)) is.1.0 good) is.1.1
 reply_fits s call reply regions few is good = absurd is.1
@@ -212,6 +232,9 @@ changed_blocks s (CRealloc number size) (Placed given address) = simp (length-se
 changed_blocks s (Free number) Done = simp (length-set) (omega arith)
 changed_blocks s (Write number offset bytes) Done = simp (length-set) (omega arith)
 changed_blocks s (Read number offset count) (Bytes bytes) = simp (length-set) (omega arith)
+changed_blocks s (Map start pages rights) Done = omega arith
+changed_blocks s (Unmap start pages) Done = omega arith
+changed_blocks s (Probe at access user) (Byte byte) = omega (arith, length-map s.blocks (option_map (seen_block at byte)))
 changed_blocks s call reply = omega arith
 
 heap_blocks : (s : State) (n : Option ℕ) (regions : Option (List Region)) → (with_heap s n regions).blocks ≡ s.blocks

@@ -4,6 +4,7 @@ pub mod Endings
 pub mod Errors
 mod Examples
 pub mod Fits
+pub mod Hexes
 pub mod Known
 pub mod LineLemmas
 pub mod Numerals

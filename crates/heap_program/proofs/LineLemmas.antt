@@ -1,6 +1,6 @@
 -- The lines of an input that comes in parts.
-use Rattle.std.proofs.Common.{◌≡◌, ◌≢◌, ℕ, ◌<◌, List, [], ◌∷◌, ◌++◌, length, map, Option, None, refl, sym, ◌∙◌, ap, arith, length-append}
-use Rattle.std.proofs.lemmas.List.{append-nil}
+use Rattle.std.proofs.Common.{◌≡◌, ◌≢◌, ℕ, zero, suc, ◌<◌, ◌≤◌, ◌⊎◌, inl, inr, List, [], ◌∷◌, ◌++◌, length, take, drop, append_assoc, map, Option, None, refl, sym, ◌∙◌, ap, arith, length-append}
+use Rattle.std.proofs.lemmas.List.{append-nil, take_all, take-append-drop}
 use Rattle.std.proofs.lemmas.Bool.Decides.{nat_tests}
 use Rattle.heap_model.specs.declared.call.Call.{Call}
 use Rattle.heap_program.specs.Grammar.{item_of}
@@ -60,8 +60,8 @@ items_onto b line rest [] long =
 items_onto b line rest (first ∷ lines) long =
     ap (λ (o : Option Call). o ∷ map item_of lines) (too_long (line ++ b ∷ first) (omega (arith, length-append line (b ∷ first), long)) ∙ sym (too_long (line ++ first) (omega (arith, length-append line first, long))))
 
--- past the limit a further byte of the line changes nothing
-pub items-long : (line : List ℕ) (b : ℕ) (rest : List ℕ) → IsOneLine line → 8192 < length line → b ≢ 10 → items_of (line ++ b ∷ rest) ≡ items_of (line ++ rest)
+-- past the limit further bytes of the line change nothing
+items-long : (line : List ℕ) (b : ℕ) (rest : List ℕ) → IsOneLine line → 8192 < length line → b ≢ 10 → items_of (line ++ b ∷ rest) ≡ items_of (line ++ rest)
 unfolding items_of
 items-long [] b rest one long isnt = absurd (omega (arith, long))
 items-long (c ∷ line) b rest one long isnt =
@@ -69,6 +69,31 @@ items-long (c ∷ line) b rest one long isnt =
     ∙ items_onto b (c ∷ line) rest (lines_of rest) long
     ∙ sym (ap (map item_of) (lines-begun c line rest one))
 
-pub one_line_push : (line : List ℕ) (b : ℕ) → IsOneLine line → b ≢ 10 → IsOneLine (line ++ b ∷ [])
-one_line_push [] b one isnt = (isnt, tt)
-one_line_push (c ∷ line) b one isnt = (one.0, one_line_push line b one.1 isnt)
+items-longer : (line more rest : List ℕ) → IsOneLine line → 8192 < length line → IsOneLine more → items_of (line ++ (more ++ rest)) ≡ items_of (line ++ rest)
+items-longer line [] rest one long none = refl
+items-longer line (b ∷ more) rest one long both = items-long line b (more ++ rest) one long both.0 ∙ items-longer line more rest one long both.1
+
+pub one_line_append : (line more : List ℕ) → IsOneLine line → IsOneLine more → IsOneLine (line ++ more)
+one_line_append [] more one both = both
+one_line_append (b ∷ line) more one both = (one.0, one_line_append line more one.1 both)
+
+pub one_line_take : (n : ℕ) (line : List ℕ) → IsOneLine line → IsOneLine (take n line)
+one_line_take zero line one = tt
+one_line_take (suc n) [] one = tt
+one_line_take (suc n) (b ∷ line) one = (one.0, one_line_take n line one.1)
+
+one_line_drop : (n : ℕ) (line : List ℕ) → IsOneLine line → IsOneLine (drop n line)
+one_line_drop zero line one = one
+one_line_drop (suc n) [] one = tt
+one_line_drop (suc n) (b ∷ line) one = one_line_drop n line one.1
+
+-- of bytes that go on with a line, those up to one past the limit say what it asks for
+pub items-cut : (line bytes : List ℕ) (n : ℕ) (rest : List ℕ) → IsOneLine line → IsOneLine bytes → (length bytes ≤ n) ⊎ (8192 < length (line ++ take n bytes)) →
+    items_of (line ++ (bytes ++ rest)) ≡ items_of ((line ++ take n bytes) ++ rest)
+items-cut line bytes n rest one more (inl all) =
+    ap (λ (l : List ℕ). items_of (line ++ (l ++ rest))) (sym (take_all n bytes all)) ∙ ap items_of (sym (append_assoc line (take n bytes) rest))
+items-cut line bytes n rest one more (inr long) =
+    ap (λ (l : List ℕ). items_of (line ++ (l ++ rest))) (sym (take-append-drop n bytes))
+    ∙ ap (λ (l : List ℕ). items_of (line ++ l)) (append_assoc (take n bytes) (drop n bytes) rest)
+    ∙ ap items_of (sym (append_assoc line (take n bytes) (drop n bytes ++ rest)))
+    ∙ items-longer (line ++ take n bytes) (drop n bytes) rest (one_line_append line (take n bytes) one (one_line_take n bytes more)) long (one_line_drop n bytes more)

@@ -18,16 +18,16 @@ use Rattle.heap_program.proofs.LineLemmas.{items-whole, items-last, items-none}
 pub answered_none : (s : State) (line : List ℕ) → Answered s line [] [] line s
 answered_none s line = record { items = []; answers = []; read = λ rest. refl; run = runs_none s; text = refl }
 
--- a byte that only changes the line that has begun
-pub answered_byte : (s : State) (line line' : List ℕ) (b : ℕ) → ((rest : List ℕ) → items_of (line ++ b ∷ rest) ≡ items_of (line' ++ rest)) → Answered s line (b ∷ []) [] line' s
-answered_byte s line line' b same = record { items = []; answers = []; read = same; run = runs_none s; text = refl }
+-- bytes that only change the line that has begun
+pub answered_part : (s : State) (line line' bytes : List ℕ) → ((rest : List ℕ) → items_of (line ++ (bytes ++ rest)) ≡ items_of (line' ++ rest)) → Answered s line bytes [] line' s
+answered_part s line line' bytes same = record { items = []; answers = []; read = same; run = runs_none s; text = refl }
 
 -- a line feed, and the answer to the line
-pub answered_line : (s e : State) (line after : List ℕ) (b : ℕ) (answers : List (Option Answer)) → IsOneLine line → b ≡ 10 → after ≡ [] → RunsTo s (item_of line ∷ []) answers e → Answered s line (b ∷ []) (texts_of answers) after e
-answered_line s e line after b answers one feed empty run = record {
+pub answered_line : (s e : State) (line after : List ℕ) (answers : List (Option Answer)) → IsOneLine line → after ≡ [] → RunsTo s (item_of line ∷ []) answers e → Answered s line (10 ∷ []) (texts_of answers) after e
+answered_line s e line after answers one empty run = record {
   items = item_of line ∷ [];
   answers = answers;
-  read = λ rest. ap (λ (c : ℕ). items_of (line ++ c ∷ rest)) feed ∙ items-whole line rest one ∙ ap (λ (l : List ℕ). item_of line ∷ items_of (l ++ rest)) (sym empty);
+  read = λ rest. items-whole line rest one ∙ ap (λ (l : List ℕ). item_of line ∷ items_of (l ++ rest)) (sym empty);
   run = run;
   text = refl;
 }

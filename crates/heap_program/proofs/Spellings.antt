@@ -1,5 +1,5 @@
 -- Texts that cannot be read in two ways.
-use Rattle.std.proofs.Common.{◌≡◌, ◌<◌, ◌+◌, ◌/◌, ◌%◌, ℕ, zero, suc, ◌==◌, get_or, List, [], ◌∷◌, ◌++◌, length, Option, None, Some, codes, decimal, refl, sym, ◌∙◌, ap, arith, append_assoc, lit≤}
+use Rattle.std.proofs.Common.{◌^◌, ◌≡◌, ◌<◌, ◌+◌, ◌/◌, ◌%◌, ℕ, zero, suc, ◌==◌, get_or, List, [], ◌∷◌, ◌++◌, length, Option, None, Some, codes, decimal, refl, sym, ◌∙◌, ap, arith, append_assoc, lit≤}
 use Rattle.std.proofs.lemmas.List.{append_cancel_left}
 use Rattle.std.specs.Prelude.{if◌then◌else◌}
 use Rattle.hex.specs.Hex.{IsBytes, decode_of, encode_lower, encode_with, lower_digits}
@@ -10,11 +10,13 @@ use Rattle.std.specs.Str.Parse.{AllDigits}
 use Rattle.dlmalloc_chunks.specs.declared.extent.Extent.{Extent}
 use Rattle.dlmalloc_chunks.specs.declared.extent.Kind.{Kind}
 use Rattle.dlmalloc_chunks.specs.declared.extent.Kind.TheVariants.{Used, Free, Victim, Top, Record, Foot}
+use Rattle.x86_tables.specs.PageFaultErrorCode.{page_fault_bits}
+use Rattle.x86_tables.specs.declared.idt.page_fault_error_code.PageFaultErrorCode.{PageFaultErrorCode}
 use Rattle.heap_model.specs.declared.answer.Answer.{Answer}
 use Rattle.heap_model.specs.declared.answer.Reply.{Reply}
-use Rattle.heap_model.specs.declared.answer.Reply.TheVariants.{Block, Done, Bytes, Extents, Refused}
+use Rattle.heap_model.specs.declared.answer.Reply.TheVariants.{Block, Done, Bytes, Byte, Fault, Extents, Refused}
 use Rattle.heap_model.specs.declared.answer.Refusal.{Refusal}
-use Rattle.heap_model.specs.declared.answer.Refusal.TheVariants.{BadAlign, TooLarge, NoSpace, NoFrames, UnknownBlock, OutOfBlock}
+use Rattle.heap_model.specs.declared.answer.Refusal.TheVariants.{BadAlign, TooLarge, NoSpace, NoFrames, UnknownBlock, OutOfBlock, BadRange, HeapRegion, Overlap, UnknownRegion, NotCanonical}
 use Rattle.heap_model.specs.declared.region.Region.{Region}
 use Rattle.heap_model.specs.Room.{heap_region}
 use Rattle.heap_model.specs.Place.{all_regions}
@@ -42,11 +44,11 @@ block_end m a n b r s fm fn h =
     let second = hex_end a b 10 10 r s fm.1 fn.1 (lit≤ tt) (lit≤ tt) (tail_of first.1) in
     ((λ i. Block (first.0 i) (second.0 i)), tail_of second.1)
 
--- the seventh letter tells the refusals apart
+-- the seventh and the eighth letter tell the refusals apart, and so does their sum; of what is unknown the ninth does
 abbrev refusal_of : List ℕ → Refusal
 refusal_of text =
-    let letter = get_or text 14 0 in
-    if letter == 105 then BadAlign else if letter == 114 then TooLarge else if letter == 99 then NoSpace else if letter == 109 then NoFrames else if letter == 110 then UnknownBlock else OutOfBlock
+    let sum = get_or text 14 0 + get_or text 15 0 in
+    if sum == 208 then BadAlign else if sum == 217 then TooLarge else if sum == 200 then NoSpace else if sum == 210 then NoFrames else if sum == 155 then (if get_or text 16 0 == 98 then UnknownBlock else UnknownRegion) else if sum == 143 then OutOfBlock else if sum == 213 then BadRange else if sum == 204 then HeapRegion else if sum == 122 then Overlap else NotCanonical
 
 refusal_told : (why : Refusal) (r : List ℕ) → refusal_of (reply_text (Refused why) ++ r) ≡ why
 refusal_told BadAlign r = refl
@@ -55,6 +57,11 @@ refusal_told NoSpace r = refl
 refusal_told NoFrames r = refl
 refusal_told UnknownBlock r = refl
 refusal_told OutOfBlock r = refl
+refusal_told BadRange r = refl
+refusal_told HeapRegion r = refl
+refusal_told Overlap r = refl
+refusal_told UnknownRegion r = refl
+refusal_told NotCanonical r = refl
 
 refused_end : (v w : Refusal) (r s : List ℕ) → reply_text (Refused v) ++ r ≡ reply_text (Refused w) ++ s → (Refused v ≡ Refused w) × (r ≡ s)
 refused_end v w r s h = let k = told_end (λ why. reply_text (Refused why)) refusal_of refusal_told v w r s h in (ap Refused k.0, k.1)
@@ -91,6 +98,24 @@ bytes_end (x ∷ xs) (y ∷ ys) r s fx fy h =
     (append_cancel_left (codes "bytes ") (encode_lower (x ∷ xs) ++ 10 ∷ r) (encode_lower (y ∷ ys) ++ 10 ∷ s) (onto (x ∷ xs) r ∙ h ∙ sym (onto (y ∷ ys) s))) in
     ((λ i. Bytes (k.0 i)), k.1)
 
+-- a byte
+byte_end : (x y : ℕ) (r s : List ℕ) → IsBytes (x ∷ []) → IsBytes (y ∷ []) → reply_text (Byte x) ++ r ≡ reply_text (Byte y) ++ s → (Byte x ≡ Byte y) × (r ≡ s)
+byte_end x y r s fx fy h =
+    let onto : (z : ℕ) (t : List ℕ) → codes "byte " ++ (encode_lower (z ∷ []) ++ 10 ∷ t) ≡ (codes "byte " ++ (encode_lower (z ∷ []) ++ 10 ∷ [])) ++ t = λ z t. ap (λ (l : List ℕ). codes "byte " ++ l) (sym (append_assoc (encode_lower (z ∷ [])) (10 ∷ []) t)) in
+    let k = hexes_end (x ∷ []) (y ∷ []) r s fx fy
+    (append_cancel_left (codes "byte ") (encode_lower (x ∷ []) ++ 10 ∷ r) (encode_lower (y ∷ []) ++ 10 ∷ s) (onto x r ∙ h ∙ sym (onto y s))) in
+    (ap (λ (l : List ℕ). Byte (get_or l 0 0)) k.0, k.1)
+
+-- the code of a fault
+fault_onto : (code : PageFaultErrorCode) (r : List ℕ) → codes "fault " ++ (hexadecimal (page_fault_bits code) ++ 10 ∷ r) ≡ reply_text (Fault code) ++ r
+fault_onto code r = ap (λ (l : List ℕ). codes "fault " ++ l) (sym (append_assoc (hexadecimal (page_fault_bits code)) (10 ∷ []) r))
+
+fault_end : (x y : PageFaultErrorCode) (r s : List ℕ) → page_fault_bits x < 2 ^ 64 → page_fault_bits y < 2 ^ 64 → reply_text (Fault x) ++ r ≡ reply_text (Fault y) ++ s → (Fault x ≡ Fault y) × (r ≡ s)
+fault_end x y r s fx fy h =
+    let k = append_cancel_left (codes "fault ") (hexadecimal (page_fault_bits x) ++ 10 ∷ r) (hexadecimal (page_fault_bits y) ++ 10 ∷ s) (fault_onto x r ∙ h ∙ sym (fault_onto y s)) in
+    let bits = hex_end (page_fault_bits x) (page_fault_bits y) 10 10 r s fx fy (lit≤ tt) (lit≤ tt) k in
+    ((λ i. Fault (record { 0 = bits.0 i })), tail_of bits.1)
+
 -- the first two letters tell the kinds of extents apart, and so does their sum
 abbrev kind_of : List ℕ → Kind
 kind_of text =
@@ -115,31 +140,37 @@ extent_end x y c d r s fx fy nc nd h =
     let span = span_end x.at x.size y.at y.size c d r s fx fy nc nd (tail_of kind.1) in
     ((λ i. record { at = span.0 i; size = span.1 i; kind = kind.0 i }), span.2)
 
--- the second letter tells the kinds of replies apart
-abbrev second : Reply → ℕ
-second (Block number address) = 108
-second Done = 111
-second (Bytes bytes) = 121
-second (Extents extents) = 120
-second (Refused why) = 101
+-- the second and the fifth letter tell the kinds of replies apart, and so does their sum
+abbrev letters : Reply → ℕ
+letters (Block number address) = 215
+letters Done = 121
+letters (Bytes bytes) = 236
+letters (Byte byte) = 153
+letters (Fault code) = 213
+letters (Extents extents) = 230
+letters (Refused why) = 216
 
-second_is : (p : Reply) (r : List ℕ) → get_or (reply_text p ++ r) 1 0 ≡ second p
-second_is (Block number address) r = refl
-second_is Done r = refl
-second_is (Bytes bytes) r = refl
-second_is (Extents extents) r = refl
-second_is (Refused why) r = refl
+letters_are : (p : Reply) (r : List ℕ) → get_or (reply_text p ++ r) 1 0 + get_or (reply_text p ++ r) 4 0 ≡ letters p
+letters_are (Block number address) r = refl
+letters_are Done r = refl
+letters_are (Bytes bytes) r = refl
+letters_are (Byte byte) r = refl
+letters_are (Fault code) r = refl
+letters_are (Extents extents) r = refl
+letters_are (Refused why) r = refl
 
-second_same : (p q : Reply) (r s : List ℕ) → reply_text p ++ r ≡ reply_text q ++ s → second p ≡ second q
-second_same p q r s h = sym (second_is p r) ∙ (ap (λ (l : List ℕ). get_or l 1 0) h ∙ second_is q s)
+letters_same : (p q : Reply) (r s : List ℕ) → reply_text p ++ r ≡ reply_text q ++ s → letters p ≡ letters q
+letters_same p q r s h = sym (letters_are p r) ∙ (ap (λ (l : List ℕ). get_or l 1 0 + get_or l 4 0) h ∙ letters_are q s)
 
 reply_end : (p q : Reply) (r s : List ℕ) → ReplyFits p → ReplyFits q → reply_text p ++ r ≡ reply_text q ++ s → (p ≡ q) × (r ≡ s)
 reply_end (Block m a) (Block n b) r s fp fq h = block_end m a n b r s fp fq h
 reply_end Done Done r s fp fq h = (refl, append_cancel_left (codes "done\n") r s h)
 reply_end (Bytes xs) (Bytes ys) r s fp fq h = bytes_end xs ys r s fp fq h
+reply_end (Byte x) (Byte y) r s fp fq h = byte_end x y r s fp fq h
+reply_end (Fault x) (Fault y) r s fp fq h = fault_end x y r s fp fq h
 reply_end (Extents xs) (Extents ys) r s fp fq h = let k = items_end extent_text ExtentFits extent_end (codes "extents") xs ys r s fp fq h in ((λ i. Extents (k.0 i)), k.1)
 reply_end (Refused v) (Refused w) r s fp fq h = refused_end v w r s h
-reply_end p q r s fp fq h = absurd (let k : second p ≡ second q = second_same p q r s h in omega (arith, k))
+reply_end p q r s fp fq h = absurd (let k : letters p ≡ letters q = letters_same p q r s h in omega (arith, k))
 
 -- a region of a heap line, before a byte that is no digit
 region_end : Ends Region pages_text RegionFits
@@ -175,6 +206,8 @@ reply_differs : (p : Reply) (r s t : List ℕ) → reply_text p ++ r ≡ codes "
 reply_differs (Block m a) r s t h = let k : 108 ≡ 97 = head_of (tail_of h) in omega (arith, k)
 reply_differs Done r s t h = let k : 100 ≡ 98 = head_of h in omega (arith, k)
 reply_differs (Bytes bytes) r s t h = let k : 121 ≡ 97 = head_of (tail_of h) in omega (arith, k)
+reply_differs (Byte byte) r s t h = let k : 121 ≡ 97 = head_of (tail_of h) in omega (arith, k)
+reply_differs (Fault code) r s t h = let k : 102 ≡ 98 = head_of h in omega (arith, k)
 reply_differs (Extents extents) r s t h = let k : 101 ≡ 98 = head_of h in omega (arith, k)
 reply_differs (Refused why) r s t h = let k : 114 ≡ 98 = head_of h in omega (arith, k)
 
@@ -189,6 +222,8 @@ reply_head : (p : Reply) (r : List ℕ) → NoHeap (reply_text p ++ r)
 reply_head (Block m a) r t h = let k : 98 ≡ 104 = head_of h in omega (arith, k)
 reply_head Done r t h = let k : 100 ≡ 104 = head_of h in omega (arith, k)
 reply_head (Bytes bytes) r t h = let k : 98 ≡ 104 = head_of h in omega (arith, k)
+reply_head (Byte byte) r t h = let k : 98 ≡ 104 = head_of h in omega (arith, k)
+reply_head (Fault code) r t h = let k : 102 ≡ 104 = head_of h in omega (arith, k)
 reply_head (Extents extents) r t h = let k : 101 ≡ 104 = head_of h in omega (arith, k)
 reply_head (Refused why) r t h = let k : 114 ≡ 104 = head_of h in omega (arith, k)
 

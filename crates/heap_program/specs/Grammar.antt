@@ -1,11 +1,14 @@
 -- The call that a line asks for.
-use Rattle.std.specs.Prelude.{ℕ, List, [], ◌∷◌, length, Option, Some, None, if◌then◌else◌, nat_lt, codes}
+use Rattle.std.specs.Prelude.{ℕ, Bool, true, false, List, [], ◌∷◌, length, Option, Some, None, if◌then◌else◌, ◌==◌, nat_lt, codes}
 use Rattle.std.specs.Option.{option_map}
 use Rattle.std.specs.Result.{result_ok}
 use Rattle.std.specs.Str.{bytes_eq}
 use Rattle.hex.specs.Hex.{decode_of}
+use Rattle.paging_core.specs.declared.page_table.Rights.{Rights}
+use Rattle.heap_model.specs.declared.call.Access.{Access}
+use Rattle.heap_model.specs.declared.call.Access.TheVariants.{Read as Reading, Write as Writing, Fetch as Fetching}
 use Rattle.heap_model.specs.declared.call.Call.{Call}
-use Rattle.heap_model.specs.declared.call.Call.TheVariants.{Malloc, Calloc, Realloc, CRealloc, Free, Write, Read, Extents}
+use Rattle.heap_model.specs.declared.call.Call.TheVariants.{Malloc, Calloc, Realloc, CRealloc, Free, Write, Read, Map, Unmap, Probe, Extents}
 use Rattle.heap_program.specs.Number.{number_of}
 use Rattle.heap_program.specs.Words.{words_of}
 
@@ -71,6 +74,54 @@ abbrev pub read_of : List (List ℕ) → Option Call
 read_of (block ∷ offset ∷ count ∷ []) = read_call (number_of block) (number_of offset) (number_of count)
 read_of words = None
 
+-- a right is granted where its letter stands, and is not where `-` does
+abbrev pub right_of : ℕ → ℕ → Option Bool
+right_of letter code = if code == letter then Some true else if code == 45 then Some false else None
+
+abbrev pub three_rights : Option Bool → Option Bool → Option Bool → Option Rights
+three_rights (Some write) (Some user) (Some fetch) = Some (record { write = write; user = user; fetch = fetch })
+three_rights write user fetch = None
+
+-- the letter `r`, and then `w`, `u` and `x`, or `-` in the place of each
+abbrev pub rights_of : List ℕ → Option Rights
+rights_of (read ∷ write ∷ user ∷ fetch ∷ []) = if read == 114 then three_rights (right_of 119 write) (right_of 117 user) (right_of 120 fetch) else None
+rights_of word = None
+
+abbrev pub map_call : Option ℕ → Option ℕ → Option Rights → Option Call
+map_call (Some start) (Some pages) (Some rights) = Some (Map start pages rights)
+map_call start pages rights = None
+
+-- `map ADDR PAGES RIGHTS`, with what stands behind the name
+abbrev pub map_of : List (List ℕ) → Option Call
+map_of (start ∷ pages ∷ rights ∷ []) = map_call (number_of start) (number_of pages) (rights_of rights)
+map_of words = None
+
+-- `unmap ADDR PAGES`, with what stands behind the name
+abbrev pub unmap_of : List (List ℕ) → Option Call
+unmap_of words = option_map (λ range. Unmap range.0 range.1) (two_numbers words)
+
+-- `read`, `write` or `fetch`
+abbrev pub access_of : List ℕ → Option Access
+access_of word =
+    if bytes_eq word (codes "read") then Some Reading else
+    if bytes_eq word (codes "write") then Some Writing else
+    if bytes_eq word (codes "fetch") then Some Fetching else None
+
+abbrev pub probe_call : Option ℕ → Option Access → Option Bool → Option Call
+probe_call (Some at) (Some access) (Some user) = Some (Probe at access user)
+probe_call at access user = None
+
+-- whether the access is the user's: it is where the word `user` stands there, alone
+abbrev pub user_of : List (List ℕ) → Option Bool
+user_of [] = Some false
+user_of (word ∷ []) = if bytes_eq word (codes "user") then Some true else None
+user_of words = None
+
+-- `probe ADDR ACCESS` and `probe ADDR ACCESS user`, with what stands behind the name
+abbrev pub probe_of : List (List ℕ) → Option Call
+probe_of (at ∷ access ∷ words) = probe_call (number_of at) (access_of access) (user_of words)
+probe_of words = None
+
 -- `extents`, with what stands behind the name: nothing
 abbrev pub extents_of : List (List ℕ) → Option Call
 extents_of [] = Some Extents
@@ -87,6 +138,9 @@ call_of (name ∷ arguments) =
     if bytes_eq name (codes "free") then free_of arguments else
     if bytes_eq name (codes "write") then write_of arguments else
     if bytes_eq name (codes "read") then read_of arguments else
+    if bytes_eq name (codes "map") then map_of arguments else
+    if bytes_eq name (codes "unmap") then unmap_of arguments else
+    if bytes_eq name (codes "probe") then probe_of arguments else
     if bytes_eq name (codes "extents") then extents_of arguments else None
 
 -- the call of a line of at most 8192 bytes; None is a bad line

@@ -1,11 +1,12 @@
 -- An output spells one list of answers.
-use Rattle.std.specs.Prelude.{◌≡◌, ◌+◌, ◌<◌, ◌≤◌, ◌^◌, ⊤, List, ◌++◌, length, Option, None, Some}
+use Rattle.std.specs.Prelude.{◌≡◌, ◌+◌, ◌<◌, ◌≤◌, ◌^◌, ⊤, List, [], ◌∷◌, ◌++◌, length, Option, None, Some}
 use Rattle.std.specs.List.{AllByRecursion}
 use Rattle.hex.specs.Hex.{IsBytes}
+use Rattle.x86_tables.specs.PageFaultErrorCode.{page_fault_bits}
 use Rattle.dlmalloc_chunks.specs.declared.extent.Extent.{Extent}
 use Rattle.heap_model.specs.declared.answer.Answer.{Answer}
 use Rattle.heap_model.specs.declared.answer.Reply.{Reply}
-use Rattle.heap_model.specs.declared.answer.Reply.TheVariants.{Block, Done, Bytes, Extents, Refused}
+use Rattle.heap_model.specs.declared.answer.Reply.TheVariants.{Block, Done, Bytes, Byte, Fault, Extents, Refused}
 use Rattle.heap_model.specs.declared.call.Call.{Call}
 use Rattle.heap_model.specs.declared.region.Region.{Region}
 use Rattle.heap_model.specs.Room.{heap_region}
@@ -23,6 +24,8 @@ abbrev pub ReplyFits : Reply → Type 0
 ReplyFits (Block number address) = (number < 2 ^ 64) × (address < 2 ^ 64)
 ReplyFits Done = ⊤
 ReplyFits (Bytes bytes) = IsBytes bytes
+ReplyFits (Byte byte) = IsBytes (byte ∷ [])
+ReplyFits (Fault code) = page_fault_bits code < 2 ^ 64
 ReplyFits (Extents extents) = AllByRecursion ExtentFits extents
 ReplyFits (Refused why) = ⊤
 

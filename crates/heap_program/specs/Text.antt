@@ -8,13 +8,14 @@ use Rattle.dlmalloc_chunks.specs.declared.extent.Kind.{Kind}
 use Rattle.dlmalloc_chunks.specs.declared.extent.Kind.TheVariants.{Used, Free, Victim, Top, Record, Foot}
 use Rattle.heap_model.specs.declared.answer.Answer.{Answer}
 use Rattle.heap_model.specs.declared.answer.Reply.{Reply}
-use Rattle.heap_model.specs.declared.answer.Reply.TheVariants.{Block, Done, Bytes, Extents, Refused}
+use Rattle.heap_model.specs.declared.answer.Reply.TheVariants.{Block, Done, Bytes, Byte, Fault, Extents, Refused}
 use Rattle.heap_model.specs.declared.answer.Refusal.{Refusal}
-use Rattle.heap_model.specs.declared.answer.Refusal.TheVariants.{BadAlign, TooLarge, NoSpace, NoFrames, UnknownBlock, OutOfBlock}
+use Rattle.heap_model.specs.declared.answer.Refusal.TheVariants.{BadAlign, TooLarge, NoSpace, NoFrames, UnknownBlock, OutOfBlock, BadRange, HeapRegion, Overlap, UnknownRegion, NotCanonical}
 use Rattle.heap_model.specs.declared.region.Region.{Region}
 use Rattle.heap_model.specs.State.{State}
 use Rattle.heap_model.specs.Place.{all_regions}
 use Rattle.heap_model.specs.Tables.{free_frames}
+use Rattle.x86_tables.specs.PageFaultErrorCode.{page_fault_bits}
 use Rattle.paging_core.specs.declared.page_table.Rights.{Rights}
 
 -- an address, in lower case without leading zeros
@@ -36,6 +37,11 @@ refusal_word NoSpace = codes "no-space"
 refusal_word NoFrames = codes "no-frames"
 refusal_word UnknownBlock = codes "unknown-block"
 refusal_word OutOfBlock = codes "out-of-block"
+refusal_word BadRange = codes "bad-range"
+refusal_word HeapRegion = codes "heap-region"
+refusal_word Overlap = codes "overlap"
+refusal_word UnknownRegion = codes "unknown-region"
+refusal_word NotCanonical = codes "not-canonical"
 
 -- bytes as two lower case digits each, behind a space where there are bytes
 abbrev pub bytes_text : List ℕ → List ℕ
@@ -59,6 +65,8 @@ abbrev pub reply_text : Reply → List ℕ
 reply_text (Block number address) = codes "block " ++ (decimal number ++ (codes " " ++ (hexadecimal address ++ codes "\n")))
 reply_text Done = codes "done\n"
 reply_text (Bytes bytes) = codes "bytes" ++ (bytes_text bytes ++ codes "\n")
+reply_text (Byte byte) = codes "byte" ++ (bytes_text (byte ∷ []) ++ codes "\n")
+reply_text (Fault code) = codes "fault " ++ (hexadecimal (page_fault_bits code) ++ codes "\n")
 reply_text (Extents extents) = codes "extents" ++ (spaced extent_text extents ++ codes "\n")
 reply_text (Refused why) = codes "refused " ++ (refusal_word why ++ codes "\n")
 

@@ -1,12 +1,12 @@
 // The call that a line asks for.
 ghost use Rattle.std.specs.Prelude.{◌≡◌, IfOk, MatchOption, Some, None};
-ghost use Rattle.heap_program.specs.Grammar.{one_number, two_numbers, request_of, malloc_of, calloc_of, realloc_of, c_realloc_of, free_of, bytes_of, write_call, write_of, read_of, extents_of, call_of, item_of};
+ghost use Rattle.heap_program.specs.Grammar.{one_number, two_numbers, request_of, malloc_of, calloc_of, realloc_of, c_realloc_of, free_of, bytes_of, write_call, write_of, read_of, right_of, rights_of, map_of, unmap_of, access_of, user_of, probe_of, extents_of, call_of, item_of};
 ghost use Rattle.heap_program.specs.Words.{words_of};
 
 use crate::number::number;
 use crate::words::Words;
 use hex::FromHexError;
-use kernel_heap::{Bytes, Call};
+use kernel_heap::{Access, Bytes, Call, Rights};
 use std::alloc::{AllocError, Global};
 
 /// The greatest number of bytes of a line, its line feed not counted.
@@ -147,6 +147,98 @@ fn write(alloc: Global, words: &mut Words<'_>) -> Result<Option<Call>, AllocErro
     }
 }
 
+// Whether a letter grants a right, where it is that of the right or `-`.
+fn right(code: u8, letter: u8) -> Option<bool>
+    ensures { result ≡ right_of letter code }
+{
+    if code == letter {
+        Some(true)
+    } else if code == b'-' {
+        Some(false)
+    } else {
+        None
+    }
+}
+
+// The rights that a word writes.
+fn rights(word: &[u8]) -> Option<Rights>
+    ensures { result ≡ rights_of word.now }
+{
+    let [read, write, user, fetch] = word else {
+        return None;
+    };
+    if *read != b'r' {
+        return None;
+    }
+    let write = right(*write, b'w')?;
+    let user = right(*user, b'u')?;
+    let fetch = right(*fetch, b'x')?;
+    Some(Rights { write, user, fetch })
+}
+
+fn map(words: &mut Words<'_>) -> Option<Call>
+    ensures { result ≡ map_of words.old }
+{
+    let start = number(words.next_word()?)?;
+    let pages = number(words.next_word()?)?;
+    let rights = rights(words.next_word()?)?;
+    match words.next_word() {
+        None => Some(Call::Map {
+            start,
+            pages,
+            rights,
+        }),
+        Some(_) => None,
+    }
+}
+
+fn unmap(words: &mut Words<'_>) -> Option<Call>
+    ensures { result ≡ unmap_of words.old }
+{
+    let (start, pages) = two_numbers(words)?;
+    Some(Call::Unmap { start, pages })
+}
+
+// The kind of access that a word names.
+fn access(word: &[u8]) -> Option<Access>
+    ensures { result ≡ access_of word.now }
+{
+    if word == b"read".as_slice() {
+        Some(Access::Read)
+    } else if word == b"write".as_slice() {
+        Some(Access::Write)
+    } else if word == b"fetch".as_slice() {
+        Some(Access::Fetch)
+    } else {
+        None
+    }
+}
+
+// Whether the words that are left say that the access is the user's.
+fn user(words: &mut Words<'_>) -> Option<bool>
+    ensures { result ≡ user_of words.old }
+{
+    let Some(word) = words.next_word() else {
+        return Some(false);
+    };
+    if word != b"user".as_slice() {
+        return None;
+    }
+    match words.next_word() {
+        None => Some(true),
+        Some(_) => None,
+    }
+}
+
+fn probe(words: &mut Words<'_>) -> Option<Call>
+    ensures { result ≡ probe_of words.old }
+{
+    let at = number(words.next_word()?)?;
+    let access = access(words.next_word()?)?;
+    let user = user(words)?;
+    Some(Call::Probe { at, access, user })
+}
+
 fn extents(words: &mut Words<'_>) -> Option<Call>
     ensures { result ≡ extents_of words.old }
 {
@@ -177,6 +269,12 @@ fn call_of(alloc: Global, line: &[u8]) -> Result<Option<Call>, AllocError>
         write(alloc, &mut words)
     } else if name == b"read".as_slice() {
         Ok(read(&mut words))
+    } else if name == b"map".as_slice() {
+        Ok(map(&mut words))
+    } else if name == b"unmap".as_slice() {
+        Ok(unmap(&mut words))
+    } else if name == b"probe".as_slice() {
+        Ok(probe(&mut words))
     } else if name == b"extents".as_slice() {
         Ok(extents(&mut words))
     } else {

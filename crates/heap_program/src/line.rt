@@ -21,7 +21,7 @@ impl Model for Line {
 }
 
 impl Line {
-    ghost use Rattle.std.specs.Prelude.{◌≡◌, ◌≢◌, ◌++◌, ◌∷◌, [], List, ℕ, OnOk};
+    ghost use Rattle.std.specs.Prelude.{◌≡◌, ◌++◌, [], List, ℕ, OnOk};
     ghost use Rattle.heap_program.specs.Lines.{IsOneLine, items_of};
 
     /// A line of which no byte has come.
@@ -48,14 +48,15 @@ impl Line {
         self.bytes.clear();
     }
 
-    /// One byte more of the line. What the input asks for stays the same, whatever comes after it.
-    pub fn push(&mut self, byte: u8) -> Result<(), AllocError>
-        requires { byte ≢ 10 }
-        ensures { OnOk result ((rest : List ℕ) → items_of (self.old ++ byte ∷ rest) ≡ items_of (self.new ++ rest)) }
+    /// Bytes more of the line. What the input asks for stays the same, whatever comes after them.
+    pub fn extend(&mut self, bytes: &[u8]) -> Result<(), AllocError>
+        requires { IsOneLine bytes.now }
+        ensures { OnOk result ((rest : List ℕ) → items_of (self.old ++ (bytes.now ++ rest)) ≡ items_of (self.new ++ rest)) }
     {
-        if self.bytes.len() <= LONGEST_LINE {
-            self.bytes.push(byte)?;
-        }
+        // One byte past the limit tells that the line is too long.
+        let left = (LONGEST_LINE + 1).saturating_sub(self.bytes.len());
+        let kept = bytes.len().min(left);
+        self.bytes.extend_from_slice(&bytes[..kept])?;
         Ok(())
     }
 }

@@ -1,5 +1,5 @@
 // The machine, the line that has begun and the text that is not yet written.
-ghost use Rattle.std.specs.Prelude.{◌≡◌, ◌∷◌, [], OnOk, string_bytes};
+ghost use Rattle.std.specs.Prelude.{◌≡◌, ◌∷◌, [], ◌<◌, ◌≤◌, IfOk, OnOk, length, slice_index, take, string_bytes};
 ghost use Rattle.heap_model.specs.State.{State};
 ghost use Rattle.heap_program.specs.Grammar.{item_of};
 ghost use Rattle.heap_program.specs.Lines.{items_of, IsOneLine};
@@ -23,6 +23,20 @@ pub struct Session {
     pub output: String,
 }
 
+// How many bytes come before the first line feed.
+fn line_length(bytes: &[u8]) -> usize
+    ensures few { result ≤ length bytes.now }
+    ensures line { IsOneLine (take result bytes.now) }
+    ensures feed { result < length bytes.now → slice_index bytes.now result ≡ 10 }
+{
+    for k in 0..bytes.len() {
+        if bytes[k] == b'\n' {
+            return k;
+        }
+    }
+    bytes.len()
+}
+
 // Answers a line at the end of the output.
 fn answer_line(
     alloc: Global,
@@ -36,7 +50,7 @@ fn answer_line(
     match parse_call(alloc, line)? {
         Some(call) => {
             let answer = machine.step(&call)?;
-            push_answer(alloc, output, &answer)
+            push_answer(output, &answer)
         }
         None => output.push_str("bad line\n"),
     }
@@ -57,21 +71,42 @@ impl Session {
         }
     }
 
-    fn feed_byte(&mut self, byte: u8) -> Result<(), AllocError>
-        ensures { OnOk result ((s : State) → IsAt self.old.machine s → Advanced s self.old self.new (byte ∷ [])) }
+    // Answers the line that has begun at its line feed.
+    fn end_line(&mut self) -> Result<(), AllocError>
+        ensures { OnOk result ((s : State) → IsAt self.old.machine s → Advanced s self.old self.new (10 ∷ [])) }
     {
-        if byte == b'\n' {
-            answer_line(
-                self.alloc,
-                &mut self.machine,
-                self.line.bytes(),
-                &mut self.output,
-            )?;
-            self.line.clear();
-        } else {
-            self.line.push(byte)?;
-        }
+        answer_line(
+            self.alloc,
+            &mut self.machine,
+            self.line.bytes(),
+            &mut self.output,
+        )?;
+        self.line.clear();
         Ok(())
+    }
+
+    // Takes bytes of the line that has begun.
+    fn go_on(&mut self, bytes: &[u8]) -> Result<(), AllocError>
+        requires { IsOneLine bytes.now }
+        ensures { OnOk result ((s : State) → IsAt self.old.machine s → Advanced s self.old self.new bytes.now) }
+    {
+        self.line.extend(bytes)
+    }
+
+    // Takes bytes to the end of the first line that ends among them, or all, and says how many.
+    fn feed_line(&mut self, bytes: &[u8]) -> Result<usize, AllocError>
+        requires some { 0 < length bytes.now }
+        ensures few { IfOk result (λ count. count ≤ length bytes.now) }
+        ensures more { IfOk result (λ count. 0 < count) }
+        ensures fed { IfOk result (λ count. (s : State) → IsAt self.old.machine s → Advanced s self.old self.new (take count bytes.now)) }
+    {
+        let length = line_length(bytes);
+        self.go_on(&bytes[..length])?;
+        if length == bytes.len() {
+            return Ok(length);
+        }
+        self.end_line()?;
+        Ok(length + 1)
     }
 
     /// Answers the lines that end in the piece.
@@ -79,8 +114,9 @@ impl Session {
         ensures one_line { OnOk result (IsOneLine self.new.line) }
         ensures fed { OnOk result ((s : State) → IsAt self.old.machine s → Advanced s self.old self.new piece.now) }
     {
-        for byte in piece {
-            self.feed_byte(*byte)?;
+        let mut done = 0;
+        while done < piece.len() {
+            done += self.feed_line(&piece[done..])?;
         }
         // No line feed is among the bytes of a line.
         let _begun = self.line.bytes();

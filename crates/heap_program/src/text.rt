@@ -1,11 +1,13 @@
 // What is printed.
-ghost use Rattle.std.specs.Prelude.{◌≡◌, ◌++◌, codes, IfOk, OnOk, string_bytes};
+ghost use Rattle.std.specs.Prelude.{◌≡◌, ◌<◌, [], ◌∷◌, ◌++◌, codes, slice_index, IfOk, OnOk, string_bytes};
 ghost use Rattle.std.specs.List.{flat_map};
+ghost use Rattle.hex.specs.Hex.{encode_lower, lower_digits};
 ghost use Rattle.heap_model.specs.State.{State};
 ghost use Rattle.heap_model.specs.Machine.{Stands};
 ghost use Rattle.kernel_heap.specs.Machine.{seen};
 ghost use Rattle.heap_program.specs.Text.{text_of, reply_text, bytes_text, refusal_word, span_text, spaced, kind_word, extent_text, pages_text, regions_text, heap_line, right_text, rights_text, owner_text, region_line, counts_line, tally_line, end_text_of};
 
+use bitflags::Flags;
 use kernel_heap::{
     Answer, Bytes, Extent, Kind, Machine, Refusal, Region, RegionList, Reply, Rights,
 };
@@ -21,6 +23,11 @@ fn refusal_word(why: Refusal) -> &'static str
         Refusal::NoFrames => "no-frames",
         Refusal::UnknownBlock => "unknown-block",
         Refusal::OutOfBlock => "out-of-block",
+        Refusal::BadRange => "bad-range",
+        Refusal::HeapRegion => "heap-region",
+        Refusal::Overlap => "overlap",
+        Refusal::UnknownRegion => "unknown-region",
+        Refusal::NotCanonical => "not-canonical",
     }
 }
 
@@ -44,16 +51,45 @@ fn push_span(out: &mut String, start: u64, size: u64) -> Result<(), AllocError>
     write!(out, "0x{start:x}+{size}")
 }
 
+// The digits of the values below 16.
+const DIGITS: [u8; 16] = *b"0123456789abcdef";
+
+#[tactic(auto, using(crate::proofs::Hexes::lower_small))]
+fn push_digit(out: &mut String, value: u8) -> Result<(), AllocError>
+    requires { value < 16 }
+    ensures { OnOk result (string_bytes out.new ≡ string_bytes out.old ++ slice_index lower_digits value ∷ []) }
+{
+    out.push(char::from(DIGITS[usize::from(value)]))
+}
+
+#[tactic(auto, unfolding(hex::specs::Hex::encode_with))]
+fn push_byte(out: &mut String, byte: u8) -> Result<(), AllocError>
+    ensures { OnOk result (string_bytes out.new ≡ string_bytes out.old ++ encode_lower (byte ∷ [])) }
+{
+    push_digit(out, byte / 16)?;
+    push_digit(out, byte % 16)
+}
+
+// Bytes as two digits each.
+fn push_digits(out: &mut String, bytes: &[u8]) -> Result<(), AllocError>
+    ensures { OnOk result (string_bytes out.new ≡ string_bytes out.old ++ encode_lower bytes.now) }
+{
+    out.reserve(bytes.len().saturating_mul(2))?;
+    for byte in bytes {
+        push_byte(out, *byte)?;
+    }
+    Ok(())
+}
+
 // Bytes as two digits each, behind a space where there are bytes.
-fn push_bytes(alloc: Global, out: &mut String, bytes: &[u8]) -> Result<(), AllocError>
+fn push_bytes(out: &mut String, bytes: &[u8]) -> Result<(), AllocError>
     ensures { OnOk result (string_bytes out.new ≡ string_bytes out.old ++ bytes_text bytes.now) }
 {
     if bytes.is_empty() {
         return Ok(());
     }
-    let digits = hex::encode(alloc, bytes)?;
     out.push_str(" ")?;
-    out.push_str(digits.as_str())
+    push_digits(out, bytes)
 }
 
 fn push_extent(out: &mut String, extent: Extent) -> Result<(), AllocError>
@@ -75,7 +111,7 @@ fn push_extents(out: &mut String, extents: &[Extent]) -> Result<(), AllocError>
     Ok(())
 }
 
-fn push_reply(alloc: Global, out: &mut String, reply: &Reply) -> Result<(), AllocError>
+fn push_reply(out: &mut String, reply: &Reply) -> Result<(), AllocError>
     ensures { OnOk result (string_bytes out.new ≡ string_bytes out.old ++ reply_text reply.now) }
 {
     match reply {
@@ -86,8 +122,17 @@ fn push_reply(alloc: Global, out: &mut String, reply: &Reply) -> Result<(), Allo
         Reply::Done => out.push_str("done\n"),
         Reply::Bytes(bytes) => {
             out.push_str("bytes")?;
-            push_bytes(alloc, out, bytes.as_slice())?;
+            push_bytes(out, bytes.as_slice())?;
             out.push_str("\n")
+        }
+        Reply::Byte(byte) => {
+            out.push_str("byte")?;
+            push_bytes(out, [*byte].as_slice())?;
+            out.push_str("\n")
+        }
+        Reply::Fault(code) => {
+            let bits = code.bits();
+            writeln!(out, "fault 0x{bits:x}")
         }
         Reply::Extents(extents) => {
             out.push_str("extents")?;
@@ -136,10 +181,10 @@ fn push_heap_line(out: &mut String, regions: &Option<RegionList>) -> Result<(), 
 
 /// Puts the text of an answer at the end.
 #[tactic(auto, unfolding(crate::specs::Text::text_of))]
-pub fn push_answer(alloc: Global, out: &mut String, answer: &Answer) -> Result<(), AllocError>
+pub fn push_answer(out: &mut String, answer: &Answer) -> Result<(), AllocError>
     ensures { OnOk result (string_bytes out.new ≡ string_bytes out.old ++ text_of answer.now) }
 {
-    push_reply(alloc, out, &answer.reply)?;
+    push_reply(out, &answer.reply)?;
     push_heap_line(out, &answer.regions)
 }
 
@@ -149,7 +194,7 @@ pub fn text_of(alloc: Global, answer: &Answer) -> Result<Bytes, AllocError>
     ensures { IfOk result (λ text. text ≡ text_of answer.now) }
 {
     let mut out = String::new(alloc);
-    push_answer(alloc, &mut out, answer)?;
+    push_answer(&mut out, answer)?;
     Ok(Bytes::from_vec(out.into_bytes()))
 }
 

@@ -1,17 +1,26 @@
-use Rattle.std.proofs.Common.{◌∷◌, [], take, get_or, sym, subst}
-use Rattle.std.proofs.lemmas.List.{take_more}
+use Rattle.std.proofs.Common.{◌≡◌, ℕ, List, ◌-◌, ◌≤◌, length, take, drop, sym, subst, arith, length-drop}
+use Rattle.std.proofs.lemmas.List.{take_all}
+use Rattle.std.proofs.Math.Seq.{take-add}
 use Rattle.heap_program.specs.Advanced.{Advanced}
 use Rattle.heap_program.proofs.Sessions.{advanced_none, advanced_more}
 use Rattle.heap_program.proofs.session.Session.feed.Goals as goal
 
-pub loop-byte-init : goal.loop-byte-init
-loop-byte-init c s at = advanced_none s c.args.self.now at
+pub loop-done-init : goal.loop-done-init
+loop-done-init c = (λ s at. advanced_none s c.args.self.now at, omega arith)
 
-pub loop-byte-preserved : goal.loop-byte-preserved
-loop-byte-preserved c s at =
+pub loop-done-preserved : goal.loop-done-preserved
+loop-done-preserved c =
     let piece = c.args.piece.now in
-    let i = c.loop-byte.byte-index in
-    let a = c.loop-byte.invariant s at in
-    let b = c.in_ok-feed_byte.ensures a.state a.at in
-    subst (Advanced s c.args.self.now c.feed_byte.new.self) (sym (take_more piece i 0 c.loop-byte-test.true))
-    (advanced_more s c.args.self.now c.loop-byte.self c.feed_byte.new.self (take i piece) (get_or piece i 0 ∷ []) a b)
+    let done = c.loop-done.done in
+    let n = c.in_ok-done.field-0 in
+    let rest : take (length piece - done) (drop done piece) ≡ drop done piece =
+    take_all (length piece - done) (drop done piece) (omega (arith, length-drop done piece)) in
+    let few = subst (λ (l : List ℕ). n ≤ length l) rest c.in_ok-done.ensures.few in
+    let within = c.loop-done.invariant.1 in (
+      λ s at.
+          let a = c.loop-done.invariant.0 s at in
+          let b = subst (λ (l : List ℕ). Advanced a.state c.loop-done.self c.feed_line.new.self (take n l)) rest (c.in_ok-done.ensures.fed a.state a.at) in
+          subst (Advanced s c.args.self.now c.feed_line.new.self) (sym (take-add done n piece))
+          (advanced_more s c.args.self.now c.loop-done.self c.feed_line.new.self (take done piece) (take n (drop done piece)) a b),
+      omega (arith, few, within, length-drop done piece),
+    )
