@@ -45,11 +45,22 @@ Lines:
                             block of this number. The answer is `done`.
   read BLOCK OFFSET LENGTH  asks for bytes of a block. The answer is `bytes`
                             and their digits.
+  map ADDRESS PAGES RIGHTS  maps pages of value 0 for the user from an address on.
+                            RIGHTS is r, then w or -, u or -, x or -. The answer
+                            is `done`.
+  unmap ADDRESS PAGES       unmaps these pages, which are those of one map. The
+                            answer is `done`.
+  probe ADDRESS ACCESS [user]
+                            looks at the byte at an address as an access does:
+                            read, write or fetch, by the user where the word
+                            stands there. The answer is `byte` and its digits,
+                            or `fault` and the page fault's code.
   extents                   asks for the extents of the heap. The answer is
                             `extents` and each extent as KIND:ADDRESS+SIZE.
 
 A refusal is `refused` and one of bad-align, too-large, no-space, no-frames,
-unknown-block and out-of-block, and changes nothing.
+unknown-block, out-of-block, bad-range, heap-region, overlap, unknown-region and
+not-canonical, and changes nothing.
 
 A number is decimal, or 0x and hexadecimal digits, and below 2^64. Words stand
 between single spaces. Any other line, and one of more than 8192 bytes, is
