@@ -9,7 +9,23 @@ struct Command {
     row: Row,
 }
 
-const COMMANDS: [Command; 10] = [
+const COMMANDS: [Command; 12] = [
+    // A region of the user behind the first grant: the next grant goes behind it.
+    Command {
+        words: &["run", "0x400000", "64", "65536", "1024", "4095"],
+        row: Row {
+            input: "malloc 100\nmap 0x410000 1 rw--\nmalloc 70000\nfree 0\n",
+            output: "block 0 0x400010\nheap 0x400000+16\ndone\nblock 1 0x411010\nheap 0x400000+16 0x411000+32\ndone\nregion 0x400000+16 heap\nregion 0x410000+1 user rw--\nregion 0x411000+32 heap\nframes 971 tables 4\n",
+        },
+    },
+    // Once it is unmapped, a grant goes before the segment that stands behind it.
+    Command {
+        words: &["run", "0x400000", "1024", "4096", "1024", "4095"],
+        row: Row {
+            input: "malloc 100\nmap 0x401000 1 rw--\nmalloc 5000\nunmap 0x401000 1\nmalloc 3912\nextents\n",
+            output: "block 0 0x400010\nheap 0x400000+1\ndone\nblock 1 0x402010\nheap 0x400000+1 0x402000+2\ndone\nblock 2 0x401010\nheap 0x400000+1 0x401000+1 0x402000+2\nextents used:0x400000+112 free:0x400070+3904 record:0x400fb0+80 used:0x401000+3920 free:0x401f50+176 used:0x402000+5008 top:0x403390+3104 foot:0x403fb0+80\nregion 0x400000+1 heap\nregion 0x401000+1 heap\nregion 0x402000+2 heap\nframes 1016 tables 4\n",
+        },
+    },
     // The greatest block of a window that holds one grant, and one byte more.
     Command {
         words: &["run", "0x400000", "16", "65536", "1024", "4095"],

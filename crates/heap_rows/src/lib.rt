@@ -2,12 +2,18 @@
 #![tactic(auto)]
 
 #[cfg(test)]
+mod bytes;
+#[cfg(test)]
 mod commands;
 #[cfg(test)]
 mod error_words;
+#[cfg(test)]
+mod probes;
 #[cfg(test)]
 mod requests;
 #[cfg(test)]
 mod streams;
 #[cfg(test)]
 mod tests;
+#[cfg(test)]
+mod users;

@@ -274,7 +274,7 @@ fn each_kind_of_extent_is_printed(rt: HostRuntime) -> Result<(), Fail> {
 }
 
 /// The configuration of the command `run`.
-const DEFAULT: Config = Config {
+pub(crate) const DEFAULT: Config = Config {
     base: 0x40_0000,
     pages: 1024,
     granularity: 65536,
