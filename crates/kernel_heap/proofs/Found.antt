@@ -1,7 +1,6 @@
 -- A chunk was found for a request, in the heap's regions or in a granted one: the answer is allowed, and the machine stands
 -- for the state after it.
-use Rattle.std.proofs.Common.{◌≡◌, ◌≢◌, ℕ, ◌+◌, ◌/◌, ◌^◌, ◌<◌, ◌≤◌, ◌⊎◌, inl, inr, List, [], ◌∷◌, ◌++◌, length, map, find, refl, sym, ap, ◌∙◌, subst, arith, false, Option, Some, None, option_map}
-use Rattle.std.specs.List.{list_any}
+use Rattle.std.proofs.Common.{◌≡◌, ◌≢◌, ℕ, ◌+◌, ◌/◌, ◌^◌, ◌<◌, ◌≤◌, ◌⊎◌, inl, inr, List, [], length, map, find, refl, sym, ap, ◌∙◌, subst, arith, false, Option, Some, None, option_map}
 use Rattle.paging_core.specs.Address.{IsCanonicalRange}
 use Rattle.paging_core.specs.Prefix.{Prefix}
 use Rattle.paging_core.specs.Walk.{reached}
@@ -15,7 +14,7 @@ use Rattle.heap_model.specs.declared.region.Region.{Region}
 use Rattle.heap_model.specs.declared.call.Call.{Call}
 use Rattle.heap_model.specs.declared.answer.Reply.TheVariants.{Block as Placed}
 use Rattle.heap_model.specs.Request.{pages_in, pages_for}
-use Rattle.heap_model.specs.State.{State, Block, is_within}
+use Rattle.heap_model.specs.State.{State, Block}
 use Rattle.heap_model.specs.Tables.{missing, with_tables, free_frames}
 use Rattle.heap_model.specs.Place.{meets_any, with_region, all_regions, IsPlace}
 use Rattle.heap_model.specs.Room.{heap_region, IsGrowth}

@@ -1,5 +1,5 @@
 -- Pages are granted at their place.
-use Rattle.std.proofs.Common.{◌≡◌, ℕ, ◌+◌, ◌*◌, ◌/◌, ◌^◌, ◌<◌, ◌≤◌, arith, refl, sym, subst, Result, Ok, Err, OnOk, OnErr}
+use Rattle.std.proofs.Common.{◌≡◌, ℕ, ◌^◌, arith, refl, sym, subst, Result, Ok, Err, OnOk, OnErr}
 use Rattle.heap_model.specs.declared.region.Region.{Region}
 use Rattle.heap_model.specs.Room.{heap_region}
 use Rattle.heap_model.specs.Machine.{Paged}

@@ -1,5 +1,5 @@
 -- A block is handed out: the answer is allowed, and the machine stands for the state with the block.
-use Rattle.std.proofs.Common.{◌≡◌, ◌≢◌, ℕ, ◌+◌, ◌-◌, ◌*◌, ◌/◌, ◌%◌, ◌<◌, ◌≤◌, max, inl, inr, List, [], ◌∷◌, ◌++◌, length, map, replicate, refl, sym, ap, ◌∙◌, subst, arith, Bool, true, false, Option, Some, None, option_map}
+use Rattle.std.proofs.Common.{◌≡◌, ◌≢◌, ℕ, ◌+◌, ◌-◌, ◌%◌, ◌<◌, inl, inr, List, [], ◌∷◌, ◌++◌, length, map, replicate, refl, sym, ap, ◌∙◌, subst, arith, Bool, true, false, Option, Some, None, option_map}
 use Rattle.std.specs.List.{list_any}
 use Rattle.std.specs.Int.{is_power_of_two}
 use Rattle.std.proofs.Math.ListN.{length-replicate}
@@ -14,7 +14,7 @@ use Rattle.heap_model.specs.declared.live.Live.{Live}
 use Rattle.heap_model.specs.declared.region.Region.{Region}
 use Rattle.heap_model.specs.declared.call.Call.TheVariants.{Malloc, Calloc}
 use Rattle.heap_model.specs.declared.answer.Reply.TheVariants.{Block as Placed}
-use Rattle.heap_model.specs.State.{State, Cell, Fresh, Known, Block, block_at, cell_at, is_within}
+use Rattle.heap_model.specs.State.{State, Cell, Fresh, Known, Block, block_at, is_within}
 use Rattle.heap_model.specs.Memory.{HoldsBytes}
 use Rattle.heap_model.specs.Refusal.{refuse_request}
 use Rattle.heap_model.specs.Run.{IsGood}

@@ -1,12 +1,12 @@
 -- What the heap says of the blocks that it hands out and resizes, as a machine's moves.
-use Rattle.std.proofs.Common.{◌≡◌, ℕ, ◌+◌, ◌-◌, ◌*◌, ◌%◌, ◌<◌, ◌≤◌, ◌==◌, inl, inr, min, List, [], Option, refl, sym, ◌∙◌, ap, subst, arith}
+use Rattle.std.proofs.Common.{◌≡◌, ℕ, ◌-◌, ◌≤◌, ◌==◌, inl, inr, [], Option, sym, ◌∙◌, ap, subst, arith}
 use Rattle.std.specs.Prelude.{unwrap_or, option_map}
 use Rattle.dlmalloc_chunks.specs.declared.extent.Extent.{Extent}
 use Rattle.dlmalloc.specs.State.{HeapState, extents_in, size_where}
 use Rattle.dlmalloc.specs.Blocks.{IsBlock}
 use Rattle.dlmalloc.specs.Freed.{freed}
 use Rattle.dlmalloc.specs.Requested.{IsServedAt}
-use Rattle.dlmalloc.specs.Written.{words_in, IsServedCleared}
+use Rattle.dlmalloc.specs.Written.{IsServedCleared}
 use Rattle.dlmalloc.specs.Moved.{IsResized, IsGivenSize}
 use Rattle.dlmalloc.specs.declared.heap.Dlmalloc.{Dlmalloc}
 use Rattle.kernel_heap.specs.Follows.{still_on}

@@ -1,5 +1,5 @@
 -- The regions of the heap among those of the heap and of the user.
-use Rattle.std.proofs.Common.{◌≡◌, ◌≢◌, ℕ, ◌+◌, ◌-◌, ◌*◌, ◌/◌, ◌%◌, ◌^◌, ◌<◌, ◌≤◌, ◌⊎◌, inl, inr, ◌||◌, ◌&&◌, not, nat_lt, nat_eq, List, [], ◌∷◌, map, fold, refl, sym, ap, ◌∙◌, arith, Bool, true, false, cond, Some, IsTrue, IsSome}
+use Rattle.std.proofs.Common.{◌≡◌, ◌≢◌, ℕ, ◌+◌, ◌-◌, ◌*◌, ◌/◌, ◌^◌, ◌<◌, ◌≤◌, inl, inr, ◌||◌, ◌&&◌, not, nat_lt, nat_eq, List, [], ◌∷◌, map, fold, refl, sym, ap, ◌∙◌, arith, Bool, true, false, cond, IsTrue, IsSome}
 use Rattle.std.specs.List.{list_any, AllByRecursion}
 use Rattle.std.proofs.lemmas.Bool.Decides.{nat_tests}
 use Rattle.paging_core.specs.Address.{is_canonical}

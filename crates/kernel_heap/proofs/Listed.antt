@@ -1,12 +1,11 @@
 -- The extents of the heap tile the regions of the state.
-use Rattle.std.proofs.Common.{◌≡◌, ℕ, ◌+◌, ◌<◌, ◌≤◌, ◌&&◌, ◌||◌, inl, inr, nat_le, nat_lt, Bool, true, false, if◌then◌else◌, List, [], ◌∷◌, refl, sym, ap, ◌∙◌, subst, arith, Option, Some, None, option_map}
+use Rattle.std.proofs.Common.{◌≡◌, ℕ, ◌+◌, ◌≤◌, Bool, true, false, if◌then◌else◌, List, refl, sym, ap, ◌∙◌, subst, arith, Option, Some, None, option_map}
 use Rattle.std.specs.List.{list_any}
-use Rattle.std.proofs.lemmas.Bool.Decides.{nat_tests}
 use Rattle.dlmalloc_chunks.specs.declared.extent.Extent.{Extent}
 use Rattle.dlmalloc_chunks.specs.declared.extent.Kind.TheVariants.{Used, Victim}
 use Rattle.dlmalloc_chunks.specs.Tiling.{extent_at}
 use Rattle.dlmalloc.specs.Extents.{is_used}
-use Rattle.dlmalloc.specs.State.{HeapState, Segment, extents_in, is_plain, is_victim, shown}
+use Rattle.dlmalloc.specs.State.{HeapState, extents_in, is_plain, is_victim, shown}
 use Rattle.dlmalloc.specs.declared.heap.Dlmalloc.{Dlmalloc}
 use Rattle.heap_model.specs.declared.live.Live.{Live}
 use Rattle.heap_model.specs.declared.region.Region.{Region}
@@ -15,7 +14,7 @@ use Rattle.heap_model.specs.declared.answer.Reply.TheVariants.{Extents as Listed
 use Rattle.heap_model.specs.State.{State, Block, block_at, is_within}
 use Rattle.heap_model.specs.Extents.{AreRuns, HasExtent, HasBlock, IsTiling}
 use Rattle.heap_model.specs.Run.{IsGood}
-use Rattle.heap_model.specs.Machine.{Paged, Seen, Stands, IsStep, outline}
+use Rattle.heap_model.specs.Machine.{Seen, Stands, IsStep, outline}
 use Rattle.heap_model.proofs.Placed.{outline_of}
 use Rattle.kernel_heap.specs.System.{paged}
 use Rattle.kernel_heap.specs.Heap.{word, heap_state}

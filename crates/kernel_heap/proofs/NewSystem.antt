@@ -1,5 +1,5 @@
 -- A new system, and the start of a run.
-use Rattle.std.proofs.Common.{◌≡◌, ℕ, ◌+◌, ◌^◌, ◌≤◌, ◌<◌, [], sym, ap, arith, Option, None, option_map, subst}
+use Rattle.std.proofs.Common.{◌≡◌, ℕ, ◌^◌, [], sym, ap, arith, Option, None, option_map, subst}
 use Rattle.std.specs.Prelude.{IsSome}
 use Rattle.heap_model.specs.declared.config.Config.{Config}
 use Rattle.heap_model.specs.State.{start}

@@ -1,11 +1,11 @@
 -- A block gets another size, where it is or elsewhere: the answer is allowed, and the machine stands for the state with it.
-use Rattle.std.proofs.Common.{◌≡◌, ◌≢◌, ℕ, ◌+◌, ◌-◌, ◌*◌, ◌/◌, ◌%◌, ◌<◌, ◌≤◌, ◌⊎◌, min, max, inl, inr, List, [], ◌∷◌, length, map, slice_set, refl, sym, ap, ◌∙◌, subst, arith, Bool, true, false, not, ◌==◌, if◌then◌else◌, Option, Some, None, option_map}
+use Rattle.std.proofs.Common.{◌≡◌, ◌≢◌, ℕ, ◌+◌, ◌-◌, ◌%◌, ◌<◌, ◌≤◌, ◌⊎◌, inl, inr, List, [], ◌∷◌, length, map, slice_set, refl, sym, ap, ◌∙◌, subst, arith, Bool, true, false, not, ◌==◌, if◌then◌else◌, Option, Some, None, option_map}
 use Rattle.std.specs.Prelude.{slice_index}
 use Rattle.std.specs.List.{list_any}
 use Rattle.std.specs.Int.{w64, to_le_bytes, is_power_of_two, IsPowerOfTwo}
 use Rattle.paging_core.specs.Prefix.{Prefix}
 use Rattle.paging_core.specs.Walk.{reached}
-use Rattle.dlmalloc_chunks.specs.Request.{padded, limit, wanted}
+use Rattle.dlmalloc_chunks.specs.Request.{limit, wanted}
 use Rattle.dlmalloc_chunks.proofs.PowersOfTwo.{test_of_power}
 use Rattle.dlmalloc_chunks.specs.declared.extent.Extent.{Extent}
 use Rattle.dlmalloc.specs.Extents.{extent_at}
@@ -20,16 +20,15 @@ use Rattle.heap_model.specs.declared.answer.Answer.{Answer}
 use Rattle.dlmalloc.specs.declared.heap.Dlmalloc.{Dlmalloc}
 use Rattle.heap_model.specs.declared.live.Live.{Live}
 use Rattle.heap_model.specs.declared.region.Region.{Region}
-use Rattle.heap_model.specs.declared.call.Call.{Call}
 use Rattle.heap_model.specs.declared.answer.Reply.TheVariants.{Block as Placed}
-use Rattle.heap_model.specs.declared.answer.Refusal.TheVariants.{UnknownBlock, TooLarge}
-use Rattle.heap_model.specs.State.{State, Known, Block, block_at, cell_at, cover, is_within}
+use Rattle.heap_model.specs.declared.answer.Refusal.TheVariants.{UnknownBlock}
+use Rattle.heap_model.specs.State.{State, Known, Block, block_at, cell_at, is_within}
 use Rattle.heap_model.specs.Memory.{HoldsBytes}
-use Rattle.heap_model.specs.Room.{AreApart, IsGrowth}
+use Rattle.heap_model.specs.Room.{IsGrowth}
 use Rattle.heap_model.specs.Refusal.{own_align, least_align, refuse_resizing, must_refuse, wanted_by}
 use Rattle.heap_model.specs.Answer.{with_block, resized_block, heap_after, IsResizing, IsServed, changed}
-use Rattle.heap_model.specs.Run.{IsGood, IsGoodBlock}
-use Rattle.heap_model.specs.Machine.{Paged, Seen, Stands, IsStep, IsStill, outline}
+use Rattle.heap_model.specs.Run.{IsGood}
+use Rattle.heap_model.specs.Machine.{Stands, IsStep, outline}
 use Rattle.heap_model.proofs.Known.{known_within}
 use Rattle.heap_model.proofs.Placed.{outline_of, outline_at}
 use Rattle.heap_model.proofs.Resized.{length-resized, outline_changed, good_resized, holds_resized}

@@ -1,5 +1,5 @@
 -- A word of a page of the heap is stored: what a system keeps stays, and so does every other word.
-use Rattle.std.proofs.Common.{◌≡◌, ◌≢◌, ℕ, ◌+◌, ◌-◌, ◌*◌, ◌/◌, ◌%◌, ◌^◌, ◌<◌, ◌≤◌, Bool, true, List, [], ◌∷◌, length, refl, sym, ap, ◌∙◌, subst, arith, Option, Some, None, IsTrue, IsSome}
+use Rattle.std.proofs.Common.{◌≡◌, ◌≢◌, ℕ, ◌+◌, ◌*◌, ◌/◌, ◌%◌, ◌^◌, ◌<◌, ◌≤◌, Bool, true, List, length, refl, sym, ap, ◌∙◌, subst, arith, Option, Some, None, IsTrue, IsSome}
 use Rattle.std.specs.Prelude.{IfSome, slice_set}
 use Rattle.std.proofs.lemmas.List.{get_or-set_other}
 use Rattle.std.specs.List.{list_any}
@@ -13,7 +13,7 @@ use Rattle.heap_model.specs.State.{is_within}
 use Rattle.heap_model.specs.Machine.{Paged, IsStill, is_of_user}
 use Rattle.kernel_heap.specs.Layout.{IsKept}
 use Rattle.kernel_heap.specs.Words.{heap_regions, grants_of}
-use Rattle.mapped_regions.specs.Mapped.{IsMapped, IsMappedWord, word_in, word_reached}
+use Rattle.mapped_regions.specs.Mapped.{IsMappedWord, word_in, word_reached}
 use Rattle.mapped_regions.proofs.Looked.{mapped_at}
 use Rattle.mapped_regions.proofs.Mapped.{stored_mapped}
 use Rattle.kernel_heap.proofs.HeapRegions.{granted_same, heap_any, user_any, kind_some, within_canonical, not_of_user}

@@ -1,5 +1,5 @@
 -- Words of a page of the heap are put in a row: what a system keeps stays, and so does every other word.
-use Rattle.std.proofs.Common.{◌≡◌, ◌≢◌, ℕ, ◌+◌, ◌-◌, ◌*◌, ◌/◌, ◌%◌, ◌^◌, ◌<◌, ◌≤◌, ◌⊎◌, inl, inr, Bool, List, length, get_or, refl, sym, ap, ◌∙◌, subst, arith, Some, IsTrue}
+use Rattle.std.proofs.Common.{◌≡◌, ℕ, ◌+◌, ◌*◌, ◌/◌, ◌%◌, ◌^◌, ◌<◌, ◌≤◌, ◌⊎◌, inl, inr, Bool, List, length, get_or, refl, sym, ap, ◌∙◌, subst, arith, Some, IsTrue}
 use Rattle.std.specs.Prelude.{IfSome}
 use Rattle.std.proofs.lemmas.Bool.Decides.{nat_tests}
 use Rattle.paging_core.specs.Address.{is_canonical}
@@ -61,12 +61,12 @@ module _ (p : Paged) (words run : List ℕ) (at : ℕ) (kept : IsKept p) (there 
       beside address user = elim (lt_or_le address at) [
         | inl below ↦ inl below
         | inr from ↦ elim (lt_or_le address (at + 8 * length run)) [
-            | inl before ↦ absurd (
-                let whole : at % 8 ≡ 0 = there.words.aligned in
-                let fits = there.page in
-                not_of_user 0 (2 ^ 64) at address p.regions kept.laid (omega arith) (granted_within p at first.granted) user)
-            | inr above ↦ inr above
-          ]
+          | inl before ↦ absurd (
+              let whole : at % 8 ≡ 0 = there.words.aligned in
+              let fits = there.page in
+              not_of_user 0 (2 ^ 64) at address p.regions kept.laid (omega arith) (granted_within p at first.granted) user)
+          | inr above ↦ inr above
+        ]
       ]
 
       users : (address : ℕ) → IsTrue (is_of_user p.regions address) → reached words p.root address ≡ reached p.words p.root address

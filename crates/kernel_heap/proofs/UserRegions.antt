@@ -1,8 +1,7 @@
 -- Regions of the user are mapped and unmapped: the answer is allowed, and the machine stands for the state after it.
-use Rattle.std.proofs.Common.{◌≡◌, ◌≢◌, ℕ, ◌+◌, ◌*◌, ◌/◌, ◌%◌, ◌<◌, ◌≤◌, ◌||◌, nat_lt, List, [], ◌∷◌, refl, sym, ap, ◌∙◌, subst, arith, Bool, true, false, Option, Some, None}
+use Rattle.std.proofs.Common.{◌≡◌, ◌≢◌, ℕ, ◌+◌, ◌/◌, ◌<◌, ◌≤◌, ◌||◌, nat_lt, List, [], ◌∷◌, refl, sym, ap, ◌∙◌, subst, arith, Bool, true, false, Option, Some, None}
 use Rattle.std.specs.List.{list_any, AllByRecursion}
 use Rattle.std.proofs.lemmas.Bool.Decides.{nat_tests}
-use Rattle.paging_core.specs.Address.{IsCanonicalRange}
 use Rattle.paging_core.specs.Walk.{reached}
 use Rattle.paging_core.specs.declared.page_table.Rights.{Rights}
 use Rattle.heap_model.specs.declared.region.Region.{Region}
@@ -11,10 +10,10 @@ use Rattle.heap_model.specs.declared.answer.Answer.{Answer}
 use Rattle.heap_model.specs.declared.answer.Refusal.{Refusal}
 use Rattle.heap_model.specs.declared.live.Live.{Live}
 use Rattle.heap_model.specs.declared.answer.Reply.TheVariants.{Done}
-use Rattle.heap_model.specs.State.{State, end_of, is_within}
+use Rattle.heap_model.specs.State.{State, end_of}
 use Rattle.heap_model.specs.Tables.{missing, free_frames}
 use Rattle.heap_model.specs.Place.{meets, meets_any, is_at, without, with_region, all_regions}
-use Rattle.heap_model.specs.Room.{heap_region, user_region}
+use Rattle.heap_model.specs.Room.{user_region}
 use Rattle.heap_model.specs.Refusal.{is_page_range, must_refuse}
 use Rattle.heap_model.specs.Run.{IsGood, IsHeapRegion, IsUserRegion, AreInOrder}
 use Rattle.heap_model.specs.Machine.{Paged, ArePagesAdded, Seen, Stands, IsStep}

@@ -1,5 +1,5 @@
 -- Words of the heap's regions stay where other pages are mapped or unmapped.
-use Rattle.std.proofs.Common.{◌≡◌, ◌≢◌, ℕ, ◌+◌, ◌*◌, ◌/◌, ◌%◌, ◌^◌, ◌<◌, ◌≤◌, Bool, true, false, map, refl, sym, ap, ◌∙◌, subst, arith, Some, None, IsTrue, IsSome, Result, Ok, Err, OnOk, OnErr}
+use Rattle.std.proofs.Common.{◌≡◌, ℕ, ◌/◌, ◌%◌, ◌^◌, Bool, true, false, map, refl, sym, ap, ◌∙◌, subst, arith, Some, IsTrue, IsSome, Result, Ok, Err, OnOk, OnErr}
 use Rattle.paging_core.specs.Walk.{Place, reach, walk_of, top}
 use Rattle.paging_core.specs.Mapping.{IsRangeAdded}
 use Rattle.paging_core.specs.PageChanges.{among}

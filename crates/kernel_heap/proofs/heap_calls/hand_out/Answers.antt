@@ -1,9 +1,4 @@
 use Rattle.std.proofs.lemmas.Result.{IfOk-weaker}
-use Rattle.std.proofs.Common.{IfOk, sym, subst, true, false}
-use Rattle.dlmalloc.specs.Requested.{IsServedAt}
-use Rattle.dlmalloc.specs.Written.{IsServedCleared}
-use Rattle.kernel_heap.specs.Heap.{regions, word, zeros, follows, heap_state}
-use Rattle.kernel_heap.specs.Machine.{IsCutFor, AreZero}
 use Rattle.kernel_heap.proofs.HeapCalls.{cut_at, cut_cleared, words_zero}
 use Rattle.kernel_heap.proofs.heap_calls.hand_out.Goals as goal
 use Rattle.kernel_heap.proofs.heap_calls.hand_out.Goals.{then-cleared, else-cleared}

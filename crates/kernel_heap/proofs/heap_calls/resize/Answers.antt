@@ -1,9 +1,7 @@
 use Rattle.std.proofs.lemmas.Result.{IfOk-weaker}
-use Rattle.std.proofs.Common.{◌-◌, ◌==◌, IfOk, sym, subst, true, false}
+use Rattle.std.proofs.Common.{◌-◌, ◌==◌}
 use Rattle.dlmalloc.specs.State.{extents_in, size_where}
-use Rattle.dlmalloc.specs.Moved.{IsResized, IsGivenSize}
-use Rattle.kernel_heap.specs.Heap.{regions, word, zeros, follows, heap_state}
-use Rattle.kernel_heap.specs.Machine.{IsResizedTo}
+use Rattle.kernel_heap.specs.Heap.{heap_state}
 use Rattle.kernel_heap.proofs.HeapCalls.{resized_to, given_fewer, bytes_held}
 use Rattle.kernel_heap.proofs.heap_calls.resize.Goals as goal
 use Rattle.kernel_heap.proofs.heap_calls.resize.Goals.{then-keeps_alignment, else-keeps_alignment}

@@ -1,15 +1,14 @@
-use Rattle.std.proofs.Common.{rules, arith, ℕ, ◌+◌, ◌≤◌, vec_capacity, ◌<◌, ◌≡◌, ◌∙◌, ap, sym, subst, length, Some, Bool, true, false}
+use Rattle.std.proofs.Common.{rules, arith, ℕ, ◌+◌, ◌≤◌, vec_capacity, ◌≡◌, ◌∙◌, ap, sym, length, Some, Bool, true, false}
 use Rattle.std.specs.Int.{is_power_of_two}
 use Rattle.std.proofs.lemmas.Result.{IfOk-weaker}
 use Rattle.dlmalloc_chunks.specs.Request.{padded, wanted}
 use Rattle.dlmalloc_chunks.proofs.PowersOfTwo.{power_from_test}
 use Rattle.dlmalloc.specs.Requested.{asked}
 use Rattle.heap_model.specs.declared.answer.Reply.TheVariants.{Block as Placed}
-use Rattle.heap_model.specs.Machine.{IsStep}
 use Rattle.kernel_heap.specs.System.{paged}
 use Rattle.kernel_heap.specs.Words.{heap_regions}
 use Rattle.kernel_heap.specs.Heap.{heap_state}
-use Rattle.kernel_heap.specs.Machine.{seen, request, IsCutFor, HeapMoves}
+use Rattle.kernel_heap.specs.Machine.{request, IsCutFor, HeapMoves}
 use Rattle.kernel_heap.specs.declared.numbered_heap.NumberedHeap.{NumberedHeap}
 use Rattle.kernel_heap.proofs.Laid.{laid_handed, laid_denied}
 use Rattle.kernel_heap.proofs.Found.{few_regions}

@@ -1,18 +1,12 @@
-use Rattle.std.proofs.Common.{rules, arith, ℕ, ◌+◌, ◌≤◌, vec_capacity, ◌<◌, ◌≡◌, ◌∙◌, ap, sym, subst, length, Some, Bool, true, false}
-use Rattle.std.specs.Int.{is_power_of_two, IsPowerOfTwo}
+use Rattle.std.proofs.Common.{rules, arith, ◌+◌, ◌≤◌, vec_capacity, ◌≡◌, ◌∙◌, ap, sym, length}
 use Rattle.std.proofs.lemmas.Result.{IfOk-weaker}
-use Rattle.dlmalloc_chunks.specs.Request.{padded, wanted, limit}
-use Rattle.dlmalloc_chunks.proofs.PowersOfTwo.{test_of_power}
+use Rattle.dlmalloc_chunks.specs.Request.{padded}
 use Rattle.dlmalloc.specs.Requested.{asked}
-use Rattle.heap_model.specs.declared.live.Live.{Live}
-use Rattle.heap_model.specs.Machine.{IsStep}
 use Rattle.kernel_heap.specs.System.{paged}
-use Rattle.kernel_heap.specs.Heap.{heap_state}
-use Rattle.kernel_heap.specs.Machine.{seen, live_at, resizing, align_kept, IsResizedTo, HeapMoves, IsRefusalOf}
+use Rattle.kernel_heap.specs.Machine.{align_kept}
 use Rattle.kernel_heap.proofs.Laid.{laid_resized, laid_denied}
 use Rattle.kernel_heap.proofs.Found.{few_regions}
-use Rattle.kernel_heap.proofs.Refused.{step_refused, step_denied, wanted_asked}
-use Rattle.kernel_heap.proofs.Resized.{step_resized, step_unknown, step_not_resized, kept_power, moves_resizing}
+use Rattle.kernel_heap.proofs.Resized.{step_resized, step_not_resized, kept_power, moves_resizing}
 use Rattle.kernel_heap.proofs.numbered_heap.NumberedHeap.resize.Goals as goal
 
 pub resize-requires-clause-block : goal.resize-requires-clause-block

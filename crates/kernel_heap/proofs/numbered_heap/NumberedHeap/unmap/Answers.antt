@@ -1,4 +1,4 @@
-use Rattle.std.proofs.Common.{◌≡◌, ap, ◌∙◌, subst, sym}
+use Rattle.std.proofs.Common.{ap, ◌∙◌, subst, sym}
 use Rattle.heap_model.specs.declared.call.Call.TheVariants.{Unmap}
 use Rattle.heap_model.specs.Machine.{IsStep}
 use Rattle.mapped_regions.specs.Mapped.{IsLeft}

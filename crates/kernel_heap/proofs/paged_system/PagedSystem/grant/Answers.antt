@@ -1,4 +1,4 @@
-use Rattle.std.proofs.Common.{Result, Ok, Err, OnOk, OnErr, subst, sym}
+use Rattle.std.proofs.Common.{Result, Ok, Err, OnOk, subst, sym}
 use Rattle.heap_model.specs.declared.region.Region.{Region}
 use Rattle.mapped_regions.specs.Mapped.{IsRegion, CanMap, IsJoined}
 use Rattle.mapped_regions.specs.Shown.{shown}
