@@ -27,9 +27,9 @@ is_in_bounds grant =
 abbrev pub has_place : List FlatStep → Grant → Bool
 has_place before grant = is_in_bounds grant && not (list_any (λ step. overlaps grant step) before)
 
--- whether a Give is granted for so many bytes, after these steps
+-- whether a Give is granted for so many bytes, after these steps, whatever its flags
 abbrev pub is_given : List FlatStep → ℕ → Grant → Bool
-is_given before asked grant = nat_le asked grant.size && has_place before grant && grant.flags == 0
+is_given before asked grant = nat_le asked grant.size && has_place before grant
 
 -- what the next of the steps that are left answers to a request for so many bytes: past the end it is no space
 abbrev pub next_answer : List FlatStep → List FlatStep → ℕ → Result Grant GrantFault

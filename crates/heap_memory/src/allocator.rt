@@ -32,14 +32,13 @@ pub trait Allocator: Links {
     /// What the system says of two moments between which it did nothing but refuse a request.
     ghost refuses: { Self → Self → Type 0 };
 
-    /// Grants a region of at least `size` bytes, apart from all others. An `Err` changes no granted
+    /// Grants a region of at least `size` bytes, apart from all others, with any flags. An `Err` changes no granted
     /// region and no word in one; what the system denies next may change.
     fn alloc(&mut self, size: u64) -> Result<Grant, GrantFault>
         requires some { 0 < size }
         requires whole { size % 16 ≡ 0 }
         ensures good { IfOk result (λ grant. IsGoodGrant size grant) }
         ensures apart { IfOk result (λ grant. AllByRecursion (IsApart grant.base (grant.base + grant.size)) (Self.regions self.old)) }
-        ensures flags { IfOk result (λ grant. grant.flags ≡ 0) }
         ensures regions { IfOk result (λ grant. Self.regions self.new ≡ with_grant grant (Self.regions self.old)) }
         ensures zeros { IfOk result (λ grant. zeros self.old ≡ true →
             (at : ℕ) → grant.base ≤ at → at < grant.base + grant.size → at % 8 ≡ 0 → Self.word self.new at ≡ 0) }

@@ -71,7 +71,7 @@ impl Grant {
     pub(crate) fn is_given(&self, before: &[FlatStep], asked: u64) -> bool
         ensures { result ≡ is_given before.now asked self.now }
     {
-        asked <= self.size && self.has_place(before) && self.flags == 0
+        asked <= self.size && self.has_place(before)
     }
 }
 

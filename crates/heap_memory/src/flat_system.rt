@@ -20,9 +20,9 @@ use step_count::Steps;
 /// A system whose grants stand in a script: each request takes its next step. Its words are zero until they are
 /// stored, and are made with the system, so that no request wants memory.
 ///
-/// A Give is granted where it is as long as asked, its base and size are multiples of 16, its base is at least 4096
-/// and its end below 2^64, no byte of it is in a Give before it (granted or not), and its flags are 0. Any other Give is
-/// denied as `NoSpace`, and so is a request past the end of the script.
+/// A Give is granted with its flags, whatever they are, where it is as long as asked, its base and size are multiples of
+/// 16, its base is at least 4096 and its end below 2^64, and no byte of it is in a Give before it (granted or not). Any
+/// other Give is denied as `NoSpace`, and so is a request past the end of the script.
 #[derive(Drop)]
 pub struct FlatSystem {
     script: Script,
@@ -254,7 +254,6 @@ impl Allocator for FlatSystem {
         ensures left { left_of self.new.script ≡ drop 1 (left_of self.old.script) }
         ensures good { IfOk result (λ grant. IsGoodGrant size grant) }
         ensures apart { IfOk result (λ grant. AllByRecursion (IsApart grant.base (grant.base + grant.size)) (regions_of self.old)) }
-        ensures flags { IfOk result (λ grant. grant.flags ≡ 0) }
         ensures regions { IfOk result (λ grant. regions_of self.new ≡ with_grant grant (regions_of self.old)) }
         ensures zeros { IfOk result (λ grant. (at : ℕ) → grant.base ≤ at → at < grant.base + grant.size → at % 8 ≡ 0 → word_of self.new at ≡ 0) }
         ensures words { (at : ℕ) → word_of self.new at ≡ word_of self.old at }

@@ -97,9 +97,8 @@ fn each_step_is_answered(rt: HostRuntime) -> Result<(), Fail> {
             "over a denied one",
             no_space,
             3,
-            [FIRST, give(0x11000, 4080, 0), give(0x11000, 4096, 0)],
+            [FIRST, give(0x11000, 4080, 1), give(0x11000, 4096, 0)],
         ),
-        ("flags", no_space, 2, [FIRST, give(0x11000, 4096, 1), FIRST]),
         (
             "behind a gap",
             granted(0x20000, 4096),
@@ -149,6 +148,20 @@ fn each_step_is_answered(rt: HostRuntime) -> Result<(), Fail> {
             answer,
             "{name}"
         );
+    }
+    Ok(())
+}
+
+#[test]
+fn any_flags_are_granted(rt: HostRuntime) -> Result<(), Fail> {
+    for flags in [0, 1, 2, 3, 0x7fff_ffff, 0x8000_0000, 0xffff_ffff] {
+        let steps = [FIRST, give(0x11000, 4096, flags)];
+        let grant = Grant {
+            base: 0x11000,
+            size: 4096,
+            flags,
+        };
+        assert_eq!(rt; last_answer(rt.alloc(), &steps, 2)?, Ok(grant), "{flags}");
     }
     Ok(())
 }
