@@ -7,7 +7,7 @@ use Rattle.dlmalloc.specs.Blocks.{HasOneMore}
 use Rattle.dlmalloc.specs.Resized.{HasSameOthers}
 use Rattle.dlmalloc.specs.Aligned.{HasOneMoved, KeepsOthers}
 use Rattle.dlmalloc.specs.Heap.{state_of, IsSound}
-use Rattle.dlmalloc.specs.Served.{IsMoved}
+use Rattle.dlmalloc.specs.Served.{IsTurned}
 use Rattle.dlmalloc.specs.declared.heap.Dlmalloc.{Dlmalloc}
 use Rattle.dlmalloc.proofs.BlocksLaw.{blocks_law, keeps_on}
 
@@ -28,7 +28,7 @@ more_on first second third from to more moved = record {
 
 -- the others keep their words when the lead is freed, and then the tail
 pub kept_on : {A : Type 0} (regions : A → List Grant) (word : A → ℕ → ℕ) (follows : A → List Event → A → Type 0) (old middle new : Dlmalloc A) (from to : ℕ) → HasOneMoved (state_of word old) (state_of word middle) from to →
-    KeepsOthers (state_of word old) from (word old.system) (word middle.system) → IsSound regions word middle → HasSameOthers (state_of word middle) (state_of word new) to to → IsMoved regions word follows middle new →
+    KeepsOthers (state_of word old) from (word old.system) (word middle.system) → IsSound regions word middle → HasSameOthers (state_of word middle) (state_of word new) to to → IsTurned regions word follows middle new →
     KeepsOthers (state_of word old) from (word old.system) (word new.system)
 kept_on regions word follows old middle new from to moved kept sound same after blocks others =
     keeps_on blocks (word old.system) (word middle.system) (word new.system) (kept blocks others)

@@ -12,6 +12,7 @@ use Rattle.dlmalloc_chunks.specs.HeadLaws.{pinuse_of-head_of}
 use Rattle.dlmalloc_chunks.specs.Tiling.{extent_at}
 use Rattle.dlmalloc.specs.Extents.{is_used}
 use Rattle.dlmalloc.specs.State.{Segment, extents_in}
+use Rattle.dlmalloc.specs.Released.{IsFreeAround}
 use Rattle.dlmalloc.proofs.Places.{nat_is, nat_isnt, found_later}
 use Rattle.dlmalloc.proofs.Places.{extent, end_of}
 use Rattle.dlmalloc.specs.Extents.{Stands, Tiles, last_kind}
@@ -22,7 +23,8 @@ use Rattle.dlmalloc.proofs.Tiling.{sized, tiles_le}
 use Rattle.dlmalloc.proofs.More.{none_outside}
 use Rattle.dlmalloc.proofs.Run.{HasNext, behind, run_part, run_word}
 use Rattle.dlmalloc.proofs.Beside.{Left, left_of, next_one}
-use Rattle.dlmalloc.proofs.Tops.{is_top, the_top}
+use Rattle.dlmalloc.proofs.Tops.{is_top, the_top, top_among}
+use Rattle.dlmalloc.proofs.Growing.{some_segment}
 use Rattle.dlmalloc.proofs.Topping.{new_small, as_top_victim, as_top_other}
 use Rattle.dlmalloc.proofs.Disposing.{IsFree, run_one, below_top, end_small}
 
@@ -107,7 +109,7 @@ module _ {A : Type 0} (regions : A → List Grant) (word : A → ℕ → ℕ) (h
       omega (arith, is, small)
 
   module _ (from : ℕ) (from_is : from ≡ (if pinuse_of (words (at + 8)) then at else at - words at)) where
-    left_one : Left words one.segment.base one.first at from
+    pub left_one : Left words one.segment.base one.first at from
     left_one =
         let whole : size % 8 ≡ 0 = (let w = stands.size.0 in omega arith) in
         let told : pinuse_of (words (at + 8)) ≡ is_used (last_kind Used one.first) = ap pinuse_of stands.head ∙ pinuse_of-head_of size (is_used (last_kind Used one.first)) true whole in
@@ -164,14 +166,25 @@ module _ {A : Type 0} (regions : A → List Grant) (word : A → ℕ → ℕ) (h
         pub from_some : 4096 ≤ from
         from_some = omega (arith, from_low, base)
 
+        -- the top has the chunk's first byte
+        pub around_top : (new : Dlmalloc A) → IsSound regions word new → new.size ≡ heap.size → new.top ≡ from → new.top_size ≡ heap.top_size + (to - from) → IsFreeAround (state_of word new) at from
+        around_top new sound' size_same top top_size = record {
+          extent = extent new.top new.top_size Top;
+          there = ap (λ (k : ℕ). extent_at k (extents_in (state_of word new))) (sym top) ∙ top_among regions word new sound' (omega (arith, some_segment word heap at chunk there, size_same));
+          place = top;
+          free = refl;
+          low = from_at;
+          high = omega (arith, one.some, to_eq, top_size, from_at);
+        }
+
         module _ (system : A) (same : regions system ≡ regions heap.system) (stored : IsStored (regions heap.system) words (from + 8) (heap.top_size + (to - from) + 1) (word system)) where
           stored_at : IsStored (regions heap.system) words (from + 8) (heap.top_size + (at + size - from) + 1) (word system)
           stored_at = subst (λ (t : ℕ). IsStored (regions heap.system) words (from + 8) (heap.top_size + (t - from) + 1) (word system)) (sym to_eq) stored
 
-          pub top_victim : from ≤ heap.victim → heap.victim < to → IsFree regions word heap at (record heap { system = system; top = from; top_size = heap.top_size + (to - from); victim = 0; victim_size = 0 })
-          top_victim reached within = subst (λ (t : ℕ). IsFree regions word heap at (record heap { system = system; top = from; top_size = heap.top_size + (t - from); victim = 0; victim_size = 0 })) to_eq
+          pub top_victim : from ≤ heap.victim → heap.victim < to → IsFree regions word heap at size from to (record heap { system = system; top = from; top_size = heap.top_size + (to - from); victim = 0; victim_size = 0 })
+          top_victim reached within = subst (λ (t : ℕ). IsFree regions word heap at size from t (record heap { system = system; top = from; top_size = heap.top_size + (t - from); victim = 0; victim_size = 0 })) to_eq
               (as_top_victim regions word heap sound at size there (next_top (touches is)) from from_is system same stored_at reached (omega (arith, within, to_eq)))
 
-          pub top_other : (heap.victim < from) ⊎ (to ≤ heap.victim) → IsFree regions word heap at (record heap { system = system; top = from; top_size = heap.top_size + (to - from) })
-          top_other out = subst (λ (t : ℕ). IsFree regions word heap at (record heap { system = system; top = from; top_size = heap.top_size + (t - from) })) to_eq
+          pub top_other : (heap.victim < from) ⊎ (to ≤ heap.victim) → IsFree regions word heap at size from to (record heap { system = system; top = from; top_size = heap.top_size + (to - from) })
+          top_other out = subst (λ (t : ℕ). IsFree regions word heap at size from t (record heap { system = system; top = from; top_size = heap.top_size + (t - from) })) to_eq
               (as_top_other regions word heap sound at size there (next_top (touches is)) from from_is system same stored_at (subst (λ (t : ℕ). (heap.victim < from) ⊎ (t ≤ heap.victim)) (sym to_eq) out))

@@ -6,7 +6,7 @@ use Rattle.heap_memory.specs.declared.grant.Grant.{Grant}
 use Rattle.heap_memory.specs.Events.{Event}
 use Rattle.heap_memory.specs.Regions.{IsWordOf, IsWhole}
 use Rattle.dlmalloc_chunks.specs.declared.extent.Extent.{Extent}
-use Rattle.dlmalloc_chunks.specs.declared.extent.Kind.TheVariants.{Used, Top, Record}
+use Rattle.dlmalloc_chunks.specs.declared.extent.Kind.TheVariants.{Used, Top}
 use Rattle.dlmalloc_chunks.specs.Chunk.{HasHead}
 use Rattle.dlmalloc_chunks.specs.Head.{head_of}
 use Rattle.dlmalloc.specs.Extents.{extent_at, Tiles}
@@ -18,10 +18,9 @@ use Rattle.dlmalloc.specs.Prepended.{IsHeadBehind, IsToldBehind}
 use Rattle.dlmalloc.specs.Segments.{IsSegment, AreSegments, record_of, AreRecords}
 use Rattle.dlmalloc.specs.Heap.{segments_of, state_of, AreTold, IsSound}
 use Rattle.dlmalloc.specs.declared.heap.Dlmalloc.{Dlmalloc}
-use Rattle.dlmalloc.proofs.Places.{extent, nat_isnt, found}
-use Rattle.dlmalloc.proofs.Tiling.{tiles_kept, tiles_split, tiles_append, tiles_le}
-use Rattle.dlmalloc.proofs.Reading.{nothing, none_behind_record}
+use Rattle.dlmalloc.proofs.Places.{extent, nat_isnt}
 use Rattle.dlmalloc.proofs.Segments.{all_at, IsIn, in_part}
+use Rattle.dlmalloc.proofs.Recorded.{recorded_tiles}
 use Rattle.dlmalloc.proofs.Retold.{KeepsIts, IsOutside, one_stays, records_stay}
 use Rattle.dlmalloc.proofs.Prepending.{before_means, front_parts, back_parts, front_keeps, back_keeps, in_now, among_new, is_prepended}
 use Rattle.dlmalloc.proofs.SegmentBehind.{told_around}
@@ -144,27 +143,8 @@ module _ {A : Type 0} (regions : A → List Grant) (word : A → ℕ → ℕ) (f
         (λ is. omega (arith, is, low, segment_place, fresh.long)) (λ is. omega (arith, is, low, segment_place, room)) not_base not_size
 
     tiles_told : Tiles (word system) Used b.segment.base b.segment.extents end
-    tiles_told =
-        let f = found (payload - 16) (record_of (payload - 16) end) b.segment.extents b.told.4 in
-        let s = tiles_split (word heap.system) Used b.segment.base f.front (record_of (payload - 16) end ∷ f.back) end (subst (λ (es : List Extent). Tiles (word heap.system) Used b.segment.base es end) f.is segment_part.extents) in
-        let at : payload - 16 ≡ s.middle = s.second.0 in
-        let low = tiles_le (word heap.system) Used b.segment.base f.front s.middle s.first in
-        let last = nothing (word heap.system) Record (s.middle + (end - (payload - 16))) f.back end none_behind_record s.second.2 in
-        subst (λ (es : List Extent). Tiles (word system) Used b.segment.base es end) (sym f.is)
-        (tiles_append (word system) Used b.segment.base f.front (record_of (payload - 16) end ∷ f.back) s.middle end
-        (tiles_kept (word heap.system) (word system) Used b.segment.base f.front s.middle s.first
-        (λ k above below m free. kept_in k above (omega (arith, below, at, record_long, payload_some)) m (λ is. omega (arith, is, below, at, payload_some)) (λ is. omega (arith, is, below, at, payload_some)))) (
-          at,
-          record {
-            whole = s.second.1.whole;
-            size = s.second.1.size;
-            kind = s.second.1.kind;
-            head = kept_in (payload - 16 + 8) (omega (arith, at, low)) (omega (arith, record_long, payload_some)) (omega (arith, payload_whole, payload_some)) (λ is. omega (arith, is, payload_some)) (λ is. omega (arith, is, payload_some)) ∙ s.second.1.head;
-            foot = λ free. absurd (cc);
-            fence = λ is k above below m. kept_in k (omega (arith, above, at, low)) (omega (arith, below, record_long)) m (λ e. omega (arith, e, above, payload_some)) (λ e. omega (arith, e, above, payload_some)) ∙ s.second.1.fence is k above below m;
-          },
-          subst (λ (es : List Extent). Tiles (word system) Record (s.middle + (end - (payload - 16))) es end) (sym last.0) last.1,
-        ))
+    tiles_told = recorded_tiles (regions heap.system) (word heap.system) b.segment segment_part payload payload_some b.told.4 (word system)
+        (λ k low high m out. kept_in k low high m (λ is. elim out [ inl below ↦ omega (arith, is, below) | inr above ↦ omega (arith, is, above) ]) (λ is. elim out [ inl below ↦ omega (arith, is, below) | inr above ↦ omega (arith, is, above) ]))
 
     abbrev now_told : Segment
     now_told = put_before grant n b.segment
@@ -192,7 +172,7 @@ module _ {A : Type 0} (regions : A → List Grant) (word : A → ℕ → ℕ) (f
     told_after =
         let parts = front_parts regions word heap told_new sound grant fresh same n multiple least room front b.segment b.back b.is b.joins IsUntold untold_outside kept_untold in
         let keeps = front_keeps regions word heap told_new sound grant fresh same n multiple least room front b.segment b.back b.is b.joins IsUntold untold_outside kept_untold in
-        (heap_told.0, heap_told.1, heap_told.2, heap_told.3, heap_told.4, told_around (regions heap.system) (word heap.system) (word system) b.segment now_told b.back b.front payload heap.next b.reached parts.1 keeps.1 heap_told.5 here_told)
+        (heap_told.0, heap_told.1, heap_told.2, heap_told.3, heap_told.4, told_around (regions heap.system) (word heap.system) (word system) (b.segment ∷ b.back) (now_told ∷ b.back) b.front payload heap.next b.reached parts.1 keeps.1 heap_told.5 here_told)
 
     recorded : (k : ℕ) → (IsInRecord (state_of word told_new) k → ⊥) → IsUntold k
     recorded k tag = (

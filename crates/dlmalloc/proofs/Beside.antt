@@ -12,7 +12,7 @@ use Rattle.dlmalloc_chunks.specs.Kinds.{is_free, ends_segment}
 use Rattle.dlmalloc_chunks.specs.Tiling.{extent_at}
 use Rattle.dlmalloc.specs.Extents.{is_used}
 use Rattle.dlmalloc.specs.State.{Segment, is_plain}
-use Rattle.dlmalloc.proofs.Places.{extent, end_of}
+use Rattle.dlmalloc.proofs.Places.{extent, end_of, nat_is, found_here}
 use Rattle.dlmalloc.specs.Extents.{MayStand, told_size, Stands, Tiles, last_kind}
 use Rattle.dlmalloc.specs.Moves.{IsRunOf, used_of}
 use Rattle.dlmalloc.specs.Segments.{AreSegments}
@@ -35,6 +35,30 @@ one_free extent free k one there = go (extent.at == k) there
     go : (b : Bool) → (if b then Some extent else None) ≡ Some one → one.kind ≡ Free
     go true is = ap (λ (o : Option Extent). (unwrap_or o extent).kind) (sym is) ∙ free
     go false is = absurd (cc)
+
+-- ---- what is found among them
+
+pub the_one : (k : ℕ) (one other : Extent) → extent_at k (one ∷ []) ≡ Some other → one ≡ other
+the_one k one other there = go (one.at == k) there
+  where
+    go : (b : Bool) → (if b then Some one else None) ≡ Some other → one ≡ other
+    go true is = ap (λ (o : Option Extent). unwrap_or o one) is
+    go false is = absurd (cc)
+
+-- one that is joined begins where they do
+pub beside_place : (words : ℕ → ℕ) (before : Kind) (from : ℕ) (extents : List Extent) (to : ℕ) → IsBeside extents → Tiles words before from extents to → (k : ℕ) (one : Extent) → extent_at k extents ≡ Some one → k ≡ from
+beside_place words before from [] to beside h k one there = absurd (cc)
+beside_place words before from (extent ∷ []) to beside h k one there = go (extent.at == k) refl there
+  where
+    go : (b : Bool) → (extent.at == k) ≡ b → (if b then Some extent else None) ≡ Some one → k ≡ from
+    go true test is = sym (nat_is test) ∙ h.0
+    go false test is = absurd (cc)
+beside_place words before from (extent ∷ next ∷ extents) to beside h k one there = absurd beside
+
+-- where extents begin, one does
+pub first_there : (words : ℕ → ℕ) (before : Kind) (from : ℕ) (extents : List Extent) (next : Extent) (to : ℕ) → Tiles words before from (extents ++ next ∷ []) to → (one : Extent) × (extent_at from (extents ++ next ∷ []) ≡ Some one)
+first_there words before from [] next to h = (next, subst (λ (a : ℕ). extent_at a (next ∷ []) ≡ Some next) h.0 (found_here next []))
+first_there words before from (extent ∷ extents) next to h = (extent, subst (λ (a : ℕ). extent_at a (extent ∷ (extents ++ next ∷ [])) ≡ Some extent) h.0 (found_here extent (extents ++ next ∷ [])))
 
 -- the extents before one at an address: those that stay, and the free one that is joined, if there is one
 pub record Left (words : ℕ → ℕ) (base : ℕ) (extents : List Extent) (at from : ℕ) : Type 0 where

@@ -7,6 +7,8 @@ use Rattle.heap_memory.specs.Words.{AreWordsOf, IsBeside}
 use Rattle.dlmalloc.specs.Extents.{extent_at}
 use Rattle.dlmalloc.specs.State.{extents_in}
 use Rattle.dlmalloc.specs.Blocks.{IsBlock, IsInside}
+use Rattle.bins.specs.Laws.{IndexStays}
+use Rattle.dlmalloc.specs.Binned.{IsBinned}
 use Rattle.dlmalloc.specs.Heap.{state_of, IsSound}
 use Rattle.dlmalloc.specs.Served.{OnlyBlocksChange}
 use Rattle.dlmalloc.specs.Requested.{IsServedAt}
@@ -14,7 +16,7 @@ use Rattle.dlmalloc.specs.Written.{words_in, IsSameHeap}
 use Rattle.dlmalloc.specs.declared.heap.Dlmalloc.{Dlmalloc}
 use Rattle.dlmalloc.proofs.Places.{found}
 use Rattle.dlmalloc.proofs.Laws.{used_inside, same_regions}
-use Rattle.dlmalloc.proofs.Outside.{still_sound, still_state}
+use Rattle.dlmalloc.proofs.Outside.{still_sound, still_state, still_binned}
 
 module _ {A : Type 0} (regions : A → List Grant) (word : A → ℕ → ℕ) (heap : Dlmalloc A) (sound : IsSound regions word heap) (address size : ℕ) (block : IsBlock (state_of word heap) address size) where
   place : block.extent.at ≡ address - 16
@@ -57,6 +59,10 @@ module _ {A : Type 0} (regions : A → List Grant) (word : A → ℕ → ℕ) (h
         regions_same = same;
         followed = followed;
       }
+
+  pub same_binned : IndexStays → (n : ℕ) → n ≤ size → (system : A) → regions system ≡ regions heap.system →
+      ((other : ℕ) → IsWordOf (regions heap.system) other → IsBeside address (words_in n) other → word system other ≡ word heap.system other) → IsBinned regions word heap → IsBinned regions word (record heap { system = system })
+  same_binned stays n less system same elsewhere = still_binned regions word heap sound system (same_regions regions word heap sound system same) (only_block n less (word system) elsewhere) stays
 
 -- a block that was handed out is one of a sound heap
 pub served_block : {A : Type 0} (regions : A → List Grant) (word : A → ℕ → ℕ) (zeros : A → Bool) (follows : A → List Event → A → Type 0) (old : Dlmalloc A) (size align address : ℕ) (new : Dlmalloc A) →

@@ -1,5 +1,5 @@
 -- Which extent of a sound heap is chosen.
-use Rattle.std.proofs.Common.{◌≡◌, ◌≢◌, ℕ, ◌+◌, ◌^◌, ◌<◌, ◌≤◌, inl, inr, Bool, true, false, ◌&&◌, ◌==◌, nat_le, nat_lt, if◌then◌else◌, List, [], ◌∷◌, ◌++◌, Option, Some, None, refl, sym, ◌∙◌, ap, subst, arith}
+use Rattle.std.proofs.Common.{◌≡◌, ◌≢◌, ℕ, ◌+◌, ◌^◌, ◌<◌, ◌≤◌, inl, inr, Bool, true, false, not, ◌&&◌, ◌==◌, nat_le, nat_lt, if◌then◌else◌, List, [], ◌∷◌, ◌++◌, Option, Some, None, IsTrue, refl, sym, ◌∙◌, ap, subst, arith}
 use Rattle.std.specs.Prelude.{unwrap_or, option_map}
 use Rattle.std.specs.Option.{option_or}
 use Rattle.std.specs.List.{find}
@@ -9,8 +9,8 @@ use Rattle.heap_memory.specs.declared.grant.Grant.{Grant}
 use Rattle.dlmalloc_chunks.specs.declared.extent.Extent.{Extent}
 use Rattle.dlmalloc_chunks.specs.declared.extent.Kind.TheVariants.{Used, Free, Top, Foot}
 use Rattle.dlmalloc.specs.Extents.{extent_at}
-use Rattle.dlmalloc.specs.State.{HeapState, Segment, extents_in, is_top, is_plain, is_victim, size_where}
-use Rattle.dlmalloc.specs.Choice.{OfBins, TheVictim, TheTop, least_fit, goes_first, choose, chosen, IsChosen}
+use Rattle.dlmalloc.specs.State.{HeapState, Segment, extents_in, is_top, is_plain, is_victim, is_binned, size_where}
+use Rattle.dlmalloc.specs.Choice.{Choice, OfBins, TheVictim, TheTop, least_fit, goes_first, choose, chosen, is_one_of, IsChosen}
 use Rattle.dlmalloc.specs.Segments.{IsSegment, AreSegments}
 use Rattle.dlmalloc.specs.Walk.{AreChunks, IsChunkKind}
 use Rattle.dlmalloc.specs.Heap.{segments_of, state_of, AreTold, IsSound}
@@ -121,7 +121,7 @@ module _ {A : Type 0} (regions : A → List Grant) (word : A → ℕ → ℕ) (h
   top_there = top_among regions word heap sound some
 
   -- the size of the top
-  top_size_is : size_where (λ extent. is_top extent.kind) (extents_in state) ≡ heap.top_size
+  pub top_size_is : size_where (λ extent. is_top extent.kind) (extents_in state) ≡ heap.top_size
   top_size_is = go (segments_of word heap) sound.segments sound.told
     where
       go : (segments : List Segment) → AreSegments (regions heap.system) (word heap.system) segments → AreTold (word heap.system) heap segments → size_where (λ extent. is_top extent.kind) (extents_all segments) ≡ heap.top_size
@@ -188,6 +188,38 @@ module _ {A : Type 0} (regions : A → List Grant) (word : A → ℕ → ℕ) (h
     -- nothing
     pub none_chosen : least_fit state n ≡ None → heap.victim_size < n → heap.top_size ≤ n → chosen state n ≡ None
     none_chosen fit small few = chosen_is None fit ∙ (let one : nat_le n heap.victim_size ≡ false = grind (arith, nat_tests) in let two : nat_lt n heap.top_size ≡ false = grind (arith, nat_tests) in rw (one, two) refl)
+
+-- a binned one is not the victim
+pub bins_no_victim : (heap : HeapState) (n size : ℕ) (extent : Extent) → IsChosen heap n extent → chosen heap n ≡ Some (OfBins size) → extent.at ≢ heap.victim
+bins_no_victim heap n size extent h is same = go h.choice (the_choice (sym h.is ∙ is)) h.one
+  where
+    the_choice : {one other : Choice} → Some one ≡ Some other → one ≡ other
+    the_choice {one} {other} e = ap (λ (o : Option Choice). unwrap_or o one) e
+
+    victim_binned : (plain victim sized : Bool) → victim ≡ true → ((plain && not victim) && sized) ≡ true → ⊥
+    victim_binned true true sized is test = (cc)
+    victim_binned false true sized is test = (cc)
+    victim_binned plain false sized is test = (cc)
+
+    go : (choice : Choice) → choice ≡ OfBins size → IsTrue (is_one_of heap choice extent) → ⊥
+    go choice e one =
+        let binned : (is_binned heap extent && extent.size == size) ≡ true = subst (λ (c : Choice). IsTrue (is_one_of heap c extent)) e one in
+        let test : (extent.at == heap.victim) ≡ true = (let e = same in grind (arith, nat_tests)) in
+        victim_binned (is_plain extent.kind) (extent.at == heap.victim) (extent.size == size) test binned
+
+-- and the top is in no bin
+pub top_no_bins : (heap : HeapState) (n size : ℕ) (extent : Extent) → IsChosen heap n extent → extent.kind ≡ Top → chosen heap n ≡ Some (OfBins size) → ⊥
+top_no_bins heap n size extent h top is = go h.choice (ap (λ (o : Option Choice). unwrap_or o h.choice) (sym h.is ∙ is)) h.one
+  where
+    no_plain : (plain victim sized : Bool) → plain ≡ false → ((plain && not victim) && sized) ≡ true → ⊥
+    no_plain true victim sized is test = (cc)
+    no_plain false victim sized is test = (cc)
+
+    go : (choice : Choice) → choice ≡ OfBins size → IsTrue (is_one_of heap choice extent) → ⊥
+    go choice e one =
+        let binned : (is_binned heap extent && extent.size == size) ≡ true = subst (λ (c : Choice). IsTrue (is_one_of heap c extent)) e one in
+        let plain : is_plain extent.kind ≡ false = ap is_plain top in
+        no_plain (is_plain extent.kind) (extent.at == heap.victim) (extent.size == size) plain binned
 
 -- what holds of a place holds of the one that is returned
 pub of_place : (P : Place → Type 0) (old new : Place) → Some (Chunk old) ≡ Some (Chunk new) → P old → P new

@@ -17,9 +17,12 @@ use Rattle.dlmalloc.specs.State.{Segment, extents_in}
 use Rattle.dlmalloc.specs.Taken.{in_segments}
 use Rattle.dlmalloc.specs.Freed.{freed_in, victim_in, freed}
 use Rattle.dlmalloc.specs.Boundaries.{OnlyBoundariesChange}
+use Rattle.dlmalloc.specs.Released.{IsFreeAround}
 use Rattle.dlmalloc.specs.Blocks.{HasOneMore}
 use Rattle.dlmalloc.proofs.Places.{nat_is, nat_same, nat_isnt, found_either, found_later, found_more}
-use Rattle.dlmalloc.proofs.Places.{extent, same_extent, end_of}
+use Rattle.dlmalloc.proofs.Places.{extent, same_extent, end_of, the_extent}
+use Rattle.bins.specs.Index.{IsIn}
+use Rattle.dlmalloc.specs.Binned.{IsJoint, FreeMoves}
 use Rattle.dlmalloc.specs.Extents.{Stands, Tiles, last_kind}
 use Rattle.dlmalloc.specs.Moves.{IsMove, IsRunOf, HasMore, used_of}
 use Rattle.dlmalloc.specs.Heap.{segments_of, state_of, IsSound}
@@ -31,18 +34,21 @@ use Rattle.dlmalloc.proofs.Freeing.{join}
 use Rattle.dlmalloc.proofs.Segments.{extents_all, with_extents}
 use Rattle.dlmalloc.proofs.Run.{behind, run_of, run_part, run_word, step_beside}
 use Rattle.dlmalloc.proofs.Freed.{freed_run, joint_kind}
-use Rattle.dlmalloc.proofs.Beside.{Left, left_of, with_left, Right, next_one, right_of}
-use Rattle.dlmalloc.proofs.Tops.{the_top}
+use Rattle.dlmalloc.proofs.Beside.{Left, left_of, with_left, Right, next_one, right_of, the_one, beside_place, first_there}
+use Rattle.dlmalloc.proofs.FreeMoving.{IsThere, free_moves}
+use Rattle.dlmalloc.proofs.Tops.{the_top, top_among}
 use Rattle.dlmalloc.proofs.Victim.{has_in, victim_same}
-use Rattle.dlmalloc.proofs.Steps.{IsStep, read, segments_now, apart_now, found_new, found_again, keeps_words, stays_sound, has_less}
+use Rattle.dlmalloc.proofs.Steps.{IsStep, read, segments_now, apart_now, found_new, found_again, keeps_words, stays_sound, some_there, has_less}
 
--- an extent in use was freed
-pub record IsFree {A : Type 0} (regions : A → List Grant) (word : A → ℕ → ℕ) (old : Dlmalloc A) (at : ℕ) (new : Dlmalloc A) : Type 0 where
+-- An extent in use was freed, with the free ones beside it, up to an address from another on.
+pub record IsFree {A : Type 0} (regions : A → List Grant) (word : A → ℕ → ℕ) (old : Dlmalloc A) (at size from to : ℕ) (new : Dlmalloc A) : Type 0 where
   pub state : state_of word new ≡ freed (state_of word old) at
   pub less : HasOneMore (state_of word new) (state_of word old) at
   pub sound : IsSound regions word new
   pub words : OnlyBoundariesChange (regions old.system) (state_of word new) (word old.system) (word new.system)
   pub records : (one : Extent) → one.kind ≡ Record → extent_at one.at (extents_in (state_of word old)) ≡ Some one → extent_at one.at (extents_in (state_of word new)) ≡ Some one
+  pub free : FreeMoves (state_of word old) (state_of word new) (from ∷ (at + size) ∷ []) (from ∷ [])
+  pub joined : IsJoint (state_of word new) new.top from (to - from)
 
 pub begins_whole : (words : ℕ → ℕ) (before : Kind) (from : ℕ) (front : List Extent) (extent : Extent) (back : List Extent) (to : ℕ) → Tiles words before from (front ++ extent ∷ back) to → from % 16 ≡ 0
 begins_whole words before from [] extent back to h = let place = h.0 in let whole = h.1.whole in omega arith
@@ -244,6 +250,39 @@ module _ {A : Type 0} (regions : A → List Grant) (word : A → ℕ → ℕ) (h
           ∙ ap (λ (l : List Extent). chunk ∷ l) (used_append right.rights (next ∷ []) ∙ ap (λ (l : List Extent). l ++ used_of (next ∷ [])) right.none));
     }
 
+    -- ---- the free ones of the run
+
+    no_free_next : (k bytes : ℕ) → next ≡ extent k bytes Free → ⊥
+    no_free_next k bytes is =
+        let kind : next.kind ≡ Free = ap (λ (e : Extent). e.kind) is in
+        elim (right.kind) [ inl used ↦ (let no : Used ≡ Free = sym used ∙ kind in cc) | inr tail ↦ (let no : Record ≡ Free = sym tail ∙ kind in cc) ]
+
+    in_less : (k bytes : ℕ) → extent_at k less ≡ Some (extent k bytes Free) → IsIn k (from ∷ (at + size) ∷ [])
+    in_less k bytes found = elim (found_either k left.lefts (chunk ∷ (right.rights ++ next ∷ [])) (extent k bytes Free) found) [
+      | inl first ↦ inl (beside_place words Used from left.lefts at left.beside left.lefts_stand k (extent k bytes Free) first)
+      | inr later ↦ elim (found_either k (chunk ∷ []) (right.rights ++ next ∷ []) (extent k bytes Free) later.1) [
+        | inl here ↦ absurd (let no : Used ≡ Free = ap (λ (e : Extent). e.kind) (the_one k chunk (extent k bytes Free) here) in cc)
+        | inr behind ↦ elim (found_either k right.rights (next ∷ []) (extent k bytes Free) behind.1) [
+          | inl beside ↦ (let s = tiles_split words Used (at + size) right.rights (next ∷ []) end right.run.here.2 in
+              inr (inl (beside_place words Used (at + size) right.rights s.middle right.beside s.first k (extent k bytes Free) beside)))
+          | inr last ↦ absurd (no_free_next k bytes (the_one k next (extent k bytes Free) last.1))
+        ]
+      ]
+    ]
+
+    in_more : (k bytes : ℕ) → extent_at k more ≡ Some (extent k bytes Free) → IsIn k (from ∷ [])
+    in_more k bytes found = elim (found_either k (joint ∷ []) (next ∷ []) (extent k bytes Free) found) [
+      | inl first ↦ inl (sym (ap (λ (e : Extent). e.at) (the_one k joint (extent k bytes Free) first)))
+      | inr later ↦ absurd (no_free_next k bytes (the_one k next (extent k bytes Free) later.1))
+    ]
+
+    -- something stands behind it
+    right_there : IsThere (at + size) less
+    right_there =
+        let f = first_there words Used (at + size) right.rights next end right.run.here.2 in
+        let test : (at == at + size) ≡ false = nat_isnt (inl (let long = stands.size.1 in omega arith)) in
+        (f.0, found_later (at + size) left.lefts (chunk ∷ (right.rights ++ next ∷ [])) (none_outside words Used from left.lefts at (at + size) (inr (omega arith)) left.lefts_stand) ∙ rw test f.1)
+
     -- ---- the words are stored
 
     module _ (system : A) (same : regions system ≡ regions heap.system)
@@ -272,7 +311,15 @@ module _ {A : Type 0} (regions : A → List Grant) (word : A → ℕ → ℕ) (h
           ∙ ap (λ (e : Extent). run.front ++ with_extents run.segment (run.first ++ (e ∷ next ∷ run.last)) ∷ run.back) is
 
       abbrev Freed : ℕ → ℕ → Type 0
-      Freed victim victim_size = IsFree regions word heap at (after victim victim_size)
+      Freed victim victim_size = IsFree regions word heap at size from to (after victim victim_size)
+
+      joint_there : (victim victim_size : ℕ) → extent_at from (extents_in (state_of word (after victim victim_size))) ≡ Some joint
+      joint_there victim victim_size = let test : (from == from) ≡ true = nat_same from in found_new regions word heap (after victim victim_size) sound less more (step victim victim_size) from joint (rw test refl)
+
+      freed_free : (victim victim_size : ℕ) → FreeMoves (state_of word heap) (state_of word (after victim victim_size)) (from ∷ (at + size) ∷ []) (from ∷ [])
+      freed_free victim victim_size = free_moves regions word heap (after victim victim_size) sound less more (step victim victim_size) (from ∷ (at + size) ∷ []) (from ∷ []) in_less in_more
+          (λ k is. elim is [ inl same ↦ inl (inl same) | inr later ↦ elim later [ inl same ↦ inr (subst (λ (a : ℕ). IsThere a less) (sym same) right_there) | inr none ↦ absurd none ] ])
+          (λ k is. elim is [ inl same ↦ inl (inl same) | inr none ↦ absurd none ])
 
       done : (victim victim_size : ℕ) → (victim_size ≢ 0 → extent_at victim (extents_in (state_of word (after victim victim_size))) ≡ Some (extent victim victim_size Free)) → (victim_size ≡ 0 → victim ≡ 0) →
           victim ≡ victim_in heap.victim (extents_in (state_of word (after victim victim_size))) → Freed victim victim_size
@@ -285,17 +332,23 @@ module _ {A : Type 0} (regions : A → List Grant) (word : A → ℕ → ℕ) (h
             sound = stays_sound regions word heap (after victim victim_size) sound less more (step victim victim_size) same refl refl refl refl none named;
             words = keeps_words regions word heap (after victim victim_size) sound less more (step victim victim_size);
             records = λ one is there. found_again regions word heap (after victim victim_size) sound less more (step victim victim_size) one.at one (λ found. (tails one.at one found).0 is) there;
+            free = freed_free victim victim_size;
+            joined = inr (
+              λ is.
+                  let top = found_again regions word heap (after victim victim_size) sound less more (step victim victim_size) heap.top (extent heap.top heap.top_size Top) (λ found. (tails heap.top (extent heap.top heap.top_size Top) found).1 refl)
+                  (top_among regions word heap sound (some_there regions word heap (after victim victim_size) sound less more (step victim victim_size))) in
+                  let here : extent_at heap.top (extents_in (state_of word (after victim victim_size))) ≡ Some joint = subst (λ (a : ℕ). extent_at a (extents_in (state_of word (after victim victim_size))) ≡ Some joint) is (joint_there victim victim_size) in
+                  (let no : Free ≡ Top = ap (λ (e : Extent). e.kind) (the_extent (sym here ∙ top)) in cc),
+              joint_there victim victim_size,
+            );
           }
 
       -- the victim was one of those that are joined
       pub as_victim : from ≤ heap.victim → heap.victim < to → Freed from (to - from)
-      as_victim reached within = done from (to - from) (λ some. joint_there) (λ none. absurd (omega (arith, none, room)))
+      as_victim reached within = done from (to - from) (λ some. joint_there from (to - from)) (λ none. absurd (omega (arith, none, room)))
           (sym (ap (λ (o : Option Extent). unwrap_or (option_map (λ (e : Extent). e.at) o) 0)
           (has_in (regions system) (word system) (segments_of word (after from (to - from))) (segments_now regions word heap (after from (to - from)) sound less more (step from (to - from))) (apart_now regions word heap (after from (to - from)) sound less more (step from (to - from)))
-          joint heap.victim joint_there refl reached (omega (arith, within, room)))))
-        where
-          joint_there : extent_at from (extents_in (state_of word (after from (to - from)))) ≡ Some joint
-          joint_there = let test : (from == from) ≡ true = nat_same from in found_new regions word heap (after from (to - from)) sound less more (step from (to - from)) from joint (rw test refl)
+          joint heap.victim (joint_there from (to - from)) refl reached (omega (arith, within, room)))))
 
       -- it stays
       pub as_other : (heap.victim < from) ⊎ (to ≤ heap.victim) → Freed heap.victim heap.victim_size
@@ -304,3 +357,14 @@ module _ {A : Type 0} (regions : A → List Grant) (word : A → ℕ → ℕ) (h
         where
           named : heap.victim_size ≢ 0 → extent_at heap.victim (extents_in (state_of word (after heap.victim heap.victim_size))) ≡ Some (extent heap.victim heap.victim_size Free)
           named some = found_again regions word heap (after heap.victim heap.victim_size) sound less more (step heap.victim heap.victim_size) heap.victim (extent heap.victim heap.victim_size Free) (λ found. sym (beyond heap.victim out) ∙ found) (sound.victim some)
+
+      -- the free chunk has the chunk's first byte
+      pub around : (victim victim_size : ℕ) → IsFreeAround (state_of word (after victim victim_size)) at from
+      around victim victim_size = record {
+        extent = joint;
+        there = let test : (from == from) ≡ true = nat_same from in found_new regions word heap (after victim victim_size) sound less more (step victim victim_size) from joint (rw test refl);
+        place = refl;
+        free = refl;
+        low = from_at;
+        high = omega (arith, room, right.reach, stands.size.1);
+      }

@@ -12,18 +12,21 @@ use Rattle.dlmalloc.specs.Extents.{extent_at}
 use Rattle.dlmalloc.specs.State.{HeapState, extents_in, size_where}
 use Rattle.dlmalloc.specs.Blocks.{IsBlock, HasOneMore, KeepsBlocks}
 use Rattle.dlmalloc.specs.Resized.{in_place, HasSameOthers}
+use Rattle.bins.specs.Laws.{IndexStays}
+use Rattle.dlmalloc.specs.Binned.{IsBinned}
 use Rattle.dlmalloc.specs.Heap.{state_of, IsSound}
-use Rattle.dlmalloc.specs.Served.{IsMoved, IsFreed}
+use Rattle.dlmalloc.specs.Served.{IsTurned}
+use Rattle.dlmalloc.specs.AfterFree.{IsFreed}
 use Rattle.dlmalloc.specs.Requested.{IsServedAt}
 use Rattle.dlmalloc.specs.Written.{words_in, IsSameHeap}
 use Rattle.dlmalloc.specs.Moved.{others_at, IsInPlace}
 use Rattle.dlmalloc.specs.declared.heap.Dlmalloc.{Dlmalloc}
 use Rattle.dlmalloc.proofs.Places.{extent, the_extent, found, nat_is, nat_same}
 use Rattle.dlmalloc.proofs.Splitting.{differ}
-use Rattle.dlmalloc.proofs.BlocksLaw.{kept_in, blocks_law}
+use Rattle.dlmalloc.proofs.BlocksLaw.{not_in_free, kept_in, blocks_law}
 use Rattle.dlmalloc.proofs.Laws.{used_inside, used_apart}
 use Rattle.dlmalloc.proofs.BlockChunks.{blocks_apart}
-use Rattle.dlmalloc.proofs.BlockWords.{block_words, same_heap, served_block}
+use Rattle.dlmalloc.proofs.BlockWords.{block_words, same_heap, served_block, same_binned}
 
 place_found : (k : ℕ) (extents : List Extent) (one : Extent) → extent_at k extents ≡ Some one → one.at ≡ k
 place_found k extents one there = (found k one extents there).place
@@ -78,11 +81,11 @@ other_there at (first ∷ extents) k one there = go (first.at == at) (first.at =
 
 -- ---- where it stands
 
-pub stays_there : {A : Type 0} (regions : A → List Grant) (word : A → ℕ → ℕ) (follows : A → List Event → A → Type 0) (old new : Dlmalloc A) (ptr n held size whole : ℕ) → IsSound regions word old → IsBlock (state_of word old) ptr n → size < limit old.granularity →
+pub stays_there : {A : Type 0} (regions : A → List Grant) (word : A → ℕ → ℕ) (follows : A → List Event → A → Type 0) (old new : Dlmalloc A) (ptr n held size whole : ℕ) → IsSound regions word old → (block : IsBlock (state_of word old) ptr n) → held + 8 ≤ block.extent.size → size < limit old.granularity →
     size + 8 ≤ padded size → padded size ≤ size + 32 → padded size ≤ whole → whole < padded size + 32 →
     in_place (state_of word old) (ptr - 16) (padded size) ≡ Some (state_of word new) → extent_at (ptr - 16) (extents_in (state_of word new)) ≡ Some (extent (ptr - 16) whole Used) →
-    HasSameOthers (state_of word old) (state_of word new) (ptr - 16) (ptr - 16) → IsMoved regions word follows old new → IsInPlace regions word follows old ptr held size new
-stays_there regions word follows old new ptr n held size whole sound block small holds near fits little state there others moved = record {
+    HasSameOthers (state_of word old) (state_of word new) (ptr - 16) (ptr - 16) → IsTurned regions word follows old new → IsInPlace regions word follows old ptr held size new
+stays_there regions word follows old new ptr n held size whole sound block kept_bytes small holds near fits little state there others moved = record {
   small = small;
   state = state;
   block = record { extent = chunk; there = there; low = block.low; used = refl; holds = omega (arith, holds, fits); little = omega (arith, near, little) };
@@ -93,7 +96,9 @@ stays_there regions word follows old new ptr n held size whole sound block small
       kept_in regions word old new moved.sound moved.words chunk there refl (ptr + k) (omega (arith, low)) (omega (arith, low, less, holds, fits)) (record {
         granted = subst (λ (rs : List Grant). IsTrue (is_granted rs (ptr + k))) moved.regions_same (inside.granted (ptr + k) (omega (arith, low)) (omega (arith, low, less, holds, fits)));
         aligned = omega (arith, low, m, inside.whole);
-      });
+      })
+      (let place = (found (ptr - 16) block.extent (extents_in (state_of word old)) block.there).place in
+      not_in_free regions word old sound block.extent (ap (λ (a : ℕ). extent_at a (extents_in (state_of word old))) place ∙ block.there) block.used (ptr + k) (omega (arith, low, place)) (omega (arith, low, place, less, kept_bytes)));
   kept = blocks_law regions word old new sound moved.sound moved.words (others_at (ptr - 16) (extents_in (state_of word old)))
       (λ other there used.
       let is = other_there (ptr - 16) (extents_in (state_of word old)) other.at other there in
@@ -105,6 +110,10 @@ stays_there regions word follows old new ptr n held size whole sound block small
     chunk = extent (ptr - 16) whole Used
 
 -- ---- elsewhere
+
+-- what is held of a block is in its chunk
+pub held_there : (heap : HeapState) (ptr n held : ℕ) (block : IsBlock heap ptr n) → held + 8 ≤ size_where (λ extent. extent.at == ptr - 16) (extents_in heap) → held + 8 ≤ block.extent.size
+held_there heap ptr n held block fits = omega (arith, fits, size_at heap (ptr - 16) block.extent block.there)
 
 module _ {A : Type 0} (regions : A → List Grant) (word : A → ℕ → ℕ) (zeros : A → Bool) (follows : A → List Event → A → Type 0) (old : Dlmalloc A) (ptr held align size address n : ℕ) (sound : IsSound regions word old) (block : IsBlock (state_of word old) ptr n)
     (fits : held + 8 ≤ size_where (λ extent. extent.at == ptr - 16) (extents_in (state_of word old))) (middle : Dlmalloc A) (served : IsServedAt regions word zeros follows old size align address middle) where
@@ -162,12 +171,15 @@ module _ {A : Type 0} (regions : A → List Grant) (word : A → ℕ → ℕ) (z
     pub copied_heap : IsSameHeap regions word follows middle filled
     copied_heap = same_heap regions word middle new_block.0 address size new_block.1 follows (min held size) few_to system same followed copied.elsewhere
 
+    pub copied_binned : IndexStays → IsBinned regions word middle → IsBinned regions word filled
+    copied_binned stays = same_binned regions word middle new_block.0 address size new_block.1 stays (min held size) few_to system same copied.elsewhere
+
     pub copied_block : IsBlock (state_of word filled) ptr (block.extent.size - 8)
     copied_block = subst (λ (s : HeapState). IsBlock s ptr (block.extent.size - 8)) (sym copied_heap.state) still
 
     -- ---- and the old one was freed
 
-    module _ (new : Dlmalloc A) (freed : IsFreed regions word follows filled ptr new) where
+    module _ (frees parts : Bool) (unit : ℕ) (new : Dlmalloc A) (freed : IsFreed regions word follows frees parts unit filled ptr new) where
       abbrev cut : Extent
       cut = new_block.1.extent
 

@@ -9,11 +9,13 @@ use Rattle.dlmalloc.specs.State.{Segment}
 use Rattle.dlmalloc.specs.Granted.{opened}
 use Rattle.dlmalloc.specs.Grown.{IsFresh}
 use Rattle.dlmalloc.specs.Segments.{IsRun, AreSegments, IsApartFrom}
+use Rattle.bins.specs.Laws.{IndexStays}
+use Rattle.dlmalloc.specs.Binned.{IsBinned}
 use Rattle.dlmalloc.specs.Heap.{segments_of, state_of, IsSound}
 use Rattle.dlmalloc.specs.Served.{regions_in, KeepsRegions}
 use Rattle.dlmalloc.specs.declared.heap.Dlmalloc.{Dlmalloc}
 use Rattle.dlmalloc.proofs.Regions.{run_apart, run_alone}
-use Rattle.dlmalloc.proofs.Outside.{still_sound, still_state}
+use Rattle.dlmalloc.proofs.Outside.{still_sound, still_state, still_binned}
 
 -- a grant that is apart from a segment is none of its regions
 not_in : (segment : Segment) (grant : Grant) (regions : List Grant) → 0 < grant.size → IsApartFrom segment (opened grant) → regions_in segment (grant ∷ regions) ≡ regions_in segment regions
@@ -60,6 +62,9 @@ module _ {A : Type 0} (regions : A → List Grant) (word : A → ℕ → ℕ) (h
 
   pub granted_same : state_of word (record heap { system = system }) ≡ state_of word heap
   granted_same = still_state regions word heap sound system keeps (λ k inside there outside. words k inside)
+
+  pub granted_binned : IndexStays → IsBinned regions word heap → IsBinned regions word (record heap { system = system })
+  granted_binned = still_binned regions word heap sound system keeps (λ k inside there outside. words k inside)
 
   -- and the grant can become part of it
   pub fresh_grant : IsFresh (regions system) (segments_of word (record heap { system = system })) grant

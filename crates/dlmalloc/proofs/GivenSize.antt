@@ -22,6 +22,8 @@ use Rattle.dlmalloc.specs.Moved.{IsInPlace, IsElsewhere, IsResized, IsGivenSize}
 use Rattle.dlmalloc.specs.declared.heap.Dlmalloc.{Dlmalloc}
 use Rattle.dlmalloc.proofs.Places.{found}
 use Rattle.dlmalloc.proofs.Laws.{used_inside, used_apart}
+use Rattle.dlmalloc.proofs.Regions.{with_other}
+use Rattle.dlmalloc.proofs.StillGranted.{still_granted}
 use Rattle.dlmalloc.proofs.HandedOut.{spans_changed, asked_low, handed_low, handed_high}
 
 -- ---- resizing in place leaves the segments where they are
@@ -74,12 +76,16 @@ module _ {A : Type 0} (regions : A → List Grant) (word : A → ℕ → ℕ) (h
 
 -- ---- a block with another size
 
-module _ {A : Type 0} (regions : A → List Grant) (word : A → ℕ → ℕ) (zeros : A → Bool) (follows : A → List Event → A → Type 0) (on : (x y z : A) (a b c : List Event) → follows x a y → follows y b z → a ++ b ≡ c → follows x c z)
+module _ {A : Type 0} (regions : A → List Grant) (word : A → ℕ → ℕ) (zeros : A → Bool) (follows : A → List Event → A → Type 0) (on : (x y z : A) (a b c : List Event) → follows x a y → follows y b z → a ++ b ≡ c → follows x c z) (frees parts : Bool) (unit : ℕ)
     (old new : Dlmalloc A) (from held align size address n : ℕ) (sound : IsSound regions word old) (power : IsPowerOfTwo align) (block : IsBlock (state_of word old) from n) where
-  given_here : align ≤ 16 → address ≡ from → IsInPlace regions word follows old from held size new → IsGivenSize regions word follows old from held align size address new
+  given_here : align ≤ 16 → address ≡ from → IsInPlace regions word follows old from held size new → IsGivenSize regions word follows frees parts unit old from held align size address new
   given_here few same out = record {
+    middle = new;
     found = inl (still.0, out.moved.followed, out.moved.regions_same);
-    here = λ is. out.moved.followed;
+    between = out.moved.sound;
+    still = λ grant with_it. absurd (with_other grant (regions old.system) (sym with_it ∙ out.moved.regions_same));
+    here = λ is. (refl, out.moved.followed);
+    elsewhere = λ differs. absurd (differs same);
     granularity = still.1;
     small = subst (λ (n : ℕ). n < limit old.granularity) (asked_low size align few) out.small;
     low = subst (λ (a : ℕ). 16 ≤ a) (sym same) block.low;
@@ -104,7 +110,7 @@ module _ {A : Type 0} (regions : A → List Grant) (word : A → ℕ → ℕ) (z
       still : (spans (state_of word new) ≡ spans (state_of word old)) × (new.granularity ≡ old.granularity)
       still = spans_resized (state_of word old) (state_of word new) (from - 16) (padded size) out.state
 
-  module _ (out : IsElsewhere regions word zeros follows old from held align size address new) where
+  module _ (out : IsElsewhere regions word zeros follows frees parts unit old from held align size address new) where
     handed : IsHandedOut regions word follows old size align address out.middle
     handed = elim out.served [
       | inl few ↦ handed_low regions word zeros follows old out.middle size align address power few.0 few.1
@@ -124,29 +130,24 @@ module _ {A : Type 0} (regions : A → List Grant) (word : A → ℕ → ℕ) (z
     place_before : block.extent.at ≡ from - 16
     place_before = (found (from - 16) block.extent (extents_in (state_of word old)) block.there).place
 
-    stay : spans (state_of word new) ≡ spans (state_of word out.middle)
-    stay = ap spans out.freed.state ∙ (spans_changed (freed_in (from - 16)) (state_of word out.filled).segments ∙ ap spans out.same.state)
-
-    followed : follows out.middle.system [] new.system
-    followed = on out.middle.system out.filled.system new.system [] [] [] out.same.followed out.freed.followed refl
-
-    regions_stay : regions new.system ≡ regions out.middle.system
-    regions_stay = out.freed.regions_same ∙ out.same.regions_same
-
-    pub given_elsewhere : IsGivenSize regions word follows old from held align size address new
+    pub given_elsewhere : IsGivenSize regions word follows frees parts unit old from held align size address new
     given_elsewhere = record {
+      middle = out.filled;
       found = elim handed.found [
-        | inl here ↦ inl (stay ∙ here.0, on old.system out.middle.system new.system [] [] [] here.1 followed refl, regions_stay ∙ here.2)
-        | inr there ↦ inr (there.0, there.1, there.2, stay ∙ there.3, on old.system out.middle.system new.system _ [] _ there.4 followed refl, regions_stay ∙ there.5)
+        | inl here ↦ inl (ap spans out.same.state ∙ here.0, on old.system out.middle.system out.filled.system [] [] [] here.1 out.same.followed refl, out.same.regions_same ∙ here.2)
+        | inr there ↦ inr (there.0, there.1, there.2, ap spans out.same.state ∙ there.3, on old.system out.middle.system out.filled.system _ [] _ there.4 out.same.followed refl, out.same.regions_same ∙ there.5)
       ];
+      between = out.same.sound;
+      still = still_granted regions word zeros follows frees parts unit old new from held align size address n sound power block out;
       here = λ same. absurd (handed.more.new block.extent block.used there_before (omega (arith, place_before, same)));
-      granularity = ap (λ (h : HeapState). h.granularity) out.freed.state ∙ (ap (λ (h : HeapState). h.granularity) out.same.state ∙ handed.granularity);
+      elsewhere = λ differs. out.freed;
+      granularity = out.freed.granularity ∙ (ap (λ (h : HeapState). h.granularity) out.same.state ∙ handed.granularity);
       small = handed.small;
       low = handed.low;
       block = out.block;
       multiple = λ is. handed.multiple;
       aligned = handed.aligned;
-      granted = λ k low high. ap (λ (rs : List Grant). is_granted rs k) regions_stay ∙ handed.granted k low high;
+      granted = bytes_granted regions word new out.freed.sound address size out.block;
       moved = record {
         kept = λ used is other there. out.freed.less.only used is (filled used.at used (handed.more.kept used is there)) other;
         only = λ used is other there. handed.more.only used is (unfilled used.at used (out.freed.less.kept used is there)) other;
@@ -158,7 +159,7 @@ module _ {A : Type 0} (regions : A → List Grant) (word : A → ℕ → ℕ) (z
       sound = out.freed.sound;
     }
 
-  pub given_size : IsResized regions word zeros follows old from held align size address new → IsGivenSize regions word follows old from held align size address new
+  pub given_size : IsResized regions word zeros follows frees parts unit old from held align size address new → IsGivenSize regions word follows frees parts unit old from held align size address new
   given_size (inl here) = given_here here.0 here.1 here.2
   given_size (inr there) = given_elsewhere there.1
 

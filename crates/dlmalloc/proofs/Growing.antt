@@ -21,9 +21,12 @@ use Rattle.dlmalloc.specs.Granted.{grown, opened, extended, is_behind, granted}
 use Rattle.dlmalloc.specs.Grown.{IsFresh, HasSameUsed}
 use Rattle.dlmalloc.specs.Boundaries.{OnlyTagsChange}
 use Rattle.dlmalloc.specs.Segments.{IsRun, IsSegment, AreSegments, IsApartFrom, AreApart, AreRecords}
+use Rattle.dlmalloc.specs.Binned.{FreeMoves}
 use Rattle.dlmalloc.specs.Heap.{segments_of, state_of, IsGranularity, AreTold, IsSound}
 use Rattle.dlmalloc.specs.declared.heap.Dlmalloc.{Dlmalloc}
-use Rattle.dlmalloc.proofs.Places.{extent, nat_same, found_later}
+use Rattle.dlmalloc.proofs.Beside.{the_one}
+use Rattle.dlmalloc.proofs.FreeMoving.{free_changes}
+use Rattle.dlmalloc.proofs.Places.{extent, nat_same, found_later, found_either}
 use Rattle.dlmalloc.proofs.Tiling.{sized, tiles_le, tiles_kept, tiles_append}
 use Rattle.dlmalloc.proofs.Moving.{last_append}
 use Rattle.dlmalloc.proofs.More.{AreDistinct, none_outside, used_append}
@@ -51,24 +54,34 @@ granularity_whole g power least =
     whole : (k : ℕ) → g ≡ 2 ^ (4 + k) → g % 16 ≡ 0
     whole k is = let parts : 2 ^ (4 + k) ≡ 2 ^ 4 * 2 ^ k = pow-add 2 4 k in omega arith
 
--- what is asked for is a whole number of granularities, with room for the chunk
-pub asked_whole : (n g : ℕ) → IsPowerOfTwo g → 16 ≤ g → (n + (g - 1)) / g * g % 16 ≡ 0
-asked_whole n g power least =
+-- and so is each number of them
+pub granularities_whole : (q g : ℕ) → IsPowerOfTwo g → 16 ≤ g → q * g % 16 ≡ 0
+granularities_whole q g power least =
     let whole = granularity_whole g power least in
     let units : g ≡ g / 16 * 16 = omega arith in
-    let q = (n + (g - 1)) / g in
     ap (λ (u : ℕ). q * u % 16) units ∙ (ap (λ (u : ℕ). u % 16) (sym (mul_assoc q (g / 16) 16)) ∙ mul-mod_left (q * (g / 16)) 16)
+
+-- what is asked for is a whole number of granularities, with room for the chunk
+pub asked_whole : (n g : ℕ) → IsPowerOfTwo g → 16 ≤ g → (n + (g - 1)) / g * g % 16 ≡ 0
+asked_whole n g power least = granularities_whole ((n + (g - 1)) / g) g power least
 
 -- a heap with no segment
 pub no_segments : {A : Type 0} (word : A → ℕ → ℕ) (heap : Dlmalloc A) → heap.size ≡ 0 → segments_of word heap ≡ []
 no_segments word heap none = let test : (heap.size == 0) ≡ true = grind (arith, nat_tests) in rw test refl
+
+-- where an extent is found, there is one
+pub some_segment : {A : Type 0} (word : A → ℕ → ℕ) (heap : Dlmalloc A) (k : ℕ) (one : Extent) → extent_at k (extents_all (segments_of word heap)) ≡ Some one → 0 < heap.size
+some_segment word heap k one there = elim (dec_lt 0 heap.size) [
+  | yes some ↦ some
+  | no none ↦ absurd (let gone : extent_at k [] ≡ Some one = ap (λ (segments : List Segment). extent_at k (extents_all segments)) (sym (no_segments word heap (omega (arith, none)))) ∙ there in cc)
+]
 
 -- what the test says of a grant at the end of a segment
 pub behind_means : (grant : Grant) (segment : Segment) → is_behind grant segment ≡ true → (grant.base ≡ segment.base + segment.size) × (grant.flags ≡ segment.flags)
 behind_means grant segment test = (grind (arith, nat_tests), grind (arith, nat_tests))
 
 -- a top and its foot, as their heads tell them
-top_stands : (words : ℕ → ℕ) (before : Kind) (at size : ℕ) → before ≡ Used → at % 16 ≡ 0 → size % 16 ≡ 0 → 16 ≤ size → words (at + 8) ≡ size + 1 → words (at + size + 8) ≡ 80 →
+pub top_stands : (words : ℕ → ℕ) (before : Kind) (at size : ℕ) → before ≡ Used → at % 16 ≡ 0 → size % 16 ≡ 0 → 16 ≤ size → words (at + 8) ≡ size + 1 → words (at + size + 8) ≡ 80 →
     Tiles words before at (extent at size Top ∷ extent (at + size) 80 Foot ∷ []) (at + size + 80)
 top_stands words before at size used place whole long head foot = (
   refl,
@@ -240,6 +253,20 @@ module _ {A : Type 0} (regions : A → List Grant) (word : A → ℕ → ℕ) (h
           no_used used is true d found = (let k : Top ≡ used.kind = ap (λ (o : Option Extent). (unwrap_or o used).kind) found in let no : Top ≡ Used = k ∙ is in cc)
           no_used used is false true found = (let k : Foot ≡ used.kind = ap (λ (o : Option Extent). (unwrap_or o used).kind) found in let no : Foot ≡ Used = k ∙ is in cc)
           no_used used is false false found = cc
+
+      -- no free extent but the top is there before, nor after
+      pub opened_free : FreeMoves (state_of word heap) (state_of word new) [] []
+      opened_free = record {
+        stays = λ k size free out.
+            absurd (let gone : None ≡ Some (extent k size Free) = ap (λ (ss : List Segment). extent_at k (flat_map (λ (s : Segment). s.extents) ss)) (sym (no_segments word heap none)) ∙ free in cc);
+        was = λ k size free out.
+            absurd (no_free k size (grant.base == k) (grant.base + grant.size - 80 == k) (ap (λ (ss : List Segment). extent_at k (flat_map (λ (s : Segment). s.extents) ss)) (sym opened_read) ∙ free));
+      }
+        where
+          no_free : (k size : ℕ) (b d : Bool) → (if b then Some (extent grant.base bytes Top) else if d then Some (extent (grant.base + grant.size - 80) 80 Foot) else None) ≡ Some (extent k size Free) → ⊥
+          no_free k size true d found = (let no : Top ≡ Free = ap (λ (o : Option Extent). (unwrap_or o (extent k size Free)).kind) found in cc)
+          no_free k size false true found = (let no : Foot ≡ Free = ap (λ (o : Option Extent). (unwrap_or o (extent k size Free)).kind) found in cc)
+          no_free k size false false found = cc
 
   -- ---- the segments behind the head
 
@@ -475,3 +502,17 @@ module _ {A : Type 0} (regions : A → List Grant) (word : A → ℕ → ℕ) (h
   extended_words k inside boundary recorded =
       let tags = head_tags regions word new extended_sound size_some k boundary in
       kept k inside (λ is. tags.0 (omega (arith, is, top))) (λ is. tags.1 (omega (arith, is, top, top_size, closes)))
+
+  -- no free extent but the top changes
+  pub extended_free : FreeMoves (state_of word heap) (state_of word new) [] []
+  extended_free = free_changes (state_of word heap) (state_of word new) old_run.first less more (extents_all old_run.back) extents_were
+      (all_retold regions word new (now ∷ old_run.back) parts_now apart_now told_now ∙ extents_are)
+      (all_distinct (regions heap.system) (word heap.system) (segments_of word heap) sound.segments sound.apart)
+      (subst AreDistinct (sym (all_retold regions word new (now ∷ old_run.back) parts_now apart_now told_now)) (distinct regions word new (now ∷ old_run.back) parts_now apart_now told_now))
+      [] [] (none_free heap.top heap.top_size) (none_free heap.top length_now) (λ k none. absurd none) (λ k none. absurd none)
+    where
+      none_free : (top bytes k size : ℕ) → extent_at k (extent top bytes Top ∷ extent (top + bytes) 80 Foot ∷ []) ≡ Some (extent k size Free) → ⊥
+      none_free top bytes k size found = elim (found_either k (extent top bytes Top ∷ []) (extent (top + bytes) 80 Foot ∷ []) (extent k size Free) found) [
+        | inl first ↦ (let no : Top ≡ Free = ap (λ (e : Extent). e.kind) (the_one k (extent top bytes Top) (extent k size Free) first) in cc)
+        | inr later ↦ (let no : Foot ≡ Free = ap (λ (e : Extent). e.kind) (the_one k (extent (top + bytes) 80 Foot) (extent k size Free) later.1) in cc)
+      ]

@@ -44,7 +44,7 @@ spans_tail heap at n = go (nat_lt (n + 32) (size_where (λ (extent : Extent). ex
     go true = spans_changed (freed_in (at + n)) (in_segments (replaced at (halves n)) heap.segments) ∙ spans_changed (replaced at (halves n)) heap.segments
     go false = refl
 
-spans_aligned : (heap : HeapState) (at align n : ℕ) → spans (aligned heap at align n) ≡ spans heap
+pub spans_aligned : (heap : HeapState) (at align n : ℕ) → spans (aligned heap at align n) ≡ spans heap
 spans_aligned heap at align n = spans_tail (lead_freed heap at (aligned_place at align)) (aligned_place at align) n ∙ spans_lead heap at (aligned_place at align)
 
 -- ---- and regions are asked for in the same multiples
@@ -106,7 +106,7 @@ asked_high size align many = let test : nat_le align 16 ≡ false = grind (arith
 
 module _ {A : Type 0} (regions : A → List Grant) (word : A → ℕ → ℕ) (zeros : A → Bool) (follows : A → List Event → A → Type 0) (old new : Dlmalloc A) (size align address : ℕ) where
   -- where a region was granted, they are those that it makes
-  spans_new : (n at : ℕ) (grant : Grant) (new : HeapState) → IsTakenNew (state_of word old) n at grant new → spans new ≡ spans (granted grant n (state_of word old))
+  pub spans_new : (n at : ℕ) (grant : Grant) (new : HeapState) → IsTakenNew (state_of word old) n at grant new → spans new ≡ spans (granted grant n (state_of word old))
   spans_new n at grant new is = go (is_put_before grant (state_of word old).segments) refl
     where
       go : (b : Bool) → is_put_before grant (state_of word old).segments ≡ b → spans new ≡ spans (granted grant n (state_of word old))

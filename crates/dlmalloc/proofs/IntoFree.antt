@@ -19,6 +19,11 @@ use Rattle.dlmalloc.proofs.Enlarging.{grown_split, grown_whole}
 use Rattle.dlmalloc.proofs.Enlarged.{IsEnlarged, in_two, no_kind, no_other, next, two, low, end_small, head_there, enlarged}
 use Rattle.dlmalloc.proofs.Segments.{with_extents}
 use Rattle.dlmalloc.proofs.Splitting.{differ}
+use Rattle.bins.specs.Index.{IsIn}
+use Rattle.dlmalloc.specs.Binned.{IsFreeAt, FreeMoves}
+use Rattle.dlmalloc.proofs.Cutting.{behind_free}
+use Rattle.dlmalloc.proofs.Beside.{the_one}
+use Rattle.dlmalloc.proofs.FreeMoving.{free_moves}
 use Rattle.dlmalloc.proofs.Steps.{IsStep, found_new, found_again}
 use Rattle.dlmalloc.proofs.Run.{step_beside, HasNext, has_next, with_next, behind, run_word}
 use Rattle.dlmalloc.proofs.Behind.{next_there, place}
@@ -87,6 +92,13 @@ module _ {A : Type 0} (regions : A → List Grant) (word : A → ℕ → ℕ) (h
         (omega (arith, low regions word heap sound at size there length Free next_is, above)) (omega (arith, end_room, under)) m;
   }
 
+  -- the free chunk is found in a run
+  found_free : (others : List Extent) → extent_at (at + size) (chunk ∷ free ∷ others) ≡ Some free
+  found_free others =
+      let first : (at == at + size) ≡ false = nat_isnt (inl (omega (arith, stands.size.1))) in
+      let second : (at + size == at + size) ≡ true = nat_same (at + size) in
+      rw (first, second) refl
+
   module _ (system : A) (same : regions system ≡ regions heap.system) where
     abbrev after : ℕ → ℕ → Dlmalloc A
     after victim victim_size = record heap { system = system; victim = victim; victim_size = victim_size }
@@ -139,6 +151,32 @@ module _ {A : Type 0} (regions : A → List Grant) (word : A → ℕ → ℕ) (h
             | inr behind ↦ isnt (ap (λ (e : Extent). e.at) behind)
           ])) (sound.victim some))
           (rw test refl)
+
+      -- the free extents
+      rest_there : extent_at (at + n) parts ≡ Some (extent (at + n) (size + length - n) Free)
+      rest_there =
+          let first : (at == at + n) ≡ false = nat_isnt (inl (omega (arith, least))) in
+          let second : (at + n == at + n) ≡ true = nat_same (at + n) in
+          rw (first, second) refl
+
+      pub split_rest : (victim victim_size : ℕ) → IsFreeAt (state_of word (after victim victim_size)) (at + n) (size + length - n)
+      split_rest victim victim_size = found_new regions word heap (after victim victim_size) sound (chunk ∷ free ∷ []) parts (split_step victim victim_size) (at + n) (extent (at + n) (size + length - n) Free) rest_there
+
+      pub split_free : (victim victim_size : ℕ) → FreeMoves (state_of word heap) (state_of word (after victim victim_size)) ((at + size) ∷ []) (if nat_le (n + 32) (size + length) then (at + n) ∷ [] else [])
+      split_free victim victim_size = subst (λ (b : Bool). FreeMoves (state_of word heap) (state_of word (after victim victim_size)) ((at + size) ∷ []) (if b then (at + n) ∷ [] else [])) (sym has_rest)
+          (free_moves regions word heap (after victim victim_size) sound (chunk ∷ free ∷ []) parts (split_step victim victim_size) ((at + size) ∷ []) ((at + n) ∷ []) only_free
+          (λ k bytes found. elim (in_two (extent at n Used) (extent (at + n) (size + length - n) Free) k (extent k bytes Free) found) [
+            | inl here ↦ absurd (let no : Used ≡ Free = ap (λ (e : Extent). e.kind) here in cc)
+            | inr behind ↦ inl (sym (ap (λ (e : Extent). e.at) behind))
+          ])
+          (λ k is. elim is [ inl place ↦ inr (free, subst (λ (a : ℕ). extent_at a (chunk ∷ free ∷ []) ≡ Some free) (sym place) (found_free [])) | inr none ↦ absurd none ])
+          (λ k is. elim is [ inl place ↦ inr (extent (at + n) (size + length - n) Free, subst (λ (a : ℕ). extent_at a parts ≡ Some (extent (at + n) (size + length - n) Free)) (sym place) rest_there) | inr none ↦ absurd none ]))
+        where
+          only_free : (k bytes : ℕ) → extent_at k (chunk ∷ free ∷ []) ≡ Some (extent k bytes Free) → IsIn k ((at + size) ∷ [])
+          only_free k bytes found = elim (in_two chunk free k (extent k bytes Free) found) [
+            | inl here ↦ absurd (let no : Used ≡ Free = ap (λ (e : Extent). e.kind) here in cc)
+            | inr behind ↦ inl (sym (ap (λ (e : Extent). e.at) behind))
+          ]
 
     -- ---- nothing of it stays free
 
@@ -237,6 +275,30 @@ module _ {A : Type 0} (regions : A → List Grant) (word : A → ℕ → ℕ) (h
           (no_chunk Free (λ is. cc) (extent heap.victim heap.victim_size Free) refl)
           (λ here. isnt (ap (λ (e : Extent). e.at) here))) (sound.victim some))
           (rw test refl)
+
+      pub whole_free : (victim victim_size : ℕ) → FreeMoves (state_of word heap) (state_of word (after victim victim_size)) ((at + size) ∷ []) (if nat_le (n + 32) (size + length) then (at + n) ∷ [] else [])
+      whole_free victim victim_size = subst (λ (b : Bool). FreeMoves (state_of word heap) (state_of word (after victim victim_size)) ((at + size) ∷ []) (if b then (at + n) ∷ [] else [])) (sym no_rest)
+          (free_moves regions word heap (after victim victim_size) sound three all (whole_step victim victim_size) ((at + size) ∷ []) [] only_free
+          (λ k bytes found. elim (in_two (extent at (size + length) Used) last k (extent k bytes Free) found) [
+            | inl here ↦ (let no : Used ≡ Free = ap (λ (e : Extent). e.kind) here in cc)
+            | inr behind ↦ no_last k bytes behind
+          ])
+          (λ k is. elim is [ inl place ↦ inr (free, subst (λ (a : ℕ). extent_at a three ≡ Some free) (sym place) (found_free (last ∷ []))) | inr none ↦ absurd none ])
+          (λ k none. absurd none))
+        where
+          no_last : (k bytes : ℕ) → last ≡ extent k bytes Free → ⊥
+          no_last k bytes is =
+              let kind : last.kind ≡ Free = ap (λ (e : Extent). e.kind) is in
+              elim (behind_free last.kind stands_third.1.kind) [ inl used ↦ (let no : Used ≡ Free = sym used ∙ kind in cc) | inr tail ↦ (let no : Record ≡ Free = sym tail ∙ kind in cc) ]
+
+          only_free : (k bytes : ℕ) → extent_at k three ≡ Some (extent k bytes Free) → IsIn k ((at + size) ∷ [])
+          only_free k bytes found = elim (found_either k (chunk ∷ free ∷ []) (last ∷ []) (extent k bytes Free) found) [
+            | inl first ↦ elim (in_two chunk free k (extent k bytes Free) first) [
+              | inl here ↦ absurd (let no : Used ≡ Free = ap (λ (e : Extent). e.kind) here in cc)
+              | inr behind ↦ inl (sym (ap (λ (e : Extent). e.at) behind))
+            ]
+            | inr later ↦ absurd (no_last k bytes (the_one k last (extent k bytes Free) later.1))
+          ]
 
   -- the stores of two calls, as one
   pub free_stores : (middle system : A) (value : ℕ) → regions middle ≡ regions heap.system →

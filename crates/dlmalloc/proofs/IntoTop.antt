@@ -16,6 +16,8 @@ use Rattle.dlmalloc.proofs.More.{none_outside}
 use Rattle.dlmalloc.proofs.Cutting.{stored_over}
 use Rattle.dlmalloc.proofs.Enlarging.{grown_top}
 use Rattle.dlmalloc.proofs.Enlarged.{IsEnlarged, no_kind, no_other, next, two, high, head_there, enlarged}
+use Rattle.dlmalloc.specs.Binned.{FreeMoves}
+use Rattle.dlmalloc.proofs.FreeMoving.{free_moves}
 use Rattle.dlmalloc.proofs.Steps.{IsStep, found_again}
 use Rattle.dlmalloc.proofs.Run.{step_top}
 use Rattle.dlmalloc.proofs.Told.{head_is}
@@ -113,3 +115,10 @@ module _ {A : Type 0} (regions : A → List Grant) (word : A → ℕ → ℕ) (h
         (λ some. found_again regions word heap after sound (chunk ∷ top ∷ []) parts step heap.victim (extent heap.victim heap.victim_size Free)
         (λ found. absurd (no_kind chunk top Free (λ is. cc) (λ is. cc) heap.victim (extent heap.victim heap.victim_size Free) found refl)) (sound.victim some))
         refl
+
+    -- no free extent but the top changes
+    pub into_top_free : FreeMoves (state_of word heap) (state_of word after) [] []
+    into_top_free = free_moves regions word heap after sound (chunk ∷ top ∷ []) parts step [] []
+        (λ k bytes found. no_kind chunk top Free (λ is. cc) (λ is. cc) k (extent k bytes Free) found refl)
+        (λ k bytes found. no_kind (extent at n Used) (extent (at + n) rest Top) Free (λ is. cc) (λ is. cc) k (extent k bytes Free) found refl)
+        (λ k none. absurd none) (λ k none. absurd none)

@@ -10,6 +10,8 @@ use Rattle.dlmalloc.specs.Extents.{extent_at}
 use Rattle.dlmalloc.specs.State.{Segment, extents_in}
 use Rattle.dlmalloc.specs.Blocks.{IsInside}
 use Rattle.dlmalloc.specs.Segments.{IsSegment}
+use Rattle.bins.specs.Laws.{IndexStays}
+use Rattle.dlmalloc.specs.Binned.{IsBinned}
 use Rattle.dlmalloc.specs.Heap.{segments_of, state_of, IsSound}
 use Rattle.dlmalloc.specs.Grown.{IsAsItWas}
 use Rattle.dlmalloc.specs.Served.{regions_in, KeepsRegions}
@@ -17,7 +19,7 @@ use Rattle.dlmalloc.specs.declared.heap.Dlmalloc.{Dlmalloc}
 use Rattle.dlmalloc.proofs.Moving.{standing}
 use Rattle.dlmalloc.proofs.Segments.{located, of_located}
 use Rattle.dlmalloc.proofs.Apart.{beside}
-use Rattle.dlmalloc.proofs.Outside.{still_sound, still_state}
+use Rattle.dlmalloc.proofs.Outside.{still_sound, still_state, still_binned}
 
 module _ {A : Type 0} (regions : A → List Grant) (word : A → ℕ → ℕ) (heap : Dlmalloc A) (sound : IsSound regions word heap) where
   -- an extent in use stands in granted bytes, in whole units of 16 bytes
@@ -59,3 +61,6 @@ module _ {A : Type 0} (regions : A → List Grant) (word : A → ℕ → ℕ) (h
     regions_same = same;
     words = words;
   }
+
+  pub as_binned : IndexStays → (system : A) → regions system ≡ regions heap.system → ((k : ℕ) → IsWordOf (regions heap.system) k → word system k ≡ word heap.system k) → IsBinned regions word heap → IsBinned regions word (record heap { system = system })
+  as_binned stays system same words = still_binned regions word heap sound system (same_regions system same) (λ k inside there apart. words k inside) stays

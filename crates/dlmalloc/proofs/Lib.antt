@@ -1,7 +1,9 @@
 mod Examples
 mod ResizedExamples
 mod GrantExamples
+mod TrimExamples
 pub mod Places
+pub mod Binned
 pub mod Merging
 pub mod Tiling
 pub mod Spared
@@ -14,6 +16,7 @@ pub mod Segments
 pub mod Changed
 pub mod Told
 pub mod Steps
+pub mod FreeMoving
 pub mod Run
 pub mod Taken
 pub mod Freed
@@ -32,6 +35,8 @@ pub mod Aligning
 pub mod AlignedBlocks
 pub mod AlignedRequests
 pub mod HandedOut
+pub mod HeadSegment
+pub mod StillGranted
 pub mod GivenSize
 pub mod TopTaking
 pub mod Disposing
@@ -44,13 +49,37 @@ pub mod Retold
 pub mod Growing
 pub mod NewHead
 pub mod Fresh
+pub mod Withdrawn
+pub mod Shortening
+pub mod Trimming
+pub mod Trims
 pub mod Prepending
 pub mod SegmentBehind
+pub mod Recorded
+pub mod Unused
+pub mod GivenBack
+pub mod Destroying
+pub mod Leaving
+pub mod Passing
+pub mod Chaining
+pub mod Counting
+pub mod Settling
+pub mod AllFreed
 pub mod PutBefore
 pub mod Beforehand
 pub mod Least
 pub mod Walking
 pub mod Apart
+pub mod Telling
+pub mod LinkWords
+pub mod Rebinned
+pub mod Unbinning
+pub mod Fitting
+pub mod Turning
+pub mod Disposed
+pub mod TakingBins
+pub mod Joining
+pub mod Members
 pub mod Outside
 pub mod Requests
 pub mod Served

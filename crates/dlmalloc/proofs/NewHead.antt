@@ -1,5 +1,5 @@
 -- A grant becomes the head segment: what was the top is freed, and a record behind it tells the segment that it is in.
-use Rattle.std.proofs.Common.{◌≡◌, ◌≢◌, ℕ, ◌+◌, ◌-◌, ◌%◌, ◌<◌, ◌≤◌, ◌⊎◌, inl, inr, Bool, true, false, not, ◌&&◌, ◌==◌, if◌then◌else◌, List, [], ◌∷◌, ◌++◌, Option, Some, None, refl, sym, ◌∙◌, ap, subst, arith, append_assoc}
+use Rattle.std.proofs.Common.{◌≡◌, ◌≢◌, ℕ, ◌+◌, ◌-◌, ◌%◌, ◌<◌, ◌≤◌, ◌⊎◌, inl, inr, Bool, true, false, not, ◌&&◌, ◌==◌, nat_le, if◌then◌else◌, List, [], ◌∷◌, ◌++◌, Option, Some, None, refl, sym, ◌∙◌, ap, subst, arith, append_assoc}
 use native.Mathlib.Decide.{dec_lt}
 use Rattle.std.specs.Prelude.{unwrap_or, nat_lt}
 use Rattle.std.specs.List.{AllByRecursion, flat_map, list_any}
@@ -16,15 +16,19 @@ use Rattle.dlmalloc_chunks.specs.Kinds.{ends_segment}
 use Rattle.dlmalloc.specs.Extents.{extent_at, is_used, Tiles, last_kind}
 use Rattle.dlmalloc.specs.State.{Segment, extents_in, trim_threshold}
 use Rattle.dlmalloc.specs.Granted.{opened, closed, without_top, is_behind, is_before, is_put_before, granted}
-use Rattle.dlmalloc.specs.Grown.{IsFresh, HasSameUsed, IsJoined}
+use Rattle.dlmalloc.specs.Grown.{IsFresh, HasSameUsed, IsAdmitted}
 use Rattle.dlmalloc.specs.Record.{IsRecordAt}
 use Rattle.dlmalloc.specs.Boundaries.{OnlyTagsChange}
 use Rattle.dlmalloc.specs.Segments.{IsRun, IsSegment, AreSegments, IsApartFrom, AreApart, record_of, AreRecords}
+use Rattle.bins.specs.Index.{IsIn}
+use Rattle.dlmalloc.specs.Binned.{IsFreeAt, FreeMoves}
 use Rattle.dlmalloc.specs.Heap.{segments_of, state_of, IsGranularity, AreTold, IsSound}
 use Rattle.dlmalloc.specs.Walk.{AreChunks}
 use Rattle.dlmalloc.specs.Moves.{IsRunOf}
 use Rattle.dlmalloc.specs.declared.heap.Dlmalloc.{Dlmalloc}
 use Rattle.dlmalloc.specs.declared.record.SegmentRecord.{SegmentRecord}
+use Rattle.dlmalloc.proofs.Beside.{the_one}
+use Rattle.dlmalloc.proofs.FreeMoving.{IsThere, free_stays}
 use Rattle.dlmalloc.proofs.Places.{extent, nat_same, nat_isnt, found_here, found_either, found_more, found_later}
 use Rattle.dlmalloc.proofs.Tiling.{tiles_kept, tiles_append}
 use Rattle.dlmalloc.proofs.Moving.{last_append}
@@ -56,6 +60,22 @@ closed_chunks (chunk ∷ chunks) are = λ i. same are.0 i ++ closed_chunks chunk
 -- what a top of so many bytes leaves behind, and where the record is in it
 abbrev left : Bool → ℕ → ℕ → List Extent
 left b at size = if b then extent at 96 Record ∷ [] else extent at size Free ∷ extent (at + size) 80 Record ∷ []
+
+-- where it is free
+abbrev pub left_free : Bool → ℕ → List ℕ
+left_free small top = if small then [] else top ∷ []
+
+in_left : (small : Bool) (top size k bytes : ℕ) → extent_at k (left small top size) ≡ Some (extent k bytes Free) → IsIn k (left_free small top)
+in_left true top size k bytes found = (let no : Record ≡ Free = ap (λ (e : Extent). e.kind) (the_one k (extent top 96 Record) (extent k bytes Free) found) in cc)
+in_left false top size k bytes found = elim (found_either k (extent top size Free ∷ []) (extent (top + size) 80 Record ∷ []) (extent k bytes Free) found) [
+  | inl first ↦ inl (sym (ap (λ (e : Extent). e.at) (the_one k (extent top size Free) (extent k bytes Free) first)))
+  | inr later ↦ absurd (let no : Record ≡ Free = ap (λ (e : Extent). e.kind) (the_one k (extent (top + size) 80 Record) (extent k bytes Free) later.1) in cc)
+]
+
+left_there : (small : Bool) (top size k : ℕ) → IsIn k (left_free small top) → IsThere k (left small top size)
+left_there true top size k is = absurd is
+left_there false top size k (inl same) = (extent top size Free, subst (λ (a : ℕ). extent_at a (left false top size) ≡ Some (extent top size Free)) (sym same) (found_here (extent top size Free) (extent (top + size) 80 Record ∷ [])))
+left_there false top size k (inr none) = absurd none
 
 abbrev place : Bool → ℕ → ℕ → ℕ
 place b at size = if b then at else at + size
@@ -311,6 +331,43 @@ module _ {A : Type 0} (regions : A → List Grant) (word : A → ℕ → ℕ) (h
     before = λ used is there. found_before used.at used is (ap (extent_at used.at) (sym (all_retold regions word new all parts_now apart_now told_now)) ∙ there);
   }
 
+  -- ---- the free extents
+
+  in_before : (k size : ℕ) → extent_at k before ≡ Some (extent k size Free) → IsIn k []
+  in_before k size found = elim (of_two k (extent heap.top heap.top_size Top) (extent (it.segment.base + it.segment.size - 80) 80 Foot) (extent k size Free) found) [
+    | inl is ↦ (let no : Top ≡ Free = ap (λ (e : Extent). e.kind) is in cc)
+    | inr is ↦ (let no : Foot ≡ Free = ap (λ (e : Extent). e.kind) is in cc)
+  ]
+
+  pub added_free : FreeMoves (state_of word heap) (state_of word new) [] (left_free small heap.top)
+  added_free = record {
+    stays = λ k size free out.
+        let found = free_stays it.first before rest (extents_all it.back) (subst AreDistinct (append_assoc it.first rest (extents_all it.back)) (all_apart.1.1)) [] (left_free small heap.top) in_before
+        (λ k came. inr (left_there small heap.top heap.top_size k came)) k size (ap (extent_at k) (sym extents_were) ∙ free) out in (
+          ap (extent_at k) (all_retold regions word new all parts_now apart_now told_now)
+              ∙ distinct_later (opened grant).extents (extents_all (now ∷ it.back)) k (extent k size Free) all_apart (ap (extent_at k) (append_assoc it.first rest (extents_all it.back)) ∙ found.0),
+          found.1,
+        );
+    was = λ k size free out. elim (found_either k (opened grant).extents (extents_all (now ∷ it.back)) (extent k size Free) (ap (extent_at k) (sym (all_retold regions word new all parts_now apart_now told_now)) ∙ free)) [
+      | inl of_grant ↦ absurd (elim (of_two k (extent grant.base (grant.base + grant.size - 80 - grant.base) Top) (extent (grant.base + grant.size - 80) 80 Foot) (extent k size Free) of_grant) [
+        | inl is ↦ (let no : Top ≡ Free = ap (λ (e : Extent). e.kind) is in cc)
+        | inr is ↦ (let no : Foot ≡ Free = ap (λ (e : Extent). e.kind) is in cc)
+      ])
+      | inr later ↦ (
+          let found = free_stays it.first rest before (extents_all it.back) (subst AreDistinct extents_were distinct_old) (left_free small heap.top) [] (in_left small heap.top heap.top_size) (λ k none. absurd none)
+          k size (ap (extent_at k) (sym (append_assoc it.first rest (extents_all it.back))) ∙ later.1) out in
+          (ap (extent_at k) extents_were ∙ found.0, λ none. none))
+    ];
+  }
+
+  pub added_rest : small ≡ false → IsFreeAt (state_of word new) heap.top heap.top_size
+  added_rest large =
+      ap (extent_at heap.top) (all_retold regions word new all parts_now apart_now told_now)
+      ∙ distinct_later (opened grant).extents (extents_all (now ∷ it.back)) heap.top (extent heap.top heap.top_size Free) all_apart (ap (extent_at heap.top) (append_assoc it.first rest (extents_all it.back))
+      ∙ (found_later heap.top it.first (rest ++ extents_all it.back) (none_outside (word heap.system) Used it.segment.base it.first heap.top heap.top (inr (omega arith)) it.first_stand)
+      ∙ found_more heap.top rest (extents_all it.back) (extent heap.top heap.top_size Free) (subst (λ (b : Bool). extent_at heap.top (left b heap.top heap.top_size) ≡ Some (extent heap.top heap.top_size Free)) (sym large)
+      (found_here (extent heap.top heap.top_size Free) (extent (heap.top + heap.top_size) 80 Record ∷ [])))))
+
   pub added_sound : IsSound regions word new
   added_sound = retold_sound regions word new all parts_now apart_now told_now (subst (IsGranularity) (sym granularity) sound.granularity) size_some
       (λ none. victim ∙ sound.no_victim (sym victim_size ∙ none))
@@ -494,15 +551,29 @@ module _ {A : Type 0} (regions : A → List Grant) (word : A → ℕ → ℕ) (f
   kept_all : (k : ℕ) → IsWordOf (regions heap.system) k → (k ≤ at) ⊎ (heap.base + heap.size ≤ k) → (k ≡ heap.top + heap.top_size → (at == heap.top) ≡ true) → k ≢ grant.base + 8 → k ≢ grant.base + grant.size - 72 → word system k ≡ word heap.system k
   kept_all k inside out free not_top not_foot = kept k inside out (λ is. (let sixteen : (heap.top_size == 16) ≡ true = where_is.0 ∙ free is in grind (arith, nat_tests))) not_top not_foot
 
-  pub joined_new : follows heap.system [] system → IsJoined regions word follows heap grant (new_head heap grant system at)
+  pub joined_new : follows heap.system [] system → IsAdmitted regions word follows heap grant (new_head heap grant system at)
   joined_new followed = record {
     state = added_state regions word heap (new_head heap grant system at) sound grant fresh same some beside no_join at (at == heap.top) where_is.0 where_is.1 refl refl refl refl refl refl refl refl refl refl refl refl head foot recorded foot_stands kept_all;
     sound = added_sound regions word heap (new_head heap grant system at) sound grant fresh same some beside no_join at (at == heap.top) where_is.0 where_is.1 refl refl refl refl refl refl refl refl refl refl refl refl head foot recorded foot_stands kept_all;
     there = omega (arith, fresh.long);
     room = omega (arith, fresh.long);
+    begins = inl refl;
     regions_same = same;
     followed = followed;
     used = added_used regions word heap (new_head heap grant system at) sound grant fresh same some beside no_join at (at == heap.top) where_is.0 where_is.1 refl refl refl refl refl refl refl refl refl refl refl refl head foot recorded foot_stands kept_all;
     words = added_words regions word heap (new_head heap grant system at) sound grant fresh same some beside no_join at (at == heap.top) where_is.0 where_is.1 refl refl refl refl refl refl refl refl refl refl refl refl head foot recorded foot_stands kept_all;
     new_words = added_new regions word heap (new_head heap grant system at) sound grant fresh same some beside no_join at (at == heap.top) where_is.0 where_is.1 refl refl refl refl refl refl refl refl refl refl refl refl head foot recorded foot_stands kept_all;
   }
+
+  small_is : (b : Bool) → (at == heap.top) ≡ b → left_free b heap.top ≡ (if nat_le 32 heap.top_size then heap.top ∷ [] else [])
+  small_is true is = (let sixteen : (heap.top_size == 16) ≡ true = where_is.0 ∙ is in let few : nat_le 32 heap.top_size ≡ false = grind (arith, nat_tests) in rw few refl)
+  small_is false is = (let other : (heap.top_size == 16) ≡ false = where_is.0 ∙ is in let units = sizes_are.0 in let long = sizes_are.1 in let many : nat_le 32 heap.top_size ≡ true = grind (arith, nat_tests) in rw many refl)
+
+  -- what was the top is free, if it has more than 16 bytes
+  pub new_free : FreeMoves (state_of word heap) (state_of word (new_head heap grant system at)) [] (if nat_le 32 heap.top_size then heap.top ∷ [] else [])
+  new_free = subst (λ (come : List ℕ). FreeMoves (state_of word heap) (state_of word (new_head heap grant system at)) [] come) (small_is (at == heap.top) refl)
+      (added_free regions word heap (new_head heap grant system at) sound grant fresh same some beside no_join at (at == heap.top) where_is.0 where_is.1 refl refl refl refl refl refl refl refl refl refl refl refl head foot recorded foot_stands kept_all)
+
+  pub new_rest : 32 ≤ heap.top_size → IsFreeAt (state_of word (new_head heap grant system at)) heap.top heap.top_size
+  new_rest many = added_rest regions word heap (new_head heap grant system at) sound grant fresh same some beside no_join at (at == heap.top) where_is.0 where_is.1 refl refl refl refl refl refl refl refl refl refl refl refl head foot recorded foot_stands kept_all
+      (sym (where_is.0) ∙ (let other : (heap.top_size == 16) ≡ false = nat_isnt (inr (omega arith)) in other))

@@ -1,5 +1,5 @@
 -- A chunk in use is split, and one of the two is freed.
-use Rattle.std.proofs.Common.{◌≡◌, ◌≢◌, ℕ, ◌+◌, ◌-◌, ◌≤◌, inl, inr, List, Some, refl, sym, ◌∙◌, ap, subst, arith}
+use Rattle.std.proofs.Common.{◌≡◌, ◌≢◌, ℕ, ◌+◌, ◌-◌, ◌≤◌, inl, inr, List, [], Some, refl, sym, ◌∙◌, ap, subst, arith}
 use Rattle.heap_memory.specs.declared.grant.Grant.{Grant}
 use Rattle.heap_memory.specs.Events.{Event}
 use Rattle.heap_memory.specs.Regions.{IsWordOf}
@@ -8,12 +8,13 @@ use Rattle.dlmalloc_chunks.specs.declared.extent.Kind.TheVariants.{Used}
 use Rattle.dlmalloc.specs.Extents.{extent_at}
 use Rattle.dlmalloc.specs.State.{HeapState, extents_in}
 use Rattle.dlmalloc.specs.Blocks.{HasOneMore}
-use Rattle.dlmalloc.specs.Boundaries.{IsBoundary, OnlyBoundariesChange}
+use Rattle.dlmalloc.specs.Boundaries.{IsBoundary, IsInFree, IsOwn, OnlyOwnChange}
 use Rattle.dlmalloc.specs.Freed.{freed}
 use Rattle.dlmalloc.specs.Resized.{exchanged, halves, tail_freed, HasSameOthers}
 use Rattle.dlmalloc.specs.Aligned.{HasOneMoved, KeepsOthers}
 use Rattle.dlmalloc.specs.Heap.{state_of, IsSound}
-use Rattle.dlmalloc.specs.Served.{IsMoved}
+use Rattle.dlmalloc.specs.Served.{IsMoved, IsTurned}
+use Rattle.dlmalloc.specs.Binned.{FreeMoves}
 use Rattle.dlmalloc.specs.declared.heap.Dlmalloc.{Dlmalloc}
 use Rattle.dlmalloc.proofs.Places.{extent}
 use Rattle.dlmalloc.proofs.Laws.{used_apart}
@@ -31,10 +32,14 @@ pub record IsSplit {A : Type 0} (regions : A → List Grant) (word : A → ℕ �
 
 module _ {A : Type 0} (regions : A → List Grant) (word : A → ℕ → ℕ) (follows : A → List Event → A → Type 0) (heap middle new : Dlmalloc A) (sound : IsSound regions word heap) (at size n : ℕ)
     (there : extent_at at (extents_in (state_of word heap)) ≡ Some (extent at size Used)) (least : 32 ≤ n) (room : n + 32 ≤ size) (split : IsSplit regions word heap at size n middle)
-    (moved : IsMoved regions word follows middle new) where
+    (frees : FreeMoves (state_of word heap) (state_of word middle) [] []) (moved : IsTurned regions word follows middle new) where
   -- a word that is granted before is granted after the split
   still : (k : ℕ) → IsWordOf (regions heap.system) k → IsWordOf (regions middle.system) k
   still k is = subst (λ (rs : List Grant). IsWordOf rs k) (sym split.regions_same) is
+
+  -- what is in no free extent is in none after the split
+  no_free : (k : ℕ) → (IsInFree (state_of word heap) k → ⊥) → IsInFree (state_of word middle) k → ⊥
+  no_free k was f = was (record { at = f.at; size = f.size; free = (frees.was f.at f.size f.free (λ none. none)).0; low = f.low; high = f.high })
 
   -- no other extent in use begins in the chunk
   inside : (used : Extent) → used.at ≢ at → extent_at used.at (extents_in (state_of word heap)) ≡ Some used → used.at ≢ at + n
@@ -61,11 +66,11 @@ module _ {A : Type 0} (regions : A → List Grant) (word : A → ℕ → ℕ) (f
       only = λ used is other again found. split.others.only used is other (less.new used is found) (less.kept used is found);
     }
 
-    pub tail_words : OnlyBoundariesChange (regions heap.system) (state_of word new) (word heap.system) (word new.system)
-    tail_words k is apart =
-        moved.words k (still k is) apart
-        ∙ split.words k is (λ e. apart (subst (IsBoundary (state_of word new)) (sym e) (record { extent = extent at n Used; there = tail_first; is = inl refl })))
-        (λ e. apart (subst (IsBoundary (state_of word new)) (sym e) (next_boundary regions word new moved.sound at n tail_first)))
+    pub tail_words : OnlyOwnChange (regions heap.system) (state_of word heap) (state_of word new) (word heap.system) (word new.system)
+    tail_words k is was own =
+        moved.words k (still k is) (no_free k was) own
+        ∙ split.words k is (λ e. own (inl (subst (IsBoundary (state_of word new)) (sym e) (record { extent = extent at n Used; there = tail_first; is = inl refl }))))
+        (λ e. own (inl (subst (IsBoundary (state_of word new)) (sym e) (next_boundary regions word new moved.sound at n tail_first))))
 
   -- ---- the first was freed
 
@@ -87,14 +92,14 @@ module _ {A : Type 0} (regions : A → List Grant) (word : A → ℕ → ℕ) (f
     pub lead_kept : IsMoved regions word follows heap middle → KeepsOthers (state_of word heap) at (word heap.system) (word new.system)
     lead_kept split_moved blocks others =
         keeps_on blocks (word heap.system) (word middle.system) (word new.system)
-        (blocks_law regions word heap middle sound split_moved.sound split_moved.words blocks (λ used there is. (let o = others used is there in (o.1, then_there used is o.0 o.1))))
+        (blocks_law regions word heap middle sound split_moved.sound (λ k inside was own. split_moved.words k inside (λ boundary. own (inl boundary))) blocks (λ used there is. (let o = others used is there in (o.1, then_there used is o.0 o.1))))
         (blocks_law regions word middle new split_moved.sound moved.sound moved.words blocks (λ used there is. (let o = others used is there in (then_there used is o.0 o.1, less.only used is (then_there used is o.0 o.1) o.0))))
       where
         then_there : (used : Extent) → used.kind ≡ Used → used.at ≢ at → extent_at used.at (extents_in (state_of word heap)) ≡ Some used → extent_at used.at (extents_in (state_of word middle)) ≡ Some used
         then_there used is other found = split.others.kept used is other (inside used other found) found
 
-    pub lead_words : (k : ℕ) → IsWordOf (regions heap.system) k → k ≢ at + 8 → (IsBoundary (state_of word new) k → ⊥) → word new.system k ≡ word heap.system k
-    lead_words k is other apart =
-        moved.words k (still k is) apart
+    pub lead_words : (k : ℕ) → IsWordOf (regions heap.system) k → k ≢ at + 8 → (IsInFree (state_of word heap) k → ⊥) → (IsOwn (state_of word new) k → ⊥) → word new.system k ≡ word heap.system k
+    lead_words k is other was own =
+        moved.words k (still k is) (no_free k was) own
         ∙ split.words k is other
-        (λ e. apart (subst (IsBoundary (state_of word new)) (sym e) (record { extent = extent (at + n) (size - n) Used; there = lead_second; is = inl refl })))
+        (λ e. own (inl (subst (IsBoundary (state_of word new)) (sym e) (record { extent = extent (at + n) (size - n) Used; there = lead_second; is = inl refl }))))

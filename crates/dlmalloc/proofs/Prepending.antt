@@ -28,11 +28,12 @@ use Rattle.dlmalloc.proofs.Retold.{KeepsIts, IsOutside, parts_stay, apart_stay, 
 pub before_means : (grant : Grant) (segment : Segment) → is_before grant segment ≡ true → (segment.base ≡ grant.base + grant.size) × (grant.flags ≡ segment.flags)
 before_means grant segment test = (grind (arith, nat_tests), grind (arith, nat_tests))
 
-flip : (one : Segment) (others : List Segment) → AllByRecursion (λ (other : Segment). IsApartFrom other one) others → AllByRecursion (IsApartFrom one) others
+-- being apart goes both ways
+pub flip : (one : Segment) (others : List Segment) → AllByRecursion (λ (other : Segment). IsApartFrom other one) others → AllByRecursion (IsApartFrom one) others
 flip one [] all = tt
 flip one (other ∷ others) all = (apart_back other one all.0, flip one others all.1)
 
-parts_around : (regions : List Grant) (words : ℕ → ℕ) (now : Segment) (front back : List Segment) → AreSegments regions words front → IsSegment regions words now → AreSegments regions words back → AreSegments regions words (front ++ now ∷ back)
+pub parts_around : (regions : List Grant) (words : ℕ → ℕ) (now : Segment) (front back : List Segment) → AreSegments regions words front → IsSegment regions words now → AreSegments regions words back → AreSegments regions words (front ++ now ∷ back)
 parts_around regions words now [] back first one last = (one, last)
 parts_around regions words now (other ∷ front) back first one last = (first.0, parts_around regions words now front back first.1 one last)
 

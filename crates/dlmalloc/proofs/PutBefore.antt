@@ -7,7 +7,7 @@ use Rattle.heap_memory.specs.Events.{Event, Granted}
 use Rattle.heap_memory.specs.Regions.{IsWordOf, IsApart, IsGoodGrant, with_grant}
 use Rattle.dlmalloc_chunks.specs.Request.{round_up}
 use Rattle.dlmalloc_chunks.specs.declared.extent.Extent.{Extent}
-use Rattle.dlmalloc_chunks.specs.declared.extent.Kind.TheVariants.{Used, Record}
+use Rattle.dlmalloc_chunks.specs.declared.extent.Kind.TheVariants.{Used, Free, Record}
 use Rattle.dlmalloc_chunks.specs.Kinds.{ends_segment}
 use Rattle.dlmalloc.specs.Extents.{extent_at}
 use Rattle.dlmalloc.specs.State.{HeapState, Segment, extents_in}
@@ -15,15 +15,19 @@ use Rattle.dlmalloc.specs.Choice.{chosen}
 use Rattle.dlmalloc.specs.Freed.{freed}
 use Rattle.dlmalloc.specs.Granted.{is_behind, is_before, is_put_before, prepended, granted}
 use Rattle.dlmalloc.specs.Blocks.{HasOneMore}
-use Rattle.dlmalloc.specs.Boundaries.{OnlyTagsChange}
+use Rattle.dlmalloc.specs.Boundaries.{IsInFree, OnlyTagsChange, OnlyOwnOrTagsChange}
 use Rattle.dlmalloc.specs.Grown.{IsPrepended, IsPutBefore}
 use Rattle.dlmalloc.specs.Segments.{AreSegments, AreApart}
 use Rattle.dlmalloc.specs.Heap.{segments_of, state_of, IsSound}
-use Rattle.dlmalloc.specs.Served.{IsMoved, IsCutOut}
+use Rattle.dlmalloc.specs.Served.{IsTurned, IsCutOut}
+use Rattle.bins.specs.Laws.{IndexStays}
+use Rattle.dlmalloc.specs.Binned.{IsFreeAt, IsBinned, IsSameBins, FreeMoves}
 use Rattle.dlmalloc.specs.declared.heap.Dlmalloc.{Dlmalloc}
-use Rattle.dlmalloc.proofs.Places.{extent, found_here}
+use Rattle.dlmalloc.proofs.Places.{extent, found_here, the_extent}
 use Rattle.dlmalloc.proofs.BlocksLaw.{blocks_law_tags}
 use Rattle.dlmalloc.proofs.Full.{full}
+use Rattle.dlmalloc.proofs.LinkWords.{same_or_beside}
+use Rattle.dlmalloc.proofs.Rebinned.{binned_same}
 use Rattle.dlmalloc.proofs.More.{AreDistinct, tiles_distinct}
 use Rattle.dlmalloc.proofs.Regions.{word_kept, word_fresh, with_other, none_granted}
 use Rattle.dlmalloc.proofs.Run.{run_of, run_part, has_next, behind}
@@ -66,8 +70,57 @@ granted_before grant n heap test = go heap.segments test
         let one = b.0 in let two = b.1 in
         rw (one, two) refl
 
+-- ---- the free extents of a heap that a grant was put before
+
+module _ {A : Type 0} (regions : A → List Grant) (word : A → ℕ → ℕ) (follows : A → List Event → A → Type 0) (old middle : Dlmalloc A) (grant : Grant) (n : ℕ) (first : IsPrepended regions word follows old grant n middle) where
+  -- what is free then was free before
+  was_free : (at size : ℕ) → IsFreeAt (state_of word middle) at size → IsFreeAt (state_of word old) at size
+  was_free at size free = first.before (extent at size Free) (λ same. clash n same first.chunk) (λ same. clash (grant.size - n) same first.rest) free
+    where
+      clash : {place : ℕ} (bytes : ℕ) → at ≡ place → extent_at place (extents_in (state_of word middle)) ≡ Some (extent place bytes Used) → ⊥
+      clash {place} bytes same used = (let no : Used ≡ Free = ap (λ (e : Extent). e.kind) (the_extent (sym used ∙ (ap (λ (a : ℕ). extent_at a (extents_in (state_of word middle))) (sym same) ∙ free))) in cc)
+
+  pub no_free : (k : ℕ) → (IsInFree (state_of word old) k → ⊥) → IsInFree (state_of word middle) k → ⊥
+  no_free k was f = was (record { at = f.at; size = f.size; free = was_free f.at f.size f.free; low = f.low; high = f.high })
+
+  -- nothing of the grant is free
+  pub none_of_grant : (k : ℕ) → grant.base ≤ k → k < grant.base + grant.size → IsInFree (state_of word middle) k → ⊥
+  none_of_grant k low high f =
+      let above = f.low in let below = f.high in
+      elim (same_or_beside regions word middle first.sound f.at f.size f.free (extent grant.base n Used) first.chunk) [
+        | inl same ↦ (let no : Used ≡ Free = ap (λ (e : Extent). e.kind) same in cc)
+        | inr beside ↦ elim (same_or_beside regions word middle first.sound f.at f.size f.free (extent (grant.base + n) (grant.size - n) Used) first.rest) [
+          | inl same ↦ (let no : Used ≡ Free = ap (λ (e : Extent). e.kind) same in cc)
+          | inr behind ↦ elim beside [
+            | inl after ↦ elim behind [ inl out ↦ omega arith | inr between ↦ omega arith ]
+            | inr before ↦ omega arith
+          ]
+        ]
+      ]
+
+  pub prepended_free : FreeMoves (state_of word old) (state_of word middle) [] []
+  prepended_free = record {
+    stays = λ at size free out. (first.still (extent at size Free) free, λ none. none);
+    was = λ at size free out. (was_free at size free, λ none. none);
+  }
+
+  prepended_tags : OnlyTagsChange (regions old.system) (state_of word middle) (word old.system) (word middle.system)
+  prepended_tags k inside boundary tag = elim (dec_lt k grant.base) [
+    | yes below ↦ first.words k inside (inl below) tag
+    | no low ↦ elim (dec_lt k (grant.base + grant.size)) [
+      | yes high ↦ first.new_words k inside (omega arith) high
+          (λ is. boundary (record { extent = extent grant.base n Used; there = first.chunk; is = inl is }))
+          (λ is. boundary (record { extent = extent (grant.base + n) (grant.size - n) Used; there = first.rest; is = inl is }))
+      | no above ↦ first.words k inside (inr (omega arith)) tag
+    ]
+  ]
+
+  -- the bins stay
+  pub prepended_binned : IndexStays → IsSound regions word old → IsSameBins old middle → IsBinned regions word old → IsBinned regions word middle
+  prepended_binned stays sound same = binned_same stays regions word old middle sound first.sound (λ k was is boundary tag tag'. prepended_tags k was boundary tag') same.bins prepended_free same.victim
+
 module _ {A : Type 0} (regions : A → List Grant) (word : A → ℕ → ℕ) (follows : A → List Event → A → Type 0) (old middle new : Dlmalloc A) (grant : Grant) (n : ℕ) (least : 32 ≤ n) (first : IsPrepended regions word follows old grant n middle)
-    (state : state_of word new ≡ freed (state_of word middle) (grant.base + n)) (less : HasOneMore (state_of word new) (state_of word middle) (grant.base + n)) (moved : IsMoved regions word follows middle new)
+    (state : state_of word new ≡ freed (state_of word middle) (grant.base + n)) (less : HasOneMore (state_of word new) (state_of word middle) (grant.base + n)) (moved : IsTurned regions word follows middle new)
     (records : (one : Extent) → one.kind ≡ Record → extent_at one.at (extents_in (state_of word middle)) ≡ Some one → extent_at one.at (extents_in (state_of word new)) ≡ Some one)
     (followed : follows old.system [] new.system) where
   chunk_there : extent_at grant.base (extents_in (state_of word new)) ≡ Some (extent grant.base n Used)
@@ -91,16 +144,16 @@ module _ {A : Type 0} (regions : A → List Grant) (word : A → ℕ → ℕ) (f
       only = λ used is there other. first.before used other (less.new used is there) (less.kept used is there);
       new = λ used is there. (first.apart used there).0;
     };
-    words = λ k inside out boundary tag. moved.words k (into k inside) boundary ∙ first.words k inside out
+    words = λ k inside out was own tag. moved.words k (into k inside) (no_free regions word follows old middle grant n first k was) own ∙ first.words k inside out
         (λ r. tag (record { extent = r.extent; there = records r.extent r.is r.there; is = r.is; low = r.low; high = r.high }));
-    new_words = λ k inside low high boundary. moved.words k (into k inside) boundary ∙ first.new_words k inside low high
-        (λ is. boundary (record { extent = extent grant.base n Used; there = chunk_there; is = inl is }))
-        (λ is. boundary (record { extent = rest_there.next; there = rest_there.there; is = inl (is ∙ ap (λ (a : ℕ). a + 8) (sym rest_there.place)) }));
+    new_words = λ k inside low high own. moved.words k (into k inside) (none_of_grant regions word follows old middle grant n first k low high) own ∙ first.new_words k inside low high
+        (λ is. own (inl (record { extent = extent grant.base n Used; there = chunk_there; is = inl is })))
+        (λ is. own (inl (record { extent = rest_there.next; there = rest_there.there; is = inl (is ∙ ap (λ (a : ℕ). a + 8) (sym rest_there.place)) })));
   }
 
 -- ---- so the chunk is cut out
 
-module _ {A : Type 0} (regions : A → List Grant) (word : A → ℕ → ℕ) (zeros : A → Bool) (follows : A → List Event → A → Type 0) (old : Dlmalloc A) (sound : IsSound regions word old) (n asked : ℕ) (none : chosen (state_of word old) n ≡ None)
+module _ {A : Type 0} (regions : A → List Grant) (word : A → ℕ → ℕ) (zeros : A → Bool) (follows : A → List Event → A → Type 0) (old : Dlmalloc A) (sound : IsSound regions word old) (n asked : ℕ) (enough : n + 96 ≤ asked) (none : chosen (state_of word old) n ≡ None)
     (grant : Grant) (good : IsGoodGrant asked grant) (long : 128 ≤ grant.size) (beside : AllByRecursion (IsApart grant.base (grant.base + grant.size)) (regions old.system)) (middle : A)
     (with_it : regions middle ≡ with_grant grant (regions old.system)) (same : state_of word (record old { system = middle }) ≡ state_of word old) (test : is_put_before grant (segments_of word old) ≡ true)
     (words : (k : ℕ) → IsWordOf (regions old.system) k → word middle k ≡ word old.system k)
@@ -109,8 +162,8 @@ module _ {A : Type 0} (regions : A → List Grant) (word : A → ℕ → ℕ) (z
   more_put : HasOneMore (state_of word old) (state_of word new) grant.base
   more_put = subst (λ (s : HeapState). HasOneMore s (state_of word new) grant.base) same put.more
 
-  words_put : OnlyTagsChange (regions old.system) (state_of word new) (word old.system) (word new.system)
-  words_put k inside boundary tag = put.words k (word_kept grant (regions old.system) (regions middle) with_it k inside) out boundary tag ∙ words k inside
+  words_put : OnlyOwnOrTagsChange (regions old.system) (state_of word old) (state_of word new) (word old.system) (word new.system)
+  words_put k inside was own tag = put.words k (word_kept grant (regions old.system) (regions middle) with_it k inside) out (λ f. was (subst (λ (s : HeapState). IsInFree s k) same f)) own tag ∙ words k inside
     where
       out : (k < grant.base) ⊎ (grant.base + grant.size ≤ k)
       out = elim (dec_lt k grant.base) [
@@ -130,9 +183,12 @@ module _ {A : Type 0} (regions : A → List Grant) (word : A → ℕ → ℕ) (z
         full = full regions word old sound n none;
         of_grant = λ is. (refl, put.state ∙ (ap (λ (s : HeapState). freed (prepended grant n s) (grant.base + n)) same ∙ sym (granted_before grant n (state_of word old) test)));
         of_top = λ is. absurd (cc);
+        room = omega (arith, enough, good.long);
+        place = inl refl;
       },
       followed,
       put.regions_same ∙ with_it,
+      beside,
     );
     small = omega (arith, good.high, long);
     more = more_put;
@@ -146,11 +202,11 @@ module _ {A : Type 0} (regions : A → List Grant) (word : A → ℕ → ℕ) (z
     };
     kept = blocks_law_tags regions word old new sound put.sound words_put (extents_in (state_of word old)) (λ block there used. (there, more_put.kept block used there));
     words = words_put;
-    boundaries = λ is. absurd (with_other grant (regions old.system) (sym (put.regions_same ∙ with_it) ∙ is));
-    new_words = λ zeroed k inside fresh boundary.
+    own = λ is. absurd (with_other grant (regions old.system) (sym (put.regions_same ∙ with_it) ∙ is));
+    new_words = λ zeroed k inside fresh own.
         let there = subst (λ (rs : List Grant). IsWordOf rs k) put.regions_same inside in
         let within = word_fresh grant (regions old.system) (regions middle) with_it k there fresh in
-        put.new_words k there within.0 within.1 boundary ∙ zero zeroed k within.0 within.1 inside.aligned;
+        put.new_words k there within.0 within.1 own ∙ zero zeroed k within.0 within.1 inside.aligned;
     sound = put.sound;
   }
     where

@@ -47,6 +47,19 @@ with_other grant regions same = (let more = longer regions in let as_many = ap l
         go true rest = omega arith
         go false rest = omega arith
 
+-- and which one it is, they tell
+pub one_more : (grant other : Grant) (regions : List Grant) → with_grant grant regions ≡ with_grant other regions → grant ≡ other
+one_more grant other [] same = cc
+one_more grant other (region ∷ regions) same = go (nat_lt grant.base region.base) refl (nat_lt other.base region.base) refl same (λ rest. one_more grant other regions rest)
+  where
+    go : (a : Bool) → nat_lt grant.base region.base ≡ a → (b : Bool) → nat_lt other.base region.base ≡ b →
+        (if a then grant ∷ region ∷ regions else region ∷ with_grant grant regions) ≡ (if b then other ∷ region ∷ regions else region ∷ with_grant other regions) →
+        (with_grant grant regions ≡ with_grant other regions → grant ≡ other) → grant ≡ other
+    go true first true second same rest = cc
+    go true first false second same rest = absurd (let is : grant ≡ region = cc in let place : grant.base ≡ region.base = ap (λ (g : Grant). g.base) is in grind (arith, nat_tests))
+    go false first true second same rest = absurd (let is : region ≡ other = cc in let place : region.base ≡ other.base = ap (λ (g : Grant). g.base) is in grind (arith, nat_tests))
+    go false first false second same rest = rest (cc)
+
 -- ---- runs of regions
 
 -- no byte of regions apart from a range is one of it

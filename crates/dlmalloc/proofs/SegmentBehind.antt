@@ -32,7 +32,8 @@ pub record PassedBehind {A : Type 0} (word : A → ℕ → ℕ) (heap : Dlmalloc
 abbrev pub as_passed : {A : Type 0} (word : A → ℕ → ℕ) (heap : Dlmalloc A) (grant : Grant) (payload : ℕ) → PassedBehind word heap grant payload → PassedSegments word heap payload (λ (ss : List Segment). ⊤)
 as_passed word heap grant payload p = record { passed = p.head ∷ p.passed; rest = p.rest; is = p.is; some = omega arith; told = p.told; so_far = tt }
 
-behind_more : (words : ℕ → ℕ) (payload : ℕ) (front : List Segment) (segment : Segment) → payload_behind words payload (front ++ segment ∷ []) ≡ words (payload_behind words payload front + 16)
+-- the payload behind one more
+pub behind_more : (words : ℕ → ℕ) (payload : ℕ) (front : List Segment) (segment : Segment) → payload_behind words payload (front ++ segment ∷ []) ≡ words (payload_behind words payload front + 16)
 behind_more words payload [] segment = refl
 behind_more words payload (first ∷ front) segment = behind_more words (words (payload + 16)) front segment
 
@@ -157,18 +158,18 @@ module _ {A : Type 0} (regions : A → List Grant) (word : A → ℕ → ℕ) (h
       nothing [] h = refl
       nothing (one ∷ rest) h = absurd (let low = h.0 in omega arith)
 
--- ---- records that tell segments as before, but for one
+-- ---- records that tell segments as before, and others behind them
 
-module _ (regions : List Grant) (old new : ℕ → ℕ) (segment now : Segment) (back : List Segment) where
-  pub told_around : (front : List Segment) (payload start : ℕ) → payload ≡ payload_behind old start front → AreSegments regions old front → AllByRecursion (KeepsIts old new) front → AreRecords old start (front ++ segment ∷ back) → AreRecords new payload (now ∷ back) → AreRecords new start (front ++ now ∷ back)
-  told_around [] payload start reached parts same h here = subst (λ (p : ℕ). AreRecords new p (now ∷ back)) reached here
+module _ (regions : List Grant) (old new : ℕ → ℕ) (rest now : List Segment) where
+  pub told_around : (front : List Segment) (payload start : ℕ) → payload ≡ payload_behind old start front → AreSegments regions old front → AllByRecursion (KeepsIts old new) front → AreRecords old start (front ++ rest) → AreRecords new payload now → AreRecords new start (front ++ now)
+  told_around [] payload start reached parts same h here = subst (λ (p : ℕ). AreRecords new p now) reached here
   told_around (other ∷ front) payload start reached parts same h here = (
     h.0,
     at start (omega arith) (omega arith) whole ∙ h.1,
     at (start + 8) (omega arith) (omega arith) (omega (arith, whole)) ∙ h.2,
     at (start + 24) (omega arith) (omega arith) (omega (arith, whole)) ∙ h.3,
     h.4,
-    subst (λ (p : ℕ). AreRecords new p (front ++ now ∷ back)) (sym (at (start + 16) (omega arith) (omega arith) (omega (arith, whole)))) (told_around front payload (old (start + 16)) reached parts.1 same.1 h.5 here),
+    subst (λ (p : ℕ). AreRecords new p (front ++ now)) (sym (at (start + 16) (omega arith) (omega arith) (omega (arith, whole)))) (told_around front payload (old (start + 16)) reached parts.1 same.1 h.5 here),
   )
     where
       r : IsIn old other.base (other.base + other.size) (record_of (start - 16) (other.base + other.size))

@@ -6,38 +6,43 @@ use Rattle.heap_memory.specs.Events.{Event, Granted}
 use Rattle.heap_memory.specs.Regions.{IsWordOf}
 use Rattle.dlmalloc_chunks.specs.Request.{padded, limit, round_up}
 use Rattle.dlmalloc_chunks.specs.declared.extent.Extent.{Extent}
-use Rattle.dlmalloc_chunks.specs.declared.extent.Kind.TheVariants.{Top, Record}
+use Rattle.dlmalloc_chunks.specs.declared.extent.Kind.TheVariants.{Free, Top, Record}
 use Rattle.dlmalloc.specs.Extents.{extent_at}
 use Rattle.dlmalloc.specs.State.{HeapState, extents_in, is_plain}
 use Rattle.dlmalloc.specs.Blocks.{IsBlock, HasOneMore}
-use Rattle.dlmalloc.specs.Boundaries.{IsBoundary, IsInRecord, OnlyTagsChange}
+use Rattle.dlmalloc.specs.Boundaries.{IsBoundary, IsOwn, IsInRecord, OnlyOwnOrTagsChange}
 use Rattle.dlmalloc.specs.Choice.{chosen, IsChosen}
 use Rattle.dlmalloc.specs.Taken.{taken}
 use Rattle.dlmalloc.specs.Heap.{state_of, IsSound}
 use Rattle.dlmalloc.specs.Grown.{IsGrown}
-use Rattle.dlmalloc.specs.Served.{IsCut, IsMoved, IsCutOut, IsServed}
+use Rattle.dlmalloc.specs.Served.{IsBehindTop, IsCut, IsMoved, IsCutOut, IsServed, IsTurned}
 use Rattle.dlmalloc.specs.declared.heap.Dlmalloc.{Dlmalloc}
 use Rattle.dlmalloc.proofs.Places.{extent, nat_is, the_extent}
 use Rattle.dlmalloc.proofs.BlocksLaw.{blocks_law, blocks_law_tags}
 use Rattle.dlmalloc.proofs.BlockChunks.{block_placed}
 use Rattle.dlmalloc.proofs.Full.{full}
+use Rattle.dlmalloc.proofs.HeadSegment.{behind_first}
 use Rattle.dlmalloc.proofs.Regions.{word_kept, word_fresh, none_fresh, with_other}
 use Rattle.dlmalloc.proofs.Requests.{taken_block}
 use Rattle.dlmalloc.proofs.Tops.{top_among}
 
 module _ {A : Type 0} (regions : A → List Grant) (word : A → ℕ → ℕ) (zeros : A → Bool) (follows : A → List Event → A → Type 0) (old : Dlmalloc A) (sound : IsSound regions word old) (n : ℕ) where
+  -- a move with no change of bins is one with them
+  pub as_turned : (new : Dlmalloc A) → IsMoved regions word follows old new → IsTurned regions word follows old new
+  as_turned new moved = record { sound = moved.sound; words = λ k inside was own. moved.words k inside (λ boundary. own (inl boundary)); regions_same = moved.regions_same; followed = moved.followed }
+
   -- an extent of the heap was chosen, and cut
   pub cut_here : (new : Dlmalloc A) (chunk : Extent) → IsChosen (state_of word old) n chunk → n ≤ chunk.size → chunk.at + 16 < 2 ^ 64 → state_of word new ≡ taken (state_of word old) chunk n →
-      HasOneMore (state_of word old) (state_of word new) chunk.at → IsMoved regions word follows old new → IsCutOut regions word zeros follows old n chunk.at new
+      HasOneMore (state_of word old) (state_of word new) chunk.at → IsTurned regions word follows old new → IsCutOut regions word zeros follows old n chunk.at new
   cut_here new chunk is fits small state more moved = record {
     cut = inl (record { extent = chunk; is_chosen = is; place = refl; state = state }, moved.followed, moved.regions_same);
     small = small;
     more = more;
     holds = λ size holds near. subst (λ (s : HeapState). IsBlock s (chunk.at + 16) size) (sym state) (taken_block (state_of word old) chunk n size is.there fits holds near);
     kept = blocks_law regions word old new sound moved.sound moved.words (extents_in (state_of word old)) (λ block there used. (there, more.kept block used there));
-    words = λ k inside apart recorded. moved.words k inside apart;
-    boundaries = λ same. moved.words;
-    new_words = λ zero k inside fresh apart. absurd (none_fresh (regions old.system) (regions new.system) moved.regions_same k inside fresh);
+    words = λ k inside was own recorded. moved.words k inside was own;
+    own = λ same. moved.words;
+    new_words = λ zero k inside fresh own. absurd (none_fresh (regions old.system) (regions new.system) moved.regions_same k inside fresh);
     sound = moved.sound;
   }
 
@@ -74,9 +79,19 @@ module _ {A : Type 0} (regions : A → List Grant) (word : A → ℕ → ℕ) (z
       high = r.high;
     }
 
-    words_cut : OnlyTagsChange (regions old.system) (state_of word new) (word old.system) (word new.system)
-    words_cut k inside apart recorded = moved.words k (word_kept grown.grant (regions old.system) (regions middle.system) grown.with_it k inside) apart
-        ∙ grown.words k inside (λ b. apart (boundary_still k b)) (λ r. recorded (record_still k r))
+    own_still : (k : ℕ) → IsOwn (state_of word middle) k → IsOwn (state_of word new) k
+    own_still k (inl boundary) = inl (boundary_still k boundary)
+    own_still k (inr f) = inr (record {
+      at = f.at;
+      size = f.size;
+      free = others (extent f.at f.size Free) (λ same. (let one = ap (λ (e : Extent). e.kind) (is_the_top (extent f.at f.size Free) f.free same) in let no : Top ≡ Free = one in cc)) f.free;
+      low = f.low;
+      high = f.high;
+    })
+
+    words_cut : OnlyOwnOrTagsChange (regions old.system) (state_of word old) (state_of word new) (word old.system) (word new.system)
+    words_cut k inside was own recorded = moved.words k (word_kept grown.grant (regions old.system) (regions middle.system) grown.with_it k inside) (λ boundary. own (inl boundary))
+        ∙ grown.words k inside was (λ o. own (own_still k o)) (λ r. recorded (record_still k r))
 
     more_cut : HasOneMore (state_of word old) (state_of word new) middle.top
     more_cut = record {
@@ -100,9 +115,15 @@ module _ {A : Type 0} (regions : A → List Grant) (word : A → ℕ → ℕ) (z
             place = refl;
             state = state ∙ ap (λ (s : HeapState). taken s (extent middle.top middle.top_size Top) n) grown.state;
           };
+          room = grown.long;
+          place = elim grown.begins [
+            | inl here ↦ inl here
+            | inr behind ↦ inr (subst (IsBehindTop (state_of word old) grown.grant) (sym behind.2) (behind_first word old grown.grant behind.0 behind.1, (old.top_size, top_among regions word old sound behind.0)))
+          ];
         },
         followed,
         moved.regions_same ∙ grown.with_it,
+        grown.fresh,
       );
       small = small;
       more = more_cut;
@@ -110,11 +131,11 @@ module _ {A : Type 0} (regions : A → List Grant) (word : A → ℕ → ℕ) (z
           (taken_block (state_of word middle) (extent middle.top middle.top_size Top) n size the_top (let room = grown.room in omega arith) holds near);
       kept = blocks_law_tags regions word old new sound moved.sound words_cut (extents_in (state_of word old)) (λ block there used. (there, more_cut.kept block used there));
       words = words_cut;
-      boundaries = λ same. absurd (with_other grown.grant (regions old.system) (sym (moved.regions_same ∙ grown.with_it) ∙ same));
-      new_words = λ zero k inside fresh apart.
+      own = λ same. absurd (with_other grown.grant (regions old.system) (sym (moved.regions_same ∙ grown.with_it) ∙ same));
+      new_words = λ zero k inside fresh own.
           let there = subst (λ (rs : List Grant). IsWordOf rs k) moved.regions_same inside in
           let within = word_fresh grown.grant (regions old.system) (regions middle.system) grown.with_it k there fresh in
-          moved.words k there apart ∙ grown.new_words zero k within.0 within.1 inside.aligned (λ is. apart (subst (IsBoundary (state_of word new)) (sym is) head)) (λ is. apart (subst (IsBoundary (state_of word new)) (sym is) foot));
+          moved.words k there (λ boundary. own (inl boundary)) ∙ grown.new_words zero k within.0 within.1 inside.aligned (λ is. own (inl (subst (IsBoundary (state_of word new)) (sym is) head))) (λ is. own (inl (subst (IsBoundary (state_of word new)) (sym is) foot)));
       sound = moved.sound;
     }
 
@@ -135,7 +156,7 @@ served regions word zeros follows old new size n at is holds near small cut =
       more = subst (HasOneMore (state_of word old) (state_of word new)) back cut.more;
       kept = cut.kept;
       words = cut.words;
-      boundaries = cut.boundaries;
+      own = cut.own;
       new_words = cut.new_words;
       sound = cut.sound;
     }

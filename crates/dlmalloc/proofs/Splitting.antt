@@ -1,5 +1,5 @@
 -- A chunk in use is split into two.
-use Rattle.std.proofs.Common.{◌≡◌, ◌≢◌, ℕ, ◌+◌, ◌-◌, ◌%◌, ◌^◌, ◌<◌, ◌≤◌, inl, Bool, true, false, ◌==◌, List, [], ◌∷◌, None, Some, refl, sym, ◌∙◌, ap, subst, arith}
+use Rattle.std.proofs.Common.{◌≡◌, ◌≢◌, ℕ, ◌+◌, ◌-◌, ◌%◌, ◌^◌, ◌<◌, ◌≤◌, inl, inr, Bool, true, false, ◌==◌, List, [], ◌∷◌, None, Some, refl, sym, ◌∙◌, ap, subst, arith}
 use Rattle.std.proofs.lemmas.Bool.Decides.{nat_tests}
 use Rattle.heap_memory.specs.declared.grant.Grant.{Grant}
 use Rattle.heap_memory.specs.Words.{IsStored}
@@ -16,9 +16,11 @@ use Rattle.dlmalloc.specs.Boundaries.{OnlyBoundariesChange}
 use Rattle.dlmalloc.specs.Moves.{IsMove, IsRunOf}
 use Rattle.dlmalloc.specs.Heap.{segments_of, state_of, IsSound}
 use Rattle.dlmalloc.specs.declared.heap.Dlmalloc.{Dlmalloc}
-use Rattle.dlmalloc.proofs.Places.{extent, nat_isnt, nat_same}
+use Rattle.dlmalloc.proofs.Places.{extent, nat_isnt, nat_same, found_either}
 use Rattle.dlmalloc.proofs.Cutting.{stored_over}
 use Rattle.dlmalloc.proofs.Tiling.{tiles_le}
+use Rattle.dlmalloc.specs.Binned.{FreeMoves}
+use Rattle.dlmalloc.proofs.FreeMoving.{free_moves}
 use Rattle.dlmalloc.proofs.Steps.{IsStep, read, found_new, found_again, found_before, keeps_words, stays_sound}
 use Rattle.dlmalloc.proofs.Run.{run_of, step_beside, run_part, run_word}
 use Rattle.dlmalloc.proofs.Taken.{replaced_run}
@@ -175,3 +177,13 @@ module _ {A : Type 0} (regions : A → List Grant) (word : A → ℕ → ℕ) (h
 
     pub split_words : OnlyBoundariesChange (regions heap.system) (state_of word after) (word heap.system) (word system)
     split_words = keeps_words regions word heap after sound (chunk ∷ []) both split_step
+
+    -- no free extent changes
+    pub split_free : FreeMoves (state_of word heap) (state_of word after) [] []
+    split_free = free_moves regions word heap after sound (chunk ∷ []) both split_step [] []
+        (λ k bytes found. (let no : Used ≡ Free = used_one k (extent k bytes Free) found in cc))
+        (λ k bytes found. elim (found_either k (extent at n Used ∷ []) (extent (at + n) (size - n) Used ∷ []) (extent k bytes Free) found) [
+          | inl first ↦ (let no : Used ≡ Free = ap (λ (e : Extent). e.kind) (found_one k (extent at n Used) (extent k bytes Free) first) in cc)
+          | inr later ↦ (let no : Used ≡ Free = ap (λ (e : Extent). e.kind) (found_one k (extent (at + n) (size - n) Used) (extent k bytes Free) later.1) in cc)
+        ])
+        (λ k none. absurd none) (λ k none. absurd none)

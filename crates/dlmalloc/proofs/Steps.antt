@@ -85,10 +85,10 @@ module _ {A : Type 0} (regions : A → List Grant) (word : A → ℕ → ℕ) (h
   apart_now = subst AreApart (sym read) now_apart
 
   -- all extents, before and after
-  abbrev before : List Extent
+  abbrev pub before : List Extent
   before = extents_all step.front ++ step.first
 
-  abbrev behind : List Extent
+  abbrev pub behind : List Extent
   behind = step.last ++ extents_all step.back
 
   around : (segment : Segment) (run : List Extent) → segment.extents ≡ step.first ++ (run ++ step.last) → extents_all (step.front ++ segment ∷ step.back) ≡ before ++ (run ++ behind)
@@ -97,16 +97,16 @@ module _ {A : Type 0} (regions : A → List Grant) (word : A → ℕ → ℕ) (h
       ∙ (ap (λ (es : List Extent). extents_all step.front ++ es) (append_assoc step.first (run ++ step.last) (extents_all step.back) ∙ ap (λ (es : List Extent). step.first ++ es) (append_assoc run step.last (extents_all step.back)))
       ∙ sym (append_assoc (extents_all step.front) step.first (run ++ behind))))
 
-  all_old : extents_in (state_of word heap) ≡ before ++ (less ++ behind)
+  pub all_old : extents_in (state_of word heap) ≡ before ++ (less ++ behind)
   all_old = ap extents_all step.is ∙ around step.segment less step.old_extents
 
-  all_new : extents_in (state_of word new) ≡ before ++ (more ++ behind)
+  pub all_new : extents_in (state_of word new) ≡ before ++ (more ++ behind)
   all_new = ap extents_all read ∙ around step.now more step.new_extents
 
-  distinct_old : AreDistinct (extents_in (state_of word heap))
+  pub distinct_old : AreDistinct (extents_in (state_of word heap))
   distinct_old = all_distinct (regions heap.system) (word heap.system) (segments_of word heap) sound.segments sound.apart
 
-  distinct_new : AreDistinct (extents_in (state_of word new))
+  pub distinct_new : AreDistinct (extents_in (state_of word new))
   distinct_new = all_distinct (regions new.system) (word new.system) (segments_of word new) segments_now apart_now
 
   distinct : AreDistinct (before ++ (more ++ behind))

@@ -16,8 +16,11 @@ use Rattle.dlmalloc.specs.Blocks.{HasOneMore}
 use Rattle.dlmalloc.specs.Moves.{IsMove, IsRunOf, HasMore, used_of}
 use Rattle.dlmalloc.specs.Heap.{segments_of, state_of, IsSound}
 use Rattle.dlmalloc.specs.declared.heap.Dlmalloc.{Dlmalloc}
-use Rattle.dlmalloc.proofs.Places.{extent, nat_same, nat_isnt}
-use Rattle.dlmalloc.proofs.Cutting.{stored_then, cut_split, cut_whole}
+use Rattle.bins.specs.Index.{IsIn}
+use Rattle.dlmalloc.specs.Binned.{IsFreeAt, FreeMoves}
+use Rattle.dlmalloc.proofs.Places.{extent, nat_same, nat_isnt, found_here, found_either}
+use Rattle.dlmalloc.proofs.Cutting.{stored_then, cut_split, cut_whole, behind_free}
+use Rattle.dlmalloc.proofs.FreeMoving.{free_moves}
 use Rattle.dlmalloc.proofs.Tiling.{sized, tiles_le}
 use Rattle.dlmalloc.proofs.Segments.{with_extents}
 use Rattle.dlmalloc.proofs.Steps.{IsStep, read, found_new, found_again, keeps_words, stays_sound, has_more}
@@ -30,6 +33,12 @@ pub record IsTake {A : Type 0} (regions : A → List Grant) (word : A → ℕ �
   pub more : HasOneMore (state_of word old) (state_of word new) chunk.at
   pub sound : IsSound regions word new
   pub words : OnlyBoundariesChange (regions old.system) (state_of word new) (word old.system) (word new.system)
+
+-- so they were, of a free extent that is not the top
+pub record IsFreeTake {A : Type 0} (regions : A → List Grant) (word : A → ℕ → ℕ) (old : Dlmalloc A) (chunk : Extent) (n : ℕ) (new : Dlmalloc A) : Type 0 where
+  pub take : IsTake regions word old chunk n new
+  pub free : FreeMoves (state_of word old) (state_of word new) (chunk.at ∷ []) (if nat_le (n + 32) chunk.size then (chunk.at + n) ∷ [] else [])
+  pub rest : n + 32 ≤ chunk.size → IsFreeAt (state_of word new) (chunk.at + n) (chunk.size - n)
 
 -- what is found in one
 pub found_one : (k : ℕ) (one tail : Extent) → extent_at k (one ∷ []) ≡ Some tail → one ≡ tail
@@ -58,22 +67,27 @@ module _ {A : Type 0} (regions : A → List Grant) (word : A → ℕ → ℕ) (h
     after victim victim_size = record heap { system = system; victim = victim; victim_size = victim_size }
 
     abbrev Took : ℕ → ℕ → Type 0
-    Took victim victim_size = IsTake regions word heap chunk n (after victim victim_size)
+    Took victim victim_size = IsFreeTake regions word heap chunk n (after victim victim_size)
 
     -- what a step leaves, in which the chunk is cut so
     take : (less more new : List Extent) (victim victim_size : ℕ) (step : IsStep regions word heap (after victim victim_size) less more) →
         step.front ++ step.now ∷ step.back ≡ run.front ++ with_extents run.segment (run.first ++ (new ++ run.last)) ∷ run.back → cut n chunk ≡ new →
         (one : Extent) → one.at ≡ at → HasMore less more one →
         (victim_size ≢ 0 → extent_at victim (extents_in (state_of word (after victim victim_size))) ≡ Some (extent victim victim_size Free)) → (victim_size ≡ 0 → victim ≡ 0) →
-        victim ≡ victim_after (state_of word heap) n chunk → Took victim victim_size
-    take less more new victim victim_size step now is one place h named none left = record {
-      state = (
-          let segments_are = read regions word heap (after victim victim_size) sound less more step ∙ (now ∙ (ap (λ (es : List Extent). run.front ++ with_extents run.segment (run.first ++ (es ++ run.last)) ∷ run.back) (sym is)
-          ∙ sym (replaced_run (regions heap.system) (word heap.system) segments sound.segments sound.apart chunk (cut n) run))) in
-          λ i. record { segments = segments_are i; victim = left i; granularity = heap.granularity; rate = heap.rate; countdown = heap.countdown; trim_check = heap.trim_check });
-      more = subst (λ (k : ℕ). HasOneMore (state_of word heap) (state_of word (after victim victim_size)) k) place (has_more regions word heap (after victim victim_size) sound less more step one h);
-      sound = stays_sound regions word heap (after victim victim_size) sound less more step same refl refl refl refl none named;
-      words = keeps_words regions word heap (after victim victim_size) sound less more step;
+        victim ≡ victim_after (state_of word heap) n chunk → FreeMoves (state_of word heap) (state_of word (after victim victim_size)) (at ∷ []) (if nat_le (n + 32) size then (at + n) ∷ [] else []) →
+        (n + 32 ≤ size → IsFreeAt (state_of word (after victim victim_size)) (at + n) (size - n)) → Took victim victim_size
+    take less more new victim victim_size step now is one place h named none left free rest = record {
+      take = record {
+        state = (
+            let segments_are = read regions word heap (after victim victim_size) sound less more step ∙ (now ∙ (ap (λ (es : List Extent). run.front ++ with_extents run.segment (run.first ++ (es ++ run.last)) ∷ run.back) (sym is)
+            ∙ sym (replaced_run (regions heap.system) (word heap.system) segments sound.segments sound.apart chunk (cut n) run))) in
+            λ i. record { segments = segments_are i; victim = left i; granularity = heap.granularity; rate = heap.rate; countdown = heap.countdown; trim_check = heap.trim_check });
+        more = subst (λ (k : ℕ). HasOneMore (state_of word heap) (state_of word (after victim victim_size)) k) place (has_more regions word heap (after victim victim_size) sound less more step one h);
+        sound = stays_sound regions word heap (after victim victim_size) sound less more step same refl refl refl refl none named;
+        words = keeps_words regions word heap (after victim victim_size) sound less more step;
+      };
+      free = free;
+      rest = rest;
     }
 
     -- ---- a rest stays free
@@ -97,7 +111,27 @@ module _ {A : Type 0} (regions : A → List Grant) (word : A → ℕ → ℕ) (h
 
       split : (victim victim_size : ℕ) → (victim_size ≢ 0 → extent_at victim (extents_in (state_of word (after victim victim_size))) ≡ Some (extent victim victim_size Free)) → (victim_size ≡ 0 → victim ≡ 0) →
           victim ≡ victim_after (state_of word heap) n chunk → Took victim victim_size
-      split victim victim_size = take (chunk ∷ []) halves halves victim victim_size (split_step victim victim_size) refl (rw has_rest refl) (extent at n Used) refl (record { front = []; back = []; fewer = refl; further = refl })
+      split victim victim_size named none left = take (chunk ∷ []) halves halves victim victim_size (split_step victim victim_size) refl (rw has_rest refl) (extent at n Used) refl (record { front = []; back = []; fewer = refl; further = refl }) named none left
+          (subst (λ (b : Bool). FreeMoves (state_of word heap) (state_of word (after victim victim_size)) (at ∷ []) (if b then (at + n) ∷ [] else [])) (sym has_rest) split_free)
+          (λ more. found_new regions word heap (after victim victim_size) sound (chunk ∷ []) halves (split_step victim victim_size) (at + n) (extent (at + n) (size - n) Free) rest_there)
+        where
+          rest_there : extent_at (at + n) halves ≡ Some (extent (at + n) (size - n) Free)
+          rest_there =
+              let first : (at == at + n) ≡ false = nat_isnt (inl (omega arith)) in
+              let second : (at + n == at + n) ≡ true = nat_same (at + n) in
+              rw (first, second) refl
+
+          in_rest : (k bytes : ℕ) → extent_at k halves ≡ Some (extent k bytes Free) → IsIn k ((at + n) ∷ [])
+          in_rest k bytes found = elim (found_either k (extent at n Used ∷ []) (extent (at + n) (size - n) Free ∷ []) (extent k bytes Free) found) [
+            | inl first ↦ absurd (let no : Used ≡ Free = ap (λ (e : Extent). e.kind) (found_one k (extent at n Used) (extent k bytes Free) first) in cc)
+            | inr later ↦ inl (sym (ap (λ (e : Extent). e.at) (found_one k (extent (at + n) (size - n) Free) (extent k bytes Free) later.1)))
+          ]
+
+          split_free : FreeMoves (state_of word heap) (state_of word (after victim victim_size)) (at ∷ []) ((at + n) ∷ [])
+          split_free = free_moves regions word heap (after victim victim_size) sound (chunk ∷ []) halves (split_step victim victim_size) (at ∷ []) ((at + n) ∷ [])
+              (λ k bytes found. inl (sym (ap (λ (e : Extent). e.at) (found_one k chunk (extent k bytes Free) found)))) in_rest
+              (λ k is. elim is [ inl same ↦ inr (chunk, subst (λ (a : ℕ). extent_at a (chunk ∷ []) ≡ Some chunk) (sym same) (found_here chunk [])) | inr none ↦ absurd none ])
+              (λ k is. elim is [ inl same ↦ inr (extent (at + n) (size - n) Free, subst (λ (a : ℕ). extent_at a halves ≡ Some (extent (at + n) (size - n) Free)) (sym same) rest_there) | inr none ↦ absurd none ])
 
       -- the rest is the victim
       pub split_victim : (at ≡ heap.victim) ⊎ (n < 256) → Took (at + n) (size - n)
@@ -178,9 +212,36 @@ module _ {A : Type 0} (regions : A → List Grant) (word : A → ℕ → ℕ) (h
 
       whole : (victim victim_size : ℕ) → (victim_size ≢ 0 → extent_at victim (extents_in (state_of word (after victim victim_size))) ≡ Some (extent victim victim_size Free)) → (victim_size ≡ 0 → victim ≡ 0) →
           victim ≡ victim_after (state_of word heap) n chunk → Took victim victim_size
-      whole victim victim_size = take both all (extent at size Used ∷ []) victim victim_size (whole_step victim victim_size)
+      whole victim victim_size named none left = take both all (extent at size Used ∷ []) victim victim_size (whole_step victim victim_size)
           (ap (λ (es : List Extent). run.front ++ with_extents run.segment (run.first ++ (extent at size Used ∷ es)) ∷ run.back) (sym next.is)) (rw no_rest refl)
-          (extent at size Used) refl (record { front = []; back = used_of (next.next ∷ []); fewer = refl; further = refl })
+          (extent at size Used) refl (record { front = []; back = used_of (next.next ∷ []); fewer = refl; further = refl }) named none left
+          (subst (λ (b : Bool). FreeMoves (state_of word heap) (state_of word (after victim victim_size)) (at ∷ []) (if b then (at + n) ∷ [] else [])) (sym no_rest) whole_free)
+          (λ more. absurd (omega (arith, more, small)))
+        where
+          next_kind : (next.next.kind ≡ Used) ⊎ (next.next.kind ≡ Record)
+          next_kind = behind_free next.next.kind (behind (regions heap.system) (word heap.system) segments sound.segments at (at + size) (chunk ∷ []) run next).1.kind
+
+          next_used : (bytes k : ℕ) → next.next ≡ extent k bytes Free → ⊥
+          next_used bytes k is =
+              let kind : next.next.kind ≡ Free = ap (λ (e : Extent). e.kind) is in
+              elim next_kind [ inl used ↦ (let no : Used ≡ Free = sym used ∙ kind in cc) | inr tail ↦ (let no : Record ≡ Free = sym tail ∙ kind in cc) ]
+
+          in_both : (k bytes : ℕ) → extent_at k both ≡ Some (extent k bytes Free) → IsIn k (at ∷ [])
+          in_both k bytes found = elim (found_either k (chunk ∷ []) (next.next ∷ []) (extent k bytes Free) found) [
+            | inl first ↦ inl (sym (ap (λ (e : Extent). e.at) (found_one k chunk (extent k bytes Free) first)))
+            | inr later ↦ absurd (next_used bytes k (found_one k next.next (extent k bytes Free) later.1))
+          ]
+
+          in_all : (k bytes : ℕ) → extent_at k all ≡ Some (extent k bytes Free) → IsIn k []
+          in_all k bytes found = elim (found_either k (extent at size Used ∷ []) (next.next ∷ []) (extent k bytes Free) found) [
+            | inl first ↦ (let no : Used ≡ Free = ap (λ (e : Extent). e.kind) (found_one k (extent at size Used) (extent k bytes Free) first) in cc)
+            | inr later ↦ next_used bytes k (found_one k next.next (extent k bytes Free) later.1)
+          ]
+
+          whole_free : FreeMoves (state_of word heap) (state_of word (after victim victim_size)) (at ∷ []) []
+          whole_free = free_moves regions word heap (after victim victim_size) sound both all (whole_step victim victim_size) (at ∷ []) [] in_both in_all
+              (λ k is. elim is [ inl same ↦ inr (chunk, subst (λ (a : ℕ). extent_at a both ≡ Some chunk) (sym same) (found_here chunk (next.next ∷ []))) | inr none ↦ absurd none ])
+              (λ k is. absurd is)
 
       -- it was the victim, and there is none now
       pub whole_victim : at ≡ heap.victim → Took 0 0

@@ -13,7 +13,7 @@ use Rattle.dlmalloc.specs.Boundaries.{IsBoundary}
 use Rattle.dlmalloc.specs.Moves.{IsRunOf}
 use Rattle.dlmalloc.specs.Heap.{segments_of, state_of, IsSound}
 use Rattle.dlmalloc.specs.declared.heap.Dlmalloc.{Dlmalloc}
-use Rattle.dlmalloc.proofs.Places.{extent, nat_isnt, nat_same, found_later, found_here}
+use Rattle.dlmalloc.proofs.Places.{extent, nat_isnt, nat_same, found_later, found_here, found_either}
 use Rattle.dlmalloc.proofs.Tiling.{tiles_le}
 use Rattle.dlmalloc.proofs.More.{none_outside}
 use Rattle.dlmalloc.proofs.Cutting.{cut_top, stored_then}
@@ -21,6 +21,8 @@ use Rattle.dlmalloc.proofs.Steps.{IsStep, read, found_new, found_again, keeps_wo
 use Rattle.dlmalloc.proofs.Run.{run_of, step_top, run_part, run_word}
 use Rattle.dlmalloc.proofs.Told.{head_is}
 use Rattle.dlmalloc.proofs.Taken.{replaced_run}
+use Rattle.dlmalloc.specs.Binned.{FreeMoves}
+use Rattle.dlmalloc.proofs.FreeMoving.{free_moves}
 use Rattle.dlmalloc.proofs.Taking.{IsTake, found_one}
 use Rattle.dlmalloc.proofs.Tops.{is_top, top_among, foot_among}
 
@@ -108,6 +110,16 @@ module _ {A : Type 0} (regions : A → List Grant) (word : A → ℕ → ℕ) (h
           (λ found. absurd (let no : Top ≡ Free = top_one heap.victim (extent heap.victim heap.victim_size Free) found in cc)) (sound.victim more));
       words = keeps_words regions word heap after sound (chunk ∷ []) halves cut_step;
     }
+
+    -- no free extent but the top changes
+    pub top_free : FreeMoves (state_of word heap) (state_of word after) [] []
+    top_free = free_moves regions word heap after sound (chunk ∷ []) halves cut_step [] []
+        (λ k bytes found. (let no : Top ≡ Free = top_one k (extent k bytes Free) found in cc))
+        (λ k bytes found. elim (found_either k (extent heap.top n Used ∷ []) (extent (heap.top + n) (heap.top_size - n) Top ∷ []) (extent k bytes Free) found) [
+          | inl first ↦ (let no : Used ≡ Free = ap (λ (e : Extent). e.kind) (found_one k (extent heap.top n Used) (extent k bytes Free) first) in cc)
+          | inr later ↦ (let no : Top ≡ Free = ap (λ (e : Extent). e.kind) (found_one k (extent (heap.top + n) (heap.top_size - n) Top) (extent k bytes Free) later.1) in cc)
+        ])
+        (λ k none. absurd none) (λ k none. absurd none)
 
     -- all others are found as before
     pub others_still : (one : Extent) → one.at ≢ heap.top → extent_at one.at (extents_in (state_of word heap)) ≡ Some one → extent_at one.at (extents_in (state_of word after)) ≡ Some one

@@ -17,7 +17,9 @@ use Rattle.dlmalloc.specs.Extents.{is_used}
 use Rattle.dlmalloc.specs.State.{Segment, extents_in}
 use Rattle.dlmalloc.specs.Taken.{in_segments}
 use Rattle.dlmalloc.specs.Freed.{freed_in, victim_in, has}
-use Rattle.dlmalloc.proofs.Places.{nat_same, nat_isnt, found_either, found_later}
+use Rattle.bins.specs.Index.{IsIn}
+use Rattle.dlmalloc.specs.Binned.{FreeMoves}
+use Rattle.dlmalloc.proofs.Places.{nat_same, nat_isnt, found_here, found_either, found_later, the_extent}
 use Rattle.dlmalloc.proofs.Places.{extent, same_extent}
 use Rattle.dlmalloc.specs.Extents.{MayStand, Stands, Tiles, last_kind}
 use Rattle.dlmalloc.specs.Moves.{IsMove, IsRunOf, HasMore, used_of}
@@ -32,12 +34,13 @@ use Rattle.dlmalloc.proofs.Segments.{extents_all, with_extents, all_back, back_a
 use Rattle.dlmalloc.proofs.Run.{HasNext, has_next, with_next, behind, run_part, step_top}
 use Rattle.dlmalloc.proofs.Reading.{only_foot}
 use Rattle.dlmalloc.proofs.Freed.{freed_run, joint_kind}
-use Rattle.dlmalloc.proofs.Beside.{Left, left_of, with_left}
+use Rattle.dlmalloc.proofs.Beside.{Left, left_of, with_left, the_one, beside_place}
+use Rattle.dlmalloc.proofs.FreeMoving.{IsThere, free_moves}
 use Rattle.dlmalloc.proofs.Victim.{has_none, skip, has_none_beside, victim_same}
 use Rattle.dlmalloc.proofs.Told.{head_is}
 use Rattle.dlmalloc.proofs.Tops.{is_top}
 use Rattle.dlmalloc.proofs.Disposing.{IsFree, run_one, begins_whole}
-use Rattle.dlmalloc.proofs.Steps.{IsStep, read, segments_now, apart_now, found_again, keeps_words, stays_sound, has_less}
+use Rattle.dlmalloc.proofs.Steps.{IsStep, read, segments_now, apart_now, found_new, found_again, keeps_words, stays_sound, has_less}
 
 module _ {A : Type 0} (regions : A → List Grant) (word : A → ℕ → ℕ) (heap : Dlmalloc A) (sound : IsSound regions word heap) (at size : ℕ)
     (there : extent_at at (extents_in (state_of word heap)) ≡ Some (extent at size Used)) where
@@ -178,6 +181,26 @@ module _ {A : Type 0} (regions : A → List Grant) (word : A → ℕ → ℕ) (h
           ∙ (let unused : is_used top.kind ≡ false = ap is_used kind in rw unused refl));
     }
 
+    in_less : (k bytes : ℕ) → extent_at k less ≡ Some (extent k bytes Free) → IsIn k (from ∷ (at + size) ∷ [])
+    in_less k bytes found = elim (found_either k left.lefts (chunk ∷ top ∷ []) (extent k bytes Free) found) [
+      | inl first ↦ inl (beside_place words Used from left.lefts at left.beside left.lefts_stand k (extent k bytes Free) first)
+      | inr later ↦ elim (found_either k (chunk ∷ []) (top ∷ []) (extent k bytes Free) later.1) [
+        | inl here ↦ absurd (let no : Used ≡ Free = ap (λ (e : Extent). e.kind) (the_one k chunk (extent k bytes Free) here) in cc)
+        | inr last ↦ absurd (let no : Top ≡ Free = sym kind ∙ ap (λ (e : Extent). e.kind) (the_one k top (extent k bytes Free) last.1) in cc)
+      ]
+    ]
+
+    in_more : (k bytes : ℕ) → extent_at k more ≡ Some (extent k bytes Free) → IsIn k (from ∷ [])
+    in_more k bytes found = absurd (let no : Top ≡ Free = ap (λ (e : Extent). e.kind) (the_one k joint (extent k bytes Free) found) in cc)
+
+    right_there : IsThere (at + size) less
+    right_there =
+        let test : (at == at + size) ≡ false = nat_isnt (inl (let long = stands.size.1 in omega arith)) in (
+          top,
+          found_later (at + size) left.lefts (chunk ∷ top ∷ []) (none_outside words Used from left.lefts at (at + size) (inr (omega arith)) left.lefts_stand)
+              ∙ rw test (subst (λ (a : ℕ). extent_at a (top ∷ []) ≡ Some top) stand.0 (found_here top [])),
+        )
+
     head_segment : (run.front ≡ []) × (at + size ≡ heap.top)
     head_segment = is_top regions word heap sound run.front run.segment run.back run.is (at + size) top.size
         (ap (extent_at (at + size)) (one.extents ∙ ap (λ (l : List Extent). one.first ++ (chunk ∷ l)) next.is)
@@ -216,7 +239,16 @@ module _ {A : Type 0} (regions : A → List Grant) (word : A → ℕ → ℕ) (h
           ∙ ap (λ (es : List Extent). run.front ++ with_extents run.segment (run.first ++ (joint ∷ es)) ∷ run.back) (sym foot.is))
 
       abbrev Topped : ℕ → ℕ → Type 0
-      Topped victim victim_size = IsFree regions word heap at (after victim victim_size)
+      Topped victim victim_size = IsFree regions word heap at size from (at + size) (after victim victim_size)
+
+      topped_free : (victim victim_size : ℕ) → FreeMoves (state_of word heap) (state_of word (after victim victim_size)) (from ∷ (at + size) ∷ []) (from ∷ [])
+      topped_free victim victim_size = free_moves regions word heap (after victim victim_size) sound less more (step victim victim_size) (from ∷ (at + size) ∷ []) (from ∷ []) in_less in_more
+          (λ k is. elim is [ inl same ↦ inl (inl same) | inr later ↦ elim later [ inl same ↦ inr (subst (λ (a : ℕ). IsThere a less) (sym same) right_there) | inr none ↦ absurd none ] ])
+          (λ k is. elim is [ inl same ↦ inl (inl same) | inr none ↦ absurd none ])
+
+      -- the top begins there
+      top_there : (victim victim_size : ℕ) → extent_at from (extents_in (state_of word (after victim victim_size))) ≡ Some joint
+      top_there victim victim_size = let test : (from == from) ≡ true = nat_same from in found_new regions word heap (after victim victim_size) sound less more (step victim victim_size) from joint (rw test refl)
 
       done : (victim victim_size : ℕ) → (victim_size ≢ 0 → extent_at victim (extents_in (state_of word (after victim victim_size))) ≡ Some (extent victim victim_size Free)) → (victim_size ≡ 0 → victim ≡ 0) →
           victim ≡ victim_in heap.victim (extents_in (state_of word (after victim victim_size))) → Topped victim victim_size
@@ -229,6 +261,8 @@ module _ {A : Type 0} (regions : A → List Grant) (word : A → ℕ → ℕ) (h
             sound = stays_sound regions word heap (after victim victim_size) sound less more (step victim victim_size) same refl refl refl refl none named;
             words = keeps_words regions word heap (after victim victim_size) sound less more (step victim victim_size);
             records = λ one is there. found_again regions word heap (after victim victim_size) sound less more (step victim victim_size) one.at one (λ found. tails one.at one found is) there;
+            free = topped_free victim victim_size;
+            joined = inl (refl, λ bytes free. (let no : Top ≡ Free = ap (λ (e : Extent). e.kind) (the_extent (sym (top_there victim victim_size) ∙ free)) in cc));
           }
 
       -- the victim went into it

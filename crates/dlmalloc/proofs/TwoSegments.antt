@@ -37,6 +37,7 @@ heap = record {
   top_size = 48;
   victim = 0;
   victim_size = 0;
+  bins = record { firsts = []; lasts = []; small_map = 0; roots = []; tree_map = 0 };
   granularity = 65536;
   rate = 4095;
   countdown = 0;

@@ -65,7 +65,8 @@ next words before at (chunk ∷ rest) to more h are = record { chunk = chunk; re
 pub begun : (regions : List Grant) (words : ℕ → ℕ) (from to : ℕ) (known : List Extent → Type 0) → IsChunkRun regions words from to → known [] → Passed words from to from known
 begun regions words from to known run so_far = record { front = []; back = run.chunks; is = run_read regions words from to run; before = refl; behind = run.stand; are = run.are; so_far = so_far }
 
-none_left : (words : ℕ → ℕ) (before : Kind) (at : ℕ) (chunks : List Extent) (end : ℕ) → end ≤ at → Tiles words before at chunks end → chunks ≡ []
+-- where a range ends, no chunk is left
+pub none_left : (words : ℕ → ℕ) (before : Kind) (at : ℕ) (chunks : List Extent) (end : ℕ) → end ≤ at → Tiles words before at chunks end → chunks ≡ []
 none_left words before at [] end empty h = refl
 none_left words before at (chunk ∷ chunks) end empty h =
     absurd (let long = (sized chunk.kind chunk.size h.1.size).1 in let later = tiles_le words chunk.kind (at + chunk.size) chunks end h.2 in omega arith)

@@ -77,6 +77,11 @@ without_top segment = record segment { extents = flat_map closed segment.extents
 
 -- ---- where a grant goes
 
+-- whether it is behind the head segment
+abbrev pub is_behind_head : Grant → List Segment → Bool
+is_behind_head grant [] = false
+is_behind_head grant (head ∷ rest) = is_behind grant head
+
 -- whether it is put before one of the segments: it does not make the head segment longer
 abbrev pub is_put_before : Grant → List Segment → Bool
 is_put_before grant [] = false

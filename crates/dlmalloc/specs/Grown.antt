@@ -2,15 +2,15 @@
 use Rattle.std.specs.Prelude.{◌≡◌, ◌≢◌, ℕ, ◌+◌, ◌-◌, ◌%◌, ◌^◌, ◌<◌, ◌≤◌, ◌⊎◌, Bool, true, false, List, [], ◌∷◌, Some}
 use Rattle.std.specs.List.{AllByRecursion}
 use Rattle.heap_memory.specs.declared.grant.Grant.{Grant}
-use Rattle.heap_memory.specs.Regions.{IsWordOf, with_grant}
+use Rattle.heap_memory.specs.Regions.{IsWordOf, IsApart, with_grant}
 use Rattle.heap_memory.specs.Events.{Event, Granted}
 use Rattle.dlmalloc_chunks.specs.Request.{round_up}
 use Rattle.dlmalloc_chunks.specs.declared.extent.Extent.{Extent}
 use Rattle.dlmalloc_chunks.specs.declared.extent.Kind.TheVariants.{Used}
 use Rattle.dlmalloc.specs.Extents.{extent_at}
 use Rattle.dlmalloc.specs.State.{HeapState, Segment, extents_in}
-use Rattle.dlmalloc.specs.Boundaries.{IsBoundary, IsInRecord, OnlyTagsChange}
-use Rattle.dlmalloc.specs.Granted.{opened, is_put_before, prepended, granted}
+use Rattle.dlmalloc.specs.Boundaries.{IsInRecord, OnlyTagsChange, IsInFree, IsOwn, OnlyOwnOrTagsChange}
+use Rattle.dlmalloc.specs.Granted.{opened, is_behind, is_put_before, prepended, granted}
 use Rattle.dlmalloc.specs.Freed.{freed}
 use Rattle.dlmalloc.specs.Blocks.{HasOneMore}
 use Rattle.dlmalloc.specs.Segments.{IsRun, IsApartFrom}
@@ -32,12 +32,32 @@ pub record HasSameUsed (old new : HeapState) : Type 0 where
   pub still : (used : Extent) → used.kind ≡ Used → extent_at used.at (extents_in old) ≡ Some used → extent_at used.at (extents_in new) ≡ Some used
   pub before : (used : Extent) → used.kind ≡ Used → extent_at used.at (extents_in new) ≡ Some used → extent_at used.at (extents_in old) ≡ Some used
 
+-- A top that a grant makes begins with it; or the grant is behind the head segment, and it begins where the top did.
+abbrev pub BeginsTop : {A : Type 0} → Dlmalloc A → Grant → ℕ → Type 0
+BeginsTop old grant top =
+    (top ≡ grant.base) ⊎ ((0 < old.size) × (is_behind grant (record { base = old.base; size = old.size; flags = old.flags; extents = [] }) ≡ true) × (top ≡ old.top))
+
 -- A grant became part of a heap, and the top is in it.
 pub record IsJoined {A : Type 0} (regions : A → List Grant) (word : A → ℕ → ℕ) (follows : A → List Event → A → Type 0) (old : Dlmalloc A) (grant : Grant) (new : Dlmalloc A) : Type 0 where
   pub state : (n : ℕ) → state_of word new ≡ granted grant n (state_of word old)
   pub sound : IsSound regions word new
   pub there : 0 < new.size
   pub room : grant.size ≤ new.top_size + 80
+  pub begins : BeginsTop old grant new.top
+  pub regions_same : regions new.system ≡ regions old.system
+  pub followed : follows old.system [] new.system
+  pub used : HasSameUsed (state_of word old) (state_of word new)
+  pub words : OnlyOwnOrTagsChange (regions old.system) (state_of word old) (state_of word new) (word old.system) (word new.system)
+  -- of the grant the heads of the top and of its foot alone are written
+  pub new_words : (k : ℕ) → IsWordOf (regions old.system) k → grant.base ≤ k → k < grant.base + grant.size → k ≢ new.top + 8 → k ≢ new.top + new.top_size + 8 → word new.system k ≡ word old.system k
+
+-- So it did, with no change of bins: words at boundaries and of records alone changed.
+pub record IsAdmitted {A : Type 0} (regions : A → List Grant) (word : A → ℕ → ℕ) (follows : A → List Event → A → Type 0) (old : Dlmalloc A) (grant : Grant) (new : Dlmalloc A) : Type 0 where
+  pub state : (n : ℕ) → state_of word new ≡ granted grant n (state_of word old)
+  pub sound : IsSound regions word new
+  pub there : 0 < new.size
+  pub room : grant.size ≤ new.top_size + 80
+  pub begins : BeginsTop old grant new.top
   pub regions_same : regions new.system ≡ regions old.system
   pub followed : follows old.system [] new.system
   pub used : HasSameUsed (state_of word old) (state_of word new)
@@ -68,8 +88,8 @@ pub record IsPutBefore {A : Type 0} (regions : A → List Grant) (word : A → �
   pub followed : follows old.system [] new.system
   pub chunk : extent_at grant.base (extents_in (state_of word new)) ≡ Some (record { at = grant.base; size = n; kind = Used })
   pub more : HasOneMore (state_of word old) (state_of word new) grant.base
-  pub words : (k : ℕ) → IsWordOf (regions old.system) k → (k < grant.base) ⊎ (grant.base + grant.size ≤ k) → (IsBoundary (state_of word new) k → ⊥) → (IsInRecord (state_of word new) k → ⊥) → word new.system k ≡ word old.system k
-  pub new_words : (k : ℕ) → IsWordOf (regions old.system) k → grant.base ≤ k → k < grant.base + grant.size → (IsBoundary (state_of word new) k → ⊥) → word new.system k ≡ word old.system k
+  pub words : (k : ℕ) → IsWordOf (regions old.system) k → (k < grant.base) ⊎ (grant.base + grant.size ≤ k) → (IsInFree (state_of word old) k → ⊥) → (IsOwn (state_of word new) k → ⊥) → (IsInRecord (state_of word new) k → ⊥) → word new.system k ≡ word old.system k
+  pub new_words : (k : ℕ) → IsWordOf (regions old.system) k → grant.base ≤ k → k < grant.base + grant.size → (IsOwn (state_of word new) k → ⊥) → word new.system k ≡ word old.system k
 
 -- A region was granted, with room for a chunk of n bytes at the top. The extents in use are the same.
 pub record IsGrown {A : Type 0} (regions : A → List Grant) (word : A → ℕ → ℕ) (zeros : A → Bool) (follows : A → List Event → A → Type 0) (old : Dlmalloc A) (n : ℕ) (new : Dlmalloc A) : Type 0 where
@@ -80,9 +100,12 @@ pub record IsGrown {A : Type 0} (regions : A → List Grant) (word : A → ℕ �
   pub sound : IsSound regions word new
   pub there : 0 < new.size
   pub room : n < new.top_size
+  pub long : n + 96 ≤ grant.size
+  pub begins : BeginsTop old grant new.top
   pub with_it : regions new.system ≡ with_grant grant (regions old.system)
+  pub fresh : AllByRecursion (IsApart grant.base (grant.base + grant.size)) (regions old.system)
   pub used : HasSameUsed (state_of word old) (state_of word new)
-  pub words : OnlyTagsChange (regions old.system) (state_of word new) (word old.system) (word new.system)
+  pub words : OnlyOwnOrTagsChange (regions old.system) (state_of word old) (state_of word new) (word old.system) (word new.system)
   -- of the grant the heads of the top and of its foot alone are written
   pub new_words : zeros old.system ≡ true → (k : ℕ) → grant.base ≤ k → k < grant.base + grant.size → k % 8 ≡ 0 → k ≢ new.top + 8 → k ≢ new.top + new.top_size + 8 → word new.system k ≡ 0
 

@@ -1,15 +1,16 @@
 -- A block at a multiple of an alignment (dlmalloc: `memalign`).
-use Rattle.std.specs.Prelude.{◌≡◌, ℕ, ◌+◌, ◌-◌, ◌%◌, ◌<◌, ◌≤◌, ◌⊎◌, max, nat_le, if◌then◌else◌, Bool, true, List, [], ◌∷◌, map, None, IsTrue}
+use Rattle.std.specs.Prelude.{◌≡◌, ℕ, ◌+◌, ◌-◌, ◌%◌, ◌<◌, ◌≤◌, ◌⊎◌, max, nat_le, if◌then◌else◌, Bool, true, List, [], ◌∷◌, map, None, Some, IsTrue}
 use Rattle.heap_memory.specs.declared.grant.Grant.{Grant}
 use Rattle.heap_memory.specs.Events.{Event, Granted}
 use Rattle.heap_memory.specs.Regions.{is_granted, with_grant, IsWordOf}
 use Rattle.dlmalloc_chunks.specs.Request.{padded, enlarged, limit, round_up}
 use Rattle.dlmalloc.specs.State.{HeapState, Segment, extents_in}
-use Rattle.dlmalloc.specs.Choice.{chosen}
+use Rattle.dlmalloc.specs.Choice.{OfBins, chosen}
 use Rattle.dlmalloc.specs.Granted.{granted}
 use Rattle.dlmalloc.specs.Aligned.{aligned_place, lead_freed, aligned}
 use Rattle.dlmalloc.specs.Blocks.{IsBlock, HasOneMore, IsFull, KeepsBlocks}
-use Rattle.dlmalloc.specs.Boundaries.{IsBoundary}
+use Rattle.dlmalloc.specs.Boundaries.{IsOwn}
+use Rattle.dlmalloc.specs.Binned.{IsMember}
 use Rattle.dlmalloc.specs.Heap.{state_of, IsSound}
 use Rattle.dlmalloc.specs.Served.{IsServed}
 use Rattle.dlmalloc.specs.declared.heap.Dlmalloc.{Dlmalloc}
@@ -18,9 +19,9 @@ use Rattle.dlmalloc.specs.declared.heap.Dlmalloc.{Dlmalloc}
 abbrev pub asked : ℕ → ℕ → ℕ
 asked n align = if nat_le align 16 then n else enlarged n align
 
--- A word is at no boundary of a heap as a greater block was cut from it, with the lead free, or as it is in the end.
+-- A word is not the own one of a heap as a greater block was cut from it, with the lead free, or as it is in the end.
 abbrev pub IsPassedOver : HeapState → HeapState → HeapState → ℕ → Type 0
-IsPassedOver cut lead end k = (IsBoundary cut k → ⊥) × (IsBoundary lead k → ⊥) × (IsBoundary end k → ⊥)
+IsPassedOver cut lead end k = (IsOwn cut k → ⊥) × (IsOwn lead k → ⊥) × (IsOwn end k → ⊥)
 
 -- A greater block was handed out, and of it a block of so many bytes at a multiple of an alignment above 16 is left.
 pub record IsServedAligned {A : Type 0} (regions : A → List Grant) (word : A → ℕ → ℕ) (zeros : A → Bool) (follows : A → List Event → A → Type 0) (old : Dlmalloc A) (size align address : ℕ) (new : Dlmalloc A) : Type 0 where
@@ -36,7 +37,7 @@ pub record IsServedAligned {A : Type 0} (regions : A → List Grant) (word : A �
   pub granted : (k : ℕ) → address ≤ k → k < address + max size 1 → IsTrue (is_granted (regions new.system) k)
   pub more : HasOneMore (state_of word old) (state_of word new) (address - 16)
   pub kept : KeepsBlocks (extents_in (state_of word old)) (word old.system) (word new.system)
-  -- of the granted words those at boundaries alone changed
+  -- of the granted words own ones alone changed
   pub words : (k : ℕ) → IsWordOf (regions middle.system) k → IsPassedOver (state_of word middle) (lead_freed (state_of word middle) (greater - 16) (address - 16)) (state_of word new) k → word new.system k ≡ word middle.system k
   pub new_words : zeros old.system ≡ true → (k : ℕ) → IsWordOf (regions new.system) k → (IsWordOf (regions old.system) k → ⊥) →
       IsPassedOver (state_of word middle) (lead_freed (state_of word middle) (greater - 16) (address - 16)) (state_of word new) k → word new.system k ≡ 0
@@ -49,6 +50,12 @@ abbrev pub IsServedAt : {A : Type 0} → (A → List Grant) → (A → ℕ → �
 IsServedAt regions word zeros follows old size align address new =
     ((align ≤ 16) × IsServed regions word zeros follows old size address new)
     ⊎ ((16 < align) × IsServedAligned regions word zeros follows old size align address new)
+
+-- Where a binned extent is chosen for a block, it is the one that each linked index names, and the block is in it: above
+-- alignment 16 at the aligned place.
+abbrev pub IsMemberServed : {A : Type 0} → (A → List Grant) → (A → ℕ → ℕ) → Dlmalloc A → ℕ → ℕ → ℕ → Type 0
+IsMemberServed regions word old size align address =
+    (fit : ℕ) → chosen (state_of word old) (padded (asked size align)) ≡ Some (OfBins fit) → (at : ℕ) × IsMember regions word old (padded (asked size align)) at × (address ≡ aligned_place at align + 16)
 
 -- where the segments of a heap are, and with what flags
 abbrev pub spans : HeapState → List Segment

@@ -5,10 +5,10 @@ use Rattle.heap_memory.specs.declared.grant.Grant.{Grant}
 use Rattle.heap_memory.specs.declared.grant.GrantFault.{GrantFault}
 use Rattle.heap_memory.specs.declared.grant.GrantFault.TheVariants.{OutOfMemory}
 use Rattle.heap_memory.specs.Events.{Event, Granted}
-use Rattle.heap_memory.specs.Regions.{with_grant, is_granted, IsWordOf}
+use Rattle.heap_memory.specs.Regions.{with_grant, is_granted, IsWordOf, IsApart}
 use Rattle.dlmalloc_chunks.specs.Request.{padded, limit, round_up}
 use Rattle.dlmalloc_chunks.specs.declared.extent.Extent.{Extent}
-use Rattle.dlmalloc_chunks.specs.declared.extent.Kind.TheVariants.{Used}
+use Rattle.dlmalloc_chunks.specs.declared.extent.Kind.TheVariants.{Used, Top}
 use Rattle.dlmalloc.specs.Extents.{extent_at}
 use Rattle.dlmalloc.specs.State.{HeapState, Segment, extents_in, extents_by_address, is_top, shown}
 use Rattle.dlmalloc.specs.Segments.{has_byte_in}
@@ -16,10 +16,11 @@ use Rattle.dlmalloc_chunks.specs.Kinds.{ends_segment}
 use Rattle.dlmalloc_chunks.specs.Tiling.{AreExtents, has_byte}
 use Rattle.dlmalloc.specs.Choice.{chosen, IsChosen}
 use Rattle.dlmalloc.specs.Taken.{taken}
-use Rattle.dlmalloc.specs.Granted.{is_put_before, granted}
+use Rattle.dlmalloc.specs.Granted.{is_behind_head, is_put_before, granted}
 use Rattle.dlmalloc.specs.Freed.{freed}
 use Rattle.dlmalloc.specs.Blocks.{IsBlock, HasOneMore, IsFull, KeepsBlocks}
-use Rattle.dlmalloc.specs.Boundaries.{OnlyBoundariesChange, OnlyTagsChange, NewWordsAreZero}
+use Rattle.dlmalloc.specs.Boundaries.{OnlyBoundariesChange, OnlyOwnChange, OnlyOwnOrTagsChange, NewWordsAreZero}
+use Rattle.dlmalloc.specs.Binned.{IsBinned}
 use Rattle.dlmalloc.specs.Heap.{state_of, IsSound}
 use Rattle.dlmalloc.specs.Grown.{IsAsItWas}
 use Rattle.dlmalloc.specs.declared.heap.Dlmalloc.{Dlmalloc}
@@ -41,6 +42,10 @@ pub record IsTopTaken (old : HeapState) (n at : ℕ) (new : HeapState) : Type 0 
   pub place : at ≡ top.at
   pub state : new ≡ taken old top n
 
+-- a grant is behind the head segment, and the top begins at an address
+abbrev pub IsBehindTop : HeapState → Grant → ℕ → Type 0
+IsBehindTop heap grant at = (is_behind_head grant heap.segments ≡ true) × ((size : ℕ) × (extent_at at (extents_in heap) ≡ Some (record { at = at; size = size; kind = Top })))
+
 -- None was chosen, and so blocks leave no run of n + 256 bytes: a region was granted. Where it is put before a segment, the
 -- chunk is cut from its start, and else from the top that it makes.
 pub record IsTakenNew (old : HeapState) (n at : ℕ) (grant : Grant) (new : HeapState) : Type 0 where
@@ -48,13 +53,17 @@ pub record IsTakenNew (old : HeapState) (n at : ℕ) (grant : Grant) (new : Heap
   pub full : IsFull old (n + 256)
   pub of_grant : is_put_before grant old.segments ≡ true → (at ≡ grant.base) × (new ≡ granted grant n old)
   pub of_top : is_put_before grant old.segments ≡ false → IsTopTaken (granted grant n old) n at new
+  -- the region has room for the chunk, which begins with it; or it is behind the head segment, and the chunk begins where the top did
+  pub room : n + 96 ≤ grant.size
+  pub place : (at ≡ grant.base) ⊎ IsBehindTop old grant at
 
--- a chunk of n bytes was cut at an address, with what the system says of the time, and its regions at the end
+-- A chunk of n bytes was cut at an address, with what the system says of the time, and its regions at the end. No byte of a
+-- region that was granted had been granted before.
 abbrev pub IsCut : {A : Type 0} → (A → List Event → A → Type 0) → (A → List Grant) → A → HeapState → ℕ → ℕ → A → HeapState → Type 0
 IsCut follows regions system old n at system' new =
     (IsTaken old n at new × follows system [] system' × (regions system' ≡ regions system))
     ⊎ ((grant : Grant) × IsTakenNew old n at grant new × follows system (Granted (round_up (n + 96) old.granularity) grant ∷ []) system'
-    × (regions system' ≡ with_grant grant (regions system)))
+    × (regions system' ≡ with_grant grant (regions system)) × AllByRecursion (IsApart grant.base (grant.base + grant.size)) (regions system))
 
 -- The system denied what the heap asked it for, since nothing was chosen, and blocks leave no run of n + 256 bytes. Want of
 -- memory is free.
@@ -77,16 +86,23 @@ pub record IsMoved {A : Type 0} (regions : A → List Grant) (word : A → ℕ �
   pub regions_same : regions new.system ≡ regions old.system
   pub followed : follows old.system [] new.system
 
--- A chunk of n bytes was cut at an address: it holds each block whose padded size it is. Where no region was granted, words
--- at boundaries alone changed, and else words of records too.
+-- So it did with its bins: of the granted words its own alone changed, those in free extents among them.
+pub record IsTurned {A : Type 0} (regions : A → List Grant) (word : A → ℕ → ℕ) (follows : A → List Event → A → Type 0) (old new : Dlmalloc A) : Type 0 where
+  pub sound : IsSound regions word new
+  pub words : OnlyOwnChange (regions old.system) (state_of word old) (state_of word new) (word old.system) (word new.system)
+  pub regions_same : regions new.system ≡ regions old.system
+  pub followed : follows old.system [] new.system
+
+-- A chunk of n bytes was cut at an address: it holds each block whose padded size it is. Where no region was granted, own
+-- words alone changed, and else words of records too.
 pub record IsCutOut {A : Type 0} (regions : A → List Grant) (word : A → ℕ → ℕ) (zeros : A → Bool) (follows : A → List Event → A → Type 0) (old : Dlmalloc A) (n at : ℕ) (new : Dlmalloc A) : Type 0 where
   pub cut : IsCut follows regions old.system (state_of word old) n at new.system (state_of word new)
   pub small : at + 16 < 2 ^ 64
   pub more : HasOneMore (state_of word old) (state_of word new) at
   pub holds : (size : ℕ) → size + 8 ≤ n → n ≤ size + 32 → IsBlock (state_of word new) (at + 16) size
   pub kept : KeepsBlocks (extents_in (state_of word old)) (word old.system) (word new.system)
-  pub words : OnlyTagsChange (regions old.system) (state_of word new) (word old.system) (word new.system)
-  pub boundaries : regions new.system ≡ regions old.system → OnlyBoundariesChange (regions old.system) (state_of word new) (word old.system) (word new.system)
+  pub words : OnlyOwnOrTagsChange (regions old.system) (state_of word old) (state_of word new) (word old.system) (word new.system)
+  pub own : regions new.system ≡ regions old.system → OnlyOwnChange (regions old.system) (state_of word old) (state_of word new) (word old.system) (word new.system)
   pub new_words : zeros old.system ≡ true → NewWordsAreZero (regions old.system) (regions new.system) (state_of word new) (word new.system)
   pub sound : IsSound regions word new
 
@@ -100,8 +116,8 @@ pub record IsServed {A : Type 0} (regions : A → List Grant) (word : A → ℕ 
   pub granted : (k : ℕ) → address ≤ k → k < address + max size 1 → IsTrue (is_granted (regions new.system) k)
   pub more : HasOneMore (state_of word old) (state_of word new) (address - 16)
   pub kept : KeepsBlocks (extents_in (state_of word old)) (word old.system) (word new.system)
-  pub words : OnlyTagsChange (regions old.system) (state_of word new) (word old.system) (word new.system)
-  pub boundaries : regions new.system ≡ regions old.system → OnlyBoundariesChange (regions old.system) (state_of word new) (word old.system) (word new.system)
+  pub words : OnlyOwnOrTagsChange (regions old.system) (state_of word old) (state_of word new) (word old.system) (word new.system)
+  pub own : regions new.system ≡ regions old.system → OnlyOwnChange (regions old.system) (state_of word old) (state_of word new) (word old.system) (word new.system)
   pub new_words : zeros old.system ≡ true → NewWordsAreZero (regions old.system) (regions new.system) (state_of word new) (word new.system)
   pub sound : IsSound regions word new
 
@@ -110,12 +126,12 @@ pub record IsRefusedWith {A : Type 0} (regions : A → List Grant) (word : A →
   pub refused : IsRefused denies old.system (state_of word old) size error
   pub same : IsAsItWas regions word follows refuses old new
 
--- The block at an address was freed.
-pub record IsFreed {A : Type 0} (regions : A → List Grant) (word : A → ℕ → ℕ) (follows : A → List Event → A → Type 0) (old : Dlmalloc A) (address : ℕ) (new : Dlmalloc A) : Type 0 where
+-- The block at an address was given back: its chunk is free, and one with the free ones beside it.
+pub record IsDisposed {A : Type 0} (regions : A → List Grant) (word : A → ℕ → ℕ) (follows : A → List Event → A → Type 0) (old : Dlmalloc A) (address : ℕ) (new : Dlmalloc A) : Type 0 where
   pub state : state_of word new ≡ freed (state_of word old) (address - 16)
   pub less : HasOneMore (state_of word new) (state_of word old) (address - 16)
   pub kept : KeepsBlocks (extents_in (state_of word new)) (word old.system) (word new.system)
-  pub words : OnlyBoundariesChange (regions old.system) (state_of word new) (word old.system) (word new.system)
+  pub words : OnlyOwnChange (regions old.system) (state_of word old) (state_of word new) (word old.system) (word new.system)
   pub sound : IsSound regions word new
   pub regions_same : regions new.system ≡ regions old.system
   pub followed : follows old.system [] new.system
@@ -154,9 +170,10 @@ abbrev pub OnlyBlocksChange : List Grant → HeapState → (ℕ → ℕ) → (�
 OnlyBlocksChange regions heap old new = (k : ℕ) → IsWordOf regions k → IsTrue (list_any (has_byte_in k) heap.segments) →
     ((used : Extent) → used.kind ≡ Used → extent_at used.at (extents_in heap) ≡ Some used → (k < used.at + 16) ⊎ (used.at + used.size + 8 ≤ k)) → new k ≡ old k
 
--- A sound heap rests on the regions of its segments, and on their words outside of its blocks: with a system that has these
--- regions and words, it is sound and in the same state.
+-- A sound heap rests on the regions of its segments, and on their words outside of its blocks, and so do its bins: with a system
+-- that has these regions and words, it is sound and in the same state, and its bins are linked.
 abbrev pub RestsOutside : {A : Type 0} → (A → List Grant) → (A → ℕ → ℕ) → Dlmalloc A → Type 0
 RestsOutside {A} regions word heap = IsSound regions word heap → (system : A) → KeepsRegions (state_of word heap).segments (regions heap.system) (regions system) →
     OnlyBlocksChange (regions heap.system) (state_of word heap) (word heap.system) (word system) →
     IsSound regions word (record heap { system = system }) × (state_of word (record heap { system = system }) ≡ state_of word heap)
+    × (IsBinned regions word heap → IsBinned regions word (record heap { system = system }))

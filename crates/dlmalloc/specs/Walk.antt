@@ -1,5 +1,5 @@
--- Walking over the chunks of a segment, the least binned one among some extents, and segments as spans of chunks.
-use Rattle.std.specs.Prelude.{◌≡◌, ◌≢◌, ℕ, ◌+◌, ◌/◌, ◌^◌, ◌<◌, ◌≤◌, ◌⊎◌, ⊤, List, [], ◌∷◌, ◌++◌, map, filter, option_map, IfSome, Option, IsTrue}
+-- Walking over the chunks of a segment, the sizes of those in a bin, and segments as spans of chunks.
+use Rattle.std.specs.Prelude.{◌≡◌, ℕ, ◌+◌, ◌/◌, ◌^◌, ◌<◌, ◌≤◌, ◌⊎◌, ⊤, List, [], ◌∷◌, ◌++◌, map, filter, IsTrue}
 use Rattle.heap_memory.specs.declared.grant.Grant.{Grant}
 use Rattle.heap_memory.specs.Regions.{is_granted}
 use Rattle.dlmalloc_chunks.specs.declared.extent.Extent.{Extent}
@@ -7,9 +7,7 @@ use Rattle.dlmalloc_chunks.specs.declared.extent.Kind.{Kind}
 use Rattle.dlmalloc_chunks.specs.declared.extent.Kind.TheVariants.{Used, Free, Top, Record, Foot}
 use Rattle.dlmalloc_chunks.specs.Head.{size_of}
 use Rattle.dlmalloc.specs.Extents.{kind_of, chunks_from, Tiles}
-use Rattle.dlmalloc.specs.State.{HeapState, Segment, is_binned}
-use Rattle.dlmalloc.specs.Choice.{least_from}
-use Rattle.dlmalloc.specs.declared.walk.Place.{Place}
+use Rattle.dlmalloc.specs.State.{HeapState, is_binned, Segment}
 use Rattle.dlmalloc.specs.declared.walk.Span.{Span}
 use Rattle.dlmalloc.specs.declared.walk.Tail.{Tail}
 use Rattle.dlmalloc.specs.declared.walk.Tail.TheVariants.{TopAndFoot, OneRecord}
@@ -46,13 +44,6 @@ IsAmong extent (first ∷ extents) = (first ≡ extent) ⊎ IsAmong extent exten
 -- the sizes of those in a bin
 abbrev pub binned_sizes : HeapState → List Extent → List ℕ
 binned_sizes heap extents = map (λ (extent : Extent). extent.size) (filter (is_binned heap) extents)
-
--- a place is that of the least binned one with at least n bytes
-pub record Best (heap : HeapState) (n : ℕ) (best : Option Place) (extents : List Extent) : Type 0 where
-  pub least : least_from n (binned_sizes heap extents) ≡ option_map (λ (place : Place). place.size) best
-  pub there : IfSome best (λ place. IsAmong (record { at = place.at; size = place.size; kind = Free }) extents)
-  pub other : IfSome best (λ place. place.at ≢ heap.victim)
-  pub fits : IfSome best (λ place. n ≤ place.size)
 
 -- ---- segments as spans
 

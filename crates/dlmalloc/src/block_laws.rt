@@ -6,6 +6,7 @@ ghost use Rattle.dlmalloc.specs.Heap.{state_of, IsSound};
 ghost use Rattle.dlmalloc.specs.Served.{RestsOutside};
 
 use crate::heap::Dlmalloc;
+use bins::laws::index_stays;
 use heap_memory::Allocator;
 
 impl<A: Allocator> Dlmalloc<A> {
@@ -23,10 +24,12 @@ impl<A: Allocator> Dlmalloc<A> {
     {}
 
     /// A sound heap rests on the regions of its segments, and on their words outside of blocks: what is done through
-    /// `allocator_mut` leaves it sound and in its state where it leaves these (own).
+    /// `allocator_mut` leaves it sound, in its state and with its bins linked where it leaves these (own).
     pub fn rests_outside(&self)
         ensures { RestsOutside A.regions A.word self.now }
-    {}
+    {
+        index_stays();
+    }
 
     /// Between two free extents of a segment stands one in use (own).
     pub fn free_extents_are_parted(&self)

@@ -1,6 +1,7 @@
 // What a block holds when it is handed out.
 ghost use Rattle.std.specs.Prelude.{◌≡◌, ◌+◌, ◌*◌, ◌≤◌, IfOk, IfErr};
 ghost use Rattle.std.specs.Int.{IsPowerOfTwo};
+ghost use Rattle.dlmalloc.specs.Binned.{IsBinned};
 ghost use Rattle.dlmalloc.specs.Heap.{IsSound};
 ghost use Rattle.dlmalloc.specs.Served.{IsRefusedWith};
 ghost use Rattle.dlmalloc.specs.Requested.{asked, IsHandedOut};
@@ -8,6 +9,7 @@ ghost use Rattle.dlmalloc.specs.Written.{words_in, IsServedCleared};
 
 use crate::heap::Dlmalloc;
 use crate::malloc_error::MallocError;
+use bins::laws::index_stays;
 use heap_memory::Allocator;
 use std::sync::ledger::Ledger;
 use step_count::Steps;
@@ -29,14 +31,17 @@ impl<A: Allocator> Dlmalloc<A> {
         steps: &mut Steps<L>,
     ) -> Result<u64, MallocError>
         requires sound { IsSound A.regions A.word self.old }
+        requires linked { IsBinned A.regions A.word self.old }
         requires align { IsPowerOfTwo align }
         ensures handed { IfOk result (λ address. IsHandedOut A.regions A.word A.follows self.old size align address self.new) }
         ensures served { IfOk result (λ address. IsServedCleared A.regions A.word A.zeros A.follows self.old size align address self.new) }
         ensures refused { IfErr result (λ error. IsRefusedWith A.regions A.word A.follows A.refuses A.denies self.old (asked size align) error self.new) }
         ensures sound { IsSound A.regions A.word self.new }
+        ensures linked { IsBinned A.regions A.word self.new }
     {
         match self.malloc(size, align, steps) {
             Ok(address) => {
+                index_stays();
                 self.system.fill_counted(address, words_in(size), 0, steps);
                 Ok(address)
             }

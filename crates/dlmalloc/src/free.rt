@@ -8,11 +8,15 @@ ghost use Rattle.dlmalloc.specs.Extents.{extent_at};
 ghost use Rattle.dlmalloc.specs.State.{extents_in};
 ghost use Rattle.dlmalloc.specs.Freed.{freed};
 ghost use Rattle.dlmalloc.specs.Blocks.{IsBlock, HasOneMore};
+ghost use Rattle.dlmalloc.specs.Released.{IsFreeAround};
 ghost use Rattle.dlmalloc.specs.Heap.{state_of, IsSound};
-ghost use Rattle.dlmalloc.specs.Served.{IsMoved, IsFreed};
+ghost use Rattle.dlmalloc.specs.Served.{IsMoved, IsTurned, IsDisposed};
+ghost use Rattle.dlmalloc.specs.Binned.{IsBinned, IsBinnedBut, IsRebinned, IsJoint, IsVictimAfter, FreeMoves};
+ghost use Rattle.dlmalloc.specs.AfterFree.{IsFreed};
 
 use crate::heap::Dlmalloc;
 use crate::layout::{BLOCK, HEAD, PINUSE};
+use bins::laws::index_stays;
 use dlmalloc_chunks::chunk;
 use heap_memory::{Allocator, Links};
 use std::sync::ledger::Ledger;
@@ -20,56 +24,97 @@ use step_count::Steps;
 
 impl<A: Allocator> Dlmalloc<A> {
     /// Frees the block at an address, of the bytes that were asked for (dlmalloc: `Dlmalloc::free`). Its chunk joins the
-    /// free chunks beside it. The size and the alignment are not read: the chunk's head tells its size. It writes the words
-    /// at boundaries of extents alone.
+    /// free chunks beside it. Where they are the top then, and above the trim check, the heap is trimmed; any other chunk is
+    /// counted, and segments may go back to the system by it. The size and the alignment are not read: the chunk's head
+    /// tells its size.
     pub fn free<L: Ledger>(&mut self, ptr: u64, size: u64, align: u64, steps: &mut Steps<L>)
         requires sound { IsSound A.regions A.word self.old }
+        requires linked { IsBinned A.regions A.word self.old }
         requires block { IsBlock (state_of A.word self.old) ptr size }
-        ensures freed { IsFreed A.regions A.word A.follows self.old ptr self.new }
-        ensures counted { steps.new ≤ steps.old + 9 }
+        ensures freed { IsFreed A.regions A.word A.follows (A.frees self.old.system) (A.parts self.old.system) (A.unit self.old.system) self.old ptr self.new }
+        ensures linked { IsBinned A.regions A.word self.new }
     {
-        self.free_block(ptr, steps);
+        self.free_and_settle(ptr, steps);
     }
 
     /// Frees a block whose size is not told; nothing where there is none (dlmalloc: `c_free`).
     pub fn c_free<L: Ledger>(&mut self, ptr: Option<u64>, steps: &mut Steps<L>)
         requires sound { IsSound A.regions A.word self.old }
+        requires linked { IsBinned A.regions A.word self.old }
         requires block { IfSome ptr (λ address. (size : ℕ) × IsBlock (state_of A.word self.old) address size) }
-        ensures freed { IfSome ptr (λ address. IsFreed A.regions A.word A.follows self.old address self.new) }
+        ensures freed { IfSome ptr (λ address. IsFreed A.regions A.word A.follows (A.frees self.old.system) (A.parts self.old.system) (A.unit self.old.system) self.old address self.new) }
         ensures none { IfNone ptr (self.new ≡ self.old) }
         ensures sound { IsSound A.regions A.word self.new }
-        ensures counted { steps.new ≤ steps.old + 9 }
+        ensures linked { IsBinned A.regions A.word self.new }
     {
         if let Some(address) = ptr {
-            self.free_block(address, steps);
+            self.free_and_settle(address, steps);
         }
     }
 
-    /// Frees a block of some size.
-    pub(crate) fn free_block<L: Ledger>(&mut self, ptr: u64, steps: &mut Steps<L>)
+    /// Frees the chunk of a block of some size, and answers where the free chunk begins that it is part of then.
+    pub(crate) fn free_block<L: Ledger>(&mut self, ptr: u64, steps: &mut Steps<L>) -> u64
         requires sound { IsSound A.regions A.word self.old }
+        requires linked { IsBinned A.regions A.word self.old }
         requires block { (size : ℕ) × IsBlock (state_of A.word self.old) ptr size }
-        ensures freed { IsFreed A.regions A.word A.follows self.old ptr self.new }
-        ensures counted { steps.new ≤ steps.old + 9 }
+        ensures freed { IsDisposed A.regions A.word A.follows self.old ptr self.new }
+        ensures around { IsFreeAround (state_of A.word self.new) (ptr - 16) result }
+        ensures linked { IsBinned A.regions A.word self.new }
+        ensures counted { steps.new ≤ steps.old + 530 }
     {
         let at = ptr - BLOCK;
         let size = chunk::size(&self.system, at, steps);
-        self.dispose_chunk(at, size, steps);
+        self.dispose_chunk(at, size, steps)
     }
 
     /// Frees a chunk in use, with the free chunks beside it: they become the top where it follows, else one free chunk,
-    /// which is the victim where one of them was.
-    pub(crate) fn dispose_chunk<L: Ledger>(&mut self, at: u64, size: u64, steps: &mut Steps<L>)
+    /// which is the victim where one of them was, and else goes into its bin. Answers where that begins.
+    pub(crate) fn dispose_chunk<L: Ledger>(
+        &mut self,
+        at: u64,
+        size: u64,
+        steps: &mut Steps<L>,
+    ) -> u64
         requires sound { IsSound A.regions A.word self.old }
+        requires linked { IsBinned A.regions A.word self.old }
         requires chunk { extent_at at (extents_in (state_of A.word self.old)) ≡ Some (record { at = at; size = size; kind = Used }) }
         ensures state { state_of A.word self.new ≡ freed (state_of A.word self.old) at }
         ensures less { HasOneMore (state_of A.word self.new) (state_of A.word self.old) at }
         ensures records { (one : Extent) → one.kind ≡ Record → extent_at one.at (extents_in (state_of A.word self.old)) ≡ Some one → extent_at one.at (extents_in (state_of A.word self.new)) ≡ Some one }
-        ensures moved { IsMoved A.regions A.word A.follows self.old self.new }
-        ensures counted { steps.new ≤ steps.old + 8 }
+        ensures around { IsFreeAround (state_of A.word self.new) at result }
+        ensures moved { IsTurned A.regions A.word A.follows self.old self.new }
+        ensures linked { IsBinned A.regions A.word self.new }
+        ensures counted { steps.new ≤ steps.old + 529 }
     {
         let from = self.free_begin(at, steps);
         let to = self.free_end(at + size, steps);
+        self.unbin_between(from, at, steps);
+        self.unbin_between(at + size, to, steps);
+        index_stays();
+        self.join_free(at, size, from, to, steps);
+        self.bin_joined(from, to, steps);
+        from
+    }
+
+    /// Makes one free chunk of a chunk in use and of the free ones beside it, which reach from an address up to another: the
+    /// top where it follows; else one that is the victim where one of them was. None of them is in a bin.
+    fn join_free<L: Ledger>(&mut self, at: u64, size: u64, from: u64, to: u64, steps: &mut Steps<L>)
+        requires sound { IsSound A.regions A.word self.old }
+        requires chunk { extent_at at (extents_in (state_of A.word self.old)) ≡ Some (record { at = at; size = size; kind = Used }) }
+        requires from { from ≡ (if pinuse_of (A.word self.old.system (at + 8)) then at else at - A.word self.old.system at) }
+        requires to { to ≡ (if at + size == self.old.top then at + size else
+            if free_of (A.word self.old.system (at + size + 8)) then at + size + size_of (A.word self.old.system (at + size + 8)) else at + size) }
+        ensures state { state_of A.word self.new ≡ freed (state_of A.word self.old) at }
+        ensures less { HasOneMore (state_of A.word self.new) (state_of A.word self.old) at }
+        ensures records { (one : Extent) → one.kind ≡ Record → extent_at one.at (extents_in (state_of A.word self.old)) ≡ Some one → extent_at one.at (extents_in (state_of A.word self.new)) ≡ Some one }
+        ensures around { IsFreeAround (state_of A.word self.new) at from }
+        ensures free { FreeMoves (state_of A.word self.old) (state_of A.word self.new) (from ∷ (at + size) ∷ []) (from ∷ []) }
+        ensures joined { IsJoint (state_of A.word self.new) self.new.top from (to - from) }
+        ensures victim { IsVictimAfter from to self.old.victim self.new.victim }
+        ensures bins { self.new.bins ≡ self.old.bins }
+        ensures moved { IsMoved A.regions A.word A.follows self.old self.new }
+        ensures counted { steps.new ≤ steps.old + 4 }
+    {
         if to == self.top {
             self.top_size += to - from;
             self.top = from;
@@ -86,6 +131,25 @@ impl<A: Allocator> Dlmalloc<A> {
                 self.victim_size = to - from;
             }
         }
+    }
+
+    /// Puts what chunks were joined to, from an address up to another, into its bin, unless it is the top or the victim.
+    fn bin_joined<L: Ledger>(&mut self, from: u64, to: u64, steps: &mut Steps<L>)
+        requires sound { IsSound A.regions A.word self.old }
+        requires ordered { from ≤ to }
+        requires joined { IsJoint (state_of A.word self.old) self.old.top from (to - from) }
+        requires loose { IsBinnedBut (from ∷ []) A.regions A.word self.old }
+        ensures linked { IsBinned A.regions A.word self.new }
+        ensures same { IsRebinned A.regions A.word A.follows self.old self.new }
+        ensures counted { steps.new ≤ steps.old + 129 }
+    {
+        if from == self.top {
+            return;
+        }
+        if from == self.victim {
+            return;
+        }
+        self.bin(from, to - from, steps);
     }
 
     /// Where the free chunk before a chunk begins; the chunk's own address where none stands there.

@@ -1,5 +1,5 @@
 // Asking the system for a region, and what becomes of it.
-ghost use Rattle.std.specs.Prelude.{◌≡◌, ◌≢◌, ℕ, ◌+◌, ◌-◌, ◌%◌, ◌^◌, ◌<◌, ◌≤◌, ◌⊎◌, true, false, ◌&&◌, ◌==◌, nat_lt, if◌then◌else◌, [], None, Some, IfOk, OnErr, IfErr};
+ghost use Rattle.std.specs.Prelude.{◌≡◌, ◌≢◌, ℕ, ◌+◌, ◌-◌, ◌%◌, ◌^◌, ◌<◌, ◌≤◌, ◌⊎◌, true, false, ◌&&◌, ◌==◌, nat_le, nat_lt, if◌then◌else◌, [], ◌∷◌, None, Some, IfOk, OnErr, IfErr};
 ghost use Rattle.std.specs.List.{AllByRecursion};
 ghost use Rattle.dlmalloc_chunks.specs.Request.{round_up};
 ghost use Rattle.heap_memory.specs.Regions.{IsWordOf};
@@ -9,11 +9,13 @@ ghost use Rattle.dlmalloc.specs.Granted.{is_behind, is_put_before};
 ghost use Rattle.dlmalloc.specs.Choice.{chosen};
 ghost use Rattle.dlmalloc.specs.Served.{IsCutOut};
 ghost use Rattle.dlmalloc.specs.Heap.{state_of, segments_of, IsSound, IsGranularity};
-ghost use Rattle.dlmalloc.specs.Grown.{IsFresh, IsJoined, IsGrown, IsAsItWas};
+ghost use Rattle.dlmalloc.specs.Grown.{IsFresh, IsJoined, IsAdmitted, IsGrown, IsAsItWas};
+ghost use Rattle.dlmalloc.specs.Binned.{IsFreeAt, IsBinned, IsSameBins, FreeMoves};
 
 use crate::heap::{Dlmalloc, countdown_from};
 use crate::layout::{BLOCK, FOOT, HEAD, LEAST_CHUNK, OVERHEAD, PINUSE, TRIM_THRESHOLD};
 use crate::record::{SegmentRecord, put_record};
+use bins::laws::index_stays;
 use dlmalloc_chunks::chunk;
 use heap_memory::{Allocator, Grant, GrantFault};
 use std::sync::ledger::Ledger;
@@ -41,6 +43,7 @@ impl<A: Allocator> Dlmalloc<A> {
         steps: &mut Steps<L>,
     ) -> Result<Option<u64>, GrantFault>
         requires sound { IsSound A.regions A.word self.old }
+        requires linked { IsBinned A.regions A.word self.old }
         requires none { chosen (state_of A.word self.old) n ≡ None }
         requires whole { n % 16 ≡ 0 }
         requires least { 32 ≤ n }
@@ -49,8 +52,10 @@ impl<A: Allocator> Dlmalloc<A> {
         ensures top { IfOk result (λ chunk. chunk ≡ None → IsGrown A.regions A.word A.zeros A.follows self.old n self.new) }
         ensures err { OnErr result (IsAsItWas A.regions A.word A.follows A.refuses self.old self.new) }
         ensures denied { IfErr result (λ fault. fault ≢ GrantFault.OutOfMemory → A.denies self.old.system (round_up (n + 96) self.old.granularity) fault) }
+        ensures linked { IsBinned A.regions A.word self.new }
     {
         let asked = self.asked(n);
+        index_stays();
         let grant = self.system.alloc(asked)?;
         match self.segment_behind(&grant, steps) {
             Some(behind) => {
@@ -67,10 +72,13 @@ impl<A: Allocator> Dlmalloc<A> {
     /// Makes a grant part of the heap. It is put before no segment.
     fn join<L: Ledger>(&mut self, grant: &Grant, steps: &mut Steps<L>)
         requires sound { IsSound A.regions A.word self.old }
+        requires linked { IsBinned A.regions A.word self.old }
         requires fresh { IsFresh (A.regions self.old.system) (segments_of A.word self.old) grant.now }
         requires apart { is_put_before grant.now (segments_of A.word self.old) ≡ false }
         ensures joined { IsJoined A.regions A.word A.follows self.old grant.now self.new }
+        ensures linked { IsBinned A.regions A.word self.new }
     {
+        index_stays();
         if self.size == 0 {
             self.open(grant, steps);
         } else if self.is_behind(grant) {
@@ -94,7 +102,9 @@ impl<A: Allocator> Dlmalloc<A> {
         requires sound { IsSound A.regions A.word self.old }
         requires none { self.old.size ≡ 0 }
         requires fresh { IsFresh (A.regions self.old.system) (segments_of A.word self.old) grant.now }
-        ensures joined { IsJoined A.regions A.word A.follows self.old grant.now self.new }
+        ensures joined { IsAdmitted A.regions A.word A.follows self.old grant.now self.new }
+        ensures free { FreeMoves (state_of A.word self.old) (state_of A.word self.new) [] [] }
+        ensures same { IsSameBins self.old self.new }
     {
         self.next = 0;
         self.countdown = countdown_from(self.rate);
@@ -107,21 +117,48 @@ impl<A: Allocator> Dlmalloc<A> {
         requires there { 0 < self.old.size }
         requires fresh { IsFresh (A.regions self.old.system) (segments_of A.word self.old) grant.now }
         requires behind { is_behind grant.now (record { base = self.old.base; size = self.old.size; flags = self.old.flags; extents = [] }) ≡ true }
-        ensures joined { IsJoined A.regions A.word A.follows self.old grant.now self.new }
+        ensures joined { IsAdmitted A.regions A.word A.follows self.old grant.now self.new }
+        ensures free { FreeMoves (state_of A.word self.old) (state_of A.word self.new) [] [] }
+        ensures same { IsSameBins self.old self.new }
     {
         self.size += grant.size;
         self.trim_check = TRIM_THRESHOLD;
         self.close_top(steps);
     }
 
-    /// Makes a grant the head segment. What was the top is freed, and a record behind it tells the segment that it is in.
+    /// Makes a grant the head segment. What was the top is freed, and goes into its bin, and a record behind it tells the
+    /// segment that it is in.
     fn add_segment<L: Ledger>(&mut self, grant: &Grant, steps: &mut Steps<L>)
         requires sound { IsSound A.regions A.word self.old }
+        requires linked { IsBinned A.regions A.word self.old }
         requires there { 0 < self.old.size }
         requires fresh { IsFresh (A.regions self.old.system) (segments_of A.word self.old) grant.now }
         requires apart { is_put_before grant.now (segments_of A.word self.old) ≡ false }
         requires beside { is_behind grant.now (record { base = self.old.base; size = self.old.size; flags = self.old.flags; extents = [] }) ≡ false }
         ensures joined { IsJoined A.regions A.word A.follows self.old grant.now self.new }
+        ensures linked { IsBinned A.regions A.word self.new }
+    {
+        let top = self.top;
+        let top_size = self.top_size;
+        index_stays();
+        self.change_head(grant, steps);
+        if top_size < LEAST_CHUNK {
+            return;
+        }
+        self.bin(top, top_size, steps);
+    }
+
+    /// Makes a grant the head segment. What was the top is freed, and a record behind it tells the segment that it is in.
+    fn change_head<L: Ledger>(&mut self, grant: &Grant, steps: &mut Steps<L>)
+        requires sound { IsSound A.regions A.word self.old }
+        requires there { 0 < self.old.size }
+        requires fresh { IsFresh (A.regions self.old.system) (segments_of A.word self.old) grant.now }
+        requires apart { is_put_before grant.now (segments_of A.word self.old) ≡ false }
+        requires beside { is_behind grant.now (record { base = self.old.base; size = self.old.size; flags = self.old.flags; extents = [] }) ≡ false }
+        ensures joined { IsAdmitted A.regions A.word A.follows self.old grant.now self.new }
+        ensures free { FreeMoves (state_of A.word self.old) (state_of A.word self.new) [] (if nat_le 32 self.old.top_size then self.old.top ∷ [] else []) }
+        ensures rest { 32 ≤ self.old.top_size → IsFreeAt (state_of A.word self.new) self.old.top self.old.top_size }
+        ensures same { IsSameBins self.old self.new }
     {
         let record = self.leave_top(steps);
         let told = SegmentRecord {
@@ -183,7 +220,7 @@ impl<A: Allocator> Dlmalloc<A> {
     }
 
     /// Writes the heads of the top and of its foot, where the top reaches up to the foot at the segment's end.
-    fn close_top<L: Ledger>(&mut self, steps: &mut Steps<L>)
+    pub(crate) fn close_top<L: Ledger>(&mut self, steps: &mut Steps<L>)
         requires low { self.old.base ≤ self.old.top }
         requires room { self.old.top + 96 ≤ self.old.base + self.old.size }
         requires high { self.old.base + self.old.size < 2 ^ 64 }

@@ -1,7 +1,9 @@
 ghost use Rattle.std.specs.Prelude.{◌≡◌, ◌↔◌, ◌≢◌, ℕ, ◌+◌, ◌≤◌, if◌then◌else◌, IsTrue};
 ghost use Rattle.dlmalloc.specs.State.{new_heap, countdown_from};
 ghost use Rattle.dlmalloc.specs.Heap.{state_of, IsSound, IsGranularity};
+ghost use Rattle.dlmalloc.specs.Binned.{IsBinned};
 
+use bins::Bins;
 use heap_memory::Allocator;
 
 /// The size of the heap's requests of a new heap, in bytes.
@@ -26,6 +28,8 @@ pub struct Dlmalloc<A: Allocator> {
     /// The free chunk that is cut first for small requests. It has no bytes where there is none.
     pub(crate) victim: u64,
     pub(crate) victim_size: u64,
+    /// The other free chunks but the top, by size.
+    pub(crate) bins: Bins,
     pub(crate) granularity: u64,
     pub(crate) rate: u64,
     pub(crate) countdown: u64,
@@ -56,6 +60,7 @@ impl<A: Allocator> Dlmalloc<A> {
         ensures state { state_of A.word result ≡ new_heap }
         ensures system { result.system ≡ system }
         ensures sound { IsSound A.regions A.word result }
+        ensures linked { IsBinned A.regions A.word result }
     {
         Dlmalloc {
             system,
@@ -67,6 +72,7 @@ impl<A: Allocator> Dlmalloc<A> {
             top_size: 0,
             victim: 0,
             victim_size: 0,
+            bins: Bins::new(),
             granularity: DEFAULT_GRANULARITY,
             rate: DEFAULT_RATE,
             countdown: 0,
@@ -80,9 +86,24 @@ impl<A: Allocator> Dlmalloc<A> {
         ensures state { state_of A.word self.new ≡ record (state_of A.word self.old) { rate = rate; countdown = countdown_from rate } }
         ensures system { self.new.system ≡ self.old.system }
         ensures sound { IsSound A.regions A.word self.old → IsSound A.regions A.word self.new }
+        ensures linked { IsBinned A.regions A.word self.old → IsBinned A.regions A.word self.new }
     {
         self.rate = rate;
         self.countdown = countdown_from(rate);
+    }
+
+    /// How many large chunks are freed between two release passes; 0 where there is no such pass (own).
+    pub fn max_release_check_rate(&self) -> u64
+        ensures { result ≡ (state_of A.word self.now).rate }
+    {
+        self.rate
+    }
+
+    /// How many large chunks are freed before the next release pass (own).
+    pub fn release_checks(&self) -> u64
+        ensures { result ≡ (state_of A.word self.now).countdown }
+    {
+        self.countdown
     }
 
     /// Sets the granularity: the system is asked for multiples of it. True exactly for a power of two of at least 16;
@@ -92,6 +113,7 @@ impl<A: Allocator> Dlmalloc<A> {
         ensures state { state_of A.word self.new ≡ record (state_of A.word self.old) { granularity = if result then granularity else self.old.granularity } }
         ensures system { self.new.system ≡ self.old.system }
         ensures sound { IsSound A.regions A.word self.old → IsSound A.regions A.word self.new }
+        ensures linked { IsBinned A.regions A.word self.old → IsBinned A.regions A.word self.new }
     {
         let accepted = is_granularity(granularity);
         if accepted {
@@ -100,8 +122,8 @@ impl<A: Allocator> Dlmalloc<A> {
         accepted
     }
 
-    /// The system, to be changed. The heap stays sound, and in its state, where what is done leaves the regions of its
-    /// segments, and every word of the segments outside of blocks: `rests_outside`.
+    /// The system, to be changed. The heap stays sound, and in its state, and its bins linked, where what is done leaves the
+    /// regions of its segments, and every word of the segments outside of blocks: `rests_outside`.
     pub fn allocator_mut(&mut self) -> &mut A
         ensures* lends { sem 𝓛 (Lends (the_row A.row) A.row self.entry result (λ w. record self.old { system = w })) }
         ensures value { result.now ≡ self.old.system }

@@ -4,6 +4,7 @@
 //! and their extents, is told by the head words of the chunks alone.
 #![tactic(auto)]
 
+mod binning;
 mod block_laws;
 mod contents;
 mod free;
@@ -17,10 +18,13 @@ mod memalign;
 mod prepend;
 mod realloc;
 mod record;
+mod release;
 mod resize;
+mod settle;
 mod split;
 mod take;
 mod top;
+mod trim;
 mod walk;
 
 pub use dlmalloc_chunks::{Extent, ExtentList, Kind};
@@ -28,8 +32,20 @@ pub use heap::{Dlmalloc, is_granularity};
 pub use malloc_error::MallocError;
 
 #[cfg(test)]
+mod denial_tests;
+#[cfg(test)]
+mod flag_tests;
+#[cfg(test)]
 mod grant_tests;
+#[cfg(test)]
+mod keeping_tests;
+#[cfg(test)]
+mod release_tests;
 #[cfg(test)]
 mod resize_tests;
 #[cfg(test)]
+mod scripted;
+#[cfg(test)]
 mod tests;
+#[cfg(test)]
+mod trim_tests;

@@ -4,13 +4,16 @@ ghost use Rattle.std.specs.Int.{IsPowerOfTwo};
 ghost use Rattle.dlmalloc.specs.Choice.{chosen};
 ghost use Rattle.dlmalloc.specs.Heap.{state_of, IsSound};
 ghost use Rattle.dlmalloc.specs.Grown.{IsAsItWas};
-ghost use Rattle.dlmalloc.specs.Requested.{asked, IsServedAt, IsHandedOut};
+ghost use Rattle.dlmalloc.specs.Requested.{asked, IsServedAt, IsHandedOut, IsMemberServed};
+ghost use Rattle.dlmalloc.specs.Binned.{IsBinned, IsMemberChosen};
+ghost use Rattle.dlmalloc_chunks.specs.Request.{padded};
 ghost use Rattle.dlmalloc.specs.Served.{IsDenied, IsCutOut, IsServed, IsRefusedWith};
 
 use crate::heap::Dlmalloc;
 use crate::layout::{BLOCK, LEAST_ALIGN};
 use crate::malloc_error::MallocError;
 use crate::walk::Choice;
+use bins::laws::index_stays;
 use dlmalloc_chunks::{max_request, request2size};
 use heap_memory::{Allocator, GrantFault};
 use std::sync::ledger::Ledger;
@@ -18,7 +21,8 @@ use step_count::Steps;
 
 impl<A: Allocator> Dlmalloc<A> {
     /// Asks for a block of `size` bytes at a multiple of `align`, and answers its address (dlmalloc:
-    /// `Dlmalloc::malloc`). It writes the words at boundaries of extents alone, and so no byte of the block.
+    /// `Dlmalloc::malloc`). It writes words at boundaries of extents and in free ones alone, and so no byte of another block.
+    /// Where an extent is chosen, at most 8192 words are loaded or stored, however many extents there are.
     pub fn malloc<L: Ledger>(
         &mut self,
         size: u64,
@@ -26,11 +30,15 @@ impl<A: Allocator> Dlmalloc<A> {
         steps: &mut Steps<L>,
     ) -> Result<u64, MallocError>
         requires sound { IsSound A.regions A.word self.old }
+        requires linked { IsBinned A.regions A.word self.old }
         requires align { IsPowerOfTwo align }
         ensures served { IfOk result (λ address. IsServedAt A.regions A.word A.zeros A.follows self.old size align address self.new) }
         ensures handed { IfOk result (λ address. IsHandedOut A.regions A.word A.follows self.old size align address self.new) }
         ensures refused { IfErr result (λ error. IsRefusedWith A.regions A.word A.follows A.refuses A.denies self.old (asked size align) error self.new) }
         ensures sound { IsSound A.regions A.word self.new }
+        ensures linked { IsBinned A.regions A.word self.new }
+        ensures member { IfOk result (λ address. IsMemberServed A.regions A.word self.old size align address) }
+        ensures counted { chosen (state_of A.word self.old) (padded (asked size align)) ≢ None → steps.new ≤ steps.old + 8192 }
     {
         if align <= LEAST_ALIGN {
             self.c_malloc(size, steps)
@@ -47,26 +55,34 @@ impl<A: Allocator> Dlmalloc<A> {
         steps: &mut Steps<L>,
     ) -> Result<u64, MallocError>
         requires sound { IsSound A.regions A.word self.old }
+        requires linked { IsBinned A.regions A.word self.old }
         requires align { IsPowerOfTwo align }
         ensures served { IfOk result (λ address. IsServedAt A.regions A.word A.zeros A.follows self.old size align address self.new) }
         ensures handed { IfOk result (λ address. IsHandedOut A.regions A.word A.follows self.old size align address self.new) }
         ensures refused { IfErr result (λ error. IsRefusedWith A.regions A.word A.follows A.refuses A.denies self.old (asked size align) error self.new) }
         ensures sound { IsSound A.regions A.word self.new }
+        ensures linked { IsBinned A.regions A.word self.new }
+        ensures member { IfOk result (λ address. IsMemberServed A.regions A.word self.old size align address) }
+        ensures counted { chosen (state_of A.word self.old) (padded (asked size align)) ≢ None → steps.new ≤ steps.old + 8192 }
     {
         self.malloc(size, align, steps)
     }
 
-    /// Asks for a block of `size` bytes at a multiple of 16, and answers its address (dlmalloc: `c_malloc`). It writes the
-    /// words at boundaries of extents alone.
+    /// Asks for a block of `size` bytes at a multiple of 16, and answers its address (dlmalloc: `c_malloc`). It writes words
+    /// at boundaries of extents and in free ones alone. Where an extent is chosen, at most 1024 words are loaded or stored.
     pub fn c_malloc<L: Ledger>(
         &mut self,
         size: u64,
         steps: &mut Steps<L>,
     ) -> Result<u64, MallocError>
         requires sound { IsSound A.regions A.word self.old }
+        requires linked { IsBinned A.regions A.word self.old }
         ensures served { IfOk result (λ address. IsServed A.regions A.word A.zeros A.follows self.old size address self.new) }
         ensures refused { IfErr result (λ error. IsRefusedWith A.regions A.word A.follows A.refuses A.denies self.old size error self.new) }
         ensures sound { IsSound A.regions A.word self.new }
+        ensures linked { IsBinned A.regions A.word self.new }
+        ensures member { IfOk result (λ address. IsMemberChosen A.regions A.word self.old (padded size) (address - 16)) }
+        ensures counted { chosen (state_of A.word self.old) (padded size) ≢ None → steps.new ≤ steps.old + 1024 }
     {
         if size >= max_request(self.granularity) {
             return Err(MallocError::TooLarge);
@@ -80,12 +96,16 @@ impl<A: Allocator> Dlmalloc<A> {
     /// Cuts a chunk of `n` bytes from a free extent, or from a new region where none serves, and answers where it begins.
     fn cut<L: Ledger>(&mut self, n: u64, steps: &mut Steps<L>) -> Result<u64, GrantFault>
         requires sound { IsSound A.regions A.word self.old }
+        requires linked { IsBinned A.regions A.word self.old }
         requires whole { n % 16 ≡ 0 }
         requires least { 32 ≤ n }
         requires small { n + 96 + self.old.granularity ≤ 2 ^ 64 }
         ensures cut { IfOk result (λ at. IsCutOut A.regions A.word A.zeros A.follows self.old n at self.new) }
         ensures denied { IfErr result (λ fault. IsDenied A.denies self.old.system (state_of A.word self.old) n fault) }
         ensures err { OnErr result (IsAsItWas A.regions A.word A.follows A.refuses self.old self.new) }
+        ensures linked { IsBinned A.regions A.word self.new }
+        ensures member { IfOk result (λ at. IsMemberChosen A.regions A.word self.old n at) }
+        ensures counted { chosen (state_of A.word self.old) n ≢ None → steps.new ≤ steps.old + 1024 }
     {
         if self.size > 0 {
             match self.choose(n, steps) {
@@ -93,7 +113,10 @@ impl<A: Allocator> Dlmalloc<A> {
                     self.take(place.at, place.size, n, steps);
                     return Ok(place.at);
                 }
-                Some(Choice::Top) => return Ok(self.take_top(n, steps)),
+                Some(Choice::Top) => {
+                    index_stays();
+                    return Ok(self.take_top(n, steps));
+                }
                 None => {}
             }
         }
@@ -103,6 +126,7 @@ impl<A: Allocator> Dlmalloc<A> {
     /// Cuts a chunk of `n` bytes from a new region, since no free extent serves.
     fn cut_new<L: Ledger>(&mut self, n: u64, steps: &mut Steps<L>) -> Result<u64, GrantFault>
         requires sound { IsSound A.regions A.word self.old }
+        requires linked { IsBinned A.regions A.word self.old }
         requires none { chosen (state_of A.word self.old) n ≡ None }
         requires whole { n % 16 ≡ 0 }
         requires least { 32 ≤ n }
@@ -110,10 +134,14 @@ impl<A: Allocator> Dlmalloc<A> {
         ensures cut { IfOk result (λ at. IsCutOut A.regions A.word A.zeros A.follows self.old n at self.new) }
         ensures denied { IfErr result (λ fault. IsDenied A.denies self.old.system (state_of A.word self.old) n fault) }
         ensures err { OnErr result (IsAsItWas A.regions A.word A.follows A.refuses self.old self.new) }
+        ensures linked { IsBinned A.regions A.word self.new }
     {
         match self.grow(n, steps)? {
             Some(chunk) => Ok(chunk),
-            None => Ok(self.take_top(n, steps)),
+            None => {
+                index_stays();
+                Ok(self.take_top(n, steps))
+            }
         }
     }
 }

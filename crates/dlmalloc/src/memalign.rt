@@ -1,18 +1,20 @@
 // Blocks at alignments above 16.
-ghost use Rattle.std.specs.Prelude.{◌≡◌, ◌≢◌, ℕ, ◌+◌, ◌-◌, ◌%◌, ◌^◌, ◌<◌, ◌≤◌, ◌⊎◌, [], Some, IfOk, IfErr};
+ghost use Rattle.std.specs.Prelude.{◌≡◌, ◌≢◌, ℕ, ◌+◌, ◌-◌, ◌%◌, ◌^◌, ◌<◌, ◌≤◌, ◌⊎◌, [], None, Some, IfOk, IfErr};
 ghost use Rattle.std.specs.Int.{IsPowerOfTwo};
 ghost use Rattle.heap_memory.specs.Regions.{IsWordOf};
-ghost use Rattle.dlmalloc_chunks.specs.Request.{enlarged};
+ghost use Rattle.dlmalloc_chunks.specs.Request.{enlarged, padded};
 ghost use Rattle.dlmalloc_chunks.specs.declared.extent.Kind.TheVariants.{Used};
 ghost use Rattle.dlmalloc.specs.Extents.{extent_at};
 ghost use Rattle.dlmalloc.specs.State.{extents_in};
 ghost use Rattle.dlmalloc.specs.Blocks.{IsBlock};
-ghost use Rattle.dlmalloc.specs.Boundaries.{IsBoundary};
+ghost use Rattle.dlmalloc.specs.Boundaries.{IsOwn};
 ghost use Rattle.dlmalloc.specs.Resized.{HasSameOthers};
 ghost use Rattle.dlmalloc.specs.Aligned.{aligned_place, lead_freed, tail_cut, aligned, HasOneMoved, KeepsOthers};
 ghost use Rattle.dlmalloc.specs.Heap.{state_of, IsSound};
-ghost use Rattle.dlmalloc.specs.Served.{IsMoved, IsRefusedWith};
-ghost use Rattle.dlmalloc.specs.Requested.{IsPassedOver, IsServedAligned};
+ghost use Rattle.dlmalloc.specs.Served.{IsTurned, IsRefusedWith};
+ghost use Rattle.dlmalloc.specs.Binned.{IsBinned};
+ghost use Rattle.dlmalloc.specs.Requested.{IsPassedOver, IsServedAligned, IsMemberServed};
+ghost use Rattle.dlmalloc.specs.Choice.{chosen};
 
 use crate::heap::Dlmalloc;
 use crate::layout::{BLOCK, LEAST_CHUNK};
@@ -55,10 +57,14 @@ impl<A: Allocator> Dlmalloc<A> {
         steps: &mut Steps<L>,
     ) -> Result<u64, MallocError>
         requires sound { IsSound A.regions A.word self.old }
+        requires linked { IsBinned A.regions A.word self.old }
         requires align { IsPowerOfTwo align × (16 < align) }
         ensures served { IfOk result (λ address. IsServedAligned A.regions A.word A.zeros A.follows self.old size align address self.new) }
         ensures refused { IfErr result (λ error. IsRefusedWith A.regions A.word A.follows A.refuses A.denies self.old (enlarged size align) error self.new) }
         ensures sound { IsSound A.regions A.word self.new }
+        ensures linked { IsBinned A.regions A.word self.new }
+        ensures member { IfOk result (λ address. IsMemberServed A.regions A.word self.old size align address) }
+        ensures counted { chosen (state_of A.word self.old) (padded (enlarged size align)) ≢ None → steps.new ≤ steps.old + 8192 }
     {
         // The sum is not formed where it would wrap: the enlarged form is greater still.
         let limit = max_request(self.granularity);
@@ -76,6 +82,7 @@ impl<A: Allocator> Dlmalloc<A> {
     /// where they begin.
     fn align_block<L: Ledger>(&mut self, ptr: u64, align: u64, n: u64, steps: &mut Steps<L>) -> u64
         requires sound { IsSound A.regions A.word self.old }
+        requires linked { IsBinned A.regions A.word self.old }
         requires align { IsPowerOfTwo align × (16 < align) }
         requires block { IsBlock (state_of A.word self.old) ptr (n + align + 24) }
         requires whole { n % 16 ≡ 0 }
@@ -89,8 +96,10 @@ impl<A: Allocator> Dlmalloc<A> {
         ensures kept { KeepsOthers (state_of A.word self.old) (ptr - 16) (A.word self.old.system) (A.word self.new.system) }
         ensures words { (k : ℕ) → IsWordOf (A.regions self.old.system) k → IsPassedOver (state_of A.word self.old) (lead_freed (state_of A.word self.old) (ptr - 16) result) (state_of A.word self.new) k → A.word self.new.system k ≡ A.word self.old.system k }
         ensures sound { IsSound A.regions A.word self.new }
+        ensures linked { IsBinned A.regions A.word self.new }
         ensures regions { A.regions self.new.system ≡ A.regions self.old.system }
         ensures follows { A.follows self.old.system [] self.new.system }
+        ensures counted { steps.new ≤ steps.old + 1069 }
     {
         let at = ptr - BLOCK;
         let size = chunk::size(&self.system, at, steps);
@@ -103,6 +112,7 @@ impl<A: Allocator> Dlmalloc<A> {
     /// Frees what is before a place in a chunk in use.
     fn free_before<L: Ledger>(&mut self, at: u64, size: u64, place: u64, steps: &mut Steps<L>)
         requires sound { IsSound A.regions A.word self.old }
+        requires linked { IsBinned A.regions A.word self.old }
         requires chunk { extent_at at (extents_in (state_of A.word self.old)) ≡ Some (record { at = at; size = size; kind = Used }) }
         requires lead { (place ≡ at) ⊎ (at + 32 ≤ place) }
         requires whole { (place - at) % 16 ≡ 0 }
@@ -111,10 +121,12 @@ impl<A: Allocator> Dlmalloc<A> {
         ensures chunk { extent_at place (extents_in (state_of A.word self.new)) ≡ Some (record { at = place; size = size - (place - at); kind = Used }) }
         ensures others { HasOneMoved (state_of A.word self.old) (state_of A.word self.new) at place }
         ensures kept { KeepsOthers (state_of A.word self.old) at (A.word self.old.system) (A.word self.new.system) }
-        ensures words { (k : ℕ) → IsWordOf (A.regions self.old.system) k → (IsBoundary (state_of A.word self.old) k → ⊥) → (IsBoundary (state_of A.word self.new) k → ⊥) → A.word self.new.system k ≡ A.word self.old.system k }
+        ensures words { (k : ℕ) → IsWordOf (A.regions self.old.system) k → (IsOwn (state_of A.word self.old) k → ⊥) → (IsOwn (state_of A.word self.new) k → ⊥) → A.word self.new.system k ≡ A.word self.old.system k }
         ensures sound { IsSound A.regions A.word self.new }
+        ensures linked { IsBinned A.regions A.word self.new }
         ensures regions { A.regions self.new.system ≡ A.regions self.old.system }
         ensures follows { A.follows self.old.system [] self.new.system }
+        ensures counted { steps.new ≤ steps.old + 534 }
     {
         if place == at {
             return;
@@ -125,6 +137,7 @@ impl<A: Allocator> Dlmalloc<A> {
     /// Frees what is behind the first `n` bytes of a chunk in use, where it is more than 32 bytes.
     fn free_behind<L: Ledger>(&mut self, at: u64, size: u64, n: u64, steps: &mut Steps<L>)
         requires sound { IsSound A.regions A.word self.old }
+        requires linked { IsBinned A.regions A.word self.old }
         requires chunk { extent_at at (extents_in (state_of A.word self.old)) ≡ Some (record { at = at; size = size; kind = Used }) }
         requires whole { n % 16 ≡ 0 }
         requires least { 32 ≤ n }
@@ -132,7 +145,9 @@ impl<A: Allocator> Dlmalloc<A> {
         ensures state { state_of A.word self.new ≡ tail_cut (state_of A.word self.old) at n }
         ensures held { (rest : ℕ) × (extent_at at (extents_in (state_of A.word self.new)) ≡ Some (record { at = at; size = rest; kind = Used })) × (n ≤ rest) × (rest ≤ n + 32) }
         ensures others { HasSameOthers (state_of A.word self.old) (state_of A.word self.new) at at }
-        ensures moved { IsMoved A.regions A.word A.follows self.old self.new }
+        ensures moved { IsTurned A.regions A.word A.follows self.old self.new }
+        ensures linked { IsBinned A.regions A.word self.new }
+        ensures counted { steps.new ≤ steps.old + 534 }
     {
         if size - n <= LEAST_CHUNK {
             return;

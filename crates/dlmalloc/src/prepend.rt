@@ -8,10 +8,12 @@ ghost use Rattle.dlmalloc.specs.Granted.{is_before, is_put_before};
 ghost use Rattle.dlmalloc.specs.Heap.{state_of, segments_of, IsSound};
 ghost use Rattle.dlmalloc.specs.Grown.{IsFresh, IsPrepended, IsPutBefore};
 ghost use Rattle.dlmalloc.specs.Prepended.{IsBehindAt};
+ghost use Rattle.dlmalloc.specs.Binned.{IsBinned, IsSameBins};
 ghost use Rattle.dlmalloc.specs.declared.prepend.Behind.TheVariants.{Head, Told};
 
 use crate::grow::may_join;
 use crate::heap::Dlmalloc;
+use bins::laws::index_stays;
 use dlmalloc_chunks::chunk;
 use heap_memory::{Allocator, Grant, Links};
 use std::sync::ledger::Ledger;
@@ -101,13 +103,16 @@ impl<A: Allocator> Dlmalloc<A> {
         steps: &mut Steps<L>,
     )
         requires sound { IsSound A.regions A.word self.old }
+        requires linked { IsBinned A.regions A.word self.old }
         requires fresh { IsFresh (A.regions self.old.system) (segments_of A.word self.old) grant.now }
         requires behind { IsBehindAt A.word self.old grant.now behind }
         requires whole { n % 16 ≡ 0 }
         requires least { 32 ≤ n }
         requires room { n + 96 ≤ grant.now.size }
         ensures put { IsPutBefore A.regions A.word A.follows self.old grant.now n self.new }
+        ensures linked { IsBinned A.regions A.word self.new }
     {
+        index_stays();
         self.prepend(grant, n, behind, steps);
         self.dispose_chunk(grant.base + n, grant.size - n, steps);
     }
@@ -121,6 +126,7 @@ impl<A: Allocator> Dlmalloc<A> {
         requires least { 32 ≤ n }
         requires room { n + 96 ≤ grant.now.size }
         ensures prepended { IsPrepended A.regions A.word A.follows self.old grant.now n self.new }
+        ensures same { IsSameBins self.old self.new }
     {
         match behind {
             Behind::Head => self.prepend_head(grant, n, steps),
@@ -137,6 +143,7 @@ impl<A: Allocator> Dlmalloc<A> {
         requires least { 32 ≤ n }
         requires room { n + 96 ≤ grant.now.size }
         ensures prepended { IsPrepended A.regions A.word A.follows self.old grant.now n self.new }
+        ensures same { IsSameBins self.old self.new }
     {
         self.base = grant.base;
         self.size += grant.size;
@@ -152,6 +159,7 @@ impl<A: Allocator> Dlmalloc<A> {
         requires least { 32 ≤ n }
         requires room { n + 96 ≤ grant.now.size }
         ensures prepended { IsPrepended A.regions A.word A.follows self.old grant.now n self.new }
+        ensures same { IsSameBins self.old self.new }
     {
         let size = self.system.load_counted(payload + 8, steps);
         self.system.store_counted(payload, grant.base, steps);

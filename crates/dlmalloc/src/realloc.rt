@@ -6,6 +6,7 @@ ghost use Rattle.dlmalloc.specs.Extents.{extent_at};
 ghost use Rattle.dlmalloc.specs.State.{extents_in, size_where};
 ghost use Rattle.dlmalloc.specs.Blocks.{IsBlock};
 ghost use Rattle.dlmalloc.specs.Resized.{in_place};
+ghost use Rattle.dlmalloc.specs.Binned.{IsBinned};
 ghost use Rattle.dlmalloc.specs.Heap.{state_of, IsSound};
 ghost use Rattle.dlmalloc.specs.Served.{IsServed, IsRefusedWith};
 ghost use Rattle.dlmalloc.specs.Requested.{asked, IsServedAt};
@@ -15,6 +16,7 @@ use crate::contents::words_in;
 use crate::heap::Dlmalloc;
 use crate::layout::{BLOCK, HEAD, LEAST_ALIGN};
 use crate::malloc_error::MallocError;
+use bins::laws::index_stays;
 use dlmalloc_chunks::{chunk, max_request, request2size};
 use heap_memory::{Allocator, Links};
 use std::sync::ledger::Ledger;
@@ -33,13 +35,15 @@ impl<A: Allocator> Dlmalloc<A> {
         steps: &mut Steps<L>,
     ) -> Result<u64, MallocError>
         requires sound { IsSound A.regions A.word self.old }
+        requires linked { IsBinned A.regions A.word self.old }
         requires align { IsPowerOfTwo old_align }
         requires block { IsBlock (state_of A.word self.old) ptr old_size }
-        ensures resized { IfOk result (λ address. IsResized A.regions A.word A.zeros A.follows self.old ptr old_size old_align new_size address self.new) }
-        ensures given { IfOk result (λ address. IsGivenSize A.regions A.word A.follows self.old ptr old_size old_align new_size address self.new) }
+        ensures resized { IfOk result (λ address. IsResized A.regions A.word A.zeros A.follows (A.frees self.old.system) (A.parts self.old.system) (A.unit self.old.system) self.old ptr old_size old_align new_size address self.new) }
+        ensures given { IfOk result (λ address. IsGivenSize A.regions A.word A.follows (A.frees self.old.system) (A.parts self.old.system) (A.unit self.old.system) self.old ptr old_size old_align new_size address self.new) }
         ensures refused { IfErr result (λ error. IsRefusedWith A.regions A.word A.follows A.refuses A.denies self.old (asked new_size old_align) error self.new) }
         ensures tried { IfErr result (λ error. error ≢ MallocError.TooLarge → old_align ≤ 16 → in_place (state_of A.word self.old) (ptr - 16) (padded new_size) ≡ None) }
         ensures sound { IsSound A.regions A.word self.new }
+        ensures linked { IsBinned A.regions A.word self.new }
     {
         if old_align <= LEAST_ALIGN {
             self.resize_or_move(ptr, old_size, old_align, new_size, steps)
@@ -58,15 +62,17 @@ impl<A: Allocator> Dlmalloc<A> {
         steps: &mut Steps<L>,
     ) -> Result<u64, MallocError>
         requires sound { IsSound A.regions A.word self.old }
+        requires linked { IsBinned A.regions A.word self.old }
         requires block { IfSome ptr (λ address. (size : ℕ) × IsBlock (state_of A.word self.old) address size) }
         ensures resized { IfOk result (λ address. IfSome ptr (λ from.
-            IsResized A.regions A.word A.zeros A.follows self.old from (size_where (λ extent. extent.at == from - 16) (extents_in (state_of A.word self.old)) - 8) 16 new_size address self.new)) }
+            IsResized A.regions A.word A.zeros A.follows (A.frees self.old.system) (A.parts self.old.system) (A.unit self.old.system) self.old from (size_where (λ extent. extent.at == from - 16) (extents_in (state_of A.word self.old)) - 8) 16 new_size address self.new)) }
         ensures given { IfOk result (λ address. IfSome ptr (λ from.
-            IsGivenSize A.regions A.word A.follows self.old from (size_where (λ extent. extent.at == from - 16) (extents_in (state_of A.word self.old)) - 8) 16 new_size address self.new)) }
+            IsGivenSize A.regions A.word A.follows (A.frees self.old.system) (A.parts self.old.system) (A.unit self.old.system) self.old from (size_where (λ extent. extent.at == from - 16) (extents_in (state_of A.word self.old)) - 8) 16 new_size address self.new)) }
         ensures served { IfOk result (λ address. IfNone ptr (IsServed A.regions A.word A.zeros A.follows self.old new_size address self.new)) }
         ensures refused { IfErr result (λ error. IsRefusedWith A.regions A.word A.follows A.refuses A.denies self.old new_size error self.new) }
         ensures tried { IfErr result (λ error. error ≢ MallocError.TooLarge → IfSome ptr (λ from. in_place (state_of A.word self.old) (from - 16) (padded new_size) ≡ None)) }
         ensures sound { IsSound A.regions A.word self.new }
+        ensures linked { IsBinned A.regions A.word self.new }
     {
         match ptr {
             None => self.c_malloc(new_size, steps),
@@ -87,14 +93,16 @@ impl<A: Allocator> Dlmalloc<A> {
         steps: &mut Steps<L>,
     ) -> Result<u64, MallocError>
         requires sound { IsSound A.regions A.word self.old }
+        requires linked { IsBinned A.regions A.word self.old }
         requires align { IsPowerOfTwo align }
         requires least { align ≤ 16 }
         requires block { (n : ℕ) × IsBlock (state_of A.word self.old) ptr n }
         requires held { held + 8 ≤ size_where (λ extent. extent.at == ptr - 16) (extents_in (state_of A.word self.old)) }
-        ensures resized { IfOk result (λ address. IsResized A.regions A.word A.zeros A.follows self.old ptr held align size address self.new) }
+        ensures resized { IfOk result (λ address. IsResized A.regions A.word A.zeros A.follows (A.frees self.old.system) (A.parts self.old.system) (A.unit self.old.system) self.old ptr held align size address self.new) }
         ensures refused { IfErr result (λ error. IsRefusedWith A.regions A.word A.follows A.refuses A.denies self.old (asked size align) error self.new) }
         ensures tried { IfErr result (λ error. error ≢ MallocError.TooLarge → in_place (state_of A.word self.old) (ptr - 16) (padded size) ≡ None) }
         ensures sound { IsSound A.regions A.word self.new }
+        ensures linked { IsBinned A.regions A.word self.new }
     {
         if size >= max_request(self.granularity) {
             return Err(MallocError::TooLarge);
@@ -116,18 +124,21 @@ impl<A: Allocator> Dlmalloc<A> {
         steps: &mut Steps<L>,
     ) -> Result<u64, MallocError>
         requires sound { IsSound A.regions A.word self.old }
+        requires linked { IsBinned A.regions A.word self.old }
         requires align { IsPowerOfTwo align }
         requires block { (n : ℕ) × IsBlock (state_of A.word self.old) ptr n }
         requires held { held + 8 ≤ size_where (λ extent. extent.at == ptr - 16) (extents_in (state_of A.word self.old)) }
-        ensures elsewhere { IfOk result (λ address. IsElsewhere A.regions A.word A.zeros A.follows self.old ptr held align size address self.new) }
+        ensures elsewhere { IfOk result (λ address. IsElsewhere A.regions A.word A.zeros A.follows (A.frees self.old.system) (A.parts self.old.system) (A.unit self.old.system) self.old ptr held align size address self.new) }
         ensures refused { IfErr result (λ error. IsRefusedWith A.regions A.word A.follows A.refuses A.denies self.old (asked size align) error self.new) }
         ensures sound { IsSound A.regions A.word self.new }
+        ensures linked { IsBinned A.regions A.word self.new }
     {
         match self.malloc(size, align, steps) {
             Ok(address) => {
+                index_stays();
                 self.system
                     .copy_counted(ptr, address, words_in(held.min(size)), steps);
-                self.free_block(ptr, steps);
+                self.free_and_settle(ptr, steps);
                 Ok(address)
             }
             Err(error) => Err(error),

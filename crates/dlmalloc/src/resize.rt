@@ -1,14 +1,16 @@
 // Resizing a chunk where it stands.
-ghost use Rattle.std.specs.Prelude.{◌≡◌, ◌≢◌, ℕ, ◌+◌, ◌-◌, ◌%◌, ◌<◌, ◌≤◌, true, false, None, Some};
+ghost use Rattle.std.specs.Prelude.{◌≡◌, ◌≢◌, ℕ, ◌+◌, ◌-◌, ◌%◌, ◌<◌, ◌≤◌, nat_le, if◌then◌else◌, [], ◌∷◌, true, false, None, Some};
 ghost use Rattle.dlmalloc_chunks.specs.declared.extent.Kind.TheVariants.{Used, Free, Top};
 ghost use Rattle.dlmalloc.specs.Extents.{extent_at};
 ghost use Rattle.dlmalloc.specs.State.{extents_in};
 ghost use Rattle.dlmalloc.specs.Resized.{grown_into, in_place, HasSameOthers};
 ghost use Rattle.dlmalloc.specs.Heap.{state_of, IsSound};
-ghost use Rattle.dlmalloc.specs.Served.{IsMoved};
+ghost use Rattle.dlmalloc.specs.Served.{IsMoved, IsTurned};
+ghost use Rattle.dlmalloc.specs.Binned.{IsFreeAt, IsBinned, FreeMoves};
 
 use crate::heap::Dlmalloc;
 use crate::layout::{HEAD, LEAST_CHUNK, PINUSE};
+use bins::laws::index_stays;
 use dlmalloc_chunks::chunk;
 use heap_memory::{Allocator, Links};
 use std::sync::ledger::Ledger;
@@ -20,13 +22,15 @@ impl<A: Allocator> Dlmalloc<A> {
     /// where neither fits.
     pub(crate) fn resize_chunk<L: Ledger>(&mut self, at: u64, n: u64, steps: &mut Steps<L>) -> bool
         requires sound { IsSound A.regions A.word self.old }
+        requires linked { IsBinned A.regions A.word self.old }
         requires chunk { (size : ℕ) × (extent_at at (extents_in (state_of A.word self.old)) ≡ Some (record { at = at; size = size; kind = Used })) }
         requires whole { n % 16 ≡ 0 }
         requires least { 32 ≤ n }
         ensures resized { result ≡ true → in_place (state_of A.word self.old) at n ≡ Some (state_of A.word self.new) }
         ensures held { result ≡ true → (size : ℕ) × (extent_at at (extents_in (state_of A.word self.new)) ≡ Some (record { at = at; size = size; kind = Used })) × (n ≤ size) × (size < n + 32) }
         ensures others { HasSameOthers (state_of A.word self.old) (state_of A.word self.new) at at }
-        ensures moved { IsMoved A.regions A.word A.follows self.old self.new }
+        ensures moved { IsTurned A.regions A.word A.follows self.old self.new }
+        ensures linked { IsBinned A.regions A.word self.new }
         ensures none { result ≡ false → in_place (state_of A.word self.old) at n ≡ None }
         ensures same { result ≡ false → self.new ≡ self.old }
     {
@@ -43,6 +47,7 @@ impl<A: Allocator> Dlmalloc<A> {
             if more >= self.top_size {
                 return false;
             }
+            index_stays();
             self.grow_into_top(at, size, n, steps);
             return true;
         }
@@ -68,6 +73,8 @@ impl<A: Allocator> Dlmalloc<A> {
         ensures state { state_of A.word self.new ≡ grown_into (state_of A.word self.old) (record { at = at; size = size; kind = Used }) (record { at = at + size; size = self.old.top_size; kind = Top }) n }
         ensures held { extent_at at (extents_in (state_of A.word self.new)) ≡ Some (record { at = at; size = n; kind = Used }) }
         ensures others { HasSameOthers (state_of A.word self.old) (state_of A.word self.new) at at }
+        ensures free { FreeMoves (state_of A.word self.old) (state_of A.word self.new) [] [] }
+        ensures bins { self.new.bins ≡ self.old.bins }
         ensures moved { IsMoved A.regions A.word A.follows self.old self.new }
     {
         self.top = at + n;
@@ -78,7 +85,7 @@ impl<A: Allocator> Dlmalloc<A> {
     }
 
     /// Takes bytes of a free chunk into the chunk before it. A rest of less than 32 bytes goes with them; any other stays
-    /// free, and is the victim where the free chunk was.
+    /// free: it is the victim where the free chunk was, and else goes into its bin.
     fn grow_into_free<L: Ledger>(
         &mut self,
         at: u64,
@@ -88,6 +95,7 @@ impl<A: Allocator> Dlmalloc<A> {
         steps: &mut Steps<L>,
     )
         requires sound { IsSound A.regions A.word self.old }
+        requires linked { IsBinned A.regions A.word self.old }
         requires chunk { extent_at at (extents_in (state_of A.word self.old)) ≡ Some (record { at = at; size = size; kind = Used }) }
         requires next { extent_at (at + size) (extents_in (state_of A.word self.old)) ≡ Some (record { at = at + size; size = free; kind = Free }) }
         requires whole { n % 16 ≡ 0 }
@@ -96,7 +104,41 @@ impl<A: Allocator> Dlmalloc<A> {
         ensures state { state_of A.word self.new ≡ grown_into (state_of A.word self.old) (record { at = at; size = size; kind = Used }) (record { at = at + size; size = free; kind = Free }) n }
         ensures held { (whole : ℕ) × (extent_at at (extents_in (state_of A.word self.new)) ≡ Some (record { at = at; size = whole; kind = Used })) × (n ≤ whole) × (whole < n + 32) }
         ensures others { HasSameOthers (state_of A.word self.old) (state_of A.word self.new) at at }
+        ensures moved { IsTurned A.regions A.word A.follows self.old self.new }
+        ensures linked { IsBinned A.regions A.word self.new }
+        ensures counted { steps.new ≤ steps.old + 331 }
+    {
+        let was_victim = at + size == self.victim;
+        let rest = size + free - n;
+        self.unbin(at + size, free, steps);
+        index_stays();
+        self.join_part(at, size, free, n, steps);
+        if was_victim {
+            return;
+        }
+        if rest < LEAST_CHUNK {
+            return;
+        }
+        self.bin(at + n, rest, steps);
+    }
+
+    /// Takes bytes of a free chunk that is in no bin into the chunk before it. A rest of less than 32 bytes goes with them;
+    /// any other stays free, and is the victim where the free chunk was.
+    fn join_part<L: Ledger>(&mut self, at: u64, size: u64, free: u64, n: u64, steps: &mut Steps<L>)
+        requires sound { IsSound A.regions A.word self.old }
+        requires chunk { extent_at at (extents_in (state_of A.word self.old)) ≡ Some (record { at = at; size = size; kind = Used }) }
+        requires next { extent_at (at + size) (extents_in (state_of A.word self.old)) ≡ Some (record { at = at + size; size = free; kind = Free }) }
+        requires whole { n % 16 ≡ 0 }
+        requires more { size < n }
+        requires room { n ≤ size + free }
+        ensures state { state_of A.word self.new ≡ grown_into (state_of A.word self.old) (record { at = at; size = size; kind = Used }) (record { at = at + size; size = free; kind = Free }) n }
+        ensures held { (whole : ℕ) × (extent_at at (extents_in (state_of A.word self.new)) ≡ Some (record { at = at; size = whole; kind = Used })) × (n ≤ whole) × (whole < n + 32) }
+        ensures others { HasSameOthers (state_of A.word self.old) (state_of A.word self.new) at at }
+        ensures free { FreeMoves (state_of A.word self.old) (state_of A.word self.new) ((at + size) ∷ []) (if nat_le (n + 32) (size + free) then (at + n) ∷ [] else []) }
+        ensures rest { n + 32 ≤ size + free → IsFreeAt (state_of A.word self.new) (at + n) (size + free - n) }
+        ensures bins { self.new.bins ≡ self.old.bins }
         ensures moved { IsMoved A.regions A.word A.follows self.old self.new }
+        ensures counted { steps.new ≤ steps.old + 6 }
     {
         let all = size + free;
         let rest = all - n;

@@ -4,14 +4,16 @@ ghost use Rattle.heap_memory.specs.Regions.{IsWordOf};
 ghost use Rattle.dlmalloc_chunks.specs.declared.extent.Kind.TheVariants.{Used};
 ghost use Rattle.dlmalloc.specs.Extents.{extent_at};
 ghost use Rattle.dlmalloc.specs.State.{extents_in};
-ghost use Rattle.dlmalloc.specs.Boundaries.{IsBoundary};
+ghost use Rattle.dlmalloc.specs.Boundaries.{IsInFree, IsOwn};
 ghost use Rattle.dlmalloc.specs.Freed.{freed};
 ghost use Rattle.dlmalloc.specs.Resized.{exchanged, halves, tail_freed, HasSameOthers};
 ghost use Rattle.dlmalloc.specs.Aligned.{HasOneMoved, KeepsOthers};
 ghost use Rattle.dlmalloc.specs.Heap.{state_of, IsSound};
-ghost use Rattle.dlmalloc.specs.Served.{IsMoved};
+ghost use Rattle.dlmalloc.specs.Served.{IsMoved, IsTurned};
+ghost use Rattle.dlmalloc.specs.Binned.{IsBinned, FreeMoves};
 
 use crate::heap::Dlmalloc;
+use bins::laws::index_stays;
 use dlmalloc_chunks::chunk;
 use heap_memory::Allocator;
 use std::sync::ledger::Ledger;
@@ -30,6 +32,8 @@ impl<A: Allocator> Dlmalloc<A> {
         ensures second { extent_at (at + n) (extents_in (state_of A.word self.new)) ≡ Some (record { at = at + n; size = size - n; kind = Used }) }
         ensures others { HasSameOthers (state_of A.word self.old) (state_of A.word self.new) at (at + n) }
         ensures words { (k : ℕ) → IsWordOf (A.regions self.old.system) k → k ≢ at + 8 → k ≢ at + n + 8 → A.word self.new.system k ≡ A.word self.old.system k }
+        ensures free { FreeMoves (state_of A.word self.old) (state_of A.word self.new) [] [] }
+        ensures bins { self.new.bins ≡ self.old.bins }
         ensures moved { IsMoved A.regions A.word A.follows self.old self.new }
         ensures counted { steps.new ≡ steps.old + 5 }
     {
@@ -40,6 +44,7 @@ impl<A: Allocator> Dlmalloc<A> {
     /// Frees what is behind the first `n` bytes of a chunk in use.
     pub(crate) fn free_tail<L: Ledger>(&mut self, at: u64, size: u64, n: u64, steps: &mut Steps<L>)
         requires sound { IsSound A.regions A.word self.old }
+        requires linked { IsBinned A.regions A.word self.old }
         requires chunk { extent_at at (extents_in (state_of A.word self.old)) ≡ Some (record { at = at; size = size; kind = Used }) }
         requires whole { n % 16 ≡ 0 }
         requires least { 32 ≤ n }
@@ -47,9 +52,11 @@ impl<A: Allocator> Dlmalloc<A> {
         ensures state { state_of A.word self.new ≡ tail_freed (state_of A.word self.old) at n }
         ensures first { extent_at at (extents_in (state_of A.word self.new)) ≡ Some (record { at = at; size = n; kind = Used }) }
         ensures others { HasSameOthers (state_of A.word self.old) (state_of A.word self.new) at at }
-        ensures moved { IsMoved A.regions A.word A.follows self.old self.new }
-        ensures counted { steps.new ≤ steps.old + 13 }
+        ensures moved { IsTurned A.regions A.word A.follows self.old self.new }
+        ensures linked { IsBinned A.regions A.word self.new }
+        ensures counted { steps.new ≤ steps.old + 534 }
     {
+        index_stays();
         self.split(at, size, n, steps);
         self.dispose_chunk(at + n, size - n, steps);
     }
@@ -57,6 +64,7 @@ impl<A: Allocator> Dlmalloc<A> {
     /// Frees the first `n` bytes of a chunk in use, which are not those that stay in use.
     pub(crate) fn free_lead<L: Ledger>(&mut self, at: u64, size: u64, n: u64, steps: &mut Steps<L>)
         requires sound { IsSound A.regions A.word self.old }
+        requires linked { IsBinned A.regions A.word self.old }
         requires chunk { extent_at at (extents_in (state_of A.word self.old)) ≡ Some (record { at = at; size = size; kind = Used }) }
         requires whole { n % 16 ≡ 0 }
         requires least { 32 ≤ n }
@@ -65,12 +73,14 @@ impl<A: Allocator> Dlmalloc<A> {
         ensures second { extent_at (at + n) (extents_in (state_of A.word self.new)) ≡ Some (record { at = at + n; size = size - n; kind = Used }) }
         ensures others { HasOneMoved (state_of A.word self.old) (state_of A.word self.new) at (at + n) }
         ensures kept { KeepsOthers (state_of A.word self.old) at (A.word self.old.system) (A.word self.new.system) }
-        ensures words { (k : ℕ) → IsWordOf (A.regions self.old.system) k → k ≢ at + 8 → (IsBoundary (state_of A.word self.new) k → ⊥) → A.word self.new.system k ≡ A.word self.old.system k }
+        ensures words { (k : ℕ) → IsWordOf (A.regions self.old.system) k → k ≢ at + 8 → (IsInFree (state_of A.word self.old) k → ⊥) → (IsOwn (state_of A.word self.new) k → ⊥) → A.word self.new.system k ≡ A.word self.old.system k }
         ensures sound { IsSound A.regions A.word self.new }
         ensures regions { A.regions self.new.system ≡ A.regions self.old.system }
         ensures follows { A.follows self.old.system [] self.new.system }
-        ensures counted { steps.new ≤ steps.old + 13 }
+        ensures linked { IsBinned A.regions A.word self.new }
+        ensures counted { steps.new ≤ steps.old + 534 }
     {
+        index_stays();
         self.split(at, size, n, steps);
         self.dispose_chunk(at, n, steps);
     }

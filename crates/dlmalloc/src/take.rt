@@ -1,23 +1,80 @@
 // Cutting a free chunk for a request.
-ghost use Rattle.std.specs.Prelude.{◌≡◌, ◌≢◌, ℕ, ◌+◌, ◌%◌, ◌<◌, ◌≤◌, Some};
+ghost use Rattle.std.specs.Prelude.{◌≡◌, ◌≢◌, ℕ, ◌+◌, ◌-◌, ◌%◌, ◌<◌, ◌≤◌, nat_le, if◌then◌else◌, [], ◌∷◌, Some};
 ghost use Rattle.dlmalloc_chunks.specs.declared.extent.Kind.TheVariants.{Free};
 ghost use Rattle.dlmalloc.specs.Extents.{extent_at};
 ghost use Rattle.dlmalloc.specs.State.{extents_in};
 ghost use Rattle.dlmalloc.specs.Blocks.{HasOneMore};
 ghost use Rattle.dlmalloc.specs.Taken.{taken};
 ghost use Rattle.dlmalloc.specs.Heap.{state_of, IsSound};
-ghost use Rattle.dlmalloc.specs.Served.{IsMoved};
+ghost use Rattle.dlmalloc.specs.Served.{IsMoved, IsTurned};
+ghost use Rattle.dlmalloc.specs.Binned.{IsFreeAt, IsBinned, FreeMoves};
 
 use crate::heap::Dlmalloc;
 use crate::layout::{LEAST_CHUNK, LEAST_LARGE};
+use bins::laws::index_stays;
 use dlmalloc_chunks::chunk;
 use heap_memory::Allocator;
 use std::sync::ledger::Ledger;
 use step_count::Steps;
 
 impl<A: Allocator> Dlmalloc<A> {
-    /// Cuts `n` bytes from a free chunk other than the top. A rest of less than 32 bytes stays with them.
+    /// Cuts `n` bytes from a free chunk other than the top. A rest of less than 32 bytes stays with them. The rest of the
+    /// victim is the victim. A binned chunk leaves its bin; for less than 256 bytes its rest is the victim, and the old one
+    /// goes into its bin; else the rest goes into its own.
     pub(crate) fn take<L: Ledger>(&mut self, at: u64, size: u64, n: u64, steps: &mut Steps<L>)
+        requires sound { IsSound A.regions A.word self.old }
+        requires linked { IsBinned A.regions A.word self.old }
+        requires chunk { extent_at at (extents_in (state_of A.word self.old)) ≡ Some (record { at = at; size = size; kind = Free }) }
+        requires whole { n % 16 ≡ 0 }
+        requires least { 32 ≤ n }
+        requires fits { n ≤ size }
+        ensures state { state_of A.word self.new ≡ taken (state_of A.word self.old) (record { at = at; size = size; kind = Free }) n }
+        ensures more { HasOneMore (state_of A.word self.old) (state_of A.word self.new) at }
+        ensures moved { IsTurned A.regions A.word A.follows self.old self.new }
+        ensures linked { IsBinned A.regions A.word self.new }
+        ensures counted { steps.new ≤ steps.old + 328 }
+    {
+        if at == self.victim {
+            index_stays();
+            self.cut_chunk(at, size, n, steps);
+            return;
+        }
+        self.take_binned(at, size, n, steps);
+    }
+
+    /// Cuts `n` bytes from a binned chunk.
+    fn take_binned<L: Ledger>(&mut self, at: u64, size: u64, n: u64, steps: &mut Steps<L>)
+        requires sound { IsSound A.regions A.word self.old }
+        requires linked { IsBinned A.regions A.word self.old }
+        requires chunk { extent_at at (extents_in (state_of A.word self.old)) ≡ Some (record { at = at; size = size; kind = Free }) }
+        requires other { at ≢ self.old.victim }
+        requires whole { n % 16 ≡ 0 }
+        requires least { 32 ≤ n }
+        requires fits { n ≤ size }
+        ensures state { state_of A.word self.new ≡ taken (state_of A.word self.old) (record { at = at; size = size; kind = Free }) n }
+        ensures more { HasOneMore (state_of A.word self.old) (state_of A.word self.new) at }
+        ensures moved { IsTurned A.regions A.word A.follows self.old self.new }
+        ensures linked { IsBinned A.regions A.word self.new }
+        ensures counted { steps.new ≤ steps.old + 328 }
+    {
+        let victim = self.victim;
+        let victim_size = self.victim_size;
+        self.unbin(at, size, steps);
+        index_stays();
+        self.cut_chunk(at, size, n, steps);
+        let rest = size - n;
+        if rest < LEAST_CHUNK {
+            return;
+        }
+        if n < LEAST_LARGE {
+            self.bin_some(victim, victim_size, steps);
+            return;
+        }
+        self.bin(at + n, rest, steps);
+    }
+
+    /// Cuts `n` bytes from a free chunk other than the top that is in no bin.
+    fn cut_chunk<L: Ledger>(&mut self, at: u64, size: u64, n: u64, steps: &mut Steps<L>)
         requires sound { IsSound A.regions A.word self.old }
         requires chunk { extent_at at (extents_in (state_of A.word self.old)) ≡ Some (record { at = at; size = size; kind = Free }) }
         requires whole { n % 16 ≡ 0 }
@@ -25,6 +82,9 @@ impl<A: Allocator> Dlmalloc<A> {
         requires fits { n ≤ size }
         ensures state { state_of A.word self.new ≡ taken (state_of A.word self.old) (record { at = at; size = size; kind = Free }) n }
         ensures more { HasOneMore (state_of A.word self.old) (state_of A.word self.new) at }
+        ensures free { FreeMoves (state_of A.word self.old) (state_of A.word self.new) (at ∷ []) (if nat_le (n + 32) size then (at + n) ∷ [] else []) }
+        ensures rest { n + 32 ≤ size → IsFreeAt (state_of A.word self.new) (at + n) (size - n) }
+        ensures bins { self.new.bins ≡ self.old.bins }
         ensures moved { IsMoved A.regions A.word A.follows self.old self.new }
         ensures counted { steps.new ≤ steps.old + 3 }
     {

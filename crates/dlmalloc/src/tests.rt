@@ -3,6 +3,7 @@ ghost use Rattle.std.specs.Int.{IsPowerOfTwo};
 ghost use Rattle.dlmalloc_chunks.specs.declared.extent.Kind.TheVariants.{Used};
 ghost use Rattle.dlmalloc.specs.Extents.{extent_at};
 ghost use Rattle.dlmalloc.specs.State.{extents_in};
+ghost use Rattle.dlmalloc.specs.Binned.{IsBinned};
 ghost use Rattle.dlmalloc.specs.Heap.{state_of, IsSound};
 
 use super::*;
@@ -16,7 +17,8 @@ use step_count::Steps;
 
 /// A heap whose system gives one region, of 65536 bytes at 0x400000.
 fn flat_heap(alloc: Global) -> Result<Dlmalloc<FlatSystem>, AllocError>
-    ensures { IfOk result (λ heap. IsSound ⟦<FlatSystem as Links>⟧.regions ⟦<FlatSystem as Links>⟧.word heap) }
+    ensures sound { IfOk result (λ heap. IsSound ⟦<FlatSystem as Links>⟧.regions ⟦<FlatSystem as Links>⟧.word heap) }
+    ensures linked { IfOk result (λ heap. IsBinned ⟦<FlatSystem as Links>⟧.regions ⟦<FlatSystem as Links>⟧.word heap) }
 {
     let mut script = Vec::new(alloc);
     script.push(FlatStep::Give {
@@ -47,6 +49,16 @@ pub(crate) enum Call {
     Free(u64),
     /// Asks for multiples of another number of bytes from now on.
     Granularity(u64),
+    /// Trims the top down to some bytes, and is given this answer.
+    Trim(u64, bool),
+    /// Makes a release pass, which gives so many bytes back. There is a segment.
+    Pass(u64),
+    /// Makes such a pass after every so many large chunks that are freed, from now on.
+    Rate(u64),
+    /// Sees that so many are to be freed before the next pass.
+    Countdown(u64),
+    /// Sees that the trim check is this.
+    TrimCheck(u64),
 }
 
 /// The kind and the size of the extent that begins at an address, if one does.
@@ -98,7 +110,9 @@ pub(crate) fn apply<L: Ledger, R: Abort>(
     steps: &mut Steps<L>,
 ) -> Result<(), Fail>
     requires sound { IsSound ⟦<FlatSystem as Links>⟧.regions ⟦<FlatSystem as Links>⟧.word heap.old }
+    requires linked { IsBinned ⟦<FlatSystem as Links>⟧.regions ⟦<FlatSystem as Links>⟧.word heap.old }
     ensures sound { IsSound ⟦<FlatSystem as Links>⟧.regions ⟦<FlatSystem as Links>⟧.word heap.new }
+    ensures linked { IsBinned ⟦<FlatSystem as Links>⟧.regions ⟦<FlatSystem as Links>⟧.word heap.new }
 {
     match call {
         Call::Malloc(size, answer) => {
@@ -114,6 +128,14 @@ pub(crate) fn apply<L: Ledger, R: Abort>(
             assert_eq!(rt; heap.calloc(size, power(rt, align), steps), answer);
         }
         Call::Granularity(granularity) => assert!(rt; heap.set_granularity(granularity)),
+        Call::Trim(pad, answer) => assert_eq!(rt; heap.trim(pad, steps), answer),
+        Call::Pass(released) => {
+            assert!(rt; heap.size > 0);
+            assert_eq!(rt; heap.release_unused_segments(steps), released);
+        }
+        Call::Rate(rate) => heap.set_max_release_check_rate(rate),
+        Call::Countdown(checks) => assert_eq!(rt; heap.release_checks(), checks),
+        Call::TrimCheck(check) => assert_eq!(rt; heap.trim_check, check),
         Call::Realloc(address, old_size, align, size, answer) => {
             let chunk = chunk_of(rt, alloc, heap, address, steps)?;
             assert!(rt; chunk >= old_size && chunk - old_size >= 8 && chunk - old_size < 80);
@@ -139,6 +161,9 @@ pub(crate) type Run = (Kind, u64, u64);
 
 /// The foot at the end of the region.
 pub(crate) const FOOT: Run = (Kind::Foot, 0x40_ffb0, 80);
+
+/// The trim check of a heap whose top is new.
+pub(crate) const TRIM_THRESHOLD: u64 = 2_097_152;
 
 pub(crate) const NO_SPACE: Result<u64, MallocError> = Err(MallocError::System(GrantFault::NoSpace));
 
@@ -493,7 +518,8 @@ fn settings_are_kept(rt: HostRuntime) -> Result<(), Fail> {
 
 /// A heap whose system gives two regions, one behind the other, and then refuses: for want of frames, and of memory.
 fn wide_heap(alloc: Global) -> Result<Dlmalloc<FlatSystem>, AllocError>
-    ensures { IfOk result (λ heap. IsSound ⟦<FlatSystem as Links>⟧.regions ⟦<FlatSystem as Links>⟧.word heap) }
+    ensures sound { IfOk result (λ heap. IsSound ⟦<FlatSystem as Links>⟧.regions ⟦<FlatSystem as Links>⟧.word heap) }
+    ensures linked { IfOk result (λ heap. IsBinned ⟦<FlatSystem as Links>⟧.regions ⟦<FlatSystem as Links>⟧.word heap) }
 {
     let mut script = Vec::new(alloc);
     for base in [0x40_0000, 0x41_0000] {
@@ -510,11 +536,12 @@ fn wide_heap(alloc: Global) -> Result<Dlmalloc<FlatSystem>, AllocError>
     Ok(Dlmalloc::new_with_allocator(system))
 }
 
-/// The extents of a heap are these.
-fn expect_extents<L: Ledger, R: Abort>(
+/// The extents of a heap are these, by a rule.
+pub(crate) fn expect_extents<L: Ledger, R: Abort>(
     rt: &R,
     alloc: Global,
     heap: &Dlmalloc<FlatSystem>,
+    rule: &str,
     runs: &[Run],
     steps: &mut Steps<L>,
 ) -> Result<(), Fail>
@@ -525,7 +552,7 @@ fn expect_extents<L: Ledger, R: Abort>(
         expected.push(Extent { at, size, kind })?;
     }
     let extents = heap.extents(alloc, steps)?;
-    assert_eq!(rt; extents.as_slice(), expected.as_slice());
+    assert_eq!(rt; extents.as_slice(), expected.as_slice(), "{rule}");
     Ok(())
 }
 
@@ -546,23 +573,44 @@ fn serve_wide<L: Ledger, R: Abort>(rt: &R, alloc: Global, blank: Blank) -> Resul
         (Kind::Top, 0x40_ffb0, 65536),
         FOOT,
     ];
-    expect_extents(rt, alloc, &heap, &grown, &mut steps)?;
+    expect_extents(rt, alloc, &heap, "the top grows", &grown, &mut steps)?;
     for fault in [GrantFault::NoFrames, GrantFault::OutOfMemory] {
         assert_eq!(rt;
             heap.c_malloc(65536, &mut steps),
             Err(MallocError::System(fault))
         );
-        expect_extents(rt, alloc, &heap, &grown, &mut steps)?;
+        expect_extents(
+            rt,
+            alloc,
+            &heap,
+            "a refusal changes nothing",
+            &grown,
+            &mut steps,
+        )?;
     }
     heap.c_free(None, &mut steps);
-    expect_extents(rt, alloc, &heap, &grown, &mut steps)?;
+    expect_extents(
+        rt,
+        alloc,
+        &heap,
+        "so does freeing no block",
+        &grown,
+        &mut steps,
+    )?;
     apply(rt, alloc, &mut heap, Call::Free(0x40_0030), &mut steps)?;
     let freed = [
         (Kind::Used, 0x40_0000, 32),
         (Kind::Top, 0x40_0020, 130_960),
         FOOT,
     ];
-    expect_extents(rt, alloc, &heap, &freed, &mut steps)
+    expect_extents(
+        rt,
+        alloc,
+        &heap,
+        "the freed chunk joins the top",
+        &freed,
+        &mut steps,
+    )
 }
 
 #[test]

@@ -1,5 +1,5 @@
 // Cutting a chunk from the top of the heap.
-ghost use Rattle.std.specs.Prelude.{◌≡◌, ◌≢◌, ℕ, ◌+◌, ◌%◌, ◌<◌, ◌≤◌, Some};
+ghost use Rattle.std.specs.Prelude.{◌≡◌, ◌≢◌, ℕ, ◌+◌, ◌%◌, ◌<◌, ◌≤◌, [], Some};
 ghost use Rattle.dlmalloc_chunks.specs.declared.extent.Extent.{Extent};
 ghost use Rattle.dlmalloc_chunks.specs.declared.extent.Kind.TheVariants.{Top};
 ghost use Rattle.dlmalloc.specs.Extents.{extent_at};
@@ -9,6 +9,7 @@ ghost use Rattle.dlmalloc.specs.Boundaries.{IsBoundary};
 ghost use Rattle.dlmalloc.specs.Taken.{taken};
 ghost use Rattle.dlmalloc.specs.Heap.{state_of, IsSound};
 ghost use Rattle.dlmalloc.specs.Served.{IsMoved};
+ghost use Rattle.dlmalloc.specs.Binned.{FreeMoves};
 
 use crate::heap::Dlmalloc;
 use crate::layout::{HEAD, PINUSE};
@@ -31,6 +32,8 @@ impl<A: Allocator> Dlmalloc<A> {
         ensures head { IsBoundary (state_of A.word self.new) (self.old.top + 8) }
         ensures foot { IsBoundary (state_of A.word self.new) (self.old.top + self.old.top_size + 8) }
         ensures others { (one : Extent) → one.at ≢ self.old.top → extent_at one.at (extents_in (state_of A.word self.old)) ≡ Some one → extent_at one.at (extents_in (state_of A.word self.new)) ≡ Some one }
+        ensures free { FreeMoves (state_of A.word self.old) (state_of A.word self.new) [] [] }
+        ensures bins { self.new.bins ≡ self.old.bins }
         ensures moved { IsMoved A.regions A.word A.follows self.old self.new }
         ensures counted { steps.new ≡ steps.old + 2 }
     {

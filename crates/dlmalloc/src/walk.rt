@@ -1,13 +1,14 @@
 // Walking over the chunks before the top, and choosing the one that serves a request.
-ghost use Rattle.std.specs.Prelude.{◌≡◌, ◌≢◌, ℕ, ◌+◌, ◌-◌, ◌<◌, ◌≤◌, ◌&&◌, nat_le, nat_lt, if◌then◌else◌, map, option_map, List, [], Some, None, IsTrue, IfSome, IsSome, ◌^◌, ◌↔◌, ◌++◌, OnOk, IfOk};
+ghost use Rattle.std.specs.Prelude.{◌≡◌, ◌≢◌, ℕ, ◌+◌, ◌-◌, ◌<◌, ◌≤◌, ◌&&◌, if◌then◌else◌, map, option_map, [], Some, None, IfSome, ◌^◌, ◌↔◌, ◌++◌, OnOk, IfOk};
 ghost use Rattle.heap_memory.specs.Regions.{IsWordOf};
 ghost use Rattle.dlmalloc_chunks.specs.declared.extent.Extent.{Extent};
 ghost use Rattle.dlmalloc_chunks.specs.declared.extent.Kind.TheVariants.{Used, Free, Top};
 ghost use Rattle.dlmalloc_chunks.specs.Chunk.{HasHead};
 ghost use Rattle.dlmalloc.specs.Extents.{extent_at};
-ghost use Rattle.dlmalloc.specs.State.{is_plain, is_binned, extents_in};
+ghost use Rattle.dlmalloc.specs.State.{is_plain, shown, extents_in, is_binned};
 ghost use Rattle.dlmalloc.specs.Choice.{least_fit, goes_first, chosen, IsChosen};
-ghost use Rattle.dlmalloc.specs.Walk.{chunk_told, chunks_between, IsChunkRun, Best};
+ghost use Rattle.dlmalloc.specs.Walk.{chunk_told, chunks_between, IsChunkRun};
+ghost use Rattle.dlmalloc.specs.Binned.{IsBinned, IsMember};
 ghost use Rattle.dlmalloc.specs.declared.walk.Place.{Place};
 ghost use Rattle.dlmalloc.specs.declared.walk.Choice.TheVariants.{Chunk, Top as OfTop};
 ghost use Rattle.dlmalloc.specs.declared.walk.Tail.TheVariants.{OneRecord};
@@ -74,13 +75,6 @@ pub(crate) fn is_plain(kind: Kind) -> bool
     matches!(kind, Kind::Free | Kind::Victim)
 }
 
-/// Whether a chunk of this size is smaller than the best one so far, if there is one.
-fn is_better(size: u64, best: Option<Place>) -> bool
-    ensures { IsTrue result ↔ IfSome best (λ place. size < place.size) }
-{
-    best.is_none_or(|place| size < place.size)
-}
-
 impl<A: Allocator> Dlmalloc<A> {
     /// The chunk that begins at an address, as its head tells it.
     pub(crate) fn chunk_at<L: Ledger>(&self, at: u64, steps: &mut Steps<L>) -> Extent
@@ -117,57 +111,24 @@ impl<A: Allocator> Dlmalloc<A> {
         }
     }
 
-    /// Whether a chunk is in a bin and has at least `n` bytes.
-    fn is_fit(&self, n: u64, chunk: &Extent) -> bool
-        ensures { result ≡ (is_binned (state_of A.word self.now) chunk.now && nat_le n chunk.now.size) }
-    {
-        is_plain(chunk.kind) && chunk.at != self.victim && n <= chunk.size
-    }
-
-    /// The least chunk in a bin that has at least `n` bytes, of a range of chunks and of those passed before.
-    fn best_between<L: Ledger>(
-        &self,
-        from: u64,
-        to: u64,
-        n: u64,
-        so_far: Option<Place>,
-        steps: &mut Steps<L>,
-    ) -> Option<Place>
-        requires { IsChunkRun (A.regions self.now.system) (A.word self.now.system) from to }
-        ensures { (front : List Extent) → Best (state_of A.word self.now) n so_far front → Best (state_of A.word self.now) n result (front ++ chunks_between (A.word self.now.system) from to) }
-    {
-        let mut best = so_far;
-        let mut at = from;
-        while at < to {
-            let chunk = self.chunk_at(at, steps);
-            if self.is_fit(n, &chunk) && is_better(chunk.size, best) {
-                best = Some(Place {
-                    at,
-                    size: chunk.size,
-                });
-            }
-            at += chunk.size;
-        }
-        best
-    }
-
     /// The least chunk in a bin that has at least `n` bytes.
     pub(crate) fn find_free<L: Ledger>(&self, n: u64, steps: &mut Steps<L>) -> Option<Place>
         requires sound { IsSound A.regions A.word self.now }
-        requires there { 0 < self.now.size }
+        requires linked { IsBinned A.regions A.word self.now }
         ensures least { least_fit (state_of A.word self.now) n ≡ option_map (λ place. place.size) result }
         ensures there { IfSome result (λ place. extent_at place.at (extents_in (state_of A.word self.now)) ≡ Some (record { at = place.at; size = place.size; kind = Free })) }
         ensures other { IfSome result (λ place. place.at ≢ self.now.victim) }
         ensures fits { IfSome result (λ place. n ≤ place.size) }
+        ensures member { IfSome result (λ place. IsMember A.regions A.word self.now n place.at) }
+        ensures counted { steps.new ≤ steps.old + 367 }
     {
-        let mut best = self.best_between(self.base, self.top, n, None, steps);
-        let mut payload = self.next;
-        while payload != 0 {
-            let span = self.span_at(payload, steps);
-            best = self.best_between(span.from, span.to, n, best, steps);
-            payload = span.next;
+        match self.bins.least_fit(&self.system, n, steps) {
+            Some(at) => Some(Place {
+                at,
+                size: chunk::size(&self.system, at, steps),
+            }),
+            None => None,
         }
-        best
     }
 
     /// Whether a chunk in a bin that is the least for `n` bytes goes before the victim: where the victim is too small;
@@ -186,6 +147,7 @@ impl<A: Allocator> Dlmalloc<A> {
     /// What serves a request of `n` bytes (dlmalloc: `malloc`).
     pub(crate) fn choose<L: Ledger>(&self, n: u64, steps: &mut Steps<L>) -> Option<Choice>
         requires sound { IsSound A.regions A.word self.now }
+        requires linked { IsBinned A.regions A.word self.now }
         requires there { 0 < self.now.size }
         requires least { 32 ≤ n }
         ensures none { result ≡ None → chosen (state_of A.word self.now) n ≡ None }
@@ -194,6 +156,8 @@ impl<A: Allocator> Dlmalloc<A> {
         ensures fits { (place : Place) → result ≡ Some (Chunk place) → n ≤ place.size }
         ensures top { result ≡ Some OfTop → IsChosen (state_of A.word self.now) n (record { at = self.now.top; size = self.now.top_size; kind = Top }) }
         ensures top_fits { result ≡ Some OfTop → n < self.now.top_size }
+        ensures member { (place : Place) → result ≡ Some (Chunk place) → place.at ≢ self.now.victim → IsMember A.regions A.word self.now n place.at }
+        ensures counted { steps.new ≤ steps.old + 367 }
     {
         let victim = Place {
             at: self.victim,

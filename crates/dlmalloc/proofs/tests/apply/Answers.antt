@@ -1,4 +1,4 @@
-use Rattle.std.proofs.Common.{◌≡◌, ℕ, ◌+◌, ◌-◌, ◌≤◌, Some, refl, arith}
+use Rattle.std.proofs.Common.{◌≡◌, ℕ, ◌-◌, ◌≤◌, Some, refl, arith}
 use Rattle.heap_memory.specs.FlatSystem.{word_of}
 use Rattle.dlmalloc_chunks.specs.declared.extent.Kind.TheVariants.{Used}
 use Rattle.dlmalloc.specs.Extents.{extent_at}

@@ -1,130 +1,39 @@
-use Rattle.std.proofs.Common.{◌≡◌, ℕ, ◌+◌, ◌-◌, ◌%◌, ◌<◌, ◌≤◌, ◌∙◌, inl, inr, ◌==◌, [], refl, sym, ap, subst, arith}
-use Rattle.heap_memory.specs.Regions.{IsWordOf}
-use Rattle.dlmalloc.specs.Grown.{IsJoined}
-use Rattle.dlmalloc.specs.Record.{IsRecordAt}
-use Rattle.dlmalloc.specs.declared.heap.Dlmalloc.{Dlmalloc}
-use Rattle.dlmalloc.proofs.Growing.{top_low, top_whole, top_sizes, ends, end_whole, head_low, head_small, head_word}
-use Rattle.dlmalloc.proofs.NewHead.{bounds_of, ends_same, told_same, beside_head, large_at, record_kept, new_head, joined_new}
+use Rattle.std.proofs.Common.{[]}
+use Rattle.dlmalloc.proofs.Joining.{as_joined, little_left, top_no_victim, top_left, joined_binned, none_in_grant}
 use Rattle.dlmalloc.proofs.heap.Dlmalloc.add_segment.Goals as goal
 
-pub leave_top-record-requires : goal.leave_top-record-requires
-leave_top-record-requires g c =
-    let regions = g.A.Links.regions in
-    let word = g.A.Links.word in
-    let heap = c.args.self.now in
-    let e = ends regions word heap c.requires.sound c.requires.there in
-    let whole = top_whole regions word heap c.requires.sound c.requires.there in
-    let sizes = top_sizes regions word heap c.requires.sound c.requires.there in
-    let low = top_low regions word heap c.requires.sound c.requires.there in
-    let small = head_small regions word heap c.requires.sound c.requires.there in
+pub returns-then-top_size-lt-LEAST_CHUNK : goal.returns-then-top_size-lt-LEAST_CHUNK
+returns-then-top_size-lt-LEAST_CHUNK g c =
+    let e = c.change_head.ensures in
     record {
-      foot = record {
-        aligned = omega (arith, whole, sizes.0);
-        small = omega arith;
-        granted = head_word regions word heap c.requires.sound c.requires.there (heap.top + heap.top_size) (omega arith) (omega arith) (omega (arith, whole, sizes.0));
-      };
+      joined = as_joined g.A.Links.regions g.A.Links.word g.A.Links.follows c.args.self.now c.args.grant.now c.change_head.new.self e.joined;
+      linked = little_left c.index_stays.ensures g.A.Links.regions g.A.Links.word g.A.Links.follows c.args.self.now c.args.grant.now c.change_head.new.self c.requires.sound c.requires.there e.joined e.free e.same c.requires.linked c.if-top_size-lt-LEAST_CHUNK.true;
     }
 
-pub put_record-requires-clause-aligned : goal.put_record-requires-clause-aligned
-put_record-requires-clause-aligned g c =
-    let b = bounds_of g.A.Links.regions g.A.Links.word c.args.self.now c.requires.sound c.requires.there c.leave_top-record.result c.leave_top-record.ensures.place in
-    omega (arith, b.2)
+pub bin-requires-clause-sound : goal.bin-requires-clause-sound
+bin-requires-clause-sound g c = c.change_head.ensures.joined.sound
 
-pub put_record-requires-clause-end_aligned : goal.put_record-requires-clause-end_aligned
-put_record-requires-clause-end_aligned g c =
-    let whole = end_whole g.A.Links.regions g.A.Links.word c.args.self.now c.requires.sound c.requires.there in
-    let same = ends_same c.args.self.now c.leave_top-record.new.self c.leave_top-record.ensures.fields in
-    omega (arith, whole, same)
+pub bin-requires-clause-free : goal.bin-requires-clause-free
+bin-requires-clause-free g c = c.change_head.ensures.rest c.if-top_size-lt-LEAST_CHUNK.false
 
-pub put_record-requires-clause-room : goal.put_record-requires-clause-room
-put_record-requires-clause-room g c =
-    let b = bounds_of g.A.Links.regions g.A.Links.word c.args.self.now c.requires.sound c.requires.there c.leave_top-record.result c.leave_top-record.ensures.place in
-    let same = ends_same c.args.self.now c.leave_top-record.new.self c.leave_top-record.ensures.fields in
-    omega (arith, b.1, same)
+pub bin-requires-clause-other : goal.bin-requires-clause-other
+bin-requires-clause-other g c =
+    let e = c.change_head.ensures in
+    top_no_victim c.index_stays.ensures g.A.Links.regions g.A.Links.word g.A.Links.follows c.args.self.now c.args.grant.now c.change_head.new.self c.requires.sound c.requires.there e.joined e.free e.same c.requires.linked
 
-pub put_record-requires-clause-high : goal.put_record-requires-clause-high
-put_record-requires-clause-high g c =
-    let small = head_small g.A.Links.regions g.A.Links.word c.args.self.now c.requires.sound c.requires.there in
-    let same = ends_same c.args.self.now c.leave_top-record.new.self c.leave_top-record.ensures.fields in
-    omega (arith, small, same)
-
-pub put_record-requires-clause-granted : goal.put_record-requires-clause-granted
-put_record-requires-clause-granted g c = λ k low high m.
-    let heap = c.args.self.now in
-    let b = bounds_of g.A.Links.regions g.A.Links.word heap c.requires.sound c.requires.there c.leave_top-record.result c.leave_top-record.ensures.place in
-    let top = top_low g.A.Links.regions g.A.Links.word heap c.requires.sound c.requires.there in
-    let same = ends_same heap c.leave_top-record.new.self c.leave_top-record.ensures.fields in
-    subst (λ rs. IsWordOf rs k) (sym c.leave_top-record.ensures.regions)
-    (head_word g.A.Links.regions g.A.Links.word heap c.requires.sound c.requires.there k (omega (arith, b.0, top, low)) (omega (arith, high, same)) m)
-
-pub overflow_add-end : goal.overflow_add-end
-overflow_add-end g c =
-    let small = head_small g.A.Links.regions g.A.Links.word c.args.self.now c.requires.sound c.requires.there in
-    let same = ends_same c.args.self.now c.leave_top-record.new.self c.leave_top-record.ensures.fields in
-    grind arith
-
-pub overflow_add-self : goal.overflow_add-self
-overflow_add-self g c =
-    let b = bounds_of g.A.Links.regions g.A.Links.word c.args.self.now c.requires.sound c.requires.there c.leave_top-record.result c.leave_top-record.ensures.place in
-    let small = head_small g.A.Links.regions g.A.Links.word c.args.self.now c.requires.sound c.requires.there in
-    let room = b.1 in
-    grind arith
-
-pub make_head-requires-clause-high : goal.make_head-requires-clause-high
-make_head-requires-clause-high g c = c.requires.fresh.high
-
-pub make_head-requires-clause-long : goal.make_head-requires-clause-long
-make_head-requires-clause-long g c = let long = c.requires.fresh.long in omega arith
-
-pub make_head-requires-clause-top : goal.make_head-requires-clause-top
-make_head-requires-clause-top g c =
-    let f = c.requires.fresh in
-    subst (λ rs. IsWordOf rs (c.args.grant.now.base + 8)) (sym (c.put_record.ensures.regions ∙ c.leave_top-record.ensures.regions))
-    (record { granted = f.run.covered (c.args.grant.now.base + 8) (omega arith) (omega (arith, f.long)); aligned = omega (arith, f.base_aligned) })
-
-pub make_head-requires-clause-foot : goal.make_head-requires-clause-foot
-make_head-requires-clause-foot g c =
-    let f = c.requires.fresh in
-    let grant = c.args.grant.now in
-    subst (λ rs. IsWordOf rs (grant.base + grant.size - 72)) (sym (c.put_record.ensures.regions ∙ c.leave_top-record.ensures.regions))
-    (record { granted = f.run.covered (grant.base + grant.size - 72) (omega (arith, f.long)) (omega (arith, f.long)); aligned = omega (arith, f.base_aligned, f.size_aligned, f.long) })
+pub bin-requires-clause-loose : goal.bin-requires-clause-loose
+bin-requires-clause-loose g c =
+    let e = c.change_head.ensures in
+    ([], top_left c.index_stays.ensures g.A.Links.regions g.A.Links.word g.A.Links.follows c.args.self.now c.args.grant.now c.change_head.new.self c.requires.sound c.requires.there e.joined e.free e.same c.requires.linked c.if-top_size-lt-LEAST_CHUNK.false)
 
 pub returns : goal.returns
 returns g c =
-    let regions = g.A.Links.regions in
-    let word = g.A.Links.word in
-    let heap = c.args.self.now in
-    let grant = c.args.grant.now in
-    let fresh = c.requires.fresh in
-    let there = c.requires.there in
-    let left = c.leave_top-record.ensures in
-    let middle = c.leave_top-record.new.self in
-    let at = c.leave_top-record.result in
-    let put = c.put_record.ensures in
-    let system = c.put_record.new.memory in
-    let made = c.make_head.ensures in
-    let new = c.make_head.new.self in
-    let b = bounds_of regions word heap c.requires.sound there at left.place in
-    let low = head_low regions word heap c.requires.sound there in
-    let above = top_low regions word heap c.requires.sound there in
-    let sizes = top_sizes regions word heap c.requires.sound there in
-    let e = ends regions word heap c.requires.sound there in
-    let end_same = ends_same heap middle left.fields in
-    let apart = beside_head regions word heap c.requires.sound there grant fresh in
-    let told : IsRecordAt (word system) at (record { base = heap.base; size = heap.size; next = heap.next; flags = heap.flags }) (heap.base + heap.size) (at == heap.top) =
-    told_same (word system) at heap middle left.fields put.told in
-    let into : (k : ℕ) → IsWordOf (regions heap.system) k → IsWordOf (regions middle.system) k = λ k inside. subst (λ rs. IsWordOf rs k) (sym left.regions) inside in
-    let onto : (k : ℕ) → IsWordOf (regions heap.system) k → IsWordOf (regions system) k = λ k inside. subst (λ rs. IsWordOf rs k) (sym (put.regions ∙ left.regions)) inside in
-    let of_head : (k : ℕ) → heap.base ≤ k → k < heap.base + heap.size → k % 8 ≡ 0 → word new.system k ≡ word system k = λ k from to m.
-    made.elsewhere k (onto k (head_word regions word heap c.requires.sound there k from to m))
-    (λ is. elim apart [ inl before ↦ omega (arith, is, before, to) | inr behind ↦ omega (arith, is, behind, from, fresh.long) ])
-    (λ is. elim apart [ inl before ↦ omega (arith, is, before, to, fresh.long) | inr behind ↦ omega (arith, is, behind, from, fresh.long) ]) in
-    let joined = joined_new regions word g.A.Links.follows heap c.requires.sound grant fresh there c.requires.beside c.requires.apart new.system (made.regions ∙ (put.regions ∙ left.regions)) at left.place made.head made.foot_head
-    (record_kept (word system) (word new.system) at (record { base = heap.base; size = heap.size; next = heap.next; flags = heap.flags }) (heap.base + heap.size) (at == heap.top) (omega (arith, b.2)) b.1
-    (λ k from to m. of_head k (omega (arith, from, b.0, above)) to m) told)
-    (λ large. of_head (heap.top + heap.top_size) (omega (arith, above)) (omega (arith, e)) (omega (arith, top_whole regions word heap c.requires.sound there, sizes.0))
-    ∙ (put.elsewhere (heap.top + heap.top_size) (into (heap.top + heap.top_size) (head_word regions word heap c.requires.sound there (heap.top + heap.top_size) (omega (arith, above)) (omega (arith, e)) (omega (arith, top_whole regions word heap c.requires.sound there, sizes.0))))
-    (inl (large_at at heap.top heap.top_size left.place large)) ∙ left.foot large))
-    (λ k inside out free not_top not_foot. made.elsewhere k (onto k inside) not_top not_foot ∙ (put.elsewhere k (into k inside) (elim out [ inl before ↦ inl before | inr behind ↦ inr (omega (arith, behind, end_same)) ]) ∙ left.elsewhere k inside free))
-    (g.A.Links.follows_on heap.system system new.system [] [] [] (g.A.Links.follows_on heap.system middle.system system [] [] [] left.follows put.follows refl) made.follows refl) in
-    record { joined = subst (λ (h : Dlmalloc _). IsJoined regions word g.A.Links.follows heap grant h) (sym (made.fields ∙ ap (λ (h : Dlmalloc _). new_head h grant new.system at) left.fields)) joined }
+    let e = c.change_head.ensures in
+    let many = c.if-top_size-lt-LEAST_CHUNK.false in
+    let last = c.bin.ensures in
+    let middle = c.change_head.new.self in
+    record {
+      joined = joined_binned c.index_stays.ensures g.A.Links.regions g.A.Links.word g.A.Links.follows c.args.self.now c.args.grant.now middle c.requires.sound c.requires.there e.joined e.free e.same c.requires.linked c.bin.new.self last.same last.same.fields g.A.Links.follows_on
+          (none_in_grant g.A.Links.regions g.A.Links.word c.args.self.now middle c.requires.sound c.requires.there c.args.grant.now c.requires.fresh e.free many (e.rest many));
+      linked = last.binned [] (top_left c.index_stays.ensures g.A.Links.regions g.A.Links.word g.A.Links.follows c.args.self.now c.args.grant.now middle c.requires.sound c.requires.there e.joined e.free e.same c.requires.linked many) (λ none. none);
+    }

@@ -1,4 +1,7 @@
-use Rattle.std.proofs.Common.{ℕ, ◌+◌, ◌-◌, ◌≡◌, ◌∙◌, ap, subst}
+use Rattle.std.proofs.Common.{ℕ, ◌+◌, ◌-◌, ◌≡◌, ◌∙◌, List, inr, sym, ap, subst}
+use Rattle.heap_memory.specs.declared.grant.Grant.{Grant}
+use Rattle.heap_memory.specs.Regions.{IsWordOf}
+use Rattle.dlmalloc.specs.Boundaries.{IsOwn}
 use Rattle.dlmalloc.specs.State.{HeapState}
 use Rattle.dlmalloc.specs.Aligned.{lead_freed, tail_cut}
 use Rattle.dlmalloc.specs.Heap.{state_of}
@@ -55,3 +58,9 @@ pub returns-clause-kept : goal.returns-clause-kept
 returns-clause-kept g c =
     kept_on g.A.Links.regions g.A.Links.word g.A.Links.follows c.args.self.now c.free_before.new.self c.free_behind.new.self (c.args.ptr - 16) c.aligned_place-place.result
     c.free_before.ensures.others c.free_before.ensures.kept c.free_before.ensures.sound c.free_behind.ensures.others c.free_behind.ensures.moved
+
+pub returns-clause-words : goal.returns-clause-words
+returns-clause-words g c = λ k inside passed.
+    let lead = λ (own : IsOwn (state_of g.A.Links.word c.free_before.new.self) k). passed.1 (subst (λ (s : HeapState). IsOwn s k) c.free_before.ensures.state own) in
+    c.free_behind.ensures.moved.words k (subst (λ (rs : List Grant). IsWordOf rs k) (sym c.free_before.ensures.regions) inside) (λ free. lead (inr free)) passed.2
+    ∙ c.free_before.ensures.words k inside passed.0 lead

@@ -1,4 +1,7 @@
-use Rattle.std.proofs.Common.{◌<◌, arith}
+use Rattle.std.proofs.Common.{◌≡◌, ℕ, ◌<◌, None, subst, arith}
+use Rattle.dlmalloc.specs.Choice.{chosen}
+use Rattle.dlmalloc.specs.Heap.{state_of}
+use Rattle.dlmalloc.proofs.Members.{member_behind}
 use Rattle.dlmalloc_chunks.specs.Request.{limit}
 use Rattle.dlmalloc.proofs.Requests.{request_small}
 use Rattle.dlmalloc.proofs.Served.{served}
@@ -19,3 +22,12 @@ returns-in-Ok-clause-served g c =
     let e = c.request2size.ensures in
     let less : c.args.size < limit c.args.self.now.granularity = (let not = c.if-size-max_request.false in let is = c.max_request.ensures.is in omega arith) in
     served g.A.Links.regions g.A.Links.word g.A.Allocator.zeros g.A.Links.follows c.args.self.now c.cut.new.self c.args.size c.request2size.result c.in-Ok.chunk e.is (omega arith) (omega arith) less c.in-Ok.ensures.cut
+
+pub returns-in-Ok-clause-member : goal.returns-in-Ok-clause-member
+returns-in-Ok-clause-member g c = member_behind g.A.Links.regions g.A.Links.word c.args.self.now c.request2size.result c.args.size c.in-Ok.chunk c.request2size.ensures.is c.in-Ok.ensures.member
+
+pub returns-in-Ok-clause-counted : goal.returns-in-Ok-clause-counted
+returns-in-Ok-clause-counted g c = λ some. c.cut.ensures.counted (λ none. some (subst (λ (n : ℕ). chosen (state_of g.A.Links.word c.args.self.now) n ≡ None) c.request2size.ensures.is none))
+
+pub returns-in-Err-clause-counted : goal.returns-in-Err-clause-counted
+returns-in-Err-clause-counted g c = λ some. c.cut.ensures.counted (λ none. some (subst (λ (n : ℕ). chosen (state_of g.A.Links.word c.args.self.now) n ≡ None) c.request2size.ensures.is none))

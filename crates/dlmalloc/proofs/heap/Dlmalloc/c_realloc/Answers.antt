@@ -51,8 +51,8 @@ returns-in-Some-clause-resized g c =
     let holds = block.1.holds in
     let new = c.resize_or_move.new.self in
     subst (λ (ptr : Option ℕ). IfOk c.resize_or_move.result (λ at. IfSome ptr (λ from.
-    IsResized g.A.Links.regions g.A.Links.word g.A.Allocator.zeros g.A.Links.follows c.args.self.now from (size_where (λ extent. extent.at == from - 16) (extents_in state) - 8) 16 c.args.new_size at new))) (sym c.in-Some.is)
-    (subst (λ (held : ℕ). IfOk c.resize_or_move.result (λ at. IsResized g.A.Links.regions g.A.Links.word g.A.Allocator.zeros g.A.Links.follows c.args.self.now address (held - 8) 16 c.args.new_size at new)) (sym sizes) c.resize_or_move.ensures.resized)
+    IsResized g.A.Links.regions g.A.Links.word g.A.Allocator.zeros g.A.Links.follows (g.A.Allocator.frees c.args.self.now.system) (g.A.Allocator.parts c.args.self.now.system) (g.A.Allocator.unit c.args.self.now.system) c.args.self.now from (size_where (λ extent. extent.at == from - 16) (extents_in state) - 8) 16 c.args.new_size at new))) (sym c.in-Some.is)
+    (subst (λ (held : ℕ). IfOk c.resize_or_move.result (λ at. IsResized g.A.Links.regions g.A.Links.word g.A.Allocator.zeros g.A.Links.follows (g.A.Allocator.frees c.args.self.now.system) (g.A.Allocator.parts c.args.self.now.system) (g.A.Allocator.unit c.args.self.now.system) c.args.self.now address (held - 8) 16 c.args.new_size at new)) (sym sizes) c.resize_or_move.ensures.resized)
 
 pub returns-in-Some-clause-given : goal.returns-in-Some-clause-given
 returns-in-Some-clause-given g c =
@@ -64,10 +64,10 @@ returns-in-Some-clause-given g c =
     let told = block_chunk g.A.Links.regions g.A.Links.word old c.requires.sound address block.0 block.1 c.size-size.result c.size-size.ensures.value in
     let sizes = size_at state (address - 16) (extent (address - 16) c.size-size.result Used) told in
     subst (λ (ptr : Option ℕ). IfOk c.resize_or_move.result (λ at. IfSome ptr (λ from.
-    IsGivenSize g.A.Links.regions g.A.Links.word g.A.Links.follows old from (size_where (λ extent. extent.at == from - 16) (extents_in state) - 8) 16 c.args.new_size at new))) (sym c.in-Some.is)
-    (subst (λ (held : ℕ). IfOk c.resize_or_move.result (λ at. IsGivenSize g.A.Links.regions g.A.Links.word g.A.Links.follows old address (held - 8) 16 c.args.new_size at new)) (sym sizes)
+    IsGivenSize g.A.Links.regions g.A.Links.word g.A.Links.follows (g.A.Allocator.frees old.system) (g.A.Allocator.parts old.system) (g.A.Allocator.unit old.system) old from (size_where (λ extent. extent.at == from - 16) (extents_in state) - 8) 16 c.args.new_size at new))) (sym c.in-Some.is)
+    (subst (λ (held : ℕ). IfOk c.resize_or_move.result (λ at. IsGivenSize g.A.Links.regions g.A.Links.word g.A.Links.follows (g.A.Allocator.frees old.system) (g.A.Allocator.parts old.system) (g.A.Allocator.unit old.system) old address (held - 8) 16 c.args.new_size at new)) (sym sizes)
     (IfOk-weaker c.resize_or_move.result
-    (λ at. IsResized g.A.Links.regions g.A.Links.word g.A.Allocator.zeros g.A.Links.follows old address (c.size-size.result - 8) 16 c.args.new_size at new)
-    (λ at. IsGivenSize g.A.Links.regions g.A.Links.word g.A.Links.follows old address (c.size-size.result - 8) 16 c.args.new_size at new)
-    (λ at resized. given_size g.A.Links.regions g.A.Links.word g.A.Allocator.zeros g.A.Links.follows g.A.Links.follows_on old new address (c.size-size.result - 8) 16 c.args.new_size at block.0 c.requires.sound (4, refl) block.1 resized)
+    (λ at. IsResized g.A.Links.regions g.A.Links.word g.A.Allocator.zeros g.A.Links.follows (g.A.Allocator.frees old.system) (g.A.Allocator.parts old.system) (g.A.Allocator.unit old.system) old address (c.size-size.result - 8) 16 c.args.new_size at new)
+    (λ at. IsGivenSize g.A.Links.regions g.A.Links.word g.A.Links.follows (g.A.Allocator.frees old.system) (g.A.Allocator.parts old.system) (g.A.Allocator.unit old.system) old address (c.size-size.result - 8) 16 c.args.new_size at new)
+    (λ at resized. given_size g.A.Links.regions g.A.Links.word g.A.Allocator.zeros g.A.Links.follows g.A.Links.follows_on (g.A.Allocator.frees old.system) (g.A.Allocator.parts old.system) (g.A.Allocator.unit old.system) old new address (c.size-size.result - 8) 16 c.args.new_size at block.0 c.requires.sound (4, refl) block.1 resized)
     c.resize_or_move.ensures.resized))

@@ -1,6 +1,6 @@
 use Rattle.std.proofs.Common.{ℕ, sym, subst, arith}
 use Rattle.heap_memory.specs.Words.{AreWordsOf, AreFilled}
-use Rattle.dlmalloc.proofs.BlockWords.{block_words, same_heap, served_block}
+use Rattle.dlmalloc.proofs.BlockWords.{block_words, same_heap, same_binned, served_block}
 use Rattle.dlmalloc.proofs.GivenSize.{handed_written}
 use Rattle.dlmalloc.proofs.heap.Dlmalloc.calloc.Goals as goal
 
@@ -44,3 +44,12 @@ returns-in-Ok-clause-handed g c =
     let cleared = subst (λ (n : ℕ). AreFilled (g.A.Links.regions middle.system) (g.A.Links.word middle.system) c.in-Ok.address n 0 (g.A.Links.word system)) c.words_in.ensures filled.filled in
     handed_written g.A.Links.regions g.A.Links.word g.A.Links.follows g.A.Links.follows_on c.args.self.now middle (record middle { system = system }) c.args.size c.args.align c.in-Ok.address c.in-Ok.ensures.handed
     (same_heap g.A.Links.regions g.A.Links.word middle served.0 c.in-Ok.address c.args.size served.1 g.A.Links.follows c.args.size (omega arith) system filled.regions filled.follows cleared.elsewhere) cleared.elsewhere
+
+pub returns-in-Ok-clause-linked : goal.returns-in-Ok-clause-linked
+returns-in-Ok-clause-linked g c =
+    let middle = c.malloc.new.self in
+    let system = c.fill_counted.new.self in
+    let served = served_block g.A.Links.regions g.A.Links.word g.A.Allocator.zeros g.A.Links.follows c.args.self.now c.args.size c.args.align c.in-Ok.address c.malloc.new.self c.in-Ok.ensures.served in
+    let filled = c.fill_counted.ensures in
+    let cleared = subst (λ (n : ℕ). AreFilled (g.A.Links.regions middle.system) (g.A.Links.word middle.system) c.in-Ok.address n 0 (g.A.Links.word system)) c.words_in.ensures filled.filled in
+    same_binned g.A.Links.regions g.A.Links.word middle served.0 c.in-Ok.address c.args.size served.1 c.index_stays.ensures c.args.size (omega arith) system filled.regions cleared.elsewhere c.malloc.ensures.linked

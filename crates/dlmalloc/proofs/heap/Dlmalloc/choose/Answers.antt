@@ -1,7 +1,8 @@
-use Rattle.std.proofs.Common.{◌∙◌, arith, sym}
+use Rattle.std.proofs.Common.{◌≢◌, ◌∙◌, arith, refl, sym}
 use Rattle.dlmalloc_chunks.specs.declared.extent.Kind.TheVariants.{Free}
 use Rattle.dlmalloc.specs.Heap.{state_of}
 use Rattle.dlmalloc.specs.Choice.{IsChosen}
+use Rattle.dlmalloc.specs.Binned.{IsMember}
 use Rattle.dlmalloc.proofs.Choosing.{of_place, bins_chosen, victim_first, victim_alone, top_chosen, none_chosen}
 use Rattle.dlmalloc.proofs.heap.Dlmalloc.choose.Goals as goal
 
@@ -27,3 +28,15 @@ returns-in-None-2-clause-top g c is = top_chosen g.A.Links.regions g.A.Links.wor
 
 pub returns-in-None-3-clause-none : goal.returns-in-None-3-clause-none
 returns-in-None-3-clause-none g c is = none_chosen g.A.Links.regions g.A.Links.word c.args.self.now c.requires.sound c.requires.there c.args.n c.in-None.ensures.least (omega arith) (omega arith)
+
+pub returns-in-Some-clause-member : goal.returns-in-Some-clause-member
+returns-in-Some-clause-member g c place is =
+    of_place (λ place. place.at ≢ c.args.self.now.victim → IsMember g.A.Links.regions g.A.Links.word c.args.self.now c.args.n place.at) c.in-Some.place place is (λ other. c.in-Some.ensures.member)
+
+pub returns-in-Some-2-clause-member : goal.returns-in-Some-2-clause-member
+returns-in-Some-2-clause-member g c place is =
+    of_place (λ place. place.at ≢ c.args.self.now.victim → IsMember g.A.Links.regions g.A.Links.word c.args.self.now c.args.n place.at) (record { at = c.args.self.now.victim; size = c.args.self.now.victim_size }) place is (λ other. absurd (other refl))
+
+pub returns-in-None-clause-member : goal.returns-in-None-clause-member
+returns-in-None-clause-member g c place is =
+    of_place (λ place. place.at ≢ c.args.self.now.victim → IsMember g.A.Links.regions g.A.Links.word c.args.self.now c.args.n place.at) (record { at = c.args.self.now.victim; size = c.args.self.now.victim_size }) place is (λ other. absurd (other refl))

@@ -1,10 +1,14 @@
 use Rattle.std.proofs.Common.{ℕ, Some, refl, sym, ap, subst, arith}
 use Rattle.dlmalloc.specs.Served.{IsCutOut}
-use Rattle.dlmalloc.proofs.Choosing.{free_below}
+use Rattle.dlmalloc.specs.State.{HeapState}
+use Rattle.dlmalloc.specs.Heap.{state_of}
+use Rattle.dlmalloc.proofs.Choosing.{free_below, bins_no_victim, top_no_bins}
+use Rattle.dlmalloc.proofs.Rebinned.{binned_beside}
+use Rattle.dlmalloc.proofs.Members.{none_member}
 use Rattle.dlmalloc.proofs.Places.{extent}
 use Rattle.dlmalloc_chunks.specs.declared.extent.Kind.TheVariants.{Free, Top}
 use Rattle.dlmalloc.proofs.Requests.{none_chosen_empty}
-use Rattle.dlmalloc.proofs.Served.{cut_here}
+use Rattle.dlmalloc.proofs.Served.{as_turned, cut_here}
 use Rattle.dlmalloc.proofs.heap.Dlmalloc.cut.Goals.{then-self-gt0+in-None, else-self-gt0}
 use Rattle.dlmalloc.proofs.heap.Dlmalloc.cut.Goals as goal
 
@@ -26,10 +30,39 @@ returns-in-Some-Top-clause-cut g c =
     let fits = c.in-Some-Top.ensures.top_fits is in
     subst (λ (k : ℕ). IsCutOut g.A.Links.regions g.A.Links.word g.A.Allocator.zeros g.A.Links.follows heap c.args.n k c.take_top.new.self) (sym c.take_top.ensures.chunk)
     (cut_here g.A.Links.regions g.A.Links.word g.A.Allocator.zeros g.A.Links.follows heap c.requires.sound c.args.n c.take_top.new.self (extent heap.top heap.top_size Top)
-    chosen (omega arith) (free_below g.A.Links.regions g.A.Links.word heap c.requires.sound (extent heap.top heap.top_size Top) chosen.there) c.take_top.ensures.state c.take_top.ensures.more c.take_top.ensures.moved)
+    chosen (omega arith) (free_below g.A.Links.regions g.A.Links.word heap c.requires.sound (extent heap.top heap.top_size Top) chosen.there) c.take_top.ensures.state c.take_top.ensures.more
+    (as_turned g.A.Links.regions g.A.Links.word g.A.Allocator.zeros g.A.Links.follows heap c.requires.sound c.args.n c.take_top.new.self c.take_top.ensures.moved))
 
 pub cut_new-requires-clause-none : goal.cut_new-requires-clause-none
 cut_new-requires-clause-none g c = elim c.if-self-gt0.branch [
   | then-self-gt0+in-None w ↦ w.in-None.ensures.none refl
   | else-self-gt0 w ↦ none_chosen_empty g.A.Links.regions g.A.Links.word c.args.self.now (let none = w.if-self-gt0.false in omega arith) c.args.n c.requires.least
 ]
+
+pub returns-in-Some-Chunk-clause-member : goal.returns-in-Some-Chunk-clause-member
+returns-in-Some-Chunk-clause-member g c = λ size is.
+    let place = c.in-Some-Chunk.place in
+    let same = ap Some c.in-Some-Chunk.field-0-is in
+    c.in-Some-Chunk.ensures.member place same
+    (bins_no_victim (state_of g.A.Links.word c.args.self.now) c.args.n size (extent place.at place.size Free) (c.in-Some-Chunk.ensures.chunk place same) is)
+
+pub returns-in-Some-Top-clause-member : goal.returns-in-Some-Top-clause-member
+returns-in-Some-Top-clause-member g c = λ size is.
+    absurd (top_no_bins (state_of g.A.Links.word c.args.self.now) c.args.n size (extent c.args.self.now.top c.args.self.now.top_size Top) (c.in-Some-Top.ensures.top (ap Some c.in-Some-Top.field-0-is)) refl is)
+
+pub returns-in-Some-Top-clause-linked : goal.returns-in-Some-Top-clause-linked
+returns-in-Some-Top-clause-linked g c =
+    let e = c.take_top.ensures in
+    binned_beside c.index_stays.ensures g.A.Links.regions g.A.Links.word g.A.Links.follows c.args.self.now c.take_top.new.self c.requires.sound e.moved e.bins e.free (ap (λ (s : HeapState). s.victim) e.state) c.requires.linked
+
+pub returns-clause-member : goal.returns-clause-member
+returns-clause-member g c = none_member g.A.Links.regions g.A.Links.word c.args.self.now c.args.n (elim c.if-self-gt0.branch [
+  | then-self-gt0+in-None w ↦ w.in-None.ensures.none refl
+  | else-self-gt0 w ↦ none_chosen_empty g.A.Links.regions g.A.Links.word c.args.self.now (let none = w.if-self-gt0.false in omega arith) c.args.n c.requires.least
+]) c.cut_new.result
+
+pub returns-clause-counted : goal.returns-clause-counted
+returns-clause-counted g c = λ some. absurd (some (elim c.if-self-gt0.branch [
+  | then-self-gt0+in-None w ↦ w.in-None.ensures.none refl
+  | else-self-gt0 w ↦ none_chosen_empty g.A.Links.regions g.A.Links.word c.args.self.now (let none = w.if-self-gt0.false in omega arith) c.args.n c.requires.least
+]))

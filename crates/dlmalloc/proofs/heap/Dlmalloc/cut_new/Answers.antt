@@ -1,10 +1,12 @@
-use Rattle.std.proofs.Common.{rules, ℕ, ◌+◌, [], ◌∷◌, refl, sym, subst}
+use Rattle.std.proofs.Common.{rules, ℕ, ◌+◌, [], ◌∷◌, refl, sym, ap, subst}
 use Rattle.heap_memory.specs.Events.{Granted}
 use Rattle.dlmalloc_chunks.specs.Request.{round_up}
 use Rattle.dlmalloc.specs.Blocks.{IsFull}
 use Rattle.dlmalloc.specs.Heap.{state_of}
 use Rattle.dlmalloc.specs.Served.{IsCutOut}
+use Rattle.dlmalloc.specs.State.{HeapState}
 use Rattle.dlmalloc.proofs.Full.{full}
+use Rattle.dlmalloc.proofs.Rebinned.{binned_beside}
 use Rattle.dlmalloc.proofs.Choosing.{top_below}
 use Rattle.dlmalloc.proofs.Served.{cut_new}
 use Rattle.dlmalloc.proofs.heap.Dlmalloc.cut_new.Goals as goal
@@ -30,3 +32,9 @@ pub returns-in_err-chunk-clause-denied : goal.returns-in_err-chunk-clause-denied
 returns-in_err-chunk-clause-denied g c =
     let full : IsFull (state_of g.A.Links.word c.args.self.now) (c.args.n + 256) = full g.A.Links.regions g.A.Links.word c.args.self.now c.requires.sound c.args.n c.requires.none in
     search rules
+
+pub returns-in-None-clause-linked : goal.returns-in-None-clause-linked
+returns-in-None-clause-linked g c =
+    let grown = c.in_ok-chunk.ensures.top c.in-None.is in
+    let e = c.take_top.ensures in
+    binned_beside c.index_stays.ensures g.A.Links.regions g.A.Links.word g.A.Links.follows c.grow.new.self c.take_top.new.self grown.sound e.moved e.bins e.free (ap (λ (s : HeapState). s.victim) e.state) c.grow.ensures.linked

@@ -1,8 +1,15 @@
-use Rattle.std.proofs.Common.{◌<◌, ◌≤◌, ◌⊎◌, inl, inr, refl, arith, rules}
-use Rattle.std.proofs.lemmas.Bool.Decides.{nat_tests}
-use Rattle.dlmalloc.proofs.Answering.{head_there, foot_there, behind_there, behind_small, no_top, end_below, foot_fits, from_there, goes_on, ends_at, small_top, from_some, top_victim, top_other}
-use Rattle.dlmalloc.proofs.Disposing.{whole_size, room, end_head, end_foot, end_told, as_victim, as_other}
-use Rattle.dlmalloc.proofs.heap.Dlmalloc.dispose_chunk.Goals.{else-from-self-via-then-from-self+else-self-to, else-from-self-via-else-from-self, else-from-self-2-via-then-from-self-2+else-self-to-2, else-from-self-2-via-else-from-self-2}
+use Rattle.std.proofs.Common.{◌+◌, ◌-◌, [], ◌∷◌, refl, sym, ◌∙◌, ap, subst, arith}
+use Rattle.dlmalloc.specs.State.{HeapState, extents_in}
+use Rattle.dlmalloc.specs.Extents.{extent_at}
+use Rattle.dlmalloc.specs.Freed.{freed}
+use Rattle.dlmalloc.specs.Released.{IsFreeAround}
+use Rattle.dlmalloc.specs.Blocks.{HasOneMore}
+use Rattle.dlmalloc.specs.Heap.{state_of}
+use Rattle.dlmalloc.specs.Binned.{IsFreeAt}
+use Rattle.dlmalloc.proofs.Answering.{head_there, foot_there, behind_there, behind_small, end_below, foot_fits}
+use Rattle.dlmalloc.proofs.Unbinning.{left_free, left_none, right_free, right_none}
+use Rattle.dlmalloc.proofs.Disposed.{some, two, still_there, from_still, to_still, joined_loose}
+use Rattle.dlmalloc.proofs.Turning.{rebinned_on, turned}
 use Rattle.dlmalloc.proofs.heap.Dlmalloc.dispose_chunk.Goals as goal
 
 pub free_begin-from-requires-clause-head : goal.free_begin-from-requires-clause-head
@@ -23,56 +30,93 @@ free_end-to-requires-clause-head g c = behind_there g.A.Links.regions g.A.Links.
 pub free_end-to-requires-clause-fits : goal.free_end-to-requires-clause-fits
 free_end-to-requires-clause-fits g c = end_below g.A.Links.regions g.A.Links.word c.args.self.now c.requires.sound c.args.at c.args.size c.requires.chunk
 
-pub store_counted-requires : goal.store_counted-requires
-store_counted-requires g c = (from_there g.A.Links.regions g.A.Links.word c.args.self.now c.requires.sound c.args.at c.args.size c.requires.chunk c.free_begin-from.result c.free_begin-from.ensures.value).granted
+-- ---- the free chunks beside it leave their bins
 
-pub make_free-requires-clause-size : goal.make_free-requires-clause-size
-make_free-requires-clause-size g c = whole_size g.A.Links.regions g.A.Links.word c.args.self.now c.requires.sound c.args.at c.args.size c.requires.chunk (no_top g.A.Links.regions g.A.Links.word c.args.self.now c.requires.sound c.args.at c.args.size c.requires.chunk (goes_on g.A.Links.regions g.A.Links.word c.args.self.now c.requires.sound c.args.at c.args.size c.requires.chunk c.free_begin-from.result c.free_begin-from.ensures.value c.free_end-to.result c.free_end-to.ensures.value c.if-to-self.false)) c.free_begin-from.result c.free_begin-from.ensures.value c.free_end-to.result (ends_at g.A.Links.regions g.A.Links.word c.args.self.now c.requires.sound c.args.at c.args.size c.requires.chunk c.free_begin-from.result c.free_begin-from.ensures.value c.free_end-to.result c.free_end-to.ensures.value (goes_on g.A.Links.regions g.A.Links.word c.args.self.now c.requires.sound c.args.at c.args.size c.requires.chunk c.free_begin-from.result c.free_begin-from.ensures.value c.free_end-to.result c.free_end-to.ensures.value c.if-to-self.false))
+pub unbin_between-requires-clause-free : goal.unbin_between-requires-clause-free
+unbin_between-requires-clause-free g c = left_free g.A.Links.regions g.A.Links.word c.args.self.now c.requires.sound c.args.at c.args.size c.requires.chunk c.free_begin-from.result c.free_begin-from.ensures.value
 
-pub make_free-requires-clause-long : goal.make_free-requires-clause-long
-make_free-requires-clause-long g c = let r = room g.A.Links.regions g.A.Links.word c.args.self.now c.requires.sound c.args.at c.args.size c.requires.chunk (no_top g.A.Links.regions g.A.Links.word c.args.self.now c.requires.sound c.args.at c.args.size c.requires.chunk (goes_on g.A.Links.regions g.A.Links.word c.args.self.now c.requires.sound c.args.at c.args.size c.requires.chunk c.free_begin-from.result c.free_begin-from.ensures.value c.free_end-to.result c.free_end-to.ensures.value c.if-to-self.false)) c.free_begin-from.result c.free_begin-from.ensures.value c.free_end-to.result (ends_at g.A.Links.regions g.A.Links.word c.args.self.now c.requires.sound c.args.at c.args.size c.requires.chunk c.free_begin-from.result c.free_begin-from.ensures.value c.free_end-to.result c.free_end-to.ensures.value (goes_on g.A.Links.regions g.A.Links.word c.args.self.now c.requires.sound c.args.at c.args.size c.requires.chunk c.free_begin-from.result c.free_begin-from.ensures.value c.free_end-to.result c.free_end-to.ensures.value c.if-to-self.false)) in omega arith
+pub unbin_between-requires-clause-none : goal.unbin_between-requires-clause-none
+unbin_between-requires-clause-none g c = left_none g.A.Links.regions g.A.Links.word c.args.self.now c.requires.sound c.args.at c.args.size c.requires.chunk c.free_begin-from.result c.free_begin-from.ensures.value
 
-pub make_free-requires-clause-foot : goal.make_free-requires-clause-foot
-make_free-requires-clause-foot g c = end_foot g.A.Links.regions g.A.Links.word c.args.self.now c.requires.sound c.args.at c.args.size c.requires.chunk (no_top g.A.Links.regions g.A.Links.word c.args.self.now c.requires.sound c.args.at c.args.size c.requires.chunk (goes_on g.A.Links.regions g.A.Links.word c.args.self.now c.requires.sound c.args.at c.args.size c.requires.chunk c.free_begin-from.result c.free_begin-from.ensures.value c.free_end-to.result c.free_end-to.ensures.value c.if-to-self.false)) c.free_begin-from.result c.free_begin-from.ensures.value c.free_end-to.result (ends_at g.A.Links.regions g.A.Links.word c.args.self.now c.requires.sound c.args.at c.args.size c.requires.chunk c.free_begin-from.result c.free_begin-from.ensures.value c.free_end-to.result c.free_end-to.ensures.value (goes_on g.A.Links.regions g.A.Links.word c.args.self.now c.requires.sound c.args.at c.args.size c.requires.chunk c.free_begin-from.result c.free_begin-from.ensures.value c.free_end-to.result c.free_end-to.ensures.value c.if-to-self.false))
+pub unbin_between-requires-clause-binned : goal.unbin_between-requires-clause-binned
+unbin_between-requires-clause-binned g c = ([], c.requires.linked, λ none. none)
 
-pub make_free-requires-clause-next : goal.make_free-requires-clause-next
-make_free-requires-clause-next g c = end_head g.A.Links.regions g.A.Links.word c.args.self.now c.requires.sound c.args.at c.args.size c.requires.chunk (no_top g.A.Links.regions g.A.Links.word c.args.self.now c.requires.sound c.args.at c.args.size c.requires.chunk (goes_on g.A.Links.regions g.A.Links.word c.args.self.now c.requires.sound c.args.at c.args.size c.requires.chunk c.free_begin-from.result c.free_begin-from.ensures.value c.free_end-to.result c.free_end-to.ensures.value c.if-to-self.false)) c.free_begin-from.result c.free_begin-from.ensures.value c.free_end-to.result (ends_at g.A.Links.regions g.A.Links.word c.args.self.now c.requires.sound c.args.at c.args.size c.requires.chunk c.free_begin-from.result c.free_begin-from.ensures.value c.free_end-to.result c.free_end-to.ensures.value (goes_on g.A.Links.regions g.A.Links.word c.args.self.now c.requires.sound c.args.at c.args.size c.requires.chunk c.free_begin-from.result c.free_begin-from.ensures.value c.free_end-to.result c.free_end-to.ensures.value c.if-to-self.false))
+pub unbin_between-requires-2-clause-sound : goal.unbin_between-requires-2-clause-sound
+unbin_between-requires-2-clause-sound g c = c.unbin_between.ensures.same.sound
 
-pub make_free-requires-clause-told : goal.make_free-requires-clause-told
-make_free-requires-clause-told g c = λ told. end_told g.A.Links.regions g.A.Links.word c.args.self.now c.requires.sound c.args.at c.args.size c.requires.chunk (no_top g.A.Links.regions g.A.Links.word c.args.self.now c.requires.sound c.args.at c.args.size c.requires.chunk (goes_on g.A.Links.regions g.A.Links.word c.args.self.now c.requires.sound c.args.at c.args.size c.requires.chunk c.free_begin-from.result c.free_begin-from.ensures.value c.free_end-to.result c.free_end-to.ensures.value c.if-to-self.false)) c.free_begin-from.result c.free_begin-from.ensures.value c.free_end-to.result (ends_at g.A.Links.regions g.A.Links.word c.args.self.now c.requires.sound c.args.at c.args.size c.requires.chunk c.free_begin-from.result c.free_begin-from.ensures.value c.free_end-to.result c.free_end-to.ensures.value (goes_on g.A.Links.regions g.A.Links.word c.args.self.now c.requires.sound c.args.at c.args.size c.requires.chunk c.free_begin-from.result c.free_begin-from.ensures.value c.free_end-to.result c.free_end-to.ensures.value c.if-to-self.false)) (grind (arith, nat_tests))
+pub unbin_between-requires-2-clause-free : goal.unbin_between-requires-2-clause-free
+unbin_between-requires-2-clause-free g c = λ more.
+    let there = some g.A.Links.regions g.A.Links.word g.A.Links.follows c.args.self.now c.requires.sound c.args.at c.args.size c.requires.chunk c.free_begin-from.result c.free_end-to.result c.free_begin-from.ensures.value c.free_end-to.ensures.value in
+    subst (λ (s : HeapState). IsFreeAt s (c.args.at + c.args.size) (c.free_end-to.result - (c.args.at + c.args.size))) (sym c.unbin_between.ensures.same.state)
+    (right_free g.A.Links.regions g.A.Links.word c.args.self.now c.requires.sound c.args.at c.args.size c.requires.chunk c.free_begin-from.result c.free_begin-from.ensures.value c.free_end-to.result c.free_end-to.ensures.value there more)
 
-pub make_free-requires-clause-head : goal.make_free-requires-clause-head
-make_free-requires-clause-head g c = from_there g.A.Links.regions g.A.Links.word c.args.self.now c.requires.sound c.args.at c.args.size c.requires.chunk c.free_begin-from.result c.free_begin-from.ensures.value
+pub unbin_between-requires-2-clause-none : goal.unbin_between-requires-2-clause-none
+unbin_between-requires-2-clause-none g c = λ less n free.
+    let there = some g.A.Links.regions g.A.Links.word g.A.Links.follows c.args.self.now c.requires.sound c.args.at c.args.size c.requires.chunk c.free_begin-from.result c.free_end-to.result c.free_begin-from.ensures.value c.free_end-to.ensures.value in
+    right_none g.A.Links.regions g.A.Links.word c.args.self.now c.requires.sound c.args.at c.args.size c.requires.chunk c.free_begin-from.result c.free_begin-from.ensures.value c.free_end-to.result c.free_end-to.ensures.value there less n
+    (subst (λ (s : HeapState). IsFreeAt s (c.args.at + c.args.size) n) c.unbin_between.ensures.same.state free)
 
-pub overflow_add-self : goal.overflow_add-self
-overflow_add-self g c = let s = small_top g.A.Links.regions g.A.Links.word c.args.self.now c.requires.sound c.args.at c.args.size c.requires.chunk c.free_begin-from.result c.free_begin-from.ensures.value c.free_end-to.result c.free_end-to.ensures.value c.if-to-self.true in grind arith
+pub unbin_between-requires-2-clause-binned : goal.unbin_between-requires-2-clause-binned
+unbin_between-requires-2-clause-binned g c = (
+  c.free_begin-from.result ∷ [],
+  c.unbin_between.ensures.loose [] c.requires.linked (λ none. none),
+  two g.A.Links.regions g.A.Links.word g.A.Links.follows c.args.self.now c.requires.sound c.args.at c.args.size c.requires.chunk c.free_begin-from.result c.free_end-to.result c.free_begin-from.ensures.value c.free_end-to.ensures.value,
+)
 
-pub overflow_add-from : goal.overflow_add-from
-overflow_add-from g c = let s = (from_there g.A.Links.regions g.A.Links.word c.args.self.now c.requires.sound c.args.at c.args.size c.requires.chunk c.free_begin-from.result c.free_begin-from.ensures.value).small in grind arith
+-- ---- they are joined to it
 
-pub overflow_add-self-then-to-self : goal.overflow_add-self-then-to-self
-overflow_add-self-then-to-self g c = let s = small_top g.A.Links.regions g.A.Links.word c.args.self.now c.requires.sound c.args.at c.args.size c.requires.chunk c.free_begin-from.result c.free_begin-from.ensures.value c.free_end-to.result c.free_end-to.ensures.value c.if-to-self.true in let l = from_some g.A.Links.regions g.A.Links.word c.args.self.now c.requires.sound c.args.at c.args.size c.requires.chunk c.free_begin-from.result c.free_begin-from.ensures.value c.free_end-to.result c.free_end-to.ensures.value c.if-to-self.true in grind arith
+pub join_free-requires-clause-sound : goal.join_free-requires-clause-sound
+join_free-requires-clause-sound g c = c.unbin_between-2.ensures.same.sound
 
-pub returns-then-self-to : goal.returns-then-self-to
-returns-then-self-to g c =
-    let o = top_victim g.A.Links.regions g.A.Links.word c.args.self.now c.requires.sound c.args.at c.args.size c.requires.chunk c.free_begin-from.result c.free_begin-from.ensures.value c.free_end-to.result c.free_end-to.ensures.value c.if-to-self.true c.store_counted.new.self c.store_counted.ensures.regions c.store_counted.ensures.stored c.if-from-self.true c.if-self-to.true in
-    record { state = o.state; less = o.less; records = o.records; moved = record { sound = o.sound; words = o.words; regions_same = search rules; followed = search rules }; counted = omega arith }
+pub join_free-requires-clause-chunk : goal.join_free-requires-clause-chunk
+join_free-requires-clause-chunk g c =
+    still_there g.A.Links.regions g.A.Links.word g.A.Links.follows c.args.self.now c.requires.sound c.args.at c.args.size c.requires.chunk c.free_begin-from.result c.free_end-to.result c.free_begin-from.ensures.value c.free_end-to.ensures.value c.unbin_between-2.new.self
+    (rebinned_on g.A.Links.regions g.A.Links.word g.A.Links.follows g.A.Links.follows_on c.args.self.now c.unbin_between.new.self c.unbin_between-2.new.self c.unbin_between.ensures.same c.unbin_between-2.ensures.same)
 
-pub returns-else-from-self : goal.returns-else-from-self
-returns-else-from-self g c =
-    let out : (c.args.self.now.victim < c.free_begin-from.result) ⊎ (c.free_end-to.result ≤ c.args.self.now.victim) =
-    elim c.else-from-self.branch [ else-from-self-via-then-from-self+else-self-to w ↦ inr w.if-self-to.false | else-from-self-via-else-from-self w ↦ inl w.if-from-self.false ] in
-    let o = top_other g.A.Links.regions g.A.Links.word c.args.self.now c.requires.sound c.args.at c.args.size c.requires.chunk c.free_begin-from.result c.free_begin-from.ensures.value c.free_end-to.result c.free_end-to.ensures.value c.if-to-self.true c.store_counted.new.self c.store_counted.ensures.regions c.store_counted.ensures.stored out in
-    record { state = o.state; less = o.less; records = o.records; moved = record { sound = o.sound; words = o.words; regions_same = search rules; followed = search rules }; counted = omega arith }
+pub join_free-requires-clause-from : goal.join_free-requires-clause-from
+join_free-requires-clause-from g c =
+    from_still g.A.Links.regions g.A.Links.word g.A.Links.follows c.args.self.now c.requires.sound c.args.at c.args.size c.requires.chunk c.free_begin-from.result c.free_end-to.result c.free_begin-from.ensures.value c.free_end-to.ensures.value c.unbin_between-2.new.self
+    (rebinned_on g.A.Links.regions g.A.Links.word g.A.Links.follows g.A.Links.follows_on c.args.self.now c.unbin_between.new.self c.unbin_between-2.new.self c.unbin_between.ensures.same c.unbin_between-2.ensures.same)
 
-pub returns-then-self-to-2 : goal.returns-then-self-to-2
-returns-then-self-to-2 g c =
-    let o = as_victim g.A.Links.regions g.A.Links.word c.args.self.now c.requires.sound c.args.at c.args.size c.requires.chunk (no_top g.A.Links.regions g.A.Links.word c.args.self.now c.requires.sound c.args.at c.args.size c.requires.chunk (goes_on g.A.Links.regions g.A.Links.word c.args.self.now c.requires.sound c.args.at c.args.size c.requires.chunk c.free_begin-from.result c.free_begin-from.ensures.value c.free_end-to.result c.free_end-to.ensures.value c.if-to-self.false)) c.free_begin-from.result c.free_begin-from.ensures.value c.free_end-to.result (ends_at g.A.Links.regions g.A.Links.word c.args.self.now c.requires.sound c.args.at c.args.size c.requires.chunk c.free_begin-from.result c.free_begin-from.ensures.value c.free_end-to.result c.free_end-to.ensures.value (goes_on g.A.Links.regions g.A.Links.word c.args.self.now c.requires.sound c.args.at c.args.size c.requires.chunk c.free_begin-from.result c.free_begin-from.ensures.value c.free_end-to.result c.free_end-to.ensures.value c.if-to-self.false)) c.make_free.new.memory c.make_free.ensures.regions c.make_free.ensures.stored c.if-from-self-2.true c.if-self-to-2.true in
-    record { state = o.state; less = o.less; records = o.records; moved = record { sound = o.sound; words = o.words; regions_same = search rules; followed = search rules }; counted = omega arith }
+pub join_free-requires-clause-to : goal.join_free-requires-clause-to
+join_free-requires-clause-to g c =
+    to_still g.A.Links.regions g.A.Links.word g.A.Links.follows c.args.self.now c.requires.sound c.args.at c.args.size c.requires.chunk c.free_begin-from.result c.free_end-to.result c.free_begin-from.ensures.value c.free_end-to.ensures.value c.unbin_between-2.new.self
+    (rebinned_on g.A.Links.regions g.A.Links.word g.A.Links.follows g.A.Links.follows_on c.args.self.now c.unbin_between.new.self c.unbin_between-2.new.self c.unbin_between.ensures.same c.unbin_between-2.ensures.same)
 
-pub returns-else-from-self-2 : goal.returns-else-from-self-2
-returns-else-from-self-2 g c =
-    let out : (c.args.self.now.victim < c.free_begin-from.result) ⊎ (c.free_end-to.result ≤ c.args.self.now.victim) =
-    elim c.else-from-self-2.branch [ else-from-self-2-via-then-from-self-2+else-self-to-2 w ↦ inr w.if-self-to-2.false | else-from-self-2-via-else-from-self-2 w ↦ inl w.if-from-self-2.false ] in
-    let o = as_other g.A.Links.regions g.A.Links.word c.args.self.now c.requires.sound c.args.at c.args.size c.requires.chunk (no_top g.A.Links.regions g.A.Links.word c.args.self.now c.requires.sound c.args.at c.args.size c.requires.chunk (goes_on g.A.Links.regions g.A.Links.word c.args.self.now c.requires.sound c.args.at c.args.size c.requires.chunk c.free_begin-from.result c.free_begin-from.ensures.value c.free_end-to.result c.free_end-to.ensures.value c.if-to-self.false)) c.free_begin-from.result c.free_begin-from.ensures.value c.free_end-to.result (ends_at g.A.Links.regions g.A.Links.word c.args.self.now c.requires.sound c.args.at c.args.size c.requires.chunk c.free_begin-from.result c.free_begin-from.ensures.value c.free_end-to.result c.free_end-to.ensures.value (goes_on g.A.Links.regions g.A.Links.word c.args.self.now c.requires.sound c.args.at c.args.size c.requires.chunk c.free_begin-from.result c.free_begin-from.ensures.value c.free_end-to.result c.free_end-to.ensures.value c.if-to-self.false)) c.make_free.new.memory c.make_free.ensures.regions c.make_free.ensures.stored out in
-    record { state = o.state; less = o.less; records = o.records; moved = record { sound = o.sound; words = o.words; regions_same = search rules; followed = search rules }; counted = omega arith }
+-- ---- and what they are goes into its bin
+
+pub bin_joined-requires-clause-sound : goal.bin_joined-requires-clause-sound
+bin_joined-requires-clause-sound g c = c.join_free.ensures.moved.sound
+
+pub bin_joined-requires-clause-joined : goal.bin_joined-requires-clause-joined
+bin_joined-requires-clause-joined g c = c.join_free.ensures.joined
+
+pub bin_joined-requires-clause-loose : goal.bin_joined-requires-clause-loose
+bin_joined-requires-clause-loose g c =
+    let first = c.unbin_between.ensures in
+    let second = c.unbin_between-2.ensures in
+    let from = c.free_begin-from.result in
+    joined_loose g.A.Links.regions g.A.Links.word g.A.Links.follows c.args.self.now c.requires.sound c.args.at c.args.size c.requires.chunk from c.free_end-to.result c.free_begin-from.ensures.value c.free_end-to.ensures.value c.unbin_between-2.new.self
+    (rebinned_on g.A.Links.regions g.A.Links.word g.A.Links.follows g.A.Links.follows_on c.args.self.now c.unbin_between.new.self c.unbin_between-2.new.self first.same second.same)
+    c.index_stays.ensures
+    (second.loose (from ∷ []) (first.loose [] c.requires.linked (λ none. none))
+    (two g.A.Links.regions g.A.Links.word g.A.Links.follows c.args.self.now c.requires.sound c.args.at c.args.size c.requires.chunk from c.free_end-to.result c.free_begin-from.ensures.value c.free_end-to.ensures.value))
+    c.join_free.new.self c.join_free.ensures.moved c.join_free.ensures.free c.join_free.ensures.victim c.join_free.ensures.bins
+
+pub returns : goal.returns
+returns g c =
+    let word = g.A.Links.word in
+    let old = c.args.self.now in
+    let new = c.bin_joined.new.self in
+    let left = rebinned_on g.A.Links.regions word g.A.Links.follows g.A.Links.follows_on old c.unbin_between.new.self c.unbin_between-2.new.self c.unbin_between.ensures.same c.unbin_between-2.ensures.same in
+    let e = c.join_free.ensures in
+    let last = c.bin_joined.ensures.same in
+    record {
+      state = last.state ∙ (e.state ∙ ap (λ (s : HeapState). freed s c.args.at) left.state);
+      less = subst (λ (s : HeapState). HasOneMore s (state_of word old) c.args.at) (sym last.state) (subst (λ (s : HeapState). HasOneMore (state_of word c.join_free.new.self) s c.args.at) left.state e.less);
+      records = λ one is there. ap (λ (s : HeapState). extent_at one.at (extents_in s)) last.state ∙ e.records one is (ap (λ (s : HeapState). extent_at one.at (extents_in s)) left.state ∙ there);
+      around = subst (λ (s : HeapState). IsFreeAround s c.args.at c.free_begin-from.result) (sym last.state) e.around;
+      moved = turned g.A.Links.regions word g.A.Links.follows g.A.Links.follows_on old c.unbin_between-2.new.self c.join_free.new.self new left e.moved last;
+      linked = c.bin_joined.ensures.linked;
+      counted = omega arith;
+    }

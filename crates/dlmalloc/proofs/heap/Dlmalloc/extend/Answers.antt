@@ -1,9 +1,11 @@
-use Rattle.std.proofs.Common.{◌≡◌, ◌+◌, ◌-◌, ◌<◌, [], refl, sym, subst, arith}
+use Rattle.std.proofs.Common.{◌≡◌, ◌+◌, ◌-◌, ◌<◌, inr, [], refl, sym, subst, arith}
 use Rattle.heap_memory.specs.RegionLaws.{whole_each}
 use Rattle.dlmalloc.specs.State.{trim_threshold}
-use Rattle.dlmalloc.specs.Grown.{IsJoined}
+use Rattle.dlmalloc.specs.Grown.{IsAdmitted}
+use Rattle.dlmalloc.specs.Heap.{state_of}
+use Rattle.dlmalloc.specs.Binned.{FreeMoves, IsSameBins}
 use Rattle.dlmalloc.specs.declared.heap.Dlmalloc.{Dlmalloc}
-use Rattle.dlmalloc.proofs.Growing.{behind_means, top_low, ends, top_word, end_whole, extended_sound, extended_state, extended_used, extended_words}
+use Rattle.dlmalloc.proofs.Growing.{behind_means, top_low, ends, top_word, end_whole, extended_sound, extended_state, extended_used, extended_words, extended_free}
 use Rattle.dlmalloc.proofs.heap.Dlmalloc.extend.Goals as goal
 
 pub overflow_add-self : goal.overflow_add-self
@@ -61,15 +63,18 @@ returns g c =
     let after : Dlmalloc _ = record heap { system = new.system; size = heap.size + grant.size; top_size = heap.base + (heap.size + grant.size) - 80 - heap.top; trim_check = trim_threshold } in
     let is : new ≡ after = closed.fields in
     record {
-      joined = subst (λ (h : Dlmalloc _). IsJoined regions word g.A.Links.follows heap grant h) (sym is) (record {
+      joined = subst (λ (h : Dlmalloc _). IsAdmitted regions word g.A.Links.follows heap grant h) (sym is) (record {
         state = extended_state regions word heap after c.requires.sound grant fresh closed.regions there m.0 m.1 c.requires.behind whole refl refl refl refl refl refl refl refl refl refl refl refl closed.head closed.foot_head closed.elsewhere;
         sound = extended_sound regions word heap after c.requires.sound grant fresh closed.regions there m.0 m.1 c.requires.behind whole refl refl refl refl refl refl refl refl refl refl refl refl closed.head closed.foot_head closed.elsewhere;
         there = some;
         room = omega arith;
+        begins = inr (there, c.requires.behind, refl);
         regions_same = closed.regions;
         followed = closed.follows;
         used = extended_used regions word heap after c.requires.sound grant fresh closed.regions there m.0 m.1 c.requires.behind whole refl refl refl refl refl refl refl refl refl refl refl refl closed.head closed.foot_head closed.elsewhere;
         words = extended_words regions word heap after c.requires.sound grant fresh closed.regions there m.0 m.1 c.requires.behind whole refl refl refl refl refl refl refl refl refl refl refl refl closed.head closed.foot_head closed.elsewhere;
         new_words = λ k inside low high a b. closed.elsewhere k inside a (λ at_foot. b (omega arith));
       });
+      free = subst (λ (h : Dlmalloc _). FreeMoves (state_of word heap) (state_of word h) [] []) (sym is) (extended_free regions word heap after c.requires.sound grant fresh closed.regions there m.0 m.1 c.requires.behind whole refl refl refl refl refl refl refl refl refl refl refl refl closed.head closed.foot_head closed.elsewhere);
+      same = subst (λ (h : Dlmalloc _). IsSameBins heap h) (sym is) (record { bins = refl; victim = refl });
     }

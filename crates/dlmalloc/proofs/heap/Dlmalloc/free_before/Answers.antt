@@ -1,4 +1,4 @@
-use Rattle.std.proofs.Common.{inl, refl, sym, subst}
+use Rattle.std.proofs.Common.{inl, inr, refl, sym, subst}
 use Rattle.dlmalloc_chunks.specs.declared.extent.Kind.TheVariants.{Used}
 use Rattle.dlmalloc.specs.Boundaries.{IsBoundary}
 use Rattle.dlmalloc.specs.Heap.{state_of}
@@ -9,4 +9,4 @@ use Rattle.dlmalloc.proofs.heap.Dlmalloc.free_before.Goals as goal
 pub returns-clause-words : goal.returns-clause-words
 returns-clause-words g c k is was now =
     c.free_lead.ensures.words k is
-    (λ same. was (subst (IsBoundary (state_of g.A.Links.word c.args.self.now)) (sym same) (record { extent = extent c.args.at c.args.size Used; there = c.requires.chunk; is = inl refl }))) now
+    (λ same. was (inl (subst (IsBoundary (state_of g.A.Links.word c.args.self.now)) (sym same) (record { extent = extent c.args.at c.args.size Used; there = c.requires.chunk; is = inl refl })))) (λ free. was (inr free)) now

@@ -7,9 +7,10 @@ use Rattle.dlmalloc.specs.Grown.{HasSameUsed}
 use Rattle.dlmalloc.specs.Heap.{state_of}
 use Rattle.dlmalloc.specs.Served.{IsCutOut}
 use Rattle.dlmalloc.proofs.Regions.{word_kept, word_new}
-use Rattle.dlmalloc.proofs.Fresh.{granted_sound, granted_same, fresh_grant}
+use Rattle.dlmalloc.proofs.Fresh.{granted_sound, granted_same, granted_binned, fresh_grant}
 use Rattle.dlmalloc.proofs.PutBefore.{cut_before}
-use Rattle.dlmalloc.proofs.Laws.{as_it_was}
+use Rattle.dlmalloc.specs.Boundaries.{IsInFree}
+use Rattle.dlmalloc.proofs.Laws.{as_it_was, as_binned}
 use Rattle.dlmalloc.proofs.Requests.{on_err}
 use Rattle.dlmalloc.proofs.heap.Dlmalloc.grow.Goals as goal
 
@@ -63,7 +64,7 @@ returns-in-Some-clause-cut g c = λ at is.
     let followed = g.A.Links.follows_on heap.system middle new.system (Granted asked grant ∷ []) [] (Granted asked grant ∷ []) given.follows put.followed refl in
     let at_is : grant.base ≡ at = ap (λ (o : Option ℕ). unwrap_or o grant.base) is in
     subst (λ (a : ℕ). IsCutOut regions word g.A.Allocator.zeros g.A.Links.follows heap c.args.n a new) at_is
-    (cut_before regions word g.A.Allocator.zeros g.A.Links.follows heap c.requires.sound c.args.n asked c.requires.none grant given.good (omega arith) given.apart middle given.regions same
+    (cut_before regions word g.A.Allocator.zeros g.A.Links.follows heap c.requires.sound c.args.n asked enough c.requires.none grant given.good (omega arith) given.apart middle given.regions same
     (subst (λ (ss : List Segment). is_put_before grant ss ≡ true) (λ i. (same i).segments) c.in-Some.ensures.some)
     given.words given.zeros new put (subst (λ (bytes : ℕ). g.A.Links.follows heap.system (Granted bytes grant ∷ []) new.system) c.asked-asked.ensures.asked followed))
 
@@ -92,8 +93,22 @@ returns-in-None-clause-top g c = λ is.
       sound = joined.sound;
       there = joined.there;
       room = omega arith;
+      long = omega arith;
+      begins = joined.begins;
       with_it = joined.regions_same ∙ given.regions;
+      fresh = given.apart;
       used = subst (λ s. HasSameUsed s (state_of word new)) same joined.used;
-      words = λ k inside apart recorded. joined.words k (word_kept grant (regions heap.system) (regions middle) given.regions k inside) apart recorded ∙ given.words k inside;
+      words = λ k inside was own recorded. joined.words k (word_kept grant (regions heap.system) (regions middle) given.regions k inside) (λ f. was (subst (λ s. IsInFree s k) same f)) own recorded ∙ given.words k inside;
       new_words = λ zeros k low high multiple a b. joined.new_words k (word_new grant (regions heap.system) (regions middle) given.regions k low high multiple) low high a b ∙ given.zeros zeros k low high multiple;
     }
+
+pub returns-in_err-grant-clause-linked : goal.returns-in_err-grant-clause-linked
+returns-in_err-grant-clause-linked g c =
+    let denied = c.in_err-grant.ensures in
+    as_binned g.A.Links.regions g.A.Links.word c.args.self.now c.requires.sound c.index_stays.ensures c.alloc.new.self denied.err denied.words c.requires.linked
+
+pub put_before-requires-clause-linked : goal.put_before-requires-clause-linked
+put_before-requires-clause-linked g c = granted_binned g.A.Links.regions g.A.Links.word c.args.self.now c.requires.sound c.alloc.new.self c.asked-asked.result (let e = c.asked-asked.ensures.enough in let l = c.requires.least in omega arith) c.in_ok-grant.grant c.in_ok-grant.ensures.good c.in_ok-grant.ensures.apart c.in_ok-grant.ensures.regions c.in_ok-grant.ensures.words c.index_stays.ensures c.requires.linked
+
+pub join-requires-clause-linked : goal.join-requires-clause-linked
+join-requires-clause-linked g c = granted_binned g.A.Links.regions g.A.Links.word c.args.self.now c.requires.sound c.alloc.new.self c.asked-asked.result (let e = c.asked-asked.ensures.enough in let l = c.requires.least in omega arith) c.in_ok-grant.grant c.in_ok-grant.ensures.good c.in_ok-grant.ensures.apart c.in_ok-grant.ensures.regions c.in_ok-grant.ensures.words c.index_stays.ensures c.requires.linked

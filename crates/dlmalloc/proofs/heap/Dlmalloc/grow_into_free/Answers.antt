@@ -1,100 +1,124 @@
-use Rattle.std.proofs.Common.{◌+◌, ◌-◌, List, sym, subst, ◌∙◌, arith, rules}
-use Rattle.heap_memory.specs.declared.grant.Grant.{Grant}
-use Rattle.dlmalloc_chunks.specs.Chunk.{HasHead, HasFoot}
-use Rattle.dlmalloc.proofs.IntoFree.{free_end_small, free_at_whole, free_sizes_whole, free_head_there, free_foot_there, free_stores, into_victim, into_binned, whole_victim, whole_binned}
+use Rattle.std.proofs.Common.{◌+◌, [], sym, ◌∙◌, ap, subst, arith}
+use Rattle.dlmalloc_chunks.specs.declared.extent.Kind.TheVariants.{Used, Free}
+use Rattle.dlmalloc.specs.State.{HeapState, extents_in}
+use Rattle.dlmalloc.specs.Extents.{extent_at}
+use Rattle.dlmalloc.specs.Resized.{grown_into, HasSameOthers}
+use Rattle.dlmalloc.specs.Heap.{state_of}
+use Rattle.dlmalloc.proofs.Places.{extent}
+use Rattle.dlmalloc.proofs.IntoFree.{free_end_small}
+use Rattle.dlmalloc.proofs.Turning.{turned}
+use Rattle.dlmalloc.proofs.Rebinned.{not_rebinned, none_binned}
+use Rattle.dlmalloc.proofs.TakingBins.{into_victim, into_whole, into_part, part_other}
 use Rattle.dlmalloc.proofs.heap.Dlmalloc.grow_into_free.Goals as goal
-
-pub overflow_add-all : goal.overflow_add-all
-overflow_add-all g c = let s = free_end_small g.A.Links.regions g.A.Links.word c.args.self.now c.requires.sound c.args.at c.args.size c.args.free c.args.n c.requires.chunk c.requires.next c.requires.whole c.requires.more c.requires.room in grind arith
 
 pub overflow_add-was_victim : goal.overflow_add-was_victim
 overflow_add-was_victim g c = let s = free_end_small g.A.Links.regions g.A.Links.word c.args.self.now c.requires.sound c.args.at c.args.size c.args.free c.args.n c.requires.chunk c.requires.next c.requires.whole c.requires.more c.requires.room in grind arith
 
-pub set_inuse-requires-clause-size : goal.set_inuse-requires-clause-size
-set_inuse-requires-clause-size g c = let w = free_sizes_whole g.A.Links.regions g.A.Links.word c.args.self.now c.requires.sound c.args.at c.args.size c.args.free c.args.n c.requires.chunk c.requires.next c.requires.whole c.requires.more c.requires.room in omega arith
-
-pub set_inuse-requires-clause-head : goal.set_inuse-requires-clause-head
-set_inuse-requires-clause-head g c =
-    let m = free_at_whole g.A.Links.regions g.A.Links.word c.args.self.now c.requires.sound c.args.at c.args.size c.args.free c.args.n c.requires.chunk c.requires.next c.requires.whole c.requires.more c.requires.room in
-    free_head_there g.A.Links.regions g.A.Links.word c.args.self.now c.requires.sound c.args.at c.args.size c.args.free c.args.n c.requires.chunk c.requires.next c.requires.whole c.requires.more c.requires.room c.args.at (omega arith) (omega arith) (omega arith)
-
-pub set_inuse-requires-clause-next : goal.set_inuse-requires-clause-next
-set_inuse-requires-clause-next g c =
-    let m = free_at_whole g.A.Links.regions g.A.Links.word c.args.self.now c.requires.sound c.args.at c.args.size c.args.free c.args.n c.requires.chunk c.requires.next c.requires.whole c.requires.more c.requires.room in
-    let w = free_sizes_whole g.A.Links.regions g.A.Links.word c.args.self.now c.requires.sound c.args.at c.args.size c.args.free c.args.n c.requires.chunk c.requires.next c.requires.whole c.requires.more c.requires.room in
-    free_head_there g.A.Links.regions g.A.Links.word c.args.self.now c.requires.sound c.args.at c.args.size c.args.free c.args.n c.requires.chunk c.requires.next c.requires.whole c.requires.more c.requires.room (c.args.at + (c.args.size + c.args.free)) (omega arith) (omega arith) (omega arith)
-
-pub set_inuse-requires-else-rest-lt-LEAST_CHUNK-clause-head : goal.set_inuse-requires-else-rest-lt-LEAST_CHUNK-clause-head
-set_inuse-requires-else-rest-lt-LEAST_CHUNK-clause-head g c =
-    let m = free_at_whole g.A.Links.regions g.A.Links.word c.args.self.now c.requires.sound c.args.at c.args.size c.args.free c.args.n c.requires.chunk c.requires.next c.requires.whole c.requires.more c.requires.room in
-    free_head_there g.A.Links.regions g.A.Links.word c.args.self.now c.requires.sound c.args.at c.args.size c.args.free c.args.n c.requires.chunk c.requires.next c.requires.whole c.requires.more c.requires.room c.args.at (omega arith) (omega arith) (omega arith)
-
-pub set_inuse-requires-else-rest-lt-LEAST_CHUNK-clause-next : goal.set_inuse-requires-else-rest-lt-LEAST_CHUNK-clause-next
-set_inuse-requires-else-rest-lt-LEAST_CHUNK-clause-next g c =
-    let m = free_at_whole g.A.Links.regions g.A.Links.word c.args.self.now c.requires.sound c.args.at c.args.size c.args.free c.args.n c.requires.chunk c.requires.next c.requires.whole c.requires.more c.requires.room in
-    let whole = c.requires.whole in let room = c.requires.room in
-    free_head_there g.A.Links.regions g.A.Links.word c.args.self.now c.requires.sound c.args.at c.args.size c.args.free c.args.n c.requires.chunk c.requires.next c.requires.whole c.requires.more c.requires.room (c.args.at + c.args.n) (omega arith) (omega arith) (omega arith)
+pub overflow_add-rest : goal.overflow_add-rest
+overflow_add-rest g c = let s = free_end_small g.A.Links.regions g.A.Links.word c.args.self.now c.requires.sound c.args.at c.args.size c.args.free c.args.n c.requires.chunk c.requires.next c.requires.whole c.requires.more c.requires.room in grind arith
 
 pub overflow_add-at : goal.overflow_add-at
 overflow_add-at g c = let s = free_end_small g.A.Links.regions g.A.Links.word c.args.self.now c.requires.sound c.args.at c.args.size c.args.free c.args.n c.requires.chunk c.requires.next c.requires.whole c.requires.more c.requires.room in let room = c.requires.room in grind arith
 
-pub set_size_and_pinuse_of_free_chunk-requires-clause-size : goal.set_size_and_pinuse_of_free_chunk-requires-clause-size
-set_size_and_pinuse_of_free_chunk-requires-clause-size g c =
-    let w = free_sizes_whole g.A.Links.regions g.A.Links.word c.args.self.now c.requires.sound c.args.at c.args.size c.args.free c.args.n c.requires.chunk c.requires.next c.requires.whole c.requires.more c.requires.room in
-    let whole = c.requires.whole in let room = c.requires.room in omega arith
+pub overflow_add-at-2 : goal.overflow_add-at-2
+overflow_add-at-2 g c = let s = free_end_small g.A.Links.regions g.A.Links.word c.args.self.now c.requires.sound c.args.at c.args.size c.args.free c.args.n c.requires.chunk c.requires.next c.requires.whole c.requires.more c.requires.room in let room = c.requires.room in grind arith
 
-pub set_size_and_pinuse_of_free_chunk-requires-clause-head : goal.set_size_and_pinuse_of_free_chunk-requires-clause-head
-set_size_and_pinuse_of_free_chunk-requires-clause-head g c =
-    let m = free_at_whole g.A.Links.regions g.A.Links.word c.args.self.now c.requires.sound c.args.at c.args.size c.args.free c.args.n c.requires.chunk c.requires.next c.requires.whole c.requires.more c.requires.room in
-    let whole = c.requires.whole in let room = c.requires.room in
-    subst (λ (rs : List Grant). HasHead rs (c.args.at + c.args.n)) (sym c.set_inuse-else-rest-lt-LEAST_CHUNK.ensures.regions)
-    (free_head_there g.A.Links.regions g.A.Links.word c.args.self.now c.requires.sound c.args.at c.args.size c.args.free c.args.n c.requires.chunk c.requires.next c.requires.whole c.requires.more c.requires.room (c.args.at + c.args.n) (omega arith) (omega arith) (omega arith))
+pub unbin-requires-clause-binned : goal.unbin-requires-clause-binned
+unbin-requires-clause-binned g c = ([], c.requires.linked, λ none. none)
 
-pub set_size_and_pinuse_of_free_chunk-requires-clause-foot : goal.set_size_and_pinuse_of_free_chunk-requires-clause-foot
-set_size_and_pinuse_of_free_chunk-requires-clause-foot g c =
-    let m = free_at_whole g.A.Links.regions g.A.Links.word c.args.self.now c.requires.sound c.args.at c.args.size c.args.free c.args.n c.requires.chunk c.requires.next c.requires.whole c.requires.more c.requires.room in
-    let w = free_sizes_whole g.A.Links.regions g.A.Links.word c.args.self.now c.requires.sound c.args.at c.args.size c.args.free c.args.n c.requires.chunk c.requires.next c.requires.whole c.requires.more c.requires.room in
-    let room = c.requires.room in
-    subst (λ (rs : List Grant). HasFoot rs (c.args.at + c.args.n + (c.args.size + c.args.free - c.args.n))) (sym c.set_inuse-else-rest-lt-LEAST_CHUNK.ensures.regions)
-    (free_foot_there g.A.Links.regions g.A.Links.word c.args.self.now c.requires.sound c.args.at c.args.size c.args.free c.args.n c.requires.chunk c.requires.next c.requires.whole c.requires.more c.requires.room (c.args.at + c.args.n + (c.args.size + c.args.free - c.args.n)) (omega arith) (omega arith) (omega arith))
+pub join_part-requires-clause-sound : goal.join_part-requires-clause-sound
+join_part-requires-clause-sound g c = c.unbin.ensures.same.sound
 
-pub overflow_add-self : goal.overflow_add-self
-overflow_add-self g c = let s = free_end_small g.A.Links.regions g.A.Links.word c.args.self.now c.requires.sound c.args.at c.args.size c.args.free c.args.n c.requires.chunk c.requires.next c.requires.whole c.requires.more c.requires.room in let room = c.requires.room in grind arith
+pub join_part-requires-clause-chunk : goal.join_part-requires-clause-chunk
+join_part-requires-clause-chunk g c = ap (λ (s : HeapState). extent_at c.args.at (extents_in s)) c.unbin.ensures.same.state ∙ c.requires.chunk
+
+pub join_part-requires-clause-next : goal.join_part-requires-clause-next
+join_part-requires-clause-next g c = ap (λ (s : HeapState). extent_at (c.args.at + c.args.size) (extents_in s)) c.unbin.ensures.same.state ∙ c.requires.next
 
 pub returns-then-was_victim : goal.returns-then-was_victim
 returns-then-was_victim g c =
-    let less = c.if-rest-lt-LEAST_CHUNK.true in
-    let room = c.requires.room in
-    let e = c.set_inuse.ensures in
-    let t = whole_victim g.A.Links.regions g.A.Links.word c.args.self.now c.requires.sound c.args.at c.args.size c.args.free c.args.n c.requires.chunk c.requires.next c.requires.whole c.requires.more c.requires.room c.set_inuse.new.memory e.regions (omega arith) e.stored c.if-was_victim.true in
-    record { state = t.state; held = (c.args.size + c.args.free, t.held, omega arith, omega arith); others = t.others; moved = record { sound = t.sound; words = t.words; regions_same = e.regions; followed = e.follows } }
+    let regions = g.A.Links.regions in
+    let word = g.A.Links.word in
+    let middle = c.unbin.new.self in
+    let new = c.join_part.new.self in
+    let one = c.unbin.ensures in
+    let e = c.join_part.ensures in
+    let mine = c.if-was_victim.true ∙ sym (ap (λ h. h.victim) one.same.fields) in
+    record {
+      state = e.state ∙ ap (λ (s : HeapState). grown_into s (extent c.args.at c.args.size Used) (extent (c.args.at + c.args.size) c.args.free Free) c.args.n) one.same.state;
+      held = e.held;
+      others = subst (λ (s : HeapState). HasSameOthers s (state_of word new) c.args.at c.args.at) one.same.state e.others;
+      moved = turned regions word g.A.Links.follows g.A.Links.follows_on c.args.self.now middle new new one.same e.moved (not_rebinned regions word g.A.Links.follows new e.moved.sound (g.A.Links.follows_none new.system));
+      linked = into_victim c.index_stays.ensures regions word g.A.Links.follows middle new one.same.sound c.args.at c.args.size c.args.free c.args.n e.moved e.state e.free e.bins mine
+          (none_binned regions word middle (c.args.at + c.args.size) [] (one.loose [] c.requires.linked (λ none. none)) (λ n free. mine));
+      counted = omega arith;
+    }
 
-pub returns-else-was_victim : goal.returns-else-was_victim
-returns-else-was_victim g c =
-    let less = c.if-rest-lt-LEAST_CHUNK.true in
+pub returns-then-rest-lt-LEAST_CHUNK : goal.returns-then-rest-lt-LEAST_CHUNK
+returns-then-rest-lt-LEAST_CHUNK g c =
+    let regions = g.A.Links.regions in
+    let word = g.A.Links.word in
+    let middle = c.unbin.new.self in
+    let new = c.join_part.new.self in
+    let one = c.unbin.ensures in
+    let e = c.join_part.ensures in
+    let little = c.if-rest-lt-LEAST_CHUNK.true in
     let room = c.requires.room in
-    let e = c.set_inuse.ensures in
-    let t = whole_binned g.A.Links.regions g.A.Links.word c.args.self.now c.requires.sound c.args.at c.args.size c.args.free c.args.n c.requires.chunk c.requires.next c.requires.whole c.requires.more c.requires.room c.set_inuse.new.memory e.regions (omega arith) e.stored c.if-was_victim.false in
-    record { state = t.state; held = (c.args.size + c.args.free, t.held, omega arith, omega arith); others = t.others; moved = record { sound = t.sound; words = t.words; regions_same = e.regions; followed = e.follows } }
+    record {
+      state = e.state ∙ ap (λ (s : HeapState). grown_into s (extent c.args.at c.args.size Used) (extent (c.args.at + c.args.size) c.args.free Free) c.args.n) one.same.state;
+      held = e.held;
+      others = subst (λ (s : HeapState). HasSameOthers s (state_of word new) c.args.at c.args.at) one.same.state e.others;
+      moved = turned regions word g.A.Links.follows g.A.Links.follows_on c.args.self.now middle new new one.same e.moved (not_rebinned regions word g.A.Links.follows new e.moved.sound (g.A.Links.follows_none new.system));
+      linked = into_whole c.index_stays.ensures regions word g.A.Links.follows middle new one.same.sound c.args.at c.args.size c.args.free c.args.n e.moved e.state e.free e.bins
+          (λ is. c.if-was_victim.false (is ∙ ap (λ h. h.victim) one.same.fields)) (one.loose [] c.requires.linked (λ none. none)) (omega arith);
+      counted = omega arith;
+    }
 
-pub returns-then-was_victim-2 : goal.returns-then-was_victim-2
-returns-then-was_victim-2 g c =
-    let more = c.if-rest-lt-LEAST_CHUNK.false in
-    let room = c.requires.room in
-    let first = c.set_inuse-else-rest-lt-LEAST_CHUNK.ensures in
-    let second = c.set_size_and_pinuse_of_free_chunk.ensures in
-    let same = second.regions ∙ first.regions in
-    let stored = free_stores g.A.Links.regions g.A.Links.word c.args.self.now c.requires.sound c.args.at c.args.size c.args.free c.args.n c.requires.chunk c.requires.next c.requires.whole c.requires.more c.requires.room c.set_inuse-else-rest-lt-LEAST_CHUNK.new.memory c.set_size_and_pinuse_of_free_chunk.new.memory _ first.regions first.stored second.stored in
-    let t = into_victim g.A.Links.regions g.A.Links.word c.args.self.now c.requires.sound c.args.at c.args.size c.args.free c.args.n c.requires.chunk c.requires.next c.requires.whole c.requires.more c.requires.room c.set_size_and_pinuse_of_free_chunk.new.memory same (omega arith) stored c.if-was_victim-2.true in
-    record { state = t.state; held = (c.args.n, t.held, omega arith, omega arith); others = t.others; moved = record { sound = t.sound; words = t.words; regions_same = same; followed = search rules } }
+pub bin-requires-clause-sound : goal.bin-requires-clause-sound
+bin-requires-clause-sound g c = c.join_part.ensures.moved.sound
 
-pub returns-else-was_victim-2 : goal.returns-else-was_victim-2
-returns-else-was_victim-2 g c =
-    let more = c.if-rest-lt-LEAST_CHUNK.false in
+pub bin-requires-clause-free : goal.bin-requires-clause-free
+bin-requires-clause-free g c = c.join_part.ensures.rest (let many = c.if-rest-lt-LEAST_CHUNK.false in let room = c.requires.room in omega arith)
+
+pub bin-requires-clause-other : goal.bin-requires-clause-other
+bin-requires-clause-other g c =
+    let one = c.unbin.ensures in
+    let e = c.join_part.ensures in
+    let many = c.if-rest-lt-LEAST_CHUNK.false in
+    let more = c.requires.more in
     let room = c.requires.room in
-    let first = c.set_inuse-else-rest-lt-LEAST_CHUNK.ensures in
-    let second = c.set_size_and_pinuse_of_free_chunk.ensures in
-    let same = second.regions ∙ first.regions in
-    let stored = free_stores g.A.Links.regions g.A.Links.word c.args.self.now c.requires.sound c.args.at c.args.size c.args.free c.args.n c.requires.chunk c.requires.next c.requires.whole c.requires.more c.requires.room c.set_inuse-else-rest-lt-LEAST_CHUNK.new.memory c.set_size_and_pinuse_of_free_chunk.new.memory _ first.regions first.stored second.stored in
-    let t = into_binned g.A.Links.regions g.A.Links.word c.args.self.now c.requires.sound c.args.at c.args.size c.args.free c.args.n c.requires.chunk c.requires.next c.requires.whole c.requires.more c.requires.room c.set_size_and_pinuse_of_free_chunk.new.memory same (omega arith) stored c.if-was_victim-2.false in
-    record { state = t.state; held = (c.args.n, t.held, omega arith, omega arith); others = t.others; moved = record { sound = t.sound; words = t.words; regions_same = same; followed = search rules } }
+    part_other c.index_stays.ensures g.A.Links.regions g.A.Links.word g.A.Links.follows c.unbin.new.self c.join_part.new.self one.same.sound c.args.at c.args.size c.args.free c.args.n e.moved e.state e.free e.bins
+    (λ is. c.if-was_victim.false (is ∙ ap (λ h. h.victim) one.same.fields)) (omega arith) (omega arith)
+
+pub bin-requires-clause-loose : goal.bin-requires-clause-loose
+bin-requires-clause-loose g c =
+    let one = c.unbin.ensures in
+    let e = c.join_part.ensures in
+    let many = c.if-rest-lt-LEAST_CHUNK.false in
+    let room = c.requires.room in (
+      [],
+      into_part c.index_stays.ensures g.A.Links.regions g.A.Links.word g.A.Links.follows c.unbin.new.self c.join_part.new.self one.same.sound c.args.at c.args.size c.args.free c.args.n e.moved e.state e.free e.bins
+          (λ is. c.if-was_victim.false (is ∙ ap (λ h. h.victim) one.same.fields)) (one.loose [] c.requires.linked (λ none. none)) (omega arith),
+    )
+
+pub returns : goal.returns
+returns g c =
+    let regions = g.A.Links.regions in
+    let word = g.A.Links.word in
+    let middle = c.unbin.new.self in
+    let joined = c.join_part.new.self in
+    let new = c.bin.new.self in
+    let one = c.unbin.ensures in
+    let e = c.join_part.ensures in
+    let last = c.bin.ensures in
+    let many = c.if-rest-lt-LEAST_CHUNK.false in
+    let room = c.requires.room in
+    record {
+      state = last.same.state ∙ (e.state ∙ ap (λ (s : HeapState). grown_into s (extent c.args.at c.args.size Used) (extent (c.args.at + c.args.size) c.args.free Free) c.args.n) one.same.state);
+      held = (e.held.0, ap (λ (s : HeapState). extent_at c.args.at (extents_in s)) last.same.state ∙ e.held.1, e.held.2, e.held.3);
+      others = subst (λ (s : HeapState). HasSameOthers (state_of word c.args.self.now) s c.args.at c.args.at) (sym last.same.state) (subst (λ (s : HeapState). HasSameOthers s (state_of word joined) c.args.at c.args.at) one.same.state e.others);
+      moved = turned regions word g.A.Links.follows g.A.Links.follows_on c.args.self.now middle joined new one.same e.moved last.same;
+      linked = last.binned [] (into_part c.index_stays.ensures regions word g.A.Links.follows middle joined one.same.sound c.args.at c.args.size c.args.free c.args.n e.moved e.state e.free e.bins
+          (λ is. c.if-was_victim.false (is ∙ ap (λ h. h.victim) one.same.fields)) (one.loose [] c.requires.linked (λ none. none)) (omega arith)) (λ none. none);
+      counted = omega arith;
+    }

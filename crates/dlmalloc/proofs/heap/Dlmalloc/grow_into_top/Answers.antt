@@ -1,6 +1,6 @@
-use Rattle.std.proofs.Common.{◌≡◌, ◌+◌, ◌-◌, sym, subst, ◌∙◌, arith, rules}
+use Rattle.std.proofs.Common.{◌≡◌, ◌+◌, ◌-◌, sym, subst, ◌∙◌, arith, rules, refl}
 use Rattle.heap_memory.specs.Regions.{IsWordOf}
-use Rattle.dlmalloc.proofs.IntoTop.{top_first_head, top_rest_head, into_top}
+use Rattle.dlmalloc.proofs.IntoTop.{top_first_head, top_rest_head, into_top, into_top_free}
 use Rattle.dlmalloc.proofs.heap.Dlmalloc.grow_into_top.Goals as goal
 
 pub overflow_add-self : goal.overflow_add-self
@@ -35,5 +35,8 @@ returns g c =
       state = t.state;
       held = t.held;
       others = t.others;
+      free = into_top_free g.A.Links.regions g.A.Links.word c.args.self.now c.requires.sound c.args.at c.args.size c.args.n c.requires.chunk c.requires.next c.requires.whole c.requires.more c.requires.room
+          c.set_inuse.new.memory c.store_counted.new.self first.regions second.regions _ rest rest_is first.stored second.stored;
+      bins = refl;
       moved = record { sound = t.sound; words = t.words; regions_same = second.regions ∙ first.regions; followed = search rules };
     }

@@ -1,4 +1,8 @@
-use Rattle.std.proofs.Common.{ℕ, ◌+◌, ◌≤◌, refl, subst, arith, rules}
+use Rattle.std.proofs.Common.{◌≡◌, ℕ, ◌+◌, ◌≤◌, None, refl, subst, arith, rules}
+use Rattle.dlmalloc_chunks.specs.Request.{padded}
+use Rattle.dlmalloc.specs.Choice.{chosen}
+use Rattle.dlmalloc.specs.Heap.{state_of}
+use Rattle.dlmalloc.proofs.Members.{member_high}
 use Rattle.dlmalloc_chunks.specs.Request.{limit}
 use Rattle.dlmalloc.specs.Served.{IsRefusedWith}
 use Rattle.dlmalloc.proofs.AlignedRequests.{limit_small, enlarged_is, too_large, IsAligned, served_aligned}
@@ -36,3 +40,18 @@ pub returns-in-Err-clause-refused : goal.returns-in-Err-clause-refused
 returns-in-Err-clause-refused g c =
     subst (λ (m : ℕ). IsRefusedWith g.A.Links.regions g.A.Links.word g.A.Links.follows g.A.Allocator.refuses g.A.Allocator.denies c.args.self.now m c.in-Err.error c.c_malloc.new.self)
     (enlarged_is c.args.size c.args.align c.request2size-n.result c.request2size-n.ensures.is) c.in-Err.ensures.refused
+
+pub returns-in-Ok-clause-member : goal.returns-in-Ok-clause-member
+returns-in-Ok-clause-member g c =
+    member_high g.A.Links.regions g.A.Links.word c.args.self.now c.args.size c.args.align (c.request2size-n.result + c.args.align + 24) c.in-Ok.block c.align_block.result c.requires.align.1
+    (enlarged_is c.args.size c.args.align c.request2size-n.result c.request2size-n.ensures.is) c.align_block.ensures.place c.in-Ok.ensures.member
+
+pub returns-in-Ok-clause-counted : goal.returns-in-Ok-clause-counted
+returns-in-Ok-clause-counted g c = λ some.
+    let few = c.c_malloc.ensures.counted (λ none. some (subst (λ (m : ℕ). chosen (state_of g.A.Links.word c.args.self.now) (padded m) ≡ None) (enlarged_is c.args.size c.args.align c.request2size-n.result c.request2size-n.ensures.is) none)) in
+    omega arith
+
+pub returns-in-Err-clause-counted : goal.returns-in-Err-clause-counted
+returns-in-Err-clause-counted g c = λ some.
+    let few = c.c_malloc.ensures.counted (λ none. some (subst (λ (m : ℕ). chosen (state_of g.A.Links.word c.args.self.now) (padded m) ≡ None) (enlarged_is c.args.size c.args.align c.request2size-n.result c.request2size-n.ensures.is) none)) in
+    omega arith

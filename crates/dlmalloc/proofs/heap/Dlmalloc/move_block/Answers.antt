@@ -1,7 +1,12 @@
 use Rattle.std.proofs.Common.{ℕ, ◌+◌, ◌-◌, ◌*◌, ◌≤◌, ◌⊎◌, sym, subst, ◌∙◌, ap}
 use Rattle.heap_memory.specs.Words.{AreWordsOf, AreCopied}
+use Rattle.dlmalloc_chunks.specs.Request.{padded}
+use Rattle.dlmalloc.specs.AfterFree.{IsFreed}
+use Rattle.dlmalloc.specs.Heap.{state_of}
+use Rattle.dlmalloc.specs.Requested.{asked}
 use Rattle.dlmalloc.specs.Written.{words_in}
-use Rattle.dlmalloc.proofs.Elsewhere.{from_words, to_words, words_apart, copied_heap, copied_block, moved_block, moved_contents, moved_kept}
+use Rattle.dlmalloc.proofs.Elsewhere.{from_words, to_words, words_apart, copied_heap, copied_binned, copied_block, moved_block, moved_contents, moved_kept}
+use Rattle.dlmalloc.proofs.AllFreed.{by_rules, rules_found}
 use Rattle.dlmalloc.proofs.heap.Dlmalloc.move_block.Goals as goal
 
 pub copy_counted-requires-clause-from : goal.copy_counted-requires-clause-from
@@ -19,16 +24,24 @@ copy_counted-requires-clause-apart g c =
     let count = c.words_in.ensures ∙ ap words_in c.min.ensures in
     subst (λ (n : ℕ). (c.args.ptr + 8 * n ≤ c.in-Ok.address) ⊎ (c.in-Ok.address + 8 * n ≤ c.args.ptr)) (sym count) (words_apart g.A.Links.regions g.A.Links.word g.A.Allocator.zeros g.A.Links.follows c.args.self.now c.args.ptr c.args.held c.args.align c.args.size c.in-Ok.address c.requires.block.0 c.requires.sound c.requires.block.1 c.requires.held c.malloc.new.self c.in-Ok.ensures.served)
 
-pub free_block-requires-clause-sound : goal.free_block-requires-clause-sound
-free_block-requires-clause-sound g c =
+pub free_and_settle-requires-clause-sound : goal.free_and_settle-requires-clause-sound
+free_and_settle-requires-clause-sound g c =
     let middle = c.malloc.new.self in
     let system = c.copy_counted.new.self in
     let count = c.words_in.ensures ∙ ap words_in c.min.ensures in
     let copied = subst (λ (n : ℕ). AreCopied (g.A.Links.regions middle.system) (g.A.Links.word middle.system) c.args.ptr c.in-Ok.address n (g.A.Links.word system)) count c.copy_counted.ensures.copied in
     (copied_heap g.A.Links.regions g.A.Links.word g.A.Allocator.zeros g.A.Links.follows c.args.self.now c.args.ptr c.args.held c.args.align c.args.size c.in-Ok.address c.requires.block.0 c.requires.sound c.requires.block.1 c.requires.held c.malloc.new.self c.in-Ok.ensures.served system c.copy_counted.ensures.regions c.copy_counted.ensures.follows copied).sound
 
-pub free_block-requires-clause-block : goal.free_block-requires-clause-block
-free_block-requires-clause-block g c =
+pub free_and_settle-requires-clause-linked : goal.free_and_settle-requires-clause-linked
+free_and_settle-requires-clause-linked g c =
+    let middle = c.malloc.new.self in
+    let system = c.copy_counted.new.self in
+    let count = c.words_in.ensures ∙ ap words_in c.min.ensures in
+    let copied = subst (λ (n : ℕ). AreCopied (g.A.Links.regions middle.system) (g.A.Links.word middle.system) c.args.ptr c.in-Ok.address n (g.A.Links.word system)) count c.copy_counted.ensures.copied in
+    copied_binned g.A.Links.regions g.A.Links.word g.A.Allocator.zeros g.A.Links.follows c.args.self.now c.args.ptr c.args.held c.args.align c.args.size c.in-Ok.address c.requires.block.0 c.requires.sound c.requires.block.1 c.requires.held c.malloc.new.self c.in-Ok.ensures.served system c.copy_counted.ensures.regions c.copy_counted.ensures.follows copied c.index_stays.ensures c.malloc.ensures.linked
+
+pub free_and_settle-requires-clause-block : goal.free_and_settle-requires-clause-block
+free_and_settle-requires-clause-block g c =
     let middle = c.malloc.new.self in
     let system = c.copy_counted.new.self in
     let count = c.words_in.ensures ∙ ap words_in c.min.ensures in
@@ -41,14 +54,24 @@ returns-in-Ok-clause-elsewhere g c =
     let system = c.copy_counted.new.self in
     let count = c.words_in.ensures ∙ ap words_in c.min.ensures in
     let copied = subst (λ (n : ℕ). AreCopied (g.A.Links.regions middle.system) (g.A.Links.word middle.system) c.args.ptr c.in-Ok.address n (g.A.Links.word system)) count c.copy_counted.ensures.copied in
+    let filled = record middle { system = system } in
+    let new = c.free_and_settle.new.self in
+    let start = c.args.self.now.system in
+    let frees = g.A.Allocator.frees start in
+    let parts = g.A.Allocator.parts start in
+    let unit = g.A.Allocator.unit start in
+    let found = rules_found g.A.Allocator.zeros g.A.Allocator.frees g.A.Allocator.parts g.A.Allocator.unit g.A.Links.follows g.met.A.Allocator.fixed g.A.Links.regions start (state_of g.A.Links.word c.args.self.now) (padded (asked c.args.size c.args.align)) middle.system (state_of g.A.Links.word middle) c.in-Ok.ensures.handed.found in
+    let freed = by_rules g.A.Allocator.zeros g.A.Allocator.frees g.A.Allocator.parts g.A.Allocator.unit start middle.system found (λ frees parts unit. IsFreed g.A.Links.regions g.A.Links.word g.A.Links.follows frees parts unit filled c.args.ptr new)
+    (by_rules g.A.Allocator.zeros g.A.Allocator.frees g.A.Allocator.parts g.A.Allocator.unit middle.system system (g.met.A.Allocator.fixed middle.system system _ c.copy_counted.ensures.follows) (λ frees parts unit. IsFreed g.A.Links.regions g.A.Links.word g.A.Links.follows frees parts unit filled c.args.ptr new)
+    c.free_and_settle.ensures.freed) in
     record {
       middle = middle;
       served = c.in-Ok.ensures.served;
-      filled = record middle { system = system };
+      filled = filled;
       copied = copied;
       same = copied_heap g.A.Links.regions g.A.Links.word g.A.Allocator.zeros g.A.Links.follows c.args.self.now c.args.ptr c.args.held c.args.align c.args.size c.in-Ok.address c.requires.block.0 c.requires.sound c.requires.block.1 c.requires.held c.malloc.new.self c.in-Ok.ensures.served system c.copy_counted.ensures.regions c.copy_counted.ensures.follows copied;
-      freed = c.free_block.ensures.freed;
-      block = moved_block g.A.Links.regions g.A.Links.word g.A.Allocator.zeros g.A.Links.follows c.args.self.now c.args.ptr c.args.held c.args.align c.args.size c.in-Ok.address c.requires.block.0 c.requires.sound c.requires.block.1 c.requires.held c.malloc.new.self c.in-Ok.ensures.served system c.copy_counted.ensures.regions c.copy_counted.ensures.follows copied c.free_block.new.self c.free_block.ensures.freed;
-      contents = moved_contents g.A.Links.regions g.A.Links.word g.A.Allocator.zeros g.A.Links.follows c.args.self.now c.args.ptr c.args.held c.args.align c.args.size c.in-Ok.address c.requires.block.0 c.requires.sound c.requires.block.1 c.requires.held c.malloc.new.self c.in-Ok.ensures.served system c.copy_counted.ensures.regions c.copy_counted.ensures.follows copied c.free_block.new.self c.free_block.ensures.freed;
-      kept = moved_kept g.A.Links.regions g.A.Links.word g.A.Allocator.zeros g.A.Links.follows c.args.self.now c.args.ptr c.args.held c.args.align c.args.size c.in-Ok.address c.requires.block.0 c.requires.sound c.requires.block.1 c.requires.held c.malloc.new.self c.in-Ok.ensures.served system c.copy_counted.ensures.regions c.copy_counted.ensures.follows copied c.free_block.new.self c.free_block.ensures.freed;
+      freed = freed;
+      block = moved_block g.A.Links.regions g.A.Links.word g.A.Allocator.zeros g.A.Links.follows c.args.self.now c.args.ptr c.args.held c.args.align c.args.size c.in-Ok.address c.requires.block.0 c.requires.sound c.requires.block.1 c.requires.held c.malloc.new.self c.in-Ok.ensures.served system c.copy_counted.ensures.regions c.copy_counted.ensures.follows copied frees parts unit new freed;
+      contents = moved_contents g.A.Links.regions g.A.Links.word g.A.Allocator.zeros g.A.Links.follows c.args.self.now c.args.ptr c.args.held c.args.align c.args.size c.in-Ok.address c.requires.block.0 c.requires.sound c.requires.block.1 c.requires.held c.malloc.new.self c.in-Ok.ensures.served system c.copy_counted.ensures.regions c.copy_counted.ensures.follows copied frees parts unit new freed;
+      kept = moved_kept g.A.Links.regions g.A.Links.word g.A.Allocator.zeros g.A.Links.follows c.args.self.now c.args.ptr c.args.held c.args.align c.args.size c.in-Ok.address c.requires.block.0 c.requires.sound c.requires.block.1 c.requires.held c.malloc.new.self c.in-Ok.ensures.served system c.copy_counted.ensures.regions c.copy_counted.ensures.follows copied frees parts unit new freed;
     }

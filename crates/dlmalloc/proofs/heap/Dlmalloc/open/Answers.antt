@@ -1,8 +1,10 @@
-use Rattle.std.proofs.Common.{◌≡◌, ◌+◌, ◌-◌, ◌<◌, refl, sym, subst, arith}
+use Rattle.std.proofs.Common.{◌≡◌, ◌+◌, ◌-◌, ◌<◌, inl, refl, sym, subst, arith, []}
 use Rattle.dlmalloc.specs.State.{trim_threshold}
-use Rattle.dlmalloc.specs.Grown.{IsJoined}
+use Rattle.dlmalloc.specs.Grown.{IsAdmitted}
+use Rattle.dlmalloc.specs.Heap.{state_of}
+use Rattle.dlmalloc.specs.Binned.{FreeMoves, IsSameBins}
 use Rattle.dlmalloc.specs.declared.heap.Dlmalloc.{Dlmalloc}
-use Rattle.dlmalloc.proofs.Growing.{opened_sound, opened_state, opened_used}
+use Rattle.dlmalloc.proofs.Growing.{opened_sound, opened_state, opened_used, opened_free}
 use Rattle.dlmalloc.proofs.Retold.{head_tags}
 use Rattle.dlmalloc.proofs.heap.Dlmalloc.open.Goals as goal
 
@@ -48,15 +50,18 @@ returns g c =
     let some : 0 < grant.size = omega arith in
     let sound = opened_sound regions word heap after c.requires.sound grant fresh made.regions made.head made.foot_head c.requires.none refl refl refl refl refl refl refl refl refl refl c.countdown_from-self.ensures refl in
     record {
-      joined = subst (λ (h : Dlmalloc _). IsJoined regions word g.A.Links.follows heap grant h) (sym is) (record {
+      joined = subst (λ (h : Dlmalloc _). IsAdmitted regions word g.A.Links.follows heap grant h) (sym is) (record {
         state = opened_state regions word heap after c.requires.sound grant fresh made.regions made.head made.foot_head c.requires.none refl refl refl refl refl refl refl refl refl refl c.countdown_from-self.ensures refl;
         sound = sound;
         there = some;
         room = omega arith;
+        begins = inl refl;
         regions_same = made.regions;
         followed = made.follows;
         used = opened_used regions word heap after c.requires.sound grant fresh made.regions made.head made.foot_head c.requires.none refl refl refl refl refl refl refl refl refl refl c.countdown_from-self.ensures refl;
         words = λ k inside apart recorded. (let tags = head_tags regions word after sound some k apart in made.elsewhere k inside tags.0 (λ is. tags.1 (omega arith)));
         new_words = λ k inside low high a b. made.elsewhere k inside a (λ is. b (omega arith));
       });
+      free = subst (λ (h : Dlmalloc _). FreeMoves (state_of word heap) (state_of word h) [] []) (sym is) (opened_free regions word heap after c.requires.sound grant fresh made.regions made.head made.foot_head c.requires.none refl refl refl refl refl refl refl refl refl refl c.countdown_from-self.ensures refl);
+      same = subst (λ (h : Dlmalloc _). IsSameBins heap h) (sym is) (record { bins = refl; victim = refl });
     }

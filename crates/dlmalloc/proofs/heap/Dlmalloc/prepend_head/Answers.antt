@@ -1,4 +1,4 @@
-use Rattle.std.proofs.Common.{◌+◌, arith}
+use Rattle.std.proofs.Common.{◌+◌, refl, arith}
 use Rattle.heap_memory.specs.RegionLaws.{whole_each}
 use Rattle.dlmalloc.specs.Heap.{segments_of}
 use Rattle.dlmalloc.proofs.Beforehand.{part_head, before_head, head_ends}
@@ -36,4 +36,5 @@ returns g c =
     record {
       prepended = before_head regions word g.A.Links.follows heap c.requires.sound c.args.grant.now c.requires.fresh c.args.n c.requires.whole c.requires.least c.requires.room (whole_each (regions heap.system) (g.A.Links.whole heap.system))
           c.put_two.new.memory put.regions put.first put.second put.follows c.requires.behind put.elsewhere;
+      same = record { bins = refl; victim = refl };
     }

@@ -1,5 +1,5 @@
 use Rattle.std.proofs.Common.{[], refl}
-use Rattle.dlmalloc.proofs.PutBefore.{put_before_is}
+use Rattle.dlmalloc.proofs.PutBefore.{prepended_binned, put_before_is}
 use Rattle.dlmalloc.proofs.heap.Dlmalloc.put_before.Goals as goal
 
 pub dispose_chunk-requires-clause-sound : goal.dispose_chunk-requires-clause-sound
@@ -7,6 +7,10 @@ dispose_chunk-requires-clause-sound g c = c.prepend.ensures.prepended.sound
 
 pub dispose_chunk-requires-clause-chunk : goal.dispose_chunk-requires-clause-chunk
 dispose_chunk-requires-clause-chunk g c = c.prepend.ensures.prepended.rest
+
+pub dispose_chunk-requires-clause-linked : goal.dispose_chunk-requires-clause-linked
+dispose_chunk-requires-clause-linked g c =
+    prepended_binned g.A.Links.regions g.A.Links.word g.A.Links.follows c.args.self.now c.prepend.new.self c.args.grant.now c.args.n c.prepend.ensures.prepended c.index_stays.ensures c.requires.sound c.prepend.ensures.same c.requires.linked
 
 pub returns : goal.returns
 returns g c =
@@ -18,4 +22,5 @@ returns g c =
     record {
       put = put_before_is g.A.Links.regions g.A.Links.word g.A.Links.follows heap middle new c.args.grant.now c.args.n c.requires.least first last.state last.less last.moved last.records
           (g.A.Links.follows_on heap.system middle.system new.system [] [] [] first.followed last.moved.followed refl);
+      linked = last.linked;
     }

@@ -1,8 +1,11 @@
-use Rattle.std.proofs.Common.{◌≡◌, ◌+◌, true, false, nat_le, nat_lt, Some, sym, ◌∙◌, ap, arith}
+use Rattle.std.proofs.Common.{◌≡◌, ◌+◌, true, false, nat_le, nat_lt, Some, refl, sym, ◌∙◌, ap, arith}
 use Rattle.std.proofs.lemmas.Bool.Decides.{nat_tests}
 use Rattle.dlmalloc_chunks.specs.declared.extent.Kind.TheVariants.{Free, Top}
 use Rattle.dlmalloc.specs.Heap.{state_of}
+use Rattle.dlmalloc.specs.State.{HeapState}
 use Rattle.dlmalloc.proofs.Places.{extent}
+use Rattle.dlmalloc.proofs.Served.{as_turned}
+use Rattle.dlmalloc.proofs.Rebinned.{binned_beside}
 use Rattle.dlmalloc.proofs.Answering.{head_there, behind_there, behind_small}
 use Rattle.dlmalloc.proofs.Resizing.{shrinks, stays, grows, has_no_room, not_free, is_free_told, chunk_told, top_behind, free_behind, used_behind}
 use Rattle.dlmalloc.proofs.heap.Dlmalloc.resize_chunk.Goals as goal
@@ -96,3 +99,20 @@ returns-clause-resized g c =
     let much = c.if-free-more.false in
     let room : nat_le c.args.n (c.size-size.result + c.size-free.result) ≡ true = grind (arith, nat_tests) in
     λ yes. grows (state_of g.A.Links.word c.args.self.now) c.args.at c.size-size.result c.args.n there more (extent (c.args.at + c.size-size.result) c.size-free.result Free) (free_behind g.A.Links.regions g.A.Links.word c.args.self.now c.requires.sound c.args.at c.size-size.result there c.if-next-self.false (is_free_told _ (sym c.inuse.ensures.value ∙ c.if-inuse.false)) c.size-free.result c.size-free.ensures.value) room ∙ ap Some (sym c.grow_into_free.ensures.state)
+
+pub returns-else-size-n-ge-LEAST_CHUNK-clause-moved : goal.returns-else-size-n-ge-LEAST_CHUNK-clause-moved
+returns-else-size-n-ge-LEAST_CHUNK-clause-moved g c = record { sound = c.requires.sound; words = λ k inside was own. refl; regions_same = refl; followed = g.A.Links.follows_none c.args.self.now.system }
+
+pub returns-then-inuse-clause-moved : goal.returns-then-inuse-clause-moved
+returns-then-inuse-clause-moved g c = record { sound = c.requires.sound; words = λ k inside was own. refl; regions_same = refl; followed = g.A.Links.follows_none c.args.self.now.system }
+
+pub returns-then-free-more-clause-moved : goal.returns-then-free-more-clause-moved
+returns-then-free-more-clause-moved g c = record { sound = c.requires.sound; words = λ k inside was own. refl; regions_same = refl; followed = g.A.Links.follows_none c.args.self.now.system }
+
+pub returns-then-next-self-clause-moved : goal.returns-then-next-self-clause-moved
+returns-then-next-self-clause-moved g c = as_turned g.A.Links.regions g.A.Links.word g.A.Allocator.zeros g.A.Links.follows c.args.self.now c.requires.sound c.args.n c.grow_into_top.new.self c.grow_into_top.ensures.moved
+
+pub returns-then-next-self-clause-linked : goal.returns-then-next-self-clause-linked
+returns-then-next-self-clause-linked g c =
+    let e = c.grow_into_top.ensures in
+    binned_beside c.index_stays.ensures g.A.Links.regions g.A.Links.word g.A.Links.follows c.args.self.now c.grow_into_top.new.self c.requires.sound e.moved e.bins e.free (ap (λ (s : HeapState). s.victim) e.state) c.requires.linked

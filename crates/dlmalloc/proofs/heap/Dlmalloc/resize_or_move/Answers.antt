@@ -2,7 +2,7 @@ use Rattle.std.proofs.Common.{◌≡◌, ℕ, ◌+◌, ◌-◌, ◌<◌, ◌≤�
 use Rattle.dlmalloc_chunks.specs.Request.{limit}
 use Rattle.dlmalloc.specs.Resized.{in_place}
 use Rattle.dlmalloc.specs.Heap.{state_of}
-use Rattle.dlmalloc.proofs.Elsewhere.{chunk_there, stays_there}
+use Rattle.dlmalloc.proofs.Elsewhere.{chunk_there, held_there, stays_there}
 use Rattle.dlmalloc.proofs.heap.Dlmalloc.resize_or_move.Goals as goal
 
 pub resize_chunk-requires-clause-chunk : goal.resize_chunk-requires-clause-chunk
@@ -20,7 +20,8 @@ returns-then-resize_chunk-clause-resized g c =
     inl (
       c.requires.least,
       refl,
-      stays_there g.A.Links.regions g.A.Links.word g.A.Links.follows old new c.args.ptr c.requires.block.0 c.args.held c.args.size held.0 c.requires.sound c.requires.block.1 small
+      stays_there g.A.Links.regions g.A.Links.word g.A.Links.follows old new c.args.ptr c.requires.block.0 c.args.held c.args.size held.0 c.requires.sound c.requires.block.1
+          (held_there (state_of g.A.Links.word old) c.args.ptr c.requires.block.0 c.args.held c.requires.block.1 c.requires.held) small
           (subst (λ (n : ℕ). c.args.size + 8 ≤ n) request.is request.holds)
           (subst (λ (n : ℕ). n ≤ c.args.size + 32) request.is request.near)
           (subst (λ (n : ℕ). n ≤ held.0) request.is held.2)

@@ -1,7 +1,7 @@
 use Rattle.std.proofs.Common.{◌+◌, List, ◌∙◌, sym, subst, arith, rules}
 use Rattle.heap_memory.specs.declared.grant.Grant.{Grant}
 use Rattle.dlmalloc_chunks.specs.Chunk.{HasHead}
-use Rattle.dlmalloc.proofs.Splitting.{end_small, first_head, second_head, rest_whole, split_state, split_first, split_second, split_others, split_sound, split_words}
+use Rattle.dlmalloc.proofs.Splitting.{end_small, first_head, second_head, rest_whole, split_state, split_first, split_second, split_others, split_sound, split_words, split_free}
 use Rattle.dlmalloc.proofs.heap.Dlmalloc.split.Goals as goal
 
 pub set_inuse-requires-clause-head : goal.set_inuse-requires-clause-head
@@ -54,3 +54,8 @@ returns-clause-moved g c = record {
   regions_same = c.set_size_and_pinuse_of_inuse_chunk.ensures.regions ∙ c.set_inuse.ensures.regions;
   followed = search rules;
 }
+
+pub returns-clause-free : goal.returns-clause-free
+returns-clause-free g c =
+    split_free g.A.Links.regions g.A.Links.word c.args.self.now c.requires.sound c.args.at c.args.size c.args.n c.requires.chunk c.requires.whole c.requires.least c.requires.room
+    c.set_inuse.new.memory c.set_size_and_pinuse_of_inuse_chunk.new.memory c.set_inuse.ensures.regions c.set_size_and_pinuse_of_inuse_chunk.ensures.regions _ c.set_inuse.ensures.stored c.set_size_and_pinuse_of_inuse_chunk.ensures.stored

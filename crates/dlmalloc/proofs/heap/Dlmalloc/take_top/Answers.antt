@@ -1,6 +1,6 @@
-use Rattle.std.proofs.Common.{rules, ◌+◌, sym, subst, ◌∙◌, arith}
+use Rattle.std.proofs.Common.{rules, ◌+◌, refl, sym, subst, ◌∙◌, arith}
 use Rattle.heap_memory.specs.Regions.{IsWordOf}
-use Rattle.dlmalloc.proofs.TopTaking.{top_head, rest_head, top_taken, others_still, head_boundary, foot_boundary, stores}
+use Rattle.dlmalloc.proofs.TopTaking.{top_head, rest_head, top_taken, top_free, others_still, head_boundary, foot_boundary, stores}
 use Rattle.dlmalloc.proofs.heap.Dlmalloc.take_top.Goals as goal
 
 pub set_size_and_pinuse_of_inuse_chunk-requires-clause-head : goal.set_size_and_pinuse_of_inuse_chunk-requires-clause-head
@@ -25,6 +25,8 @@ returns g c =
       head = head_boundary g.A.Links.regions g.A.Links.word c.args.self.now c.requires.sound c.requires.there c.args.n c.requires.whole c.requires.least c.requires.fits system same stored;
       foot = foot_boundary g.A.Links.regions g.A.Links.word c.args.self.now c.requires.sound c.requires.there c.args.n c.requires.whole c.requires.least c.requires.fits system same stored;
       others = others_still g.A.Links.regions g.A.Links.word c.args.self.now c.requires.sound c.requires.there c.args.n c.requires.whole c.requires.least c.requires.fits system same stored;
+      free = top_free g.A.Links.regions g.A.Links.word c.args.self.now c.requires.sound c.requires.there c.args.n c.requires.whole c.requires.least c.requires.fits system same stored;
+      bins = refl;
       moved = record { sound = t.sound; words = t.words; regions_same = same; followed = search rules };
       counted = omega arith;
     }

@@ -1,0 +1,76 @@
+-- A chunk is freed, and the bins with it.
+use Rattle.std.proofs.Common.{◌≡◌, ℕ, ◌+◌, ◌-◌, ◌<◌, ◌≤◌, inl, inr, ◌==◌, if◌then◌else◌, List, [], ◌∷◌, Some, sym, ◌∙◌, ap, arith}
+use Rattle.heap_memory.specs.declared.grant.Grant.{Grant}
+use Rattle.heap_memory.specs.Regions.{IsWordOf}
+use Rattle.heap_memory.specs.Events.{Event}
+use Rattle.dlmalloc_chunks.specs.declared.extent.Kind.TheVariants.{Used}
+use Rattle.dlmalloc_chunks.specs.Head.{pinuse_of, free_of, size_of}
+use Rattle.bins.specs.Index.{IsIn}
+use Rattle.bins.specs.Laws.{IndexStays}
+use Rattle.dlmalloc.specs.Extents.{extent_at}
+use Rattle.dlmalloc.specs.State.{HeapState, extents_in}
+use Rattle.dlmalloc.specs.Heap.{segments_of, state_of, IsSound}
+use Rattle.dlmalloc.specs.Binned.{IsBinnedBut, IsRebinned, IsVictimAfter, FreeMoves}
+use Rattle.dlmalloc.specs.Served.{IsMoved}
+use Rattle.dlmalloc.specs.declared.heap.Dlmalloc.{Dlmalloc}
+use Rattle.dlmalloc.proofs.Places.{extent}
+use Rattle.dlmalloc.proofs.Apart.{stands_there}
+use Rattle.dlmalloc.proofs.Answering.{head_there, foot_there, behind_there, from_at}
+use Rattle.dlmalloc.proofs.Unbinning.{some_size, told_stays, accounted}
+use Rattle.dlmalloc.proofs.Rebinned.{binned_moved}
+
+-- where the free chunks beside a chunk begin and end, as words tell it
+abbrev pub IsFrom : (ℕ → ℕ) → ℕ → ℕ → Type 0
+IsFrom words at from = from ≡ (if pinuse_of (words (at + 8)) then at else at - words at)
+
+abbrev pub IsTo : (ℕ → ℕ) → ℕ → ℕ → ℕ → Type 0
+IsTo words top at to = to ≡ (if at == top then at else if free_of (words (at + 8)) then at + size_of (words (at + 8)) else at)
+
+module _ {A : Type 0} (regions : A → List Grant) (word : A → ℕ → ℕ) (follows : A → List Event → A → Type 0) (heap : Dlmalloc A) (sound : IsSound regions word heap) (at size : ℕ)
+    (there : extent_at at (extents_in (state_of word heap)) ≡ Some (extent at size Used)) (from to : ℕ) (from_is : IsFrom (word heap.system) at from) (to_is : IsTo (word heap.system) heap.top (at + size) to) where
+  pub some : 0 < heap.size
+  some = some_size regions word heap sound at (extent at size Used) there
+
+  -- the two begin at addresses of their own
+  pub two : IsIn (at + size) (from ∷ []) → ⊥
+  two is = elim is [
+    | inl same ↦ (let low = from_at regions word heap sound at size there from from_is in let long = used_long in omega arith)
+    | inr none ↦ none
+  ]
+    where
+      used_long : 0 < size
+      used_long = (let s = (stands_there (regions heap.system) (word heap.system) (segments_of word heap) sound.segments (extent at size Used) there).1.size.1 in omega arith)
+
+  -- the chunks beside it left their bins
+  module _ (middle : Dlmalloc A) (left : IsRebinned regions word follows heap middle) where
+    pub still_there : extent_at at (extents_in (state_of word middle)) ≡ Some (extent at size Used)
+    still_there = ap (λ (s : HeapState). extent_at at (extents_in s)) left.state ∙ there
+
+    top_same : middle.top ≡ heap.top
+    top_same = ap (λ (h : Dlmalloc A). h.top) left.fields
+
+    same : (k : ℕ) → at ≤ k → k ≤ at + size + 8 → IsWordOf (regions heap.system) k → word middle.system k ≡ word heap.system k
+    same = told_stays regions word heap sound at size there (regions heap.system) (word middle.system) left.words
+
+    head_same : word middle.system (at + 8) ≡ word heap.system (at + 8)
+    head_same = same (at + 8) (omega arith) (omega arith) (head_there regions word heap sound at size there).granted
+
+    foot_same : word middle.system at ≡ word heap.system at
+    foot_same = same at (omega arith) (omega arith) (foot_there regions word heap sound at size there).granted
+
+    behind_same : word middle.system (at + size + 8) ≡ word heap.system (at + size + 8)
+    behind_same = same (at + size + 8) (omega arith) (omega arith) (behind_there regions word heap sound at size there).granted
+
+    pub from_still : IsFrom (word middle.system) at from
+    from_still = from_is ∙ (λ i. if pinuse_of ((sym head_same) i) then at else at - (sym foot_same) i)
+
+    pub to_still : IsTo (word middle.system) middle.top (at + size) to
+    to_still = to_is ∙ (λ i. if at + size == (sym top_same) i then at + size else if free_of ((sym behind_same) i) then at + size + size_of ((sym behind_same) i) else at + size)
+
+    -- they were joined to it
+    module _ (stays : IndexStays) (loose : IsBinnedBut ((at + size) ∷ from ∷ []) regions word middle) (joined : Dlmalloc A) (moved : IsMoved regions word follows middle joined)
+        (moves : FreeMoves (state_of word middle) (state_of word joined) (from ∷ (at + size) ∷ []) (from ∷ [])) (victim : IsVictimAfter from to middle.victim joined.victim) (bins : joined.bins ≡ middle.bins) where
+      pub joined_loose : IsBinnedBut (from ∷ []) regions word joined
+      joined_loose = binned_moved stays regions word middle joined left.sound moved.sound (λ k was is boundary tag tag'. moved.words k was boundary) bins
+          ((at + size) ∷ from ∷ []) (from ∷ []) (from ∷ (at + size) ∷ []) (from ∷ []) moves
+          (accounted regions word middle left.sound at size still_there from from_still to to_still (some_size regions word middle left.sound at (extent at size Used) still_there) joined moves victim) loose

@@ -1,6 +1,0 @@
-use Rattle.dlmalloc.specs.Heap.{IsSound}
-use Rattle.heap_memory.specs.FlatSystem.{regions_of, word_of}
-use Rattle.dlmalloc.proofs.grant_tests.serve_grants.Given as goal
-
-abbrev pub invariant-loop-call : goal.invariant-loop-call
-invariant-loop-call g l = IsSound regions_of word_of l.heap

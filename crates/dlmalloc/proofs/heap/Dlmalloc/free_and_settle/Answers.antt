@@ -1,0 +1,16 @@
+use Rattle.std.proofs.Common.{◌-◌}
+use Rattle.dlmalloc.specs.AfterFree.{IsSettled}
+use Rattle.dlmalloc.proofs.AllFreed.{by_rules, freed_whole}
+use Rattle.dlmalloc.proofs.heap.Dlmalloc.free_and_settle.Goals as goal
+
+pub returns-clause-freed : goal.returns-clause-freed
+returns-clause-freed g c =
+    let old = c.args.self.now in
+    let middle = c.free_block-chunk.new.self in
+    let new = c.settle.new.self in
+    let at = c.args.ptr - 16 in
+    let disposed = c.free_block-chunk.ensures.freed in
+    let fixed = g.met.A.Allocator.fixed old.system middle.system _ disposed.followed in
+    freed_whole g.A.Links.regions g.A.Links.word g.A.Links.follows g.A.Links.follows_on (g.A.Allocator.frees old.system) (g.A.Allocator.parts old.system) (g.A.Allocator.unit old.system) old middle new c.args.ptr c.requires.sound disposed c.free_block-chunk.result c.free_block-chunk.ensures.around
+    (by_rules g.A.Allocator.zeros g.A.Allocator.frees g.A.Allocator.parts g.A.Allocator.unit old.system middle.system fixed
+    (λ frees parts unit. IsSettled g.A.Links.regions g.A.Links.word g.A.Links.follows frees parts unit middle at new) (c.settle.ensures.settled at c.free_block-chunk.ensures.around))

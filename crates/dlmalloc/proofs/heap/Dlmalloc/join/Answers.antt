@@ -1,0 +1,18 @@
+use Rattle.dlmalloc.proofs.Joining.{as_joined, admitted_binned}
+use Rattle.dlmalloc.proofs.heap.Dlmalloc.join.Goals as goal
+
+pub returns-then-self-eq0 : goal.returns-then-self-eq0
+returns-then-self-eq0 g c =
+    let e = c.open.ensures in
+    record {
+      joined = as_joined g.A.Links.regions g.A.Links.word g.A.Links.follows c.args.self.now c.args.grant.now c.open.new.self e.joined;
+      linked = admitted_binned c.index_stays.ensures g.A.Links.regions g.A.Links.word g.A.Links.follows c.args.self.now c.args.grant.now c.open.new.self c.requires.sound e.joined e.free e.same c.requires.linked;
+    }
+
+pub returns-then-is_behind : goal.returns-then-is_behind
+returns-then-is_behind g c =
+    let e = c.extend.ensures in
+    record {
+      joined = as_joined g.A.Links.regions g.A.Links.word g.A.Links.follows c.args.self.now c.args.grant.now c.extend.new.self e.joined;
+      linked = admitted_binned c.index_stays.ensures g.A.Links.regions g.A.Links.word g.A.Links.follows c.args.self.now c.args.grant.now c.extend.new.self c.requires.sound e.joined e.free e.same c.requires.linked;
+    }

@@ -1,0 +1,15 @@
+use Rattle.std.proofs.Common.{◌≡◌, ◌+◌, ◌-◌, ◌*◌, ◌/◌, ℕ, sym, ◌∙◌, ap, arith}
+use Rattle.dlmalloc.proofs.Trimming.{cut_is, cut_whole, cut_room}
+use Rattle.dlmalloc.proofs.heap.Dlmalloc.spare.Goals as goal
+
+pub returns : goal.returns
+returns g c =
+    let heap = c.args.self.now in
+    let told = c.saturating_sub.ensures in
+    let is : c.saturating_sub.result ≡ heap.top_size - (c.args.pad + 81) = omega arith in
+    let bytes : c.saturating_sub.result / heap.granularity * heap.granularity ≡ (heap.top_size - (c.args.pad + 81)) / heap.granularity * heap.granularity = ap (λ (n : ℕ). n / heap.granularity * heap.granularity) is in
+    record {
+      is = bytes ∙ sym (cut_is g.A.Links.regions g.A.Links.word heap c.requires.sound c.requires.there c.args.pad);
+      whole = cut_whole g.A.Links.regions g.A.Links.word heap c.requires.sound c.requires.there c.args.pad (c.saturating_sub.result / heap.granularity * heap.granularity) bytes;
+      room = cut_room g.A.Links.regions g.A.Links.word heap c.requires.sound c.requires.there c.args.pad (c.saturating_sub.result / heap.granularity * heap.granularity) bytes;
+    }

@@ -1,0 +1,168 @@
+use Rattle.std.proofs.Common.{ℕ, ◌+◌, ◌≡◌, [], ◌∷◌, Some, sym, ◌∙◌, ap, subst, arith}
+use Rattle.dlmalloc_chunks.specs.declared.extent.Kind.TheVariants.{Free}
+use Rattle.dlmalloc.specs.State.{HeapState, extents_in}
+use Rattle.dlmalloc.specs.Extents.{extent_at}
+use Rattle.dlmalloc.specs.Taken.{taken}
+use Rattle.dlmalloc.specs.Blocks.{HasOneMore}
+use Rattle.dlmalloc.specs.Heap.{state_of}
+use Rattle.dlmalloc.specs.Binned.{IsBinnedBut}
+use Rattle.dlmalloc.proofs.Places.{extent}
+use Rattle.dlmalloc.proofs.Taking.{end_small}
+use Rattle.dlmalloc.proofs.Turning.{turned}
+use Rattle.dlmalloc.proofs.Rebinned.{not_rebinned}
+use Rattle.dlmalloc.proofs.TakingBins.{whole_taken, small_taken, small_other, large_taken, large_other, old_victim_free, old_victim_none}
+use Rattle.dlmalloc.proofs.heap.Dlmalloc.take_binned.Goals as goal
+
+pub unbin-requires-clause-binned : goal.unbin-requires-clause-binned
+unbin-requires-clause-binned g c = ([], c.requires.linked, λ none. none)
+
+pub cut_chunk-requires-clause-sound : goal.cut_chunk-requires-clause-sound
+cut_chunk-requires-clause-sound g c = c.unbin.ensures.same.sound
+
+pub cut_chunk-requires-clause-chunk : goal.cut_chunk-requires-clause-chunk
+cut_chunk-requires-clause-chunk g c = ap (λ (s : HeapState). extent_at c.args.at (extents_in s)) c.unbin.ensures.same.state ∙ c.requires.chunk
+
+-- ---- no rest
+
+pub returns-then-rest-lt-LEAST_CHUNK : goal.returns-then-rest-lt-LEAST_CHUNK
+returns-then-rest-lt-LEAST_CHUNK g c =
+    let regions = g.A.Links.regions in
+    let word = g.A.Links.word in
+    let old = c.args.self.now in
+    let middle = c.unbin.new.self in
+    let new = c.cut_chunk.new.self in
+    let one = c.unbin.ensures in
+    let e = c.cut_chunk.ensures in
+    let less = c.if-rest-lt-LEAST_CHUNK.true in
+    let fits = c.requires.fits in
+    record {
+      state = e.state ∙ ap (λ (s : HeapState). taken s (extent c.args.at c.args.size Free) c.args.n) one.same.state;
+      more = subst (λ (s : HeapState). HasOneMore s (state_of word new) c.args.at) one.same.state e.more;
+      moved = turned regions word g.A.Links.follows g.A.Links.follows_on old middle new new one.same e.moved (not_rebinned regions word g.A.Links.follows new e.moved.sound (g.A.Links.follows_none new.system));
+      linked = whole_taken c.index_stays.ensures regions word g.A.Links.follows middle new one.same.sound c.args.at c.args.size c.args.n e.moved e.state e.free e.bins (λ is. c.requires.other (is ∙ ap (λ h. h.victim) one.same.fields)) (one.loose [] c.requires.linked (λ none. none)) (omega arith);
+      counted = omega arith;
+    }
+
+-- ---- the rest is the victim, and the old one goes into its bin
+
+pub bin_some-requires-clause-sound : goal.bin_some-requires-clause-sound
+bin_some-requires-clause-sound g c = c.cut_chunk.ensures.moved.sound
+
+pub bin_some-requires-clause-free : goal.bin_some-requires-clause-free
+bin_some-requires-clause-free g c = λ some.
+    let same = c.unbin.ensures.same in
+    let e = c.cut_chunk.ensures in
+    let at = ap (λ h. h.victim) same.fields in
+    let size = ap (λ h. h.victim_size) same.fields in
+    subst (λ (v : ℕ). extent_at v (extents_in (state_of g.A.Links.word c.cut_chunk.new.self)) ≡ Some (extent v c.args.self.now.victim_size Free)) at
+    (subst (λ (n : ℕ). extent_at c.unbin.new.self.victim (extents_in (state_of g.A.Links.word c.cut_chunk.new.self)) ≡ Some (extent c.unbin.new.self.victim n Free)) size
+    (old_victim_free c.index_stays.ensures g.A.Links.regions g.A.Links.word g.A.Links.follows c.unbin.new.self c.cut_chunk.new.self same.sound e.moved e.bins c.args.at (c.args.at + c.args.n) _ e.free (λ is. c.requires.other (is ∙ at)) (λ none. some (sym size ∙ none))))
+
+pub bin_some-requires-clause-none : goal.bin_some-requires-clause-none
+bin_some-requires-clause-none g c = λ none n free.
+    let same = c.unbin.ensures.same in
+    let e = c.cut_chunk.ensures in
+    let at = ap (λ h. h.victim) same.fields in
+    let size = ap (λ h. h.victim_size) same.fields in
+    old_victim_none c.index_stays.ensures g.A.Links.regions g.A.Links.word g.A.Links.follows c.unbin.new.self c.cut_chunk.new.self same.sound e.moved e.bins c.args.at (c.args.at + c.args.n) (size ∙ none) n
+    (subst (λ (v : ℕ). extent_at v (extents_in (state_of g.A.Links.word c.cut_chunk.new.self)) ≡ Some (extent v n Free)) (sym at) free)
+
+pub bin_some-requires-clause-other : goal.bin_some-requires-clause-other
+bin_some-requires-clause-other g c = λ some is.
+    let same = c.unbin.ensures.same in
+    let e = c.cut_chunk.ensures in
+    let at = ap (λ h. h.victim) same.fields in
+    let size = ap (λ h. h.victim_size) same.fields in
+    let more = c.if-rest-lt-LEAST_CHUNK.false in
+    let fits = c.requires.fits in
+    small_other c.index_stays.ensures g.A.Links.regions g.A.Links.word g.A.Links.follows c.unbin.new.self c.cut_chunk.new.self same.sound c.args.at c.args.size c.args.n e.moved e.state e.free e.bins (λ is. c.requires.other (is ∙ at)) (omega arith) c.if-n-lt-LEAST_LARGE.true
+    (λ none. some (sym size ∙ none)) (at ∙ is)
+
+pub bin_some-requires-clause-loose : goal.bin_some-requires-clause-loose
+bin_some-requires-clause-loose g c =
+    let one = c.unbin.ensures in
+    let e = c.cut_chunk.ensures in
+    let at = ap (λ h. h.victim) one.same.fields in
+    let more = c.if-rest-lt-LEAST_CHUNK.false in
+    let fits = c.requires.fits in (
+      [],
+      subst (λ (v : ℕ). IsBinnedBut (v ∷ []) g.A.Links.regions g.A.Links.word c.cut_chunk.new.self) at
+          (small_taken c.index_stays.ensures g.A.Links.regions g.A.Links.word g.A.Links.follows c.unbin.new.self c.cut_chunk.new.self one.same.sound c.args.at c.args.size c.args.n e.moved e.state e.free e.bins (λ is. c.requires.other (is ∙ at)) (omega arith) c.if-n-lt-LEAST_LARGE.true
+          (one.loose [] c.requires.linked (λ none. none))),
+    )
+
+pub returns-then-n-lt-LEAST_LARGE : goal.returns-then-n-lt-LEAST_LARGE
+returns-then-n-lt-LEAST_LARGE g c =
+    let regions = g.A.Links.regions in
+    let word = g.A.Links.word in
+    let middle = c.unbin.new.self in
+    let cut = c.cut_chunk.new.self in
+    let new = c.bin_some.new.self in
+    let one = c.unbin.ensures in
+    let e = c.cut_chunk.ensures in
+    let last = c.bin_some.ensures in
+    let at = ap (λ h. h.victim) one.same.fields in
+    let more = c.if-rest-lt-LEAST_CHUNK.false in
+    let fits = c.requires.fits in
+    record {
+      state = last.same.state ∙ (e.state ∙ ap (λ (s : HeapState). taken s (extent c.args.at c.args.size Free) c.args.n) one.same.state);
+      more = subst (λ (s : HeapState). HasOneMore (state_of word c.args.self.now) s c.args.at) (sym last.same.state) (subst (λ (s : HeapState). HasOneMore s (state_of word cut) c.args.at) one.same.state e.more);
+      moved = turned regions word g.A.Links.follows g.A.Links.follows_on c.args.self.now middle cut new one.same e.moved last.same;
+      linked = last.binned [] (subst (λ (v : ℕ). IsBinnedBut (v ∷ []) regions word cut) at
+          (small_taken c.index_stays.ensures regions word g.A.Links.follows middle cut one.same.sound c.args.at c.args.size c.args.n e.moved e.state e.free e.bins (λ is. c.requires.other (is ∙ at)) (omega arith) c.if-n-lt-LEAST_LARGE.true (one.loose [] c.requires.linked (λ none. none)))) (λ none. none);
+      counted = omega arith;
+    }
+
+-- ---- the rest goes into its bin
+
+pub overflow_add-at : goal.overflow_add-at
+overflow_add-at g c =
+    let e = end_small g.A.Links.regions g.A.Links.word c.args.self.now c.requires.sound c.args.at c.args.size c.args.n c.requires.chunk in
+    let f = c.requires.fits in grind arith
+
+pub bin-requires-clause-sound : goal.bin-requires-clause-sound
+bin-requires-clause-sound g c = c.cut_chunk.ensures.moved.sound
+
+pub bin-requires-clause-free : goal.bin-requires-clause-free
+bin-requires-clause-free g c = c.cut_chunk.ensures.rest (let more = c.if-rest-lt-LEAST_CHUNK.false in let fits = c.requires.fits in omega arith)
+
+pub bin-requires-clause-other : goal.bin-requires-clause-other
+bin-requires-clause-other g c =
+    let one = c.unbin.ensures in
+    let e = c.cut_chunk.ensures in
+    let more = c.if-rest-lt-LEAST_CHUNK.false in
+    let fits = c.requires.fits in
+    large_other c.index_stays.ensures g.A.Links.regions g.A.Links.word g.A.Links.follows c.unbin.new.self c.cut_chunk.new.self one.same.sound c.args.at c.args.size c.args.n e.moved e.state e.free e.bins
+    (λ is. c.requires.other (is ∙ ap (λ h. h.victim) one.same.fields)) (omega arith) c.if-n-lt-LEAST_LARGE.false
+
+pub bin-requires-clause-loose : goal.bin-requires-clause-loose
+bin-requires-clause-loose g c =
+    let one = c.unbin.ensures in
+    let e = c.cut_chunk.ensures in
+    let more = c.if-rest-lt-LEAST_CHUNK.false in
+    let fits = c.requires.fits in (
+      [],
+      large_taken c.index_stays.ensures g.A.Links.regions g.A.Links.word g.A.Links.follows c.unbin.new.self c.cut_chunk.new.self one.same.sound c.args.at c.args.size c.args.n e.moved e.state e.free e.bins
+          (λ is. c.requires.other (is ∙ ap (λ h. h.victim) one.same.fields)) (omega arith) c.if-n-lt-LEAST_LARGE.false (one.loose [] c.requires.linked (λ none. none)),
+    )
+
+pub returns : goal.returns
+returns g c =
+    let regions = g.A.Links.regions in
+    let word = g.A.Links.word in
+    let middle = c.unbin.new.self in
+    let cut = c.cut_chunk.new.self in
+    let new = c.bin.new.self in
+    let one = c.unbin.ensures in
+    let e = c.cut_chunk.ensures in
+    let last = c.bin.ensures in
+    let more = c.if-rest-lt-LEAST_CHUNK.false in
+    let fits = c.requires.fits in
+    record {
+      state = last.same.state ∙ (e.state ∙ ap (λ (s : HeapState). taken s (extent c.args.at c.args.size Free) c.args.n) one.same.state);
+      more = subst (λ (s : HeapState). HasOneMore (state_of word c.args.self.now) s c.args.at) (sym last.same.state) (subst (λ (s : HeapState). HasOneMore s (state_of word cut) c.args.at) one.same.state e.more);
+      moved = turned regions word g.A.Links.follows g.A.Links.follows_on c.args.self.now middle cut new one.same e.moved last.same;
+      linked = last.binned [] (large_taken c.index_stays.ensures regions word g.A.Links.follows middle cut one.same.sound c.args.at c.args.size c.args.n e.moved e.state e.free e.bins
+          (λ is. c.requires.other (is ∙ ap (λ h. h.victim) one.same.fields)) (omega arith) c.if-n-lt-LEAST_LARGE.false (one.loose [] c.requires.linked (λ none. none))) (λ none. none);
+      counted = omega arith;
+    }

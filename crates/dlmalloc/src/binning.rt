@@ -1,0 +1,71 @@
+// Free chunks in bins.
+ghost use Rattle.std.specs.Prelude.{◌≡◌, ◌≢◌, ℕ, ◌+◌, ◌-◌, ◌<◌, ◌≤◌, List, ◌∷◌};
+ghost use Rattle.bins.specs.Index.{IsIn};
+ghost use Rattle.dlmalloc.specs.Binned.{IsFreeAt, IsBinnedBut, IsRebinned};
+ghost use Rattle.dlmalloc.specs.Heap.{state_of, IsSound};
+
+use crate::heap::Dlmalloc;
+use heap_memory::Allocator;
+use std::sync::ledger::Ledger;
+use step_count::Steps;
+
+impl<A: Allocator> Dlmalloc<A> {
+    /// Puts a free chunk that is neither the top nor the victim into its bin.
+    pub(crate) fn bin<L: Ledger>(&mut self, at: u64, size: u64, steps: &mut Steps<L>)
+        requires sound { IsSound A.regions A.word self.old }
+        requires free { IsFreeAt (state_of A.word self.old) at size }
+        requires other { at ≢ self.old.victim }
+        requires loose { (loose : List ℕ) × IsBinnedBut (at ∷ loose) A.regions A.word self.old }
+        ensures binned { (loose : List ℕ) → IsBinnedBut (at ∷ loose) A.regions A.word self.old → (IsIn at loose → ⊥) → IsBinnedBut loose A.regions A.word self.new }
+        ensures same { IsRebinned A.regions A.word A.follows self.old self.new }
+        ensures counted { steps.new ≤ steps.old + 129 }
+    {
+        self.bins.insert(&mut self.system, at, size, steps);
+    }
+
+    /// Takes a free chunk, not the top, out of its bin, if it is in one: the victim is in none.
+    pub(crate) fn unbin<L: Ledger>(&mut self, at: u64, size: u64, steps: &mut Steps<L>)
+        requires sound { IsSound A.regions A.word self.old }
+        requires free { IsFreeAt (state_of A.word self.old) at size }
+        requires binned { (loose : List ℕ) × IsBinnedBut loose A.regions A.word self.old × (IsIn at loose → ⊥) }
+        ensures loose { (loose : List ℕ) → IsBinnedBut loose A.regions A.word self.old → (IsIn at loose → ⊥) → IsBinnedBut (at ∷ loose) A.regions A.word self.new }
+        ensures same { IsRebinned A.regions A.word A.follows self.old self.new }
+        ensures counted { steps.new ≤ steps.old + 196 }
+    {
+        if at == self.victim {
+            return;
+        }
+        self.bins.unlink(&mut self.system, at, size, steps);
+    }
+
+    /// Takes the free chunk between two addresses out of its bin, if there is one.
+    pub(crate) fn unbin_between<L: Ledger>(&mut self, from: u64, to: u64, steps: &mut Steps<L>)
+        requires sound { IsSound A.regions A.word self.old }
+        requires free { from < to → IsFreeAt (state_of A.word self.old) from (to - from) }
+        requires none { to ≤ from → (size : ℕ) → IsFreeAt (state_of A.word self.old) from size → ⊥ }
+        requires binned { (loose : List ℕ) × IsBinnedBut loose A.regions A.word self.old × (IsIn from loose → ⊥) }
+        ensures loose { (loose : List ℕ) → IsBinnedBut loose A.regions A.word self.old → (IsIn from loose → ⊥) → IsBinnedBut (from ∷ loose) A.regions A.word self.new }
+        ensures same { IsRebinned A.regions A.word A.follows self.old self.new }
+        ensures counted { steps.new ≤ steps.old + 196 }
+    {
+        if from < to {
+            self.unbin(from, to - from, steps);
+        }
+    }
+
+    /// Puts a free chunk into its bin, if it has bytes.
+    pub(crate) fn bin_some<L: Ledger>(&mut self, at: u64, size: u64, steps: &mut Steps<L>)
+        requires sound { IsSound A.regions A.word self.old }
+        requires free { size ≢ 0 → IsFreeAt (state_of A.word self.old) at size }
+        requires none { size ≡ 0 → (n : ℕ) → IsFreeAt (state_of A.word self.old) at n → ⊥ }
+        requires other { size ≢ 0 → at ≢ self.old.victim }
+        requires loose { (loose : List ℕ) × IsBinnedBut (at ∷ loose) A.regions A.word self.old }
+        ensures binned { (loose : List ℕ) → IsBinnedBut (at ∷ loose) A.regions A.word self.old → (IsIn at loose → ⊥) → IsBinnedBut loose A.regions A.word self.new }
+        ensures same { IsRebinned A.regions A.word A.follows self.old self.new }
+        ensures counted { steps.new ≤ steps.old + 129 }
+    {
+        if size > 0 {
+            self.bin(at, size, steps);
+        }
+    }
+}
