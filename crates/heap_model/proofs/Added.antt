@@ -181,6 +181,7 @@ module _ (m : Seen) (new : Paged) (s : State) (address pages : ℕ) (rights : Ri
       let was = stands.free_frames in
       let tables : length (with_tables s.tables address pages) ≡ length s.tables + missing s.tables address pages = length-with_tables s.tables address pages in
       record {
+        root = added.root ∙ stands.root;
         tree = subst (λ r. IsTree new.words r new.free) (sym added.root) added.added.tree;
         free_frames = omega arith;
         table_count = added.tables ∙ (let e = stands.table_count in omega arith);

@@ -1,8 +1,8 @@
 -- A block ends: the state without it is good, and the memory holds what is known of the others.
 use Rattle.std.proofs.Common.{◌≡◌, ◌≢◌, ℕ, zero, suc, List, [], ◌∷◌, map, get_or, slice_set, refl, ap, arith, Option, Some, None, option_map}
-use Rattle.heap_model.specs.State.{State, Block}
+use Rattle.heap_model.specs.State.{State, Block, block_at}
 use Rattle.heap_model.specs.Memory.{HoldsBytes}
-use Rattle.heap_model.specs.Answer.{without_block}
+use Rattle.heap_model.specs.Answer.{without_block, all_ended}
 use Rattle.heap_model.specs.Machine.{outline}
 use Rattle.heap_model.specs.Run.{IsGood}
 
@@ -36,3 +36,24 @@ good_ended s number good = record {
 
 pub holds_ended : (reached : ℕ → Option ℕ) (blocks : List (Option Block)) (number : ℕ) → HoldsBytes reached blocks → HoldsBytes reached (without_block blocks number)
 holds_ended reached blocks number holds = record { known = λ i k byte block is cell. holds.known i k byte block (left_at blocks number i block is).1 cell }
+
+-- ---- all blocks end
+
+pub none_live : (blocks : List (Option Block)) (number : ℕ) (block : Block) → block_at (all_ended blocks) number ≡ Some block → ⊥
+none_live [] number block is = cc
+none_live (first ∷ rest) zero block is = cc
+none_live (first ∷ rest) (suc number) block is = none_live rest number block is
+
+pub good_none : (s : State) → IsGood s → IsGood (record s { blocks = all_ended s.blocks })
+good_none s good = record {
+  each = λ number block is. absurd (none_live s.blocks number block is);
+  apart = λ i j a b is_a is_b differ. absurd (none_live s.blocks i a is_a);
+  heap_order = good.heap_order;
+  user_order = good.user_order;
+  heap = good.heap;
+  users = good.users;
+  frames = good.frames;
+}
+
+pub holds_ended_all : (reached : ℕ → Option ℕ) (blocks : List (Option Block)) → HoldsBytes reached (all_ended blocks)
+holds_ended_all reached blocks = record { known = λ number k byte block is cell. absurd (none_live blocks number block is) }

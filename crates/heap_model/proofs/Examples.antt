@@ -1,19 +1,19 @@
 -- Worked values: the definitions computed on the numbers of a few runs.
-use Rattle.std.proofs.Common.{◌≡◌, ◌-◌, ◌^◌, List, [], ◌∷◌, length, refl, ◌*◌, true, false, Some, None, arith}
+use Rattle.std.proofs.Common.{◌≡◌, ◌-◌, ◌^◌, ◌≤◌, inr, List, [], ◌∷◌, length, refl, ap, ◌*◌, true, false, Some, None, arith, lit<}
 use Rattle.paging_core.specs.declared.page_table.Rights.{Rights}
 use Rattle.heap_model.specs.declared.region.Region.{Region}
 use Rattle.heap_model.specs.declared.config.Config.{Config}
-use Rattle.heap_model.specs.declared.call.Call.TheVariants.{Malloc, Calloc, Free as Freeing, Read, Map, Unmap, Probe}
+use Rattle.heap_model.specs.declared.call.Call.TheVariants.{Malloc, Calloc, Free as Freeing, Read, Map, Unmap, Probe, Trim, SetGranularity, Reset}
 use Rattle.heap_model.specs.declared.call.Access.TheVariants.{Read as Reading, Write as Writing, Fetch}
-use Rattle.heap_model.specs.declared.answer.Reply.TheVariants.{Block as Placed, Done, Bytes, Byte}
-use Rattle.heap_model.specs.declared.answer.Refusal.TheVariants.{BadAlign, TooLarge, NoFrames, BadRange, HeapRegion, Overlap, UnknownRegion, NotCanonical}
+use Rattle.heap_model.specs.declared.answer.Reply.TheVariants.{Block as Placed, Done, Bytes, Trimmed, Accepted, Released}
+use Rattle.heap_model.specs.declared.answer.Refusal.TheVariants.{BadAlign, TooLarge, BadRange, HeapRegion, Overlap, UnknownRegion, NotCanonical}
 use Rattle.heap_model.specs.declared.answer.Answer.{Answer}
 use Rattle.dlmalloc_chunks.specs.declared.extent.Extent.{Extent}
 use Rattle.dlmalloc_chunks.specs.declared.extent.Kind.TheVariants.{Free, Top, Record, Foot}
 use Rattle.paging_core.specs.Prefix.{prefix_of, prefixes_from, prefixes_of}
 use Rattle.dlmalloc_chunks.specs.Request.{padded, enlarged, wanted, limit}
 use Rattle.heap_model.specs.Request.{pages_in, pages_for}
-use Rattle.heap_model.specs.State.{State, Known, Fresh, start, block_at, cell_at}
+use Rattle.heap_model.specs.State.{State, start, block_at, total_pages}
 use Rattle.heap_model.specs.Tables.{missing, with_tables, free_frames}
 use Rattle.heap_model.specs.Place.{place, all_regions}
 use Rattle.heap_model.specs.Room.{heap_region}
@@ -305,6 +305,48 @@ unmap-whole = refl
 unmapped-regions : all_regions (after mapped (Unmap 0x410000 2) (record { reply = Done; regions = None })) ≡ all_regions one
 unfolding one config first
 unmapped-regions = refl
+
+-- a trim may leave the first page of a region; where it says that bytes went back, it lists the regions
+trim-front : IsAllowed one (Trim 0) (record { reply = Trimmed true; regions = Some (heap_region 0x400000 1 ∷ []) })
+unfolding one first config
+trim-front = record {
+  reply = (refl, (inr (heap_region 0x400000 1, [], inr (lit< tt, lit< tt, refl), refl, refl), refl));
+  listed = λ same. (let pages : 1 ≡ 16 = ap total_pages same in absurd (omega (arith, pages)));
+}
+
+trim-unlisted : IsAllowed one (Trim 0) (record { reply = Trimmed true; regions = None }) → ⊥
+trim-unlisted allowed = let listed : true ≡ false = allowed.reply.1.1 in cc
+
+-- another granularity
+set-granularity : (after one (SetGranularity 32) (record { reply = Accepted true; regions = None })).granularity ≡ 32
+set-granularity = refl
+
+set-not_accepted : (after one (SetGranularity 8) (record { reply = Accepted false; regions = None })).granularity ≡ 65536
+unfolding one first config
+set-not_accepted = refl
+
+set-too_small : IsAllowed one (SetGranularity 8) (record { reply = Accepted true; regions = None }) → ⊥
+set-too_small allowed = let least : 16 ≤ 8 = (allowed.reply.1.1.0 refl).1 in omega (arith, least)
+
+-- a reset ends the block, whose number stays, and the heap has no region; the granularity and the tables stay
+abbrev empty : State
+empty = after one Reset (record { reply = Released 65536; regions = Some [] })
+
+reset-blocks : empty.blocks ≡ None ∷ []
+unfolding one first config
+reset-blocks = refl
+
+reset-regions : all_regions empty ≡ []
+unfolding one first config
+reset-regions = refl
+
+reset-tables : length empty.tables ≡ 3
+unfolding one first config prefixes_of prefixes_from pages_for wanted padded pages_in
+reset-tables = refl
+
+reset-granularity : empty.granularity ≡ 65536
+unfolding one first config
+reset-granularity = refl
 
 -- no state allows a read that answers a number that is no byte
 no-byte : (s : State) → IsAllowed s (Read 0 0 1) (record { reply = Bytes (300 ∷ []); regions = None }) → ⊥

@@ -1,5 +1,5 @@
 -- A region is granted anywhere in the window: the state after it is good, and the machine stands for it.
-use Rattle.std.proofs.Common.{◌≡◌, ℕ, ◌+◌, ◌*◌, ◌/◌, ◌<◌, ◌≤◌, ◌⊎◌, not, nat_eq, List, [], ◌∷◌, length, find, refl, sym, ap, ◌∙◌, arith, Bool, true, false, Some}
+use Rattle.std.proofs.Common.{◌≡◌, ℕ, ◌+◌, ◌*◌, ◌/◌, ◌<◌, ◌≤◌, ◌⊎◌, not, nat_eq, List, [], ◌∷◌, length, find, refl, sym, ap, ◌∙◌, arith, true, false, Some}
 use Rattle.std.specs.List.{list_any, AllByRecursion}
 use Rattle.std.proofs.lemmas.Bool.Decides.{nat_tests}
 use Rattle.paging_core.specs.Address.{IsCanonicalRange}
@@ -68,7 +68,7 @@ good_granted s address pages good range fit few =
 -- ---- the granted region is the new one of the list
 
 -- each of some regions starts where one of the list does
-abbrev AllStart : List Region → List Region → Type 0
+abbrev pub AllStart : List Region → List Region → Type 0
 AllStart list some = AllByRecursion (λ region. list_any (λ old. nat_eq old.start region.start) list ≡ true) some
 
 start_more : (first : Region) (list some : List Region) → AllStart list some → AllStart (first ∷ list) some
@@ -76,18 +76,18 @@ start_more first list [] all = tt
 start_more first list (region ∷ rest) all =
     (or_right (nat_eq first.start region.start) (list_any (λ old. nat_eq old.start region.start) list) all.0, start_more first list rest all.1)
 
-all_start : (list : List Region) → AllStart list list
+pub all_start : (list : List Region) → AllStart list list
 all_start [] = tt
 all_start (first ∷ rest) =
     let same : nat_eq first.start first.start ≡ true = grind (arith, nat_tests) in
     (or_left (nat_eq first.start first.start) (list_any (λ old. nat_eq old.start first.start) rest) same, start_more first rest rest (all_start rest))
 
-none_new : (list some : List Region) → AllStart list some → list_any (is_new list) some ≡ false
+pub none_new : (list some : List Region) → AllStart list some → list_any (is_new list) some ≡ false
 none_new list [] all = refl
 none_new list (region ∷ rest) all = let e = all.0 in rw e (none_new list rest all.1)
 
 -- no region starts at pages that meet none
-no_start : (s : State) (address pages : ℕ) (list : List Region) → 0 < pages → AllByRecursion (IsHeapRegion s) list → meets_any address pages list ≡ false →
+pub no_start : (s : State) (address pages : ℕ) (list : List Region) → 0 < pages → AllByRecursion (IsHeapRegion s) list → meets_any address pages list ≡ false →
     list_any (λ old. nat_eq old.start address) list ≡ false
 no_start s address pages [] some all clear = refl
 no_start s address pages (first ∷ rest) some all clear =

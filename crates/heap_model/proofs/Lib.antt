@@ -14,3 +14,6 @@ pub mod Resized
 pub mod Written
 pub mod Probed
 pub mod Runs
+pub mod Cut
+pub mod Settings
+pub mod Shortened

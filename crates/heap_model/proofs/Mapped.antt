@@ -1,7 +1,7 @@
 -- A region of the user is mapped or unmapped: the state after it is good, and the machine stands for it.
-use Rattle.std.proofs.Common.{◌≡◌, ℕ, zero, suc, ◌+◌, ◌-◌, ◌*◌, ◌/◌, ◌%◌, ◌^◌, ◌<◌, ◌≤◌, ◌⊎◌, inl, inr, ◌&&◌, ◌||◌, nat_lt, nat_eq, List, [], ◌∷◌, ◌++◌, length, find, refl, sym, ap, ◌∙◌, subst, arith, mul_comm, Bool, true, false, IsTrue, IsFalse, Option, Some, None, option_map, IsSome}
+use Rattle.std.proofs.Common.{◌≡◌, ℕ, ◌+◌, ◌-◌, ◌*◌, ◌/◌, ◌%◌, ◌^◌, ◌<◌, ◌≤◌, ◌⊎◌, inl, inr, nat_lt, nat_eq, List, length, refl, sym, ap, ◌∙◌, subst, arith, mul_comm, true, false, IsTrue, Option, Some, None, IsSome}
 use Rattle.std.specs.Prelude.{◌↔◌}
-use Rattle.std.specs.List.{list_any, AllByRecursion}
+use Rattle.std.specs.List.{list_any}
 use Rattle.std.proofs.lemmas.Bool.Decides.{nat_tests}
 use native.Mathlib.Decide.{dec_lt}
 use Rattle.paging_core.specs.Address.{is_canonical, IsCanonicalRange}
@@ -9,18 +9,17 @@ use Rattle.paging_core.specs.Pool.{free_count}
 use Rattle.paging_core.specs.Walk.{Place, reach, walk_of, reached}
 use Rattle.paging_core.specs.Tree.{IsTree}
 use Rattle.paging_core.specs.declared.page_table.Rights.{Rights}
-use Rattle.heap_model.specs.declared.region.Region.{Region}
 use Rattle.heap_model.specs.declared.call.Call.TheVariants.{Map, Unmap}
 use Rattle.heap_model.specs.declared.answer.Reply.TheVariants.{Done}
 use Rattle.heap_model.specs.State.{State, Known, is_within, total_pages, region_at, Block, block_at, cell_at, cover}
 use Rattle.heap_model.specs.Tables.{has_table, missing, with_tables, used_frames, free_frames}
-use Rattle.heap_model.specs.Place.{meets, meets_any, with_region, is_at, without, all_regions}
+use Rattle.heap_model.specs.Place.{meets_any, with_region, is_at, without, all_regions}
 use Rattle.heap_model.specs.Room.{user_region}
 use Rattle.heap_model.specs.Refusal.{is_page_range, must_refuse}
-use Rattle.heap_model.specs.Run.{IsGood, IsGoodBlock, IsWhole, IsHeapRegion, IsUserRegion, AreInOrder}
-use Rattle.heap_model.specs.Machine.{Paged, ArePagesAdded, Seen, Stands, IsStep, rights_of}
-use Rattle.heap_model.proofs.Booleans.{or_cases, neither_or}
-use Rattle.heap_model.proofs.Regions.{within, within_bounds, not_within, all_with, pages_with, any_with, in_order_with, none_within, find_only, find_past, find_behind, find_same, find_none, all_without, pages_without, in_order_without, find_left, none_left, any_left, listed, within_canonical}
+use Rattle.heap_model.specs.Run.{IsGood, IsGoodBlock, IsHeapRegion, IsUserRegion}
+use Rattle.heap_model.specs.Machine.{Paged, ArePagesAdded, Seen, Stands, IsStep}
+use Rattle.heap_model.proofs.Booleans.{or_cases}
+use Rattle.heap_model.proofs.Regions.{within, not_within, all_with, pages_with, any_with, in_order_with, none_within, find_only, find_past, find_behind, find_same, find_none, all_without, pages_without, in_order_without, find_left, none_left, any_left, listed, within_canonical}
 use Rattle.heap_model.proofs.Tables.{length-with_tables}
 use Rattle.heap_model.proofs.Known.{known_within}
 use Rattle.heap_model.proofs.Added.{found_rights, region_rights, stays, stands_added}
@@ -128,7 +127,7 @@ user_beside s start pages good there =
     at pages (subst (λ n. ((user.0.start % 4096 ≡ 0) × IsCanonicalRange (user.0.start / 4096) n) × (meets_any user.0.start n s.heap ≡ false)) user.3 (user.1.1, user.1.2))
 
 -- what was reached was walked to
-reached_walk : (words : List ℕ) (root address byte : ℕ) → reached words root address ≡ Some byte → IsSome (walk_of words root (address / 4096))
+pub reached_walk : (words : List ℕ) (root address byte : ℕ) → reached words root address ≡ Some byte → IsSome (walk_of words root (address / 4096))
 reached_walk words root address byte is = go (walk_of words root (address / 4096)) refl
   where
     go : (o : Option Place) → walk_of words root (address / 4096) ≡ o → IsSome o
@@ -232,6 +231,7 @@ module _ (m : Seen) (new : Paged) (s : State) (start pages : ℕ) (good : IsGood
       let all = good.frames in
       let total : total_pages (without start pages s.users) + pages ≡ total_pages s.users = pages_without start pages s.users there in
       record {
+        root = root ∙ stands.root;
         tree = subst (λ r. IsTree new.words r new.free) (sym root) tree;
         free_frames = omega arith;
         table_count = tables ∙ stands.table_count;

@@ -23,7 +23,7 @@ of_user heap (region ∷ rest) address all is = go (is_within address region) is
     go false any later = (let l = later any in rw all.0.0 l)
 
 -- a byte of a user region of the state is the user's in a machine that stands for it
-user_of_machine : (m : Seen) (s : State) (address : ℕ) → IsGood s → Stands m s → list_any (is_within address) s.users ≡ true → is_of_user m.paged.regions address ≡ true
+pub user_of_machine : (m : Seen) (s : State) (address : ℕ) → IsGood s → Stands m s → list_any (is_within address) s.users ≡ true → is_of_user m.paged.regions address ≡ true
 user_of_machine m s address good stands is =
     ap (λ regions. is_of_user regions address) stands.regions
     ∙ (any_all (λ region. not region.heap && is_within address region) s.heap s.users
@@ -42,6 +42,7 @@ stands_moved m s new lives blocks good stands still same holds =
     λ level n low. ap (λ r. reach new.words r level n) root ∙ still.walks level n low in
     let same_reached : (a : ℕ) → reached new.words new.root a ≡ reached new.words m.paged.root a = λ a. ap (λ r. reached new.words r a) root in
     record {
+      root = root ∙ stands.root;
       tree = rw (root, free) (still.tree stands.tree);
       free_frames = rw free stands.free_frames;
       table_count = ap (λ p. p.tables) still.others ∙ stands.table_count;

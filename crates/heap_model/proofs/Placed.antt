@@ -1,7 +1,7 @@
 -- A block is handed out: lists of blocks by number, and the state with one block more.
 use Rattle.std.proofs.Common.{◌≡◌, ℕ, zero, suc, ◌+◌, ◌<◌, ◌⊎◌, inl, inr, List, [], ◌∷◌, ◌++◌, length, map, get_or, replicate, refl, sym, ap, ◌∙◌, subst, arith, Option, Some, None, option_map}
 use Rattle.heap_model.specs.declared.live.Live.{Live}
-use Rattle.heap_model.specs.State.{State, Cell, Fresh, Known, Block, block_at, cell_at, cover}
+use Rattle.heap_model.specs.State.{State, Cell, Known, Block, block_at, cell_at, cover}
 use Rattle.heap_model.specs.Room.{AreApart}
 use Rattle.heap_model.specs.Run.{IsGood, IsGoodBlock}
 use Rattle.heap_model.specs.Memory.{HoldsBytes}

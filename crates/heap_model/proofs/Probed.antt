@@ -1,5 +1,5 @@
 -- A byte is looked at, or the access to it is a page fault: what a machine answers then is allowed.
-use Rattle.std.proofs.Common.{◌≡◌, ℕ, zero, suc, ◌+◌, ◌-◌, ◌*◌, ◌/◌, ◌%◌, ◌^◌, ◌<◌, ◌≤◌, ◌||◌, inl, inr, nat_le, nat_eq, List, [], ◌∷◌, length, map, get_or, refl, sym, ap, ◌∙◌, subst, arith, Bool, true, false, if◌then◌else◌, Option, Some, None, option_map, is_some, IsTrue}
+use Rattle.std.proofs.Common.{◌≡◌, ℕ, zero, suc, ◌+◌, ◌-◌, ◌*◌, ◌/◌, ◌^◌, ◌<◌, ◌≤◌, ◌||◌, inl, inr, nat_le, nat_eq, List, [], ◌∷◌, length, map, get_or, refl, sym, ap, ◌∙◌, subst, arith, Bool, true, false, if◌then◌else◌, Option, Some, None, option_map, is_some, IsTrue}
 use Rattle.std.proofs.lemmas.Bool.Decides.{nat_tests}
 use Rattle.paging_core.specs.Address.{is_canonical}
 use Rattle.paging_core.specs.Walk.{walk_of, reached}
@@ -113,6 +113,7 @@ holds_seen reached address byte blocks here holds = record {
 
 stands_seen : (m : Seen) (s : State) (address byte : ℕ) → Stands m s → reached m.paged.words m.paged.root address ≡ Some byte → Stands m (seen_state s address byte)
 stands_seen m s address byte stands here = record {
+  root = stands.root;
   tree = stands.tree;
   free_frames = stands.free_frames;
   table_count = stands.table_count;

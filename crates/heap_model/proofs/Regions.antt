@@ -109,7 +109,7 @@ find_alone test region (first ∷ rest) more passes none = go (nat_lt region.sta
     go true later = rw passes refl
     go false later = let e : test first ≡ false = both.0 in rw e later
 
-later_starts : (end later_end : ℕ) (list : List Region) → end ≤ later_end → AllByRecursion (λ later. later_end ≤ later.start) list → AllByRecursion (λ later. end ≤ later.start) list
+pub later_starts : (end later_end : ℕ) (list : List Region) → end ≤ later_end → AllByRecursion (λ later. later_end ≤ later.start) list → AllByRecursion (λ later. end ≤ later.start) list
 later_starts end later_end [] less all = tt
 later_starts end later_end (first ∷ rest) less all = (omega (arith, all.0), later_starts end later_end rest less all.1)
 

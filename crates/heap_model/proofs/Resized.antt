@@ -1,11 +1,10 @@
 -- A block gets another size, where it is or elsewhere: the state stays good, and the memory holds what is known of all blocks.
 use Rattle.std.proofs.Common.{◌≡◌, ◌≢◌, ℕ, zero, suc, ◌+◌, ◌<◌, ◌⊎◌, inl, inr, List, [], ◌∷◌, length, map, get_or, slice_set, refl, sym, ap, ◌∙◌, subst, arith, Option, Some, None, option_map}
-use Rattle.heap_model.specs.declared.live.Live.{Live}
-use Rattle.heap_model.specs.State.{State, Cell, Fresh, Known, Block, block_at, cell_at, cover}
+use Rattle.heap_model.specs.State.{State, Cell, Known, Block, block_at, cell_at, cover}
 use Rattle.heap_model.specs.Room.{AreApart}
 use Rattle.heap_model.specs.Memory.{HoldsBytes}
 use Rattle.heap_model.specs.Machine.{outline}
-use Rattle.heap_model.specs.Answer.{with_block, resized_cells, resized_block}
+use Rattle.heap_model.specs.Answer.{with_block, without_block, resized_cells, resized_block}
 use Rattle.heap_model.specs.Run.{IsGood, IsGoodBlock}
 use Rattle.heap_model.proofs.Known.{changed_at}
 use Rattle.heap_model.proofs.Placed.{turned}
@@ -60,15 +59,15 @@ outline_changed (first ∷ rest) (suc number) change block is = ap (λ xs. optio
 
 -- ---- the state
 
--- The state is good, where the block is good at its place and lies beside all others there.
-pub good_resized : (s : State) (number : ℕ) (change : Block → Block) (block : Block) → IsGood s → block_at s.blocks number ≡ Some block → IsGoodBlock s.heap (change block) →
+-- The state is good where it is so without the block, and that is good at its place and lies beside all others there.
+pub good_resized : (s : State) (number : ℕ) (change : Block → Block) (block : Block) → IsGood (record s { blocks = without_block s.blocks number }) → block_at s.blocks number ≡ Some block → IsGoodBlock s.heap (change block) →
     ((i : ℕ) (other : Block) → i ≢ number → block_at s.blocks i ≡ Some other → AreApart other.address (cover other) (change block).address (cover (change block))) →
     IsGood (record s { blocks = with_block s.blocks number change })
 good_resized s number change block good is here apart = record {
   each = λ i it at. elim (changed_at s.blocks number change i it at) [
     | inl same ↦ (let one : same.1.0 ≡ block = cc (same.1.1, is) in
         subst (λ b. IsGoodBlock s.heap b) (ap change (sym one) ∙ same.1.2) (record { aligned = here.aligned; aligned_16 = here.aligned_16; cells = here.cells; granted = here.granted }))
-    | inr other ↦ good.each i it other.1
+    | inr other ↦ good.each i it (replaced_stays s.blocks number i it None other.0 other.1)
   ];
   apart = λ i j a b is_a is_b differ. elim (changed_at s.blocks number change i a is_a) [
     | inl same_a ↦ elim (changed_at s.blocks number change j b is_b) [
@@ -80,7 +79,7 @@ good_resized s number change block good is here apart = record {
     | inr other_a ↦ elim (changed_at s.blocks number change j b is_b) [
       | inl same_b ↦ (let one : same_b.1.0 ≡ block = cc (same_b.1.1, is) in
           subst (λ x. AreApart a.address (cover a) x.address (cover x)) (ap change (sym one) ∙ same_b.1.2) (apart i a other_a.0 other_a.1))
-      | inr other_b ↦ good.apart i j a b other_a.1 other_b.1 differ
+      | inr other_b ↦ good.apart i j a b (replaced_stays s.blocks number i a None other_a.0 other_a.1) (replaced_stays s.blocks number j b None other_b.0 other_b.1) differ
     ]
   ];
   heap_order = good.heap_order;

@@ -1,19 +1,21 @@
 -- One call: which answers are allowed, and the state after each.
-use Rattle.std.specs.Prelude.{◌≡◌, ◌≢◌, ℕ, zero, suc, ◌+◌, ◌-◌, ◌^◌, ◌<◌, Bool, not, ◌==◌, ◌⊎◌, ⊤, nat_le, IsTrue, IsFalse, is_some, if◌then◌else◌, List, [], ◌∷◌, ◌++◌, length, map, find, replicate, slice_index, slice_set, option_map, unwrap_or, Option, Some, None, MatchOption}
+use Rattle.std.specs.Prelude.{◌≡◌, ◌≢◌, ℕ, zero, suc, ◌+◌, ◌-◌, ◌*◌, ◌^◌, ◌<◌, ◌≤◌, ◌↔◌, Bool, true, not, ◌==◌, ◌⊎◌, ⊤, nat_le, IsTrue, IsFalse, is_some, if◌then◌else◌, List, [], ◌∷◌, ◌++◌, length, map, find, replicate, slice_index, slice_set, option_map, unwrap_or, Option, Some, None, MatchOption}
 use Rattle.std.specs.List.{list_any, AllByRecursion}
+use Rattle.std.specs.Int.{IsPowerOfTwo}
 use Rattle.heap_model.specs.declared.region.Region.{Region}
 use Rattle.heap_model.specs.declared.call.Call.{Call}
-use Rattle.heap_model.specs.declared.call.Call.TheVariants.{Malloc, Calloc, Realloc, CRealloc, Free, Write, Read, Map, Unmap, Probe, Extents}
+use Rattle.heap_model.specs.declared.call.Call.TheVariants.{Malloc, Calloc, Realloc, CRealloc, Free, Write, Read, Map, Unmap, Probe, Trim, SetRate, SetGranularity, Reset, Extents}
 use Rattle.heap_model.specs.declared.answer.Reply.{Reply}
-use Rattle.heap_model.specs.declared.answer.Reply.TheVariants.{Block as Placed, Done, Bytes, Byte, Fault, Extents as Listed, Refused}
+use Rattle.heap_model.specs.declared.answer.Reply.TheVariants.{Block as Placed, Done, Bytes, Byte, Fault, Trimmed, Accepted, Released, Extents as Listed, Refused}
 use Rattle.heap_model.specs.declared.answer.Answer.{Answer}
 use Rattle.paging_core.specs.Prefix.{Prefix}
 use Rattle.dlmalloc_chunks.specs.Request.{wanted}
 use Rattle.heap_model.specs.Request.{pages_for}
-use Rattle.heap_model.specs.State.{State, Cell, Fresh, Known, Block, block_at, cell_at, with_bytes}
+use Rattle.heap_model.specs.State.{State, Cell, Fresh, Known, Block, block_at, cell_at, with_bytes, total_pages}
 use Rattle.heap_model.specs.Tables.{with_tables}
 use Rattle.heap_model.specs.Place.{with_region, without}
-use Rattle.heap_model.specs.Room.{user_region, IsGrowth}
+use Rattle.heap_model.specs.Cut.{AreCut}
+use Rattle.heap_model.specs.Room.{user_region, IsGrowth, IsGrowthCut}
 use Rattle.heap_model.specs.Extents.{IsTiling}
 use Rattle.x86_tables.specs.PageFaultErrorCode.{page_fault_bits}
 use Rattle.heap_model.specs.Probe.{rights_at, is_granted, fault_code, IsByteAt}
@@ -30,6 +32,10 @@ with_block blocks number change = slice_set blocks number (option_map change (bl
 -- the blocks, without the one at this number; its number stays
 abbrev pub without_block : List (Option Block) → ℕ → List (Option Block)
 without_block blocks number = slice_set blocks number None
+
+-- no block is live; their numbers stay
+abbrev pub all_ended : List (Option Block) → List (Option Block)
+all_ended blocks = map (λ block. None) blocks
 
 -- the block, with these bytes known from an offset on
 abbrev pub known_block : ℕ → List ℕ → Block → Block
@@ -61,6 +67,8 @@ changed s (Read number offset count) (Bytes bytes) = record s { blocks = with_bl
 changed s (Map start pages rights) Done = record s { users = with_region (user_region start pages rights) s.users; tables = with_tables s.tables start pages }
 changed s (Unmap start pages) Done = record s { users = without start pages s.users }
 changed s (Probe at access user) (Byte byte) = record s { blocks = map (option_map (seen_block at byte)) s.blocks }
+changed s (SetGranularity granularity) (Accepted true) = record s { granularity = granularity }
+changed s Reset (Released bytes) = record s { blocks = all_ended s.blocks }
 changed s call reply = s
 
 -- whether a region starts where none of these does
@@ -94,10 +102,11 @@ AgreeWith cells offset bytes = (k byte : ℕ) → k < length bytes → cell_at c
 abbrev pub AreBytes : List ℕ → Type 0
 AreBytes bytes = AllByRecursion (λ byte. byte < 2 ^ 8) bytes
 
--- a block that stays where it is lets the heap regions stay; else they grow as for a request of n bytes
+-- A block that stays where it is lets the heap regions stay. Else they grow as for a request of n bytes, and then the old
+-- block is freed.
 pub record IsResizing (s : State) (block : Block) (n address : ℕ) (regions : Option (List Region)) : Type 0 where
   pub here : address ≡ block.address → regions ≡ None
-  pub growth : IsGrowth s n (heap_after s regions)
+  pub growth : IsGrowthCut s n (heap_after s regions)
 
 -- the replies other than refusals
 abbrev pub IsServed : State → Call → Reply → Option (List Region) → Type 0
@@ -105,13 +114,17 @@ IsServed s (Malloc size align) (Placed number address) regions = (number ≡ len
 IsServed s (Calloc size align) (Placed number address) regions = (number ≡ length s.blocks) × IsGrowth s (wanted size align) (heap_after s regions)
 IsServed s (Realloc number size) (Placed given address) regions = (given ≡ number) × MatchOption (block_at s.blocks number) ⊥ (λ block. IsResizing s block (wanted size (own_align block)) address regions)
 IsServed s (CRealloc number size) (Placed given address) regions = (given ≡ number) × MatchOption (block_at s.blocks number) ⊥ (λ block. IsResizing s block (wanted size (least_align block)) address regions)
-IsServed s (Free number) Done regions = regions ≡ None
+IsServed s (Free number) Done regions = AreCut s.heap (heap_after s regions)
 IsServed s (Write number offset bytes) Done regions = regions ≡ None
 IsServed s (Read number offset count) (Bytes bytes) regions = (regions ≡ None) × (length bytes ≡ count) × AreBytes bytes × ((block : Block) → block_at s.blocks number ≡ Some block → AgreeWith block.cells offset bytes)
 IsServed s (Map start pages rights) Done regions = regions ≡ None
 IsServed s (Unmap start pages) Done regions = regions ≡ None
 IsServed s (Probe at access user) (Byte byte) regions = (regions ≡ None) × IsTrue (is_granted (rights_at s at) access user) × IsByteAt s at byte
 IsServed s (Probe at access user) (Fault code) regions = (regions ≡ None) × IsFalse (is_granted (rights_at s at) access user) × (page_fault_bits code ≡ fault_code (is_some (rights_at s at)) access user)
+IsServed s (Trim pad) (Trimmed released) regions = AreCut s.heap (heap_after s regions) × (released ≡ is_some regions)
+IsServed s (SetRate rate) Done regions = regions ≡ None
+IsServed s (SetGranularity granularity) (Accepted accepted) regions = (regions ≡ None) × (IsTrue accepted ↔ (IsPowerOfTwo granularity × (16 ≤ granularity)))
+IsServed s Reset (Released bytes) regions = (heap_after s regions ≡ []) × (bytes ≡ 4096 * total_pages s.heap) × (bytes < 2 ^ 64)
 IsServed s Extents (Listed extents) regions = (regions ≡ None) × IsTiling s extents
 IsServed s call reply regions = ⊥
 

@@ -2,6 +2,7 @@ pub mod Request
 pub mod State
 pub mod Tables
 pub mod Place
+pub mod Cut
 pub mod Room
 pub mod Extents
 pub mod Refusal

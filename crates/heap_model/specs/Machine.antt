@@ -37,6 +37,8 @@ pub record Paged : Type 0 where
   pub free : List Bool
   -- the number of tables, with the root
   pub tables : ℕ
+  -- how often a region joined, modulo 2 ^ 64
+  pub joins : ℕ
   -- the regions, by address
   pub regions : List Region
 
@@ -74,6 +76,8 @@ pub record Seen : Type 0 where
   pub granularity : ℕ
   -- the live blocks, by number
   pub blocks : List (Option Live)
+  -- the frame in CR3, from which the processor walks
+  pub top : ℕ
 
 -- what may be done at a page that the walk finds
 abbrev pub rights_of : Place → Rights
@@ -81,6 +85,8 @@ rights_of place = record { write = place.write; user = place.user; fetch = place
 
 -- The machine stands for the state.
 pub record Stands (m : Seen) (s : State) : Type 0 where
+  -- the root is the frame in CR3
+  pub root : m.paged.root ≡ m.top
   -- the tables form a tree, beside the free frames
   pub tree : IsTree m.paged.words m.paged.root m.paged.free
   pub free_frames : free_count m.paged.free ≡ free_frames s

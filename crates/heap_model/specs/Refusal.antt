@@ -4,7 +4,7 @@ use Rattle.std.specs.Int.{is_power_of_two}
 use Rattle.std.specs.List.{list_any}
 use Rattle.std.specs.Option.{option_or}
 use Rattle.heap_model.specs.declared.call.Call.{Call}
-use Rattle.heap_model.specs.declared.call.Call.TheVariants.{Malloc, Calloc, Realloc, CRealloc, Free, Write, Read, Map, Unmap, Probe, Extents}
+use Rattle.heap_model.specs.declared.call.Call.TheVariants.{Malloc, Calloc, Realloc, CRealloc, Free, Write, Read, Map, Unmap, Probe, Trim, SetRate, SetGranularity, Reset, Extents}
 use Rattle.heap_model.specs.declared.answer.Refusal.{Refusal}
 use Rattle.heap_model.specs.declared.answer.Refusal.TheVariants.{BadAlign, TooLarge, NoSpace, NoFrames, UnknownBlock, OutOfBlock, BadRange, HeapRegion, Overlap, UnknownRegion, NotCanonical}
 use Rattle.paging_core.specs.Address.{is_canonical}
@@ -75,6 +75,10 @@ must_refuse s (Read number offset count) = refuse_bytes (block_at s.blocks numbe
 must_refuse s (Map start pages rights) = option_or (refuse_range s start pages) (refuse_map s start pages)
 must_refuse s (Unmap start pages) = option_or (refuse_range s start pages) (refuse_unmap s start pages)
 must_refuse s (Probe at access user) = if is_canonical at then None else Some NotCanonical
+must_refuse s (Trim pad) = None
+must_refuse s (SetRate rate) = None
+must_refuse s (SetGranularity granularity) = None
+must_refuse s Reset = None
 must_refuse s Extents = None
 
 -- the chunk that a heap call wants, if it is one
@@ -89,6 +93,10 @@ wanted_by s (Read number offset count) = None
 wanted_by s (Map start pages rights) = None
 wanted_by s (Unmap start pages) = None
 wanted_by s (Probe at access user) = None
+wanted_by s (Trim pad) = None
+wanted_by s (SetRate rate) = None
+wanted_by s (SetGranularity granularity) = None
+wanted_by s Reset = None
 wanted_by s Extents = None
 
 -- a heap call that has no room may be refused where its pages have no place, or where frames are lacking at their place

@@ -6,6 +6,7 @@ use Rattle.heap_model.specs.State.{State, Block, block_at, cover, end_of}
 use Rattle.heap_model.specs.Tables.{missing, free_frames}
 use Rattle.heap_model.specs.Place.{IsPlace, with_region, all_regions}
 use Rattle.heap_model.specs.Request.{pages_for}
+use Rattle.heap_model.specs.Cut.{AreCut}
 
 -- m bytes from a and n bytes from b have no byte in common
 abbrev pub AreApart : ℕ → ℕ → ℕ → ℕ → Type 0
@@ -47,3 +48,9 @@ pub record IsGrant (s : State) (n : ℕ) (list : List Region) : Type 0 where
 -- the heap regions after a request of n bytes was served: as they were, or with those of one grant
 abbrev pub IsGrowth : State → ℕ → List Region → Type 0
 IsGrowth s n list = (list ≡ s.heap) ⊎ IsGrant s n list
+
+-- the heap regions where, once a request of n bytes was served, a block was freed: of those to which they grew, some may be cut
+pub record IsGrowthCut (s : State) (n : ℕ) (list : List Region) : Type 0 where
+  pub grown : List Region
+  pub growth : IsGrowth s n grown
+  pub cut : AreCut grown list

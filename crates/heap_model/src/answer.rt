@@ -44,6 +44,12 @@ pub enum Reply {
     Byte(u8),
     /// The access is a page fault with this code.
     Fault(PageFaultErrorCode),
+    /// Whether a trim gave memory back.
+    Trimmed(bool),
+    /// Whether the granularity was accepted.
+    Accepted(bool),
+    /// A reset gave back so many bytes.
+    Released(u64),
     /// The extents of the heap, by ascending address.
     Extents(ExtentList),
     /// The call was refused, and changed nothing.

@@ -70,6 +70,21 @@ pub enum Call {
         access: Access,
         user: bool,
     },
+    /// Gives memory back that no block needs. The heap keeps more than `pad` bytes free at its end, where it has them.
+    Trim {
+        pad: u64,
+    },
+    /// Sets how many large chunks are freed between two release passes of the heap; 0 stands for the greatest number.
+    SetRate {
+        rate: u64,
+    },
+    /// Has the heap ask for multiples of so many bytes, where that is a power of two of at least 16.
+    SetGranularity {
+        granularity: u64,
+    },
+    /// Ends all blocks and gives all memory of the heap back. The granularity and the rate stay, and no number is given
+    /// again.
+    Reset,
     /// Asks for the extents of the heap.
     Extents,
 }
