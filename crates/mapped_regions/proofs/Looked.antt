@@ -35,7 +35,7 @@ kind_page base window at (r ∷ rs) all = go (is_within at r) refl (page_within 
   go true is same rest = let first = sym same ∙ is in rw (is, first) refl
   go false is same rest = let first = sym same ∙ is in rw (is, first) rest
 
-first_canonical : (at : ℕ) → IsTrue (is_canonical at) → IsTrue (is_canonical (at / 4096 * 4096))
+pub first_canonical : (at : ℕ) → IsTrue (is_canonical at) → IsTrue (is_canonical (at / 4096 * 4096))
 first_canonical at canonical =
     let same : at / 4096 * 4096 / 2 ^ 47 ≡ at / 2 ^ 47 = omega arith in
     ap (λ q. nat_eq q 0 || nat_eq q (2 ^ 17 - 1)) same ∙ canonical

@@ -1,5 +1,5 @@
 -- What is kept is kept when a region joins and when one leaves.
-use Rattle.std.proofs.Common.{◌≡◌, ℕ, ◌+◌, ◌-◌, ◌*◌, ◌/◌, ◌%◌, ◌^◌, ◌<◌, ◌≤◌, ◌||◌, ◌&&◌, nat_le, nat_lt, nat_eq, List, [], ◌∷◌, length, find, refl, sym, ap, ◌∙◌, subst, arith, Bool, true, false, cond, IsTrue, Option, Some, None, option_map, IsSome}
+use Rattle.std.proofs.Common.{◌≡◌, ℕ, ◌+◌, ◌-◌, ◌*◌, ◌/◌, ◌%◌, ◌^◌, ◌<◌, ◌≤◌, ◌||◌, ◌&&◌, nat_le, nat_lt, nat_eq, List, [], ◌∷◌, length, refl, sym, ap, ◌∙◌, subst, arith, Bool, true, false, IsTrue, Option, Some, None, option_map, IsSome}
 use Rattle.std.specs.List.{list_any, AllByRecursion}
 use Rattle.std.proofs.lemmas.Bool.Decides.{nat_tests}
 use Rattle.paging_core.specs.Address.{is_canonical}
@@ -14,7 +14,7 @@ use Rattle.heap_model.specs.State.{is_within, total_pages}
 use Rattle.heap_model.specs.Place.{meets_any}
 use Rattle.heap_model.specs.Machine.{Paged, rights_of}
 use Rattle.heap_model.proofs.Regions.{within, within_bounds, all_with, pages_with, none_within, find_none, all_without, pages_without, listed, page_canonical}
-use Rattle.region_tree.specs.Regions.{kind_at, is_at, without, IsPutIn, AreTakenOut}
+use Rattle.region_tree.specs.Regions.{kind_at, is_at, without, AreHeld, IsPutIn, AreTakenOut}
 use Rattle.mapped_regions.specs.Mapped.{IsPageRange, IsRegion, IsMapped, CanMap, IsJoined, IsLeft}
 
 -- ---- regions of a list
@@ -67,6 +67,20 @@ mapped p start pages k m range there less =
     let whole = range.0 in
     some_mapped (walk_of p.words p.root (start / 4096 + k)) (kind_at p.regions (4096 * (start / 4096 + k))) (m.found (start / 4096 + k) (page_canonical (start / 4096) pages k range.1 less))
     (kind_there start pages (4096 * (start / 4096 + k)) p.regions there (omega arith) (omega arith))
+
+-- and so are those of which regions have each address
+kind_held : (at : ℕ) (list : List Region) → list_any (is_within at) list ≡ true → IsSome (kind_at list at)
+kind_held at [] held = let no : false ≡ true = held in absurd (cc)
+kind_held at (r ∷ rs) held = go (is_within at r) refl (kind_held at rs) where
+  go : (w : Bool) → is_within at r ≡ w → (list_any (is_within at) rs ≡ true → IsSome (kind_at rs at)) → IsSome (kind_at (r ∷ rs) at)
+  go true is rest = rw is refl
+  go false is rest = rw is (rest (rw is at held))
+
+pub held_mapped : (p : Paged) (start pages k : ℕ) → IsMapped p → IsPageRange start pages → AreHeld start (start + 4096 * pages) p.regions → k < pages → IsSome (walk_of p.words p.root (start / 4096 + k))
+held_mapped p start pages k m range held less =
+    let whole = range.0 in
+    some_mapped (walk_of p.words p.root (start / 4096 + k)) (kind_at p.regions (4096 * (start / 4096 + k))) (m.found (start / 4096 + k) (page_canonical (start / 4096) pages k range.1 less))
+    (kind_held (4096 * (start / 4096 + k)) p.regions (held (4096 * (start / 4096 + k)) (omega arith) (omega arith)))
 
 -- ---- a region joins
 
@@ -126,6 +140,7 @@ is_left old words free regions first start pages first_is gone freed tree count 
   pages_is = refl;
   root = refl;
   tables = refl;
+  joins = refl;
   regions = gone;
   freed = subst (λ f. ArePagesFreed old.words words old.free free old.root (among f pages)) first_is freed;
   tree = tree;
@@ -135,44 +150,61 @@ is_left old words free regions first start pages first_is gone freed tree count 
   bytes = bytes;
 }
 
-pub left_mapped : (old new : Paged) (start pages : ℕ) → IsMapped old → list_any (is_at start pages) old.regions ≡ true → IsLeft old new start pages →
-    AreTakenOut start (start + 4096 * pages) old.regions new.regions → FreeBelow new.free (frame_count new.words) → IsMapped new
-left_mapped old new start pages m there l taken known = record {
+-- what stays beside the regions when pages leave
+pub record IsRest (old new : Paged) (start pages : ℕ) : Type 0 where
+  pub base : new.base ≡ old.base
+  pub pages_is : new.pages ≡ old.pages
+  pub root : new.root ≡ old.root
+  pub tables : new.tables ≡ old.tables
+  pub freed : ArePagesFreed old.words new.words old.free new.free old.root (among (start / 4096) pages)
+  pub count : free_count new.free ≡ free_count old.free + pages
+
+pub fewer_mapped : (old new : Paged) (start pages : ℕ) → IsMapped old → start % 4096 ≡ 0 → total_pages new.regions + pages ≡ total_pages old.regions →
+    AllByRecursion (IsRegion old.base old.pages) new.regions → IsRest old new start pages →
+    AreTakenOut start (start + 4096 * pages) old.regions new.regions → IsTree new.words old.root new.free → FreeBelow new.free (frame_count new.words) →
+    ((k : ℕ) → k < pages → walk_of new.words old.root (start / 4096 + k) ≡ None) →
+    ((other : ℕ) → IsTrue (is_canonical (other * 4096)) → ((k : ℕ) → k < pages → other ≡ start / 4096 + k → ⊥) → walk_of new.words old.root other ≡ walk_of old.words old.root other) →
+    IsMapped new
+fewer_mapped old new start pages m whole all regions l taken tree known none elsewhere = record {
   window = subst (λ b. IsPageRange b new.pages) (sym l.base) (subst (λ n. IsPageRange old.base n) (sym l.pages_is) m.window);
-  tree = subst (λ r. IsTree new.words r new.free) (sym l.root) l.tree;
+  tree = subst (λ r. IsTree new.words r new.free) (sym l.root) tree;
   known = known;
   flags = (let s = l.freed.removed.size in let f = l.freed.flags in let h = m.flags in omega arith);
   root_in = (let r = l.root in let s = l.freed.removed.size in let h = m.root_in in omega arith);
   few_frames = (let s = l.freed.removed.size in let h = m.few_frames in omega arith);
-  count = (let s = l.freed.removed.size in let h = m.count in let c = l.count in let t = l.tables in
-      let all : total_pages new.regions + pages ≡ total_pages old.regions = ap (λ rs. total_pages rs + pages) l.regions ∙ pages_without start pages old.regions there in omega arith);
+  count = (let s = l.freed.removed.size in let h = m.count in let c = l.count in let t = l.tables in omega arith);
   regions = subst (λ b. AllByRecursion (IsRegion b new.pages) new.regions) (sym l.base) (subst (λ n. AllByRecursion (IsRegion old.base n) new.regions) (sym l.pages_is)
-      (subst (AllByRecursion (IsRegion old.base old.pages)) (sym l.regions) (all_without (IsRegion old.base old.pages) start pages old.regions m.regions)));
+      regions);
   found = λ page canonical. subst (λ r. option_map rights_of (walk_of new.words r page) ≡ option_map (λ (kind : Bool × Rights). kind.1) (kind_at new.regions (4096 * page))) (sym l.root)
       (found page canonical (nat_le start (4096 * page) && nat_lt (4096 * page) (start + 4096 * pages)) refl);
 }
   where
-    whole : start % 4096 ≡ 0
-    whole = let r = listed (IsRegion old.base old.pages) start pages old.regions m.regions there in let w = r.1.range.0 in let s = r.2 in omega arith
-
     found : (page : ℕ) → IsTrue (is_canonical (page * 4096)) → (b : Bool) → (nat_le start (4096 * page) && nat_lt (4096 * page) (start + 4096 * pages)) ≡ b →
         option_map rights_of (walk_of new.words old.root page) ≡ option_map (λ (kind : Bool × Rights). kind.1) (kind_at new.regions (4096 * page))
     found page canonical true is =
-        let w = whole in
         let above : start ≤ 4096 * page = grind (arith, nat_tests) in
         let below : 4096 * page < start + 4096 * pages = grind (arith, nat_tests) in
         let same : start / 4096 + (page - start / 4096) ≡ page = omega arith in
-        let gone : walk_of new.words old.root page ≡ None = subst (λ q. walk_of new.words old.root q ≡ None) same (l.unmapped (page - start / 4096) (omega arith)) in
+        let gone : walk_of new.words old.root page ≡ None = subst (λ q. walk_of new.words old.root q ≡ None) same (none (page - start / 4096) (omega arith)) in
         let here : kind_at new.regions (4096 * page) ≡ None = taken (4096 * page) ∙ rw is refl in
         ap (option_map rights_of) gone ∙ sym (ap (option_map (λ (kind : Bool × Rights). kind.1)) here)
     found page canonical false is =
-        let w = whole in
         let apart : (k : ℕ) → k < pages → page ≡ start / 4096 + k → ⊥ = λ k less e. (
         let above : start ≤ 4096 * page = omega arith in
         let below : 4096 * page < start + 4096 * pages = omega arith in
         let yes : (nat_le start (4096 * page) && nat_lt (4096 * page) (start + 4096 * pages)) ≡ true = grind (arith, nat_tests) in absurd (cc)) in
         let here : kind_at new.regions (4096 * page) ≡ kind_at old.regions (4096 * page) = taken (4096 * page) ∙ rw is refl in
-        ap (option_map rights_of) (l.others page canonical apart) ∙ (m.found page canonical ∙ sym (ap (option_map (λ (kind : Bool × Rights). kind.1)) here))
+        ap (option_map rights_of) (elsewhere page canonical apart) ∙ (m.found page canonical ∙ sym (ap (option_map (λ (kind : Bool × Rights). kind.1)) here))
+
+pub left_mapped : (old new : Paged) (start pages : ℕ) → IsMapped old → list_any (is_at start pages) old.regions ≡ true → IsLeft old new start pages →
+    AreTakenOut start (start + 4096 * pages) old.regions new.regions → FreeBelow new.free (frame_count new.words) → IsMapped new
+left_mapped old new start pages m there l taken known =
+    fewer_mapped old new start pages m
+    (let r = listed (IsRegion old.base old.pages) start pages old.regions m.regions there in let w = r.1.range.0 in let s = r.2 in omega arith)
+    (ap (λ rs. total_pages rs + pages) l.regions ∙ pages_without start pages old.regions there)
+    (subst (AllByRecursion (IsRegion old.base old.pages)) (sym l.regions) (all_without (IsRegion old.base old.pages) start pages old.regions m.regions))
+    (record { base = l.base; pages_is = l.pages_is; root = l.root; tables = l.tables; freed = l.freed; count = l.count })
+    taken l.tree known l.unmapped l.others
 
 -- ---- a range, and the region that has it
 

@@ -16,7 +16,7 @@ use Rattle.heap_model.specs.State.{end_of, is_within, total_pages}
 use Rattle.heap_model.specs.Place.{meets_any, with_region}
 use Rattle.heap_model.specs.Room.{heap_rights}
 use Rattle.heap_model.specs.Machine.{Paged, rights_of}
-use Rattle.region_tree.specs.Regions.{kind_at, without}
+use Rattle.region_tree.specs.Regions.{kind_at, without, cut_of}
 
 -- whole pages from an address on: at least one, and all in one canonical half
 abbrev pub IsPageRange : ℕ → ℕ → Type 0
@@ -73,6 +73,7 @@ pub record IsJoined (old new : Paged) (region : Region) : Type 0 where
   pub root : new.root ≡ old.root
   pub regions : new.regions ≡ with_region region old.regions
   pub tables : new.tables ≡ old.tables + missing_of old.words old.root (region.start / 4096) region.pages
+  pub joins : new.joins ≡ (old.joins + 1) % 2 ^ 64
   pub added : IsRangeAdded old.words new.words old.free new.free old.root (region.start / 4096) region.pages region.rights
   pub zeros : (address : ℕ) → IsTrue (is_within address region) → reached new.words old.root address ≡ Some 0
   pub bytes : (address : ℕ) → IsSome (walk_of old.words old.root (address / 4096)) → reached new.words old.root address ≡ reached old.words old.root address
@@ -84,6 +85,7 @@ pub record IsLeft (old new : Paged) (start pages : ℕ) : Type 0 where
   pub pages_is : new.pages ≡ old.pages
   pub root : new.root ≡ old.root
   pub tables : new.tables ≡ old.tables
+  pub joins : new.joins ≡ old.joins
   pub regions : new.regions ≡ without start pages old.regions
   pub freed : ArePagesFreed old.words new.words old.free new.free old.root (among (start / 4096) pages)
   pub tree : IsTree new.words old.root new.free
@@ -91,6 +93,24 @@ pub record IsLeft (old new : Paged) (start pages : ℕ) : Type 0 where
   pub unmapped : (k : ℕ) → k < pages → walk_of new.words old.root (start / 4096 + k) ≡ None
   pub others :
       (page : ℕ) → IsTrue (is_canonical (page * 4096)) → ((k : ℕ) → k < pages → page ≡ start / 4096 + k → ⊥) → walk_of new.words old.root page ≡ walk_of old.words old.root page
+  pub bytes : (address : ℕ) → IsSome (walk_of new.words old.root (address / 4096)) → reached new.words old.root address ≡ reached old.words old.root address
+
+-- So many pages from an address on left the regions: one that begins among them left, and one that reaches there from
+-- before ends where they begin. They are mapped no more and their frames are free; the tables stay, and so does every
+-- byte that is still mapped.
+pub record AreGone (old new : Paged) (start pages : ℕ) : Type 0 where
+  pub base : new.base ≡ old.base
+  pub pages_is : new.pages ≡ old.pages
+  pub root : new.root ≡ old.root
+  pub tables : new.tables ≡ old.tables
+  pub joins : new.joins ≡ old.joins
+  pub regions : new.regions ≡ cut_of start pages old.regions
+  pub freed : ArePagesFreed old.words new.words old.free new.free old.root (among (start / 4096) pages)
+  pub count : free_count new.free ≡ free_count old.free + pages
+  pub unmapped : (k : ℕ) → k < pages → walk_of new.words old.root (start / 4096 + k) ≡ None
+  pub elsewhere :
+      (page : ℕ) → IsTrue (is_canonical (page * 4096)) → ((k : ℕ) → k < pages → page ≡ start / 4096 + k → ⊥) →
+      walk_of new.words old.root page ≡ walk_of old.words old.root page
   pub bytes : (address : ℕ) → IsSome (walk_of new.words old.root (address / 4096)) → reached new.words old.root address ≡ reached old.words old.root address
 
 -- a word stands at the address, in a page that is mapped

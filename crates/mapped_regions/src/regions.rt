@@ -9,7 +9,7 @@ ghost use Rattle.paging_core.specs.Walk.{walk_of, reach, reached};
 ghost use Rattle.paging_core.specs.Tree.{IsTree};
 ghost use Rattle.heap_model.specs.Place.{IsPlace, HasNoPlace};
 ghost use Rattle.heap_model.specs.Machine.{rights_of};
-ghost use Rattle.region_tree.specs.Regions.{is_at, kind_at};
+ghost use Rattle.region_tree.specs.Regions.{is_at, kind_at, AreHeld, IsBoundary};
 ghost use Rattle.mapped_regions.specs.Mapped.{IsPageRange, IsMapped, IsMapped-prop};
 
 use heap_model::{Region, RegionList, Rights};
@@ -38,12 +38,14 @@ pub struct MappedRegions {
     pool: FramePool,
     root: PhysFrame,
     tables: u64,
+    /// How often a region joined. It begins anew behind the greatest number, and tells no more than whether one did of late.
+    joins: u64,
     pub(crate) regions: RegionTree,
-    ghost mapped: { IsMapped (record { base = base; pages = pages; words = frames; root = root; free = pool; tables = tables; regions = regions }) } by { IsMapped-prop (record { base = base; pages = pages; words = frames; root = root; free = pool; tables = tables; regions = regions }) },
+    ghost mapped: { IsMapped (record { base = base; pages = pages; words = frames; root = root; free = pool; tables = tables; joins = joins; regions = regions }) } by { IsMapped-prop (record { base = base; pages = pages; words = frames; root = root; free = pool; tables = tables; joins = joins; regions = regions }) },
 }
 
 impl MappedRegions {
-    ghost use Rattle.mapped_regions.specs.Mapped.{IsEmpty, IsRegion, HasFrames, CanMap, IsJoined, IsLeft, IsMappedWord, word_reached};
+    ghost use Rattle.mapped_regions.specs.Mapped.{IsEmpty, IsRegion, HasFrames, CanMap, IsJoined, IsLeft, AreGone, IsMappedWord, word_reached};
     ghost use Rattle.mapped_regions.specs.Shown.{shown};
 
     /// A memory with `frames` frames, of which one holds the root table, and with a window of `pages` pages from the
@@ -66,6 +68,7 @@ impl MappedRegions {
             pool,
             root,
             tables: 1,
+            joins: 0,
             regions: RegionTree::new(base / Size4KiB::SIZE),
         })
     }
@@ -101,6 +104,13 @@ impl MappedRegions {
         ensures { result ≡ free_count (shown self.now).free }
     {
         self.pool.free_count()
+    }
+
+    /// How often a region joined, modulo 2^64.
+    pub fn joins(&self) -> u64
+        ensures { result ≡ (shown self.now).joins }
+    {
+        self.joins
     }
 
     /// The number of tables, with the root.
@@ -169,6 +179,7 @@ impl MappedRegions {
     {
         let free = self.pool.free_count();
         self.regions.add(self.alloc, region)?;
+        self.joins = self.joins.wrapping_add(1);
         map_range(
             &mut self.frames,
             &mut self.pool,
@@ -222,6 +233,26 @@ impl MappedRegions {
         let place = VirtAddr::new(address - address % 8);
         let word = load_word(&self.frames, self.root, place);
         word.to_le_bytes()[(address % 8) as usize]
+    }
+
+    /// Unmaps `pages` pages from the address `start` on and takes them out of the regions, which have all of them and
+    /// of which none reaches over their end. It takes no memory.
+    pub fn cut(&mut self, start: u64, pages: u64)
+        requires range { IsPageRange start pages }
+        requires held { AreHeld start (start + 4096 * pages) (shown self.old).regions }
+        requires ends { IsBoundary (start + 4096 * pages) (shown self.old).regions }
+        ensures { AreGone (shown self.old) (shown self.new) start pages }
+    {
+        // The tree says here how its regions lie.
+        let _ = self.regions.count();
+        self.regions.cut(start / Size4KiB::SIZE, pages);
+        unmap_range(
+            &mut self.frames,
+            &mut self.pool,
+            self.root,
+            Page::containing_address(VirtAddr::new(start)),
+            pages,
+        );
     }
 
     /// The word at a multiple of 8 in a page that is mapped, by a walk.

@@ -1,8 +1,10 @@
 //! Rows whose answers are known.
-ghost use Rattle.std.specs.Prelude.{◌≡◌, ◌<◌};
+ghost use Rattle.std.specs.Prelude.{◌≡◌, ◌*◌, ◌^◌, ◌<◌, ◌≤◌, IfSome};
+ghost use Rattle.region_tree.specs.Regions.{AreHeld, IsBoundary};
+ghost use Rattle.mapped_regions.specs.Shown.{shown};
 
 use crate::{MapFault, MappedRegions, UnmapFault};
-use heap_model::{Region, Rights};
+use heap_model::{Region, RegionList, Rights};
 use std::alloc::{AllocError, Global};
 use std::test::Fail;
 
@@ -111,5 +113,106 @@ fn places_beside_regions_of_the_user(rt: HostRuntime) -> Result<(), Fail> {
         (regions.free_frames(), regions.tables()),
         (1024 - 64 - 4, 4)
     );
+    Ok(())
+}
+
+// The page behind the region that has a page, if one has it.
+fn end_page(regions: &MappedRegions, page: u64) -> Option<u64>
+    requires within { page < 2 ^ 35 }
+    ensures behind { IfSome result (λ end. page < end) }
+    ensures held { IfSome result (λ end. AreHeld (4096 * page) (4096 * end) (shown regions.now).regions) }
+    ensures boundary { IfSome result (λ end. IsBoundary (4096 * end) (shown regions.now).regions) }
+{
+    let Some(region) = regions.regions.lowest_met(page, 1) else {
+        return None;
+    };
+    Some(region.start / 4096 + region.pages)
+}
+
+// Cuts from a page on what is left of its region, and of the one behind it where it is to cut two. Answers how many
+// pages were cut.
+fn cut_from(regions: &mut MappedRegions, page: u32, two: bool) -> u64 {
+    let first = page.into();
+    let Some(end) = end_page(regions, first) else {
+        return 0;
+    };
+    if end >= 1 << 35 {
+        return 0;
+    }
+    if !two {
+        regions.cut(first * 4096, end - first);
+        return end - first;
+    }
+    match end_page(regions, end) {
+        Some(last) if last < 1 << 35 => {
+            regions.cut(first * 4096, last - first);
+            last - first
+        }
+        _ => 0,
+    }
+}
+
+// The first page of a region and its pages.
+fn pages_at(list: &RegionList, index: u64) -> (u64, u64) {
+    list.get(index)
+        .map_or((0, 0), |region| (region.start / 4096, region.pages))
+}
+
+#[test]
+fn regions_are_cut_at_their_ends(rt: HostRuntime) -> Result<(), Fail> {
+    let alloc = rt.alloc();
+    let mut regions = empty(alloc, 64)?;
+    // The heap has 0x400 to 0x40f, 0x410 to 0x417 and 0x419 to 0x41c, the user 0x3fe, 0x3ff and 0x418.
+    assert_eq!(rt; regions.map(0x3f_e000, 2, READ_WRITE), Ok(()));
+    assert_eq!(rt; grant(&mut regions, 16)?, Some(0x40_0000));
+    assert_eq!(rt; grant(&mut regions, 8)?, Some(0x41_0000));
+    assert_eq!(rt; regions.map(0x41_8000, 1, READ_WRITE), Ok(()));
+    assert_eq!(rt; grant(&mut regions, 4)?, Some(0x41_9000));
+    for (page, two, cut, free, rest) in [
+        (
+            0x500,
+            false,
+            0,
+            988,
+            [(0x3fe, 2), (0x400, 16), (0x410, 8), (0x418, 1), (0x419, 4)],
+        ),
+        (
+            0x417,
+            false,
+            1,
+            989,
+            [(0x3fe, 2), (0x400, 16), (0x410, 7), (0x418, 1), (0x419, 4)],
+        ),
+        (
+            0x40c,
+            true,
+            11,
+            1000,
+            [(0x3fe, 2), (0x400, 12), (0x418, 1), (0x419, 4), (0, 0)],
+        ),
+        (
+            0x418,
+            true,
+            5,
+            1005,
+            [(0x3fe, 2), (0x400, 12), (0, 0), (0, 0), (0, 0)],
+        ),
+        (
+            0x400,
+            false,
+            12,
+            1017,
+            [(0x3fe, 2), (0, 0), (0, 0), (0, 0), (0, 0)],
+        ),
+    ] {
+        assert_eq!(rt; cut_from(&mut regions, page, two), cut, "from {page:x} on");
+        let list = regions.regions(alloc)?;
+        for (index, want) in rest.iter().enumerate() {
+            let found = pages_at(&list, index as u64);
+            assert_eq!(rt; found, *want, "{index} after {page:x}");
+        }
+        assert_eq!(rt; (regions.free_frames(), regions.tables()), (free, 5));
+    }
+    assert_eq!(rt; grant(&mut regions, 24)?, Some(0x40_0000));
     Ok(())
 }

@@ -1,4 +1,4 @@
-use Rattle.std.proofs.Common.{◌≡◌, ◌+◌, ◌-◌, ◌/◌, refl, ap, ◌∙◌, subst, sym, arith, None}
+use Rattle.std.proofs.Common.{◌≡◌, ◌+◌, ◌-◌, ◌/◌, ◌%◌, ◌^◌, refl, ap, ◌∙◌, subst, sym, arith, None}
 use Rattle.paging_core.specs.Walk.{walk_of}
 use Rattle.paging_core.specs.Mapping.{IsRangeAdded}
 use Rattle.heap_model.specs.Machine.{Paged}
@@ -24,6 +24,7 @@ after c = record {
   root = c.args.self.now.root;
   free = c.map_range.new.pool;
   tables = c.args.self.now.tables + (c.free_count-free.result - c.args.region.pages - c.free_count.result);
+  joins = (c.args.self.now.joins + 1) % 2 ^ 64;
   regions = c.add.new.self;
 }
 
@@ -43,6 +44,7 @@ joined c =
       root = refl;
       regions = c.in_ok-add.ensures.ok;
       tables = omega arith;
+      joins = refl;
       added = added;
       zeros = λ address here. (
           let bounds = within_bounds address c.args.region here in
