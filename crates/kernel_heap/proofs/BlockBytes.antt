@@ -24,7 +24,7 @@ use Rattle.kernel_heap.specs.Follows.{still_none}
 use Rattle.kernel_heap.specs.Words.{heap_regions, grants_of}
 use Rattle.kernel_heap.specs.System.{paged}
 use Rattle.kernel_heap.specs.Heap.{regions, word, heap_state}
-use Rattle.kernel_heap.specs.Machine.{live_at, refuse_live, HasBytes, IsLaidOut}
+use Rattle.kernel_heap.specs.Machine.{seen_of, live_at, refuse_live, HasBytes, IsLaidOut}
 use Rattle.kernel_heap.specs.Written.{AreInside, AreRead, IsWritten}
 use Rattle.kernel_heap.specs.declared.paged_system.PagedSystem.{PagedSystem}
 use Rattle.kernel_heap.proofs.BlockPlaces.{bytes_within}
@@ -103,9 +103,9 @@ module _ (heap : Dlmalloc PagedSystem) (blocks : List (Option Live)) (number off
 
   -- ---- the steps
 
-  module _ (s : State) (good : IsGood s) (stands : Stands (record { paged = paged heap.system; granularity = heap.granularity; blocks = blocks }) s) where
+  module _ {top : ℕ} (s : State) (good : IsGood s) (stands : Stands (seen_of top heap blocks) s) where
     abbrev m : Seen
-    m = record { paged = paged heap.system; granularity = heap.granularity; blocks = blocks }
+    m = seen_of top heap blocks
 
     block : (block : Block) × (block_at s.blocks number ≡ Some block) × (outline block ≡ has.live)
     block = behind heap blocks laid s good stands number has.live has.is

@@ -17,7 +17,7 @@ use Rattle.heap_model.proofs.Placed.{behind_outline, outline_at}
 use Rattle.kernel_heap.specs.Words.{heap_regions, grant_of}
 use Rattle.kernel_heap.specs.System.{paged}
 use Rattle.kernel_heap.specs.Heap.{heap_state}
-use Rattle.kernel_heap.specs.Machine.{live_at, has_region, IsLaidOut}
+use Rattle.kernel_heap.specs.Machine.{seen_of, live_at, has_region, IsLaidOut}
 use Rattle.kernel_heap.specs.declared.paged_system.PagedSystem.{PagedSystem}
 use Rattle.kernel_heap.proofs.HeapRegions.{heap_of_all}
 use Rattle.kernel_heap.proofs.SegmentRegions.{has_bounds}
@@ -32,8 +32,8 @@ contained P (first ∷ rest) region all has =
       | suc k ↦ λ less is. contained P rest region all.1 (k, omega arith, is)
     ] has.1 has.2
 
-module _ (heap : Dlmalloc PagedSystem) (blocks : List (Option Live)) (laid : IsLaidOut heap blocks) (s : State) (good : IsGood s)
-    (stands : Stands (record { paged = paged heap.system; granularity = heap.granularity; blocks = blocks }) s) where
+module _ {top : ℕ} (heap : Dlmalloc PagedSystem) (blocks : List (Option Live)) (laid : IsLaidOut heap blocks) (s : State) (good : IsGood s)
+    (stands : Stands (seen_of top heap blocks) s) where
   -- the block of the state behind a live one
   pub behind : (number : ℕ) (live : Live) → live_at blocks number ≡ Some live → (block : Block) × (block_at s.blocks number ≡ Some block) × (outline block ≡ live)
   behind number live is = behind_outline (block_at s.blocks number) live (sym (outline_at s.blocks number) ∙ (ap (λ list. live_at list number) (sym stands.blocks) ∙ is))

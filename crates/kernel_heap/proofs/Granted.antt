@@ -52,5 +52,6 @@ granted_joined old new region pages address is joined =
     let j = subst (IsJoined old new) is joined in
     record {
       grant = record { base = j.base; pages_is = j.pages; root = j.root; tables = j.tables; added = j.added };
+      joins = j.joins;
       regions = j.regions;
     }

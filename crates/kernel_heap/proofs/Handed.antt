@@ -1,10 +1,15 @@
 -- A block is handed out: the answer is allowed, and the machine stands for the state with the block.
-use Rattle.std.proofs.Common.{◌≡◌, ◌≢◌, ℕ, ◌+◌, ◌-◌, ◌%◌, ◌<◌, inl, inr, List, [], ◌∷◌, ◌++◌, length, map, replicate, refl, sym, ap, ◌∙◌, subst, arith, Bool, true, false, Option, Some, None, option_map}
+use Rattle.std.proofs.Common.{◌≡◌, ℕ, ◌+◌, ◌-◌, ◌%◌, ◌<◌, inl, inr, List, [], ◌∷◌, ◌++◌, length, map, replicate, refl, sym, ap, ◌∙◌, subst, arith, Bool, true, false, Option, Some, None, option_map, IsTrue}
 use Rattle.std.specs.List.{list_any}
 use Rattle.std.specs.Int.{is_power_of_two}
 use Rattle.std.proofs.Math.ListN.{length-replicate}
+use Rattle.paging_core.specs.Pool.{free_count}
 use Rattle.paging_core.specs.Prefix.{Prefix}
 use Rattle.paging_core.specs.Walk.{reached}
+use Rattle.heap_memory.specs.declared.grant.Grant.{Grant}
+use Rattle.heap_memory.specs.Regions.{is_granted, with_grant}
+use Rattle.heap_memory.specs.RegionLaws.{granted_new}
+use Rattle.dlmalloc.specs.Moved.{HasByteOf}
 use Rattle.dlmalloc_chunks.specs.Request.{limit, wanted}
 use Rattle.dlmalloc.specs.State.{extents_in}
 use Rattle.dlmalloc.specs.Blocks.{ArePlaced, BlocksAreApart}
@@ -19,27 +24,31 @@ use Rattle.heap_model.specs.Memory.{HoldsBytes}
 use Rattle.heap_model.specs.Refusal.{refuse_request}
 use Rattle.heap_model.specs.Run.{IsGood}
 use Rattle.heap_model.specs.Machine.{Seen, Stands, IsStep, outline}
+use Rattle.heap_model.specs.Room.{IsGrowth}
 use Rattle.heap_model.proofs.Known.{known_within}
+use Rattle.heap_model.proofs.Shortened.{good_there, good_over}
 use Rattle.heap_model.proofs.Placed.{outline_of, outline_push, length_outline, known_alike, holds_pushed, good_placed}
 use Rattle.kernel_heap.specs.System.{paged}
 use Rattle.kernel_heap.specs.Words.{heap_regions}
 use Rattle.kernel_heap.specs.Heap.{regions, word, follows, heap_state}
-use Rattle.kernel_heap.specs.Machine.{live_at, IsLaidOut, AreZero, request}
+use Rattle.kernel_heap.specs.Machine.{seen_of, live_at, IsLaidOut, AreZero, request}
 use Rattle.kernel_heap.specs.declared.paged_system.PagedSystem.{PagedSystem}
 use Rattle.kernel_heap.proofs.BlockPlaces.{byte_kept, bytes_within}
 use Rattle.kernel_heap.proofs.Bytes.{zero_reached}
 use Rattle.kernel_heap.proofs.Found.{step_found}
 use Rattle.kernel_heap.proofs.Laid.{next_live, block_there, live_kept, live_apart}
 use Rattle.kernel_heap.proofs.Refused.{not_refused, wanted_asked}
+use Rattle.kernel_heap.specs.Follows.{still_none}
+use Rattle.kernel_heap.proofs.ReleasedRegions.{AreShortened, shortened_still}
 use Rattle.kernel_heap.proofs.Still.{granted_within}
 
 -- the block that is handed out, as the state has it
 abbrev pub next_block : ℕ → ℕ → ℕ → Cell → Block
 next_block address size align cell = record { address = address; size = size; align = align; cells = replicate size cell }
 
-module _ (heap new : Dlmalloc PagedSystem) (blocks : List (Option Live)) (size align address : ℕ) (laid : IsLaidOut heap blocks) (out : IsHandedOut regions word follows heap size align address new)
+module _ {top : ℕ} (heap new : Dlmalloc PagedSystem) (blocks : List (Option Live)) (size align address : ℕ) (laid : IsLaidOut heap blocks) (out : IsHandedOut regions word follows heap size align address new)
     (placed_before : ArePlaced (regions heap.system) (heap_state heap)) (placed_now : ArePlaced (regions new.system) (heap_state new)) (blocks_apart : BlocksAreApart (heap_state new))
-    (s : State) (good : IsGood s) (stands : Stands (record { paged = paged heap.system; granularity = heap.granularity; blocks = blocks }) s) where
+    (s : State) (good : IsGood s) (stands : Stands (seen_of top heap blocks) s) where
   number : length blocks ≡ length s.blocks
   number = ap length stands.blocks ∙ length_outline s.blocks
 
@@ -63,7 +72,7 @@ module _ (heap new : Dlmalloc PagedSystem) (blocks : List (Option Live)) (size a
   }
 
   abbrev m' : Seen
-  m' = record { paged = paged new.system; granularity = new.granularity; blocks = blocks ++ Some (next_live address size align) ∷ [] }
+  m' = seen_of top new (blocks ++ Some (next_live address size align) ∷ [])
 
   -- the chunk that was found is the one that is wanted
   found : is_power_of_two align ≡ true → IsFound follows regions heap.system (heap_state heap) (wanted size align) new.system (heap_state new)
@@ -82,8 +91,13 @@ module _ (heap new : Dlmalloc PagedSystem) (blocks : List (Option Live)) (size a
     lives_same = ap (λ list. list ++ Some (next_live address size align) ∷ []) stands.blocks ∙ sym (outline_push s.blocks (Some (next_block address size align cell)))
 
     -- the block is good among the regions of the machine
-    good_blocks : (list : List Region) (tables : List Prefix) → list ≡ heap_regions (paged new.system).regions → IsGood (record s { heap = list; tables = tables }) → IsGood (record s { heap = list; tables = tables; blocks = after_it })
-    good_blocks list tables same good' = good_placed (record s { heap = list; tables = tables }) (next_block address size align cell) good'
+    good_blocks : (list : List Region) (tables : List Prefix) → list ≡ heap_regions (paged new.system).regions → IsGood (record s { heap = list; tables = tables; blocks = [] }) → IsGood (record s { heap = list; tables = tables; blocks = after_it })
+    good_blocks list tables same bare =
+        let good' : IsGood (record s { heap = list; tables = tables }) = good_over (record s { heap = list; tables = tables }) s.blocks bare
+        (λ i it is. good_there s.heap list it (good.each i it is) (λ k less. ap (list_any (is_within (it.address + k))) same
+        ∙ granted_within (paged new.system) (it.address + k) ((placed_now it.address it.size (live_kept heap new blocks size align address laid out i (outline it) (live_of i it is)).block).granted (it.address + k) (omega arith) (omega (arith, less)))))
+        good.apart in
+        good_placed (record s { heap = list; tables = tables }) (next_block address size align cell) good'
         (record {
           aligned = out.multiple;
           aligned_16 = out.aligned;
@@ -96,16 +110,28 @@ module _ (heap new : Dlmalloc PagedSystem) (blocks : List (Option Live)) (size a
         elim (blocks_apart old.address old.size address size (live_kept heap new blocks size align address laid out i (outline old) at).block out.block
         (live_apart heap new blocks size align address laid out i (outline old) at)) [ inl before ↦ inl (omega arith) | inr behind ↦ inr (omega arith) ])
 
+  -- nothing goes back
+  whole : AreShortened (paged new.system) (paged new.system)
+  whole = shortened_still (paged new.system) (paged new.system) new.system.kept.laid (still_none (paged new.system))
+
+  stays : (grant : Grant) → 0 < grant.size → regions new.system ≡ with_grant grant (regions heap.system) → HasByteOf grant (regions new.system)
+  stays grant some with_it = (
+    grant.base,
+    omega arith,
+    omega (arith, some),
+    subst (λ (list : List Grant). IsTrue (is_granted list grant.base)) (sym with_it) (granted_new grant (regions heap.system) grant.base (omega arith) (omega (arith, some))),
+  )
+
   module _ (power : is_power_of_two align ≡ true) (answered : Option (List Region))
-      (same : length (paged new.system).regions ≡ length (paged heap.system).regions → answered ≡ None)
-      (more : length (paged new.system).regions ≢ length (paged heap.system).regions → answered ≡ Some (heap_regions (paged new.system).regions)) where
+      (same : (paged new.system).joins ≡ (paged heap.system).joins → free_count (paged new.system).free ≡ free_count (paged heap.system).free → answered ≡ None)
+      (other : ((paged new.system).joins ≡ (paged heap.system).joins → free_count (paged new.system).free ≡ free_count (paged heap.system).free → ⊥) → answered ≡ Some (heap_regions (paged new.system).regions)) where
     -- nothing is known of its bytes
     step_handed : IsStep s (Malloc size align) (record { reply = Placed (length blocks) address; regions = answered }) m'
     step_handed =
         let fresh : (k byte : ℕ) → k < size → Fresh ≡ Known byte → reached (paged new.system).words (paged new.system).root (address + k) ≡ Some byte = λ k byte less is. absurd (cc) in
-        step_found heap new blocks (blocks ++ Some (next_live address size align) ∷ []) laid (wanted size align) (found power) out.granularity s good stands
-        (Malloc size align) (length blocks) address (after_it Fresh) refl (not_at_once power) refl (λ list growth how. (number, growth))
-        (lives_same Fresh) (holds Fresh fresh) (good_blocks Fresh) answered same more
+        step_found heap new new blocks (blocks ++ Some (next_live address size align) ∷ []) laid (wanted size align) (found power) whole out.granularity stays s good stands
+        (Malloc size align) (length blocks) address (after_it Fresh) refl (not_at_once power) refl (λ list grown growth cut same still. (number, subst (IsGrowth s (wanted size align)) (sym (same refl)) growth))
+        (lives_same Fresh) (holds Fresh fresh) (good_blocks Fresh) answered same other
 
     -- its bytes are zero
     step_cleared : ((k : ℕ) → k < size → reached (paged new.system).words (paged new.system).root (address + k) ≡ Some 0) →
@@ -113,9 +139,9 @@ module _ (heap new : Dlmalloc PagedSystem) (blocks : List (Option Live)) (size a
     step_cleared cleared =
         let zero_there : (k byte : ℕ) → k < size → Known 0 ≡ Known byte → reached (paged new.system).words (paged new.system).root (address + k) ≡ Some byte =
         λ k byte less is. cleared k less ∙ ap Some (cc is) in
-        step_found heap new blocks (blocks ++ Some (next_live address size align) ∷ []) laid (wanted size align) (found power) out.granularity s good stands
-        (Calloc size align) (length blocks) address (after_it (Known 0)) refl (not_at_once power) refl (λ list growth how. (number, growth))
-        (lives_same (Known 0)) (holds (Known 0) zero_there) (good_blocks (Known 0)) answered same more
+        step_found heap new new blocks (blocks ++ Some (next_live address size align) ∷ []) laid (wanted size align) (found power) whole out.granularity stays s good stands
+        (Calloc size align) (length blocks) address (after_it (Known 0)) refl (not_at_once power) refl (λ list grown growth cut same still. (number, subst (IsGrowth s (wanted size align)) (sym (same refl)) growth))
+        (lives_same (Known 0)) (holds (Known 0) zero_there) (good_blocks (Known 0)) answered same other
 
     pub step_request : (cleared : Bool) → (cleared ≡ true → AreZero (word new.system) address size) →
         IsStep s (request cleared size align) (record { reply = Placed (length blocks) address; regions = answered }) m'

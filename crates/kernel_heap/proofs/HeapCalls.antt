@@ -1,18 +1,15 @@
 -- What the heap says of the blocks that it hands out and resizes, as a machine's moves.
-use Rattle.std.proofs.Common.{◌≡◌, ℕ, ◌-◌, ◌≤◌, ◌==◌, inl, inr, [], Option, sym, ◌∙◌, ap, subst, arith}
+use Rattle.std.proofs.Common.{◌≡◌, ℕ, ◌-◌, ◌≤◌, ◌==◌, true, inl, inr, [], Option, sym, ap, subst, arith}
 use Rattle.std.specs.Prelude.{unwrap_or, option_map}
 use Rattle.dlmalloc_chunks.specs.declared.extent.Extent.{Extent}
 use Rattle.dlmalloc.specs.State.{HeapState, extents_in, size_where}
 use Rattle.dlmalloc.specs.Blocks.{IsBlock}
-use Rattle.dlmalloc.specs.Freed.{freed}
 use Rattle.dlmalloc.specs.Requested.{IsServedAt}
 use Rattle.dlmalloc.specs.Written.{IsServedCleared}
 use Rattle.dlmalloc.specs.Moved.{IsResized, IsGivenSize}
 use Rattle.dlmalloc.specs.declared.heap.Dlmalloc.{Dlmalloc}
-use Rattle.kernel_heap.specs.Follows.{still_on}
-use Rattle.kernel_heap.specs.System.{paged}
 use Rattle.kernel_heap.specs.Heap.{regions, word, zeros, follows, heap_state}
-use Rattle.kernel_heap.specs.Machine.{IsCutAt, AreZero, IsResizedTo}
+use Rattle.kernel_heap.specs.Machine.{IsCutAt, AreZero, IsFreedAt, IsResizedTo}
 use Rattle.kernel_heap.specs.declared.paged_system.PagedSystem.{PagedSystem}
 
 module _ (heap new : Dlmalloc PagedSystem) (size align address : ℕ) where
@@ -34,24 +31,29 @@ module _ (heap new : Dlmalloc PagedSystem) (size align address : ℕ) (out : IsS
 
 -- a block with another size
 module _ (heap new : Dlmalloc PagedSystem) (from held size align address : ℕ) where
-  pub resized_to : IsResized regions word zeros follows heap from held align size address new → IsResizedTo heap.system (heap_state heap) from size align address new.system (heap_state new)
+  pub resized_to : IsResized regions word zeros follows true true 4096 heap from held align size address new → IsResizedTo heap.system (heap_state heap) from size align address new.system (heap_state new)
   resized_to (inl (few, same, out)) = inl (few, same, out.state, out.moved.followed)
   resized_to (inr (none, out)) = inr (
     none,
     (
       out.middle.system,
+      out.filled.system,
       heap_state out.middle,
       cut_at heap out.middle size align address out.served,
-      still_on (paged out.middle.system) (paged out.filled.system) (paged new.system) out.same.followed out.freed.followed,
-      out.freed.state ∙ ap (λ (s : HeapState). freed s (from - 16)) out.same.state,
+      out.same.followed,
+      subst (λ (s : HeapState). IsFreedAt out.filled.system s from new.system (heap_state new)) out.same.state (out.freed.state, out.freed.followed),
     ),
   )
 
   -- fewer bytes that were held are kept too
-  pub given_fewer : (fewer : ℕ) → fewer ≤ held → IsGivenSize regions word follows heap from held align size address new → IsGivenSize regions word follows heap from fewer align size address new
+  pub given_fewer : (fewer : ℕ) → fewer ≤ held → IsGivenSize regions word follows true true 4096 heap from held align size address new → IsGivenSize regions word follows true true 4096 heap from fewer align size address new
   given_fewer fewer less out = record {
+    middle = out.middle;
     found = out.found;
+    between = out.between;
+    still = out.still;
     here = out.here;
+    elsewhere = out.elsewhere;
     granularity = out.granularity;
     small = out.small;
     low = out.low;

@@ -137,10 +137,10 @@ apart_from address pages (first ∷ rest) clear =
 
 -- ---- a region joins
 
-heap_first : (region : Region) (list : List Region) → region.heap ≡ true → heap_regions (region ∷ list) ≡ region ∷ heap_regions list
+pub heap_first : (region : Region) (list : List Region) → region.heap ≡ true → heap_regions (region ∷ list) ≡ region ∷ heap_regions list
 heap_first region list heap = ap (λ b. cond b (region ∷ heap_regions list) (heap_regions list)) heap
 
-user_first : (region : Region) (list : List Region) → region.heap ≡ false → heap_regions (region ∷ list) ≡ heap_regions list
+pub user_first : (region : Region) (list : List Region) → region.heap ≡ false → heap_regions (region ∷ list) ≡ heap_regions list
 user_first region list user = ap (λ b. cond b (region ∷ heap_regions list) (heap_regions list)) user
 
 -- one of the user changes nothing for the heap

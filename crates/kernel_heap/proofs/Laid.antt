@@ -1,5 +1,5 @@
 -- The blocks of a machine and the extents of its heap, before and after a call of the heap.
-use Rattle.std.proofs.Common.{◌≡◌, ◌≢◌, ℕ, ◌+◌, ◌-◌, inl, inr, Bool, true, false, ◌==◌, if◌then◌else◌, List, [], ◌∷◌, ◌++◌, length, map, slice_set, refl, sym, ap, ◌∙◌, subst, arith, Option, Some, None}
+use Rattle.std.proofs.Common.{◌≡◌, ◌≢◌, ℕ, ◌+◌, ◌-◌, ◌^◌, inl, inr, Bool, true, false, ◌==◌, if◌then◌else◌, List, [], ◌∷◌, ◌++◌, length, map, slice_set, refl, sym, ap, ◌∙◌, subst, arith, Option, Some, None}
 use Rattle.std.specs.List.{AllByRecursion}
 use Rattle.std.specs.Int.{IsPowerOfTwo}
 use Rattle.std.proofs.lemmas.Bool.Decides.{nat_tests}
@@ -8,7 +8,7 @@ use Rattle.dlmalloc_chunks.specs.declared.extent.Extent.{Extent}
 use Rattle.dlmalloc.specs.Extents.{extent_at}
 use Rattle.dlmalloc.specs.State.{HeapState, Segment, extents_in}
 use Rattle.dlmalloc.specs.Blocks.{IsBlock}
-use Rattle.dlmalloc.specs.Freed.{freed_in}
+use Rattle.dlmalloc.specs.Freed.{freed}
 use Rattle.dlmalloc.specs.declared.heap.Dlmalloc.{Dlmalloc}
 use Rattle.dlmalloc.specs.declared.malloc_error.MallocError.{MallocError}
 use Rattle.heap_model.specs.declared.live.Live.{Live}
@@ -18,14 +18,16 @@ use Rattle.heap_model.proofs.Resized.{replaced_at, replaced_stays, replaced_here
 use Rattle.kernel_heap.specs.Beside.{IsBeside}
 use Rattle.kernel_heap.specs.Words.{heap_regions, grant_of, grants_of}
 use Rattle.kernel_heap.specs.System.{paged}
-use Rattle.kernel_heap.specs.Heap.{follows, refuses, denies, regions, word, heap_state, IsHeap}
-use Rattle.dlmalloc.specs.Requested.{asked, IsHandedOut}
+use Rattle.kernel_heap.specs.Heap.{follows, refuses, denies, regions, word, heap_state, IsHeap, HasBins}
+use Rattle.dlmalloc.specs.Requested.{asked, IsFound, IsHandedOut}
 use Rattle.dlmalloc.specs.Moved.{IsGivenSize}
-use Rattle.dlmalloc.specs.Served.{IsRefusedWith, IsFreed, regions_in, KeepsRegions, OnlyBlocksChange, RestsOutside}
+use Rattle.dlmalloc.specs.AfterFree.{after_free, IsFreed}
+use Rattle.dlmalloc.specs.Served.{IsRefusedWith, regions_in, KeepsRegions, OnlyBlocksChange, RestsOutside}
 use Rattle.kernel_heap.specs.Machine.{seen_of, live_at, HaveRegions, IsLive, IsLaidOut}
 use Rattle.kernel_heap.specs.declared.paged_system.PagedSystem.{PagedSystem}
 use Rattle.kernel_heap.proofs.Numbers.{same_or_other}
-use Rattle.kernel_heap.proofs.SegmentRegions.{have_changed, have_found}
+use Rattle.kernel_heap.proofs.SegmentRegions.{have_found}
+use Rattle.kernel_heap.proofs.SegmentsLeft.{have_all, have_freed}
 
 -- ---- a block and its extent
 
@@ -85,9 +87,10 @@ module _ (heap new : Dlmalloc PagedSystem) (blocks : List (Option Live)) (size a
       let place = block_place (heap_state heap) live.address live.size b in
       out.more.new b.extent b.used (block_there (heap_state heap) live.address live.size b) (omega arith)
 
-  pub laid_handed : IsPowerOfTwo align → IsLaidOut new (blocks ++ Some (next_live address size align) ∷ [])
-  laid_handed power = record {
+  pub laid_handed : IsPowerOfTwo align → HasBins new → IsLaidOut new (blocks ++ Some (next_live address size align) ∷ [])
+  laid_handed power linked = record {
     heap_sound = out.sound;
+    heap_linked = linked;
     has = have_found heap new (padded (asked size align)) out.found laid.has;
     lives = λ number live is. elim (appended blocks (Some (next_live address size align)) number live is) [
       | inl old ↦ live_kept number live old
@@ -110,10 +113,20 @@ module _ (heap new : Dlmalloc PagedSystem) (blocks : List (Option Live)) (size a
     ];
   }
 
+-- ---- a block is freed
+
+-- the segments have all regions still
+pub have_ended : (heap new : Dlmalloc PagedSystem) (address : ℕ) → IsFreed regions word follows true true 4096 heap address new → HaveRegions (heap_state heap).segments (regions heap.system) →
+    HaveRegions (heap_state new).segments (regions new.system)
+have_ended heap new address back have =
+    subst (λ (h : HeapState). HaveRegions h.segments (regions new.system)) (sym back.state)
+    (subst (HaveRegions (after_free true true 4096 (freed (heap_state heap) (address - 16)) (address - 16)).segments) (sym back.regions_are)
+    (have_freed true true 4096 (heap_state heap) (address - 16) (regions heap.system) (have_all 0 (2 ^ 64) (paged heap.system).regions heap.system.kept.laid (heap_state heap).segments have)))
+
 -- ---- a block with another size
 
 module _ (heap new : Dlmalloc PagedSystem) (blocks : List (Option Live)) (number : ℕ) (live : Live) (size align address : ℕ) (laid : IsLaidOut heap blocks)
-    (is : live_at blocks number ≡ Some live) (out : IsGivenSize regions word follows heap live.address live.size align size address new) where
+    (is : live_at blocks number ≡ Some live) (out : IsGivenSize regions word follows true true 4096 heap live.address live.size align size address new) where
   place_before : live.address ≡ (laid.lives number live is).block.extent.at + 16
   place_before = block_place (heap_state heap) live.address live.size (laid.lives number live is).block
 
@@ -141,10 +154,20 @@ module _ (heap new : Dlmalloc PagedSystem) (blocks : List (Option Live)) (number
       let place = block_place (heap_state heap) it.address it.size b in
       out.moved.apart b.extent b.used (elsewhere i it differ at) (block_there (heap_state heap) it.address it.size b) (omega arith)
 
-  pub laid_resized : IsPowerOfTwo align → IsLaidOut new (slice_set blocks number (Some (next_live address size align)))
-  laid_resized power = record {
+  -- the segments have all regions, where the old block was freed too
+  have_resized : HaveRegions (heap_state new).segments (regions new.system)
+  have_resized =
+      let found = have_found heap out.middle (padded (asked size align)) out.found laid.has in
+      elim (same_or_other address live.address) [
+        | inl same ↦ subst (λ (h : Dlmalloc PagedSystem). HaveRegions (heap_state h).segments (regions h.system)) (sym (out.here same).0) found
+        | inr other ↦ have_ended out.middle new live.address (out.elsewhere other) found
+      ]
+
+  pub laid_resized : IsPowerOfTwo align → HasBins new → IsLaidOut new (slice_set blocks number (Some (next_live address size align)))
+  laid_resized power linked = record {
     heap_sound = out.sound;
-    has = have_found heap new (padded (asked size align)) out.found laid.has;
+    heap_linked = linked;
+    has = have_resized;
     lives = λ i it at. elim (replaced_at blocks number (next_live address size align) i it at) [
       | inl same ↦ subst (λ (l : Live). IsLive (heap_state new) l) same.1 (record { block = out.block; align = power })
       | inr other ↦ live_stays i it other.0 other.1
@@ -180,12 +203,13 @@ module _ (heap new : Dlmalloc PagedSystem) (blocks : List (Option Live)) (number
 
 module _ (heap new : Dlmalloc PagedSystem) (blocks : List (Option Live)) (size : ℕ) (error : MallocError) (denied : IsRefusedWith regions word follows refuses denies heap size error new) where
   -- a refused request leaves the machine as it was
-  pub seen_denied : seen_of new blocks ≡ seen_of heap blocks
-  seen_denied i = record { paged = denied.same.refused i; granularity = (ap (λ (h : HeapState). h.granularity) denied.same.state) i; blocks = blocks }
+  pub seen_denied : (top : ℕ) → seen_of top new blocks ≡ seen_of top heap blocks
+  seen_denied top i = record { paged = denied.same.refused i; granularity = (ap (λ (h : HeapState). h.granularity) denied.same.state) i; blocks = blocks; top = top }
 
-  pub laid_denied : IsLaidOut heap blocks → IsLaidOut new blocks
-  laid_denied laid = record {
+  pub laid_denied : IsLaidOut heap blocks → HasBins new → IsLaidOut new blocks
+  laid_denied laid linked = record {
     heap_sound = denied.same.sound;
+    heap_linked = linked;
     has = subst (λ (h : HeapState). HaveRegions h.segments (regions new.system)) (sym denied.same.state) (subst (λ p. HaveRegions (heap_state heap).segments (grants_of p)) (sym denied.same.refused) laid.has);
     lives = λ number live is. subst (λ (h : HeapState). IsLive h live) (sym denied.same.state) (laid.lives number live is);
     used = λ extent used there. laid.used extent used (subst (λ (h : HeapState). extent_at extent.at (extents_in h) ≡ Some extent) denied.same.state there);
@@ -195,9 +219,9 @@ module _ (heap new : Dlmalloc PagedSystem) (blocks : List (Option Live)) (size :
 -- ---- a block less
 
 module _ (heap new : Dlmalloc PagedSystem) (blocks : List (Option Live)) (number : ℕ) (live : Live) (laid : IsLaidOut heap blocks)
-    (is : live_at blocks number ≡ Some live) (back : IsFreed regions word follows heap live.address new) where
+    (is : live_at blocks number ≡ Some live) (back : IsFreed regions word follows true true 4096 heap live.address new) where
   pub granularity_ended : new.granularity ≡ heap.granularity
-  granularity_ended = ap (λ (h : HeapState). h.granularity) back.state
+  granularity_ended = back.granularity
 
   -- every other live block has its extent still
   pub live_left : (other : ℕ) (it : Live) → other ≢ number → live_at blocks other ≡ Some it → IsLive (heap_state new) it
@@ -213,11 +237,11 @@ module _ (heap new : Dlmalloc PagedSystem) (blocks : List (Option Live)) (number
         align = was.align;
       }
 
-  pub laid_ended : IsLaidOut new (slice_set blocks number None)
-  laid_ended = record {
+  pub laid_ended : HasBins new → IsLaidOut new (slice_set blocks number None)
+  laid_ended linked = record {
     heap_sound = back.sound;
-    has = subst (λ (h : HeapState). HaveRegions h.segments (regions new.system)) (sym back.state)
-        (have_changed (freed_in (live.address - 16)) (heap_state heap).segments (regions new.system) (subst (HaveRegions (heap_state heap).segments) (sym back.regions_same) laid.has));
+    heap_linked = linked;
+    has = have_ended heap new live.address back laid.has;
     lives = λ other it at. (let was = left_at blocks number other it at in live_left other it was.0 was.1);
     used = λ extent used there. (
         let was = laid.used extent used (back.less.kept extent used there) in
@@ -250,6 +274,7 @@ laid_outside heap blocks system laid same rests outside =
     let state : heap_state (record heap { system = system }) ≡ heap_state heap = rest.1 in
     record {
       heap_sound = rest.0;
+      heap_linked = rest.2 laid.heap_linked;
       has = subst (λ (h : HeapState). HaveRegions h.segments (regions system)) (sym state) (subst (HaveRegions (heap_state heap).segments) (sym same) laid.has);
       lives = λ number live is. subst (λ (h : HeapState). IsLive h live) (sym state) (laid.lives number live is);
       used = λ extent used there. laid.used extent used (subst (λ (h : HeapState). extent_at extent.at (extents_in h) ≡ Some extent) state there);
@@ -258,14 +283,15 @@ laid_outside heap blocks system laid same rests outside =
 
 -- so a heap is as it was where something was done beside it
 pub heap_beside : (heap : Dlmalloc PagedSystem) → IsHeap heap → (system : PagedSystem) → IsBeside (paged heap.system) (paged system) → RestsOutside regions word heap →
-    IsHeap (record heap { system = system }) × (heap_state (record heap { system = system }) ≡ heap_state heap)
+    IsHeap (record heap { system = system }) × (heap_state (record heap { system = system }) ≡ heap_state heap) × (HasBins heap → HasBins (record heap { system = system }))
 heap_beside heap sound system beside rests = rests sound system (same_regions heap sound system beside.regions) (λ k granted there outside. beside.words k granted)
 
 -- ---- no block
 
-pub laid_new : (heap : Dlmalloc PagedSystem) → IsHeap heap → (heap_state heap).segments ≡ [] → (paged heap.system).regions ≡ [] → IsLaidOut heap []
-laid_new heap sound none empty = record {
+pub laid_new : (heap : Dlmalloc PagedSystem) → IsHeap heap → HasBins heap → (heap_state heap).segments ≡ [] → (paged heap.system).regions ≡ [] → IsLaidOut heap []
+laid_new heap sound linked none empty = record {
   heap_sound = sound;
+  heap_linked = linked;
   has = subst (λ list. HaveRegions (heap_state heap).segments (map grant_of (heap_regions list))) (sym empty) tt;
   lives = λ number live is. absurd (cc);
   used = λ extent used there. absurd (let gone : extent_at extent.at [] ≡ Some extent = subst (λ (segments : List Segment). extent_at extent.at (Rattle.std.specs.List.flat_map (λ (segment : Segment). segment.extents) segments) ≡ Some extent) none there in cc);

@@ -16,10 +16,9 @@ use Rattle.heap_model.specs.Extents.{AreRuns, HasExtent, HasBlock, IsTiling}
 use Rattle.heap_model.specs.Run.{IsGood}
 use Rattle.heap_model.specs.Machine.{Seen, Stands, IsStep, outline}
 use Rattle.heap_model.proofs.Placed.{outline_of}
-use Rattle.kernel_heap.specs.System.{paged}
 use Rattle.kernel_heap.specs.Heap.{word, heap_state}
 use Rattle.dlmalloc.specs.Served.{IsListed}
-use Rattle.kernel_heap.specs.Machine.{IsLaidOut}
+use Rattle.kernel_heap.specs.Machine.{seen_of, IsLaidOut}
 use Rattle.kernel_heap.specs.declared.paged_system.PagedSystem.{PagedSystem}
 use Rattle.kernel_heap.proofs.Full.{behind}
 use Rattle.kernel_heap.proofs.Laid.{block_place, block_there, block_is}
@@ -38,11 +37,11 @@ used_shown heap (Some one) extent is used = go (is_victim heap one) (let same : 
     go true same = absurd (let k : Victim ≡ extent.kind = ap (λ (e : Extent). e.kind) same in let u = ap is_used (k ∙ used) in cc)
     go false same = ap Some same
 
-module _ (heap : Dlmalloc PagedSystem) (blocks : List (Option Live)) (laid : IsLaidOut heap blocks) (s : State) (good : IsGood s)
-    (stands : Stands (record { paged = paged heap.system; granularity = heap.granularity; blocks = blocks }) s)
+module _ {top : ℕ} (heap : Dlmalloc PagedSystem) (blocks : List (Option Live)) (laid : IsLaidOut heap blocks) (s : State) (good : IsGood s)
+    (stands : Stands (seen_of top heap blocks) s)
     (list : List Extent) (listed : IsListed word heap list) where
   abbrev m : Seen
-  m = record { paged = paged heap.system; granularity = heap.granularity; blocks = blocks }
+  m = seen_of top heap blocks
 
   block_has : (number : ℕ) (block : Block) → block_at s.blocks number ≡ Some block → HasExtent list block
   block_has number block is =

@@ -40,8 +40,9 @@ start_good config good = record {
   frames = (let f = good.frames in omega arith);
 }
 
-pub start_stands : (m : Seen) (config : Config) → IsNew m.paged config.base config.pages config.frames → m.granularity ≡ config.granularity → m.blocks ≡ [] → Stands m (start config)
-start_stands m config new granularity blocks = record {
+pub start_stands : (m : Seen) (config : Config) → IsNew m.paged config.base config.pages config.frames → m.paged.root ≡ m.top → m.granularity ≡ config.granularity → m.blocks ≡ [] → Stands m (start config)
+start_stands m config new root granularity blocks = record {
+  root = root;
   tree = new.kept.mapped.tree;
   free_frames = (let f = new.free_frames in omega arith);
   table_count = new.tables_is;

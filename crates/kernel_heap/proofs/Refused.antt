@@ -18,7 +18,7 @@ use Rattle.heap_model.specs.declared.answer.Refusal.TheVariants.{BadAlign, TooLa
 use Rattle.heap_model.specs.declared.answer.Reply.TheVariants.{Refused}
 use Rattle.heap_model.specs.declared.answer.Answer.{Answer}
 use Rattle.heap_model.specs.declared.call.Call.{Call}
-use Rattle.heap_model.specs.declared.call.Call.TheVariants.{Malloc, Calloc, Realloc, CRealloc, Free, Write, Read, Map, Unmap, Probe, Extents}
+use Rattle.heap_model.specs.declared.call.Call.TheVariants.{Malloc, Calloc, Realloc, CRealloc, Free, Write, Read, Map, Unmap, Probe, Trim, SetRate, SetGranularity, Reset, Extents}
 use Rattle.heap_model.specs.Request.{pages_in, pages_for}
 use Rattle.heap_model.specs.State.{State, Block}
 use Rattle.heap_model.specs.Tables.{missing, free_frames}
@@ -54,6 +54,10 @@ changed_refused s (Read number offset count) refusal = refl
 changed_refused s (Map start pages rights) refusal = refl
 changed_refused s (Unmap start pages) refusal = refl
 changed_refused s (Probe at access user) refusal = refl
+changed_refused s (Trim pad) refusal = refl
+changed_refused s (SetRate rate) refusal = refl
+changed_refused s (SetGranularity granularity) refusal = refl
+changed_refused s Reset refusal = refl
 changed_refused s Extents refusal = refl
 
 -- the refusal that must come
@@ -136,11 +140,11 @@ module _ (system : PagedSystem) (m : Seen) (same : m.paged ≡ paged system) (s 
   no_place_same : (pages : ℕ) → HasNoPlace (paged system).base (paged system).pages (paged system).regions pages → HasNoPlace s.base s.pages (all_regions s) pages
   no_place_same pages = placed (λ base window regions. HasNoPlace base window regions pages)
 
-module _ (heap : Dlmalloc PagedSystem) (blocks : List (Option Live)) (laid : IsLaidOut heap blocks) (s : State) (good : IsGood s)
-    (stands : Stands (record { paged = paged heap.system; granularity = heap.granularity; blocks = blocks }) s)
+module _ {top : ℕ} (heap : Dlmalloc PagedSystem) (blocks : List (Option Live)) (laid : IsLaidOut heap blocks) (s : State) (good : IsGood s)
+    (stands : Stands (seen_of top heap blocks) s)
     (call : Call) (n : ℕ) (must : must_refuse s call ≡ None) (wants : wanted_by s call ≡ Some n) where
   abbrev m : Seen
-  m = record { paged = paged heap.system; granularity = heap.granularity; blocks = blocks }
+  m = seen_of top heap blocks
 
   abbrev asked_pages : ℕ
   asked_pages = pages_in (round_up (n + 96) heap.granularity)
@@ -184,25 +188,25 @@ module _ (heap : Dlmalloc PagedSystem) (blocks : List (Option Live)) (laid : IsL
       )
 
 -- What the heap refuses, is refused for the same cause.
-pub step_denied : (heap new : Dlmalloc PagedSystem) (blocks : List (Option Live)) (laid : IsLaidOut heap blocks) (s : State) (good : IsGood s)
-    (stands : Stands (seen_of heap blocks) s) (call : Call) (asked n : ℕ) → padded asked ≡ n → (limit s.granularity ≤ asked → must_refuse s call ≡ Some TooLarge) → (asked < limit s.granularity → must_refuse s call ≡ None) →
-    wanted_by s call ≡ Some n → (error : MallocError) → IsRefusedWith regions word follows refuses denies heap asked error new → (answer : Answer) → IsRefusalOf error answer → IsStep s call answer (seen_of new blocks)
-step_denied heap new blocks laid s good stands call asked n same large small wants error denied answer given =
-    subst (λ (m : Seen). IsStep s call answer m) (sym (seen_denied heap new blocks asked error denied))
-    (subst (λ (a : Answer). IsStep s call a (seen_of heap blocks)) (sym given.2) (go error given.0 given.1 denied.refused))
+pub step_denied : {top : ℕ} → (heap new : Dlmalloc PagedSystem) (blocks : List (Option Live)) (laid : IsLaidOut heap blocks) (s : State) (good : IsGood s)
+    (stands : Stands (seen_of top heap blocks) s) (call : Call) (asked n : ℕ) → padded asked ≡ n → (limit s.granularity ≤ asked → must_refuse s call ≡ Some TooLarge) → (asked < limit s.granularity → must_refuse s call ≡ None) →
+    wanted_by s call ≡ Some n → (error : MallocError) → IsRefusedWith regions word follows refuses denies heap asked error new → (answer : Answer) → IsRefusalOf error answer → IsStep s call answer (seen_of top new blocks)
+step_denied {top = top} heap new blocks laid s good stands call asked n same large small wants error denied answer given =
+    subst (λ (m : Seen). IsStep s call answer m) (sym (seen_denied heap new blocks asked error denied top))
+    (subst (λ (a : Answer). IsStep s call a (seen_of top heap blocks)) (sym given.2) (go error given.0 given.1 denied.refused))
   where
-    go : (error : MallocError) (refusal : Refusal) → refusal_of error ≡ Some refusal → IsRefused denies heap.system (heap_state heap) asked error → IsStep s call (refused_with refusal) (seen_of heap blocks)
+    go : (error : MallocError) (refusal : Refusal) → refusal_of error ≡ Some refusal → IsRefused denies heap.system (heap_state heap) asked error → IsStep s call (refused_with refusal) (seen_of top heap blocks)
     go MallocTooLarge refusal is most =
         let one : TooLarge ≡ refusal = cc in
-        subst (λ r. IsStep s call (refused_with r) (seen_of heap blocks)) one (step_refused (seen_of heap blocks) s call TooLarge (large (subst (λ g. limit g ≤ asked) stands.granularity most)) good stands)
+        subst (λ r. IsStep s call (refused_with r) (seen_of top heap blocks)) one (step_refused (seen_of top heap blocks) s call TooLarge (large (subst (λ g. limit g ≤ asked) stands.granularity most)) good stands)
     go (System SystemNoSpace) refusal is why =
         let one : NoSpace ≡ refusal = cc in
-        subst (λ r. IsStep s call (refused_with r) (seen_of heap blocks)) one
+        subst (λ r. IsStep s call (refused_with r) (seen_of top heap blocks)) one
         (step_no_space heap blocks laid s good stands call n (small (subst (λ g. asked < limit g) stands.granularity why.0)) wants
         (subst (λ k. IsDenied denies heap.system (heap_state heap) k SystemNoSpace) same why.1))
     go (System SystemNoFrames) refusal is why =
         let one : NoFrames ≡ refusal = cc in
-        subst (λ r. IsStep s call (refused_with r) (seen_of heap blocks)) one
+        subst (λ r. IsStep s call (refused_with r) (seen_of top heap blocks)) one
         (step_no_frames heap blocks laid s good stands call n (small (subst (λ g. asked < limit g) stands.granularity why.0)) wants
         (subst (λ k. IsDenied denies heap.system (heap_state heap) k SystemNoFrames) same why.1))
     go (System SystemOutOfMemory) refusal is why = absurd (cc)

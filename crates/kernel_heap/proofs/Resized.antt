@@ -1,11 +1,14 @@
 -- A block gets another size, where it is or elsewhere: the answer is allowed, and the machine stands for the state with it.
-use Rattle.std.proofs.Common.{◌≡◌, ◌≢◌, ℕ, ◌+◌, ◌-◌, ◌%◌, ◌<◌, ◌≤◌, ◌⊎◌, inl, inr, List, [], ◌∷◌, length, map, slice_set, refl, sym, ap, ◌∙◌, subst, arith, Bool, true, false, not, ◌==◌, if◌then◌else◌, Option, Some, None, option_map}
+use Rattle.std.proofs.Common.{◌≡◌, ◌≢◌, ℕ, ◌+◌, ◌-◌, ◌%◌, ◌<◌, ◌≤◌, inl, inr, List, [], ◌∷◌, map, slice_set, refl, sym, ap, ◌∙◌, subst, arith, Bool, true, false, not, ◌==◌, if◌then◌else◌, Option, Some, None, option_map}
 use Rattle.std.specs.Prelude.{slice_index}
 use Rattle.std.specs.List.{list_any}
 use Rattle.std.specs.Int.{w64, to_le_bytes, is_power_of_two, IsPowerOfTwo}
+use Rattle.paging_core.specs.Pool.{free_count}
 use Rattle.paging_core.specs.Prefix.{Prefix}
 use Rattle.paging_core.specs.Walk.{reached}
 use Rattle.dlmalloc_chunks.specs.Request.{limit, wanted}
+use Rattle.heap_memory.specs.declared.grant.Grant.{Grant}
+use Rattle.heap_memory.specs.Regions.{with_grant}
 use Rattle.dlmalloc_chunks.proofs.PowersOfTwo.{test_of_power}
 use Rattle.dlmalloc_chunks.specs.declared.extent.Extent.{Extent}
 use Rattle.dlmalloc.specs.Extents.{extent_at}
@@ -13,7 +16,7 @@ use Rattle.dlmalloc.specs.State.{extents_in}
 use Rattle.std.proofs.lemmas.Bool.Decides.{nat_tests}
 use Rattle.dlmalloc.specs.Blocks.{ArePlaced, BlocksAreApart}
 use Rattle.dlmalloc.specs.Requested.{asked, IsFound}
-use Rattle.dlmalloc.specs.Moved.{others_at, IsGivenSize}
+use Rattle.dlmalloc.specs.Moved.{others_at, IsGivenSize, HasByteOf}
 use Rattle.dlmalloc.specs.Served.{IsRefusedWith}
 use Rattle.dlmalloc.specs.declared.malloc_error.MallocError.{MallocError}
 use Rattle.heap_model.specs.declared.answer.Answer.{Answer}
@@ -26,12 +29,15 @@ use Rattle.heap_model.specs.State.{State, Known, Block, block_at, cell_at, is_wi
 use Rattle.heap_model.specs.Memory.{HoldsBytes}
 use Rattle.heap_model.specs.Room.{IsGrowth}
 use Rattle.heap_model.specs.Refusal.{own_align, least_align, refuse_resizing, must_refuse, wanted_by}
-use Rattle.heap_model.specs.Answer.{with_block, resized_block, heap_after, IsResizing, IsServed, changed}
+use Rattle.heap_model.specs.Answer.{with_block, resized_block, IsResizing, IsServed, changed, without_block}
 use Rattle.heap_model.specs.Run.{IsGood}
 use Rattle.heap_model.specs.Machine.{Stands, IsStep, outline}
+use Rattle.heap_model.proofs.Ended.{left_at}
 use Rattle.heap_model.proofs.Known.{known_within}
 use Rattle.heap_model.proofs.Placed.{outline_of, outline_at}
 use Rattle.heap_model.proofs.Resized.{length-resized, outline_changed, good_resized, holds_resized}
+use Rattle.heap_model.proofs.Shortened.{good_there, good_over}
+use Rattle.kernel_heap.specs.Follows.{still_none}
 use Rattle.kernel_heap.specs.System.{paged}
 use Rattle.kernel_heap.specs.Words.{heap_regions}
 use Rattle.mapped_regions.specs.Mapped.{word_reached}
@@ -41,10 +47,13 @@ use Rattle.kernel_heap.specs.declared.numbered_heap.NumberedHeap.{NumberedHeap}
 use Rattle.kernel_heap.specs.declared.paged_system.PagedSystem.{PagedSystem}
 use Rattle.kernel_heap.proofs.BlockPlaces.{byte_kept, bytes_within}
 use Rattle.kernel_heap.proofs.Bytes.{reached_byte}
+use Rattle.kernel_heap.proofs.Ended.{free_shortened}
 use Rattle.kernel_heap.proofs.Found.{step_found}
 use Rattle.kernel_heap.proofs.Full.{behind}
 use Rattle.kernel_heap.proofs.Laid.{next_live, block_place, block_there, live_stays, live_beside}
 use Rattle.kernel_heap.proofs.Refused.{refused_with, step_refused, step_denied, wanted_asked, large_resizing, not_refused_resizing}
+use Rattle.kernel_heap.proofs.Numbers.{same_or_other}
+use Rattle.kernel_heap.proofs.ReleasedRegions.{AreShortened, shortened_still}
 use Rattle.kernel_heap.proofs.Still.{granted_within}
 
 -- an extent that is found elsewhere is found among the others
@@ -82,10 +91,18 @@ serves_resizing : (keeps : Bool) (s : State) (number size address : ℕ) (block 
 serves_resizing true s number size address block list is h = rw is (refl, h)
 serves_resizing false s number size address block list is h = rw is (refl, h)
 
-module _ (heap new : Dlmalloc PagedSystem) (blocks : List (Option Live)) (number : ℕ) (live : Live) (keeps : Bool) (size address : ℕ) (laid : IsLaidOut heap blocks)
-    (is : live_at blocks number ≡ Some live) (out : IsGivenSize regions word follows heap live.address live.size (align_kept keeps live) size address new)
+-- where a block moved, the old one was freed behind the moment at which there was room
+pub moved_shortened : (heap new : Dlmalloc PagedSystem) (from held align size address : ℕ) (out : IsGivenSize regions word follows true true 4096 heap from held align size address new) → AreShortened (paged out.middle.system) (paged new.system)
+moved_shortened heap new from held align size address out = elim (same_or_other address from) [
+  | inl same ↦ subst (λ (h : Dlmalloc PagedSystem). AreShortened (paged out.middle.system) (paged h.system)) (sym (out.here same).0)
+      (shortened_still (paged out.middle.system) (paged out.middle.system) out.middle.system.kept.laid (still_none (paged out.middle.system)))
+  | inr other ↦ free_shortened out.middle new from (out.elsewhere other)
+]
+
+module _ {top : ℕ} (heap new : Dlmalloc PagedSystem) (blocks : List (Option Live)) (number : ℕ) (live : Live) (keeps : Bool) (size address : ℕ) (laid : IsLaidOut heap blocks)
+    (is : live_at blocks number ≡ Some live) (out : IsGivenSize regions word follows true true 4096 heap live.address live.size (align_kept keeps live) size address new)
     (placed_before : ArePlaced (regions heap.system) (heap_state heap)) (placed_now : ArePlaced (regions new.system) (heap_state new)) (blocks_apart : BlocksAreApart (heap_state new))
-    (s : State) (good : IsGood s) (stands : Stands (seen_of heap blocks) s) where
+    (s : State) (good : IsGood s) (stands : Stands (seen_of top heap blocks) s) where
   abbrev align : ℕ
   align = align_kept keeps live
 
@@ -180,8 +197,18 @@ module _ (heap new : Dlmalloc PagedSystem) (blocks : List (Option Live)) (number
       aligned_before true = ap (λ (l : Live). l.address % l.align) (sym old.2) ∙ (good.each number block old.1).aligned
       aligned_before false = ap (λ a. a % 16) (sym block_address) ∙ (good.each number block old.1).aligned_16
 
-  good_blocks : (list : List Region) (tables : List Prefix) → list ≡ heap_regions (paged new.system).regions → IsGood (record s { heap = list; tables = tables }) → IsGood (record s { heap = list; tables = tables; blocks = after_it })
-  good_blocks list tables same good' = good_resized (record s { heap = list; tables = tables }) number change block good' old.1
+  -- and so are the others, in the regions that are left
+  good_others : (list : List Region) (tables : List Prefix) → list ≡ heap_regions (paged new.system).regions → IsGood (record s { heap = list; tables = tables; blocks = [] }) →
+      IsGood (record s { heap = list; tables = tables; blocks = without_block s.blocks number })
+  good_others list tables same bare = good_over (record s { heap = list; tables = tables }) (without_block s.blocks number) bare
+      (λ i it at.
+      let was = left_at s.blocks number i it at in
+      good_there s.heap list it (good.each i it was.1) (λ k less. ap (list_any (is_within (it.address + k))) same
+      ∙ granted_within (paged new.system) (it.address + k) ((placed_now it.address it.size (live_stays heap new blocks number live size align address laid is out i (outline it) was.0 (live_of i it was.1)).block).granted (it.address + k) (omega arith) (omega (arith, less)))))
+      (λ i j a b is_a is_b differ. good.apart i j a b (left_at s.blocks number i a is_a).1 (left_at s.blocks number j b is_b).1 differ)
+
+  good_blocks : (list : List Region) (tables : List Prefix) → list ≡ heap_regions (paged new.system).regions → IsGood (record s { heap = list; tables = tables; blocks = [] }) → IsGood (record s { heap = list; tables = tables; blocks = after_it })
+  good_blocks list tables same bare = good_resized (record s { heap = list; tables = tables }) number change block (good_others list tables same bare) old.1
       (record {
         aligned = ap (λ a. address % a) align_same ∙ multiple;
         aligned_16 = out.aligned;
@@ -196,32 +223,32 @@ module _ (heap new : Dlmalloc PagedSystem) (blocks : List (Option Live)) (number
 
   -- ---- the step
 
-  -- where it stays, no region is granted
-  stays : (list : Option (List Region)) → (list ≡ None) ⊎ (length (paged new.system).regions ≢ length (paged heap.system).regions) → address ≡ block.address → list ≡ None
-  stays list (inl none) at = none
-  stays list (inr more) at = absurd (more (ap (λ p. length p.regions) (out.here (at ∙ block_address)).others))
-
-  pub step_resized : IsPowerOfTwo align → (answered : Option (List Region)) →
-      (length (paged new.system).regions ≡ length (paged heap.system).regions → answered ≡ None) →
-      (length (paged new.system).regions ≢ length (paged heap.system).regions → answered ≡ Some (heap_regions (paged new.system).regions)) →
-      IsStep s (resizing keeps number size) (record { reply = Placed number address; regions = answered }) (seen_of new blocks')
-  step_resized is_power answered same more =
+  pub step_resized : IsPowerOfTwo align → ((grant : Grant) → 0 < grant.size → regions out.middle.system ≡ with_grant grant (regions heap.system) → HasByteOf grant (regions new.system)) →
+      (answered : Option (List Region)) →
+      ((paged new.system).joins ≡ (paged heap.system).joins → free_count (paged new.system).free ≡ free_count (paged heap.system).free → answered ≡ None) →
+      (((paged new.system).joins ≡ (paged heap.system).joins → free_count (paged new.system).free ≡ free_count (paged heap.system).free → ⊥) → answered ≡ Some (heap_regions (paged new.system).regions)) →
+      IsStep s (resizing keeps number size) (record { reply = Placed number address; regions = answered }) (seen_of top new blocks')
+  step_resized is_power stays answered same other =
       let power : is_power_of_two align ≡ true = test_of_power align is_power in
       let small : asked size align < limit s.granularity = subst (λ g. asked size align < limit g) stands.granularity out.small in
       let must : must_refuse s (resizing keeps number size) ≡ None =
       refused_resizing keeps s number size ∙ (ap (refuse_resizing s.granularity size (align_then keeps)) old.1 ∙ not_refused_resizing s.granularity size (align_then keeps) block (subst (λ a. asked size a < limit s.granularity) (sym align_same) small)) in
       let wants : wanted_by s (resizing keeps number size) ≡ Some (wanted size align) =
       wanted_resizing keeps s number size ∙ (ap (option_map (λ (b : Block). wanted size (align_then keeps b))) old.1 ∙ ap (λ a. Some (wanted size a)) align_same) in
-      step_found heap new blocks blocks' laid (wanted size align) (subst (λ n. IsFound follows regions heap.system (heap_state heap) n new.system (heap_state new)) (wanted_asked size align power) out.found)
-      out.granularity s good stands (resizing keeps number size) number address after_it (changed_resizing keeps s number size number address) must wants
-      (λ list growth how. serves_resizing keeps s number size address block list old.1 (record { here = stays list how; growth = subst (λ a. IsGrowth s (wanted size a) (heap_after s list)) (sym align_same) growth }))
-      lives_same holds good_blocks answered same more
+      step_found heap out.middle new blocks blocks' laid (wanted size align)
+      (subst (λ n. IsFound follows regions heap.system (heap_state heap) n out.middle.system (heap_state out.middle)) (wanted_asked size align power) out.found) (moved_shortened heap new live.address live.size align size address out)
+      out.granularity stays s good stands (resizing keeps number size) number address after_it (changed_resizing keeps s number size number address) must wants
+      (λ list grown growth cut whole still. serves_resizing keeps s number size address block list old.1 (record {
+        here = λ at. still (out.here (at ∙ block_address)).1;
+        growth = record { grown = grown; growth = subst (λ a. IsGrowth s (wanted size a) grown) (sym align_same) growth; cut = cut };
+      }))
+      lives_same holds good_blocks answered same other
 
 -- no block has the number
-pub step_unknown : (heap : Dlmalloc PagedSystem) (blocks : List (Option Live)) (number size : ℕ) (keeps : Bool) (s : State) → IsGood s → Stands (seen_of heap blocks) s → live_at blocks number ≡ None →
-    IsStep s (resizing keeps number size) (refused_with UnknownBlock) (seen_of heap blocks)
-step_unknown heap blocks number size keeps s good stands none =
-    step_refused (seen_of heap blocks) s (resizing keeps number size) UnknownBlock
+pub step_unknown : {top : ℕ} → (heap : Dlmalloc PagedSystem) (blocks : List (Option Live)) (number size : ℕ) (keeps : Bool) (s : State) → IsGood s → Stands (seen_of top heap blocks) s → live_at blocks number ≡ None →
+    IsStep s (resizing keeps number size) (refused_with UnknownBlock) (seen_of top heap blocks)
+step_unknown {top = top} heap blocks number size keeps s good stands none =
+    step_refused (seen_of top heap blocks) s (resizing keeps number size) UnknownBlock
     (refused_resizing keeps s number size ∙ ap (refuse_resizing s.granularity size (align_then keeps)) (no_outline (block_at s.blocks number) (sym (outline_at s.blocks number) ∙ (ap (λ list. live_at list number) (sym stands.blocks) ∙ none)))) good stands
   where
     no_outline : (found : Option Block) → option_map outline found ≡ None → found ≡ None
@@ -234,10 +261,10 @@ kept_power true live power = power
 kept_power false live power = (4, refl)
 
 -- the heap refuses the size
-pub step_not_resized : (heap new : Dlmalloc PagedSystem) (blocks : List (Option Live)) (number size : ℕ) (keeps : Bool) (live : Live) (laid : IsLaidOut heap blocks) → live_at blocks number ≡ Some live →
-    (s : State) (good : IsGood s) (stands : Stands (seen_of heap blocks) s) → IsPowerOfTwo (align_kept keeps live) → (error : MallocError) → IsRefusedWith regions word follows refuses denies heap (asked size (align_kept keeps live)) error new →
-    (answer : Answer) → IsRefusalOf error answer → IsStep s (resizing keeps number size) answer (seen_of new blocks)
-step_not_resized heap new blocks number size keeps live laid is s good stands power error denied answer given =
+pub step_not_resized : {top : ℕ} → (heap new : Dlmalloc PagedSystem) (blocks : List (Option Live)) (number size : ℕ) (keeps : Bool) (live : Live) (laid : IsLaidOut heap blocks) → live_at blocks number ≡ Some live →
+    (s : State) (good : IsGood s) (stands : Stands (seen_of top heap blocks) s) → IsPowerOfTwo (align_kept keeps live) → (error : MallocError) → IsRefusedWith regions word follows refuses denies heap (asked size (align_kept keeps live)) error new →
+    (answer : Answer) → IsRefusalOf error answer → IsStep s (resizing keeps number size) answer (seen_of top new blocks)
+step_not_resized {top = top} heap new blocks number size keeps live laid is s good stands power error denied answer given =
     let old = behind heap blocks laid s good stands number live is in
     let align : align_then keeps old.0 ≡ align_kept keeps live = same keeps old.0 old.2 in
     step_denied heap new blocks laid s good stands (resizing keeps number size) (asked size (align_kept keeps live)) (wanted size (align_kept keeps live)) (wanted_asked size (align_kept keeps live) (test_of_power (align_kept keeps live) power))

@@ -40,11 +40,11 @@ use Rattle.kernel_heap.proofs.Laid.{laid_outside}
 
 -- ---- regions of a good state
 
-all_of_heap : (s : State) (list : List Region) → AllByRecursion (IsHeapRegion s) list → AllByRecursion (λ region. region.heap ≡ true) list
+pub all_of_heap : (s : State) (list : List Region) → AllByRecursion (IsHeapRegion s) list → AllByRecursion (λ region. region.heap ≡ true) list
 all_of_heap s [] all = tt
 all_of_heap s (region ∷ rest) all = (ap (λ (r : Region). r.heap) all.0.3, all_of_heap s rest all.1)
 
-all_of_users : (heap list : List Region) → AllByRecursion (IsUserRegion heap) list → AllByRecursion (λ region. region.heap ≡ false) list
+pub all_of_users : (heap list : List Region) → AllByRecursion (IsUserRegion heap) list → AllByRecursion (λ region. region.heap ≡ false) list
 all_of_users heap [] all = tt
 all_of_users heap (region ∷ rest) all = (all.0.0, all_of_users heap rest all.1)
 
@@ -69,7 +69,7 @@ none_just start pages (region ∷ rest) some clear =
     other : (region : Region) → 0 < pages → meets start pages region ≡ false → is_at start pages region ≡ false
     other region some clear = grind (arith, nat_tests)
 
-sorted : (list : List Region) → AreInOrder list → Sorted list
+pub sorted : (list : List Region) → AreInOrder list → Sorted list
 sorted [] order = tt
 sorted (region ∷ rest) order = (starts region.start (end_of region) rest (omega arith) order.0, sorted rest order.1)
   where

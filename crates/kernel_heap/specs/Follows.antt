@@ -5,12 +5,14 @@ use Rattle.heap_memory.specs.Events.{Event, Granted, Released}
 use Rattle.paging_core.specs.Walk.{reach, reached}
 use Rattle.heap_model.specs.Machine.{Paged, IsStill}
 use Rattle.kernel_heap.specs.Layout.{IsGrantedFor}
+use Rattle.kernel_heap.specs.Released.{IsReleasedFor}
 
--- With no event all but the bytes of the heap's pages stays. A request is granted as the system stands at its moment.
+-- With no event all but the bytes of the heap's pages stays. A request is granted, and a run given back, as the system
+-- stands at its moment.
 abbrev pub Follows : Paged → List Event → Paged → Type 0
 Follows old [] new = IsStill old new
 Follows old (Granted asked grant ∷ events) new = (at : Paged) × (later : Paged) × IsStill old at × IsGrantedFor at later asked grant × Follows later events new
-Follows old (Released at size left ∷ events) new = ⊥
+Follows old (Released at size left ∷ events) new = (before : Paged) × (later : Paged) × IsStill old before × IsReleasedFor before later at size left × Follows later events new
 
 pub still_none : (p : Paged) → IsStill p p
 still_none p = record { others = refl; size = refl; tree = λ t. t; walks = λ level number low. refl; tables = λ level number index met low small is. refl; users = λ address user. refl }
@@ -35,7 +37,9 @@ pub follows_on : (x y z : Paged) (a b c : List Event) → Follows x a y → Foll
 follows_on x y z [] [] c first second is = subst (λ events. Follows x events z) is (still_on x y z first second)
 follows_on x y z [] (Granted asked grant ∷ b) c first second is =
     subst (λ events. Follows x events z) is (second.0, second.1, still_on x y second.0 first second.2, second.3, second.4)
-follows_on x y z [] (Released at size left ∷ b) c first second is = absurd second
+follows_on x y z [] (Released at size left ∷ b) c first second is =
+    subst (λ events. Follows x events z) is (second.0, second.1, still_on x y second.0 first second.2, second.3, second.4)
 follows_on x y z (Granted asked grant ∷ a) b c first second is =
     subst (λ events. Follows x events z) is (first.0, first.1, first.2, first.3, follows_on first.1 y z a b (a ++ b) first.4 second refl)
-follows_on x y z (Released at size left ∷ a) b c first second is = absurd first
+follows_on x y z (Released at size left ∷ a) b c first second is =
+    subst (λ events. Follows x events z) is (first.0, first.1, first.2, first.3, follows_on first.1 y z a b (a ++ b) first.4 second refl)

@@ -1,5 +1,5 @@
 -- What a paged system keeps, beside what its state says.
-use Rattle.std.specs.Prelude.{◌≡◌, ℕ, ◌+◌, ◌*◌, ◌/◌, ◌^◌, ◌<◌, ◌≤◌, List, [], ◌∷◌, None}
+use Rattle.std.specs.Prelude.{◌≡◌, ℕ, ◌+◌, ◌*◌, ◌/◌, ◌%◌, ◌^◌, ◌<◌, ◌≤◌, List, [], ◌∷◌, None}
 use Rattle.paging_core.specs.Memory.{frame_count}
 use Rattle.paging_core.specs.Pool.{free_count}
 use Rattle.paging_core.specs.Walk.{reach, walk_of}
@@ -52,6 +52,7 @@ Lacks p pages OutOfMemory = ⊥
 -- So many pages were granted at an address, and their region joined the others.
 pub record IsGranted (old new : Paged) (pages address : ℕ) : Type 0 where
   pub grant : IsPagedGrant old new address pages
+  pub joins : new.joins ≡ (old.joins + 1) % 2 ^ 64
   pub regions : new.regions ≡ with_region (heap_region address pages) old.regions
 
 -- A request of so many bytes was granted: its pages had a place and frames, and they are the grant.

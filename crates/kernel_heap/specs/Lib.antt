@@ -3,9 +3,12 @@ pub mod Layout
 pub mod System
 pub mod Words
 pub mod Beside
+pub mod Released
 pub mod Follows
 pub mod Ordered
 pub mod Heap
+pub mod Parts
+pub mod Registers
 pub mod Machine
 pub mod Written
 pub mod Runs

@@ -1,4 +1,4 @@
--- What contracts see of a machine, which is a numbered heap, and how it lays out its blocks.
+-- What contracts see of a machine and of its numbered heap, and how that lays out its blocks.
 use Rattle.std.specs.Prelude.{◌≡◌, ◌≢◌, ℕ, ⊤, ◌+◌, ◌-◌, ◌%◌, ◌<◌, ◌≤◌, ◌⊎◌, Bool, true, false, List, [], map, slice_index_or, Option, Some, None, MatchOption, ◌&&◌, nat_lt, nat_le, if◌then◌else◌, IsTrue}
 use Rattle.std.specs.Int.{IsPowerOfTwo}
 use Rattle.std.specs.List.{list_any, AllByRecursion}
@@ -6,10 +6,12 @@ use Rattle.paging_core.specs.Walk.{reached}
 use Rattle.dlmalloc_chunks.specs.declared.extent.Extent.{Extent}
 use Rattle.dlmalloc_chunks.specs.declared.extent.Kind.TheVariants.{Used}
 use Rattle.dlmalloc.specs.Extents.{extent_at}
-use Rattle.dlmalloc.specs.State.{HeapState, Segment, extents_in, extents_by_address, shown}
+use Rattle.dlmalloc.specs.State.{HeapState, Segment, extents_in, extents_by_address, shown, new_heap, countdown_from}
 use Rattle.dlmalloc_chunks.specs.Request.{padded, enlarged}
 use Rattle.dlmalloc.specs.Blocks.{IsBlock}
 use Rattle.dlmalloc.specs.Freed.{freed}
+use Rattle.dlmalloc.specs.Trimmed.{trimmed}
+use Rattle.dlmalloc.specs.AfterFree.{after_free, free_releases}
 use Rattle.dlmalloc.specs.Aligned.{aligned_place, aligned}
 use Rattle.dlmalloc.specs.Resized.{in_place}
 use Rattle.dlmalloc.specs.Served.{IsCut}
@@ -20,36 +22,46 @@ use Rattle.heap_memory.specs.declared.grant.Grant.{Grant}
 use Rattle.heap_memory.specs.declared.grant.GrantFault.TheVariants.{NoSpace, NoFrames, OutOfMemory}
 use Rattle.heap_model.specs.declared.live.Live.{Live}
 use Rattle.heap_model.specs.declared.call.Call.{Call}
-use Rattle.heap_model.specs.declared.call.Call.TheVariants.{Malloc, Calloc, Realloc, CRealloc, Free, Probe, Extents}
+use Rattle.heap_model.specs.declared.call.Call.TheVariants.{Malloc, Calloc, Realloc, CRealloc, Free, Probe, Trim, SetRate, SetGranularity, Reset, Extents}
 use Rattle.heap_model.specs.declared.answer.Answer.{Answer}
 use Rattle.heap_model.specs.declared.answer.Reply.{Reply}
-use Rattle.heap_model.specs.declared.answer.Reply.TheVariants.{Block as Placed, Done, Byte, Extents as Listed, Refused}
+use Rattle.heap_model.specs.declared.answer.Reply.TheVariants.{Block as Placed, Done, Byte, Trimmed, Accepted, Released, Extents as Listed, Refused}
 use Rattle.heap_model.specs.declared.answer.Refusal.{Refusal}
 use Rattle.heap_model.specs.declared.answer.Refusal.TheVariants.{TooLarge as IsTooLarge, NoSpace as HasNoSpace, NoFrames as HasNoFrames, UnknownBlock, OutOfBlock, BadRange, HeapRegion, Overlap, UnknownRegion}
-use Rattle.heap_model.specs.Machine.{Seen}
+use Rattle.heap_model.specs.Machine.{Paged, Seen}
 use Rattle.mapped_regions.specs.declared.map_fault.MapFault.{MapFault}
 use Rattle.mapped_regions.specs.declared.map_fault.MapFault.TheVariants as Mapping
 use Rattle.mapped_regions.specs.declared.map_fault.UnmapFault.{UnmapFault}
 use Rattle.mapped_regions.specs.declared.map_fault.UnmapFault.TheVariants as Unmapping
+use Rattle.x86_registers.specs.Cr3.{root_of}
 use Rattle.kernel_heap.specs.System.{paged}
-use Rattle.kernel_heap.specs.Heap.{regions, follows, heap_state, IsHeap}
+use Rattle.kernel_heap.specs.Heap.{regions, follows, heap_state, IsHeap, HasBins}
 use Rattle.kernel_heap.specs.declared.paged_system.PagedSystem.{PagedSystem}
 use Rattle.kernel_heap.specs.declared.numbered_heap.NumberedHeap.{NumberedHeap}
+use Rattle.kernel_heap.specs.Parts.{Parts}
 
--- the system that the machine runs over
+-- the system that a numbered heap runs over
 abbrev pub system_of : NumberedHeap → PagedSystem
-system_of machine = machine.heap.system
+system_of numbered = numbered.heap.system
 
--- what is seen of a heap with these blocks
-abbrev pub seen_of : Dlmalloc PagedSystem → List (Option Live) → Seen
-seen_of heap blocks = record { paged = paged heap.system; granularity = heap.granularity; blocks = blocks }
+-- what is seen of a machine with this frame in CR3, this heap and these blocks
+abbrev pub seen_of : ℕ → Dlmalloc PagedSystem → List (Option Live) → Seen
+seen_of top heap blocks = record { paged = paged heap.system; granularity = heap.granularity; blocks = blocks; top = top }
 
-abbrev pub seen : NumberedHeap → Seen
-seen machine = seen_of machine.heap machine.blocks.items
+-- with this numbered heap
+abbrev pub seen_with : ℕ → NumberedHeap → Seen
+seen_with top numbered = seen_of top numbered.heap numbered.blocks.items
 
--- the state of the machine's heap
+abbrev pub seen : Parts → Seen
+seen machine = seen_with (root_of machine.cpu.cr3) machine.heap
+
+-- the state of the heap
 abbrev pub heap_of : NumberedHeap → HeapState
-heap_of machine = heap_state machine.heap
+heap_of numbered = heap_state numbered.heap
+
+-- the state of a new heap with a granularity and a rate
+abbrev pub fresh_heap : ℕ → ℕ → HeapState
+fresh_heap granularity rate = record new_heap { granularity = granularity; rate = rate; countdown = countdown_from rate }
 
 -- the live block of a number
 abbrev pub live_at : List (Option Live) → ℕ → Option Live
@@ -87,9 +99,11 @@ pub record HasLive (blocks : List (Option Live)) (extent : Extent) : Type 0 wher
   pub is : live_at blocks number ≡ Some live
   pub place : live.address ≡ extent.at + 16
 
--- The heap is sound and has all of the regions, and its extents in use and the live blocks correspond to one another.
+-- The heap is sound, its bins hold its free extents, it has all of the regions, and its extents in use and the live blocks
+-- correspond to one another.
 pub record IsLaidOut (heap : Dlmalloc PagedSystem) (blocks : List (Option Live)) : Type 0 where
   pub heap_sound : IsHeap heap
+  pub heap_linked : HasBins heap
   pub has : HaveRegions (heap_state heap).segments (regions heap.system)
   pub lives : (number : ℕ) (live : Live) → live_at blocks number ≡ Some live → IsLive (heap_state heap) live
   pub used : (extent : Extent) → extent.kind ≡ Used → extent_at extent.at (extents_in (heap_state heap)) ≡ Some extent → HasLive blocks extent
@@ -97,7 +111,7 @@ pub record IsLaidOut (heap : Dlmalloc PagedSystem) (blocks : List (Option Live))
 
 -- what a machine keeps, as a condition of its type
 abbrev pub IsSound : NumberedHeap → Type 0
-IsSound machine = IsLaidOut machine.heap machine.blocks.items
+IsSound numbered = IsLaidOut numbered.heap numbered.blocks.items
 
 -- How a block at an alignment comes: a chunk is cut for it; above 16 a greater chunk is cut, and what is in it before the
 -- aligned place and behind the block there is freed.
@@ -160,21 +174,28 @@ abbrev pub align_kept : Bool → Live → ℕ
 align_kept true live = live.align
 align_kept false live = 16
 
+-- How a block is freed: its chunk becomes one with the free ones beside it, and then it is counted, or the heap is trimmed. The
+-- system takes back whole runs, and ends of runs in pages.
+abbrev pub IsFreedAt : PagedSystem → HeapState → ℕ → PagedSystem → HeapState → Type 0
+IsFreedAt system old address system' new =
+    (new ≡ after_free true true 4096 (freed old (address - 16)) (address - 16)) × follows system (free_releases true true 4096 (freed old (address - 16)) (address - 16)) system'
+
 -- How a block gets another size: where it stands if that can be, and never so above 16; else a block is cut for it, its
 -- bytes are copied, and it is freed.
 abbrev pub IsResizedTo : PagedSystem → HeapState → ℕ → ℕ → ℕ → ℕ → PagedSystem → HeapState → Type 0
 IsResizedTo system old from size align address system' new =
     ((align ≤ 16) × (address ≡ from) × (in_place old (from - 16) (padded size) ≡ Some new) × follows system [] system')
     ⊎ ((align ≤ 16 → in_place old (from - 16) (padded size) ≡ None)
-    × ((middle : PagedSystem) × (heap : HeapState) × IsCutAt system old size align address middle heap × follows middle [] system' × (new ≡ freed heap (from - 16))))
+    × ((middle : PagedSystem) × (filled : PagedSystem) × (heap : HeapState) × IsCutAt system old size align address middle heap × follows middle [] filled × IsFreedAt filled heap from system' new))
 
 -- a byte that a probe shows is the one that the walk reaches
-abbrev pub IsReachedByte : Seen → Call → Reply → Type 0
-IsReachedByte m (Probe at access user) (Byte byte) = reached m.paged.words m.paged.root at ≡ Some byte
-IsReachedByte m call reply = ⊤
+abbrev pub IsReachedByte : Paged → Call → Reply → Type 0
+IsReachedByte p (Probe at access user) (Byte byte) = reached p.words p.root at ≡ Some byte
+IsReachedByte p call reply = ⊤
 
 -- How the state of the heap moves in a step: a block is cut, and may be cleared then, a block gets another size or is
--- freed, and nothing else changes it. The extents that are listed are the heap's.
+-- freed, memory that none needs goes back, a setting is another, the heap is a new one with the settings in force, and nothing
+-- else changes it. The extents that are listed are the heap's.
 abbrev pub HeapMoves : NumberedHeap → Call → Reply → NumberedHeap → Type 0
 HeapMoves old (Malloc size align) (Placed number address) new = IsCutFor false (system_of old) (heap_of old) size align address (system_of new) (heap_of new)
 HeapMoves old (Calloc size align) (Placed number address) new = IsCutFor true (system_of old) (heap_of old) size align address (system_of new) (heap_of new)
@@ -182,6 +203,10 @@ HeapMoves old (Realloc number size) (Placed given address) new =
     MatchOption (live_at old.blocks.items number) ⊥ (λ live. IsResizedTo (system_of old) (heap_of old) live.address size live.align address (system_of new) (heap_of new))
 HeapMoves old (CRealloc number size) (Placed given address) new =
     MatchOption (live_at old.blocks.items number) ⊥ (λ live. IsResizedTo (system_of old) (heap_of old) live.address size 16 address (system_of new) (heap_of new))
-HeapMoves old (Free number) Done new = MatchOption (live_at old.blocks.items number) ⊥ (λ live. heap_of new ≡ freed (heap_of old) (live.address - 16))
+HeapMoves old (Free number) Done new = MatchOption (live_at old.blocks.items number) ⊥ (λ live. IsFreedAt (system_of old) (heap_of old) live.address (system_of new) (heap_of new))
+HeapMoves old (Trim pad) (Trimmed released) new = heap_of new ≡ trimmed true true 4096 pad (heap_of old)
+HeapMoves old (SetRate rate) Done new = heap_of new ≡ record (heap_of old) { rate = rate; countdown = countdown_from rate }
+HeapMoves old (SetGranularity granularity) (Accepted accepted) new = heap_of new ≡ record (heap_of old) { granularity = if accepted then granularity else (heap_of old).granularity }
+HeapMoves old Reset (Released bytes) new = heap_of new ≡ fresh_heap (heap_of old).granularity (heap_of old).rate
 HeapMoves old Extents (Listed list) new = (heap_of new ≡ heap_of old) × (list ≡ map (shown (heap_of old)) (extents_by_address (heap_of old)))
 HeapMoves old call reply new = heap_of new ≡ heap_of old

@@ -1,11 +1,11 @@
 // Bytes of live blocks.
-ghost use Rattle.std.specs.Prelude.{◌≡◌, IfOk, IfErr, IsOk, Some};
+ghost use Rattle.std.specs.Prelude.{◌≡◌, ℕ, IfOk, IfErr, IsOk, Some};
 ghost use Rattle.dlmalloc.specs.Blocks.{ArePlaced};
 ghost use Rattle.heap_model.specs.State.{State};
 ghost use Rattle.heap_model.specs.Run.{IsGood};
 ghost use Rattle.heap_model.specs.Machine.{Stands, IsStep};
 ghost use Rattle.kernel_heap.specs.Heap.{regions};
-ghost use Rattle.kernel_heap.specs.Machine.{seen, system_of, heap_of, live_at, refuse_live, HasBytes, IsSound};
+ghost use Rattle.kernel_heap.specs.Machine.{seen_with, system_of, heap_of, live_at, refuse_live, HasBytes, IsSound};
 
 use crate::numbered_heap::{NumberedHeap, refused};
 use heap_model::{Answer, Call, Refusal, Reply};
@@ -15,8 +15,8 @@ impl NumberedHeap {
     /// The address of the byte at an offset of a live block, where so many bytes from there lie in the block.
     fn find_bytes(&self, number: u64, offset: u64, count: u64) -> Result<u64, Refusal>
         requires sound { IsSound self.now }
-        ensures ok { IfOk result (λ address. HasBytes (seen self.now).blocks number offset count address) }
-        ensures err { IfErr result (λ refusal. refuse_live (live_at (seen self.now).blocks number) offset count ≡ Some refusal) }
+        ensures ok { IfOk result (λ address. HasBytes self.now.blocks.items number offset count address) }
+        ensures err { IfErr result (λ refusal. refuse_live (live_at self.now.blocks.items number) offset count ≡ Some refusal) }
         ensures placed { ArePlaced (regions (system_of self.now)) (heap_of self.now) }
     {
         self.heap.blocks_are_placed();
@@ -33,7 +33,7 @@ impl NumberedHeap {
     pub(crate) fn write(&mut self, number: u64, offset: u64, bytes: &[u8]) -> Answer
         requires sound { IsSound self.old }
         ensures sound { IsSound self.new }
-        ensures ok { (s : State) → IsGood s → Stands (seen self.old) s → IsStep s (Call.Write number offset bytes.now) result (seen self.new) }
+        ensures ok { (top : ℕ) (s : State) → IsGood s → Stands (seen_with top self.old) s → IsStep s (Call.Write number offset bytes.now) result (seen_with top self.new) }
         ensures heap { heap_of self.new ≡ heap_of self.old }
     {
         match self.find_bytes(number, offset, bytes.len() as u64) {
@@ -52,7 +52,7 @@ impl NumberedHeap {
     /// Reads bytes of a block.
     pub(crate) fn read(&self, number: u64, offset: u64, count: u64) -> Result<Answer, AllocError>
         requires sound { IsSound self.now }
-        ensures ok { (s : State) → IsGood s → Stands (seen self.now) s → IfOk result (λ answer. IsStep s (Call.Read number offset count) answer (seen self.now)) }
+        ensures ok { (top : ℕ) (s : State) → IsGood s → Stands (seen_with top self.now) s → IfOk result (λ answer. IsStep s (Call.Read number offset count) answer (seen_with top self.now)) }
     {
         match self.find_bytes(number, offset, count) {
             Ok(address) => Ok(Answer {

@@ -14,6 +14,9 @@ mod paged_words;
 mod probing;
 mod run_error;
 mod runs;
+mod serving;
+mod settings;
+mod trimming;
 mod user_calls;
 mod user_regions;
 
@@ -27,5 +30,7 @@ pub use paged_system::PagedSystem;
 pub use run_error::RunError;
 pub use runs::{Run, run_calls};
 
+#[cfg(test)]
+mod release_tests;
 #[cfg(test)]
 mod tests;

@@ -1,116 +1,145 @@
-// The machine: a numbered heap over a paged system, which is always sound.
+// The machine: a numbered heap over a paged system, which is always sound, and the registers of the processor.
 ghost use Rattle.std.specs.Prelude.{◌≡◌, ℕ, IfOk, IfErr, IsOk, OnOk, OnErr, List, Bool};
 ghost use Rattle.heap_model.specs.declared.call.Access.{Access};
-ghost use Rattle.dlmalloc.specs.State.{new_heap, countdown_from};
 ghost use Rattle.heap_model.specs.State.{State, start};
 ghost use Rattle.heap_model.specs.Run.{IsGood};
 ghost use Rattle.heap_model.specs.Machine.{Stands, IsStep};
+ghost use Rattle.x86_registers.specs.Cr3.{root_of};
 ghost use Rattle.kernel_heap.specs.Config.{IsGoodConfig, IsRefused};
+ghost use Rattle.kernel_heap.specs.Registers.{machine_cpu, cpu_after};
 
 use crate::configuration::check;
+use crate::heap_calls;
 use crate::numbered_heap::NumberedHeap;
 use crate::paged_system::PagedSystem;
 use crate::run_error::RunError;
-use dlmalloc::Dlmalloc;
-use heap_model::{Answer, Call, Config};
+use heap_model::{Answer, Call, Config, Reply};
+use paging_core::PhysFrame;
 use std::alloc::{AllocError, Global};
 use std::marker::Model;
+use x86_registers::control::{Cr0, Cr0Flags, Cr4, Cr4Flags, Efer, EferFlags};
+use x86_registers::{Cpu, FlagRegister};
 
-/// A machine that serves calls of a heap over page tables.
+/// The registers of a machine over a root table with this frame.
+fn registers(root: PhysFrame) -> Cpu
+    ensures registers { result ≡ machine_cpu root }
+    ensures top { root ≡ root_of result.cr3 }
+{
+    let mut cpu = Cpu::new();
+    Cr0::write(
+        &mut cpu,
+        Cr0Flags::PROTECTED_MODE_ENABLE | Cr0Flags::WRITE_PROTECT | Cr0Flags::PAGING,
+    );
+    cpu.cr3 = root.start_address().as_u64();
+    Cr4::write(&mut cpu, Cr4Flags::PHYSICAL_ADDRESS_EXTENSION);
+    Efer::write(
+        &mut cpu,
+        EferFlags::LONG_MODE_ENABLE | EferFlags::LONG_MODE_ACTIVE | EferFlags::NO_EXECUTE_ENABLE,
+    );
+    cpu
+}
+
+/// Puts the address into CR2 where the reply to a probe is a fault.
+fn note_fault(cpu: &mut Cpu, call: &Call, reply: &Reply)
+    ensures after { cpu.new ≡ cpu_after cpu.old call.now reply.now }
+    ensures root { cpu.new.cr3 ≡ cpu.old.cr3 }
+{
+    match call {
+        Call::Probe { at, .. } => match reply {
+            Reply::Fault(_) => cpu.cr2 = *at,
+            _ => {}
+        },
+        _ => {}
+    }
+}
+
+/// A machine that serves calls of a heap over page tables: the root table is the one that its CR3 names.
 #[derive(Drop)]
 pub struct Machine {
     heap: NumberedHeap,
+    cpu: Cpu,
 }
 
 // Each machine is sound: its heap is, and the heap's extents in use are its live blocks.
 impl Model for Machine {
-    ghost use Rattle.kernel_heap.specs.declared.numbered_heap.NumberedHeap.{NumberedHeap};
-    ghost use Rattle.kernel_heap.specs.contracts.numbered_heap.NumberedHeap as contract;
+    ghost use Rattle.kernel_heap.specs.Parts.{Parts, coded_parts};
+    ghost use Rattle.kernel_heap.specs.contracts.numbered_heap.NumberedHeap as numbered_heap;
+    ghost use Rattle.x86_registers.specs.contracts.cpu.Cpu as registers;
 
-    ghost Value = { NumberedHeap };
+    ghost Value = { Parts };
 
-    ghost coded = { contract.the_row.coded };
+    ghost coded = { coded_parts numbered_heap.the_row.coded registers.the_row.coded };
 
     ghost use Rattle.kernel_heap.specs.Machine.{IsSound};
 
-    ghost view = { λ machine. machine.heap };
+    ghost view = { λ machine. record { heap = machine.heap; cpu = machine.cpu } };
 
     ghost invariant = { λ machine. IsSound machine.heap };
 }
 
 impl Machine {
-    ghost use Rattle.kernel_heap.specs.Machine.{seen, system_of, heap_of, HeapMoves, IsReachedByte};
+    ghost use Rattle.kernel_heap.specs.System.{paged};
+    ghost use Rattle.kernel_heap.specs.Machine.{seen, system_of, heap_of, fresh_heap, HeapMoves, IsReachedByte};
 
     /// A machine with the configuration's window, granularity and frames. A configuration from which none can be
     /// made is refused before any memory is taken.
     pub fn new(alloc: Global, config: &Config) -> Result<Self, RunError>
         ensures stands { IfOk result (λ machine. Stands (seen machine) (start config.now)) }
-        ensures heap { IfOk result (λ machine. heap_of machine ≡ record new_heap { granularity = config.now.granularity; rate = config.now.rate; countdown = countdown_from config.now.rate }) }
+        ensures heap { IfOk result (λ machine. heap_of machine.heap ≡ fresh_heap config.now.granularity config.now.rate) }
+        ensures registers { IfOk result (λ machine. machine.cpu ≡ machine_cpu (paged (system_of machine.heap)).root) }
         ensures good { OnOk result (IsGood (start config.now)) }
         ensures accepted { OnOk result (IsGoodConfig config.now) }
         ensures refused { IfErr result (λ error. IsRefused config.now error) }
     {
         check(config)?;
         let system = PagedSystem::new(alloc, config.base, config.pages, config.frames)?;
-        let mut heap = Dlmalloc::new_with_allocator(system);
-        heap.set_granularity(config.granularity);
-        heap.set_max_release_check_rate(config.rate);
+        let cpu = registers(system.root());
         Ok(Machine {
             heap: NumberedHeap {
                 alloc,
-                heap,
+                heap: heap_calls::fresh(system, config.granularity, config.rate),
                 blocks: Vec::new(alloc),
                 list: Vec::new(alloc),
             },
+            cpu,
         })
     }
 
     /// The system that the machine runs over.
     pub fn system(&self) -> &PagedSystem
-        ensures { result.now ≡ system_of self.now }
+        ensures { result.now ≡ system_of self.now.heap }
     {
         self.heap.heap.allocator()
     }
 
+    /// The registers of the processor. CR3 has the root table's frame, and CR2 the address of the last fault.
+    pub fn cpu(&self) -> &Cpu
+        ensures { result.now ≡ self.now.cpu }
+    {
+        &self.cpu
+    }
+
     /// Serves a call. The answer is allowed in each good state for which the machine stands, and afterwards the
-    /// machine stands for the state that the answer leaves. An `Err` leaves the machine as it was. A write, a free, an
-    /// unmap and a probe take no memory, and are always answered.
+    /// machine stands for the state that the answer leaves. An `Err` leaves the machine as it was. A write, an unmap, a
+    /// probe and a setting take no memory, and are always answered.
     pub fn step(&mut self, call: &Call) -> Result<Answer, AllocError>
         ensures ok { (s : State) → IsGood s → Stands (seen self.old) s → IfOk result (λ answer. IsStep s call.now answer (seen self.new)) }
         ensures err { OnErr result (seen self.new ≡ seen self.old) }
-        ensures heap { IfOk result (λ answer. HeapMoves self.old call.now answer.reply self.new) }
-        ensures heap_err { OnErr result (heap_of self.new ≡ heap_of self.old) }
+        ensures heap { IfOk result (λ answer. HeapMoves self.old.heap call.now answer.reply self.new.heap) }
+        ensures heap_err { OnErr result (heap_of self.new.heap ≡ heap_of self.old.heap) }
+        // A fault writes CR2, and nothing else changes a register.
+        ensures registers { IfOk result (λ answer. self.new.cpu ≡ cpu_after self.old.cpu call.now answer.reply) }
+        ensures registers_err { OnErr result (self.new.cpu ≡ self.old.cpu) }
         // A byte that a probe shows is the one that the walk reaches.
-        ensures reached { IfOk result (λ answer. IsReachedByte (seen self.new) call.now answer.reply) }
-        ensures free { (number : ℕ) → call.now ≡ Call.Free number → IsOk result }
+        ensures reached { IfOk result (λ answer. IsReachedByte (paged (system_of self.new.heap)) call.now answer.reply) }
         ensures write { (number offset : ℕ) (bytes : List ℕ) → call.now ≡ Call.Write number offset bytes → IsOk result }
         ensures unmap { (start pages : ℕ) → call.now ≡ Call.Unmap start pages → IsOk result }
         ensures probe { (at : ℕ) (access : Access) (user : Bool) → call.now ≡ Call.Probe at access user → IsOk result }
+        ensures rate { (rate : ℕ) → call.now ≡ Call.SetRate rate → IsOk result }
+        ensures granularity { (granularity : ℕ) → call.now ≡ Call.SetGranularity granularity → IsOk result }
     {
-        match call {
-            Call::Malloc { size, align } => self.heap.hand_out(*size, *align, false),
-            Call::Calloc { size, align } => self.heap.hand_out(*size, *align, true),
-            Call::Realloc { block, size } => self.heap.resize(*block, *size, true),
-            Call::CRealloc { block, size } => self.heap.resize(*block, *size, false),
-            Call::Free { block } => Ok(self.heap.free(*block)),
-            Call::Write {
-                block,
-                offset,
-                bytes,
-            } => Ok(self.heap.write(*block, *offset, bytes.as_slice())),
-            Call::Read {
-                block,
-                offset,
-                length,
-            } => self.heap.read(*block, *offset, *length),
-            Call::Map {
-                start,
-                pages,
-                rights,
-            } => self.heap.map(*start, *pages, *rights),
-            Call::Unmap { start, pages } => Ok(self.heap.unmap(*start, *pages)),
-            Call::Probe { at, access, user } => Ok(self.heap.probe(*at, *access, *user)),
-            Call::Extents => self.heap.extents(),
-        }
+        let answer = self.heap.serve(call)?;
+        note_fault(&mut self.cpu, call, &answer.reply);
+        Ok(answer)
     }
 }

@@ -1,5 +1,6 @@
 // The paged system as a system that grants regions.
-ghost use Rattle.std.specs.Prelude.{◌≡◌, ℕ, List, true, false, refl, IsTrue};
+ghost use Rattle.std.specs.Prelude.{◌≡◌, ◌≢◌, ℕ, ◌+◌, ◌%◌, ◌<◌, ◌≤◌, List, [], ◌∷◌, true, false, refl, IsTrue, IfOk, IfErr, OnErr};
+ghost use Rattle.std.specs.List.{AllByRecursion};
 ghost use Rattle.std.specs.Int.{is_power_of_two};
 ghost use Rattle.kernel_heap.specs.System.{paged};
 
@@ -8,19 +9,25 @@ use heap_memory::{Allocator, Grant, GrantFault};
 use paging_core::{PageSize, Size4KiB};
 
 impl Allocator for PagedSystem {
+    ghost use Rattle.heap_memory.specs.Events.{Granted};
+    ghost use Rattle.heap_memory.specs.Regions.{IsWordOf, IsApart, IsGoodGrant, with_grant};
+    ghost use Rattle.heap_memory.specs.declared.grant.GrantFault.TheVariants.{OutOfMemory};
     ghost use Rattle.heap_model.specs.Request.{pages_in};
+    ghost use Rattle.mapped_regions.specs.Mapped.{word_reached};
+    ghost use Rattle.kernel_heap.specs.Follows.{Follows};
     ghost use Rattle.kernel_heap.specs.Layout.{Lacks};
     ghost use Rattle.kernel_heap.specs.Ordered.{regions_ordered};
+    ghost use Rattle.kernel_heap.specs.Words.{grants_of};
 
     ghost denies = { λ system size fault. Lacks (paged system) (pages_in size) fault };
 
     ghost zeros = { λ system. true };
 
-    ghost frees = { λ system. false };
+    ghost frees = { λ system. true };
 
-    ghost unit = { λ system. 0 };
+    ghost unit = { λ system. 4096 };
 
-    ghost parts = { λ system. false };
+    ghost parts = { λ system. true };
 
     ghost refuses = { λ old new. paged new ≡ paged old };
 
@@ -30,21 +37,42 @@ impl Allocator for PagedSystem {
 
     ghost fixed = { λ x y events follows. record { zeros_same = refl; frees_same = refl; parts_same = refl; unit_same = refl } };
 
-    /// Grants the pages that hold so many bytes, at the lowest place in the window, each with a cleared frame.
-    fn alloc(&mut self, size: u64) -> Result<Grant, GrantFault> {
+    /// Grants the pages that hold so many bytes, at the lowest place in the window, each with a cleared frame. No flag of a
+    /// grant is set.
+    fn alloc(&mut self, size: u64) -> Result<Grant, GrantFault>
+        requires some { 0 < size }
+        requires whole { size % 16 ≡ 0 }
+        ensures good { IfOk result (λ grant. IsGoodGrant size grant) }
+        ensures apart { IfOk result (λ grant. AllByRecursion (IsApart grant.base (grant.base + grant.size)) (grants_of (paged self.old))) }
+        ensures flags { IfOk result (λ grant. grant.flags ≡ 0) }
+        ensures regions { IfOk result (λ grant. grants_of (paged self.new) ≡ with_grant grant (grants_of (paged self.old))) }
+        ensures zeros { IfOk result (λ grant.
+            (at : ℕ) → grant.base ≤ at → at < grant.base + grant.size → at % 8 ≡ 0 → word_reached (paged self.new) at ≡ 0) }
+        ensures follows { IfOk result (λ grant. Follows (paged self.old) (Granted size grant ∷ []) (paged self.new)) }
+        ensures words { (at : ℕ) → IsWordOf (grants_of (paged self.old)) at → word_reached (paged self.new) at ≡ word_reached (paged self.old) at }
+        ensures err { OnErr result (paged self.new ≡ paged self.old) }
+        ensures denied { IfErr result (λ fault. fault ≢ OutOfMemory → Lacks (paged self.old) (pages_in size) fault) }
+    {
         self.grant_bytes(size)
     }
 
+    /// Gives the pages behind the first `new_size` bytes of a run back, where these are whole pages. It takes no memory.
     fn free_part(&mut self, at: u64, old_size: u64, new_size: u64) -> bool {
-        false
+        if new_size % Size4KiB::SIZE != 0 {
+            return false;
+        }
+        self.release(at, old_size, new_size);
+        true
     }
 
+    /// Gives the pages of a run back, and takes no memory for it.
     fn free(&mut self, at: u64, size: u64) -> bool {
-        false
+        self.release(at, size, 0);
+        true
     }
 
     fn can_release_part(&self, flags: u32) -> bool {
-        false
+        true
     }
 
     fn allocates_zeros(&self) -> bool {

@@ -62,6 +62,8 @@ impl PagedSystem {
     ghost use Rattle.kernel_heap.specs.Words.{heap_regions, grants_of};
     ghost use Rattle.mapped_regions.specs.Mapped.{word_reached};
     ghost use Rattle.heap_memory.specs.Regions.{IsWordOf};
+    ghost use Rattle.heap_memory.specs.Runs.{IsRun, without};
+    ghost use Rattle.kernel_heap.specs.Released.{IsReleasedFor};
     ghost use Rattle.heap_memory.specs.Words.{IsStored};
     ghost use Rattle.heap_model.specs.Machine.{IsStill};
     ghost use Rattle.kernel_heap.specs.Written.{AreInPage, AreLoaded, ArePut};
@@ -118,6 +120,13 @@ impl PagedSystem {
         ensures few { result ≤ 2 ^ 52 }
     {
         self.regions.count()
+    }
+
+    /// How often a region joined, modulo 2^64.
+    pub(crate) fn joins(&self) -> u64
+        ensures { result ≡ (paged self.now).joins }
+    {
+        self.regions.joins()
     }
 
     /// Puts the regions of the heap into a list that has places for all regions.
@@ -188,6 +197,22 @@ impl PagedSystem {
         ensures { reached (paged self.now).words (paged self.now).root address ≡ Some result }
     {
         self.regions.byte(address)
+    }
+
+    /// Gives back what is behind the first `left` bytes of a run, in whole pages: their frames are free again, and the
+    /// tables stay. It takes no memory.
+    pub(crate) fn release(&mut self, at: u64, size: u64, left: u64)
+        requires run { IsRun (grants_of (paged self.old)) at (at + size) }
+        requires within { left ≤ size }
+        requires in_pages { left % 4096 ≡ 0 }
+        ensures released { IsReleasedFor (paged self.old) (paged self.new) at size left }
+        ensures regions { grants_of (paged self.new) ≡ without (at + left) (at + size) (grants_of (paged self.old)) }
+        ensures words { (k : ℕ) → IsWordOf (grants_of (paged self.new)) k → word_reached (paged self.new) k ≡ word_reached (paged self.old) k }
+    {
+        if left == size {
+            return;
+        }
+        self.regions.cut(at + left, (size - left) / Size4KiB::SIZE);
     }
 
     /// The word at a multiple of 8 in the regions, by a walk.

@@ -4,7 +4,8 @@ ghost use Rattle.heap_model.specs.State.{State};
 ghost use Rattle.heap_model.specs.Probe.{grants, is_granted, fault_code, access_bit};
 ghost use Rattle.heap_model.specs.Run.{IsGood};
 ghost use Rattle.heap_model.specs.Machine.{Stands, IsStep};
-ghost use Rattle.kernel_heap.specs.Machine.{seen, IsReachedByte};
+ghost use Rattle.kernel_heap.specs.System.{paged};
+ghost use Rattle.kernel_heap.specs.Machine.{seen_with, system_of, IsReachedByte};
 ghost use Rattle.x86_tables.specs.PageFaultErrorCode.{page_fault_bits};
 
 use crate::numbered_heap::{NumberedHeap, refused};
@@ -56,8 +57,8 @@ fn fault_code(mapped: bool, access: Access, user: bool) -> PageFaultErrorCode
 impl NumberedHeap {
     /// Looks at the byte at an address. It takes no memory and changes nothing.
     pub(crate) fn probe(&self, at: u64, access: Access, user: bool) -> Answer
-        ensures ok { (s : State) → IsGood s → Stands (seen self.now) s → IsStep s (Call.Probe at access user) result (seen self.now) }
-        ensures reached { IsReachedByte (seen self.now) (Call.Probe at access user) result.reply }
+        ensures ok { (top : ℕ) (s : State) → IsGood s → Stands (seen_with top self.now) s → IsStep s (Call.Probe at access user) result (seen_with top self.now) }
+        ensures reached { IsReachedByte (paged (system_of self.now)) (Call.Probe at access user) result.reply }
     {
         if VirtAddr::try_new(at).is_err() {
             return refused(Refusal::NotCanonical);

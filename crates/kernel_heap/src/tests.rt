@@ -1,6 +1,6 @@
 //! Regions of the user beside those of the heap: rows whose answers are known.
 ghost use Rattle.std.specs.Prelude.{◌≡◌, ◌%◌, ◌<◌, IfOk};
-ghost use Rattle.kernel_heap.specs.Heap.{heap_state, IsHeap};
+ghost use Rattle.kernel_heap.specs.Heap.{heap_state, IsHeap, HasBins};
 
 use crate::heap_calls::hand_out;
 use crate::{MapFault, PagedSystem, Region, Rights, UnmapFault};
@@ -104,7 +104,7 @@ fn grants_go_around_the_regions_of_the_user(rt: HostRuntime) -> Result<(), Fail>
     Ok(())
 }
 
-// Maps pages beside the regions of a heap. The heap stays sound, and in its state.
+// Maps pages beside the regions of a heap. The heap stays sound, in its state, and with its bins.
 fn map_beside(
     heap: &mut Dlmalloc<PagedSystem>,
     start: u64,
@@ -112,17 +112,21 @@ fn map_beside(
     rights: Rights,
 ) -> Result<(), MapFault>
     requires sound { IsHeap heap.old }
+    requires linked { HasBins heap.old }
     ensures sound { IsHeap heap.new }
+    ensures linked { HasBins heap.new }
     ensures state { heap_state heap.new ≡ heap_state heap.old }
 {
     heap.rests_outside();
     heap.allocator_mut().map(start, pages, rights)
 }
 
-// Unmaps pages beside the regions of a heap. The heap stays sound, and in its state.
+// Unmaps pages beside the regions of a heap. The heap stays sound, in its state, and with its bins.
 fn unmap_beside(heap: &mut Dlmalloc<PagedSystem>, start: u64, pages: u64) -> Result<(), UnmapFault>
     requires sound { IsHeap heap.old }
+    requires linked { HasBins heap.old }
     ensures sound { IsHeap heap.new }
+    ensures linked { HasBins heap.new }
     ensures state { heap_state heap.new ≡ heap_state heap.old }
 {
     heap.rests_outside();
@@ -132,7 +136,9 @@ fn unmap_beside(heap: &mut Dlmalloc<PagedSystem>, start: u64, pages: u64) -> Res
 // The block of so many bytes that a heap hands out, if it does.
 fn block(heap: &mut Dlmalloc<PagedSystem>, size: u64) -> Option<u64>
     requires sound { IsHeap heap.old }
+    requires linked { HasBins heap.old }
     ensures sound { IsHeap heap.new }
+    ensures linked { HasBins heap.new }
 {
     match hand_out::<Brand>(heap, size, 16, false, Blank::new(1)) {
         Ok(address) => Some(address),
@@ -142,7 +148,8 @@ fn block(heap: &mut Dlmalloc<PagedSystem>, size: u64) -> Option<u64>
 
 // A heap over a window of 1024 pages, which asks for single pages.
 fn heap_of_pages(alloc: Global) -> Result<Dlmalloc<PagedSystem>, AllocError>
-    ensures { IfOk result (λ heap. IsHeap heap) }
+    ensures sound { IfOk result (λ heap. IsHeap heap) }
+    ensures linked { IfOk result (λ heap. HasBins heap) }
 {
     let mut heap = Dlmalloc::new_with_allocator(empty(alloc, 1024)?);
     heap.set_granularity(4096);

@@ -1,9 +1,9 @@
 // Regions of the user, as calls of the machine.
-ghost use Rattle.std.specs.Prelude.{◌≡◌, IfOk, OnErr, None};
+ghost use Rattle.std.specs.Prelude.{◌≡◌, ℕ, IfOk, OnErr, None};
 ghost use Rattle.heap_model.specs.State.{State};
 ghost use Rattle.heap_model.specs.Run.{IsGood};
 ghost use Rattle.heap_model.specs.Machine.{Stands, IsStep};
-ghost use Rattle.kernel_heap.specs.Machine.{seen, heap_of, map_refusal, unmap_refusal, IsRefusal, IsSound};
+ghost use Rattle.kernel_heap.specs.Machine.{seen_with, heap_of, map_refusal, unmap_refusal, IsRefusal, IsSound};
 
 use crate::numbered_heap::{NumberedHeap, refused};
 use heap_model::{Answer, Call, Refusal, Reply, Rights};
@@ -45,8 +45,8 @@ impl NumberedHeap {
     ) -> Result<Answer, AllocError>
         requires sound { IsSound self.old }
         ensures sound { IsSound self.new }
-        ensures ok { (s : State) → IsGood s → Stands (seen self.old) s → IfOk result (λ answer. IsStep s (Call.Map start pages rights) answer (seen self.new)) }
-        ensures err { OnErr result (seen self.new ≡ seen self.old) }
+        ensures ok { (top : ℕ) (s : State) → IsGood s → Stands (seen_with top self.old) s → IfOk result (λ answer. IsStep s (Call.Map start pages rights) answer (seen_with top self.new)) }
+        ensures err { (top : ℕ) → OnErr result (seen_with top self.new ≡ seen_with top self.old) }
         ensures heap { heap_of self.new ≡ heap_of self.old }
     {
         self.heap.rests_outside();
@@ -63,7 +63,7 @@ impl NumberedHeap {
     pub(crate) fn unmap(&mut self, start: u64, pages: u64) -> Answer
         requires sound { IsSound self.old }
         ensures sound { IsSound self.new }
-        ensures ok { (s : State) → IsGood s → Stands (seen self.old) s → IsStep s (Call.Unmap start pages) result (seen self.new) }
+        ensures ok { (top : ℕ) (s : State) → IsGood s → Stands (seen_with top self.old) s → IsStep s (Call.Unmap start pages) result (seen_with top self.new) }
         ensures heap { heap_of self.new ≡ heap_of self.old }
     {
         self.heap.rests_outside();

@@ -28,3 +28,9 @@ returns-clause-moves g c =
           (IfOk-weaker w.c_realloc-answer.result _ _ (λ address out. resized_to heap w.c_realloc-answer.new.self live.address (size_where (λ extent. extent.at == live.address - 16) (extents_in (heap_state heap)) - 8) c.args.size 16 address out)
           w.c_realloc-answer.ensures.resized)
     ]
+
+pub returns-clause-linked : goal.returns-clause-linked
+returns-clause-linked g c = elim c.if-keeps_alignment.branch [
+  | then-keeps_alignment w ↦ rw w.heap-is w.realloc-answer.ensures.linked
+  | else-keeps_alignment w ↦ rw w.heap-is w.c_realloc-answer.ensures.linked
+]

@@ -11,3 +11,7 @@ returns-clause-sound c =
 pub returns-clause-state : goal.returns-clause-state
 returns-clause-state c =
     (heap_beside c.args.heap.now c.requires.sound c.unmap.new.self (subst (λ system. IsBeside (paged system) (paged c.unmap.new.self)) c.allocator_mut.ensures.value c.unmap.ensures.beside) c.rests_outside.ensures).1
+
+pub returns-clause-linked : goal.returns-clause-linked
+returns-clause-linked c =
+    (heap_beside c.args.heap.now c.requires.sound c.unmap.new.self (subst (λ system. IsBeside (paged system) (paged c.unmap.new.self)) c.allocator_mut.ensures.value c.unmap.ensures.beside) c.rests_outside.ensures).2 c.requires.linked

@@ -1,19 +1,34 @@
-use Rattle.std.proofs.Common.{◌∙◌, sym}
+use Rattle.std.proofs.Common.{rules, arith, ◌≤◌, vec_capacity, ◌≡◌, ◌∙◌, ap, sym, length}
+use Rattle.heap_model.proofs.Shortened.{length_cut}
+use Rattle.kernel_heap.specs.System.{paged}
 use Rattle.kernel_heap.proofs.Laid.{laid_ended}
-use Rattle.kernel_heap.proofs.Ended.{step_ended}
+use Rattle.kernel_heap.proofs.Ended.{free_shortened, step_ended}
 use Rattle.kernel_heap.proofs.numbered_heap.NumberedHeap.free.Goals as goal
+
+-- there are no more regions than before
+pub changed_regions-requires-clause-places : goal.changed_regions-requires-clause-places
+changed_regions-requires-clause-places c =
+    let short = free_shortened c.args.self.now.heap c.free.new.heap c.in-Some.live.address c.free.ensures.freed in
+    let few = length_cut (paged c.args.self.now.heap.system).regions (paged c.free.new.heap.system).regions short.cut in
+    let count : c.region_count-count.result ≡ length (paged c.args.self.now.heap.system).regions = c.region_count-count.ensures.count ∙ ap (λ system. length (paged system).regions) c.allocator.ensures in
+    let places : c.region_count-count.result ≤ vec_capacity c.reserve.new.self = search rules in
+    omega arith
 
 pub returns-clause-sound : goal.returns-clause-sound
 returns-clause-sound c =
     let is = sym c.live.ensures ∙ c.in-Some.is in
-    laid_ended c.args.self.now.heap c.free.new.heap c.args.self.now.blocks.items c.args.number c.in-Some.live c.requires.sound is c.free.ensures.freed
+    rw (c.changed_regions.ensures.heap, c.changed_regions.ensures.blocks)
+    (laid_ended c.args.self.now.heap c.free.new.heap c.args.self.now.blocks.items c.args.number c.in-Some.live c.requires.sound is c.free.ensures.freed c.free.ensures.linked)
 
 pub returns-clause-ok : goal.returns-clause-ok
-returns-clause-ok c = λ s good stands.
+returns-clause-ok c = λ top s good stands.
     let is = sym c.live.ensures ∙ c.in-Some.is in
-    step_ended c.args.self.now.heap c.free.new.heap c.args.self.now.blocks.items c.args.number c.in-Some.live c.requires.sound is c.free.ensures.freed c.free.ensures.placed_before c.free.ensures.placed s good stands
+    rw (c.changed_regions.ensures.heap, c.changed_regions.ensures.blocks)
+    (step_ended c.args.self.now.heap c.free.new.heap c.args.self.now.blocks.items c.args.number c.in-Some.live c.requires.sound is c.free.ensures.freed c.free.ensures.placed_before c.free.ensures.placed s good stands c.changed_regions.result
+    (λ joins few. c.changed_regions.ensures.same (joins ∙ sym c.marks-before.ensures.joins) (few ∙ sym c.marks-before.ensures.free))
+    (λ other. c.changed_regions.ensures.other (λ joins few. other (joins ∙ c.marks-before.ensures.joins) (few ∙ c.marks-before.ensures.free))))
 
 pub returns-clause-heap : goal.returns-clause-heap
 returns-clause-heap c =
     let is = sym c.live.ensures ∙ c.in-Some.is in
-    rw is c.free.ensures.freed.state
+    rw (is, c.changed_regions.ensures.heap) (c.free.ensures.freed.state, c.free.ensures.freed.followed)

@@ -1,6 +1,7 @@
 use Rattle.std.proofs.Common.{rules, arith, ℕ, ◌+◌, ◌≤◌, vec_capacity, ◌≡◌, ◌∙◌, ap, sym, length, Some, Bool, true, false}
 use Rattle.std.specs.Int.{is_power_of_two}
 use Rattle.std.proofs.lemmas.Result.{IfOk-weaker}
+use Rattle.paging_core.specs.Pool.{free_count}
 use Rattle.dlmalloc_chunks.specs.Request.{padded, wanted}
 use Rattle.dlmalloc_chunks.proofs.PowersOfTwo.{power_from_test}
 use Rattle.dlmalloc.specs.Requested.{asked}
@@ -38,17 +39,18 @@ pub returns-in-Ok-clause-sound : goal.returns-in-Ok-clause-sound
 returns-in-Ok-clause-sound c =
     let power : is_power_of_two c.args.align ≡ true = search rules in
     rw (c.changed_regions.ensures.heap, c.changed_regions.ensures.blocks, c.add_block.ensures.heap, c.add_block.ensures.blocks, c.in_ok-reserve.ensures.items)
-    (laid_handed c.args.self.now.heap c.hand_out.new.heap c.args.self.now.blocks.items c.args.size c.args.align c.in-Ok.address c.requires.sound c.in-Ok.ensures.ok (power_from_test c.args.align power))
+    (laid_handed c.args.self.now.heap c.hand_out.new.heap c.args.self.now.blocks.items c.args.size c.args.align c.in-Ok.address c.requires.sound c.in-Ok.ensures.ok (power_from_test c.args.align power) c.hand_out.ensures.linked)
 
 pub returns-in-Ok-clause-ok : goal.returns-in-Ok-clause-ok
-returns-in-Ok-clause-ok c = λ s good stands.
+returns-in-Ok-clause-ok c = λ top s good stands.
     let power : is_power_of_two c.args.align ≡ true = search rules in
-    let count : c.region_count-count.result ≡ length (paged c.args.self.now.heap.system).regions = c.region_count-count.ensures.count ∙ ap (λ system. length (paged system).regions) c.allocator.ensures in
+    let joins = ap (λ heap. (paged heap.system).joins) c.add_block.ensures.heap in
+    let free = ap (λ heap. free_count (paged heap.system).free) c.add_block.ensures.heap in
     rw (c.changed_regions.ensures.heap, c.changed_regions.ensures.blocks, c.add_block.ensures.heap, c.add_block.ensures.blocks, c.add_block.ensures.reply, c.in_ok-reserve.ensures.items)
     (step_request c.args.self.now.heap c.hand_out.new.heap c.args.self.now.blocks.items c.args.size c.args.align c.in-Ok.address c.requires.sound c.in-Ok.ensures.ok c.hand_out.ensures.placed_before c.hand_out.ensures.placed c.hand_out.ensures.apart s good stands
     power c.changed_regions.result
-    (λ same. c.changed_regions.ensures.same (ap (λ heap. length (paged heap.system).regions) c.add_block.ensures.heap ∙ (same ∙ sym count)))
-    (λ other. c.changed_regions.ensures.more (λ e. other (sym (ap (λ heap. length (paged heap.system).regions) c.add_block.ensures.heap) ∙ (e ∙ count)))
+    (λ same few. c.changed_regions.ensures.same (joins ∙ (same ∙ sym c.marks-before.ensures.joins)) (free ∙ (few ∙ sym c.marks-before.ensures.free)))
+    (λ other. c.changed_regions.ensures.other (λ same few. other (sym joins ∙ (same ∙ c.marks-before.ensures.joins)) (sym free ∙ (few ∙ c.marks-before.ensures.free)))
     ∙ ap (λ heap. Some (heap_regions (paged heap.system).regions)) c.add_block.ensures.heap)
     c.args.cleared (λ asked. c.in-Ok.ensures.zeros asked))
 
@@ -57,10 +59,10 @@ returns-in-Ok-clause-heap c = rw (c.changed_regions.ensures.heap, c.add_block.en
 
 pub returns-in-Err-clause-sound : goal.returns-in-Err-clause-sound
 returns-in-Err-clause-sound c =
-    rw c.in_ok-reserve.ensures.items (laid_denied c.args.self.now.heap c.hand_out.new.heap c.args.self.now.blocks.items (asked c.args.size c.args.align) c.in-Err.error c.in-Err.ensures.err c.requires.sound)
+    rw c.in_ok-reserve.ensures.items (laid_denied c.args.self.now.heap c.hand_out.new.heap c.args.self.now.blocks.items (asked c.args.size c.args.align) c.in-Err.error c.in-Err.ensures.err c.requires.sound c.hand_out.ensures.linked)
 
 pub returns-in-Err-clause-ok : goal.returns-in-Err-clause-ok
-returns-in-Err-clause-ok c = λ s good stands.
+returns-in-Err-clause-ok c = λ top s good stands.
     let power : is_power_of_two c.args.align ≡ true = search rules in
     IfOk-weaker c.refused_by.result _ _ (λ answer given.
     rw c.in_ok-reserve.ensures.items

@@ -5,14 +5,14 @@ use Rattle.heap_model.specs.Machine.{rights_of}
 use Rattle.heap_model.specs.Probe.{is_granted}
 use Rattle.heap_model.proofs.Probed.{step_byte}
 use Rattle.kernel_heap.specs.System.{paged}
-use Rattle.kernel_heap.specs.Machine.{seen}
+use Rattle.kernel_heap.specs.Machine.{seen_with}
 use Rattle.kernel_heap.proofs.numbered_heap.NumberedHeap.probe.Goals as goal
 
 pub returns-clause-ok : goal.returns-clause-ok
-returns-clause-ok c = λ s good stands.
+returns-clause-ok c = λ top s good stands.
     let at = c.args.at in
     let canonical : is_canonical at ≡ true = search rules in
     let walk = c.rights_at-rights.ensures.walk ∙ ap (λ system. option_map rights_of (walk_of (paged system).words (paged system).root (at / 4096))) c.allocator-system.ensures in
     let granted = ap (λ rights. is_granted rights c.args.access c.args.user) (sym walk) ∙ (sym c.is_granted.ensures ∙ c.if-not-is_granted.false) in
     let here = ap (λ system. reached (paged system).words (paged system).root at) (sym c.allocator-system.ensures) ∙ c.byte.ensures in
-    step_byte (seen c.args.self.now) s at c.args.access c.args.user c.byte.result good stands canonical granted here c.byte.type_inv
+    step_byte (seen_with top c.args.self.now) s at c.args.access c.args.user c.byte.result good stands canonical granted here c.byte.type_inv

@@ -5,7 +5,7 @@ use Rattle.mapped_regions.specs.Mapped.{IsLeft}
 use Rattle.mapped_regions.specs.UserRegions.{IsUnmapRefused, CanUnmap}
 use Rattle.kernel_heap.specs.Beside.{IsBeside}
 use Rattle.kernel_heap.specs.System.{paged}
-use Rattle.kernel_heap.specs.Machine.{seen, unmap_refusal}
+use Rattle.kernel_heap.specs.Machine.{seen_with, unmap_refusal}
 use Rattle.kernel_heap.proofs.Refused.{refused_with}
 use Rattle.kernel_heap.proofs.Laid.{heap_beside}
 use Rattle.kernel_heap.proofs.UserRegions.{step_unmap, unmap_denied, laid_beside}
@@ -17,8 +17,8 @@ returns-in-Ok-clause-sound c =
     (subst (λ system. IsBeside (paged system) (paged c.unmap.new.self)) c.allocator_mut.ensures.value c.unmap.ensures.beside) c.rests_outside.ensures
 
 pub returns-in-Ok-clause-ok : goal.returns-in-Ok-clause-ok
-returns-in-Ok-clause-ok c = λ s good stands.
-    step_unmap (seen c.args.self.now) s c.args.start c.args.pages good stands (paged c.unmap.new.self)
+returns-in-Ok-clause-ok c = λ top s good stands.
+    step_unmap (seen_with top c.args.self.now) s c.args.start c.args.pages good stands (paged c.unmap.new.self)
     (subst (λ system. CanUnmap (paged system) c.args.start c.args.pages) c.allocator_mut.ensures.value c.in-Ok.ensures.can)
     (subst (λ system. IsLeft (paged system) (paged c.unmap.new.self) c.args.start c.args.pages) c.allocator_mut.ensures.value c.in-Ok.ensures.ok)
 
@@ -33,11 +33,11 @@ returns-in-Err-clause-sound c =
     (subst (λ system. IsBeside (paged system) (paged c.unmap.new.self)) c.allocator_mut.ensures.value c.unmap.ensures.beside) c.rests_outside.ensures
 
 pub returns-in-Err-clause-ok : goal.returns-in-Err-clause-ok
-returns-in-Err-clause-ok c = λ s good stands.
+returns-in-Err-clause-ok c = λ top s good stands.
     let same = c.in-Err.ensures.err ∙ ap paged c.allocator_mut.ensures.value in
     rw (c.refused.ensures, c.unmap_refusal.ensures)
-    (subst (λ p. IsStep s (Unmap c.args.start c.args.pages) (refused_with (unmap_refusal c.in-Err.fault)) (record (seen c.args.self.now) { paged = p })) (sym same)
-    (unmap_denied (seen c.args.self.now) s c.args.start c.args.pages good stands c.in-Err.fault
+    (subst (λ p. IsStep s (Unmap c.args.start c.args.pages) (refused_with (unmap_refusal c.in-Err.fault)) (record (seen_with top c.args.self.now) { paged = p })) (sym same)
+    (unmap_denied (seen_with top c.args.self.now) s c.args.start c.args.pages good stands c.in-Err.fault
     (subst (λ system. IsUnmapRefused (paged system) c.args.start c.args.pages c.in-Err.fault) c.allocator_mut.ensures.value c.in-Err.ensures.refused)))
 
 pub returns-in-Err-clause-heap : goal.returns-in-Err-clause-heap

@@ -16,7 +16,7 @@ returns-in-Ok-clause-sound c =
     c.rests_outside.ensures
 
 pub returns-in-Ok-clause-ok : goal.returns-in-Ok-clause-ok
-returns-in-Ok-clause-ok c = λ s good stands.
+returns-in-Ok-clause-ok c = λ top s good stands.
     step_written c.args.self.now.heap c.args.self.now.blocks.items c.args.number c.args.offset (length c.args.bytes.now) c.in-Ok.address c.requires.sound c.find_bytes.ensures.placed c.in-Ok.ensures.ok s good stands
     (paged c.write_bytes.new.self) c.args.bytes.now refl
     (subst (λ system. IsWritten (paged system) (paged c.write_bytes.new.self) c.in-Ok.address c.args.bytes.now (length c.args.bytes.now)) c.allocator_mut.ensures.value c.write_bytes.ensures)

@@ -21,7 +21,7 @@ pub returns-clause-regions : goal.returns-clause-regions
 returns-clause-regions c = IfOk-weaker c.grant_bytes.result _ _ (λ grant is. regions (paged c.args.self.now) (paged c.grant_bytes.new.self) c.args.size grant c.args.self.now.kept is) c.grant_bytes.ensures.ok
 
 pub returns-clause-zeros : goal.returns-clause-zeros
-returns-clause-zeros c = IfOk-weaker c.grant_bytes.result _ _ (λ grant is yes. zeros (paged c.args.self.now) (paged c.grant_bytes.new.self) c.args.size grant c.args.self.now.kept is) c.grant_bytes.ensures.ok
+returns-clause-zeros c = IfOk-weaker c.grant_bytes.result _ _ (λ grant is. zeros (paged c.args.self.now) (paged c.grant_bytes.new.self) c.args.size grant c.args.self.now.kept is) c.grant_bytes.ensures.ok
 
 -- the words stay whatever is answered
 words_stay : (old new : Paged) (size : ℕ) (answer : Result Grant GrantFault) → IsKept old → IfOk answer (λ grant. IsGrantedFor old new size grant) → OnErr answer (new ≡ old) →

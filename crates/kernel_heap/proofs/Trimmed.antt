@@ -1,0 +1,177 @@
+-- Memory of the heap goes back to the system: the answer is allowed, and the machine stands for the state with the regions
+-- that are left.
+use Rattle.std.proofs.Common.{◌≡◌, ◌≢◌, ℕ, ◌+◌, ◌-◌, ◌^◌, ◌<◌, ◌≤◌, inl, inr, Bool, true, false, nat_lt, List, [], ◌∷◌, ◌++◌, length, refl, sym, ap, ◌∙◌, subst, arith, Option, Some, None, is_some, IsTrue}
+use Rattle.std.specs.Prelude.{if◌then◌else◌}
+use Rattle.std.specs.List.{list_any}
+use Rattle.paging_core.specs.Pool.{free_count}
+use Rattle.paging_core.specs.Walk.{reached}
+use Rattle.dlmalloc.specs.State.{HeapState, Segment, extents_in}
+use Rattle.dlmalloc.specs.Blocks.{ArePlaced}
+use Rattle.dlmalloc.specs.Released.{handed_out, releases, passed}
+use Rattle.dlmalloc.specs.Trimmed.{cut_top, cut_of, is_cut, gives_back, top_bytes, is_trimmed, trimmed, end_released, trim_releases, regions_trimmed}
+use Rattle.dlmalloc.specs.Shortened.{IsTrimmed}
+use Rattle.dlmalloc.specs.declared.heap.Dlmalloc.{Dlmalloc}
+use Rattle.heap_model.specs.declared.live.Live.{Live}
+use Rattle.heap_model.specs.declared.region.Region.{Region}
+use Rattle.heap_model.specs.declared.call.Call.TheVariants.{Trim}
+use Rattle.heap_model.specs.declared.answer.Reply.TheVariants.{Trimmed}
+use Rattle.heap_model.specs.State.{State, Block, block_at, cover, is_within, total_pages}
+use Rattle.heap_model.specs.Cut.{AreCut}
+use Rattle.heap_model.specs.Memory.{HoldsBytes}
+use Rattle.heap_model.specs.Run.{IsGood, IsHeapRegion}
+use Rattle.heap_model.specs.Machine.{Stands, IsStep, outline}
+use Rattle.heap_model.proofs.Cut.{none_cut}
+use Rattle.heap_model.proofs.Known.{known_within}
+use Rattle.heap_model.proofs.Placed.{outline_of}
+use Rattle.heap_model.proofs.Shortened.{length_cut, none_gone, good_cut}
+use Rattle.kernel_heap.specs.System.{paged}
+use Rattle.kernel_heap.specs.Words.{heap_regions}
+use Rattle.kernel_heap.specs.Heap.{regions, word, follows, heap_state, HasBins}
+use Rattle.kernel_heap.specs.Machine.{seen_of, live_at, has_region, HaveRegions, IsLive, IsLaidOut}
+use Rattle.kernel_heap.specs.declared.paged_system.PagedSystem.{PagedSystem}
+use Rattle.kernel_heap.proofs.BlockPlaces.{byte_kept}
+use Rattle.kernel_heap.proofs.Ended.{all_releases, both_releases}
+use Rattle.kernel_heap.proofs.HeapRegions.{all_more}
+use Rattle.kernel_heap.proofs.Laid.{block_there, block_moved}
+use Rattle.kernel_heap.proofs.Numbers.{same_or_other}
+use Rattle.kernel_heap.proofs.ReleasedRegions.{AreShortened, AreReleases, follows_shortened}
+use Rattle.kernel_heap.proofs.ReleasedState.{regions_cut, frames_left, stands_left}
+use Rattle.kernel_heap.proofs.Still.{granted_within}
+use Rattle.kernel_heap.proofs.SegmentsLeft.{Has, have_all, have_trimmed}
+
+-- ---- what a trim does to the system: it gives runs back
+
+end_are : (less : ℕ) (segments : List Segment) → AreReleases (end_released less segments)
+end_are less [] = tt
+end_are less (segment ∷ segments) = (tt, tt)
+
+trim_are : (pad : ℕ) (heap : HeapState) → AreReleases (trim_releases true true 4096 pad heap)
+trim_are pad heap = go (is_trimmed pad heap) (is_cut true 4096 pad heap)
+  where
+    go : (b c : Bool) → AreReleases (if b then (if c then end_released (cut_of heap pad) heap.segments else []) ++ releases (handed_out true heap.segments) else [])
+    go false c = tt
+    go true true = both_releases (end_released (cut_of heap pad) heap.segments) (releases (handed_out true heap.segments)) (end_are (cut_of heap pad) heap.segments) (all_releases (handed_out true heap.segments))
+    go true false = all_releases (handed_out true heap.segments)
+
+-- and its granularity stays
+cut_granularity : (less : ℕ) (heap : HeapState) (segments : List Segment) → (cut_top less (record heap { segments = segments })).granularity ≡ heap.granularity
+cut_granularity less heap [] = refl
+cut_granularity less heap (segment ∷ segments) = refl
+
+module _ (pad : ℕ) (heap : HeapState) where
+  abbrev after : Bool → HeapState
+  after d = passed true true (if d then cut_top (cut_of heap pad) heap else heap)
+
+  cut : (d : Bool) → (after d).granularity ≡ heap.granularity
+  cut true = cut_granularity (cut_of heap pad) heap heap.segments
+  cut false = refl
+
+  trimmed_granularity : (trimmed true true 4096 pad heap).granularity ≡ heap.granularity
+  trimmed_granularity =
+      go (is_trimmed pad heap) (gives_back true true 4096 pad heap) (is_cut true 4096 pad heap)
+      (nat_lt (after (is_cut true 4096 pad heap)).trim_check (top_bytes (after (is_cut true 4096 pad heap))))
+    where
+      go : (b c d e : Bool) → (if b then (if c then after d else (if e then record (after d) { trim_check = 2 ^ 64 - 1 } else after d)) else heap).granularity ≡ heap.granularity
+      go false c d e = refl
+      go true true d e = cut d
+      go true false d true = cut d
+      go true false d false = cut d
+
+-- ---- the machine
+
+module _ (heap new : Dlmalloc PagedSystem) (blocks : List (Option Live)) (pad : ℕ) (answer : Bool) (laid : IsLaidOut heap blocks) (out : IsTrimmed regions word follows true true 4096 heap pad answer new) where
+  -- a live block has its extent still
+  live_now : (number : ℕ) (live : Live) → live_at blocks number ≡ Some live → IsLive (heap_state new) live
+  live_now number live is =
+      let was = laid.lives number live is in
+      let b = was.block in
+      record {
+        block = block_moved (heap_state heap) live.address live.size b (heap_state new) (out.used.still b.extent b.used (block_there (heap_state heap) live.address live.size b));
+        align = was.align;
+      }
+
+  pub laid_trimmed : HasBins new → IsLaidOut new blocks
+  laid_trimmed linked = record {
+    heap_sound = out.sound;
+    heap_linked = linked;
+    has = subst (λ (h : HeapState). HaveRegions h.segments (regions new.system)) (sym out.state)
+        (subst (HaveRegions (trimmed true true 4096 pad (heap_state heap)).segments) (sym out.regions_are)
+        (all_more (Has (trimmed true true 4096 pad (heap_state heap)).segments) (λ region. IsTrue (list_any (has_region region) (trimmed true true 4096 pad (heap_state heap)).segments)) (λ region is. is.1)
+        (regions_trimmed true true 4096 pad (heap_state heap) (regions heap.system))
+        (have_trimmed true true 4096 pad (heap_state heap) (regions heap.system) (have_all 0 (2 ^ 64) (paged heap.system).regions heap.system.kept.laid (heap_state heap).segments laid.has))));
+    lives = live_now;
+    used = λ extent used there. laid.used extent used (out.used.before extent used there);
+    distinct = laid.distinct;
+  }
+
+  short : AreShortened (paged heap.system) (paged new.system)
+  short = follows_shortened (paged heap.system) (paged new.system) (trim_releases true true 4096 pad (heap_state heap)) heap.system.kept.laid (trim_are pad (heap_state heap)) out.followed
+
+  pub few_left : length (paged new.system).regions ≤ length (paged heap.system).regions
+  few_left = length_cut (paged heap.system).regions (paged new.system).regions short.cut
+
+  module _ (placed_before : ArePlaced (regions heap.system) (heap_state heap)) (placed_now : ArePlaced (regions new.system) (heap_state new)) {top : ℕ} (s : State) (good : IsGood s) (stands : Stands (seen_of top heap blocks) s) where
+    abbrev left : List Region
+    left = heap_regions (paged new.system).regions
+
+    live_of : (i : ℕ) (it : Block) → block_at s.blocks i ≡ Some it → live_at blocks i ≡ Some (outline it)
+    live_of i it is = outline_of s.blocks blocks (sym stands.blocks) i it is
+
+    -- what was known of the blocks holds still
+    held : HoldsBytes (reached (paged new.system).words (paged new.system).root) s.blocks
+    held = record {
+      known = λ i k byte it is cell.
+          let at = live_of i it is in
+          let b = (laid.lives i (outline it) at).block in
+          let b' = (live_now i (outline it) at).block in
+          let many = (good.each i it is).cells in
+          let less = known_within it.cells k byte cell in
+          byte_kept heap new placed_before placed_now (extents_in (heap_state heap)) out.kept it.address it.size b b' (block_there (heap_state heap) it.address it.size b) k (omega arith)
+          ∙ stands.bytes.known i k byte it is cell;
+    }
+
+    granted_now : (number : ℕ) (block : Block) → block_at s.blocks number ≡ Some block → (k : ℕ) → k < cover block → IsTrue (list_any (is_within (block.address + k)) left)
+    granted_now number block is k less =
+        granted_within (paged new.system) (block.address + k)
+        ((placed_now block.address block.size (live_now number (outline block) (live_of number block is)).block).granted (block.address + k) (omega arith) (omega arith))
+
+    cut_now : AreCut s.heap left
+    cut_now = regions_cut (seen_of top heap blocks) (paged new.system) s good stands heap.system.kept.mapped new.system.kept.mapped short
+
+    good_now : IsGood (record s { heap = left })
+    good_now = good_cut s left good cut_now granted_now
+
+    stands_now : Stands (seen_of top new blocks) (record s { heap = left })
+    stands_now =
+        let same : new.granularity ≡ heap.granularity = ap (λ (h : HeapState). h.granularity) out.state ∙ trimmed_granularity pad (heap_state heap) in
+        subst (λ g. Stands (record (seen_of top new blocks) { granularity = g }) (record s { heap = left })) (sym same)
+        (stands_left (seen_of top heap blocks) (paged new.system) s good stands heap.system.kept.mapped new.system.kept.mapped short blocks s.blocks stands.blocks held)
+
+    pages_left : free_count (paged new.system).free + total_pages left ≡ free_count (paged heap.system).free + total_pages s.heap
+    pages_left = frames_left (seen_of top heap blocks) (paged new.system) s good stands heap.system.kept.mapped new.system.kept.mapped short
+
+    same_left : free_count (paged new.system).free ≡ free_count (paged heap.system).free → left ≡ s.heap
+    same_left is =
+        let pages = pages_left in
+        none_gone s.heap left (all_more (IsHeapRegion s) (λ region. 0 < region.pages) (λ region whole. whole.0.1.some) s.heap good.heap) cut_now (omega (arith, pages, is))
+
+    other_left : free_count (paged new.system).free ≢ free_count (paged heap.system).free → left ≢ s.heap
+    other_left differ same = differ (let pages = pages_left in let total = ap total_pages same in omega (arith, pages, total))
+
+    -- the regions are listed where another number of frames is free
+    pub step_trimmed : (answered : Option (List Region)) →
+        ((paged new.system).joins ≡ (paged heap.system).joins → free_count (paged new.system).free ≡ free_count (paged heap.system).free → answered ≡ None) →
+        (((paged new.system).joins ≡ (paged heap.system).joins → free_count (paged new.system).free ≡ free_count (paged heap.system).free → ⊥) → answered ≡ Some left) →
+        IsStep s (Trim pad) (record { reply = Trimmed (is_some answered); regions = answered }) (seen_of top new blocks)
+    step_trimmed answered same other = elim (same_or_other (free_count (paged new.system).free) (free_count (paged heap.system).free)) [
+      | inl is ↦ subst (λ (a : Option (List Region)). IsStep s (Trim pad) (record { reply = Trimmed (is_some a); regions = a }) (seen_of top new blocks)) (sym (same short.joins is)) (record {
+        allowed = record { reply = (refl, (none_cut s.heap, refl)); listed = tt };
+        good = good;
+        stands = subst (λ (list : List Region). Stands (seen_of top new blocks) (record s { heap = list })) (same_left is) stands_now;
+      })
+      | inr differ ↦ subst (λ (a : Option (List Region)). IsStep s (Trim pad) (record { reply = Trimmed (is_some a); regions = a }) (seen_of top new blocks)) (sym (other (λ joins few. differ few))) (record {
+        allowed = record { reply = (refl, (cut_now, refl)); listed = other_left differ };
+        good = good_now;
+        stands = stands_now;
+      })
+    ]

@@ -1,0 +1,41 @@
+use Rattle.std.proofs.Common.{◌≡◌, ◌-◌, ◌∙◌, ap, arith, Some}
+use Rattle.paging_core.specs.Pool.{free_count}
+use Rattle.kernel_heap.specs.System.{paged}
+use Rattle.kernel_heap.proofs.Reset.{laid_reset, more_free, step_reset, spare_window}
+use Rattle.kernel_heap.proofs.numbered_heap.NumberedHeap.reset.Goals as goal
+use Rattle.kernel_heap.proofs.numbered_heap.NumberedHeap.reset.Goals.{then-frames-eq0, else-frames-eq0}
+
+pub new-requires-clause-window : goal.new-requires-clause-window
+new-requires-clause-window c = spare_window
+
+pub returns-clause-sound : goal.returns-clause-sound
+returns-clause-sound c =
+    rw (c.end_blocks.ensures.heap, c.end_blocks.ensures.ended)
+    (laid_reset c.args.self.now.heap c.reset.new.heap c.args.self.now.blocks.items c.reset.result c.requires.sound c.reset.ensures.ended c.reset.ensures.state c.reset.ensures.sound c.reset.ensures.linked)
+
+pub returns-clause-heap : goal.returns-clause-heap
+returns-clause-heap c = rw c.end_blocks.ensures.heap c.reset.ensures.state
+
+-- frames are given back, and none is taken
+pub overflow_sub-frames : goal.overflow_sub-frames
+overflow_sub-frames c =
+    let more = more_free c.args.self.now.heap c.reset.new.heap c.args.self.now.blocks.items c.reset.result c.requires.sound c.reset.ensures.ended c.reset.ensures.state c.reset.ensures.sound in
+    let before : c.free_frames-free.result ≡ free_count (paged c.args.self.now.heap.system).free = c.free_frames-free.ensures ∙ ap (λ system. free_count (paged system).free) c.allocator.ensures in
+    let now : c.free_frames.result ≡ free_count (paged c.reset.new.heap.system).free = c.free_frames.ensures ∙ ap (λ system. free_count (paged system).free) (c.allocator-2.ensures ∙ ap (λ heap. heap.system) c.end_blocks.ensures.heap) in
+    omega (arith, more, before, now)
+
+pub returns-clause-ok : goal.returns-clause-ok
+returns-clause-ok c = λ top s good stands.
+    let before : c.free_frames-free.result ≡ free_count (paged c.args.self.now.heap.system).free = c.free_frames-free.ensures ∙ ap (λ system. free_count (paged system).free) c.allocator.ensures in
+    let now : c.free_frames.result ≡ free_count (paged c.reset.new.heap.system).free = c.free_frames.ensures ∙ ap (λ system. free_count (paged system).free) (c.allocator-2.ensures ∙ ap (λ heap. heap.system) c.end_blocks.ensures.heap) in
+    rw (c.end_blocks.ensures.heap, c.end_blocks.ensures.ended)
+    (step_reset c.args.self.now.heap c.reset.new.heap c.args.self.now.blocks.items c.reset.result c.requires.sound c.reset.ensures.ended c.reset.ensures.state c.reset.ensures.sound
+    s good stands (c.free_frames.result - c.free_frames-free.result) c.if-frames-eq0.result (λ i. now i - before i)
+    (λ zero. elim c.if-frames-eq0.branch [
+      | then-frames-eq0 w ↦ w.result-is
+      | else-frames-eq0 w ↦ absurd (w.if-frames-eq0.false zero)
+    ])
+    (λ some. elim c.if-frames-eq0.branch [
+      | then-frames-eq0 w ↦ absurd (some w.if-frames-eq0.true)
+      | else-frames-eq0 w ↦ w.result-is ∙ ap Some w.new-else-frames-eq0.ensures
+    ]))

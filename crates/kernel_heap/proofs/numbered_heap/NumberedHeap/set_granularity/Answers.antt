@@ -1,0 +1,24 @@
+use Rattle.std.proofs.Common.{None, ap, subst, sym}
+use Rattle.std.specs.Prelude.{if◌then◌else◌}
+use Rattle.dlmalloc.specs.State.{HeapState}
+use Rattle.heap_model.specs.declared.call.Call.TheVariants.{SetGranularity}
+use Rattle.heap_model.specs.declared.answer.Reply.TheVariants.{Accepted}
+use Rattle.heap_model.specs.Machine.{Seen, IsStep}
+use Rattle.heap_model.proofs.Settings.{step_granularity}
+use Rattle.kernel_heap.specs.Machine.{seen_with}
+use Rattle.kernel_heap.proofs.SettingChanges.{seen_set, laid_set}
+use Rattle.kernel_heap.proofs.numbered_heap.NumberedHeap.set_granularity.Goals as goal
+
+pub returns-clause-sound : goal.returns-clause-sound
+returns-clause-sound c =
+    let is = c.set_granularity.ensures in
+    laid_set c.args.self.now.heap c.set_granularity.new.self c.args.self.now.blocks.items is.system c.requires.sound (is.sound c.requires.sound.heap_sound) (is.linked c.requires.sound.heap_linked)
+    (ap (λ (h : HeapState). h.segments) is.state)
+
+pub returns-clause-ok : goal.returns-clause-ok
+returns-clause-ok c = λ top s good stands.
+    let is = c.set_granularity.ensures in
+    let accepted = c.set_granularity.result in
+    subst (λ (m : Seen). IsStep s (SetGranularity c.args.granularity) (record { reply = Accepted accepted; regions = None }) m)
+    (sym (seen_set c.args.self.now.heap c.set_granularity.new.self c.args.self.now.blocks.items is.system top (if accepted then c.args.granularity else c.args.self.now.heap.granularity) (ap (λ (h : HeapState). h.granularity) is.state)))
+    (step_granularity (seen_with top c.args.self.now) s c.args.granularity accepted good stands is.answer)

@@ -1,0 +1,28 @@
+use Rattle.std.proofs.Common.{rules, arith, ◌≤◌, vec_capacity, ◌≡◌, ◌∙◌, ap, sym, length}
+use Rattle.kernel_heap.specs.System.{paged}
+use Rattle.kernel_heap.proofs.Trimmed.{laid_trimmed, few_left, step_trimmed}
+use Rattle.kernel_heap.proofs.numbered_heap.NumberedHeap.trim.Goals as goal
+
+-- the list has a place for each region that is left
+pub changed_regions-regions-requires-clause-places : goal.changed_regions-regions-requires-clause-places
+changed_regions-regions-requires-clause-places c =
+    let few = few_left c.args.self.now.heap c.trim.new.heap c.args.self.now.blocks.items c.args.pad c.trim.result c.requires.sound c.trim.ensures.trimmed in
+    let count : c.region_count-count.result ≡ length (paged c.args.self.now.heap.system).regions = c.region_count-count.ensures.count ∙ ap (λ system. length (paged system).regions) c.allocator.ensures in
+    let places : c.region_count-count.result ≤ vec_capacity c.reserve.new.self = search rules in
+    omega arith
+
+pub returns-clause-sound : goal.returns-clause-sound
+returns-clause-sound c =
+    rw (c.changed_regions-regions.ensures.heap, c.changed_regions-regions.ensures.blocks)
+    (laid_trimmed c.args.self.now.heap c.trim.new.heap c.args.self.now.blocks.items c.args.pad c.trim.result c.requires.sound c.trim.ensures.trimmed c.trim.ensures.linked)
+
+pub returns-clause-ok : goal.returns-clause-ok
+returns-clause-ok c = λ top s good stands.
+    rw (c.is_some.ensures, c.changed_regions-regions.ensures.heap, c.changed_regions-regions.ensures.blocks)
+    (step_trimmed c.args.self.now.heap c.trim.new.heap c.args.self.now.blocks.items c.args.pad c.trim.result c.requires.sound c.trim.ensures.trimmed c.trim.ensures.placed_before c.trim.ensures.placed
+    s good stands c.changed_regions-regions.result
+    (λ joins few. c.changed_regions-regions.ensures.same (joins ∙ sym c.marks-before.ensures.joins) (few ∙ sym c.marks-before.ensures.free))
+    (λ other. c.changed_regions-regions.ensures.other (λ joins few. other (joins ∙ c.marks-before.ensures.joins) (few ∙ c.marks-before.ensures.free))))
+
+pub returns-clause-heap : goal.returns-clause-heap
+returns-clause-heap c = rw c.changed_regions-regions.ensures.heap c.trim.ensures.trimmed.state

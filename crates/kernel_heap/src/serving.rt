@@ -1,0 +1,60 @@
+// A call goes to the function of the numbered heap that serves it.
+ghost use Rattle.std.specs.Prelude.{◌≡◌, ℕ, IfOk, IsOk, OnErr, List, Bool};
+ghost use Rattle.heap_model.specs.declared.call.Access.{Access};
+ghost use Rattle.heap_model.specs.State.{State};
+ghost use Rattle.heap_model.specs.Run.{IsGood};
+ghost use Rattle.heap_model.specs.Machine.{Stands, IsStep};
+ghost use Rattle.kernel_heap.specs.System.{paged};
+ghost use Rattle.kernel_heap.specs.Machine.{seen_with, system_of, heap_of, HeapMoves, IsReachedByte, IsSound};
+
+use crate::numbered_heap::NumberedHeap;
+use heap_model::{Answer, Call};
+use std::alloc::AllocError;
+
+impl NumberedHeap {
+    /// Serves a call. A write, an unmap, a probe and a setting take no memory, and are always answered.
+    pub(crate) fn serve(&mut self, call: &Call) -> Result<Answer, AllocError>
+        requires sound { IsSound self.old }
+        ensures sound { IsSound self.new }
+        ensures ok { (top : ℕ) (s : State) → IsGood s → Stands (seen_with top self.old) s → IfOk result (λ answer. IsStep s call.now answer (seen_with top self.new)) }
+        ensures err { (top : ℕ) → OnErr result (seen_with top self.new ≡ seen_with top self.old) }
+        ensures heap { IfOk result (λ answer. HeapMoves self.old call.now answer.reply self.new) }
+        ensures heap_err { OnErr result (heap_of self.new ≡ heap_of self.old) }
+        ensures reached { IfOk result (λ answer. IsReachedByte (paged (system_of self.new)) call.now answer.reply) }
+        ensures write { (number offset : ℕ) (bytes : List ℕ) → call.now ≡ Call.Write number offset bytes → IsOk result }
+        ensures unmap { (start pages : ℕ) → call.now ≡ Call.Unmap start pages → IsOk result }
+        ensures probe { (at : ℕ) (access : Access) (user : Bool) → call.now ≡ Call.Probe at access user → IsOk result }
+        ensures rate { (rate : ℕ) → call.now ≡ Call.SetRate rate → IsOk result }
+        ensures granularity { (granularity : ℕ) → call.now ≡ Call.SetGranularity granularity → IsOk result }
+    {
+        match call {
+            Call::Malloc { size, align } => self.hand_out(*size, *align, false),
+            Call::Calloc { size, align } => self.hand_out(*size, *align, true),
+            Call::Realloc { block, size } => self.resize(*block, *size, true),
+            Call::CRealloc { block, size } => self.resize(*block, *size, false),
+            Call::Free { block } => self.free(*block),
+            Call::Write {
+                block,
+                offset,
+                bytes,
+            } => Ok(self.write(*block, *offset, bytes.as_slice())),
+            Call::Read {
+                block,
+                offset,
+                length,
+            } => self.read(*block, *offset, *length),
+            Call::Map {
+                start,
+                pages,
+                rights,
+            } => self.map(*start, *pages, *rights),
+            Call::Unmap { start, pages } => Ok(self.unmap(*start, *pages)),
+            Call::Probe { at, access, user } => Ok(self.probe(*at, *access, *user)),
+            Call::Trim { pad } => self.trim(*pad),
+            Call::SetRate { rate } => Ok(self.set_rate(*rate)),
+            Call::SetGranularity { granularity } => Ok(self.set_granularity(*granularity)),
+            Call::Reset => self.reset(),
+            Call::Extents => self.extents(),
+        }
+    }
+}

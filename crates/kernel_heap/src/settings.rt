@@ -1,0 +1,38 @@
+// The settings of the heap: for multiples of how many bytes it asks, and how often it makes a release pass.
+ghost use Rattle.std.specs.Prelude.{ℕ};
+ghost use Rattle.heap_model.specs.State.{State};
+ghost use Rattle.heap_model.specs.Run.{IsGood};
+ghost use Rattle.heap_model.specs.Machine.{Stands, IsStep};
+ghost use Rattle.kernel_heap.specs.Machine.{seen_with, HeapMoves, IsSound};
+
+use crate::numbered_heap::NumberedHeap;
+use heap_model::{Answer, Call, Reply};
+
+impl NumberedHeap {
+    /// Sets how many large chunks are freed between two release passes. It takes no memory.
+    pub(crate) fn set_rate(&mut self, rate: u64) -> Answer
+        requires sound { IsSound self.old }
+        ensures sound { IsSound self.new }
+        ensures ok { (top : ℕ) (s : State) → IsGood s → Stands (seen_with top self.old) s → IsStep s (Call.SetRate rate) result (seen_with top self.new) }
+        ensures heap { HeapMoves self.old (Call.SetRate rate) result.reply self.new }
+    {
+        self.heap.set_max_release_check_rate(rate);
+        Answer {
+            reply: Reply::Done,
+            regions: None,
+        }
+    }
+
+    /// Sets the granularity, where it is a power of two of at least 16. It takes no memory.
+    pub(crate) fn set_granularity(&mut self, granularity: u64) -> Answer
+        requires sound { IsSound self.old }
+        ensures sound { IsSound self.new }
+        ensures ok { (top : ℕ) (s : State) → IsGood s → Stands (seen_with top self.old) s → IsStep s (Call.SetGranularity granularity) result (seen_with top self.new) }
+        ensures heap { HeapMoves self.old (Call.SetGranularity granularity) result.reply self.new }
+    {
+        Answer {
+            reply: Reply::Accepted(self.heap.set_granularity(granularity)),
+            regions: None,
+        }
+    }
+}

@@ -1,0 +1,71 @@
+// Memory of the heap that goes back to the system, as calls of the machine.
+ghost use Rattle.std.specs.Prelude.{◌≡◌, ℕ, None, IfOk, OnErr, length, replicate};
+ghost use Rattle.heap_model.specs.State.{State};
+ghost use Rattle.heap_model.specs.Run.{IsGood};
+ghost use Rattle.heap_model.specs.Machine.{Stands, IsStep};
+ghost use Rattle.kernel_heap.specs.Machine.{seen_with, heap_of, HeapMoves, IsSound};
+
+use crate::heap_calls;
+use crate::numbered_heap::NumberedHeap;
+use crate::paged_system::PagedSystem;
+use heap_model::{Answer, Call, RegionList, Reply};
+use paging_core::{PageSize, Size4KiB};
+use std::alloc::AllocError;
+use std::marker::Brand;
+use std::sync::ledger::Blank;
+
+impl NumberedHeap {
+    /// Gives memory back that no block needs. The answer has its places before anything changes.
+    pub(crate) fn trim(&mut self, pad: u64) -> Result<Answer, AllocError>
+        requires sound { IsSound self.old }
+        ensures sound { IsSound self.new }
+        ensures ok { (top : ℕ) (s : State) → IsGood s → Stands (seen_with top self.old) s → IfOk result (λ answer. IsStep s (Call.Trim pad) answer (seen_with top self.new)) }
+        ensures err { (top : ℕ) → OnErr result (seen_with top self.new ≡ seen_with top self.old) }
+        ensures heap { IfOk result (λ answer. HeapMoves self.old (Call.Trim pad) answer.reply self.new) }
+        ensures heap_err { OnErr result (heap_of self.new ≡ heap_of self.old) }
+    {
+        let count = self.heap.allocator().region_count();
+        self.list.clear();
+        self.list.reserve(count)?;
+        let before = self.marks();
+        heap_calls::trim::<Brand>(&mut self.heap, pad, Blank::new(1));
+        let regions = self.changed_regions(before);
+        Ok(Answer {
+            reply: Reply::Trimmed(regions.is_some()),
+            regions,
+        })
+    }
+
+    /// Ends all blocks and gives all memory of the heap back. A new heap begins over the system, with the granularity and
+    /// the rate in force.
+    pub(crate) fn reset(&mut self) -> Result<Answer, AllocError>
+        requires sound { IsSound self.old }
+        ensures sound { IsSound self.new }
+        ensures ok { (top : ℕ) (s : State) → IsGood s → Stands (seen_with top self.old) s → IfOk result (λ answer. IsStep s Call.Reset answer (seen_with top self.new)) }
+        ensures err { (top : ℕ) → OnErr result (seen_with top self.new ≡ seen_with top self.old) }
+        ensures heap { IfOk result (λ answer. HeapMoves self.old Call.Reset answer.reply self.new) }
+        ensures heap_err { OnErr result (heap_of self.new ≡ heap_of self.old) }
+    {
+        let other = PagedSystem::new(self.alloc, Size4KiB::SIZE, 1, 1)?;
+        let free = self.heap.allocator().free_frames();
+        heap_calls::reset::<Brand>(&mut self.heap, other, Blank::new(1));
+        self.end_blocks();
+        let frames = self.heap.allocator().free_frames() - free;
+        Ok(Answer {
+            reply: Reply::Released(frames * Size4KiB::SIZE),
+            regions: if frames == 0 {
+                None
+            } else {
+                Some(RegionList::new(self.alloc))
+            },
+        })
+    }
+
+    /// Ends all blocks. Their numbers stay.
+    fn end_blocks(&mut self)
+        ensures ended { self.new.blocks.items ≡ replicate (length self.old.blocks.items) None }
+        ensures heap { self.new.heap ≡ self.old.heap }
+    {
+        self.blocks.as_mut_slice().fill(None);
+    }
+}
