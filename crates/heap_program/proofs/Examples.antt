@@ -2,8 +2,8 @@
 use Rattle.std.proofs.Common.{◌≡◌, ◌^◌, ◌-◌, ℕ, true, false, [], ◌∷◌, ◌++◌, map, codes, refl, Some, None, lit<, lit≤}
 use Rattle.dlmalloc_chunks.specs.declared.extent.Kind.TheVariants.{Used, Free as Binned, Victim, Top, Record, Foot}
 use Rattle.heap_model.specs.declared.call.Access.TheVariants.{Read as Reading, Write as Writing, Fetch as Fetching}
-use Rattle.heap_model.specs.declared.call.Call.TheVariants.{Malloc, Calloc, Realloc, CRealloc, Free, Write, Read, Map, Unmap, Probe, Extents}
-use Rattle.heap_model.specs.declared.answer.Reply.TheVariants.{Block, Bytes, Byte, Extents as Listed, Refused}
+use Rattle.heap_model.specs.declared.call.Call.TheVariants.{Malloc, Calloc, Realloc, CRealloc, Free, Write, Read, Map, Unmap, Probe, Trim, SetRate, SetGranularity, Reset, Extents}
+use Rattle.heap_model.specs.declared.answer.Reply.TheVariants.{Block, Bytes, Byte, Trimmed, Accepted, Released, Extents as Listed, Refused}
 use Rattle.heap_model.specs.declared.answer.Refusal.TheVariants.{NoFrames, UnknownRegion, NotCanonical}
 use Rattle.std.specs.Fmt.{digits}
 use Rattle.hex.proofs.OnLiterals.{hex_on_literals}
@@ -68,6 +68,10 @@ items-extents : items_of (codes "extents\nextents \nextents 0") ≡ Some Extents
 unfolding items_of item_of
 items-extents = refl
 
+items-settings : items_of (codes "trim 0\ntrim\nrate 0x10\nrate 1 2\ngranularity 4096\ngranularity\nreset\nreset 0\nset_rate 1") ≡ Some (Trim 0) ∷ None ∷ Some (SetRate 16) ∷ None ∷ Some (SetGranularity 4096) ∷ None ∷ Some Reset ∷ None ∷ None ∷ []
+unfolding items_of item_of
+items-settings = refl
+
 items-maps : items_of (codes "map 0x410000 1 rw--\nmap 4096 2 r-ux\nunmap 0x410000 1\nmap 0 1 rwux\nmap 0 1\nmap 0 1 w---\nmap 0 1 rw-\nmap 0 1 rux-\nmap 0 1 rw-- 0\nunmap 0\nunmap 0 1 rw--") ≡ Some (Map 0x410000 1 (record { write = true; user = false; fetch = false })) ∷ Some (Map 4096 2 (record { write = false; user = true; fetch = true })) ∷ Some (Unmap 0x410000 1) ∷ Some (Map 0 1 (record { write = true; user = true; fetch = true })) ∷ None ∷ None ∷ None ∷ None ∷ None ∷ None ∷ None ∷ []
 unfolding items_of item_of
 items-maps = refl
@@ -89,6 +93,26 @@ text-no_bytes = refl
 text-byte : text_of (record { reply = Byte 0; regions = None }) ≡ codes "byte 00\n"
 unfolding text_of hex_on_literals
 text-byte = refl
+
+text-trimmed : text_of (record { reply = Trimmed true; regions = Some (heap_region 0x400000 1 ∷ []) }) ≡ codes "trimmed true\nheap 0x400000+1\n"
+unfolding text_of digits
+text-trimmed = refl
+
+text-not_trimmed : text_of (record { reply = Trimmed false; regions = None }) ≡ codes "trimmed false\n"
+unfolding text_of
+text-not_trimmed = refl
+
+text-accepted : text_of (record { reply = Accepted true; regions = None }) ≡ codes "accepted true\n"
+unfolding text_of
+text-accepted = refl
+
+text-not_accepted : text_of (record { reply = Accepted false; regions = None }) ≡ codes "accepted false\n"
+unfolding text_of
+text-not_accepted = refl
+
+text-released : text_of (record { reply = Released 65536; regions = Some [] }) ≡ codes "released 65536\nheap none\n"
+unfolding text_of digits
+text-released = refl
 
 text-unknown_region : text_of (record { reply = Refused UnknownRegion; regions = None }) ≡ codes "refused unknown-region\n"
 unfolding text_of

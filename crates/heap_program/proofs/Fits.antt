@@ -13,16 +13,16 @@ use Rattle.dlmalloc_chunks.specs.Request.{wanted}
 use Rattle.dlmalloc_chunks.specs.Tiling.{IsSize, has_byte}
 use Rattle.heap_model.specs.declared.answer.Answer.{Answer}
 use Rattle.heap_model.specs.declared.answer.Reply.{Reply}
-use Rattle.heap_model.specs.declared.answer.Reply.TheVariants.{Block as Placed, Done, Bytes, Byte, Fault, Extents as Listed, Refused}
+use Rattle.heap_model.specs.declared.answer.Reply.TheVariants.{Block as Placed, Done, Bytes, Byte, Fault, Trimmed, Accepted, Released, Extents as Listed, Refused}
 use Rattle.heap_model.specs.declared.call.Access.{Access}
 use Rattle.heap_model.specs.declared.call.Access.TheVariants.{Read as Reading, Write as Writing, Fetch as Fetching}
 use Rattle.heap_model.specs.declared.call.Call.{Call}
-use Rattle.heap_model.specs.declared.call.Call.TheVariants.{Malloc, Calloc, Realloc, CRealloc, Free, Write, Read, Map, Unmap, Probe, Extents}
+use Rattle.heap_model.specs.declared.call.Call.TheVariants.{Malloc, Calloc, Realloc, CRealloc, Free, Write, Read, Probe, SetGranularity, Reset, Extents, Map, Unmap}
 use Rattle.heap_model.specs.declared.region.Region.{Region}
 use Rattle.heap_model.specs.State.{State, Block, Cell, Fresh, Known, block_at, is_within}
 use Rattle.heap_model.specs.Extents.{IsTiling}
 use Rattle.heap_model.specs.Probe.{rights_at, fault_code}
-use Rattle.heap_model.specs.Answer.{AreBytes, seen_block, IsReply, IsResizing, changed, new_block, with_block, resized_block, with_heap, after}
+use Rattle.heap_model.specs.Answer.{AreBytes, all_ended, seen_block, IsReply, IsResizing, changed, new_block, with_block, resized_block, with_heap, after}
 use Rattle.heap_model.specs.Refusal.{own_align, least_align, wanted_by}
 use Rattle.heap_model.specs.Run.{IsGood, IsHeapRegion, IsItem, next, IsRun, last_state}
 use Rattle.heap_model.proofs.Booleans.{or_left, or_right, or_cases}
@@ -195,6 +195,8 @@ reply_fits : (s : State) (call : Call) (reply : Reply) (regions : Option (List R
     IsGood (after s call (record { reply = reply; regions = regions })) → ReplyFits reply
 reply_fits s call (Refused why) regions few is good = tt
 reply_fits s call Done regions few is good = tt
+reply_fits s call (Trimmed released) regions few is good = tt
+reply_fits s call (Accepted accepted) regions few is good = tt
 reply_fits s (Malloc size align) (Placed number address) regions few is good =
     (subst (λ n. n < 2 ^ 64) (sym is.1.0) few, placed_small s address size align Fresh (wanted_by s (Malloc size align)) regions good)
 reply_fits s (Calloc size align) (Placed number address) regions few is good =
@@ -206,6 +208,7 @@ reply_fits s (CRealloc number size) (Placed given address) regions few is good =
 reply_fits s (Read number offset count) (Bytes bytes) regions few is good = bytes_fit bytes is.1.2
 reply_fits s (Probe at access user) (Byte byte) regions few is good = bytes_fit (byte ∷ []) (is.1.2.small, tt)
 reply_fits s (Probe at access user) (Fault code) regions few is good = subst (λ n. n < 2 ^ 64) (sym is.1.2) (code_small (is_some (rights_at s at)) access user)
+reply_fits s Reset (Released bytes) regions few is good = is.1.2
 reply_fits s Extents (Listed extents) regions few is good =
     tiling_fits s extents (subst (λ r. IsGood (with_heap s None r)) is.1.0 good) is.1.1
 reply_fits s call reply regions few is good = absurd is.1
@@ -235,6 +238,9 @@ changed_blocks s (Read number offset count) (Bytes bytes) = simp (length-set) (o
 changed_blocks s (Map start pages rights) Done = omega arith
 changed_blocks s (Unmap start pages) Done = omega arith
 changed_blocks s (Probe at access user) (Byte byte) = omega (arith, length-map s.blocks (option_map (seen_block at byte)))
+changed_blocks s (SetGranularity granularity) (Accepted true) = omega arith
+changed_blocks s (SetGranularity granularity) (Accepted false) = omega arith
+changed_blocks s Reset (Released bytes) = let same : length (all_ended s.blocks) ≡ length s.blocks = length-map s.blocks (λ block. None) in omega (arith, same)
 changed_blocks s call reply = omega arith
 
 heap_blocks : (s : State) (n : Option ℕ) (regions : Option (List Region)) → (with_heap s n regions).blocks ≡ s.blocks

@@ -1,5 +1,5 @@
 -- Texts that cannot be read in two ways.
-use Rattle.std.proofs.Common.{◌^◌, ◌≡◌, ◌<◌, ◌+◌, ◌/◌, ◌%◌, ℕ, zero, suc, ◌==◌, get_or, List, [], ◌∷◌, ◌++◌, length, Option, None, Some, codes, decimal, refl, sym, ◌∙◌, ap, arith, append_assoc, lit≤}
+use Rattle.std.proofs.Common.{◌^◌, ◌≡◌, ◌<◌, ◌+◌, ◌/◌, ◌%◌, ℕ, zero, suc, ◌==◌, get_or, Bool, true, false, List, [], ◌∷◌, ◌++◌, length, Option, None, Some, codes, decimal, refl, sym, ◌∙◌, ap, arith, append_assoc, lit≤}
 use Rattle.std.proofs.lemmas.List.{append_cancel_left}
 use Rattle.std.specs.Prelude.{if◌then◌else◌}
 use Rattle.hex.specs.Hex.{IsBytes, decode_of, encode_lower, encode_with, lower_digits}
@@ -14,7 +14,7 @@ use Rattle.x86_tables.specs.PageFaultErrorCode.{page_fault_bits}
 use Rattle.x86_tables.specs.declared.idt.page_fault_error_code.PageFaultErrorCode.{PageFaultErrorCode}
 use Rattle.heap_model.specs.declared.answer.Answer.{Answer}
 use Rattle.heap_model.specs.declared.answer.Reply.{Reply}
-use Rattle.heap_model.specs.declared.answer.Reply.TheVariants.{Block, Done, Bytes, Byte, Fault, Extents, Refused}
+use Rattle.heap_model.specs.declared.answer.Reply.TheVariants.{Block, Done, Bytes, Byte, Fault, Trimmed, Accepted, Released, Extents, Refused}
 use Rattle.heap_model.specs.declared.answer.Refusal.{Refusal}
 use Rattle.heap_model.specs.declared.answer.Refusal.TheVariants.{BadAlign, TooLarge, NoSpace, NoFrames, UnknownBlock, OutOfBlock, BadRange, HeapRegion, Overlap, UnknownRegion, NotCanonical}
 use Rattle.heap_model.specs.declared.region.Region.{Region}
@@ -116,6 +116,31 @@ fault_end x y r s fx fy h =
     let bits = hex_end (page_fault_bits x) (page_fault_bits y) 10 10 r s fx fy (lit≤ tt) (lit≤ tt) k in
     ((λ i. Fault (record { 0 = bits.0 i })), tail_of bits.1)
 
+-- whether bytes went back, and whether a number was accepted
+trimmed_told : (b : Bool) (r : List ℕ) → (get_or (reply_text (Trimmed b) ++ r) 8 0 == 116) ≡ b
+trimmed_told true r = refl
+trimmed_told false r = refl
+
+trimmed_end : (x y : Bool) (r s : List ℕ) → reply_text (Trimmed x) ++ r ≡ reply_text (Trimmed y) ++ s → (Trimmed x ≡ Trimmed y) × (r ≡ s)
+trimmed_end x y r s h = let k = told_end (λ b. reply_text (Trimmed b)) (λ text. get_or text 8 0 == 116) trimmed_told x y r s h in (ap Trimmed k.0, k.1)
+
+accepted_told : (b : Bool) (r : List ℕ) → (get_or (reply_text (Accepted b) ++ r) 9 0 == 116) ≡ b
+accepted_told true r = refl
+accepted_told false r = refl
+
+accepted_end : (x y : Bool) (r s : List ℕ) → reply_text (Accepted x) ++ r ≡ reply_text (Accepted y) ++ s → (Accepted x ≡ Accepted y) × (r ≡ s)
+accepted_end x y r s h = let k = told_end (λ b. reply_text (Accepted b)) (λ text. get_or text 9 0 == 116) accepted_told x y r s h in (ap Accepted k.0, k.1)
+
+-- how many bytes a reset gave back
+released_onto : (bytes : ℕ) (r : List ℕ) → codes "released " ++ (decimal bytes ++ 10 ∷ r) ≡ reply_text (Released bytes) ++ r
+released_onto bytes r = ap (λ (l : List ℕ). codes "released " ++ l) (sym (append_assoc (decimal bytes) (10 ∷ []) r))
+
+released_end : (x y : ℕ) (r s : List ℕ) → x < 2 ^ 64 → y < 2 ^ 64 → reply_text (Released x) ++ r ≡ reply_text (Released y) ++ s → (Released x ≡ Released y) × (r ≡ s)
+released_end x y r s fx fy h =
+    let k = append_cancel_left (codes "released ") (decimal x ++ 10 ∷ r) (decimal y ++ 10 ∷ s) (released_onto x r ∙ h ∙ sym (released_onto y s)) in
+    let bytes = decimal_end x y 10 10 r s fx fy (lit≤ tt) (lit≤ tt) k in
+    (ap Released bytes.0, tail_of bytes.1)
+
 -- the first two letters tell the kinds of extents apart, and so does their sum
 abbrev kind_of : List ℕ → Kind
 kind_of text =
@@ -147,6 +172,9 @@ letters Done = 121
 letters (Bytes bytes) = 236
 letters (Byte byte) = 153
 letters (Fault code) = 213
+letters (Trimmed released) = 223
+letters (Accepted accepted) = 211
+letters (Released bytes) = 198
 letters (Extents extents) = 230
 letters (Refused why) = 216
 
@@ -156,6 +184,11 @@ letters_are Done r = refl
 letters_are (Bytes bytes) r = refl
 letters_are (Byte byte) r = refl
 letters_are (Fault code) r = refl
+letters_are (Trimmed true) r = refl
+letters_are (Trimmed false) r = refl
+letters_are (Accepted true) r = refl
+letters_are (Accepted false) r = refl
+letters_are (Released bytes) r = refl
 letters_are (Extents extents) r = refl
 letters_are (Refused why) r = refl
 
@@ -168,6 +201,9 @@ reply_end Done Done r s fp fq h = (refl, append_cancel_left (codes "done\n") r s
 reply_end (Bytes xs) (Bytes ys) r s fp fq h = bytes_end xs ys r s fp fq h
 reply_end (Byte x) (Byte y) r s fp fq h = byte_end x y r s fp fq h
 reply_end (Fault x) (Fault y) r s fp fq h = fault_end x y r s fp fq h
+reply_end (Trimmed x) (Trimmed y) r s fp fq h = trimmed_end x y r s h
+reply_end (Accepted x) (Accepted y) r s fp fq h = accepted_end x y r s h
+reply_end (Released x) (Released y) r s fp fq h = released_end x y r s fp fq h
 reply_end (Extents xs) (Extents ys) r s fp fq h = let k = items_end extent_text ExtentFits extent_end (codes "extents") xs ys r s fp fq h in ((λ i. Extents (k.0 i)), k.1)
 reply_end (Refused v) (Refused w) r s fp fq h = refused_end v w r s h
 reply_end p q r s fp fq h = absurd (let k : letters p ≡ letters q = letters_same p q r s h in omega (arith, k))
@@ -208,6 +244,9 @@ reply_differs Done r s t h = let k : 100 ≡ 98 = head_of h in omega (arith, k)
 reply_differs (Bytes bytes) r s t h = let k : 121 ≡ 97 = head_of (tail_of h) in omega (arith, k)
 reply_differs (Byte byte) r s t h = let k : 121 ≡ 97 = head_of (tail_of h) in omega (arith, k)
 reply_differs (Fault code) r s t h = let k : 102 ≡ 98 = head_of h in omega (arith, k)
+reply_differs (Trimmed released) r s t h = let k : 116 ≡ 98 = head_of h in omega (arith, k)
+reply_differs (Accepted accepted) r s t h = let k : 97 ≡ 98 = head_of h in omega (arith, k)
+reply_differs (Released bytes) r s t h = let k : 114 ≡ 98 = head_of h in omega (arith, k)
 reply_differs (Extents extents) r s t h = let k : 101 ≡ 98 = head_of h in omega (arith, k)
 reply_differs (Refused why) r s t h = let k : 114 ≡ 98 = head_of h in omega (arith, k)
 
@@ -224,6 +263,9 @@ reply_head Done r t h = let k : 100 ≡ 104 = head_of h in omega (arith, k)
 reply_head (Bytes bytes) r t h = let k : 98 ≡ 104 = head_of h in omega (arith, k)
 reply_head (Byte byte) r t h = let k : 98 ≡ 104 = head_of h in omega (arith, k)
 reply_head (Fault code) r t h = let k : 102 ≡ 104 = head_of h in omega (arith, k)
+reply_head (Trimmed released) r t h = let k : 116 ≡ 104 = head_of h in omega (arith, k)
+reply_head (Accepted accepted) r t h = let k : 97 ≡ 104 = head_of h in omega (arith, k)
+reply_head (Released bytes) r t h = let k : 114 ≡ 104 = head_of h in omega (arith, k)
 reply_head (Extents extents) r t h = let k : 101 ≡ 104 = head_of h in omega (arith, k)
 reply_head (Refused why) r t h = let k : 114 ≡ 104 = head_of h in omega (arith, k)
 

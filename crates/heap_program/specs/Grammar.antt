@@ -8,7 +8,7 @@ use Rattle.paging_core.specs.declared.page_table.Rights.{Rights}
 use Rattle.heap_model.specs.declared.call.Access.{Access}
 use Rattle.heap_model.specs.declared.call.Access.TheVariants.{Read as Reading, Write as Writing, Fetch as Fetching}
 use Rattle.heap_model.specs.declared.call.Call.{Call}
-use Rattle.heap_model.specs.declared.call.Call.TheVariants.{Malloc, Calloc, Realloc, CRealloc, Free, Write, Read, Map, Unmap, Probe, Extents}
+use Rattle.heap_model.specs.declared.call.Call.TheVariants.{Malloc, Calloc, Realloc, CRealloc, Free, Write, Read, Map, Unmap, Probe, Trim, SetRate, SetGranularity, Reset, Extents}
 use Rattle.heap_program.specs.Number.{number_of}
 use Rattle.heap_program.specs.Words.{words_of}
 
@@ -122,10 +122,22 @@ abbrev pub probe_of : List (List ℕ) → Option Call
 probe_of (at ∷ access ∷ words) = probe_call (number_of at) (access_of access) (user_of words)
 probe_of words = None
 
--- `extents`, with what stands behind the name: nothing
-abbrev pub extents_of : List (List ℕ) → Option Call
-extents_of [] = Some Extents
-extents_of words = None
+-- `trim PAD`, with what stands behind the name
+abbrev pub trim_of : List (List ℕ) → Option Call
+trim_of words = option_map Trim (one_number words)
+
+-- `rate N`, with what stands behind the name
+abbrev pub rate_of : List (List ℕ) → Option Call
+rate_of words = option_map SetRate (one_number words)
+
+-- `granularity N`, with what stands behind the name
+abbrev pub granularity_of : List (List ℕ) → Option Call
+granularity_of words = option_map SetGranularity (one_number words)
+
+-- a call whose name is the whole line: no word stands behind it
+abbrev pub alone : Call → List (List ℕ) → Option Call
+alone call [] = Some call
+alone call words = None
 
 -- the call that the first word names
 abbrev pub call_of : List (List ℕ) → Option Call
@@ -141,7 +153,11 @@ call_of (name ∷ arguments) =
     if bytes_eq name (codes "map") then map_of arguments else
     if bytes_eq name (codes "unmap") then unmap_of arguments else
     if bytes_eq name (codes "probe") then probe_of arguments else
-    if bytes_eq name (codes "extents") then extents_of arguments else None
+    if bytes_eq name (codes "trim") then trim_of arguments else
+    if bytes_eq name (codes "rate") then rate_of arguments else
+    if bytes_eq name (codes "granularity") then granularity_of arguments else
+    if bytes_eq name (codes "reset") then alone Reset arguments else
+    if bytes_eq name (codes "extents") then alone Extents arguments else None
 
 -- the call of a line of at most 8192 bytes; None is a bad line
 unfoldable pub item_of : List ℕ → Option Call

@@ -6,7 +6,7 @@ use Rattle.x86_tables.specs.PageFaultErrorCode.{page_fault_bits}
 use Rattle.dlmalloc_chunks.specs.declared.extent.Extent.{Extent}
 use Rattle.heap_model.specs.declared.answer.Answer.{Answer}
 use Rattle.heap_model.specs.declared.answer.Reply.{Reply}
-use Rattle.heap_model.specs.declared.answer.Reply.TheVariants.{Block, Done, Bytes, Byte, Fault, Extents, Refused}
+use Rattle.heap_model.specs.declared.answer.Reply.TheVariants.{Block, Done, Bytes, Byte, Fault, Trimmed, Accepted, Released, Extents, Refused}
 use Rattle.heap_model.specs.declared.call.Call.{Call}
 use Rattle.heap_model.specs.declared.region.Region.{Region}
 use Rattle.heap_model.specs.Room.{heap_region}
@@ -26,6 +26,9 @@ ReplyFits Done = ⊤
 ReplyFits (Bytes bytes) = IsBytes bytes
 ReplyFits (Byte byte) = IsBytes (byte ∷ [])
 ReplyFits (Fault code) = page_fault_bits code < 2 ^ 64
+ReplyFits (Trimmed released) = ⊤
+ReplyFits (Accepted accepted) = ⊤
+ReplyFits (Released bytes) = bytes < 2 ^ 64
 ReplyFits (Extents extents) = AllByRecursion ExtentFits extents
 ReplyFits (Refused why) = ⊤
 

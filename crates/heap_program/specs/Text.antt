@@ -1,5 +1,5 @@
 -- What is printed.
-use Rattle.std.specs.Prelude.{ℕ, ◌+◌, Bool, List, [], ◌∷◌, ◌++◌, length, codes, Option, None, Some, decimal, if◌then◌else◌, false}
+use Rattle.std.specs.Prelude.{ℕ, ◌+◌, Bool, List, [], ◌∷◌, ◌++◌, length, codes, Option, None, Some, decimal, if◌then◌else◌, true, false}
 use Rattle.std.specs.Fmt.{digits}
 use Rattle.std.specs.List.{flat_map}
 use Rattle.hex.specs.Hex.{encode_lower}
@@ -8,7 +8,7 @@ use Rattle.dlmalloc_chunks.specs.declared.extent.Kind.{Kind}
 use Rattle.dlmalloc_chunks.specs.declared.extent.Kind.TheVariants.{Used, Free, Victim, Top, Record, Foot}
 use Rattle.heap_model.specs.declared.answer.Answer.{Answer}
 use Rattle.heap_model.specs.declared.answer.Reply.{Reply}
-use Rattle.heap_model.specs.declared.answer.Reply.TheVariants.{Block, Done, Bytes, Byte, Fault, Extents, Refused}
+use Rattle.heap_model.specs.declared.answer.Reply.TheVariants.{Block, Done, Bytes, Byte, Fault, Trimmed, Accepted, Released, Extents, Refused}
 use Rattle.heap_model.specs.declared.answer.Refusal.{Refusal}
 use Rattle.heap_model.specs.declared.answer.Refusal.TheVariants.{BadAlign, TooLarge, NoSpace, NoFrames, UnknownBlock, OutOfBlock, BadRange, HeapRegion, Overlap, UnknownRegion, NotCanonical}
 use Rattle.heap_model.specs.declared.region.Region.{Region}
@@ -60,6 +60,10 @@ kind_word Foot = codes "foot"
 abbrev pub extent_text : Extent → List ℕ
 extent_text extent = kind_word extent.kind ++ (codes ":" ++ span_text extent.at extent.size)
 
+abbrev pub truth_word : Bool → List ℕ
+truth_word true = codes "true"
+truth_word false = codes "false"
+
 -- the line of a reply
 abbrev pub reply_text : Reply → List ℕ
 reply_text (Block number address) = codes "block " ++ (decimal number ++ (codes " " ++ (hexadecimal address ++ codes "\n")))
@@ -67,6 +71,9 @@ reply_text Done = codes "done\n"
 reply_text (Bytes bytes) = codes "bytes" ++ (bytes_text bytes ++ codes "\n")
 reply_text (Byte byte) = codes "byte" ++ (bytes_text (byte ∷ []) ++ codes "\n")
 reply_text (Fault code) = codes "fault " ++ (hexadecimal (page_fault_bits code) ++ codes "\n")
+reply_text (Trimmed released) = codes "trimmed " ++ (truth_word released ++ codes "\n")
+reply_text (Accepted accepted) = codes "accepted " ++ (truth_word accepted ++ codes "\n")
+reply_text (Released bytes) = codes "released " ++ (decimal bytes ++ codes "\n")
 reply_text (Extents extents) = codes "extents" ++ (spaced extent_text extents ++ codes "\n")
 reply_text (Refused why) = codes "refused " ++ (refusal_word why ++ codes "\n")
 

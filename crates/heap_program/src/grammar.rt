@@ -1,6 +1,6 @@
 // The call that a line asks for.
 ghost use Rattle.std.specs.Prelude.{◌≡◌, IfOk, MatchOption, Some, None};
-ghost use Rattle.heap_program.specs.Grammar.{one_number, two_numbers, request_of, malloc_of, calloc_of, realloc_of, c_realloc_of, free_of, bytes_of, write_call, write_of, read_of, right_of, rights_of, map_of, unmap_of, access_of, user_of, probe_of, extents_of, call_of, item_of};
+ghost use Rattle.heap_program.specs.Grammar.{one_number, two_numbers, request_of, malloc_of, calloc_of, realloc_of, c_realloc_of, free_of, bytes_of, write_call, write_of, read_of, right_of, rights_of, map_of, unmap_of, access_of, user_of, probe_of, trim_of, rate_of, granularity_of, alone, call_of, item_of};
 ghost use Rattle.heap_program.specs.Words.{words_of};
 
 use crate::number::number;
@@ -239,11 +239,33 @@ fn probe(words: &mut Words<'_>) -> Option<Call>
     Some(Call::Probe { at, access, user })
 }
 
-fn extents(words: &mut Words<'_>) -> Option<Call>
-    ensures { result ≡ extents_of words.old }
+fn trim(words: &mut Words<'_>) -> Option<Call>
+    ensures { result ≡ trim_of words.old }
+{
+    let pad = one_number(words)?;
+    Some(Call::Trim { pad })
+}
+
+fn rate(words: &mut Words<'_>) -> Option<Call>
+    ensures { result ≡ rate_of words.old }
+{
+    let rate = one_number(words)?;
+    Some(Call::SetRate { rate })
+}
+
+fn granularity(words: &mut Words<'_>) -> Option<Call>
+    ensures { result ≡ granularity_of words.old }
+{
+    let granularity = one_number(words)?;
+    Some(Call::SetGranularity { granularity })
+}
+
+// A call whose name is the whole line.
+fn alone(words: &mut Words<'_>, call: Call) -> Option<Call>
+    ensures { result ≡ alone call words.old }
 {
     match words.next_word() {
-        None => Some(Call::Extents),
+        None => Some(call),
         Some(_) => None,
     }
 }
@@ -275,8 +297,16 @@ fn call_of(alloc: Global, line: &[u8]) -> Result<Option<Call>, AllocError>
         Ok(unmap(&mut words))
     } else if name == b"probe".as_slice() {
         Ok(probe(&mut words))
+    } else if name == b"trim".as_slice() {
+        Ok(trim(&mut words))
+    } else if name == b"rate".as_slice() {
+        Ok(rate(&mut words))
+    } else if name == b"granularity".as_slice() {
+        Ok(granularity(&mut words))
+    } else if name == b"reset".as_slice() {
+        Ok(alone(&mut words, Call::Reset))
     } else if name == b"extents".as_slice() {
-        Ok(extents(&mut words))
+        Ok(alone(&mut words, Call::Extents))
     } else {
         Ok(None)
     }

@@ -5,7 +5,7 @@ ghost use Rattle.hex.specs.Hex.{encode_lower, lower_digits};
 ghost use Rattle.heap_model.specs.State.{State};
 ghost use Rattle.heap_model.specs.Machine.{Stands};
 ghost use Rattle.kernel_heap.specs.Machine.{seen};
-ghost use Rattle.heap_program.specs.Text.{text_of, reply_text, bytes_text, refusal_word, span_text, spaced, kind_word, extent_text, pages_text, regions_text, heap_line, right_text, rights_text, owner_text, region_line, counts_line, tally_line, end_text_of};
+ghost use Rattle.heap_program.specs.Text.{text_of, reply_text, bytes_text, refusal_word, truth_word, span_text, spaced, kind_word, extent_text, pages_text, regions_text, heap_line, right_text, rights_text, owner_text, region_line, counts_line, tally_line, end_text_of};
 
 use bitflags::Flags;
 use kernel_heap::{
@@ -29,6 +29,12 @@ fn refusal_word(why: Refusal) -> &'static str
         Refusal::UnknownRegion => "unknown-region",
         Refusal::NotCanonical => "not-canonical",
     }
+}
+
+fn truth_word(truth: bool) -> &'static str
+    ensures { result.now ≡ truth_word truth }
+{
+    if truth { "true" } else { "false" }
 }
 
 fn kind_word(kind: Kind) -> &'static str
@@ -133,6 +139,18 @@ fn push_reply(out: &mut String, reply: &Reply) -> Result<(), AllocError>
         Reply::Fault(code) => {
             let bits = code.bits();
             writeln!(out, "fault 0x{bits:x}")
+        }
+        Reply::Trimmed(released) => {
+            let word = truth_word(*released);
+            writeln!(out, "trimmed {word}")
+        }
+        Reply::Accepted(accepted) => {
+            let word = truth_word(*accepted);
+            writeln!(out, "accepted {word}")
+        }
+        Reply::Released(bytes) => {
+            let bytes = *bytes;
+            writeln!(out, "released {bytes}")
         }
         Reply::Extents(extents) => {
             out.push_str("extents")?;

@@ -12,7 +12,7 @@ use Rattle.heap_program.proofs.text.push_end.Goals as goal
 pub returns : goal.returns
 returns c = on_ok_weaker c.push_counts.result (λ written s stands.
     let out = string_bytes c.args.out.now in
-    let system : c.system-system.result.now ≡ system_of c.args.machine.now = c.system-system.ensures in
+    let system : c.system-system.result.now ≡ system_of c.args.machine.now.heap = c.system-system.ensures in
     let counts = counts_line c.free_frames.result c.tables.result in
     let told = end_told (seen c.args.machine.now) s c.as_slice.result.now c.free_frames.result c.tables.result stands
     (c.as_slice.ensures ∙ c.in_ok-regions.ensures ∙ ap (λ (p : PagedSystem). (paged p).regions) system)
