@@ -55,6 +55,18 @@ Lines:
                             read, write or fetch, by the user where the word
                             stands there. The answer is `byte` and its digits,
                             or `fault` and the page fault's code.
+  trim PAD                  gives memory back that no block needs, and keeps more
+                            than PAD bytes free at the heap's end. The answer is
+                            `trimmed true` where some went back, with a second
+                            line as for malloc, or `trimmed false`.
+  rate N                    has N large chunks freed between two release passes
+                            from then on. The answer is `done`.
+  granularity N             has the heap ask for multiples of N bytes, a power
+                            of two of at least 16. The answer is `accepted true`,
+                            or `accepted false`, and then nothing changes.
+  reset                     ends all blocks and gives all memory of the heap
+                            back. The answer is `released` and how many bytes.
+                            No number is given again.
   extents                   asks for the extents of the heap. The answer is
                             `extents` and each extent as KIND:ADDRESS+SIZE.
 
