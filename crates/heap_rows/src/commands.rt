@@ -4,9 +4,9 @@ use heap_program::{MemorySink, MemorySource, SureSink, heap_main, status_text};
 use std::test::Fail;
 
 /// What a command prints for an input. Each run ends with status 0.
-struct Command {
-    words: &'static [&'static str],
-    row: Row,
+pub(crate) struct Command {
+    pub(crate) words: &'static [&'static str],
+    pub(crate) row: Row,
 }
 
 const COMMANDS: [Command; 12] = [

@@ -10,7 +10,11 @@ mod error_words;
 #[cfg(test)]
 mod probes;
 #[cfg(test)]
+mod registers;
+#[cfg(test)]
 mod requests;
+#[cfg(test)]
+mod settings;
 #[cfg(test)]
 mod streams;
 #[cfg(test)]

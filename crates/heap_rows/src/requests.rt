@@ -2,7 +2,7 @@
 use crate::tests::{Row, outcome};
 use std::test::Fail;
 
-const ROWS: [Row; 10] = [
+const ROWS: [Row; 11] = [
     // An aligned block, and one before it.
     Row {
         input: "malloc 100 4096\nmalloc 4072\n",
@@ -12,6 +12,11 @@ const ROWS: [Row; 10] = [
     Row {
         input: "malloc 100 4096\nrealloc 0 50\nextents\n",
         output: "block 0 0x401000\nheap 0x400000+16\nblock 0 0x402000\nextents free:0x400000+8176 used:0x401ff0+64 top:0x402030+57216 foot:0x40ffb0+80\nregion 0x400000+16 heap\nframes 1004 tables 4\n",
+    },
+    // A free that leaves a long top gives the end of it back; the tables stay.
+    Row {
+        input: "malloc 2500000\nfree 0\nmalloc 8\n",
+        output: "block 0 0x400010\nheap 0x400000+624\ndone\nheap 0x400000+16\nblock 1 0x400010\nregion 0x400000+16 heap\nframes 1003 tables 5\n",
     },
     // No power of two, and one that no window has room for.
     Row {

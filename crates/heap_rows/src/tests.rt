@@ -12,7 +12,7 @@ pub(crate) struct Row {
     pub(crate) output: &'static str,
 }
 
-pub(crate) const ROWS: [Row; 18] = [
+pub(crate) const ROWS: [Row; 21] = [
     Row {
         input: "",
         output: "frames 1023 tables 1\n",
@@ -97,6 +97,21 @@ pub(crate) const ROWS: [Row; 18] = [
     Row {
         input: "malloc 65432\nmalloc 100\nwrite 1 78 aabbccdd\nread 1 78 4\n",
         output: "block 0 0x400010\nheap 0x400000+16\nblock 1 0x40ffb0\nheap 0x400000+16 0x410000+16\ndone\nbytes aabbccdd\nregion 0x400000+16 heap\nregion 0x410000+16 heap\nframes 988 tables 4\n",
+    },
+    // Of free chunks of one size the newest is taken first, below 256 bytes.
+    Row {
+        input: "malloc 24\nmalloc 24\nmalloc 24\nmalloc 24\nfree 0\nfree 2\nmalloc 24\nmalloc 24\n",
+        output: "block 0 0x400010\nheap 0x400000+16\nblock 1 0x400030\nblock 2 0x400050\nblock 3 0x400070\ndone\ndone\nblock 4 0x400050\nblock 5 0x400010\nregion 0x400000+16 heap\nframes 1004 tables 4\n",
+    },
+    // And the oldest from 256 bytes on.
+    Row {
+        input: "malloc 256\nmalloc 256\nmalloc 256\nmalloc 256\nfree 0\nfree 2\nmalloc 256\nmalloc 256\n",
+        output: "block 0 0x400010\nheap 0x400000+16\nblock 1 0x400120\nblock 2 0x400230\nblock 3 0x400340\ndone\ndone\nblock 4 0x400010\nblock 5 0x400230\nregion 0x400000+16 heap\nframes 1004 tables 4\n",
+    },
+    // The least chunk that fits is taken.
+    Row {
+        input: "malloc 1000\nmalloc 8\nmalloc 600\nmalloc 8\nfree 0\nfree 2\nmalloc 500\n",
+        output: "block 0 0x400010\nheap 0x400000+16\nblock 1 0x400400\nblock 2 0x400420\nblock 3 0x400680\ndone\ndone\nblock 4 0x400420\nregion 0x400000+16 heap\nframes 1004 tables 4\n",
     },
 ];
 
