@@ -2,7 +2,7 @@
 ghost use Rattle.std.specs.Prelude.{◌≤◌};
 
 use crate::tests::DEFAULT;
-use kernel_heap::{Bytes, Call, Machine, Reply};
+use kernel_heap::{Bytes, Call, Config, Machine, Reply};
 use std::alloc::{AllocError, Global};
 use std::test::Fail;
 
@@ -125,6 +125,32 @@ fn blocks_are_copied(rt: HostRuntime) -> Result<(), Fail> {
             has(&mut machine, 0, 0, &numbered(alloc, size)?)?,
             "{size} bytes"
         );
+    }
+    Ok(())
+}
+
+#[test]
+fn pages_whose_tables_share_a_place(rt: HostRuntime) -> Result<(), Fail> {
+    let alloc = rt.alloc();
+    let config = Config {
+        pages: 9000,
+        frames: 9100,
+        ..DEFAULT
+    };
+    let Ok(mut machine) = Machine::new(alloc, &config) else {
+        panic!(rt; "no machine");
+    };
+    machine.step(&Call::Malloc {
+        size: 0x200_0010,
+        align: 16,
+    })?;
+    // The last tables of these bytes have numbers that are 16 apart.
+    for (offset, byte) in [(0, 1), (0x200_0000, 2)] {
+        write(&mut machine, 0, offset, vec![in alloc; byte; 1]?)?;
+    }
+    for (offset, byte) in [(0, 1), (0x200_0000, 2), (0, 1)] {
+        let kept = vec![in alloc; byte; 1]?;
+        assert!(rt; has(&mut machine, 0, offset, &kept)?, "at {offset}");
     }
     Ok(())
 }

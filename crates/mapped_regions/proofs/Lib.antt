@@ -1,3 +1,4 @@
+pub mod LastTables
 pub mod Looked
 pub mod Mapped
 pub mod UserRegions

@@ -1,3 +1,4 @@
+pub mod LastTables
 pub mod Mapped
 pub mod Shown
 pub mod UserRegions

@@ -2,6 +2,7 @@
 //! anywhere.
 #![tactic(auto)]
 
+mod last_tables;
 mod map_fault;
 mod regions;
 mod user_regions;

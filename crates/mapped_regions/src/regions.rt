@@ -10,19 +10,22 @@ ghost use Rattle.paging_core.specs.Tree.{IsTree};
 ghost use Rattle.heap_model.specs.Place.{IsPlace, HasNoPlace};
 ghost use Rattle.heap_model.specs.Machine.{rights_of};
 ghost use Rattle.region_tree.specs.Regions.{is_at, kind_at, AreHeld, IsBoundary};
+ghost use Rattle.mapped_regions.specs.LastTables.{AreMet, AreMet-prop};
 ghost use Rattle.mapped_regions.specs.Mapped.{IsPageRange, IsMapped, IsMapped-prop};
 
+use crate::last_tables::LastTables;
 use heap_model::{Region, RegionList, Rights};
 use paging_core::{
-    FramePool, Frames, Page, PageSize, PhysFrame, Size4KiB, VirtAddr, load_word, load_words,
-    make_root, map_range, missing_tables, store_word, store_words, unmap_range, walk,
+    FramePool, Frames, Page, PageSize, PhysFrame, Size4KiB, VirtAddr, load_word, make_root,
+    map_range, missing_tables, unmap_range, walk,
 };
 use region_tree::RegionTree;
 use std::alloc::{AllocError, Global};
 
 /// The place in its page of the word at a multiple of 8.
 fn word_index(at: u64) -> u16
-    ensures { result ≡ at % 4096 / 8 }
+    ensures index { result ≡ at % 4096 / 8 }
+    ensures bounded { result < 512 }
 {
     (at % Size4KiB::SIZE / 8) as u16
 }
@@ -40,7 +43,10 @@ pub struct MappedRegions {
     tables: u64,
     /// How often a region joined. It begins anew behind the greatest number, and tells no more than whether one did of late.
     joins: u64,
+    /// The last tables that stores met: a word of one of their pages takes one step of the walk.
+    last_tables: LastTables,
     pub(crate) regions: RegionTree,
+    ghost met: { AreMet frames root last_tables } by { AreMet-prop frames root last_tables },
     ghost mapped: { IsMapped (record { base = base; pages = pages; words = frames; root = root; free = pool; tables = tables; joins = joins; regions = regions }) } by { IsMapped-prop (record { base = base; pages = pages; words = frames; root = root; free = pool; tables = tables; joins = joins; regions = regions }) },
 }
 
@@ -69,6 +75,7 @@ impl MappedRegions {
             root,
             tables: 1,
             joins: 0,
+            last_tables: LastTables::new(root),
             regions: RegionTree::new(base / Size4KiB::SIZE),
         })
     }
@@ -260,7 +267,9 @@ impl MappedRegions {
         requires word { IsMappedWord (shown self.now) at }
         ensures { result ≡ word_reached (shown self.now) at }
     {
-        load_word(&self.frames, self.root, VirtAddr::new(at))
+        let page = Page::containing_address(VirtAddr::new(at));
+        let frame = self.last_tables.frame(&self.frames, self.root, page);
+        self.frames.word(frame, word_index(at))
     }
 
     /// Puts a word at a multiple of 8 in a page that is mapped, by a walk, and changes nothing else.
@@ -276,7 +285,9 @@ impl MappedRegions {
             IfSome (walk_of (shown self.old).words (shown self.old).root (other / 4096)) (λ place. word_at (shown self.new).words place.frame (other % 4096 / 8) ≡ word_at (shown self.old).words place.frame (other % 4096 / 8)) }
         ensures bytes { (free : List Bool) → IsTree (shown self.old).words (shown self.old).root free → (other : ℕ) → IsTrue (is_canonical other) → (other / 8 ≡ at / 8 → ⊥) → reached (shown self.new).words (shown self.old).root other ≡ reached (shown self.old).words (shown self.old).root other }
     {
-        store_word(&mut self.frames, self.root, VirtAddr::new(at), value);
+        let page = Page::containing_address(VirtAddr::new(at));
+        let frame = self.last_tables.frame_kept(&self.frames, self.root, page);
+        self.frames.set_word(frame, word_index(at), value);
     }
 
     /// Reads words from a multiple of 8 on in a page that is mapped, by one walk. The page has as many.
@@ -287,7 +298,8 @@ impl MappedRegions {
         ensures length { length words.new ≡ length words.old }
     {
         let page = Page::containing_address(VirtAddr::new(at));
-        load_words(&self.frames, self.root, page, word_index(at), words);
+        let frame = self.last_tables.frame(&self.frames, self.root, page);
+        self.frames.read_words(frame, word_index(at), words);
     }
 
     /// Puts words from a multiple of 8 on in a page that is mapped, by one walk, and changes nothing else. The page has
@@ -306,6 +318,7 @@ impl MappedRegions {
             reached (shown self.new).words (shown self.old).root other ≡ reached (shown self.old).words (shown self.old).root other }
     {
         let page = Page::containing_address(VirtAddr::new(at));
-        store_words(&mut self.frames, self.root, page, word_index(at), words);
+        let frame = self.last_tables.frame_kept(&self.frames, self.root, page);
+        self.frames.write_words(frame, word_index(at), words);
     }
 }

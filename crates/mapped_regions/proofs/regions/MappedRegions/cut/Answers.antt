@@ -8,6 +8,7 @@ use Rattle.heap_model.specs.Machine.{Paged}
 use Rattle.region_tree.specs.Regions.{AreTakenOut, IsBoundary, cut_of}
 use Rattle.mapped_regions.specs.Mapped.{IsRegion, AreGone}
 use Rattle.mapped_regions.specs.Shown.{shown}
+use Rattle.mapped_regions.proofs.LastTables.{met_stay}
 use Rattle.mapped_regions.proofs.Mapped.{held_mapped, fewer_mapped, range_canonical, range_ends}
 use Rattle.mapped_regions.proofs.CutPages.{cut_count, regions_cut}
 use Rattle.mapped_regions.proofs.regions.MappedRegions.cut.Goals as goal
@@ -80,6 +81,8 @@ invariant_of-self c =
     let g = gone c in
     let range = c.requires.range in
     record {
+      met = met_stay c.args.self.now.frames c.unmap_range.new.frames c.args.self.now.root c.args.self.now.last_tables
+          (λ number at is. c.unmap_range.ensures.freed.removed.stayed 3 number (omega arith) (λ e. absurd (omega arith)) ∙ is) c.args.self.now.met;
       mapped = fewer_mapped (shown c.args.self.now) (after c) c.args.start c.args.pages m range.0
           (ap (λ rs. total_pages rs + c.args.pages) g.regions
           ∙ cut_count c.args.start c.args.pages range.0 range.1.some (2 ^ 64) (shown c.args.self.now).regions c.count.ensures.laid c.requires.ends c.requires.held)

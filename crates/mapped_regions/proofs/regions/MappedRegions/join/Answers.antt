@@ -5,6 +5,7 @@ use Rattle.heap_model.specs.Machine.{Paged}
 use Rattle.heap_model.proofs.Regions.{within_bounds}
 use Rattle.mapped_regions.specs.Mapped.{IsJoined}
 use Rattle.mapped_regions.specs.Shown.{shown}
+use Rattle.mapped_regions.proofs.LastTables.{met_stay}
 use Rattle.mapped_regions.proofs.Mapped.{unmapped, joined_mapped}
 use Rattle.mapped_regions.proofs.regions.MappedRegions.join.Goals as goal
 use Rattle.mapped_regions.proofs.regions.MappedRegions.join.Goals.{After-free_count}
@@ -56,6 +57,7 @@ pub invariant_of-self-2 : goal.invariant_of-self-2
 invariant_of-self-2 c =
     let first : c.containing_address.result ≡ c.args.region.start / 4096 = c.containing_address.ensures ∙ ap (λ a. a / 4096) c.new.ensures in
     record {
+      met = met_stay c.args.self.now.frames c.map_range.new.frames c.args.self.now.root c.args.self.now.last_tables (λ number at is. c.map_range.ensures.added.stayed 3 number at (omega arith) is) c.args.self.now.met;
       mapped = joined_mapped (shown c.args.self.now) (after c) c.args.region c.args.self.now.mapped c.requires.region c.requires.can (joined c) c.in_ok-add.ensures.put
           (λ other canonical apart. c.map_range.ensures.elsewhere other canonical (λ k less e. apart k less (e ∙ ap (λ f. f + k) first)));
     }

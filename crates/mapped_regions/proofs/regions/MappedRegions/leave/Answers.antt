@@ -1,8 +1,9 @@
-use Rattle.std.proofs.Common.{◌≡◌, ◌+◌, ◌/◌, ap, ◌∙◌, subst, sym, IsSome}
+use Rattle.std.proofs.Common.{◌≡◌, ◌+◌, ◌/◌, ap, ◌∙◌, subst, sym, arith, IsSome}
 use Rattle.paging_core.specs.Address.{IsCanonicalRange}
 use Rattle.paging_core.specs.Walk.{walk_of}
 use Rattle.heap_model.specs.Machine.{Paged}
 use Rattle.mapped_regions.specs.Shown.{shown}
+use Rattle.mapped_regions.proofs.LastTables.{met_stay}
 use Rattle.mapped_regions.proofs.Mapped.{mapped, is_left, left_mapped, listed_range, range_canonical, range_ends_at}
 use Rattle.mapped_regions.proofs.regions.MappedRegions.leave.Goals as goal
 
@@ -37,6 +38,8 @@ invariant_of-self c =
     let left = is_left old new.words new.free new.regions c.containing_address.result c.args.region.now.start c.args.region.now.pages first c.remove.ensures.regions
     c.unmap_range.ensures.freed c.unmap_range.ensures.tree c.unmap_range.ensures.count c.unmap_range.ensures.unmapped c.unmap_range.ensures.elsewhere c.unmap_range.ensures.bytes in
     record {
+      met = met_stay c.args.self.now.frames c.unmap_range.new.frames c.args.self.now.root c.args.self.now.last_tables
+          (λ number at is. c.unmap_range.ensures.freed.removed.stayed 3 number (omega arith) (λ e. absurd (omega arith)) ∙ is) c.args.self.now.met;
       mapped = left_mapped old new c.args.region.now.start c.args.region.now.pages c.args.self.now.mapped c.requires.there left (c.remove.ensures.taken c.requires.there)
           (c.unmap_range.ensures.known c.args.self.now.mapped.known);
     }

@@ -1,10 +1,51 @@
+use Rattle.std.proofs.Common.{◌≡◌, ◌+◌, ◌-◌, ◌/◌, ◌%◌, Some, get_or, ap, ◌∙◌, inl, inr, arith}
+use Rattle.paging_core.specs.Memory.{byte_of}
+use Rattle.paging_core.proofs.PageWritten.{written_walks, written_tree, run_elsewhere, run_bytes, run_others}
 use Rattle.mapped_regions.specs.Shown.{shown}
+use Rattle.mapped_regions.proofs.LastTables.{met_stay, frame_at, put_at, page_canonical}
 use Rattle.mapped_regions.proofs.Mapped.{stored_mapped}
 use Rattle.mapped_regions.proofs.regions.MappedRegions.set_words.Goals as goal
 
 pub invariant_of-self : goal.invariant_of-self
 invariant_of-self c =
-    let m = c.args.self.now.mapped in
+    let free = c.args.self.now.pool in
+    let tree = c.args.self.now.mapped.tree in
+    let f = frame_at c.args.self.now.frames c.args.self.now.root c.args.at c.new.result c.containing_address-page.result c.frame_kept-frame.result c.containing_address-page.ensures c.new.ensures c.frame_kept-frame.ensures.frame in
+    let put = put_at c.args.self.now.frames c.write_words.new.self c.args.self.now.root c.args.at c.word_index.result c.frame_kept-frame.result c.args.words.now f c.word_index.ensures.index c.write_words.ensures in
+    let walks = written_walks c.args.self.now.frames c.write_words.new.self c.args.self.now.root (c.args.at / 4096) f.place free f.found put.size (run_elsewhere c.args.self.now.frames c.write_words.new.self c.args.self.now.root (c.args.at / 4096) (c.args.at % 4096 / 8) c.args.words.now f.place free f.found c.requires.fits put tree) tree in
     record {
-      mapped = stored_mapped (shown c.args.self.now) c.store_words.new.frames c.args.self.now.mapped c.store_words.ensures.size (c.store_words.ensures.tree c.args.self.now.pool m.tree) (c.store_words.ensures.walks c.args.self.now.pool m.tree);
+      met = met_stay c.args.self.now.frames c.write_words.new.self c.args.self.now.root c.frame_kept-frame.new.self (λ number met is. walks 3 number (omega arith) ∙ is) c.frame_kept-frame.ensures.met;
+      mapped = stored_mapped (shown c.args.self.now) c.write_words.new.self c.args.self.now.mapped put.size (written_tree c.args.self.now.frames c.write_words.new.self c.args.self.now.root (c.args.at / 4096) f.place free f.found put.size (run_elsewhere c.args.self.now.frames c.write_words.new.self c.args.self.now.root (c.args.at / 4096) (c.args.at % 4096 / 8) c.args.words.now f.place free f.found c.requires.fits put tree) tree) walks;
     }
+
+pub returns-clause-walks : goal.returns-clause-walks
+returns-clause-walks c = λ free tree.
+    let f = frame_at c.args.self.now.frames c.args.self.now.root c.args.at c.new.result c.containing_address-page.result c.frame_kept-frame.result c.containing_address-page.ensures c.new.ensures c.frame_kept-frame.ensures.frame in
+    let put = put_at c.args.self.now.frames c.write_words.new.self c.args.self.now.root c.args.at c.word_index.result c.frame_kept-frame.result c.args.words.now f c.word_index.ensures.index c.write_words.ensures in
+    written_walks c.args.self.now.frames c.write_words.new.self c.args.self.now.root (c.args.at / 4096) f.place free f.found put.size (run_elsewhere c.args.self.now.frames c.write_words.new.self c.args.self.now.root (c.args.at / 4096) (c.args.at % 4096 / 8) c.args.words.now f.place free f.found c.requires.fits put tree) tree
+
+pub returns-clause-tree : goal.returns-clause-tree
+returns-clause-tree c = λ free tree.
+    let f = frame_at c.args.self.now.frames c.args.self.now.root c.args.at c.new.result c.containing_address-page.result c.frame_kept-frame.result c.containing_address-page.ensures c.new.ensures c.frame_kept-frame.ensures.frame in
+    let put = put_at c.args.self.now.frames c.write_words.new.self c.args.self.now.root c.args.at c.word_index.result c.frame_kept-frame.result c.args.words.now f c.word_index.ensures.index c.write_words.ensures in
+    written_tree c.args.self.now.frames c.write_words.new.self c.args.self.now.root (c.args.at / 4096) f.place free f.found put.size (run_elsewhere c.args.self.now.frames c.write_words.new.self c.args.self.now.root (c.args.at / 4096) (c.args.at % 4096 / 8) c.args.words.now f.place free f.found c.requires.fits put tree) tree
+
+pub returns-clause-bytes : goal.returns-clause-bytes
+returns-clause-bytes c = λ free tree k less.
+    let f = frame_at c.args.self.now.frames c.args.self.now.root c.args.at c.new.result c.containing_address-page.result c.frame_kept-frame.result c.containing_address-page.ensures c.new.ensures c.frame_kept-frame.ensures.frame in
+    let put = put_at c.args.self.now.frames c.write_words.new.self c.args.self.now.root c.args.at c.word_index.result c.frame_kept-frame.result c.args.words.now f c.word_index.ensures.index c.write_words.ensures in
+    let aligned = c.requires.word.aligned in
+    let fits = c.requires.fits in
+    let page : (c.args.at + k) / 4096 ≡ c.args.at / 4096 = omega arith in
+    let place : (c.args.at + k) % 4096 / 8 - c.args.at % 4096 / 8 ≡ k / 8 = omega arith in
+    let byte : (c.args.at + k) % 8 ≡ k % 8 = omega arith in
+    run_bytes c.args.self.now.frames c.write_words.new.self c.args.self.now.root (c.args.at / 4096) (c.args.at % 4096 / 8) c.args.words.now f.place free f.found c.requires.fits put tree (c.args.at + k) page (omega arith) (omega arith)
+    ∙ (ap (λ i. Some (byte_of (get_or c.args.words.now i 0) ((c.args.at + k) % 8))) place ∙ ap (λ b. Some (byte_of (get_or c.args.words.now (k / 8) 0) b)) byte)
+
+pub returns-clause-other_bytes : goal.returns-clause-other_bytes
+returns-clause-other_bytes c = λ free tree other canonical beside.
+    let f = frame_at c.args.self.now.frames c.args.self.now.root c.args.at c.new.result c.containing_address-page.result c.frame_kept-frame.result c.containing_address-page.ensures c.new.ensures c.frame_kept-frame.ensures.frame in
+    let put = put_at c.args.self.now.frames c.write_words.new.self c.args.self.now.root c.args.at c.word_index.result c.frame_kept-frame.result c.args.words.now f c.word_index.ensures.index c.write_words.ensures in
+    let aligned = c.requires.word.aligned in
+    run_others c.args.self.now.frames c.write_words.new.self c.args.self.now.root (c.args.at / 4096) (c.args.at % 4096 / 8) c.args.words.now f.place free f.found c.requires.fits put tree (page_canonical c.args.at c.requires.word.canonical) other canonical
+    (λ page from to. elim beside [ inl before ↦ absurd (omega arith) | inr behind ↦ absurd (omega arith) ])
