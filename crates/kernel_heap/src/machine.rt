@@ -138,8 +138,10 @@ impl Machine {
         ensures rate { (rate : ℕ) → call.now ≡ Call.SetRate rate → IsOk result }
         ensures granularity { (granularity : ℕ) → call.now ≡ Call.SetGranularity granularity → IsOk result }
     {
-        let answer = self.heap.serve(call)?;
-        note_fault(&mut self.cpu, call, &answer.reply);
-        Ok(answer)
+        let served = self.heap.serve(call);
+        if let Ok(answer) = &served {
+            note_fault(&mut self.cpu, call, &answer.reply);
+        }
+        served
     }
 }

@@ -6,7 +6,7 @@ use Rattle.kernel_heap.specs.Machine.{seen}
 use Rattle.kernel_heap.proofs.machine.Machine.step.Goals as goal
 
 -- the root stays the frame in CR3
-pub returns-clause-ok : goal.returns-clause-ok
-returns-clause-ok c = λ s good stands.
+pub returns-in-Ok-clause-ok : goal.returns-in-Ok-clause-ok
+returns-in-Ok-clause-ok c = λ s good stands.
     rw c.note_fault.ensures.root
-    (c.in_ok-answer.ensures.ok (root_of c.self.inside.cpu.cr3) s good (subst (λ (parts : Parts). Stands (seen parts) s) (sym c.self.view_is) stands))
+    (c.serve-served.ensures.ok (root_of c.self.inside.cpu.cr3) s good (subst (λ (parts : Parts). Stands (seen parts) s) (sym c.self.view_is) stands))
