@@ -15,7 +15,7 @@ use Rattle.dlmalloc.specs.State.{Segment, extents_in}
 use Rattle.dlmalloc.specs.Released.{IsFreeAround}
 use Rattle.dlmalloc.proofs.Places.{nat_is, nat_isnt, found_later}
 use Rattle.dlmalloc.proofs.Places.{extent, end_of}
-use Rattle.dlmalloc.specs.Extents.{Stands, Tiles, last_kind}
+use Rattle.dlmalloc.specs.Extents.{HasChunk, Tiles, last_kind}
 use Rattle.dlmalloc.specs.Moves.{IsRunOf}
 use Rattle.dlmalloc.specs.Heap.{segments_of, state_of, IsSound}
 use Rattle.dlmalloc.specs.declared.heap.Dlmalloc.{Dlmalloc}
@@ -45,7 +45,7 @@ module _ {A : Type 0} (regions : A → List Grant) (word : A → ℕ → ℕ) (h
   abbrev next : HasNext one.last
   next = next_one (regions heap.system) words segments sound.segments at size one
 
-  stands : Stands words (last_kind Used one.first) chunk
+  stands : HasChunk words (last_kind Used one.first) chunk
   stands = one.here.1
 
   stand : Tiles words Used (at + size) (next.next ∷ next.rest) (one.segment.base + one.segment.size)

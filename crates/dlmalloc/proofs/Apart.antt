@@ -6,7 +6,7 @@ use Rattle.dlmalloc_chunks.specs.declared.extent.Extent.{Extent}
 use Rattle.dlmalloc_chunks.specs.declared.extent.Kind.{Kind}
 use Rattle.dlmalloc_chunks.specs.declared.extent.Kind.TheVariants.{Used}
 use Rattle.dlmalloc_chunks.specs.Kinds.{ends_segment}
-use Rattle.dlmalloc.specs.Extents.{extent_at, Stands, Tiles, last_kind}
+use Rattle.dlmalloc.specs.Extents.{extent_at, HasChunk, Tiles, last_kind}
 use Rattle.dlmalloc.specs.State.{Segment}
 use Rattle.dlmalloc.specs.Segments.{IsSegment, AreSegments, IsApartFrom, AreApart}
 use Rattle.dlmalloc.proofs.Places.{nat_is, found, found_either}
@@ -88,7 +88,7 @@ room_behind words before from extents to one h tail there inner =
         omega arith
 
 -- how an extent stands
-pub stands_there : (regions : List Grant) (words : ℕ → ℕ) (segments : List Segment) → AreSegments regions words segments → (one : Extent) → extent_at one.at (extents_all segments) ≡ Some one → (before : Kind) × Stands words before one
+pub stands_there : (regions : List Grant) (words : ℕ → ℕ) (segments : List Segment) → AreSegments regions words segments → (one : Extent) → extent_at one.at (extents_all segments) ≡ Some one → (before : Kind) × HasChunk words before one
 stands_there regions words segments parts one there =
     let l = located one.at one segments there in
     let p = of_located (IsSegment regions words) one.at one segments l parts in

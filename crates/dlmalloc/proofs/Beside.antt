@@ -11,9 +11,9 @@ use Rattle.dlmalloc_chunks.specs.HeadLaws.{size_of-head_of, pinuse_of-head_of, c
 use Rattle.dlmalloc_chunks.specs.Kinds.{is_free, ends_segment}
 use Rattle.dlmalloc_chunks.specs.Tiling.{extent_at}
 use Rattle.dlmalloc.specs.Extents.{is_used}
-use Rattle.dlmalloc.specs.State.{Segment, is_plain}
+use Rattle.dlmalloc.specs.State.{Segment, is_free_below_top}
 use Rattle.dlmalloc.proofs.Places.{extent, end_of, nat_is, found_here}
-use Rattle.dlmalloc.specs.Extents.{MayStand, told_size, Stands, Tiles, last_kind}
+use Rattle.dlmalloc.specs.Extents.{MayStand, told_size, HasChunk, Tiles, last_kind}
 use Rattle.dlmalloc.specs.Moves.{IsRunOf, used_of}
 use Rattle.dlmalloc.specs.Segments.{AreSegments}
 use Rattle.dlmalloc.proofs.Tiling.{tiles_le, tiles_append, tiles_split}
@@ -102,7 +102,7 @@ left_of words base (first ∷ more) at h (inr free) =
     let kind : l.last.kind ≡ Free = sym (last_append Used l.front (l.last ∷ [])) ∙ (ap (last_kind Used) (sym l.is) ∙ free) in
     let place : l.last.at ≡ s.middle = s.second.0 in
     let ends : s.middle + l.last.size ≡ at = s.second.2 in
-    let foot : words (l.last.at + l.last.size) ≡ l.last.size = s.second.1.foot (subst (λ (k : Kind). IsTrue (is_plain k)) (sym kind) refl) in
+    let foot : words (l.last.at + l.last.size) ≡ l.last.size = s.second.1.foot (subst (λ (k : Kind). IsTrue (is_free_below_top k)) (sym kind) refl) in
     let here : l.last.at + l.last.size ≡ at = omega arith in
     let size : words at ≡ l.last.size = ap words (sym here) ∙ foot in
     let from : s.middle ≡ at - words at = omega arith in
@@ -152,7 +152,7 @@ pub record Right (words : ℕ → ℕ) (segments : List Segment) (at size to : �
   pub free : AllFree rights
   pub none : used_of rights ≡ []
   pub before : Kind
-  pub stands : Stands words before next
+  pub stands : HasChunk words before next
   pub reach : at + size ≤ to
   pub told : to ≢ at + size → pinuse_of (words (to + 8)) ≡ false
 

@@ -9,7 +9,7 @@ use Rattle.dlmalloc_chunks.specs.declared.extent.Kind.{Kind}
 use Rattle.dlmalloc_chunks.specs.declared.extent.Kind.TheVariants.{Used, Free, Victim, Top, Record, Foot}
 use Rattle.dlmalloc_chunks.specs.Tiling.{extent_at}
 use Rattle.dlmalloc.specs.Extents.{is_used}
-use Rattle.dlmalloc.specs.State.{Segment, HeapState, extents_in, is_plain}
+use Rattle.dlmalloc.specs.State.{Segment, HeapState, extents_in, is_free_below_top}
 use Rattle.dlmalloc.specs.Boundaries.{IsInFree, OnlyOwnChange, OnlyOwnOrTagsChange}
 use Rattle.dlmalloc.specs.Blocks.{KeepsBlocks}
 use Rattle.dlmalloc.proofs.Places.{found_either}
@@ -65,7 +65,7 @@ spared_found (extent ∷ extents) k at one spared there = go (extent.at == at) t
     go true same later = subst (λ (e : Extent). IsSpared k e.kind e.at e.size) (ap (λ (o : Option Extent). unwrap_or o extent) same) spared.0
     go false found later = later found
 
-no_boundary : (k : ℕ) (kind : Kind) (at size : ℕ) → IsSpared k kind at size → (k ≡ at + 8) ⊎ (IsTrue (is_plain kind) × (k ≡ at + size)) → ⊥
+no_boundary : (k : ℕ) (kind : Kind) (at size : ℕ) → IsSpared k kind at size → (k ≡ at + 8) ⊎ (IsTrue (is_free_below_top kind) × (k ≡ at + size)) → ⊥
 no_boundary k Used at size h is = elim is [ inl a ↦ h a | inr b ↦ (let p = b.0 in cc) ]
 no_boundary k Free at size h is = elim is [ inl a ↦ h.0 a | inr b ↦ h.1 b.1 ]
 no_boundary k Victim at size h is = elim is [ inl a ↦ h.0 a | inr b ↦ h.1 b.1 ]

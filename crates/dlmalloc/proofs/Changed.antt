@@ -8,7 +8,7 @@ use Rattle.dlmalloc_chunks.specs.declared.extent.Extent.{Extent}
 use Rattle.dlmalloc_chunks.specs.declared.extent.Kind.{Kind}
 use Rattle.dlmalloc_chunks.specs.declared.extent.Kind.TheVariants.{Used, Free, Victim, Top, Record, Foot}
 use Rattle.dlmalloc.specs.Extents.{extent_at, last_kind}
-use Rattle.dlmalloc.specs.State.{HeapState, Segment, extents_in, is_plain}
+use Rattle.dlmalloc.specs.State.{HeapState, Segment, extents_in, is_free_below_top}
 use Rattle.dlmalloc.specs.Boundaries.{IsBoundary}
 use Rattle.dlmalloc.specs.Moves.{IsSpared, AllSpare}
 use Rattle.dlmalloc.specs.Segments.{IsRun, IsSegment, AreSegments, IsApartFrom, AreApart, record_of, AreRecords}
@@ -32,9 +32,9 @@ pub record IsChanged (regions regions' : List Grant) (old new : ℕ → ℕ) (se
 found_spared : (heap : HeapState) (k : ℕ) (extent : Extent) → extent_at extent.at (extents_in heap) ≡ Some extent → (IsBoundary heap k → ⊥) → (kind : Kind) → extent.kind ≡ kind → IsSpared k kind extent.at extent.size
 found_spared heap k extent there apart Used is = λ e. apart (record { extent = extent; there = there; is = inl e })
 found_spared heap k extent there apart Free is =
-    ((λ e. apart (record { extent = extent; there = there; is = inl e })), (λ e. apart (record { extent = extent; there = there; is = inr (ap is_plain is, e) })))
+    ((λ e. apart (record { extent = extent; there = there; is = inl e })), (λ e. apart (record { extent = extent; there = there; is = inr (ap is_free_below_top is, e) })))
 found_spared heap k extent there apart Victim is =
-    ((λ e. apart (record { extent = extent; there = there; is = inl e })), (λ e. apart (record { extent = extent; there = there; is = inr (ap is_plain is, e) })))
+    ((λ e. apart (record { extent = extent; there = there; is = inl e })), (λ e. apart (record { extent = extent; there = there; is = inr (ap is_free_below_top is, e) })))
 found_spared heap k extent there apart Top is = λ e. apart (record { extent = extent; there = there; is = inl e })
 found_spared heap k extent there apart Record is = λ e. apart (record { extent = extent; there = there; is = inl e })
 found_spared heap k extent there apart Foot is = λ e. apart (record { extent = extent; there = there; is = inl e })
@@ -71,7 +71,7 @@ module _ (regions regions' : List Grant) (old new : ℕ → ℕ) (segment segmen
     tail = part.tail;
   }
     where
-      within : (k : ℕ) → k ≤ other.base + other.size → (k ≡ other.base + other.size → IsTrue (is_plain (last_kind Used other.extents))) → k < other.base + other.size
+      within : (k : ℕ) → k ≤ other.base + other.size → (k ≡ other.base + other.size → IsTrue (is_free_below_top (last_kind Used other.extents))) → k < other.base + other.size
       within k high free = elim (dec_lt k (other.base + other.size)) [ yes below ↦ below | no beyond ↦ absurd (no_plain (last_kind Used other.extents) part.tail (free (omega arith))) ]
 
   behind_kept : (back : List Segment) → AllByRecursion (IsApartFrom segment) back → AreSegments regions old back → AreSegments regions' new back

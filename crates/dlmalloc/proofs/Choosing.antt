@@ -9,7 +9,7 @@ use Rattle.heap_memory.specs.declared.grant.Grant.{Grant}
 use Rattle.dlmalloc_chunks.specs.declared.extent.Extent.{Extent}
 use Rattle.dlmalloc_chunks.specs.declared.extent.Kind.TheVariants.{Used, Free, Top, Foot}
 use Rattle.dlmalloc.specs.Extents.{extent_at}
-use Rattle.dlmalloc.specs.State.{HeapState, Segment, extents_in, is_top, is_plain, is_victim, is_binned, size_where}
+use Rattle.dlmalloc.specs.State.{HeapState, Segment, extents_in, is_top, is_free_below_top, is_victim, is_binned, size_where}
 use Rattle.dlmalloc.specs.Choice.{Choice, OfBins, TheVictim, TheTop, least_fit, goes_first, choose, chosen, is_one_of, IsChosen}
 use Rattle.dlmalloc.specs.Segments.{IsSegment, AreSegments}
 use Rattle.dlmalloc.specs.Walk.{AreChunks, IsChunkKind}
@@ -29,7 +29,7 @@ and_false true b is = is
 and_false false b is = refl
 
 -- the first victim is the extent that begins where the victim does, if that is free
-find_victim : (heap : HeapState) (extents : List Extent) (victim : Extent) → extent_at heap.victim extents ≡ Some victim → is_plain victim.kind ≡ true → find (is_victim heap) extents ≡ Some victim
+find_victim : (heap : HeapState) (extents : List Extent) (victim : Extent) → extent_at heap.victim extents ≡ Some victim → is_free_below_top victim.kind ≡ true → find (is_victim heap) extents ≡ Some victim
 find_victim heap [] victim there plain = absurd (cc)
 find_victim heap (first ∷ extents) victim there plain = at_first (first.at == heap.victim) refl (λ rest. find_victim heap extents victim rest plain)
   where
@@ -37,11 +37,11 @@ find_victim heap (first ∷ extents) victim there plain = at_first (first.at == 
     at_first true test later =
         let is : Some first ≡ Some victim = subst (λ (b : Bool). (if b then Some first else extent_at heap.victim extents) ≡ Some victim) test there in
         let same : first ≡ victim = ap (λ (o : Option Extent). unwrap_or o first) is in
-        let free : is_plain first.kind ≡ true = ap (λ (e : Extent). is_plain e.kind) same ∙ plain in
+        let free : is_free_below_top first.kind ≡ true = ap (λ (e : Extent). is_free_below_top e.kind) same ∙ plain in
         rw (free, test) is
     at_first false test later =
         let rest = later (subst (λ (b : Bool). (if b then Some first else extent_at heap.victim extents) ≡ Some victim) test there) in
-        let isnt : is_victim heap first ≡ false = and_false (is_plain first.kind) (first.at == heap.victim) test in
+        let isnt : is_victim heap first ≡ false = and_false (is_free_below_top first.kind) (first.at == heap.victim) test in
         rw isnt rest
 
 -- there is no victim where no extent begins there
@@ -54,7 +54,7 @@ no_victim heap (first ∷ extents) none = at_first (first.at == heap.victim) ref
         absurd (let is : Some first ≡ None = subst (λ (b : Bool). (if b then Some first else extent_at heap.victim extents) ≡ None) test none in cc)
     at_first false test later =
         let rest = later (subst (λ (b : Bool). (if b then Some first else extent_at heap.victim extents) ≡ None) test none) in
-        let isnt : is_victim heap first ≡ false = and_false (is_plain first.kind) (first.at == heap.victim) test in
+        let isnt : is_victim heap first ≡ false = and_false (is_free_below_top first.kind) (first.at == heap.victim) test in
         rw isnt rest
 
 -- no chunk is the top
@@ -205,7 +205,7 @@ bins_no_victim heap n size extent h is same = go h.choice (the_choice (sym h.is 
     go choice e one =
         let binned : (is_binned heap extent && extent.size == size) ≡ true = subst (λ (c : Choice). IsTrue (is_one_of heap c extent)) e one in
         let test : (extent.at == heap.victim) ≡ true = (let e = same in grind (arith, nat_tests)) in
-        victim_binned (is_plain extent.kind) (extent.at == heap.victim) (extent.size == size) test binned
+        victim_binned (is_free_below_top extent.kind) (extent.at == heap.victim) (extent.size == size) test binned
 
 -- and the top is in no bin
 pub top_no_bins : (heap : HeapState) (n size : ℕ) (extent : Extent) → IsChosen heap n extent → extent.kind ≡ Top → chosen heap n ≡ Some (OfBins size) → ⊥
@@ -218,8 +218,8 @@ top_no_bins heap n size extent h top is = go h.choice (ap (λ (o : Option Choice
     go : (choice : Choice) → choice ≡ OfBins size → IsTrue (is_one_of heap choice extent) → ⊥
     go choice e one =
         let binned : (is_binned heap extent && extent.size == size) ≡ true = subst (λ (c : Choice). IsTrue (is_one_of heap c extent)) e one in
-        let plain : is_plain extent.kind ≡ false = ap is_plain top in
-        no_plain (is_plain extent.kind) (extent.at == heap.victim) (extent.size == size) plain binned
+        let plain : is_free_below_top extent.kind ≡ false = ap is_free_below_top top in
+        no_plain (is_free_below_top extent.kind) (extent.at == heap.victim) (extent.size == size) plain binned
 
 -- what holds of a place holds of the one that is returned
 pub of_place : (P : Place → Type 0) (old new : Place) → Some (Chunk old) ≡ Some (Chunk new) → P old → P new

@@ -11,7 +11,7 @@ use Rattle.dlmalloc_chunks.specs.Chunk.{HasHead}
 use Rattle.dlmalloc_chunks.specs.Head.{size_of}
 use Rattle.dlmalloc_chunks.specs.Kinds.{is_free}
 use Rattle.dlmalloc.specs.Extents.{MayStand, extent_at}
-use Rattle.dlmalloc.specs.State.{Segment, extents_in, is_plain}
+use Rattle.dlmalloc.specs.State.{Segment, extents_in, is_free_below_top}
 use Rattle.dlmalloc.specs.Freed.{has}
 use Rattle.dlmalloc.specs.Blocks.{KeepsBlocks}
 use Rattle.dlmalloc.specs.Released.{handed_out, taken_back, releases, regions_without, passed, is_large_binned, is_counted, left_by_count, IsFreeAround}
@@ -113,7 +113,7 @@ module _ {A : Type 0} (regions : A → List Grant) (word : A → ℕ → ℕ) (h
           differ : (other : Extent) → IsFoundBy at (extents_all (segments_of word heap)) other → one.at ≢ other.at
           differ other f same =
               let both : Some one ≡ Some other = sym there ∙ (ap (λ (a : ℕ). extent_at a (extents_all (segments_of word heap))) same ∙ f.there) in
-              let kind : is_plain other.kind ≡ false = ap (λ (e : Extent). is_plain e.kind) (sym (the_extent both)) ∙ ap is_plain is in
+              let kind : is_free_below_top other.kind ≡ false = ap (λ (e : Extent). is_free_below_top e.kind) (sym (the_extent both)) ∙ ap is_free_below_top is in
               let h = f.has_it in
               grind (arith, nat_tests)
 
@@ -130,7 +130,7 @@ module _ {A : Type 0} (regions : A → List Grant) (word : A → ℕ → ℕ) (h
   ]
     where
       counts_some : find (has at) (extents_all (segments_of word heap)) ≡ Some one → one.kind ≡ Free → is_counted (state_of word heap) at ≡ (not (one.at == heap.victim) && nat_le 256 one.size)
-      counts_some found is = ap (is_large_binned (state_of word heap)) found ∙ ap (λ (plain : Bool). (plain && not (one.at == heap.victim)) && nat_le 256 one.size) (ap is_plain is)
+      counts_some found is = ap (is_large_binned (state_of word heap)) found ∙ ap (λ (plain : Bool). (plain && not (one.at == heap.victim)) && nat_le 256 one.size) (ap is_free_below_top is)
 
   -- not where it is the top, nor where it is the victim
   pub top_told : from ≡ heap.top → false ≡ is_counted (state_of word heap) at

@@ -11,9 +11,9 @@ use Rattle.dlmalloc_chunks.specs.Tiling.{IsSize}
 use Rattle.dlmalloc_chunks.specs.Head.{head_of, with_pinuse}
 use Rattle.dlmalloc_chunks.specs.HeadLaws.{with_pinuse-head_of}
 use Rattle.dlmalloc.specs.Extents.{is_used}
-use Rattle.dlmalloc.specs.State.{is_plain}
+use Rattle.dlmalloc.specs.State.{is_free_below_top}
 use Rattle.dlmalloc.proofs.Places.{extent}
-use Rattle.dlmalloc.specs.Extents.{MayStand, told_size, Stands}
+use Rattle.dlmalloc.specs.Extents.{MayStand, told_size, HasChunk}
 use Rattle.dlmalloc.specs.Moves.{IsSpared}
 use Rattle.dlmalloc.specs.Moves.{IsMove}
 
@@ -33,9 +33,9 @@ stored_over regions old middle new first second value other last word before aft
 }
 
 -- An extent in use or a record, behind one of another kind: bit 0 of its head alone tells of it.
-pub rehung : (words words' : ℕ → ℕ) (before before' : Kind) (next : Extent) → Stands words before next → (next.kind ≡ Used) ⊎ (next.kind ≡ Record) → MayStand before' next.kind →
+pub rehung : (words words' : ℕ → ℕ) (before before' : Kind) (next : Extent) → HasChunk words before next → (next.kind ≡ Used) ⊎ (next.kind ≡ Record) → MayStand before' next.kind →
     words' (next.at + 8) ≡ head_of (told_size next.kind next.size) (is_used before') (is_used next.kind) →
-    ((k : ℕ) → next.at + 56 ≤ k → k < next.at + next.size → k % 8 ≡ 0 → words' k ≡ words k) → Stands words' before' next
+    ((k : ℕ) → next.at + 56 ≤ k → k < next.at + next.size → k % 8 ≡ 0 → words' k ≡ words k) → HasChunk words' before' next
 rehung words words' before before' next h kind may head same = record {
   whole = h.whole;
   size = h.size;
@@ -45,9 +45,9 @@ rehung words words' before before' next h kind may head same = record {
   fence = λ is k low high m. same k low high m ∙ h.fence is k low high m;
 }
   where
-    no_free : (next.kind ≡ Used) ⊎ (next.kind ≡ Record) → IsTrue (is_plain next.kind) → ⊥
-    no_free (inl is) free = (let not = ap is_plain is in cc)
-    no_free (inr is) free = (let not = ap is_plain is in cc)
+    no_free : (next.kind ≡ Used) ⊎ (next.kind ≡ Record) → IsTrue (is_free_below_top next.kind) → ⊥
+    no_free (inl is) free = (let not = ap is_free_below_top is in cc)
+    no_free (inr is) free = (let not = ap is_free_below_top is in cc)
 
 -- the size that a head tells is whole
 pub told_whole : (kind : Kind) (size : ℕ) → IsSize kind size → told_size kind size % 8 ≡ 0
@@ -81,7 +81,7 @@ behind_free Top h = absurd (cc)
 behind_free Record h = inr refl
 behind_free Foot h = absurd (cc)
 
-module _ (regions : List Grant) (old new : ℕ → ℕ) (before : Kind) (at size : ℕ) (stands : Stands old before (extent at size Free)) where
+module _ (regions : List Grant) (old new : ℕ → ℕ) (before : Kind) (at size : ℕ) (stands : HasChunk old before (extent at size Free)) where
   -- a rest stays free
   pub cut_split : (n : ℕ) → n % 16 ≡ 0 → 32 ≤ n → n + 32 ≤ size →
       AreStored regions old ((at + 8, head_of n true true) ∷ (at + n + 8, head_of (size - n) true false) ∷ (at + n + (size - n), size - n) ∷ []) new →
@@ -118,7 +118,7 @@ module _ (regions : List Grant) (old new : ℕ → ℕ) (before : Kind) (at size
       }
 
   -- nothing stays free
-  module _ (next : Extent) (behind : Stands old Free next) (touch : next.at ≡ at + size) where
+  module _ (next : Extent) (behind : HasChunk old Free next) (touch : next.at ≡ at + size) where
     pub cut_whole : AreStored regions old ((at + 8, head_of size true true) ∷ (at + size + 8, with_pinuse (old (at + size + 8))) ∷ []) new →
         ((k : ℕ) → next.at < k → k < next.at + next.size → k % 8 ≡ 0 → IsWordOf regions k) →
         IsMove regions old new before at (at + size + next.size) (at + size + next.size) (extent at size Free ∷ next ∷ []) (extent at size Used ∷ next ∷ [])
@@ -151,7 +151,7 @@ module _ (regions : List Grant) (old new : ℕ → ℕ) (before : Kind) (at size
         }
 
 -- the top is cut
-pub cut_top : (regions : List Grant) (old new : ℕ → ℕ) (before : Kind) (at size n : ℕ) → Stands old before (extent at size Top) → n % 16 ≡ 0 → 32 ≤ n → n + 16 ≤ size →
+pub cut_top : (regions : List Grant) (old new : ℕ → ℕ) (before : Kind) (at size n : ℕ) → HasChunk old before (extent at size Top) → n % 16 ≡ 0 → 32 ≤ n → n + 16 ≤ size →
     AreStored regions old ((at + 8, head_of n true true) ∷ (at + n + 8, size - n + 1) ∷ []) new →
     IsMove regions old new before at (at + size) (at + size) (extent at size Top ∷ []) (extent at n Used ∷ extent (at + n) (size - n) Top ∷ [])
 cut_top regions old new before at size n stands whole least room stored =

@@ -23,7 +23,7 @@ use Rattle.dlmalloc.proofs.Places.{nat_is, nat_same, nat_isnt, found_either, fou
 use Rattle.dlmalloc.proofs.Places.{extent, same_extent, end_of, the_extent}
 use Rattle.bins.specs.Index.{IsIn}
 use Rattle.dlmalloc.specs.Binned.{IsJoint, FreeMoves}
-use Rattle.dlmalloc.specs.Extents.{Stands, Tiles, last_kind}
+use Rattle.dlmalloc.specs.Extents.{HasChunk, Tiles, last_kind}
 use Rattle.dlmalloc.specs.Moves.{IsMove, IsRunOf, HasMore, used_of}
 use Rattle.dlmalloc.specs.Heap.{segments_of, state_of, IsSound}
 use Rattle.dlmalloc.specs.declared.heap.Dlmalloc.{Dlmalloc}
@@ -80,7 +80,7 @@ module _ {A : Type 0} (regions : A → List Grant) (word : A → ℕ → ℕ) (h
     pub right : Right words segments at size to
     right = subst (λ (t : ℕ). Right words segments at size t) (sym to_is) (right_of (regions heap.system) words segments sound.segments at size run_one no_top)
 
-    stands : Stands words (last_kind Used right.run.first) chunk
+    stands : HasChunk words (last_kind Used right.run.first) chunk
     stands = right.run.here.1
 
     pub left : Left words right.run.segment.base right.run.first at from

@@ -8,7 +8,7 @@ use Rattle.dlmalloc_chunks.specs.declared.extent.Kind.{Kind}
 use Rattle.dlmalloc_chunks.specs.declared.extent.Kind.TheVariants.{Used, Free, Top}
 use Rattle.dlmalloc_chunks.specs.Head.{pinuse_of, head_of, with_pinuse}
 use Rattle.dlmalloc_chunks.specs.HeadLaws.{pinuse_of-head_of, with_pinuse-head_of}
-use Rattle.dlmalloc.specs.Extents.{is_used, told_size, Stands, Tiles}
+use Rattle.dlmalloc.specs.Extents.{is_used, told_size, HasChunk, Tiles}
 use Rattle.dlmalloc.specs.State.{Segment}
 use Rattle.dlmalloc.specs.Moves.{IsMove, IsRunOf}
 use Rattle.dlmalloc.specs.Resized.{replaced_both}
@@ -74,12 +74,12 @@ both_run regions words segments parts apart one next to others run =
 
 -- ---- the moves
 
-module _ (regions : List Grant) (old new : ℕ → ℕ) (before : Kind) (at size : ℕ) (stands : Stands old before (extent at size Used)) where
+module _ (regions : List Grant) (old new : ℕ → ℕ) (before : Kind) (at size : ℕ) (stands : HasChunk old before (extent at size Used)) where
   told : pinuse_of (old (at + 8)) ≡ is_used before
   told = ap pinuse_of stands.head ∙ pinuse_of-head_of size (is_used before) true (let w = stands.size.0 in omega arith)
 
   -- the chunk with its first n bytes, or more
-  longer : (n : ℕ) → n % 16 ≡ 0 → 32 ≤ n → new (at + 8) ≡ head_of n (pinuse_of (old (at + 8))) true → Stands new before (extent at n Used)
+  longer : (n : ℕ) → n % 16 ≡ 0 → 32 ≤ n → new (at + 8) ≡ head_of n (pinuse_of (old (at + 8))) true → HasChunk new before (extent at n Used)
   longer n whole least head = record {
     whole = stands.whole;
     size = (whole, least);
@@ -90,7 +90,7 @@ module _ (regions : List Grant) (old new : ℕ → ℕ) (before : Kind) (at size
   }
 
   -- the top keeps a rest
-  pub grown_top : (top n : ℕ) → Stands old Used (extent (at + size) top Top) → n % 16 ≡ 0 → 32 ≤ n → n + 16 ≤ size + top →
+  pub grown_top : (top n : ℕ) → HasChunk old Used (extent (at + size) top Top) → n % 16 ≡ 0 → 32 ≤ n → n + 16 ≤ size + top →
       AreStored regions old ((at + 8, head_of n (pinuse_of (old (at + 8))) true) ∷ (at + n + 8, size + top - n + 1) ∷ []) new →
       IsMove regions old new before at (at + size + top) (at + size + top) (extent at size Used ∷ extent (at + size) top Top ∷ []) (extent at n Used ∷ extent (at + n) (size + top - n) Top ∷ [])
   grown_top top n behind whole least room stored =
@@ -119,7 +119,7 @@ module _ (regions : List Grant) (old new : ℕ → ℕ) (before : Kind) (at size
       }
 
   -- a free one keeps a rest
-  pub grown_split : (free n : ℕ) → Stands old Used (extent (at + size) free Free) → n % 16 ≡ 0 → 32 ≤ n → n + 32 ≤ size + free →
+  pub grown_split : (free n : ℕ) → HasChunk old Used (extent (at + size) free Free) → n % 16 ≡ 0 → 32 ≤ n → n + 32 ≤ size + free →
       AreStored regions old ((at + 8, head_of n (pinuse_of (old (at + 8))) true) ∷ (at + n + 8, head_of (size + free - n) true false) ∷ (at + n + (size + free - n), size + free - n) ∷ []) new →
       IsMove regions old new before at (at + size + free) (at + size + free) (extent at size Used ∷ extent (at + size) free Free ∷ []) (extent at n Used ∷ extent (at + n) (size + free - n) Free ∷ [])
   grown_split free n behind whole least room stored =
@@ -148,7 +148,7 @@ module _ (regions : List Grant) (old new : ℕ → ℕ) (before : Kind) (at size
       }
 
   -- nothing of it stays free, and what is behind it is told
-  pub grown_whole : (free : ℕ) (next : Extent) → Stands old Used (extent (at + size) free Free) → Stands old Free next → next.at ≡ at + size + free →
+  pub grown_whole : (free : ℕ) (next : Extent) → HasChunk old Used (extent (at + size) free Free) → HasChunk old Free next → next.at ≡ at + size + free →
       AreStored regions old ((at + 8, head_of (size + free) (pinuse_of (old (at + 8))) true) ∷ (at + (size + free) + 8, with_pinuse (old (at + (size + free) + 8))) ∷ []) new →
       ((k : ℕ) → next.at < k → k < next.at + next.size → k % 8 ≡ 0 → IsWordOf regions k) →
       IsMove regions old new before at (at + size + free + next.size) (at + size + free + next.size) (extent at size Used ∷ extent (at + size) free Free ∷ next ∷ []) (extent at (size + free) Used ∷ next ∷ [])

@@ -9,7 +9,7 @@ use Rattle.dlmalloc_chunks.specs.declared.extent.Kind.{Kind}
 use Rattle.dlmalloc_chunks.specs.declared.extent.Kind.TheVariants.{Used, Free, Victim, Top, Record, Foot}
 use Rattle.bins.specs.Index.{IsIn, IsNone, IsLeastFit}
 use Rattle.dlmalloc.specs.Extents.{extent_at, MayStand}
-use Rattle.dlmalloc.specs.State.{HeapState, extents_in, is_plain, is_binned}
+use Rattle.dlmalloc.specs.State.{HeapState, extents_in, is_free_below_top, is_binned}
 use Rattle.dlmalloc.specs.Choice.{least_from, least_fit}
 use Rattle.dlmalloc.specs.Walk.{binned_sizes, IsAmong}
 use Rattle.dlmalloc.specs.Heap.{segments_of, state_of, IsSound}
@@ -105,7 +105,7 @@ of_sizes heap (first ∷ extents) size is = go (is_binned heap first) refl is (o
 
 -- ---- in a heap
 
-plain_free : (before kind : Kind) → MayStand before kind → is_plain kind ≡ true → kind ≡ Free
+plain_free : (before kind : Kind) → MayStand before kind → is_free_below_top kind ≡ true → kind ≡ Free
 plain_free before Used may plain = absurd (cc)
 plain_free before Free may plain = refl
 plain_free before Victim may plain = absurd may
@@ -135,8 +135,8 @@ module _ {A : Type 0} (regions : A → List Grant) (word : A → ℕ → ℕ) (h
       let o = of_sizes state (extents_in state) size is in
       let there = among_found o.one (extents_in state) distinct o.among in
       let s = stands_there (regions heap.system) (word heap.system) (segments_of word heap) sound.segments o.one there in
-      let free : o.one.kind ≡ Free = plain_free s.0 o.one.kind s.1.kind (and_first (is_plain o.one.kind) (not (o.one.at == heap.victim)) o.binned) in
-      let test : (o.one.at == heap.victim) ≡ false = and_second (is_plain o.one.kind) (o.one.at == heap.victim) o.binned in
+      let free : o.one.kind ≡ Free = plain_free s.0 o.one.kind s.1.kind (and_first (is_free_below_top o.one.kind) (not (o.one.at == heap.victim)) o.binned) in
+      let test : (o.one.at == heap.victim) ≡ false = and_second (is_free_below_top o.one.kind) (o.one.at == heap.victim) o.binned in
       let found : IsFreeAt state o.one.at size = there ∙ (λ i. Some (extent o.one.at (o.is i) (free i))) in
       (o.one.at, b.holds.all o.one.at size found (λ same. (let no : (o.one.at == heap.victim) ≡ true = (let e = same in grind (arith, nat_tests)) in cc)) (λ none. none))
 

@@ -11,13 +11,13 @@ use Rattle.dlmalloc_chunks.specs.Head.{head_of, without_pinuse}
 use Rattle.dlmalloc_chunks.specs.HeadLaws.{without_pinuse-head_of}
 use Rattle.dlmalloc.specs.Extents.{is_used}
 use Rattle.dlmalloc.proofs.Places.{extent}
-use Rattle.dlmalloc.specs.Extents.{told_size, Stands, Tiles}
+use Rattle.dlmalloc.specs.Extents.{told_size, HasChunk, Tiles}
 use Rattle.dlmalloc.specs.Moves.{IsMove}
 use Rattle.dlmalloc.proofs.Cutting.{rehung, told_whole, no_head, may_stand}
 
 module _ (regions : List Grant) (old new : ℕ → ℕ) (from : ℕ) (less : List Extent) (place : from % 16 ≡ 0) where
   -- before an extent in use or a record
-  pub join : (to : ℕ) (kind : Kind) (next : Extent) → to % 16 ≡ 0 → from + 32 ≤ to → next.at ≡ to → Stands old kind next → (next.kind ≡ Used) ⊎ (next.kind ≡ Record) →
+  pub join : (to : ℕ) (kind : Kind) (next : Extent) → to % 16 ≡ 0 → from + 32 ≤ to → next.at ≡ to → HasChunk old kind next → (next.kind ≡ Used) ⊎ (next.kind ≡ Record) →
       Tiles old Used from less (to + next.size) →
       AreStored regions old ((from + (to - from) + 8, without_pinuse (old (from + (to - from) + 8))) ∷ (from + 8, head_of (to - from) true false) ∷ (from + (to - from), to - from) ∷ []) new →
       ((k : ℕ) → next.at < k → k < next.at + next.size → k % 8 ≡ 0 → IsWordOf regions k) →

@@ -10,7 +10,7 @@ use Rattle.dlmalloc_chunks.specs.declared.extent.Kind.{Kind}
 use Rattle.dlmalloc_chunks.specs.declared.extent.Kind.TheVariants.{Used, Free, Victim, Top, Record, Foot}
 use Rattle.dlmalloc_chunks.specs.Tiling.{IsSize}
 use Rattle.dlmalloc.specs.Extents.{extent_at, MayStand, Tiles}
-use Rattle.dlmalloc.specs.State.{HeapState, Segment, extents_in, is_plain, is_binned}
+use Rattle.dlmalloc.specs.State.{HeapState, Segment, extents_in, is_free_below_top, is_binned}
 use Rattle.dlmalloc.specs.Blocks.{IsMet, IsFull}
 use Rattle.dlmalloc.specs.Choice.{TheVictim, TheTop, least_from, least_fit, choose, chosen}
 use Rattle.dlmalloc.specs.Segments.{IsSegment, AreSegments}
@@ -179,7 +179,7 @@ module _ {A : Type 0} (regions : A → List Grant) (word : A → ℕ → ℕ) (h
           omega arith
       go false test =
           binned_less (state_of word heap) n (extents_in (state_of word heap)) small.none_fits one there
-          (let plain : is_plain one.kind ≡ true = ap is_plain free in rw (plain, test) refl)
+          (let plain : is_free_below_top one.kind ≡ true = ap is_free_below_top free in rw (plain, test) refl)
 
   -- in each segment
   run_met : (front : List Segment) (segment : Segment) (back : List Segment) → segments_of word heap ≡ front ++ segment ∷ back → (from : ℕ) → segment.base ≤ from → from + (n + 256) ≤ segment.base + segment.size → IsMet (state_of word heap) from (from + (n + 256))

@@ -15,7 +15,7 @@ use Rattle.dlmalloc.specs.Freed.{freed, freed_in}
 use Rattle.dlmalloc.specs.Resized.{exchanged, halves, tail_freed}
 use Rattle.dlmalloc.specs.Aligned.{aligned_place, lead_freed, tail_cut, aligned}
 use Rattle.dlmalloc.specs.Heap.{state_of}
-use Rattle.dlmalloc.specs.Served.{IsTakenNew, IsServed}
+use Rattle.dlmalloc.specs.Served.{IsTakenFromGrant, IsServed}
 use Rattle.dlmalloc.specs.Requested.{asked, spans, IsFound, IsHandedOut, IsServedAligned}
 use Rattle.dlmalloc.specs.declared.heap.Dlmalloc.{Dlmalloc}
 
@@ -106,14 +106,14 @@ asked_high size align many = let test : nat_le align 16 ≡ false = grind (arith
 
 module _ {A : Type 0} (regions : A → List Grant) (word : A → ℕ → ℕ) (zeros : A → Bool) (follows : A → List Event → A → Type 0) (old new : Dlmalloc A) (size align address : ℕ) where
   -- where a region was granted, they are those that it makes
-  pub spans_new : (n at : ℕ) (grant : Grant) (new : HeapState) → IsTakenNew (state_of word old) n at grant new → spans new ≡ spans (granted grant n (state_of word old))
+  pub spans_new : (n at : ℕ) (grant : Grant) (new : HeapState) → IsTakenFromGrant (state_of word old) n at grant new → spans new ≡ spans (granted grant n (state_of word old))
   spans_new n at grant new is = go (is_put_before grant (state_of word old).segments) refl
     where
       go : (b : Bool) → is_put_before grant (state_of word old).segments ≡ b → spans new ≡ spans (granted grant n (state_of word old))
       go true before = ap spans (is.of_grant before).1
       go false apart = let top = is.of_top apart in ap spans top.state ∙ spans_changed (replaced top.top.at (cut n)) (granted grant n (state_of word old)).segments
 
-  granularity_new : (n at : ℕ) (grant : Grant) (new : HeapState) → IsTakenNew (state_of word old) n at grant new → new.granularity ≡ old.granularity
+  granularity_new : (n at : ℕ) (grant : Grant) (new : HeapState) → IsTakenFromGrant (state_of word old) n at grant new → new.granularity ≡ old.granularity
   granularity_new n at grant new is = go (is_put_before grant (state_of word old).segments) refl
     where
       granted_same : (granted grant n (state_of word old)).granularity ≡ old.granularity

@@ -7,7 +7,7 @@ use Rattle.dlmalloc_chunks.specs.declared.extent.Extent.{Extent}
 use Rattle.dlmalloc_chunks.specs.declared.extent.Kind.{Kind}
 use Rattle.dlmalloc_chunks.specs.declared.extent.Kind.TheVariants.{Used, Free, Top, Record}
 use Rattle.dlmalloc_chunks.specs.Head.{pinuse_of, head_of, with_pinuse}
-use Rattle.dlmalloc.specs.Extents.{extent_at, Stands, Tiles, last_kind}
+use Rattle.dlmalloc.specs.Extents.{extent_at, HasChunk, Tiles, last_kind}
 use Rattle.dlmalloc.specs.State.{Segment, extents_in}
 use Rattle.dlmalloc.specs.Moves.{IsMove, IsRunOf}
 use Rattle.dlmalloc.specs.Resized.{grown_into}
@@ -50,10 +50,10 @@ module _ {A : Type 0} (regions : A → List Grant) (word : A → ℕ → ℕ) (h
   abbrev both : IsRunOf words segments at (at + size + length) (chunk ∷ free ∷ [])
   both = two regions word heap sound at size there length Free next_is
 
-  stands : Stands words (last_kind Used both.first) chunk
+  stands : HasChunk words (last_kind Used both.first) chunk
   stands = both.here.1
 
-  stands_free : Stands words Used free
+  stands_free : HasChunk words Used free
   stands_free = both.here.2.1
 
   least : 32 ≤ n

@@ -6,7 +6,7 @@ use Rattle.dlmalloc_chunks.specs.Chunk.{AreStored, HasHead}
 use Rattle.dlmalloc_chunks.specs.declared.extent.Extent.{Extent}
 use Rattle.dlmalloc_chunks.specs.declared.extent.Kind.TheVariants.{Used, Free, Top, Record}
 use Rattle.dlmalloc_chunks.specs.Head.{pinuse_of, head_of}
-use Rattle.dlmalloc.specs.Extents.{extent_at, Stands, last_kind}
+use Rattle.dlmalloc.specs.Extents.{extent_at, HasChunk, last_kind}
 use Rattle.dlmalloc.specs.State.{Segment, extents_in}
 use Rattle.dlmalloc.specs.Moves.{IsMove, IsRunOf}
 use Rattle.dlmalloc.specs.Heap.{segments_of, state_of, IsSound}
@@ -44,10 +44,10 @@ module _ {A : Type 0} (regions : A → List Grant) (word : A → ℕ → ℕ) (h
   abbrev both : IsRunOf words segments at (at + size + heap.top_size) (chunk ∷ top ∷ [])
   both = two regions word heap sound at size there heap.top_size Top next_is
 
-  stands : Stands words (last_kind Used both.first) chunk
+  stands : HasChunk words (last_kind Used both.first) chunk
   stands = both.here.1
 
-  stands_top : Stands words Used top
+  stands_top : HasChunk words Used top
   stands_top = both.here.2.1
 
   least : 32 ≤ n

@@ -12,7 +12,7 @@ use Rattle.dlmalloc_chunks.specs.HeadLaws.{size_of-head_of}
 use Rattle.dlmalloc_chunks.specs.Chunk.{HasHead}
 use Rattle.bins.specs.Index.{IsIn}
 use Rattle.bins.specs.Linked.{IsChunk, AreChunks, IsNoLink, OnlyLinksChange, AreKept}
-use Rattle.dlmalloc.specs.Extents.{extent_at, is_used, Stands}
+use Rattle.dlmalloc.specs.Extents.{extent_at, is_used, HasChunk}
 use Rattle.dlmalloc.specs.State.{HeapState, extents_in}
 use Rattle.dlmalloc.specs.Segments.{IsSegment}
 use Rattle.dlmalloc.specs.Boundaries.{IsBoundary, IsInRecord}
@@ -30,7 +30,7 @@ module _ {A : Type 0} (regions : A → List Grant) (word : A → ℕ → ℕ) (h
   abbrev chunk : Extent
   chunk = extent at size Free
 
-  pub stands : (before : Kind) × Stands (word heap.system) before chunk
+  pub stands : (before : Kind) × HasChunk (word heap.system) before chunk
   stands = stands_there (regions heap.system) (word heap.system) (segments_of word heap) sound.segments chunk free
 
   -- its head says that the chunk before it is in use, and that it is not

@@ -5,7 +5,7 @@ use Rattle.std.proofs.lemmas.Bool.Decides.{nat_tests}
 use Rattle.dlmalloc_chunks.specs.declared.extent.Extent.{Extent}
 use Rattle.dlmalloc_chunks.specs.declared.extent.Kind.TheVariants.{Free}
 use Rattle.dlmalloc.specs.Extents.{is_free}
-use Rattle.dlmalloc.specs.State.{is_plain}
+use Rattle.dlmalloc.specs.State.{is_free_below_top}
 use Rattle.dlmalloc.specs.Freed.{before, has}
 
 -- an extent before one in use joins none
@@ -30,5 +30,5 @@ inside plain low high at is above below =
 -- a free chunk has its bytes
 pub has_here : (chunk : Extent) (rest : List Extent) (at : ℕ) → chunk.kind ≡ Free → chunk.at ≤ at → at < chunk.at + chunk.size → find (has at) (chunk ∷ rest) ≡ Some chunk
 has_here chunk rest at free low high =
-    let test : has at chunk ≡ true = inside (is_plain chunk.kind) chunk.at (chunk.at + chunk.size) at (ap is_plain free) low high in
+    let test : has at chunk ≡ true = inside (is_free_below_top chunk.kind) chunk.at (chunk.at + chunk.size) at (ap is_free_below_top free) low high in
     rw test refl

@@ -10,7 +10,7 @@ use Rattle.dlmalloc_chunks.specs.Head.{head_of}
 use Rattle.dlmalloc_chunks.specs.Kinds.{ends_segment}
 use Rattle.dlmalloc_chunks.specs.Tiling.{IsSize, extent_at}
 use Rattle.dlmalloc.specs.Extents.{is_used}
-use Rattle.dlmalloc.specs.State.{is_plain}
+use Rattle.dlmalloc.specs.State.{is_free_below_top}
 use Rattle.dlmalloc.proofs.Places.{found}
 use Rattle.dlmalloc.specs.Extents.{told_size, Tiles, last_kind}
 use Rattle.dlmalloc.specs.Moves.{IsMove}
@@ -18,7 +18,7 @@ use Rattle.dlmalloc.proofs.Tiling.{tiles_le, tiles_kept, tiles_append, tiles_spl
 use Rattle.dlmalloc.proofs.Spared.{spared_before, spared_behind}
 
 -- what ends a segment is no free extent
-pub no_plain : (kind : Kind) → ends_segment kind ≡ true → IsTrue (is_plain kind) → ⊥
+pub no_plain : (kind : Kind) → ends_segment kind ≡ true → IsTrue (is_free_below_top kind) → ⊥
 no_plain Used ends free = cc
 no_plain Free ends free = cc
 no_plain Victim ends free = cc
@@ -53,7 +53,7 @@ module _ (regions : List Grant) (old new : ℕ → ℕ) (before : Kind) (base fr
       (tiles_append new (last_kind before front) from more back to' end move.more_stand
       (subst (λ (kind : Kind). Tiles new kind to' back end) (sym kind) (subst (λ (a : ℕ). Tiles new (last_kind (last_kind before front) less) a back end) (sym same) behind)))
     where
-      inside : (k : ℕ) → k ≤ end → (k ≡ end → IsTrue (is_plain (last_kind (last_kind (last_kind before front) less) back))) → k < end
+      inside : (k : ℕ) → k ≤ end → (k ≡ end → IsTrue (is_free_below_top (last_kind (last_kind (last_kind before front) less) back))) → k < end
       inside k high free = elim (dec_lt k end) [ yes below ↦ below | no beyond ↦ absurd (no_plain (last_kind (last_kind (last_kind before front) less) back) tail (free (omega arith))) ]
 
 -- ---- an extent in use, where it stands

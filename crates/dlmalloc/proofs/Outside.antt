@@ -9,7 +9,7 @@ use Rattle.dlmalloc_chunks.specs.declared.extent.Kind.{Kind}
 use Rattle.dlmalloc_chunks.specs.declared.extent.Kind.TheVariants.{Used, Free, Record}
 use Rattle.bins.specs.Laws.{IndexStays}
 use Rattle.dlmalloc.specs.Extents.{extent_at}
-use Rattle.dlmalloc.specs.State.{Segment, HeapState, extents_in, is_plain}
+use Rattle.dlmalloc.specs.State.{Segment, HeapState, extents_in, is_free_below_top}
 use Rattle.dlmalloc.specs.Segments.{IsWithin, IsRun, IsSegment, has_byte_in}
 use Rattle.dlmalloc.specs.Heap.{segments_of, state_of, IsSound}
 use Rattle.dlmalloc.specs.Binned.{IsFreeAt, HoldsBinned, IsBinned}
@@ -73,8 +73,8 @@ module _ {A : Type 0} (regions : A → List Grant) (word : A → ℕ → ℕ) (h
   same : (one : Extent) → extent_at one.at (extents_in (state_of word heap)) ≡ Some one → (k : ℕ) → IsTelling k one → IsWordOf (regions heap.system) k → IsTrue (list_any (has_byte_in k) (segments_of word heap)) → word system k ≡ word heap.system k
   same one there k tells granted inside = outside k granted inside (λ used used_is found. go used used_is found (used.at == one.at) refl)
     where
-      plain_used : (kind : Kind) → IsTrue (is_plain kind) → kind ≡ Used → ⊥
-      plain_used kind plain is = (let no = ap is_plain is in cc)
+      plain_used : (kind : Kind) → IsTrue (is_free_below_top kind) → kind ≡ Used → ⊥
+      plain_used kind plain is = (let no = ap is_free_below_top is in cc)
 
       of_used : (used : Extent) → used.kind ≡ Used → used ≡ one → (k < used.at + 16) ⊎ (used.at + used.size + 8 ≤ k)
       of_used used used_is one_is =

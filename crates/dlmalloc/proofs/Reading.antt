@@ -17,7 +17,7 @@ use Rattle.dlmalloc.specs.Granted.{top_and_foot}
 use Rattle.dlmalloc.specs.Walk.{IsChunkKind, AreChunks}
 use Rattle.dlmalloc.proofs.Places.{found, nat_isnt}
 use Rattle.dlmalloc.proofs.Places.{extent, same_extent}
-use Rattle.dlmalloc.specs.Extents.{MayStand, told_size, Stands, Tiles, last_kind}
+use Rattle.dlmalloc.specs.Extents.{MayStand, told_size, HasChunk, Tiles, last_kind}
 use Rattle.dlmalloc.specs.Segments.{IsSegment, AreSegments, record_of, records_from, AreRecords}
 use Rattle.dlmalloc.proofs.Tiling.{sized, tiles_le, tiles_split}
 use Rattle.dlmalloc.proofs.Moving.{last_append}
@@ -55,7 +55,7 @@ kind_told Top before size whole is h = elim is [ inl a ↦ absurd (cc) | inr a �
 kind_told Record before size whole is h = elim is [ inl a ↦ absurd (cc) | inr a ↦ absurd (cc) ]
 kind_told Foot before size whole is h = elim is [ inl a ↦ absurd (cc) | inr a ↦ absurd (cc) ]
 
-pub told : (words : ℕ → ℕ) (before : Kind) (chunk : Extent) → IsChunkKind chunk.kind → Stands words before chunk → extent chunk.at (size_of (words (chunk.at + 8))) (kind_of (words (chunk.at + 8))) ≡ chunk
+pub told : (words : ℕ → ℕ) (before : Kind) (chunk : Extent) → IsChunkKind chunk.kind → HasChunk words before chunk → extent chunk.at (size_of (words (chunk.at + 8))) (kind_of (words (chunk.at + 8))) ≡ chunk
 told words before chunk is h =
     let s = sized chunk.kind chunk.size h.size in
     let units = s.0 in

@@ -10,7 +10,7 @@ use Rattle.dlmalloc_chunks.specs.declared.extent.Kind.TheVariants.{Used}
 use Rattle.dlmalloc_chunks.specs.Tiling.{extent_at}
 use Rattle.dlmalloc.specs.State.{Segment}
 use Rattle.dlmalloc.proofs.Places.{found, found_either, found_more, found_later, nat_is}
-use Rattle.dlmalloc.specs.Extents.{Stands, Tiles, last_kind}
+use Rattle.dlmalloc.specs.Extents.{HasChunk, Tiles, last_kind}
 use Rattle.dlmalloc.specs.Segments.{AreSegments, IsApartFrom, AreApart}
 use Rattle.dlmalloc.proofs.Tiling.{sized, tiles_le, tiles_split}
 use Rattle.dlmalloc.proofs.More.{AreDistinct, none_outside}
@@ -141,7 +141,7 @@ pub record IsIn (words : ℕ → ℕ) (from to : ℕ) (extent : Extent) : Type 0
   pub low : from ≤ extent.at
   pub high : extent.at + extent.size ≤ to
   pub before : Kind
-  pub stands : Stands words before extent
+  pub stands : HasChunk words before extent
 
 pub in_part : (words : ℕ → ℕ) (before : Kind) (from : ℕ) (extents : List Extent) (to : ℕ) (extent : Extent) → Tiles words before from extents to → extent_at extent.at extents ≡ Some extent → IsIn words from to extent
 in_part words before from extents to extent h there =

@@ -8,14 +8,14 @@ use Rattle.dlmalloc_chunks.specs.Request.{padded, limit, round_up}
 use Rattle.dlmalloc_chunks.specs.declared.extent.Extent.{Extent}
 use Rattle.dlmalloc_chunks.specs.declared.extent.Kind.TheVariants.{Free, Top, Record}
 use Rattle.dlmalloc.specs.Extents.{extent_at}
-use Rattle.dlmalloc.specs.State.{HeapState, extents_in, is_plain}
+use Rattle.dlmalloc.specs.State.{HeapState, extents_in, is_free_below_top}
 use Rattle.dlmalloc.specs.Blocks.{IsBlock, HasOneMore}
 use Rattle.dlmalloc.specs.Boundaries.{IsBoundary, IsOwn, IsInRecord, OnlyOwnOrTagsChange}
 use Rattle.dlmalloc.specs.Choice.{chosen, IsChosen}
 use Rattle.dlmalloc.specs.Taken.{taken}
 use Rattle.dlmalloc.specs.Heap.{state_of, IsSound}
 use Rattle.dlmalloc.specs.Grown.{IsGrown}
-use Rattle.dlmalloc.specs.Served.{IsBehindTop, IsCut, IsMoved, IsCutOut, IsServed, IsTurned}
+use Rattle.dlmalloc.specs.Served.{IsBehindTop, IsObtained, IsMoved, IsCutOut, IsServed, IsTurned}
 use Rattle.dlmalloc.specs.declared.heap.Dlmalloc.{Dlmalloc}
 use Rattle.dlmalloc.proofs.Places.{extent, nat_is, the_extent}
 use Rattle.dlmalloc.proofs.BlocksLaw.{blocks_law, blocks_law_tags}
@@ -66,7 +66,7 @@ module _ {A : Type 0} (regions : A → List Grant) (word : A → ℕ → ℕ) (z
             let one = is_the_top b.extent b.there (nat_is same) in
             elim (b.is) [
               | inl is ↦ subst (IsBoundary (state_of word new)) (ap (λ (a : ℕ). a + 8) (sym (nat_is same)) ∙ sym is) head
-              | inr is ↦ absurd (let plain = is.0 in let no : is_plain Top ≡ is_plain b.extent.kind = ap (λ (e : Extent). is_plain e.kind) one in cc)
+              | inr is ↦ absurd (let plain = is.0 in let no : is_free_below_top Top ≡ is_free_below_top b.extent.kind = ap (λ (e : Extent). is_free_below_top e.kind) one in cc)
             ]
         go false other = record { extent = b.extent; there = others b.extent (λ same. (let test : (b.extent.at == middle.top) ≡ true = grind (arith, nat_tests) in cc)) b.there; is = b.is }
 
@@ -146,8 +146,8 @@ served regions word zeros follows old new size n at is holds near small cut =
     let back : at ≡ at + 16 - 16 = omega arith in
     let placed = block_placed regions word new cut.sound (at + 16) size (cut.holds size holds near) in
     record {
-      cut = subst (λ (a : ℕ). IsCut follows regions old.system (state_of word old) (padded size) a new.system (state_of word new)) back
-          (subst (λ (n : ℕ). IsCut follows regions old.system (state_of word old) n at new.system (state_of word new)) is cut.cut);
+      cut = subst (λ (a : ℕ). IsObtained follows regions old.system (state_of word old) (padded size) a new.system (state_of word new)) back
+          (subst (λ (n : ℕ). IsObtained follows regions old.system (state_of word old) n at new.system (state_of word new)) is cut.cut);
       low = omega arith;
       small = small;
       block = cut.holds size holds near;

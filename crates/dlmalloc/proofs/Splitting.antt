@@ -9,7 +9,7 @@ use Rattle.dlmalloc_chunks.specs.declared.extent.Kind.{Kind}
 use Rattle.dlmalloc_chunks.specs.declared.extent.Kind.TheVariants.{Used, Free, Top, Record}
 use Rattle.dlmalloc_chunks.specs.Head.{pinuse_of, head_of}
 use Rattle.dlmalloc_chunks.specs.HeadLaws.{pinuse_of-head_of}
-use Rattle.dlmalloc.specs.Extents.{extent_at, is_used, Stands, last_kind}
+use Rattle.dlmalloc.specs.Extents.{extent_at, is_used, HasChunk, last_kind}
 use Rattle.dlmalloc.specs.State.{Segment, extents_in}
 use Rattle.dlmalloc.specs.Resized.{exchanged, halves, HasSameOthers}
 use Rattle.dlmalloc.specs.Boundaries.{OnlyBoundariesChange}
@@ -30,7 +30,7 @@ pub differ : (m n : ℕ) → m ≢ n → (m == n) ≡ false
 differ m n other = (let e = other in grind (arith, nat_tests))
 
 -- the move: the two heads are stored
-pub split_used : (regions : List Grant) (old new : ℕ → ℕ) (before : Kind) (at size n : ℕ) → Stands old before (extent at size Used) → n % 16 ≡ 0 → 32 ≤ n → n + 32 ≤ size →
+pub split_used : (regions : List Grant) (old new : ℕ → ℕ) (before : Kind) (at size n : ℕ) → HasChunk old before (extent at size Used) → n % 16 ≡ 0 → 32 ≤ n → n + 32 ≤ size →
     AreStored regions old ((at + 8, head_of n (pinuse_of (old (at + 8))) true) ∷ (at + n + 8, head_of (size - n) true true) ∷ []) new →
     IsMove regions old new before at (at + size) (at + size) (extent at size Used ∷ []) (extent at n Used ∷ extent (at + n) (size - n) Used ∷ [])
 split_used regions old new before at size n stands whole least room stored =
@@ -76,7 +76,7 @@ module _ {A : Type 0} (regions : A → List Grant) (word : A → ℕ → ℕ) (h
   abbrev run : IsRunOf (word heap.system) segments at (at + size) (chunk ∷ [])
   run = run_of (regions heap.system) (word heap.system) segments sound.segments chunk there
 
-  stands : Stands (word heap.system) (last_kind Used run.first) chunk
+  stands : HasChunk (word heap.system) (last_kind Used run.first) chunk
   stands = run.here.1
 
   high : at + size ≤ run.segment.base + run.segment.size

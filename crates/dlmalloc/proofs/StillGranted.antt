@@ -14,7 +14,7 @@ use Rattle.dlmalloc.specs.State.{HeapState, extents_in}
 use Rattle.dlmalloc.specs.Granted.{granted}
 use Rattle.dlmalloc.specs.Blocks.{IsBlock, IsInside}
 use Rattle.dlmalloc.specs.Heap.{segments_of, state_of, IsSound}
-use Rattle.dlmalloc.specs.Served.{IsBehindTop, IsTakenNew, IsCut, IsServed}
+use Rattle.dlmalloc.specs.Served.{IsBehindTop, IsTakenFromGrant, IsObtained, IsServed}
 use Rattle.dlmalloc.specs.Requested.{spans, IsServedAligned}
 use Rattle.dlmalloc.specs.Moved.{HasByteOf, IsElsewhere}
 use Rattle.dlmalloc.specs.declared.heap.Dlmalloc.{Dlmalloc}
@@ -66,7 +66,7 @@ module _ {A : Type 0} (regions : A → List Grant) (word : A → ℕ → ℕ) (z
   some = some_segment word old block.extent.at block.extent from_there
 
   -- a region was granted for a chunk, in which the new block's begins
-  module _ (bytes at : ℕ) (grant : Grant) (heap : HeapState) (taken : IsTakenNew (state_of word old) bytes at grant heap) (fresh : AllByRecursion (IsApart grant.base (grant.base + grant.size)) (regions old.system))
+  module _ (bytes at : ℕ) (grant : Grant) (heap : HeapState) (taken : IsTakenFromGrant (state_of word old) bytes at grant heap) (fresh : AllByRecursion (IsApart grant.base (grant.base + grant.size)) (regions old.system))
       (stays : spans (state_of word out.filled) ≡ spans heap) (low : at ≤ chunk.at) (high : chunk.at < at + bytes) where
     -- behind the head segment
     module _ (behind : IsBehindTop (state_of word old) grant at) where
@@ -122,7 +122,7 @@ module _ {A : Type 0} (regions : A → List Grant) (word : A → ℕ → ℕ) (z
     ]
 
   -- whichever way the chunk was cut
-  still_cut : (middle : Dlmalloc A) (bytes at : ℕ) → IsCut follows regions old.system (state_of word old) bytes at middle.system (state_of word middle) → spans (state_of word out.filled) ≡ spans (state_of word middle) → regions out.filled.system ≡ regions middle.system →
+  still_cut : (middle : Dlmalloc A) (bytes at : ℕ) → IsObtained follows regions old.system (state_of word old) bytes at middle.system (state_of word middle) → spans (state_of word out.filled) ≡ spans (state_of word middle) → regions out.filled.system ≡ regions middle.system →
       at ≤ chunk.at → chunk.at < at + bytes → (grant : Grant) → regions out.filled.system ≡ with_grant grant (regions old.system) → HasByteOf grant (regions new.system)
   still_cut middle bytes at (inl here) stays same low high grant with_it = absurd (with_other grant (regions old.system) (sym with_it ∙ (same ∙ here.2)))
   still_cut middle bytes at (inr cut) stays same low high grant with_it =

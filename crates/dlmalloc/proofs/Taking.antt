@@ -8,7 +8,7 @@ use Rattle.dlmalloc_chunks.specs.Chunk.{AreStored, HasHead, HasFoot}
 use Rattle.dlmalloc_chunks.specs.declared.extent.Extent.{Extent}
 use Rattle.dlmalloc_chunks.specs.declared.extent.Kind.TheVariants.{Used, Free, Top, Record}
 use Rattle.dlmalloc_chunks.specs.Head.{head_of, with_pinuse}
-use Rattle.dlmalloc.specs.Extents.{extent_at, Stands, last_kind}
+use Rattle.dlmalloc.specs.Extents.{extent_at, HasChunk, last_kind}
 use Rattle.dlmalloc.specs.State.{Segment, extents_in}
 use Rattle.dlmalloc.specs.Taken.{cut, victim_after, taken}
 use Rattle.dlmalloc.specs.Boundaries.{OnlyBoundariesChange}
@@ -59,7 +59,7 @@ module _ {A : Type 0} (regions : A → List Grant) (word : A → ℕ → ℕ) (h
   abbrev pub run : IsRunOf (word heap.system) segments at (at + size) (chunk ∷ [])
   run = run_of (regions heap.system) (word heap.system) segments sound.segments chunk there
 
-  pub stands : Stands (word heap.system) (last_kind Used run.first) chunk
+  pub stands : HasChunk (word heap.system) (last_kind Used run.first) chunk
   stands = run.here.1
 
   module _ (system : A) (same : regions system ≡ regions heap.system) where

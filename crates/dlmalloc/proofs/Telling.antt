@@ -10,8 +10,8 @@ use Rattle.dlmalloc_chunks.specs.declared.extent.Kind.{Kind}
 use Rattle.dlmalloc_chunks.specs.declared.extent.Kind.TheVariants.{Used, Free, Victim, Top, Record, Foot}
 use Rattle.dlmalloc_chunks.specs.Kinds.{ends_segment}
 use Rattle.bins.specs.declared.bins.Bins.{Bins}
-use Rattle.dlmalloc.specs.Extents.{extent_at, Stands, Tiles}
-use Rattle.dlmalloc.specs.State.{Segment, extents_in, is_plain}
+use Rattle.dlmalloc.specs.Extents.{extent_at, HasChunk, Tiles}
+use Rattle.dlmalloc.specs.State.{Segment, extents_in, is_free_below_top}
 use Rattle.dlmalloc.specs.Segments.{IsRun, IsSegment, has_byte_in, AreSegments, AreApart, record_of, AreRecords}
 use Rattle.dlmalloc.specs.Heap.{segments_of, state_of, AreTold, IsSound}
 use Rattle.dlmalloc.specs.declared.heap.Dlmalloc.{Dlmalloc}
@@ -24,10 +24,10 @@ use Rattle.dlmalloc.proofs.Steps.{segments_read, segments_few}
 
 -- a word that an extent rests on, or may: its head, the words of a record, and the word behind a free one
 abbrev pub IsTelling : ℕ → Extent → Type 0
-IsTelling k one = (one.at < k) × (k ≤ one.at + one.size) × (k % 8 ≡ 0) × ((k ≡ one.at + 8) ⊎ ((one.kind ≡ Record) ⊎ (k ≡ one.at + one.size))) × (k ≡ one.at + one.size → IsTrue (is_plain one.kind))
+IsTelling k one = (one.at < k) × (k ≤ one.at + one.size) × (k % 8 ≡ 0) × ((k ≡ one.at + 8) ⊎ ((one.kind ≡ Record) ⊎ (k ≡ one.at + one.size))) × (k ≡ one.at + one.size → IsTrue (is_free_below_top one.kind))
 
 -- an extent rests on the words that tell it
-stands_told : (words words' : ℕ → ℕ) (before : Kind) (one : Extent) → Stands words before one → ((k : ℕ) → IsTelling k one → words' k ≡ words k) → Stands words' before one
+stands_told : (words words' : ℕ → ℕ) (before : Kind) (one : Extent) → HasChunk words before one → ((k : ℕ) → IsTelling k one → words' k ≡ words k) → HasChunk words' before one
 stands_told words words' before one h same =
     let s = sized one.kind one.size h.size in
     let whole = h.whole in let size = s.0 in let long = s.1 in
@@ -81,7 +81,7 @@ module _ {A : Type 0} (regions : A → List Grant) (word : A → ℕ → ℕ) (h
       part : IsSegment (regions heap.system) words segment
       part = all_at (IsSegment (regions heap.system) words) front segment back (subst (AreSegments (regions heap.system) words) is sound.segments)
 
-      ends : (kind : Kind) → IsTrue (is_plain kind) → ends_segment kind ≡ false
+      ends : (kind : Kind) → IsTrue (is_free_below_top kind) → ends_segment kind ≡ false
       ends Used plain = refl
       ends Free plain = refl
       ends Victim plain = refl

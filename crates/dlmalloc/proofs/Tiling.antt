@@ -4,8 +4,8 @@ use Rattle.dlmalloc_chunks.specs.declared.extent.Extent.{Extent}
 use Rattle.dlmalloc_chunks.specs.declared.extent.Kind.{Kind}
 use Rattle.dlmalloc_chunks.specs.declared.extent.Kind.TheVariants.{Used, Free, Victim, Top, Record, Foot}
 use Rattle.dlmalloc_chunks.specs.Tiling.{IsSize}
-use Rattle.dlmalloc.specs.State.{is_plain}
-use Rattle.dlmalloc.specs.Extents.{Stands, Tiles, last_kind}
+use Rattle.dlmalloc.specs.State.{is_free_below_top}
+use Rattle.dlmalloc.specs.Extents.{HasChunk, Tiles, last_kind}
 
 -- sizes are whole units, and one at least
 pub sized : (kind : Kind) (size : ℕ) → IsSize kind size → (size % 16 ≡ 0) × (16 ≤ size)
@@ -41,8 +41,8 @@ tiles_split words before at (extent ∷ front) back end h =
 -- ---- what extents rest on
 
 -- the words that an extent may write
-stands_kept : (words words' : ℕ → ℕ) (before : Kind) (extent : Extent) → Stands words before extent →
-    ((k : ℕ) → extent.at < k → k ≤ extent.at + extent.size → k % 8 ≡ 0 → (k ≡ extent.at + extent.size → IsTrue (is_plain extent.kind)) → words' k ≡ words k) → Stands words' before extent
+stands_kept : (words words' : ℕ → ℕ) (before : Kind) (extent : Extent) → HasChunk words before extent →
+    ((k : ℕ) → extent.at < k → k ≤ extent.at + extent.size → k % 8 ≡ 0 → (k ≡ extent.at + extent.size → IsTrue (is_free_below_top extent.kind)) → words' k ≡ words k) → HasChunk words' before extent
 stands_kept words words' before extent h same =
     let s = sized extent.kind extent.size h.size in
     let whole = h.whole in
@@ -58,7 +58,7 @@ stands_kept words words' before extent h same =
 
 -- Words up to the end; the word at the end itself only where a free extent is the last.
 pub tiles_kept : (words words' : ℕ → ℕ) (before : Kind) (at : ℕ) (extents : List Extent) (end : ℕ) → Tiles words before at extents end →
-    ((k : ℕ) → at < k → k ≤ end → k % 8 ≡ 0 → (k ≡ end → IsTrue (is_plain (last_kind before extents))) → words' k ≡ words k) → Tiles words' before at extents end
+    ((k : ℕ) → at < k → k ≤ end → k % 8 ≡ 0 → (k ≡ end → IsTrue (is_free_below_top (last_kind before extents))) → words' k ≡ words k) → Tiles words' before at extents end
 tiles_kept words words' before at [] end h same = h
 tiles_kept words words' before at (extent ∷ []) end h same =
     let place = h.0 in let ends = h.2 in (

@@ -6,7 +6,7 @@ use Rattle.dlmalloc_chunks.specs.Chunk.{AreStored, HasHead}
 use Rattle.dlmalloc_chunks.specs.declared.extent.Extent.{Extent}
 use Rattle.dlmalloc_chunks.specs.declared.extent.Kind.TheVariants.{Used, Free, Top, Record, Foot}
 use Rattle.dlmalloc_chunks.specs.Head.{head_of}
-use Rattle.dlmalloc.specs.Extents.{extent_at, Stands, last_kind}
+use Rattle.dlmalloc.specs.Extents.{extent_at, HasChunk, last_kind}
 use Rattle.dlmalloc.specs.State.{Segment, extents_in}
 use Rattle.dlmalloc.specs.Taken.{cut}
 use Rattle.dlmalloc.specs.Boundaries.{IsBoundary}
@@ -36,7 +36,7 @@ module _ {A : Type 0} (regions : A → List Grant) (word : A → ℕ → ℕ) (h
   abbrev run : IsRunOf (word heap.system) segments heap.top (heap.top + heap.top_size) (chunk ∷ [])
   run = run_of (regions heap.system) (word heap.system) segments sound.segments chunk (top_among regions word heap sound some)
 
-  stands : Stands (word heap.system) (last_kind Used run.first) chunk
+  stands : HasChunk (word heap.system) (last_kind Used run.first) chunk
   stands = run.here.1
 
   head_segment : run.front ≡ []

@@ -21,7 +21,7 @@ use Rattle.bins.specs.Index.{IsIn}
 use Rattle.dlmalloc.specs.Binned.{FreeMoves}
 use Rattle.dlmalloc.proofs.Places.{nat_same, nat_isnt, found_here, found_either, found_later, the_extent}
 use Rattle.dlmalloc.proofs.Places.{extent, same_extent}
-use Rattle.dlmalloc.specs.Extents.{MayStand, Stands, Tiles, last_kind}
+use Rattle.dlmalloc.specs.Extents.{MayStand, HasChunk, Tiles, last_kind}
 use Rattle.dlmalloc.specs.Moves.{IsMove, IsRunOf, HasMore, used_of}
 use Rattle.dlmalloc.specs.Segments.{IsSegment, AreSegments, AreApart}
 use Rattle.dlmalloc.specs.Heap.{segments_of, state_of, IsSound}
@@ -84,7 +84,7 @@ module _ {A : Type 0} (regions : A → List Grant) (word : A → ℕ → ℕ) (h
     abbrev three : IsRunOf words segments at (at + size + top.size + foot.next.size) (chunk ∷ top ∷ foot.next ∷ [])
     three = with_next (regions heap.system) words segments sound.segments at (at + size + top.size) (chunk ∷ top ∷ []) two foot
 
-    stands : Stands words (last_kind Used one.first) chunk
+    stands : HasChunk words (last_kind Used one.first) chunk
     stands = one.here.1
 
     left : Left words one.segment.base one.first at from

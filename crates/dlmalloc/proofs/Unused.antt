@@ -9,7 +9,7 @@ use Rattle.dlmalloc_chunks.specs.Chunk.{HasHead}
 use Rattle.dlmalloc_chunks.specs.Head.{size_of, free_of, head_of}
 use Rattle.dlmalloc_chunks.specs.HeadLaws.{pinuse_of-head_of, cinuse_of-head_of}
 use Rattle.dlmalloc.specs.Extents.{kind_of, is_used, extent_at, Tiles}
-use Rattle.dlmalloc.specs.State.{Segment, is_plain}
+use Rattle.dlmalloc.specs.State.{Segment, is_free_below_top}
 use Rattle.dlmalloc.specs.Segments.{IsSegment, record_of}
 use Rattle.dlmalloc.specs.Walk.{IsChunkKind, AreChunks}
 use Rattle.dlmalloc.specs.Released.{is_unused}
@@ -23,7 +23,7 @@ record_in_use : (size : ℕ) (before : Bool) → size % 8 ≡ 0 → free_of (hea
 record_in_use size true whole = rw (pinuse_of-head_of size true true whole, cinuse_of-head_of size true true whole) refl
 record_in_use size false whole = rw (pinuse_of-head_of size false true whole) refl
 
-plain_told : (free : Bool) → is_plain (if free then Free else Used) ≡ free
+plain_told : (free : Bool) → is_free_below_top (if free then Free else Used) ≡ free
 plain_told true = refl
 plain_told false = refl
 
@@ -85,7 +85,7 @@ module _ (regions : List Grant) (words : ℕ → ℕ) (segment : Segment) (part 
       go (chunk ∷ chunks) h are is =
           let same : extent segment.base (size_of (words (segment.base + 8))) (kind_of (words (segment.base + 8))) ≡ chunk =
           subst (λ (a : ℕ). extent a (size_of (words (a + 8))) (kind_of (words (a + 8))) ≡ chunk) h.0 (told words Used chunk are.0 h.1) in
-          let free : free_of (words (segment.base + 8)) ≡ is_plain chunk.kind = sym (plain_told (free_of (words (segment.base + 8)))) ∙ ap (λ (e : Extent). is_plain e.kind) same in
+          let free : free_of (words (segment.base + 8)) ≡ is_free_below_top chunk.kind = sym (plain_told (free_of (words (segment.base + 8)))) ∙ ap (λ (e : Extent). is_free_below_top e.kind) same in
           let size : (size_of (words (segment.base + 8)) == segment.size - 80) ≡ (chunk.size + 80 == segment.size) =
           ap (λ (e : Extent). e.size == segment.size - 80) same ∙ left_of chunk.size segment.size part.long in
           (λ i. free i && size i) ∙ sym (ap (λ (es : List Extent). is_unused (with_extents segment es)) is)
@@ -94,8 +94,8 @@ module _ (regions : List Grant) (words : ℕ → ℕ) (segment : Segment) (part 
   pub unused_extents : is_unused segment ≡ true → segment.extents ≡ extent segment.base (segment.size - 80) Free ∷ record_of at end ∷ []
   unused_extents test = extents_are ∙ go chunks tail.run.stand tail.run.are (sym (ap (λ (es : List Extent). is_unused (with_extents segment es)) extents_are) ∙ test)
     where
-      of_kind : (kind : Kind) → IsChunkKind kind → is_plain kind ≡ true → kind ≡ Free
-      of_kind kind (inl is) plain = absurd (let no = sym (ap is_plain is) ∙ plain in cc)
+      of_kind : (kind : Kind) → IsChunkKind kind → is_free_below_top kind ≡ true → kind ≡ Free
+      of_kind kind (inl is) plain = absurd (let no = sym (ap is_free_below_top is) ∙ plain in cc)
       of_kind kind (inr is) plain = is
 
       both : (b c : Bool) → (b && c) ≡ true → (b ≡ true) × (c ≡ true)
@@ -106,7 +106,7 @@ module _ (regions : List Grant) (words : ℕ → ℕ) (segment : Segment) (part 
           chunks ++ record_of at end ∷ [] ≡ extent segment.base (segment.size - 80) Free ∷ record_of at end ∷ []
       go [] h are test = absurd (cc)
       go (chunk ∷ chunks) h are test =
-          let b = both (is_plain chunk.kind) (chunk.size + 80 == segment.size) test in
+          let b = both (is_free_below_top chunk.kind) (chunk.size + 80 == segment.size) test in
           let size = nat_is b.1 in
           let none : chunks ≡ [] = none_left words chunk.kind (segment.base + chunk.size) chunks at (omega (arith, long, size)) h.2 in
           let same : chunk ≡ extent segment.base (segment.size - 80) Free = same_extent {at = chunk.at} {at' = segment.base} {size = chunk.size} {size' = segment.size - 80} {kind = chunk.kind} {kind' = Free} h.0 (omega (arith, size)) (of_kind chunk.kind are.0 b.0) in

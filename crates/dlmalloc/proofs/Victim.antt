@@ -10,7 +10,7 @@ use Rattle.dlmalloc_chunks.specs.declared.extent.Extent.{Extent}
 use Rattle.dlmalloc_chunks.specs.declared.extent.Kind.{Kind}
 use Rattle.dlmalloc_chunks.specs.declared.extent.Kind.TheVariants.{Used, Free}
 use Rattle.dlmalloc_chunks.specs.Tiling.{extent_at}
-use Rattle.dlmalloc.specs.State.{Segment, is_plain}
+use Rattle.dlmalloc.specs.State.{Segment, is_free_below_top}
 use Rattle.dlmalloc.specs.Freed.{has, victim_in}
 use Rattle.dlmalloc.proofs.Places.{nat_is, found, found_either}
 use Rattle.dlmalloc.proofs.Merging.{has_here}
@@ -32,7 +32,7 @@ has_none words before from (extent ∷ extents) to at out h =
     let long = (sized extent.kind extent.size h.1.size).1 in
     let later = tiles_le words extent.kind (from + extent.size) extents to h.2 in
     let place = h.0 in
-    let test : has at extent ≡ false = outside (is_plain extent.kind) extent.at (extent.at + extent.size) at (grind arith) in
+    let test : has at extent ≡ false = outside (is_free_below_top extent.kind) extent.at (extent.at + extent.size) at (grind arith) in
     rw test (has_none words extent.kind (from + extent.size) extents to at (grind arith) h.2)
 
 pub skip : (at : ℕ) (front back : List Extent) → find (has at) front ≡ None → find (has at) (front ++ back) ≡ find (has at) back

@@ -9,7 +9,7 @@ use Rattle.dlmalloc_chunks.specs.declared.extent.Kind.{Kind}
 use Rattle.dlmalloc_chunks.specs.declared.extent.Kind.TheVariants.{Used, Top, Record, Foot}
 use Rattle.dlmalloc_chunks.specs.Chunk.{HasHead}
 use Rattle.dlmalloc_chunks.specs.Kinds.{ends_segment}
-use Rattle.dlmalloc.specs.Extents.{Stands, Tiles, last_kind, extent_at}
+use Rattle.dlmalloc.specs.Extents.{HasChunk, Tiles, last_kind, extent_at}
 use Rattle.dlmalloc.specs.State.{Segment}
 use Rattle.dlmalloc.specs.Segments.{IsSegment, AreSegments, record_of, records_from, AreRecords}
 use Rattle.dlmalloc.specs.Walk.{chunk_told, chunks_between, IsChunkKind, AreChunks, IsChunkRun}
@@ -52,7 +52,7 @@ pub record Next (words : ℕ → ℕ) (before : Kind) (at : ℕ) (back : List Ex
   pub rest : List Extent
   pub is : back ≡ chunk ∷ rest
   pub place : chunk.at ≡ at
-  pub stands : Stands words before chunk
+  pub stands : HasChunk words before chunk
   pub later : Tiles words chunk.kind (at + chunk.size) rest to
   pub kind : IsChunkKind chunk.kind
   pub are : AreChunks rest

@@ -5,7 +5,7 @@ use Rattle.heap_memory.specs.Regions.{IsWordOf}
 use Rattle.dlmalloc_chunks.specs.declared.extent.Extent.{Extent}
 use Rattle.dlmalloc_chunks.specs.declared.extent.Kind.TheVariants.{Record}
 use Rattle.dlmalloc.specs.Extents.{extent_at}
-use Rattle.dlmalloc.specs.State.{HeapState, extents_in, is_plain}
+use Rattle.dlmalloc.specs.State.{HeapState, extents_in, is_free_below_top}
 use Rattle.dlmalloc.specs.FreeExtents.{IsFreeAt}
 
 -- A word at a boundary of an extent: its head; or the word behind it, where it is free and not the top, since its size
@@ -13,7 +13,7 @@ use Rattle.dlmalloc.specs.FreeExtents.{IsFreeAt}
 pub record IsBoundary (heap : HeapState) (k : ℕ) : Type 0 where
   pub extent : Extent
   pub there : extent_at extent.at (extents_in heap) ≡ Some extent
-  pub is : (k ≡ extent.at + 8) ⊎ (IsTrue (is_plain extent.kind) × (k ≡ extent.at + extent.size))
+  pub is : (k ≡ extent.at + 8) ⊎ (IsTrue (is_free_below_top extent.kind) × (k ≡ extent.at + extent.size))
 
 -- Each granted word stays, unless it stands at a boundary of the heap: nothing is written into blocks, into free extents or
 -- into the top.

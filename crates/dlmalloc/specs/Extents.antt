@@ -5,7 +5,7 @@ use Rattle.dlmalloc_chunks.specs.declared.extent.Kind.{Kind}
 use Rattle.dlmalloc_chunks.specs.declared.extent.Kind.TheVariants.{Used, Free, Victim, Top, Record, Foot}
 use Rattle.dlmalloc_chunks.specs.Head.{size_of, free_of, head_of}
 use Rattle.dlmalloc_chunks.specs.Tiling.{IsSize}
-use Rattle.dlmalloc.specs.State.{is_plain}
+use Rattle.dlmalloc.specs.State.{is_free_below_top}
 pub use Rattle.dlmalloc_chunks.specs.Kinds.{is_free}
 pub use Rattle.dlmalloc_chunks.specs.Tiling.{extent_at}
 
@@ -51,19 +51,19 @@ told_size Foot size = size
 
 -- An extent of which the words tell, behind one of some kind. The size of a free one stands in the first word of the
 -- extent behind it, and each word of a fence is the head of a used chunk of 8 bytes behind another (dlmalloc: `fencepost_head`).
-pub record Stands (words : ℕ → ℕ) (before : Kind) (extent : Extent) : Type 0 where
+pub record HasChunk (words : ℕ → ℕ) (before : Kind) (extent : Extent) : Type 0 where
   pub whole : extent.at % 16 ≡ 0
   pub size : IsSize extent.kind extent.size
   pub kind : MayStand before extent.kind
   pub head : words (extent.at + 8) ≡ head_of (told_size extent.kind extent.size) (is_used before) (is_used extent.kind)
-  pub foot : IsTrue (is_plain extent.kind) → words (extent.at + extent.size) ≡ extent.size
+  pub foot : IsTrue (is_free_below_top extent.kind) → words (extent.at + extent.size) ≡ extent.size
   pub fence : extent.kind ≡ Record → (k : ℕ) → extent.at + 56 ≤ k → k < extent.at + extent.size → k % 8 ≡ 0 → words k ≡ 11
 
 -- The extents stand one behind the other from an address up to another, behind one of some kind.
 abbrev pub Tiles : (words : ℕ → ℕ) (before : Kind) (at : ℕ) → List Extent → (end : ℕ) → Type 0
 Tiles words before at [] end = at ≡ end
 Tiles words before at (extent ∷ extents) end =
-    (extent.at ≡ at) × Stands words before extent × Tiles words extent.kind (at + extent.size) extents end
+    (extent.at ≡ at) × HasChunk words before extent × Tiles words extent.kind (at + extent.size) extents end
 
 -- the kind of the last of some extents; where there is none, of what stands before them
 abbrev pub last_kind : Kind → List Extent → Kind

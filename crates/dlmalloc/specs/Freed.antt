@@ -3,7 +3,7 @@ use Rattle.std.specs.Prelude.{ℕ, ◌+◌, Bool, ◌&&◌, ◌==◌, nat_le, na
 use Rattle.dlmalloc_chunks.specs.declared.extent.Extent.{Extent}
 use Rattle.dlmalloc_chunks.specs.declared.extent.Kind.TheVariants.{Free}
 use Rattle.dlmalloc.specs.Extents.{is_free}
-use Rattle.dlmalloc.specs.State.{HeapState, extents_in, is_plain}
+use Rattle.dlmalloc.specs.State.{HeapState, extents_in, is_free_below_top}
 use Rattle.dlmalloc.specs.Taken.{in_segments}
 
 -- an extent before others, as one with the first of them where both are free; it is the top where that is
@@ -27,7 +27,7 @@ freed_in at extents = merged (map (set_free at) extents)
 
 -- whether an extent is free, and no top, and has the byte at an address
 abbrev pub has : ℕ → Extent → Bool
-has at extent = is_plain extent.kind && nat_le extent.at at && nat_lt at (extent.at + extent.size)
+has at extent = is_free_below_top extent.kind && nat_le extent.at at && nat_lt at (extent.at + extent.size)
 
 -- the victim is what the old victim is part of, unless that is the top
 abbrev pub victim_in : ℕ → List Extent → ℕ

@@ -6,7 +6,7 @@ use Rattle.heap_memory.specs.Events.{Event, Released}
 use Rattle.heap_memory.specs.Runs.{without}
 use Rattle.dlmalloc_chunks.specs.declared.extent.Extent.{Extent}
 use Rattle.dlmalloc.specs.Extents.{is_free, extent_at}
-use Rattle.dlmalloc.specs.State.{HeapState, Segment, extents_in, is_plain, is_binned, countdown_from}
+use Rattle.dlmalloc.specs.State.{HeapState, Segment, extents_in, is_free_below_top, is_binned, countdown_from}
 use Rattle.dlmalloc.specs.Freed.{has}
 
 -- ---- which segments go back
@@ -17,7 +17,7 @@ is_unused segment = begins_unused segment.extents
   where
     begins_unused : List Extent → Bool
     begins_unused [] = false
-    begins_unused (first ∷ extents) = is_plain first.kind && first.size + 80 == segment.size
+    begins_unused (first ∷ extents) = is_free_below_top first.kind && first.size + 80 == segment.size
 
 -- whether it is the heap's to give back: a segment is extern where bit 0 of its flags is set
 abbrev pub is_own : Segment → Bool

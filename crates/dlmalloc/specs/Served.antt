@@ -28,7 +28,7 @@ use Rattle.dlmalloc.specs.declared.malloc_error.MallocError.{MallocError}
 use Rattle.dlmalloc.specs.declared.malloc_error.MallocError.TheVariants.{TooLarge, System}
 
 -- a chunk of n bytes at an address was cut from an extent that is chosen for it
-pub record IsTaken (old : HeapState) (n at : ℕ) (new : HeapState) : Type 0 where
+pub record IsTakenFromExtent (old : HeapState) (n at : ℕ) (new : HeapState) : Type 0 where
   pub extent : Extent
   pub is_chosen : IsChosen old n extent
   pub place : at ≡ extent.at
@@ -48,7 +48,7 @@ IsBehindTop heap grant at = (is_behind_head grant heap.segments ≡ true) × ((s
 
 -- None was chosen, and so blocks leave no run of n + 256 bytes: a region was granted. Where it is put before a segment, the
 -- chunk is cut from its start, and else from the top that it makes.
-pub record IsTakenNew (old : HeapState) (n at : ℕ) (grant : Grant) (new : HeapState) : Type 0 where
+pub record IsTakenFromGrant (old : HeapState) (n at : ℕ) (grant : Grant) (new : HeapState) : Type 0 where
   pub none_chosen : chosen old n ≡ None
   pub full : IsFull old (n + 256)
   pub of_grant : is_put_before grant old.segments ≡ true → (at ≡ grant.base) × (new ≡ granted grant n old)
@@ -59,10 +59,10 @@ pub record IsTakenNew (old : HeapState) (n at : ℕ) (grant : Grant) (new : Heap
 
 -- A chunk of n bytes was cut at an address, with what the system says of the time, and its regions at the end. No byte of a
 -- region that was granted had been granted before.
-abbrev pub IsCut : {A : Type 0} → (A → List Event → A → Type 0) → (A → List Grant) → A → HeapState → ℕ → ℕ → A → HeapState → Type 0
-IsCut follows regions system old n at system' new =
-    (IsTaken old n at new × follows system [] system' × (regions system' ≡ regions system))
-    ⊎ ((grant : Grant) × IsTakenNew old n at grant new × follows system (Granted (round_up (n + 96) old.granularity) grant ∷ []) system'
+abbrev pub IsObtained : {A : Type 0} → (A → List Event → A → Type 0) → (A → List Grant) → A → HeapState → ℕ → ℕ → A → HeapState → Type 0
+IsObtained follows regions system old n at system' new =
+    (IsTakenFromExtent old n at new × follows system [] system' × (regions system' ≡ regions system))
+    ⊎ ((grant : Grant) × IsTakenFromGrant old n at grant new × follows system (Granted (round_up (n + 96) old.granularity) grant ∷ []) system'
     × (regions system' ≡ with_grant grant (regions system)) × AllByRecursion (IsApart grant.base (grant.base + grant.size)) (regions system))
 
 -- The system denied what the heap asked it for, since nothing was chosen, and blocks leave no run of n + 256 bytes. Want of
@@ -96,7 +96,7 @@ pub record IsTurned {A : Type 0} (regions : A → List Grant) (word : A → ℕ 
 -- A chunk of n bytes was cut at an address: it holds each block whose padded size it is. Where no region was granted, own
 -- words alone changed, and else words of records too.
 pub record IsCutOut {A : Type 0} (regions : A → List Grant) (word : A → ℕ → ℕ) (zeros : A → Bool) (follows : A → List Event → A → Type 0) (old : Dlmalloc A) (n at : ℕ) (new : Dlmalloc A) : Type 0 where
-  pub cut : IsCut follows regions old.system (state_of word old) n at new.system (state_of word new)
+  pub cut : IsObtained follows regions old.system (state_of word old) n at new.system (state_of word new)
   pub small : at + 16 < 2 ^ 64
   pub more : HasOneMore (state_of word old) (state_of word new) at
   pub holds : (size : ℕ) → size + 8 ≤ n → n ≤ size + 32 → IsBlock (state_of word new) (at + 16) size
@@ -108,7 +108,7 @@ pub record IsCutOut {A : Type 0} (regions : A → List Grant) (word : A → ℕ 
 
 -- A block of so many bytes was handed out at an address.
 pub record IsServed {A : Type 0} (regions : A → List Grant) (word : A → ℕ → ℕ) (zeros : A → Bool) (follows : A → List Event → A → Type 0) (old : Dlmalloc A) (size address : ℕ) (new : Dlmalloc A) : Type 0 where
-  pub cut : IsCut follows regions old.system (state_of word old) (padded size) (address - 16) new.system (state_of word new)
+  pub cut : IsObtained follows regions old.system (state_of word old) (padded size) (address - 16) new.system (state_of word new)
   pub low : 16 ≤ address
   pub small : size < limit old.granularity
   pub block : IsBlock (state_of word new) address size

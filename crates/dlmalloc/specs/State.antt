@@ -44,20 +44,20 @@ abbrev pub extents_by_address : HeapState → List Extent
 extents_by_address heap = flat_map (λ segment. segment.extents) (by_address heap.segments)
 
 -- whether an extent is free and not the top
-abbrev pub is_plain : Kind → Bool
-is_plain Used = false
-is_plain Free = true
-is_plain Victim = true
-is_plain Top = false
-is_plain Record = false
-is_plain Foot = false
+abbrev pub is_free_below_top : Kind → Bool
+is_free_below_top Used = false
+is_free_below_top Free = true
+is_free_below_top Victim = true
+is_free_below_top Top = false
+is_free_below_top Record = false
+is_free_below_top Foot = false
 
 -- whether it is the victim, or else in a bin
 abbrev pub is_victim : HeapState → Extent → Bool
-is_victim heap extent = is_plain extent.kind && extent.at == heap.victim
+is_victim heap extent = is_free_below_top extent.kind && extent.at == heap.victim
 
 abbrev pub is_binned : HeapState → Extent → Bool
-is_binned heap extent = is_plain extent.kind && not (extent.at == heap.victim)
+is_binned heap extent = is_free_below_top extent.kind && not (extent.at == heap.victim)
 
 -- an extent, where the victim is told from the other free ones
 abbrev pub shown : HeapState → Extent → Extent

@@ -5,7 +5,7 @@ ghost use Rattle.dlmalloc_chunks.specs.declared.extent.Extent.{Extent};
 ghost use Rattle.dlmalloc_chunks.specs.declared.extent.Kind.TheVariants.{Used, Free, Top};
 ghost use Rattle.dlmalloc_chunks.specs.Chunk.{HasHead};
 ghost use Rattle.dlmalloc.specs.Extents.{extent_at};
-ghost use Rattle.dlmalloc.specs.State.{is_plain, shown, extents_in, is_binned};
+ghost use Rattle.dlmalloc.specs.State.{is_free_below_top, shown, extents_in, is_binned};
 ghost use Rattle.dlmalloc.specs.Choice.{least_fit, goes_first, chosen, IsChosen};
 ghost use Rattle.dlmalloc.specs.Walk.{chunk_told, chunks_between, IsChunkRun};
 ghost use Rattle.dlmalloc.specs.Binned.{IsBinned, IsMember};
@@ -69,8 +69,8 @@ fn kind_where(inuse: bool) -> Kind
 }
 
 /// Whether an extent is free and not the top.
-pub(crate) fn is_plain(kind: Kind) -> bool
-    ensures { result ≡ is_plain kind }
+pub(crate) fn is_free_below_top(kind: Kind) -> bool
+    ensures { result ≡ is_free_below_top kind }
 {
     matches!(kind, Kind::Free | Kind::Victim)
 }

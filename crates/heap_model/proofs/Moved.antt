@@ -6,7 +6,7 @@ use Rattle.heap_model.specs.declared.live.Live.{Live}
 use Rattle.heap_model.specs.declared.region.Region.{Region}
 use Rattle.heap_model.specs.State.{State, Block, is_within}
 use Rattle.heap_model.specs.Memory.{HoldsBytes}
-use Rattle.heap_model.specs.Machine.{Paged, IsStill, is_of_user, Seen, Stands, rights_of, outline}
+use Rattle.heap_model.specs.Machine.{Paged, OnlyHeapBytesChange, is_of_user, Seen, Stands, rights_of, outline}
 use Rattle.heap_model.specs.Run.{IsGood, IsUserRegion}
 use Rattle.heap_model.proofs.Booleans.{or_right}
 use Rattle.heap_model.proofs.Regions.{any_all}
@@ -31,7 +31,7 @@ user_of_machine m s address good stands is =
 
 -- ---- the machine
 
-pub stands_moved : (m : Seen) (s : State) (new : Paged) (lives : List (Option Live)) (blocks : List (Option Block)) → IsGood s → Stands m s → IsStill m.paged new →
+pub stands_moved : (m : Seen) (s : State) (new : Paged) (lives : List (Option Live)) (blocks : List (Option Block)) → IsGood s → Stands m s → OnlyHeapBytesChange m.paged new →
     lives ≡ map (option_map outline) blocks → HoldsBytes (reached new.words new.root) blocks →
     Stands (record m { paged = new; blocks = lives }) (record s { blocks = blocks })
 unfolding walk_of

@@ -4,14 +4,14 @@ use Rattle.paging_core.specs.Walk.{reached}
 use Rattle.heap_model.specs.State.{State, Block, block_at}
 use Rattle.heap_model.specs.Memory.{IsPut}
 use Rattle.heap_model.specs.Answer.{with_block, known_block}
-use Rattle.heap_model.specs.Machine.{Paged, IsStill, Seen, Stands}
+use Rattle.heap_model.specs.Machine.{Paged, OnlyHeapBytesChange, Seen, Stands}
 use Rattle.heap_model.specs.Run.{IsGood}
 use Rattle.heap_model.proofs.Known.{holds_known, known, outline_known}
 use Rattle.heap_model.proofs.Moved.{stands_moved}
 
 -- the machine stands for the state, once the bytes of a live block have been put
 pub stands_written : (m : Seen) (s : State) (new : Paged) (number offset : ℕ) (bytes : List ℕ) (block : Block) → IsGood s → Stands m s →
-    block_at s.blocks number ≡ Some block → offset + length bytes ≤ block.size → IsStill m.paged new →
+    block_at s.blocks number ≡ Some block → offset + length bytes ≤ block.size → OnlyHeapBytesChange m.paged new →
     IsPut s.heap (reached m.paged.words m.paged.root) (reached new.words m.paged.root) (block.address + offset) bytes →
     Stands (record m { paged = new }) (known s number offset bytes)
 stands_written m s new number offset bytes block good stands is inside still put =

@@ -60,7 +60,7 @@ is_of_user regions address = list_any (λ region. not region.heap && is_within a
 
 -- What stays of a system while nothing is granted, given back or mapped: all but the bytes of the heap's pages. No word
 -- of a table is changed.
-pub record IsStill (old new : Paged) : Type 0 where
+pub record OnlyHeapBytesChange (old new : Paged) : Type 0 where
   pub others : new ≡ record old { words = new.words }
   pub size : length new.words ≡ length old.words
   pub tree : IsTree old.words old.root old.free → IsTree new.words old.root old.free

@@ -6,7 +6,7 @@ use Rattle.std.proofs.lemmas.List.{get_or_append_left, get_or-append_right, get_
 use Rattle.paging_core.specs.Walk.{reached}
 use Rattle.heap_memory.specs.Regions.{IsWordOf}
 use Rattle.heap_memory.specs.Words.{IsStored}
-use Rattle.heap_model.specs.Machine.{Paged, IsStill}
+use Rattle.heap_model.specs.Machine.{Paged, OnlyHeapBytesChange}
 use Rattle.kernel_heap.specs.Layout.{IsKept}
 use Rattle.kernel_heap.specs.Words.{grants_of}
 use Rattle.mapped_regions.specs.Mapped.{word_reached}
@@ -16,7 +16,7 @@ use Rattle.kernel_heap.proofs.Numbers.{lt_or_le}
 use Rattle.kernel_heap.proofs.Still.{kept_still}
 use Rattle.kernel_heap.proofs.Bytes.{inside_part, word_of, reached_byte}
 
-pub still_inside : (old new : Paged) (address count : ℕ) → IsStill old new → AreInside old address count → AreInside new address count
+pub still_inside : (old new : Paged) (address count : ℕ) → OnlyHeapBytesChange old new → AreInside old address count → AreInside new address count
 still_inside old new address count still there =
     subst (λ q. AreInside q address count) (sym still.others) there
 
@@ -96,7 +96,7 @@ written_parts old mid new address n bytes first last there is_first is_last fron
     (λ k less. ap (λ xs. get_or xs k 0) is_last ∙ get_or-drop n bytes k 0))
 
 -- a stored word is its eight bytes
-pub word_written : (p new : Paged) (at value : ℕ) → IsKept p → AreInside p at 8 → at % 8 ≡ 0 → IsStill p new → IsStored (grants_of p) (word_reached p) at value (word_reached new) →
+pub word_written : (p new : Paged) (at value : ℕ) → IsKept p → AreInside p at 8 → at % 8 ≡ 0 → OnlyHeapBytesChange p new → IsStored (grants_of p) (word_reached p) at value (word_reached new) →
     IsWritten p new at (to_le_bytes w64 value) 8
 word_written p new at value kept there whole still stored = record {
   still = still;

@@ -10,7 +10,7 @@ use Rattle.paging_core.specs.Memory.{word_at, byte_of}
 use Rattle.paging_core.specs.Walk.{walk_of, reached}
 use Rattle.heap_memory.specs.Regions.{is_granted, IsWordOf}
 use Rattle.heap_memory.specs.Words.{IsStored, with_byte}
-use Rattle.heap_model.specs.Machine.{Paged, IsStill}
+use Rattle.heap_model.specs.Machine.{Paged, OnlyHeapBytesChange}
 use Rattle.heap_model.proofs.Booleans.{or_cases}
 use Rattle.kernel_heap.specs.Layout.{IsKept}
 use Rattle.kernel_heap.specs.Words.{heap_regions, grants_of}
@@ -99,7 +99,7 @@ zero_reached p address kept there is =
     reached_byte p address kept there ∙ ap Some (ap (λ w. slice_index (to_le_bytes w64 w) (address % 8)) is ∙ (le_byte 0 (address % 8) (omega arith) ∙ none))
 
 -- what a store of a byte does to the bytes
-module _ (p new : Paged) (at byte : ℕ) (kept : IsKept p) (still : IsStill p new) (here : AreInside p at 1) (small : byte < 256)
+module _ (p new : Paged) (at byte : ℕ) (kept : IsKept p) (still : OnlyHeapBytesChange p new) (here : AreInside p at 1) (small : byte < 256)
     (stored : IsStored (grants_of p) (word_reached p) (at - at % 8) (with_byte (word_reached p (at - at % 8)) (at % 8) byte) (word_reached new)) where
   moved : (other : ℕ) → AreInside p other 1 → AreInside new other 1
   moved other there = subst (λ q. AreInside q other 1) (sym still.others) there
@@ -129,7 +129,7 @@ module _ (p new : Paged) (at byte : ℕ) (kept : IsKept p) (still : IsStill p ne
 
 -- one more byte was put
 pub written_more : (old mid new : Paged) (address : ℕ) (bytes : List ℕ) (n : ℕ) → IsKept old → AreInside old address (n + 1) → IsWritten old mid address bytes n →
-    slice_index bytes n < 256 → IsStill mid new →
+    slice_index bytes n < 256 → OnlyHeapBytesChange mid new →
     IsStored (grants_of mid) (word_reached mid) (address + n - (address + n) % 8) (with_byte (word_reached mid (address + n - (address + n) % 8)) ((address + n) % 8) (slice_index bytes n)) (word_reached new) →
     IsWritten old new address bytes (n + 1)
 written_more old mid new address bytes n kept there before small still stored = record {

@@ -27,7 +27,7 @@ use Rattle.heap_model.specs.Memory.{HoldsBytes}
 use Rattle.heap_model.specs.Refusal.{must_refuse, wanted_by}
 use Rattle.heap_model.specs.Answer.{changed, with_heap, is_new, granted_tables, heap_after, IsServed}
 use Rattle.heap_model.specs.Run.{IsGood, IsHeapRegion}
-use Rattle.heap_model.specs.Machine.{Paged, Seen, Stands, IsStep, IsStill, outline}
+use Rattle.heap_model.specs.Machine.{Paged, Seen, Stands, IsStep, OnlyHeapBytesChange, outline}
 use Rattle.heap_model.proofs.Added.{missing_same}
 use Rattle.heap_model.proofs.Booleans.{neither_or}
 use Rattle.heap_model.proofs.Cut.{none_cut}
@@ -83,7 +83,7 @@ module _ {top : ℕ} (heap middle new : Dlmalloc PagedSystem) (blocks blocks' : 
     (s : State) (good : IsGood s) (stands : Stands (seen_of top heap blocks) s)
     (call : Call) (number address : ℕ) (after_it : List (Option Block)) (changes : changed s call (Placed number address) ≡ record s { blocks = after_it })
     (must : must_refuse s call ≡ None) (wants : wanted_by s call ≡ Some n)
-    (serves : (list : Option (List Region)) (grown : List Region) → IsGrowth s n grown → AreCut grown (heap_after s list) → (paged new.system ≡ paged middle.system → heap_after s list ≡ grown) → (IsStill (paged heap.system) (paged new.system) → list ≡ None) →
+    (serves : (list : Option (List Region)) (grown : List Region) → IsGrowth s n grown → AreCut grown (heap_after s list) → (paged new.system ≡ paged middle.system → heap_after s list ≡ grown) → (OnlyHeapBytesChange (paged heap.system) (paged new.system) → list ≡ None) →
     IsServed s call (Placed number address) list)
     (lives_same : blocks' ≡ map (option_map outline) after_it) (holds : HoldsBytes (reached (paged new.system).words (paged new.system).root) after_it)
     (good_blocks : (list : List Region) (tables : List Prefix) → list ≡ heap_regions (paged new.system).regions → IsGood (record s { heap = list; tables = tables; blocks = [] }) → IsGood (record s { heap = list; tables = tables; blocks = after_it })) where
@@ -108,7 +108,7 @@ module _ {top : ℕ} (heap middle new : Dlmalloc PagedSystem) (blocks blocks' : 
 
   -- ---- nothing was granted
 
-  module _ (still : IsStill (paged heap.system) (paged middle.system)) where
+  module _ (still : OnlyHeapBytesChange (paged heap.system) (paged middle.system)) where
     short_all : AreShortened (paged heap.system) (paged new.system)
     short_all = shortened_on (paged heap.system) (paged middle.system) (paged new.system) (shortened_still (paged heap.system) (paged middle.system) heap.system.kept.laid still) short
 
@@ -159,8 +159,8 @@ module _ {top : ℕ} (heap middle new : Dlmalloc PagedSystem) (blocks blocks' : 
 
   -- ---- a region was granted
 
-  module _ (full : IsFull (heap_state heap) (n + 256)) (mid later : Paged) (before : IsStill (paged heap.system) mid) (grant : Grant)
-      (is : IsGrantedFor mid later (round_up (n + 96) heap.granularity) grant) (behind : IsStill later (paged middle.system)) (with_it : regions middle.system ≡ with_grant grant (regions heap.system)) where
+  module _ (full : IsFull (heap_state heap) (n + 256)) (mid later : Paged) (before : OnlyHeapBytesChange (paged heap.system) mid) (grant : Grant)
+      (is : IsGrantedFor mid later (round_up (n + 96) heap.granularity) grant) (behind : OnlyHeapBytesChange later (paged middle.system)) (with_it : regions middle.system ≡ with_grant grant (regions heap.system)) where
     abbrev pages : ℕ
     pages = pages_in (round_up (n + 96) heap.granularity)
 

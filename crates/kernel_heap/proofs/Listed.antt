@@ -5,7 +5,7 @@ use Rattle.dlmalloc_chunks.specs.declared.extent.Extent.{Extent}
 use Rattle.dlmalloc_chunks.specs.declared.extent.Kind.TheVariants.{Used, Victim}
 use Rattle.dlmalloc_chunks.specs.Tiling.{extent_at}
 use Rattle.dlmalloc.specs.Extents.{is_used}
-use Rattle.dlmalloc.specs.State.{HeapState, extents_in, is_plain, is_victim, shown}
+use Rattle.dlmalloc.specs.State.{HeapState, extents_in, is_free_below_top, is_victim, shown}
 use Rattle.dlmalloc.specs.declared.heap.Dlmalloc.{Dlmalloc}
 use Rattle.heap_model.specs.declared.live.Live.{Live}
 use Rattle.heap_model.specs.declared.region.Region.{Region}
@@ -27,7 +27,7 @@ use Rattle.kernel_heap.proofs.WholeRegions.{segment_bytes, heap_runs}
 
 -- an extent in use is shown as it is, and what is shown as one in use is one
 shown_used : (heap : HeapState) (extent : Extent) → extent.kind ≡ Used → shown heap extent ≡ extent
-shown_used heap extent used = let plain : is_plain extent.kind ≡ false = ap is_plain used in rw plain refl
+shown_used heap extent used = let plain : is_free_below_top extent.kind ≡ false = ap is_free_below_top used in rw plain refl
 
 used_shown : (heap : HeapState) (found : Option Extent) (extent : Extent) → option_map (shown heap) found ≡ Some extent → extent.kind ≡ Used → found ≡ Some extent
 used_shown heap None extent is used = cc

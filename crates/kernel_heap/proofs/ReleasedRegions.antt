@@ -11,7 +11,7 @@ use Rattle.heap_model.specs.declared.region.Region.{Region}
 use Rattle.heap_model.specs.State.{end_of, is_within}
 use Rattle.heap_model.specs.Place.{meets}
 use Rattle.heap_model.specs.Cut.{AreCut}
-use Rattle.heap_model.specs.Machine.{Paged, IsStill, is_of_user}
+use Rattle.heap_model.specs.Machine.{Paged, OnlyHeapBytesChange, is_of_user}
 use Rattle.heap_model.proofs.Cut.{none_cut, cut_on}
 use Rattle.region_tree.specs.Regions.{AreLaid, cut_of}
 use Rattle.region_tree.proofs.Laying.{laid_cut}
@@ -121,7 +121,7 @@ pub record AreShortened (old new : Paged) : Type 0 where
       (address : ℕ) → IsTrue (is_canonical address) → is_of_user old.regions address ≡ true → IsSome (walk_of old.words old.root (address / 4096)) →
       reached new.words new.root address ≡ reached old.words old.root address
 
-still_shortened : (p : Paged) (words : List ℕ) → AreLaid 0 p.regions (2 ^ 64) → IsStill p (record p { words = words }) → AreShortened p (record p { words = words })
+still_shortened : (p : Paged) (words : List ℕ) → AreLaid 0 p.regions (2 ^ 64) → OnlyHeapBytesChange p (record p { words = words }) → AreShortened p (record p { words = words })
 unfolding walk_of
 still_shortened p words laid still = record {
   base = refl;
@@ -139,8 +139,8 @@ still_shortened p words laid still = record {
 }
 
 -- with no event
-pub shortened_still : (old new : Paged) → AreLaid 0 old.regions (2 ^ 64) → IsStill old new → AreShortened old new
-shortened_still old new laid still = subst (AreShortened old) (sym still.others) (still_shortened old new.words laid (subst (IsStill old) still.others still))
+pub shortened_still : (old new : Paged) → AreLaid 0 old.regions (2 ^ 64) → OnlyHeapBytesChange old new → AreShortened old new
+shortened_still old new laid still = subst (AreShortened old) (sym still.others) (still_shortened old new.words laid (subst (OnlyHeapBytesChange old) still.others still))
 
 pub shortened_on : (x y z : Paged) → AreShortened x y → AreShortened y z → AreShortened x z
 shortened_on x y z first second = record {

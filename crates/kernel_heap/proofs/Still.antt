@@ -10,7 +10,7 @@ use Rattle.paging_core.specs.Tree.{IsTree}
 use Rattle.heap_memory.specs.Regions.{IsWordOf, is_granted}
 use Rattle.heap_memory.specs.Words.{IsStored}
 use Rattle.heap_model.specs.State.{is_within}
-use Rattle.heap_model.specs.Machine.{Paged, IsStill, is_of_user}
+use Rattle.heap_model.specs.Machine.{Paged, OnlyHeapBytesChange, is_of_user}
 use Rattle.kernel_heap.specs.Layout.{IsKept}
 use Rattle.kernel_heap.specs.Words.{heap_regions, grants_of}
 use Rattle.mapped_regions.specs.Mapped.{IsMappedWord, word_in, word_reached}
@@ -40,7 +40,7 @@ mapped_word p at kept word = record {
 }
 
 -- what a system keeps, it keeps while nothing is granted
-pub kept_still : (old new : Paged) → IsKept old → IsStill old new → IsKept new
+pub kept_still : (old new : Paged) → IsKept old → OnlyHeapBytesChange old new → IsKept new
 kept_still old new kept still = subst IsKept (sym still.others) (record {
   window = kept.window;
   mapped = stored_mapped old new.words kept.mapped still.size (still.tree kept.mapped.tree) still.walks;
@@ -64,7 +64,7 @@ pub still_beside : (p : Paged) (words : List ℕ) (at : ℕ) (place : Place) →
     ((free : List Bool) → IsTree p.words p.root free → (level number : ℕ) → level ≤ 4 → reach words p.root level number ≡ reach p.words p.root level number) →
     ((free : List Bool) → IsTree p.words p.root free → IsTree words p.root free) →
     ((frame index : ℕ) → index < 512 → frame ≢ place.frame → word_at words frame index ≡ word_at p.words frame index) →
-    ((address : ℕ) → IsTrue (is_of_user p.regions address) → reached words p.root address ≡ reached p.words p.root address) → IsStill p (record p { words = words })
+    ((address : ℕ) → IsTrue (is_of_user p.regions address) → reached words p.root address ≡ reached p.words p.root address) → OnlyHeapBytesChange p (record p { words = words })
 unfolding walk_of
 still_beside p words at place kept found size walks tree others users = record {
   others = refl;
@@ -93,7 +93,7 @@ module _ (p : Paged) (words : List ℕ) (at value a : ℕ)
   tree_is : IsTree p.words p.root p.free
   tree_is = kept.mapped.tree
 
-  pub still_stored : IsStill p (record p { words = words })
+  pub still_stored : OnlyHeapBytesChange p (record p { words = words })
   still_stored =
       let place = place_at p a (granted_mapped p at a kept word.granted at_is) in
       let is_set : words ≡ slice_set p.words (512 * place.0.frame + a % 4096 / 8) value = subst (λ o. IfSome o (λ q. words ≡ slice_set p.words (512 * q.frame + a % 4096 / 8) value)) place.1 set in

@@ -8,7 +8,7 @@ use Rattle.paging_core.specs.Walk.{Place, reach, walk_of, reached}
 use Rattle.paging_core.specs.Tree.{IsTree}
 use Rattle.heap_memory.specs.Regions.{IsWordOf}
 use Rattle.heap_memory.specs.Words.{IsBeside}
-use Rattle.heap_model.specs.Machine.{Paged, IsStill, is_of_user}
+use Rattle.heap_model.specs.Machine.{Paged, OnlyHeapBytesChange, is_of_user}
 use Rattle.kernel_heap.specs.Layout.{IsKept}
 use Rattle.kernel_heap.specs.Words.{grants_of}
 use Rattle.kernel_heap.specs.Written.{AreInPage, ArePut}
@@ -53,7 +53,7 @@ module _ (p : Paged) (words run : List ℕ) (at : ℕ) (kept : IsKept p) (there 
   unfolding walk_of
   stays page = walks p.free tree_is 4 (page % 2 ^ 36) (omega arith)
 
-  pub still_put : IsStill p (record p { words = words })
+  pub still_put : OnlyHeapBytesChange p (record p { words = words })
   still_put = still_beside p words at place.0 kept place.1 size walks tree (λ frame index small apart. written.others frame index small (λ same from to. absurd (apart same))) users
     where
       -- and in that of a page of the heap

@@ -4,7 +4,7 @@ use native.Mathlib.Decide.{dec_lt}
 use Rattle.heap_memory.specs.declared.grant.Grant.{Grant}
 use Rattle.heap_memory.specs.Regions.{IsWordOf}
 use Rattle.heap_memory.specs.Words.{AreWordsOf, AreFilled, AreCopied}
-use Rattle.heap_model.specs.Machine.{Paged, IsStill}
+use Rattle.heap_model.specs.Machine.{Paged, OnlyHeapBytesChange}
 use Rattle.kernel_heap.specs.Words.{grants_of}
 use Rattle.kernel_heap.specs.Written.{ArePut, AreLoaded}
 
@@ -61,7 +61,7 @@ copied_on regions old mid new from to count done run source target apart fits lo
 -- ---- in a paged system
 
 -- what was put since, as of the regions before
-pub put_since : (old mid : Paged) (before : ℕ → ℕ) (at : ℕ) (run : List ℕ) (after : ℕ → ℕ) → IsStill old mid → ArePut (grants_of mid) before at run after → ArePut (grants_of old) before at run after
+pub put_since : (old mid : Paged) (before : ℕ → ℕ) (at : ℕ) (run : List ℕ) (after : ℕ → ℕ) → OnlyHeapBytesChange old mid → ArePut (grants_of mid) before at run after → ArePut (grants_of old) before at run after
 put_since old mid before at run after still put =
     let same : grants_of mid ≡ grants_of old = ap grants_of still.others in
     subst (λ gs. ArePut gs before at run after) same put

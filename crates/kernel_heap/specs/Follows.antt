@@ -3,21 +3,21 @@ use Rattle.std.specs.Prelude.{◌≡◌, List, [], ◌∷◌, ◌++◌, refl}
 use Rattle.std.proofs.Common.{ap, ◌∙◌, subst, sym, arith}
 use Rattle.heap_memory.specs.Events.{Event, Granted, Released}
 use Rattle.paging_core.specs.Walk.{reach, reached}
-use Rattle.heap_model.specs.Machine.{Paged, IsStill}
+use Rattle.heap_model.specs.Machine.{Paged, OnlyHeapBytesChange}
 use Rattle.kernel_heap.specs.Layout.{IsGrantedFor}
 use Rattle.kernel_heap.specs.Released.{IsReleasedFor}
 
 -- With no event all but the bytes of the heap's pages stays. A request is granted, and a run given back, as the system
 -- stands at its moment.
 abbrev pub Follows : Paged → List Event → Paged → Type 0
-Follows old [] new = IsStill old new
-Follows old (Granted asked grant ∷ events) new = (at : Paged) × (later : Paged) × IsStill old at × IsGrantedFor at later asked grant × Follows later events new
-Follows old (Released at size left ∷ events) new = (before : Paged) × (later : Paged) × IsStill old before × IsReleasedFor before later at size left × Follows later events new
+Follows old [] new = OnlyHeapBytesChange old new
+Follows old (Granted asked grant ∷ events) new = (at : Paged) × (later : Paged) × OnlyHeapBytesChange old at × IsGrantedFor at later asked grant × Follows later events new
+Follows old (Released at size left ∷ events) new = (before : Paged) × (later : Paged) × OnlyHeapBytesChange old before × IsReleasedFor before later at size left × Follows later events new
 
-pub still_none : (p : Paged) → IsStill p p
+pub still_none : (p : Paged) → OnlyHeapBytesChange p p
 still_none p = record { others = refl; size = refl; tree = λ t. t; walks = λ level number low. refl; tables = λ level number index met low small is. refl; users = λ address user. refl }
 
-pub still_on : (x y z : Paged) → IsStill x y → IsStill y z → IsStill x z
+pub still_on : (x y z : Paged) → OnlyHeapBytesChange x y → OnlyHeapBytesChange y z → OnlyHeapBytesChange x z
 still_on x y z first second =
     let with_words : Paged → Paged = λ p. record p { words = z.words } in
     let root : y.root ≡ x.root = ap (λ p. p.root) first.others in

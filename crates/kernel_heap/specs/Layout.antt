@@ -44,10 +44,10 @@ pub record CanGrant (p : Paged) (pages address : ℕ) : Type 0 where
 
 -- Why so many pages cannot be granted: they have no place; or they have one, and there are too few free frames for them
 -- and the tables that they lack.
-abbrev pub Lacks : Paged → ℕ → GrantFault → Type 0
-Lacks p pages NoSpace = HasNoPlace p.base p.pages p.regions pages
-Lacks p pages NoFrames = (address : ℕ) × IsPlace p.base p.pages p.regions pages address × (free_count p.free < pages + missing_of p.words p.root (address / 4096) pages)
-Lacks p pages OutOfMemory = ⊥
+abbrev pub LacksPlaceOrFrames : Paged → ℕ → GrantFault → Type 0
+LacksPlaceOrFrames p pages NoSpace = HasNoPlace p.base p.pages p.regions pages
+LacksPlaceOrFrames p pages NoFrames = (address : ℕ) × IsPlace p.base p.pages p.regions pages address × (free_count p.free < pages + missing_of p.words p.root (address / 4096) pages)
+LacksPlaceOrFrames p pages OutOfMemory = ⊥
 
 -- So many pages were granted at an address, and their region joined the others.
 pub record IsGranted (old new : Paged) (pages address : ℕ) : Type 0 where

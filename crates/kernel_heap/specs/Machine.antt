@@ -14,7 +14,7 @@ use Rattle.dlmalloc.specs.Trimmed.{trimmed}
 use Rattle.dlmalloc.specs.AfterFree.{after_free, free_releases}
 use Rattle.dlmalloc.specs.Aligned.{aligned_place, aligned}
 use Rattle.dlmalloc.specs.Resized.{in_place}
-use Rattle.dlmalloc.specs.Served.{IsCut}
+use Rattle.dlmalloc.specs.Served.{IsObtained}
 use Rattle.dlmalloc.specs.declared.heap.Dlmalloc.{Dlmalloc}
 use Rattle.dlmalloc.specs.declared.malloc_error.MallocError.{MallocError}
 use Rattle.dlmalloc.specs.declared.malloc_error.MallocError.TheVariants.{TooLarge, System}
@@ -117,8 +117,8 @@ IsSound numbered = IsLaidOut numbered.heap numbered.blocks.items
 -- aligned place and behind the block there is freed.
 abbrev pub IsCutAt : PagedSystem → HeapState → ℕ → ℕ → ℕ → PagedSystem → HeapState → Type 0
 IsCutAt system old size align address system' new =
-    ((align ≤ 16) × IsCut follows regions system old (padded size) (address - 16) system' new)
-    ⊎ ((16 < align) × ((middle : PagedSystem) × (heap : HeapState) × (at : ℕ) × IsCut follows regions system old (padded (enlarged size align)) at middle heap × follows middle [] system'
+    ((align ≤ 16) × IsObtained follows regions system old (padded size) (address - 16) system' new)
+    ⊎ ((16 < align) × ((middle : PagedSystem) × (heap : HeapState) × (at : ℕ) × IsObtained follows regions system old (padded (enlarged size align)) at middle heap × follows middle [] system'
     × (address ≡ aligned_place at align + 16) × (new ≡ aligned heap at align (padded size))))
 
 -- so it comes, and is cleared then where that is asked for

@@ -4,7 +4,7 @@ use Rattle.paging_core.specs.Walk.{reached}
 use Rattle.heap_memory.specs.declared.grant.Grant.{Grant}
 use Rattle.heap_memory.specs.Regions.{is_granted, IsWordOf}
 use Rattle.heap_memory.specs.Words.{AreWordsOf, IsBeside}
-use Rattle.heap_model.specs.Machine.{Paged, IsStill}
+use Rattle.heap_model.specs.Machine.{Paged, OnlyHeapBytesChange}
 use Rattle.kernel_heap.specs.Words.{grants_of}
 use Rattle.mapped_regions.specs.Mapped.{word_reached}
 
@@ -15,7 +15,7 @@ AreInside p address count = (k : ℕ) → address ≤ k → k < address + count 
 -- the first so many of these bytes were put at an address, and every other byte of the regions stays, and every word
 -- that has none of them
 pub record IsWritten (old new : Paged) (address : ℕ) (bytes : List ℕ) (count : ℕ) : Type 0 where
-  pub still : IsStill old new
+  pub still : OnlyHeapBytesChange old new
   pub here : (k : ℕ) → k < count → reached new.words new.root (address + k) ≡ Some (slice_index bytes k)
   pub elsewhere : (other : ℕ) → AreInside old other 1 → (other < address) ⊎ (address + count ≤ other) → reached new.words new.root other ≡ reached old.words old.root other
   pub words : (k : ℕ) → IsWordOf (grants_of old) k → (k + 8 ≤ address) ⊎ (address + count ≤ k) → word_reached new k ≡ word_reached old k

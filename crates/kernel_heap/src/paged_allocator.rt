@@ -15,11 +15,11 @@ impl Allocator for PagedSystem {
     ghost use Rattle.heap_model.specs.Request.{pages_in};
     ghost use Rattle.mapped_regions.specs.Mapped.{word_reached};
     ghost use Rattle.kernel_heap.specs.Follows.{Follows};
-    ghost use Rattle.kernel_heap.specs.Layout.{Lacks};
+    ghost use Rattle.kernel_heap.specs.Layout.{LacksPlaceOrFrames};
     ghost use Rattle.kernel_heap.specs.Ordered.{regions_ordered};
     ghost use Rattle.kernel_heap.specs.Words.{grants_of};
 
-    ghost denies = { λ system size fault. Lacks (paged system) (pages_in size) fault };
+    ghost denies = { λ system size fault. LacksPlaceOrFrames (paged system) (pages_in size) fault };
 
     ghost zeros = { λ system. true };
 
@@ -51,7 +51,7 @@ impl Allocator for PagedSystem {
         ensures follows { IfOk result (λ grant. Follows (paged self.old) (Granted size grant ∷ []) (paged self.new)) }
         ensures words { (at : ℕ) → IsWordOf (grants_of (paged self.old)) at → word_reached (paged self.new) at ≡ word_reached (paged self.old) at }
         ensures err { OnErr result (paged self.new ≡ paged self.old) }
-        ensures denied { IfErr result (λ fault. fault ≢ OutOfMemory → Lacks (paged self.old) (pages_in size) fault) }
+        ensures denied { IfErr result (λ fault. fault ≢ OutOfMemory → LacksPlaceOrFrames (paged self.old) (pages_in size) fault) }
     {
         self.grant_bytes(size)
     }

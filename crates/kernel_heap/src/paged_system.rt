@@ -57,7 +57,7 @@ pub struct PagedSystem {
 }
 
 impl PagedSystem {
-    ghost use Rattle.kernel_heap.specs.Layout.{IsNew, CanGrant, Lacks, IsGranted, IsGrantedFor};
+    ghost use Rattle.kernel_heap.specs.Layout.{IsNew, CanGrant, LacksPlaceOrFrames, IsGranted, IsGrantedFor};
     ghost use Rattle.kernel_heap.specs.System.{paged};
     ghost use Rattle.kernel_heap.specs.Words.{heap_regions, grants_of};
     ghost use Rattle.mapped_regions.specs.Mapped.{word_reached};
@@ -65,7 +65,7 @@ impl PagedSystem {
     ghost use Rattle.heap_memory.specs.Runs.{IsRun, without};
     ghost use Rattle.kernel_heap.specs.Released.{IsReleasedFor};
     ghost use Rattle.heap_memory.specs.Words.{IsStored};
-    ghost use Rattle.heap_model.specs.Machine.{IsStill};
+    ghost use Rattle.heap_model.specs.Machine.{OnlyHeapBytesChange};
     ghost use Rattle.kernel_heap.specs.Written.{AreInPage, AreLoaded, ArePut};
 
     /// A system with a window of `pages` pages from the address `base` on, and with `frames` frames, of which one
@@ -142,7 +142,7 @@ impl PagedSystem {
     fn plan(&self, pages: u64) -> Result<u64, GrantFault>
         requires some { 0 < pages }
         ensures ok { IfOk result (λ place. CanGrant (paged self.now) pages place) }
-        ensures lacks { IfErr result (λ fault. Lacks (paged self.now) pages fault) }
+        ensures lacks { IfErr result (λ fault. LacksPlaceOrFrames (paged self.now) pages fault) }
     {
         let Some(place) = self.regions.lowest_place(pages) else {
             return Err(GrantFault::NoSpace);
@@ -167,7 +167,7 @@ impl PagedSystem {
         requires some { 0 < size }
         ensures ok { IfOk result (λ grant. IsGrantedFor (paged self.old) (paged self.new) size grant) }
         ensures err { OnErr result (paged self.new ≡ paged self.old) }
-        ensures lacks { IfErr result (λ fault. fault ≢ OutOfMemory → Lacks (paged self.old) (pages_in size) fault) }
+        ensures lacks { IfErr result (λ fault. fault ≢ OutOfMemory → LacksPlaceOrFrames (paged self.old) (pages_in size) fault) }
     {
         let pages = pages_in(size);
         let place = self.plan(pages)?;
@@ -226,7 +226,7 @@ impl PagedSystem {
     /// Puts a word at a multiple of 8 in the regions, by a walk, and changes nothing else.
     pub(crate) fn set_word(&mut self, at: u64, value: u64)
         requires { IsWordOf (grants_of (paged self.old)) at }
-        ensures still { IsStill (paged self.old) (paged self.new) }
+        ensures still { OnlyHeapBytesChange (paged self.old) (paged self.new) }
         ensures stored { IsStored (grants_of (paged self.old)) (word_reached (paged self.old)) at value (word_reached (paged self.new)) }
     {
         self.regions.set_word(at, value);
@@ -244,7 +244,7 @@ impl PagedSystem {
     /// Puts words into one page of the regions, by one walk, and changes nothing else.
     pub(crate) fn set_words(&mut self, at: u64, words: &[u64])
         requires { AreInPage (paged self.old) at (length words.now) }
-        ensures still { IsStill (paged self.old) (paged self.new) }
+        ensures still { OnlyHeapBytesChange (paged self.old) (paged self.new) }
         ensures put { ArePut (grants_of (paged self.old)) (word_reached (paged self.old)) at words.now (word_reached (paged self.new)) }
     {
         self.regions.set_words(at, words);

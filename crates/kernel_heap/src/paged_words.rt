@@ -1,7 +1,7 @@
 // Words of the regions of a paged system, in a row: those of a page by one walk for many.
 ghost use Rattle.std.specs.Prelude.{◌≡◌, ℕ, ◌+◌, ◌*◌, ◌/◌, ◌%◌, ◌<◌, ◌≤◌, ◌⊎◌};
 ghost use Rattle.heap_memory.specs.Words.{AreWordsOf, AreFilled, AreCopied};
-ghost use Rattle.heap_model.specs.Machine.{IsStill};
+ghost use Rattle.heap_model.specs.Machine.{OnlyHeapBytesChange};
 ghost use Rattle.mapped_regions.specs.Mapped.{word_reached};
 ghost use Rattle.kernel_heap.specs.System.{paged};
 ghost use Rattle.kernel_heap.specs.Words.{grants_of};
@@ -38,7 +38,7 @@ impl PagedSystem {
     /// Puts the same word at each of `count` places, from an address on, and changes nothing else.
     pub(crate) fn fill_words(&mut self, at: u64, count: u64, value: u64)
         requires { AreWordsOf (grants_of (paged self.old)) at count }
-        ensures still { IsStill (paged self.old) (paged self.new) }
+        ensures still { OnlyHeapBytesChange (paged self.old) (paged self.new) }
         ensures filled { AreFilled (grants_of (paged self.old)) (word_reached (paged self.old)) at count value (word_reached (paged self.new)) }
     {
         let words = [value; RUN_WORDS];
@@ -56,7 +56,7 @@ impl PagedSystem {
         requires from { AreWordsOf (grants_of (paged self.old)) from count }
         requires to { AreWordsOf (grants_of (paged self.old)) to count }
         requires apart { (from + 8 * count ≤ to) ⊎ (to + 8 * count ≤ from) }
-        ensures still { IsStill (paged self.old) (paged self.new) }
+        ensures still { OnlyHeapBytesChange (paged self.old) (paged self.new) }
         ensures copied { AreCopied (grants_of (paged self.old)) (word_reached (paged self.old)) from to count (word_reached (paged self.new)) }
     {
         let mut words = [0; RUN_WORDS];

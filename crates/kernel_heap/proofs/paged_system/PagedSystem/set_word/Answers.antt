@@ -1,6 +1,6 @@
 use Rattle.std.proofs.Common.{refl, sym, subst}
 use Rattle.heap_memory.specs.Words.{IsStored}
-use Rattle.heap_model.specs.Machine.{Paged, IsStill}
+use Rattle.heap_model.specs.Machine.{Paged, OnlyHeapBytesChange}
 use Rattle.mapped_regions.specs.Shown.{shown}
 use Rattle.kernel_heap.specs.Layout.{IsKept}
 use Rattle.kernel_heap.specs.System.{paged}
@@ -19,7 +19,7 @@ invariant_of-self c = record {
 }
 
 pub returns-clause-still : goal.returns-clause-still
-returns-clause-still c = subst (IsStill (paged c.args.self.now)) (sym c.set_word.ensures.others) (still_stored (paged c.args.self.now) (shown c.set_word.new.self).words c.args.at c.args.value c.args.at c.args.self.now.kept c.requires refl
+returns-clause-still c = subst (OnlyHeapBytesChange (paged c.args.self.now)) (sym c.set_word.ensures.others) (still_stored (paged c.args.self.now) (shown c.set_word.new.self).words c.args.at c.args.value c.args.at c.args.self.now.kept c.requires refl
     c.set_word.ensures.size c.set_word.ensures.set c.set_word.ensures.walks c.set_word.ensures.tree c.set_word.ensures.stored c.set_word.ensures.other_words c.set_word.ensures.bytes)
 
 pub returns-clause-stored : goal.returns-clause-stored

@@ -1,5 +1,5 @@
 use Rattle.std.proofs.Common.{length, sym, subst}
-use Rattle.heap_model.specs.Machine.{Paged, IsStill}
+use Rattle.heap_model.specs.Machine.{Paged, OnlyHeapBytesChange}
 use Rattle.mapped_regions.specs.Shown.{shown}
 use Rattle.mapped_regions.specs.Mapped.{word_reached}
 use Rattle.kernel_heap.specs.Layout.{IsKept}
@@ -19,7 +19,7 @@ invariant_of-self c = record {
 }
 
 pub returns-clause-still : goal.returns-clause-still
-returns-clause-still c = subst (IsStill (paged c.args.self.now)) (sym c.set_words.ensures.others) (still_put (paged c.args.self.now) (shown c.set_words.new.self).words c.args.words.now c.args.at c.args.self.now.kept c.requires
+returns-clause-still c = subst (OnlyHeapBytesChange (paged c.args.self.now)) (sym c.set_words.ensures.others) (still_put (paged c.args.self.now) (shown c.set_words.new.self).words c.args.words.now c.args.at c.args.self.now.kept c.requires
     c.set_words.ensures.size c.set_words.ensures.set c.set_words.ensures.walks c.set_words.ensures.tree c.set_words.ensures.other_bytes)
 
 pub returns-clause-put : goal.returns-clause-put
