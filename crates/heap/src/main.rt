@@ -8,67 +8,72 @@ use heap_program::{ReaderSource, WriterSink, heap_main, status_text};
 use std::process::ExitCode;
 use std::{env, io};
 
-const VERSION: &str = "heap 0.1.0\n";
+const VERSION: &str = "\
+heap 0.1.0
+";
 
 const HELP: &str = "\
 heap 0.1.0: a kernel heap over four-level page tables in a modelled memory
 
-Usage: heap COMMAND
+Usage: heap run [BASE PAGES GRANULARITY FRAMES RATE]
+       heap gen SEED COUNT [BASE PAGES GRANULARITY FRAMES RATE]
 
-Commands:
-  run [BASE PAGES GRANULARITY FRAMES RATE]
-               answers each line of standard input on standard output, then
-               prints the regions, the free frames and the page tables. The
-               heap has PAGES pages from BASE on, asks for multiples of
-               GRANULARITY bytes over FRAMES frames, and frees RATE large
-               chunks between two release passes. The default is
-               0x400000 1024 65536 1024 4095.
-  gen SEED COUNT [BASE PAGES GRANULARITY FRAMES RATE]
-               draws COUNT calls from SEED, at most 1000000, in place of lines,
-               then prints how many calls there were, how many numbers they gave
-               and how many were refused, and then what `run` prints at its end
-  --help       prints this text
-  --version    prints the name and the version
+  run   answers each line of standard input on standard output, then prints the
+        regions, the free frames and the page tables. The heap has PAGES pages
+        from BASE on, asks for multiples of GRANULARITY bytes, over FRAMES
+        frames, and frees RATE large chunks between two release passes. The
+        default is 0x400000 1024 65536 1024 4095.
+  gen   draws COUNT calls from SEED, at most 1000000, in place of lines, then
+        prints how many calls there were, how many numbers they gave and how
+        many were refused, and then what run prints at its end.
 
-Lines:
-  malloc SIZE [ALIGN]       asks for a block of SIZE bytes at a multiple of
-                            ALIGN, 16 where none is given. The answer is
-                            `block NUMBER ADDRESS`. Where pages were granted,
-                            a second line has `heap` and each heap region as
-                            ADDRESS+PAGES.
-  calloc SIZE [ALIGN]       asks likewise, for bytes of value 0.
-  realloc BLOCK SIZE        gives the block another size. It keeps its number,
-                            its alignment, and the bytes that both sizes have.
-  c_realloc BLOCK SIZE      does likewise, at a multiple of 16.
-  free BLOCK                ends the block of this number. The answer is `done`.
+  --help         prints this text
+  --help lines   prints which lines there are, and their answers
+  --version      prints the name and the version
+
+Exit status: 0 ok, 1 usage, 2 bad window, 3 bad granularity, 4 too few frames,
+5 out of memory, 6 read fault, 7 write fault, 8 input too long (more than 2^30
+bytes)
+";
+
+const LINES: &str = "\
+The lines of `heap run`, and their answers:
+
+  malloc SIZE [ALIGN]       a block of SIZE bytes at a multiple of ALIGN, a
+                            power of two, or of 16: `block NUMBER ADDRESS`
+  calloc SIZE [ALIGN]       the same, with bytes of value 0
+  realloc BLOCK SIZE        another size for the block of this number. It keeps
+                            its number, its alignment, and the bytes that both
+                            sizes have: `block NUMBER ADDRESS`
+  c_realloc BLOCK SIZE      the same, at a multiple of 16
+  free BLOCK                ends the block: `done`
   write BLOCK OFFSET HEX    puts bytes, two hexadecimal digits each, into the
-                            block of this number. The answer is `done`.
-  read BLOCK OFFSET LENGTH  asks for bytes of a block. The answer is `bytes`
-                            and their digits.
-  map ADDRESS PAGES RIGHTS  maps pages of value 0 for the user from an address on.
-                            RIGHTS is r, then w or -, u or -, x or -. The answer
-                            is `done`.
-  unmap ADDRESS PAGES       unmaps these pages, which are those of one map. The
-                            answer is `done`.
+                            block: `done`
+  read BLOCK OFFSET LENGTH  bytes of the block: `bytes` and their digits
+  map ADDRESS PAGES RIGHTS  maps pages of value 0 for the user. RIGHTS is r,
+                            then w or -, u or -, x or -: `done`
+  unmap ADDRESS PAGES       unmaps the pages of one map: `done`
   probe ADDRESS ACCESS [user]
-                            looks at the byte at an address as an access does:
-                            read, write or fetch, by the user where the word
-                            stands there. The answer is `byte` and its digits,
-                            or `fault` and the page fault's code.
-  trim PAD                  gives memory back that no block needs, and keeps more
-                            than PAD bytes free at the heap's end. The answer is
-                            `trimmed true` where some went back, with a second
-                            line as for malloc, or `trimmed false`.
+                            looks at a byte as an access does: read, write or
+                            fetch, by the user if the word is there. `byte` and
+                            its digits, or `fault` and the page fault's code
+  trim PAD                  gives memory back that no block needs, and keeps
+                            more than PAD bytes free at the heap's end:
+                            `trimmed true` if some went back, else
+                            `trimmed false`
   rate N                    has N large chunks freed between two release passes
-                            from then on. The answer is `done`.
+                            from then on: `done`
   granularity N             has the heap ask for multiples of N bytes, a power
-                            of two of at least 16. The answer is `accepted true`,
-                            or `accepted false`, and then nothing changes.
+                            of two of at least 16: `accepted true`, or
+                            `accepted false`, and then nothing changes
   reset                     ends all blocks and gives all memory of the heap
-                            back. The answer is `released` and how many bytes.
-                            No number is given again.
-  extents                   asks for the extents of the heap. The answer is
-                            `extents` and each extent as KIND:ADDRESS+SIZE.
+                            back: `released` and how many bytes. No number is
+                            given again
+  extents                   the extents of the heap: `extents` and each as
+                            KIND:ADDRESS+SIZE
+
+If the heap's regions changed, a second line has `heap` and each region as
+ADDRESS+PAGES, or `heap none`.
 
 A refusal is `refused` and one of bad-align, too-large, no-space, no-frames,
 unknown-block, out-of-block, bad-range, heap-region, overlap, unknown-region and
@@ -78,12 +83,11 @@ A number is decimal, or 0x and hexadecimal digits, and below 2^64. Words stand
 between single spaces. Any other line, and one of more than 8192 bytes, is
 answered `bad line`.
 
-Exit status: 0 ok, 1 usage, 2 bad window, 3 bad granularity, 4 too few frames,
-5 out of memory, 6 read fault, 7 write fault, 8 input too long (more than 2^30
-bytes)
+At the end each region has a line, `region ADDRESS+PAGES heap`, or if the user's
+`region ADDRESS+PAGES user RIGHTS`. The last is `frames FREE tables TABLES`.
 ";
 
-/// The words behind the program's own name.
+/// The words after the program's own name.
 fn words(rt: &HostRuntime) -> io::Result<Vec<String>> {
     let mut words = Vec::new(rt.alloc());
     for word in env::args(rt)?.skip(1) {
@@ -103,7 +107,7 @@ fn status_of(error: &io::Error) -> u8
     }
 }
 
-/// Prints a text, and answers the status: 0, or 7 where the text could not be written.
+/// Prints a text, and answers the status: 0, or 7 if the text could not be written.
 fn show(rt: &impl Print, text: &str) -> u8
     ensures { (result ≡ 0) ⊎ (result ≡ 7) }
 {
@@ -118,6 +122,7 @@ fn status(rt: &HostRuntime, words: &[String]) -> u8
 {
     match words {
         [word] if word.as_str() == "--help" => show(rt, HELP),
+        [help, lines] if help.as_str() == "--help" && lines.as_str() == "lines" => show(rt, LINES),
         [word] if word.as_str() == "--version" => show(rt, VERSION),
         _ => {
             let mut source = ReaderSource::new(rt.reader());
@@ -127,7 +132,7 @@ fn status(rt: &HostRuntime, words: &[String]) -> u8
     }
 }
 
-/// Ends with a status, and says on standard error what it means where it is not 0. A text that cannot be written there
+/// Ends with a status, and says on standard error what it means if it is not 0. A text that cannot be written there
 /// changes nothing.
 fn exit_with(rt: &impl Eprint, status: u8) -> ExitCode
     requires { status ≤ 8 }
