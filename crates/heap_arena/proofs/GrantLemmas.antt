@@ -1,0 +1,106 @@
+-- Grants of a table, as it changes.
+use Rattle.std.specs.Prelude.{◌≡◌, ◌≢◌, ℕ, zero, suc, ◌+◌, ◌<◌, ◌≤◌, ◌⊎◌, Bool, true, false, not, if◌then◌else◌, List, [], ◌∷◌, ◌++◌, IsTrue, map, cond}
+use Rattle.std.specs.List.{AllByRecursion, filter}
+use Rattle.std.proofs.Common.{◌∙◌, ap, sym, subst, refl, inl, inr, arith}
+use Rattle.std.proofs.lemmas.Bool.Decides.{nat_tests}
+use Rattle.heap_memory.specs.declared.grant.Grant.{Grant}
+use Rattle.heap_memory.specs.Regions.{is_granted, is_whole, are_whole, are_ordered, with_grant, IsApart}
+use Rattle.heap_memory.specs.Runs.{begins_in, up_to, without, IsRun}
+use Rattle.heap_memory.specs.RegionLaws.{ordered_with, whole_with}
+use Rattle.heap_arena.specs.Grants.{grant_at, grants, are_between}
+
+-- grants that stand at the same places are the same
+pub grants_same : (old new : List ℕ) (count : ℕ) → ((k : ℕ) → k < count → grant_at new k ≡ grant_at old k) → grants new count ≡ grants old count
+unfolding grants
+grants_same old new zero same = refl
+grants_same old new (suc count) same =
+    ap (λ (rs : List Grant). rs ++ grant_at new count ∷ []) (grants_same old new count (λ k less. same k (omega arith)))
+    ∙ ap (λ (g : Grant). grants old count ++ g ∷ []) (same count (omega arith))
+
+-- a further one stands behind them
+grants_suc : (words : List ℕ) (count : ℕ) → grants words (suc count) ≡ grants words count ++ grant_at words count ∷ []
+unfolding grants
+grants_suc words count = refl
+
+pub grants_more : (words : List ℕ) (count : ℕ) → grants words (count + 1) ≡ grants words count ++ grant_at words count ∷ []
+grants_more words count = let next : count + 1 ≡ suc count = omega arith in ap (grants words) next ∙ grants_suc words count
+
+pub grants_none : (words : List ℕ) → grants words 0 ≡ []
+unfolding grants
+grants_none words = refl
+
+-- what is given back of grants and a further one
+pub without_more : (low high : ℕ) (regions : List Grant) (last : Grant) →
+    without low high (regions ++ last ∷ []) ≡ (if begins_in low high last then without low high regions else without low high regions ++ up_to low last ∷ [])
+without_more low high [] last = go (begins_in low high last)
+  where
+    go : (b : Bool) → map (λ region. up_to low region) (cond (not b) (last ∷ []) []) ≡ (if b then [] else up_to low last ∷ [])
+    go true = refl
+    go false = refl
+without_more low high (region ∷ regions) last = go (begins_in low high region) (begins_in low high last) (without_more low high regions last)
+  where
+    go : (b c : Bool) → map (λ r. up_to low r) (filter (λ r. not (begins_in low high r)) (regions ++ last ∷ [])) ≡ (if c then without low high regions else without low high regions ++ up_to low last ∷ []) →
+        map (λ r. up_to low r) (cond (not b) (region ∷ filter (λ r. not (begins_in low high r)) (regions ++ last ∷ [])) (filter (λ r. not (begins_in low high r)) (regions ++ last ∷ [])))
+        ≡ (if c then map (λ r. up_to low r) (cond (not b) (region ∷ filter (λ r. not (begins_in low high r)) regions) (filter (λ r. not (begins_in low high r)) regions))
+        else map (λ r. up_to low r) (cond (not b) (region ∷ filter (λ r. not (begins_in low high r)) regions) (filter (λ r. not (begins_in low high r)) regions)) ++ up_to low last ∷ [])
+    go true true rest = rest
+    go true false rest = rest
+    go false true rest = ap (λ (rs : List Grant). up_to low region ∷ rs) rest
+    go false false rest = ap (λ (rs : List Grant). up_to low region ∷ rs) rest
+
+-- a grant more of a table was looked at, and it stays, or is given back
+pub kept_more : (low high : ℕ) (initial old new : List ℕ) (i kept : ℕ) → grants old kept ≡ without low high (grants initial i) →
+    ((k : ℕ) → k ≢ kept → grant_at new k ≡ grant_at old k) → grant_at new kept ≡ up_to low (grant_at initial i) → begins_in low high (grant_at initial i) ≡ false →
+    grants new (kept + 1) ≡ without low high (grants initial (i + 1))
+kept_more low high initial old new i kept before others here stays =
+    let front : grants new kept ≡ without low high (grants initial i) = grants_same old new kept (λ k less. others k (λ same. omega (arith, less, same))) ∙ before in
+    let last : without low high (grants initial (i + 1)) ≡ without low high (grants initial i) ++ up_to low (grant_at initial i) ∷ [] =
+    ap (without low high) (grants_more initial i) ∙ (without_more low high (grants initial i) (grant_at initial i)
+    ∙ ap (λ (b : Bool). if b then without low high (grants initial i) else without low high (grants initial i) ++ up_to low (grant_at initial i) ∷ []) stays) in
+    grants_more new kept ∙ (ap (λ (rs : List Grant). rs ++ grant_at new kept ∷ []) front ∙ (ap (λ (g : Grant). without low high (grants initial i) ++ g ∷ []) here ∙ sym last))
+
+pub left_more : (low high : ℕ) (initial : List ℕ) (i : ℕ) → begins_in low high (grant_at initial i) ≡ true → without low high (grants initial (i + 1)) ≡ without low high (grants initial i)
+left_more low high initial i leaves =
+    ap (without low high) (grants_more initial i) ∙ (without_more low high (grants initial i) (grant_at initial i)
+    ∙ ap (λ (b : Bool). if b then without low high (grants initial i) else without low high (grants initial i) ++ up_to low (grant_at initial i) ∷ []) leaves)
+
+-- ---- grants between two addresses
+
+-- a granted byte is between the addresses between which the grants are
+pub granted_between : (low high : ℕ) (regions : List Grant) (at : ℕ) → IsTrue (are_between low high regions) → IsTrue (is_granted regions at) → (low ≤ at) × (at < high)
+granted_between low high [] at between granted = cc
+granted_between low high (region ∷ regions) at between granted = grind (arith, nat_tests, granted_between low high regions at)
+
+-- a grant behind all others is the last
+pub with_last : (low top : ℕ) (grant : Grant) (regions : List Grant) → top ≤ grant.base → IsTrue (are_between low top regions) → with_grant grant regions ≡ regions ++ grant ∷ []
+with_last low top grant [] behind between = refl
+with_last low top grant (region ∷ regions) behind between = grind (arith, nat_tests, with_last low top grant regions)
+
+-- it is apart from them
+pub apart_between : (low top from to : ℕ) (regions : List Grant) → top ≤ from → IsTrue (are_between low top regions) → AllByRecursion (IsApart from to) regions
+apart_between low top from to [] behind between = tt
+apart_between low top from to (region ∷ regions) behind between = (inl (grind (arith, nat_tests)), apart_between low top from to regions behind (grind (arith, nat_tests)))
+
+pub between_more : (low top end : ℕ) (regions : List Grant) (grant : Grant) → IsTrue (are_between low top regions) → low ≤ grant.base → top ≤ end → grant.base + grant.size ≤ end → IsTrue (are_between low end (regions ++ grant ∷ []))
+between_more low top end [] grant between begins more ends = grind (arith, nat_tests)
+between_more low top end (region ∷ regions) grant between begins more ends = grind (arith, nat_tests, between_more low top end regions grant)
+
+pub ordered_more : (low top : ℕ) (grant : Grant) (regions : List Grant) → top ≤ grant.base → 0 < grant.size → IsTrue (are_between low top regions) → IsTrue (are_ordered regions) → IsTrue (are_ordered (regions ++ grant ∷ []))
+ordered_more low top grant regions behind some between ordered =
+    subst (λ (rs : List Grant). IsTrue (are_ordered rs)) (with_last low top grant regions behind between)
+    (ordered_with grant regions some (apart_between low top grant.base (grant.base + grant.size) regions behind between) ordered)
+
+pub whole_more : (low top : ℕ) (grant : Grant) (regions : List Grant) → top ≤ grant.base → IsTrue (are_between low top regions) → IsTrue (is_whole grant) → IsTrue (are_whole regions) → IsTrue (are_whole (regions ++ grant ∷ []))
+whole_more low top grant regions behind between here whole =
+    subst (λ (rs : List Grant). IsTrue (are_whole rs)) (with_last low top grant regions behind between) (whole_with grant regions here whole)
+
+-- a run begins at the grants' first address at least
+pub run_within : (base top low high : ℕ) (regions : List Grant) → IsTrue (are_between base top regions) → IsRun regions low high → base ≤ low
+run_within base top low high regions between run = (granted_between base top regions low between (run.granted low (omega arith) run.some)).0
+
+-- what is given back at the end leaves grants up to there, and else up to the same address
+pub between_without : (base top low high end : ℕ) (regions : List Grant) → IsTrue (are_whole regions) → IsTrue (are_between base top regions) → ((high ≡ top) × (end ≡ low)) ⊎ (end ≡ top) →
+    IsTrue (are_between base end (without low high regions))
+between_without base top low high end [] whole between how = refl
+between_without base top low high end (region ∷ regions) whole between (inl same) = grind (arith, nat_tests, between_without base top low high end regions)
+between_without base top low high end (region ∷ regions) whole between (inr same) = grind (arith, nat_tests, between_without base top low high end regions)

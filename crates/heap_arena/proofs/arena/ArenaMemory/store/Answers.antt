@@ -1,0 +1,22 @@
+use Rattle.std.proofs.Common.{◌-◌, ◌/◌, arith}
+use Rattle.std.proofs.lemmas.List.{get_or-set_same, get_or-set_other}
+use Rattle.heap_arena.specs.Arena.{regions_of}
+use Rattle.heap_arena.proofs.GrantLemmas.{granted_between}
+use Rattle.heap_arena.proofs.arena.ArenaMemory.store.Goals as goal
+
+pub returns-clause-stored : goal.returns-clause-stored
+returns-clause-stored c =
+    let arena = c.args.self.now in
+    let words = arena.words.now in
+    let base = arena.base in
+    let at = c.args.at in
+    let within = granted_between base arena.top (regions_of arena) at arena.between c.requires.granted in
+    let end = arena.ends in
+    let begin = arena.aligned in
+    let whole = c.requires.aligned in record {
+      here = get_or-set_same words ((at - base) / 8) c.args.value 0 (omega (arith, within.0, within.1, end, begin, whole));
+      elsewhere = λ other is differ.
+          let other_within = granted_between base arena.top (regions_of arena) other arena.between is.granted in
+          let other_whole = is.aligned in
+          get_or-set_other words ((at - base) / 8) ((other - base) / 8) c.args.value 0 (λ same. differ (omega (arith, same, within.0, other_within.0, begin, whole, other_whole)));
+    }

@@ -1,0 +1,24 @@
+use Rattle.std.proofs.Common.{◌+◌, arith}
+use Rattle.std.proofs.lemmas.Bool.Decides.{nat_tests}
+use Rattle.heap_memory.specs.declared.grant.Grant.{Grant}
+use Rattle.heap_arena.specs.Arena.{regions_of}
+use Rattle.heap_arena.proofs.GrantLemmas.{whole_more, ordered_more, between_more}
+use Rattle.heap_arena.proofs.arena_allocator.ArenaAllocator.alloc.Goals as goal
+
+pub invariant_of-self-clause-whole : goal.invariant_of-self-clause-whole
+invariant_of-self-clause-whole c =
+    let arena = c.args.self.now in
+    let grant : Grant = record { base = arena.top; size = c.args.size; flags = 0 } in
+    rw c.push.ensures.grants (whole_more arena.base arena.top grant (regions_of arena) (omega arith) arena.between (let top = arena.top_aligned in let begins = arena.begins in let low = arena.low in let high = arena.high in let size = c.requires.whole in let some = c.requires.some in grind (arith, nat_tests)) arena.whole)
+
+pub invariant_of-self-clause-ordered : goal.invariant_of-self-clause-ordered
+invariant_of-self-clause-ordered c =
+    let arena = c.args.self.now in
+    let grant : Grant = record { base = arena.top; size = c.args.size; flags = 0 } in
+    rw c.push.ensures.grants (ordered_more arena.base arena.top grant (regions_of arena) (omega arith) c.requires.some arena.between arena.ordered)
+
+pub invariant_of-self-clause-between : goal.invariant_of-self-clause-between
+invariant_of-self-clause-between c =
+    let arena = c.args.self.now in
+    let grant : Grant = record { base = arena.top; size = c.args.size; flags = 0 } in
+    rw c.push.ensures.grants (between_more arena.base arena.top (arena.top + c.args.size) (regions_of arena) grant arena.between arena.begins (omega arith) (omega arith))

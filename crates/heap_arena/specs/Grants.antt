@@ -1,0 +1,17 @@
+-- Grants in the words of a table (own).
+use Rattle.std.specs.Prelude.{ℕ, zero, suc, ◌+◌, ◌*◌, Bool, ◌&&◌, nat_le, List, [], ◌∷◌, ◌++◌, slice_index}
+use Rattle.std.specs.List.{list_all}
+use Rattle.heap_memory.specs.declared.grant.Grant.{Grant}
+
+-- the grant at a place of a table: its base, and behind it its size
+abbrev pub grant_at : List ℕ → ℕ → Grant
+grant_at words place = record { base = slice_index words (2 * place); size = slice_index words (2 * place + 1); flags = 0 }
+
+-- the first so many of them
+unfoldable pub grants : List ℕ → ℕ → List Grant
+grants words zero = []
+grants words (suc count) = grants words count ++ grant_at words count ∷ []
+
+-- whether grants stand from one address up to another
+abbrev pub are_between : ℕ → ℕ → List Grant → Bool
+are_between low high regions = list_all (λ region. nat_le low region.base && nat_le (region.base + region.size) high) regions

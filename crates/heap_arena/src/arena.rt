@@ -1,0 +1,165 @@
+// A system over words that the caller gives.
+ghost use Rattle.std.specs.Prelude.{◌≡◌, ℕ, ◌+◌, ◌-◌, ◌*◌, ◌/◌, ◌%◌, ◌^◌, ◌<◌, ◌≤◌, ◌==◌, if◌then◌else◌, true, [], IsTrue, length, slice_set};
+ghost use Rattle.heap_memory.specs.Regions.{are_whole, are_ordered};
+ghost use Rattle.heap_arena.specs.Grants.{grants, are_between};
+
+use crate::table::Table;
+use heap_memory::{Links, Memory};
+use std::sync::ledger::Ledger;
+use step_count::Steps;
+
+/// Words that the caller gives, at addresses from `base` on.
+///
+/// Each request is granted as many bytes as it asks for, behind all grants. Each grant is noted in a table, in two words
+/// that the caller gives too. Where the words end before a grant would, and where the table is full, it is denied as
+/// `NoSpace`. All that is given back is taken; what ends where the last grant does is granted anew.
+#[derive(Drop)]
+pub struct Arena<'a> {
+    pub(crate) words: &'a mut [u64],
+    pub(crate) table: Table<'a>,
+    pub(crate) base: u64,
+    /// The address behind the last grant, where the next one begins.
+    pub(crate) top: u64,
+    ghost aligned: { base % 16 ≡ 0 },
+    ghost low: { 4096 ≤ base },
+    ghost begins: { base ≤ top },
+    ghost top_aligned: { top % 16 ≡ 0 },
+    ghost ends: { top ≤ base + 8 * length words.now },
+    ghost high: { base + 8 * length words.now < 2 ^ 64 },
+    ghost whole: { IsTrue (are_whole (grants table.words.now table.count)) },
+    ghost ordered: { IsTrue (are_ordered (grants table.words.now table.count)) },
+    ghost between: { IsTrue (are_between base top (grants table.words.now table.count)) },
+}
+
+impl<'a> Arena<'a> {
+    ghost use Rattle.heap_memory.specs.Runs.{without};
+    ghost use Rattle.heap_arena.specs.Arena.{regions_of, IsAbove, AreInside};
+
+    /// A system over these words, the first of them at the address `base`, of which none is granted yet. The table has a
+    /// place for each two of its words.
+    pub fn new(words: &'a mut [u64], table: &'a mut [u64], base: u64) -> Arena<'a>
+        requires aligned { base % 16 ≡ 0 }
+        requires low { 4096 ≤ base }
+        requires high { base + 8 * length words.now < 2 ^ 64 }
+        ensures regions { regions_of result ≡ [] }
+        ensures words { result.words.now ≡ words.entry.now }
+        ensures table { result.table.words.now ≡ table.entry.now }
+        ensures base { result.base ≡ base }
+        ensures top { result.top ≡ base }
+    {
+        Arena {
+            words,
+            table: Table::new(table),
+            base,
+            top: base,
+        }
+    }
+
+    /// How many words from the front are in use: each granted byte is in them, and the next grant begins behind them.
+    #[tactic(auto, using(crate::proofs::GrantLemmas::granted_between))]
+    pub fn used(&self) -> usize
+        ensures top { self.now.base + 8 * result ≡ self.now.top }
+        ensures above { IsAbove self.now (self.now.base + 8 * result) }
+    {
+        ((self.top - self.base) / 8) as usize
+    }
+
+    /// The address of the first word.
+    pub fn base(&self) -> u64
+        ensures { result ≡ self.now.base }
+    {
+        self.base
+    }
+
+    /// Each granted byte is in the words, and the first word is at a multiple of 16.
+    #[tactic(auto, using(crate::proofs::GrantLemmas::granted_between))]
+    pub fn grants_are_inside(&self)
+        ensures inside { AreInside self.now }
+        ensures aligned { self.now.base % 16 ≡ 0 }
+    {}
+
+    /// The bytes behind all grants.
+    pub(crate) fn rest(&self) -> u64
+        ensures { self.now.top + result ≡ self.now.base + 8 * length self.now.words.now }
+    {
+        self.base + 8 * self.words.len() as u64 - self.top
+    }
+
+    /// Takes the bytes from `low` on and below `high`, the end of a run, back. They are granted anew where they end at the
+    /// top.
+    pub(crate) fn take_back(&mut self, low: u64, high: u64)
+        requires whole { low % 16 ≡ 0 }
+        requires within { self.old.base ≤ low }
+        requires some { low ≤ high }
+        ensures regions { regions_of self.new ≡ without low high (regions_of self.old) }
+        ensures words { self.new.words.now ≡ self.old.words.now }
+        ensures base { self.new.base ≡ self.old.base }
+        ensures top { self.new.top ≡ (if high == self.old.top then low else self.old.top) }
+    {
+        self.table.give_back(low, high);
+        if high == self.top {
+            self.top = low;
+        }
+    }
+}
+
+impl<'a> Links for Arena<'a> {
+    ghost use Rattle.heap_memory.specs.Regions.{IsWordOf};
+    ghost use Rattle.heap_memory.specs.Words.{IsStored};
+    ghost use Rattle.heap_arena.specs.Arena.{regions_of, word_of, IsSameArena, same_none, same_on};
+
+    ghost regions = { λ arena. regions_of arena };
+
+    ghost word = { λ arena at. word_of arena at };
+
+    ghost whole = { λ arena. arena.whole };
+
+    ghost follows = { λ old events new. IsSameArena old new };
+
+    ghost follows_none = { λ x. same_none x };
+
+    ghost follows_on = { λ x y z a b c first second is. same_on x y z first second };
+
+    fn load_counted<L: Ledger>(&self, at: u64, steps: &mut Steps<L>) -> u64 {
+        steps.tick();
+        self.load(at)
+    }
+
+    /// Puts a word at an address, and changes no other, granted or not.
+    fn store_counted<L: Ledger>(&mut self, at: u64, value: u64, steps: &mut Steps<L>)
+        requires { IsWordOf (regions_of self.old) at }
+        ensures stored { IsStored (regions_of self.old) (word_of self.old) at value (word_of self.new) }
+        ensures regions { regions_of self.new ≡ regions_of self.old }
+        ensures follows { IsSameArena self.old self.new }
+        ensures words { self.new.words.now ≡ slice_set self.old.words.now ((at - self.old.base) / 8) value }
+        ensures top { self.new.top ≡ self.old.top }
+        ensures counted { steps.new ≡ steps.old + 1 }
+    {
+        self.store(at, value);
+        steps.tick()
+    }
+}
+
+impl<'a> Memory for Arena<'a> {
+    ghost use Rattle.heap_memory.specs.Regions.{IsWordOf};
+    ghost use Rattle.heap_memory.specs.Words.{IsStored};
+    ghost use Rattle.heap_arena.specs.Arena.{regions_of, word_of, IsSameArena};
+
+    #[tactic(auto, using(crate::proofs::GrantLemmas::granted_between))]
+    fn load(&self, at: u64) -> u64 {
+        self.words[((at - self.base) / 8) as usize]
+    }
+
+    /// Puts a word at an address, and changes no other, granted or not.
+    #[tactic(auto, using(crate::proofs::GrantLemmas::granted_between))]
+    fn store(&mut self, at: u64, value: u64)
+        requires { IsWordOf (regions_of self.old) at }
+        ensures stored { IsStored (regions_of self.old) (word_of self.old) at value (word_of self.new) }
+        ensures regions { regions_of self.new ≡ regions_of self.old }
+        ensures follows { IsSameArena self.old self.new }
+        ensures words { self.new.words.now ≡ slice_set self.old.words.now ((at - self.old.base) / 8) value }
+        ensures top { self.new.top ≡ self.old.top }
+    {
+        self.words[((at - self.base) / 8) as usize] = value;
+    }
+}

@@ -1,0 +1,113 @@
+// What an arena grants and takes back.
+ghost use Rattle.std.specs.Prelude.{◌≡◌, ◌≢◌, ℕ, ◌+◌, ◌*◌, ◌%◌, ◌<◌, ◌≤◌, ◌==◌, true, false, if◌then◌else◌, IfOk, IfErr, OnErr, IsTrue, length, refl};
+ghost use Rattle.std.specs.Int.{is_power_of_two};
+ghost use Rattle.std.specs.List.{AllByRecursion};
+ghost use Rattle.heap_memory.specs.Regions.{IsWordOf, IsApart, IsGoodGrant, with_grant};
+ghost use Rattle.heap_memory.specs.Runs.{IsRun, is_in_units, without};
+
+use crate::arena::Arena;
+use heap_memory::{Allocator, Grant, GrantFault};
+
+impl<'a> Allocator for Arena<'a> {
+    ghost use Rattle.heap_arena.specs.Arena.{regions_of, word_of, IsSameArena, IsDenied, same_fixed};
+
+    ghost denies = { λ arena size fault. IsDenied arena size fault };
+
+    ghost zeros = { λ arena. false };
+
+    ghost frees = { λ arena. true };
+
+    ghost unit = { λ arena. 1 };
+
+    ghost parts = { λ arena. true };
+
+    ghost refuses = { λ old new. new ≡ old };
+
+    ghost refuses_none = { λ arena. refl };
+
+    ghost ordered = { λ arena. arena.ordered };
+
+    ghost fixed = { λ x y events follows. same_fixed x y };
+
+    /// The bytes behind all grants, as many as are asked for. A denial changes nothing.
+    #[tactic(auto, using(crate::proofs::GrantLemmas::with_last, crate::proofs::GrantLemmas::apart_between))]
+    fn alloc(&mut self, size: u64) -> Result<Grant, GrantFault>
+        requires some { 0 < size }
+        requires whole { size % 16 ≡ 0 }
+        ensures place { IfOk result (λ grant. grant ≡ record { base = self.old.top; size = size; flags = 0 }) }
+        ensures top { IfOk result (λ grant. self.new.top ≡ self.old.top + size) }
+        ensures good { IfOk result (λ grant. IsGoodGrant size grant) }
+        ensures apart { IfOk result (λ grant. AllByRecursion (IsApart grant.base (grant.base + grant.size)) (regions_of self.old)) }
+        ensures regions { IfOk result (λ grant. regions_of self.new ≡ with_grant grant (regions_of self.old)) }
+        ensures zeros { IfOk result (λ grant. false ≡ true → (at : ℕ) → grant.base ≤ at → at < grant.base + grant.size → at % 8 ≡ 0 → word_of self.new at ≡ 0) }
+        ensures follows { IfOk result (λ grant. IsSameArena self.old self.new) }
+        ensures words { (at : ℕ) → IsWordOf (regions_of self.old) at → word_of self.new at ≡ word_of self.old at }
+        ensures all_words { self.new.words.now ≡ self.old.words.now }
+        ensures same { OnErr result (self.new ≡ self.old) }
+        ensures err { OnErr result (regions_of self.new ≡ regions_of self.old) }
+        ensures err_follows { OnErr result (IsSameArena self.old self.new) }
+        ensures refused { IfErr result (λ fault. IsDenied self.old size fault) }
+        ensures denied { IfErr result (λ fault. fault ≢ GrantFault.OutOfMemory → IsDenied self.old size fault) }
+    {
+        if self.rest() < size || !self.table.has_room() {
+            return Err(GrantFault::NoSpace);
+        }
+        let grant = Grant {
+            base: self.top,
+            size,
+            flags: 0,
+        };
+        self.table.push(grant);
+        self.top += size;
+        Ok(grant)
+    }
+
+    /// Takes the end of a run back, whatever its size. Where the run ends at the top, the top is the end of what stays.
+    fn free_part(&mut self, at: u64, old_size: u64, new_size: u64) -> bool
+        requires run { IsRun (regions_of self.old) at (at + old_size) }
+        requires some { 0 < new_size }
+        requires within { new_size ≤ old_size }
+        requires whole { new_size % 16 ≡ 0 }
+        ensures answer { result ≡ is_in_units 1 new_size }
+        ensures regions { regions_of self.new ≡ without (at + new_size) (at + old_size) (regions_of self.old) }
+        ensures words { (k : ℕ) → IsWordOf (regions_of self.new) k → word_of self.new k ≡ word_of self.old k }
+        ensures all_words { self.new.words.now ≡ self.old.words.now }
+        ensures follows { IsSameArena self.old self.new }
+        ensures same { result ≡ false → self.new ≡ self.old }
+        ensures top { self.new.top ≡ (if at + old_size == self.old.top then at + new_size else self.old.top) }
+    {
+        self.take_back(at + new_size, at + old_size);
+        true
+    }
+
+    /// Takes a run back. Where it ends at the top, the top is where it began.
+    fn free(&mut self, at: u64, size: u64) -> bool
+        requires { IsRun (regions_of self.old) at (at + size) }
+        ensures answer { result ≡ true }
+        ensures regions { regions_of self.new ≡ without at (at + size) (regions_of self.old) }
+        ensures words { (k : ℕ) → IsWordOf (regions_of self.new) k → word_of self.new k ≡ word_of self.old k }
+        ensures all_words { self.new.words.now ≡ self.old.words.now }
+        ensures follows { IsSameArena self.old self.new }
+        ensures same { result ≡ false → self.new ≡ self.old }
+        ensures top { self.new.top ≡ (if at + size == self.old.top then at else self.old.top) }
+    {
+        self.take_back(at, at + size);
+        true
+    }
+
+    fn can_release_part(&self, flags: u32) -> bool {
+        true
+    }
+
+    fn allocates_zeros(&self) -> bool {
+        false
+    }
+
+    /// No page is of a size of its own: what is granted is told by what is asked.
+    fn page_size(&self) -> u64
+        ensures page { result ≡ 4096 }
+        ensures power { IsTrue (is_power_of_two result) }
+    {
+        4096
+    }
+}

@@ -1,0 +1,73 @@
+-- How many addresses pass a test, as one more passes.
+use Rattle.std.specs.Prelude.{◌≡◌, ◌≢◌, ℕ, zero, suc, ◌+◌, ◌^◌, ◌<◌, ◌≤◌, ◌⊎◌, Bool, true, false, if◌then◌else◌}
+use Rattle.std.proofs.Common.{◌∙◌, ap, sym, refl, inl, inr, arith}
+use Rattle.std.proofs.lemmas.Bool.{cases_eq}
+use Rattle.dlmalloc.specs.State.{HeapState}
+use Rattle.heap_library.specs.Library.{HasBlock}
+use Rattle.heap_library.specs.Counted.{counted, HasBlocks}
+
+counted_suc : (test : ℕ → Bool) (n : ℕ) → counted test (suc n) ≡ counted test n + (if test n then 1 else 0)
+unfolding counted
+counted_suc test n = refl
+
+counted_zero : (test : ℕ → Bool) → counted test 0 ≡ 0
+unfolding counted
+counted_zero test = refl
+
+pub counted_same : (one other : ℕ → Bool) (n : ℕ) → ((k : ℕ) → k < n → other k ≡ one k) → counted other n ≡ counted one n
+counted_same one other zero same = counted_zero other ∙ sym (counted_zero one)
+counted_same one other (suc n) same =
+    let rest = counted_same one other n (λ k less. same k (omega arith)) in
+    let bit = ap {B = ℕ} (λ (b : Bool). if b then 1 else 0) (same n (omega arith)) in
+    omega (arith, counted_suc one n, counted_suc other n, rest, bit)
+
+pub counted_none : (test : ℕ → Bool) (n : ℕ) → ((k : ℕ) → test k ≡ false) → counted test n ≡ 0
+counted_none test zero none = counted_zero test
+counted_none test (suc n) none =
+    let rest = counted_none test n none in
+    let bit = ap {B = ℕ} (λ (b : Bool). if b then 1 else 0) (none n) in
+    omega (arith, counted_suc test n, rest, bit)
+
+pub counted_more : (less more : ℕ → Bool) (n at : ℕ) → at < n → less at ≡ false → more at ≡ true → ((k : ℕ) → k ≢ at → more k ≡ less k) → counted more n ≡ counted less n + 1
+counted_more less more zero at below not_yet now same = absurd (omega (arith, below))
+counted_more less more (suc n) at below not_yet now same = go (cases_eq at n) (λ before. counted_more less more n at before not_yet now same)
+  where
+    go : (at ≡ n) ⊎ (at ≡ n → ⊥) → (at < n → counted more n ≡ counted less n + 1) → counted more (suc n) ≡ counted less (suc n) + 1
+    go (inl last) earlier =
+        let rest = counted_same less more n (λ k before. same k (λ is. omega (arith, is, before, last))) in
+        let zero_bit = ap {B = ℕ} (λ (b : Bool). if b then 1 else 0) (ap less (sym last) ∙ not_yet) in
+        let one_bit = ap {B = ℕ} (λ (b : Bool). if b then 1 else 0) (ap more (sym last) ∙ now) in
+        omega (arith, counted_suc less n, counted_suc more n, rest, zero_bit, one_bit)
+    go (inr before) earlier =
+        let rest = earlier (omega (arith, below, before)) in
+        let bit = ap {B = ℕ} (λ (b : Bool). if b then 1 else 0) (same n (λ is. before (sym is))) in
+        omega (arith, counted_suc less n, counted_suc more n, rest, bit)
+
+at_most_one : (b : Bool) → (if b then 1 else 0) ≤ 1
+at_most_one true = omega arith
+at_most_one false = omega arith
+
+at_most : (test : ℕ → Bool) (n : ℕ) → counted test n ≤ n
+at_most test zero = omega (arith, counted_zero test)
+at_most test (suc n) = omega (arith, counted_suc test n, at_most test n, at_most_one (test n))
+
+-- where one does not pass, not all do
+pub counted_below : (test : ℕ → Bool) (n at : ℕ) → at < n → test at ≡ false → counted test n < n
+counted_below test zero at below not_so = absurd (omega (arith, below))
+counted_below test (suc n) at below not_so = go (cases_eq at n) (λ before. counted_below test n at before not_so)
+  where
+    go : (at ≡ n) ⊎ (at ≡ n → ⊥) → (at < n → counted test n < n) → counted test (suc n) < suc n
+    go (inl last) earlier =
+        let bit = ap {B = ℕ} (λ (b : Bool). if b then 1 else 0) (ap test (sym last) ∙ not_so) in
+        omega (arith, counted_suc test n, at_most test n, bit)
+    go (inr before) earlier = omega (arith, counted_suc test n, earlier (omega (arith, below, before)), at_most_one (test n))
+
+-- two tests that tell the blocks of a heap count the same
+pub has_blocks : (heap : HeapState) (test : ℕ → Bool) (count : ℕ) → ((a : ℕ) → test a ≡ true → HasBlock heap a) → ((a : ℕ) → HasBlock heap a → test a ≡ true) → count ≡ counted test (2 ^ 64) → HasBlocks heap count
+has_blocks heap test count to from is other tells = is ∙ sym (counted_same test other (2 ^ 64) (λ k less. go k (test k) (other k) refl refl))
+  where
+    go : (k : ℕ) (b c : Bool) → test k ≡ b → other k ≡ c → other k ≡ test k
+    go k true true t o = o ∙ sym t
+    go k false false t o = o ∙ sym t
+    go k true false t o = absurd (let yes : other k ≡ true = (tells k).1 (to k t) in cc)
+    go k false true t o = absurd (let yes : test k ≡ true = from k ((tells k).0 o) in cc)

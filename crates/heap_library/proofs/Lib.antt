@@ -1,0 +1,5 @@
+mod BlockWords
+mod Cleared
+mod Counting
+mod MarkLemmas
+mod Marking

@@ -1,0 +1,29 @@
+use Rattle.std.proofs.Common.{subst, arith}
+use Rattle.dlmalloc.specs.Requested.{IsHandedOut, IsServedAt}
+use Rattle.heap_arena.specs.Arena.{regions_of, word_of}
+use Rattle.heap_library.specs.Checked.{zeros, follows}
+use Rattle.heap_library.proofs.Marking.{made_unmarked, made_marked, unserved_marked}
+use Rattle.heap_library.proofs.checked.CheckedHeap.malloc.Goals as goal
+
+pub mark-requires-clause-unmarked : goal.mark-requires-clause-unmarked
+mark-requires-clause-unmarked c =
+    let marks = c.self.inside.marks in
+    made_unmarked marks.base marks.words.now marks.count c.self.inside.heap c.malloc.new.self c.self.invariant c.args.size c.args.align c.in-Ok.address c.in-Ok.ensures.ok
+
+pub mark-requires-clause-granted : goal.mark-requires-clause-granted
+mark-requires-clause-granted c = let out = c.in-Ok.ensures.ok in out.granted c.in-Ok.address (omega arith) (omega arith)
+
+pub invariant_of-self : goal.invariant_of-self
+invariant_of-self c =
+    let marks = c.self.inside.marks in
+    made_marked marks.base marks.words.now marks.count c.self.inside.heap c.malloc.new.self c.self.invariant c.mark.new.marks.base c.mark.new.marks.words.now c.mark.new.marks.count c.mark.ensures.base c.mark.ensures.len c.mark.ensures.counted
+    c.args.size c.args.align c.in-Ok.address c.in-Ok.ensures.ok c.mark.ensures.here c.mark.ensures.others
+
+pub invariant_of-self-in-Err : goal.invariant_of-self-in-Err
+invariant_of-self-in-Err c = unserved_marked c.self.inside.marks.base c.self.inside.marks.words.now c.self.inside.marks.count c.self.inside.heap c.malloc.new.self c.self.invariant c.args.size c.args.align c.in-Err.error c.in-Err.ensures.err
+
+pub returns-in-Ok-clause-ok : goal.returns-in-Ok-clause-ok
+returns-in-Ok-clause-ok c = subst (λ heap. IsHandedOut regions_of word_of follows heap c.args.size c.args.align c.in-Ok.address c.malloc.new.self) c.self.view_is c.in-Ok.ensures.ok
+
+pub returns-in-Ok-clause-served : goal.returns-in-Ok-clause-served
+returns-in-Ok-clause-served c = subst (λ heap. IsServedAt regions_of word_of zeros follows heap c.args.size c.args.align c.in-Ok.address c.malloc.new.self) c.self.view_is c.in-Ok.ensures.served

@@ -1,0 +1,69 @@
+use Rattle.std.proofs.Common.{◌∙◌, subst, sym, true, arith}
+use Rattle.dlmalloc.specs.Blocks.{BlocksAreApart}
+use Rattle.dlmalloc.specs.Moved.{IsGivenSize, IsResized}
+use Rattle.heap_arena.specs.Arena.{regions_of, word_of}
+use Rattle.heap_library.specs.Library.{HasBlock, usable}
+use Rattle.heap_library.specs.Checked.{zeros, follows, heap_state}
+use Rattle.heap_library.proofs.MarkLemmas.{place_of_mark}
+use Rattle.heap_library.proofs.Marking.{resized_same, moved_unmarked, moved_marked, unresized_marked}
+use Rattle.heap_library.proofs.checked.CheckedHeap.realloc.Goals as goal
+
+pub returns-then-not-has_block-clause-apart : goal.returns-then-not-has_block-clause-apart
+returns-then-not-has_block-clause-apart c = subst (λ heap. BlocksAreApart (heap_state heap)) c.self.view_is c.blocks_are_apart.ensures
+
+pub clear-requires-clause-place : goal.clear-requires-clause-place
+clear-requires-clause-place c =
+    let block = subst (λ heap. HasBlock (heap_state heap) c.args.from) (sym c.self.view_is) (c.has_block.ensures.0 c.if-not-has_block.false) in
+    place_of_mark c.self.inside.marks.base c.self.inside.marks.words.now c.args.from (c.self.invariant.marked c.args.from block)
+
+pub clear-requires-clause-marked : goal.clear-requires-clause-marked
+clear-requires-clause-marked c =
+    let block = subst (λ heap. HasBlock (heap_state heap) c.args.from) (sym c.self.view_is) (c.has_block.ensures.0 c.if-not-has_block.false) in
+    c.self.invariant.marked c.args.from block
+
+pub mark-requires-clause-some : goal.mark-requires-clause-some
+mark-requires-clause-some c = let same = c.clear.ensures.base in let some = c.self.invariant.some in omega (arith, same, some)
+
+pub mark-requires-clause-unmarked : goal.mark-requires-clause-unmarked
+mark-requires-clause-unmarked c =
+    let marks = c.self.inside.marks in
+    let heap = c.self.inside.heap in
+    let block = subst (λ heap. HasBlock (heap_state heap) c.args.from) (sym c.self.view_is) (c.has_block.ensures.0 c.if-not-has_block.false) in
+    moved_unmarked marks.base marks.words.now marks.count heap c.realloc.new.self c.self.invariant c.args.from (usable (heap_state heap) c.args.from) c.args.size c.in-Ok.to c.clear.new.self.base c.clear.new.self.words.now
+    block c.in-Ok.ensures.ok c.clear.ensures.here c.clear.ensures.others
+
+pub mark-requires-clause-base : goal.mark-requires-clause-base
+mark-requires-clause-base c =
+    let heap = c.self.inside.heap in
+    (resized_same heap c.realloc.new.self c.args.from (usable (heap_state heap) c.args.from) c.args.size c.in-Ok.to c.in-Ok.ensures.ok).base ∙ (c.self.invariant.base_is ∙ sym c.clear.ensures.base)
+
+pub mark-requires-clause-room : goal.mark-requires-clause-room
+mark-requires-clause-room c =
+    let heap = c.self.inside.heap in
+    let same = (resized_same heap c.realloc.new.self c.args.from (usable (heap_state heap) c.args.from) c.args.size c.in-Ok.to c.in-Ok.ensures.ok).len in
+    let room = c.self.invariant.room in
+    let len = c.clear.ensures.len in
+    omega (arith, same, room, len)
+
+pub invariant_of-self : goal.invariant_of-self
+invariant_of-self c =
+    let marks = c.self.inside.marks in
+    let heap = c.self.inside.heap in
+    let block = subst (λ heap. HasBlock (heap_state heap) c.args.from) (sym c.self.view_is) (c.has_block.ensures.0 c.if-not-has_block.false) in
+    moved_marked marks.base marks.words.now marks.count heap c.realloc.new.self c.self.invariant c.mark.new.marks.base c.mark.new.marks.words.now c.mark.new.marks.count (c.mark.ensures.base ∙ c.clear.ensures.base) (c.mark.ensures.len ∙ c.clear.ensures.len) c.mark.ensures.counted
+    c.args.from (usable (heap_state heap) c.args.from) c.args.size c.in-Ok.to c.clear.new.self.base c.clear.new.self.words.now block c.in-Ok.ensures.ok
+    c.clear.ensures.here c.clear.ensures.others c.mark.ensures.here c.mark.ensures.others
+
+pub invariant_of-self-in-Err : goal.invariant_of-self-in-Err
+invariant_of-self-in-Err c = unresized_marked c.self.inside.marks.base c.self.inside.marks.words.now c.self.inside.marks.count c.self.inside.heap c.realloc.new.self c.self.invariant c.args.from c.args.size c.in-Err.refusal c.in-Err.ensures.err
+
+pub returns-in-Ok-clause-block : goal.returns-in-Ok-clause-block
+returns-in-Ok-clause-block c = c.has_block.ensures.0 c.if-not-has_block.false
+
+pub returns-in-Ok-clause-ok : goal.returns-in-Ok-clause-ok
+returns-in-Ok-clause-ok c =
+    subst (λ heap. IsGivenSize regions_of word_of follows true true 1 heap c.args.from (usable (heap_state heap) c.args.from) 16 c.args.size c.in-Ok.to c.realloc.new.self) c.self.view_is c.in-Ok.ensures.ok
+
+pub returns-in-Ok-clause-resized : goal.returns-in-Ok-clause-resized
+returns-in-Ok-clause-resized c =
+    subst (λ heap. IsResized regions_of word_of zeros follows true true 1 heap c.args.from (usable (heap_state heap) c.args.from) 16 c.args.size c.in-Ok.to c.realloc.new.self) c.self.view_is c.in-Ok.ensures.resized

@@ -1,0 +1,12 @@
+use Rattle.std.proofs.Common.{subst, true}
+use Rattle.dlmalloc.specs.Shortened.{IsTrimmed}
+use Rattle.heap_arena.specs.Arena.{regions_of, word_of}
+use Rattle.heap_library.specs.Checked.{follows}
+use Rattle.heap_library.proofs.Marking.{trimmed_marked}
+use Rattle.heap_library.proofs.checked.CheckedHeap.trim.Goals as goal
+
+pub invariant_of-self : goal.invariant_of-self
+invariant_of-self c = trimmed_marked c.self.inside.marks.base c.self.inside.marks.words.now c.self.inside.marks.count c.self.inside.heap c.trim.new.self c.self.invariant c.args.pad c.trim.result c.trim.ensures.trimmed
+
+pub returns : goal.returns
+returns c = record { trimmed = subst (λ heap. IsTrimmed regions_of word_of follows true true 1 heap c.args.pad c.trim.result c.trim.new.self) c.self.view_is c.trim.ensures.trimmed }

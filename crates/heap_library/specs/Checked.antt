@@ -1,0 +1,55 @@
+-- A heap over an arena, and what its marks say (own).
+use Rattle.std.specs.Prelude.{◌≡◌, ℕ, ◌+◌, ◌-◌, ◌*◌, ◌/◌, ◌^◌, ◌<◌, ◌≤◌, min, Bool, true, false, List, length, drop, replicate}
+use Rattle.heap_memory.specs.declared.grant.GrantFault.{GrantFault}
+use Rattle.heap_memory.specs.Events.{Event}
+use Rattle.dlmalloc.specs.State.{HeapState}
+use Rattle.dlmalloc.specs.Heap.{state_of}
+use Rattle.dlmalloc.specs.declared.heap.Dlmalloc.{Dlmalloc}
+use Rattle.heap_arena.specs.declared.arena.Arena.{Arena}
+use Rattle.heap_arena.specs.Arena.{word_of, IsSameArena, IsDenied}
+use Rattle.heap_library.specs.Library.{HasBlock}
+use Rattle.heap_library.specs.Marks.{is_marked}
+use Rattle.heap_library.specs.Counted.{counted}
+
+-- no grant of an arena is known to be zero
+abbrev pub zeros : Arena → Bool
+zeros arena = false
+
+-- what a heap over an arena says of the time between two moments
+abbrev pub follows : Arena → List Event → Arena → Type 0
+follows old events new = IsSameArena old new
+
+abbrev pub refuses : Arena → Arena → Type 0
+refuses old new = new ≡ old
+
+abbrev pub denies : Arena → ℕ → GrantFault → Type 0
+denies arena size fault = IsDenied arena size fault
+
+-- its state
+abbrev pub heap_state : Dlmalloc Arena → HeapState
+heap_state heap = state_of word_of heap
+
+-- Marks stand where blocks begin, and nowhere else, and are counted: a condition of the type. There is a mark for each 16
+-- bytes of the arena.
+pub record IsMarked (base : ℕ) (marks : List ℕ) (count : ℕ) (heap : Dlmalloc Arena) : Type 0 where
+  pub some : 0 < base
+  pub count_is : count ≡ counted (is_marked base marks) (2 ^ 64)
+  pub base_is : heap.system.base ≡ base
+  pub room : length heap.system.words.now ≤ 128 * length marks
+  pub blocks : (address : ℕ) → is_marked base marks address ≡ true → HasBlock (heap_state heap) address
+  pub marked : (address : ℕ) → HasBlock (heap_state heap) address → is_marked base marks address ≡ true
+
+-- Of the words of one memory: those that are left beside a bit for each two of all; of them two for each 4096, for the table;
+-- and the others.
+abbrev pub left_beside_marks : ℕ → ℕ
+left_beside_marks count = count - (count + 127) / 128
+
+abbrev pub table_of : ℕ → ℕ
+table_of count = min (left_beside_marks count) (2 * ((left_beside_marks count + 4095) / 4096))
+
+abbrev pub left_for_words : ℕ → ℕ
+left_for_words count = left_beside_marks count - table_of count
+
+-- the words of a memory that are for the marks are 0
+abbrev pub IsCleared : List ℕ → Type 0
+IsCleared words = drop (left_beside_marks (length words)) words ≡ replicate ((length words + 127) / 128) 0

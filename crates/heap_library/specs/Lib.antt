@@ -1,0 +1,4 @@
+pub mod Checked
+pub mod Counted
+pub mod Library
+pub mod Marks

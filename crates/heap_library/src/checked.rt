@@ -1,0 +1,345 @@
+// A heap over words of the caller, whose calls look at what they are given.
+ghost use Rattle.std.specs.Prelude.{◌≡◌, ◌≢◌, ℕ, ◌*◌, ◌%◌, ◌^◌, ◌<◌, ◌≤◌, true, false, IsTrue, length};
+ghost use Rattle.heap_memory.specs.Regions.{is_granted};
+ghost use Rattle.heap_arena.specs.Arena.{regions_of};
+ghost use Rattle.heap_library.specs.Marks.{is_marked};
+ghost use Rattle.heap_library.specs.Counted.{counted};
+
+use crate::heap::Heap;
+use crate::heap_error::HeapError;
+use crate::marks::Marks;
+use dlmalloc::ExtentList;
+use heap_arena::Arena;
+use std::alloc::{AllocError, Global};
+use std::marker::Model;
+
+/// A heap over words of the caller. Its marks stand where blocks begin, and nowhere else.
+#[derive(Drop)]
+pub struct CheckedHeap<'a> {
+    heap: Heap<Arena<'a>>,
+    marks: Marks<'a>,
+}
+
+impl<'a> Model for CheckedHeap<'a> {
+    ghost use Rattle.dlmalloc.specs.declared.heap.Dlmalloc.{Dlmalloc};
+    ghost use Rattle.heap_arena.specs.declared.arena.Arena.{Arena};
+    ghost use Rattle.heap_library.specs.Checked.{IsMarked};
+
+    ghost Value = { Dlmalloc Arena };
+
+    ghost view = { λ h. h.heap };
+
+    ghost invariant = { λ h. IsMarked h.marks.base h.marks.words.now h.marks.count h.heap };
+}
+
+/// Marks a block that was handed out.
+fn mark<'a>(marks: &mut Marks<'a>, heap: &Heap<Arena<'a>>, address: u64)
+    requires granted { IsTrue (is_granted (regions_of heap.now.system) address) }
+    requires aligned { address % 16 ≡ 0 }
+    requires base { heap.now.system.base ≡ marks.old.base }
+    requires room { length heap.now.system.words.now ≤ 128 * length marks.old.words.now }
+    requires some { 0 < marks.old.base }
+    requires unmarked { is_marked marks.old.base marks.old.words.now address ≡ false }
+    requires counted { marks.old.count ≡ counted (is_marked marks.old.base marks.old.words.now) (2 ^ 64) }
+    ensures counted { marks.new.count ≡ counted (is_marked marks.new.base marks.new.words.now) (2 ^ 64) }
+    ensures here { is_marked marks.new.base marks.new.words.now address ≡ true }
+    ensures others { (a : ℕ) → a ≢ address → is_marked marks.new.base marks.new.words.now a ≡ is_marked marks.old.base marks.old.words.now a }
+    ensures base { marks.new.base ≡ marks.old.base }
+    ensures len { length marks.new.words.now ≡ length marks.old.words.now }
+{
+    heap.system().grants_are_inside();
+    marks.set(address);
+}
+
+impl<'a> CheckedHeap<'a> {
+    ghost use Rattle.std.specs.Prelude.{◌≡◌, ◌≢◌, ◌↔◌, ℕ, ◌+◌, ◌-◌, ◌*◌, ◌/◌, ◌%◌, ◌^◌, ◌<◌, ◌≤◌, min, true, false, [], if◌then◌else◌, Some, None, IfOk, IfErr, IfSome, IfNone, IsTrue, length};
+    ghost use Rattle.std.specs.Int.{IsPowerOfTwo};
+    ghost use Rattle.heap_memory.specs.Words.{IsStored};
+    ghost use Rattle.dlmalloc.specs.State.{new_heap};
+    ghost use Rattle.dlmalloc.specs.Heap.{IsGranularity};
+    ghost use Rattle.dlmalloc.specs.Blocks.{ArePlaced, BlocksAreApart};
+    ghost use Rattle.dlmalloc.specs.Requested.{IsHandedOut, IsServedAt};
+    ghost use Rattle.dlmalloc.specs.Written.{IsServedCleared};
+    ghost use Rattle.dlmalloc.specs.Moved.{IsGivenSize, IsResized};
+    ghost use Rattle.dlmalloc.specs.AfterFree.{IsFreed};
+    ghost use Rattle.dlmalloc.specs.Shortened.{IsTrimmed};
+    ghost use Rattle.dlmalloc.specs.Served.{IsListed};
+    ghost use Rattle.heap_arena.specs.Arena.{regions_of, word_of, IsAbove};
+    ghost use Rattle.heap_library.specs.Library.{HasBlock, HasWord, usable, AreZero, IsRequestRefused, IsResizeRefused};
+    ghost use Rattle.heap_library.specs.Counted.{HasBlocks, counted};
+    ghost use Rattle.heap_library.specs.Checked.{zeros, follows, refuses, denies, heap_state, table_of, left_for_words, IsCleared};
+    ghost use Rattle.heap_library.specs.Marks.{is_marked};
+
+    /// An empty heap over words, the first of them at the address `base`. It has a bit of `marks` for each 16 bytes, and
+    /// takes no more words than these are for; in `table` it notes what it was granted, in two words for each grant.
+    pub fn new(
+        words: &'a mut [u64],
+        marks: &'a mut [u64],
+        table: &'a mut [u64],
+        base: u64,
+    ) -> CheckedHeap<'a>
+        requires aligned { base % 16 ≡ 0 }
+        requires low { 4096 ≤ base }
+        requires high { base + 8 * length words.now < 2 ^ 64 }
+        ensures state { heap_state result ≡ new_heap }
+        ensures regions { regions_of result.system ≡ [] }
+        ensures base { result.system.base ≡ base }
+        ensures len { length result.system.words.now ≡ min (length words.entry.now) (128 * length marks.entry.now) }
+        ensures table { length result.system.table.words.now ≡ length table.entry.now }
+    {
+        let marks = Marks::new(marks, base);
+        CheckedHeap::with_marks(words, marks, table, base)
+    }
+
+    /// An empty heap over one memory, the first word of it at the address `base`. Its last words are for the marks, and
+    /// those before them for the table, which has a place for a grant of each 32 KiB.
+    pub fn over(memory: &'a mut [u64], base: u64) -> CheckedHeap<'a>
+        requires aligned { base % 16 ≡ 0 }
+        requires low { 4096 ≤ base }
+        requires high { base + 8 * length memory.now < 2 ^ 64 }
+        ensures state { heap_state result ≡ new_heap }
+        ensures regions { regions_of result.system ≡ [] }
+        ensures base { result.system.base ≡ base }
+        ensures len { length result.system.words.now ≡ left_for_words (length memory.entry.now) }
+        ensures table { length result.system.table.words.now ≡ table_of (length memory.entry.now) }
+    {
+        let count = memory.len();
+        let (front, marks) = memory.split_at_mut(count - count.div_ceil(128));
+        CheckedHeap::over_front(front, Marks::new(marks, base), base)
+    }
+
+    /// As `over`, where the words for the marks are 0 already: no word is touched.
+    #[tactic(auto, using(crate::proofs::Cleared::clear_rest))]
+    pub fn over_cleared(memory: &'a mut [u64], base: u64) -> CheckedHeap<'a>
+        requires aligned { base % 16 ≡ 0 }
+        requires low { 4096 ≤ base }
+        requires high { base + 8 * length memory.now < 2 ^ 64 }
+        requires cleared { IsCleared memory.now }
+        ensures state { heap_state result ≡ new_heap }
+        ensures regions { regions_of result.system ≡ [] }
+        ensures base { result.system.base ≡ base }
+        ensures len { length result.system.words.now ≡ left_for_words (length memory.entry.now) }
+        ensures table { length result.system.table.words.now ≡ table_of (length memory.entry.now) }
+    {
+        let count = memory.len();
+        let (front, zeros) = memory.split_at_mut(count - count.div_ceil(128));
+        CheckedHeap::over_front(front, Marks::over_zeros(zeros, base), base)
+    }
+
+    /// An empty heap over words and a table, in this order, and marks of which none is set.
+    fn over_front(front: &'a mut [u64], marks: Marks<'a>, base: u64) -> CheckedHeap<'a>
+        requires aligned { base % 16 ≡ 0 }
+        requires low { 4096 ≤ base }
+        requires high { base + 8 * length front.now < 2 ^ 64 }
+        requires marks_base { marks.base ≡ base }
+        requires none { (address : ℕ) → is_marked marks.base marks.words.now address ≡ false }
+        requires counted { marks.count ≡ counted (is_marked marks.base marks.words.now) (2 ^ 64) }
+        requires room { length front.now ≤ 128 * length marks.words.now }
+        ensures state { heap_state result ≡ new_heap }
+        ensures regions { regions_of result.system ≡ [] }
+        ensures base { result.system.base ≡ base }
+        ensures len { length result.system.words.now ≡ length front.entry.now - min (length front.entry.now) (2 * ((length front.entry.now + 4095) / 4096)) }
+        ensures table { length result.system.table.words.now ≡ min (length front.entry.now) (2 * ((length front.entry.now + 4095) / 4096)) }
+    {
+        let rest = front.len();
+        let (words, table) = front.split_at_mut(rest - (2 * rest.div_ceil(4096)).min(rest));
+        CheckedHeap::with_marks(words, marks, table, base)
+    }
+
+    /// An empty heap over words for which there are marks, of which none is set.
+    fn with_marks(
+        words: &'a mut [u64],
+        marks: Marks<'a>,
+        table: &'a mut [u64],
+        base: u64,
+    ) -> CheckedHeap<'a>
+        requires aligned { base % 16 ≡ 0 }
+        requires low { 4096 ≤ base }
+        requires high { base + 8 * length words.now < 2 ^ 64 }
+        requires marks_base { marks.base ≡ base }
+        requires none { (address : ℕ) → is_marked marks.base marks.words.now address ≡ false }
+        requires counted { marks.count ≡ counted (is_marked marks.base marks.words.now) (2 ^ 64) }
+        ensures state { heap_state result ≡ new_heap }
+        ensures regions { regions_of result.system ≡ [] }
+        ensures base { result.system.base ≡ base }
+        ensures len { length result.system.words.now ≡ min (length words.entry.now) (128 * length marks.entry.words.now) }
+        ensures table { length result.system.table.words.now ≡ length table.entry.now }
+    {
+        let count = words.len().min(marks.len().saturating_mul(128));
+        let arena = Arena::new(&mut words[..count], table, base);
+        CheckedHeap {
+            heap: Heap::new(arena),
+            marks,
+        }
+    }
+
+    /// Sets the granularity: the arena is asked for multiples of it. True exactly for a power of two of at least 16; any
+    /// other number changes nothing.
+    pub fn set_granularity(&mut self, granularity: u64) -> bool
+        ensures answer { IsTrue result ↔ IsGranularity granularity }
+        ensures state { heap_state self.new ≡ record (heap_state self.old) { granularity = if result then granularity else self.old.granularity } }
+        ensures system { self.new.system ≡ self.old.system }
+    {
+        self.heap.set_granularity(granularity)
+    }
+
+    /// Whether a block begins at an address, which may be any.
+    pub fn has_block(&self, address: u64) -> bool
+        ensures { IsTrue result ↔ HasBlock (heap_state self.now) address }
+    {
+        self.marks.has(address)
+    }
+
+    /// The address of a block of `size` bytes, at a multiple of `align` and of 16.
+    pub fn malloc(&mut self, size: u64, align: u64) -> Result<u64, HeapError>
+        ensures ok { IfOk result (λ address. IsHandedOut regions_of word_of follows self.old size align address self.new) }
+        ensures served { IfOk result (λ address. IsServedAt regions_of word_of zeros follows self.old size align address self.new) }
+        ensures power { IfOk result (λ address. IsPowerOfTwo align) }
+        ensures err { IfErr result (λ error. IsRequestRefused regions_of word_of follows refuses denies self.old size align error self.new) }
+        ensures apart { BlocksAreApart (heap_state self.new) }
+    {
+        match self.heap.malloc(size, align) {
+            Ok(address) => {
+                mark(&mut self.marks, &self.heap, address);
+                Ok(address)
+            }
+            Err(error) => Err(error),
+        }
+    }
+
+    /// As `malloc`; the bytes of the block are 0.
+    pub fn calloc(&mut self, size: u64, align: u64) -> Result<u64, HeapError>
+        ensures ok { IfOk result (λ address. IsHandedOut regions_of word_of follows self.old size align address self.new) }
+        ensures served { IfOk result (λ address. IsServedCleared regions_of word_of zeros follows self.old size align address self.new) }
+        ensures zeros { IfOk result (λ address. AreZero (word_of self.new.system) address size) }
+        ensures power { IfOk result (λ address. IsPowerOfTwo align) }
+        ensures err { IfErr result (λ error. IsRequestRefused regions_of word_of follows refuses denies self.old size align error self.new) }
+        ensures apart { BlocksAreApart (heap_state self.new) }
+    {
+        match self.heap.calloc(size, align) {
+            Ok(address) => {
+                mark(&mut self.marks, &self.heap, address);
+                Ok(address)
+            }
+            Err(error) => Err(error),
+        }
+    }
+
+    /// Gives the block at `from` another size, and answers where it is then, at a multiple of 16. It keeps as many of
+    /// its bytes as both sizes have. `NoBlock` where none begins there; then nothing changes.
+    pub fn realloc(&mut self, from: u64, size: u64) -> Result<u64, HeapError>
+        ensures block { IfOk result (λ to. HasBlock (heap_state self.old) from) }
+        ensures resized { IfOk result (λ to. IsResized regions_of word_of zeros follows true true 1 self.old from (usable (heap_state self.old) from) 16 size to self.new) }
+        ensures ok { IfOk result (λ to. IsGivenSize regions_of word_of follows true true 1 self.old from (usable (heap_state self.old) from) 16 size to self.new) }
+        ensures err { IfErr result (λ error. IsResizeRefused regions_of word_of follows refuses denies self.old from size error self.new) }
+        ensures apart { BlocksAreApart (heap_state self.new) }
+    {
+        if !self.has_block(from) {
+            self.heap.blocks_are_apart();
+            return Err(HeapError::NoBlock);
+        }
+        match self.heap.realloc(from, size) {
+            Ok(to) => {
+                self.marks.clear(from);
+                mark(&mut self.marks, &self.heap, to);
+                Ok(to)
+            }
+            Err(refusal) => Err(refusal),
+        }
+    }
+
+    /// Gives the block at an address back. False where none begins there; then nothing changes.
+    pub fn free(&mut self, address: u64) -> bool
+        ensures answer { IsTrue result ↔ HasBlock (heap_state self.old) address }
+        ensures freed { result ≡ true → IsFreed regions_of word_of follows true true 1 self.old address self.new }
+        ensures same { result ≡ false → self.new ≡ self.old }
+    {
+        if !self.has_block(address) {
+            return false;
+        }
+        self.marks.clear(address);
+        self.heap.free(address);
+        true
+    }
+
+    /// Gives memory back to the arena that no block needs: the top keeps more than `pad` bytes. True exactly where bytes
+    /// went back.
+    pub fn trim(&mut self, pad: u64) -> bool
+        ensures trimmed { IsTrimmed regions_of word_of follows true true 1 self.old pad result self.new }
+    {
+        self.heap.trim(pad)
+    }
+
+    /// The bytes of the block at an address, if one begins there: those that were asked for, and at most 79 more.
+    pub fn usable_size(&self, address: u64) -> Option<u64>
+        ensures some { IfSome result (λ size. HasBlock (heap_state self.now) address × (size ≡ usable (heap_state self.now) address)) }
+        ensures none { IfNone result (HasBlock (heap_state self.now) address → ⊥) }
+    {
+        if self.has_block(address) {
+            Some(self.heap.usable_size(address))
+        } else {
+            None
+        }
+    }
+
+    /// Whether a block begins at an address and has a whole word at an offset, which is a multiple of 8.
+    fn has_word(&self, address: u64, offset: u64) -> bool
+        ensures { IsTrue result ↔ HasWord (heap_state self.now) address offset }
+    {
+        match self.usable_size(address) {
+            Some(size) => offset % 8 == 0 && size >= 8 && offset <= size - 8,
+            None => false,
+        }
+    }
+
+    /// The word at an offset of the block at an address; None where there is none. The offset is a multiple of 8.
+    pub fn load(&self, address: u64, offset: u64) -> Option<u64>
+        ensures some { IfSome result (λ word. HasWord (heap_state self.now) address offset × (word ≡ word_of self.now.system (address + offset))) }
+        ensures none { IfNone result (HasWord (heap_state self.now) address offset → ⊥) }
+    {
+        if self.has_word(address, offset) {
+            Some(self.heap.load(address, offset))
+        } else {
+            None
+        }
+    }
+
+    /// Puts a word at an offset of the block at an address, and changes nothing else. False where there is none; then
+    /// nothing changes. The offset is a multiple of 8.
+    pub fn store(&mut self, address: u64, offset: u64, value: u64) -> bool
+        ensures answer { IsTrue result ↔ HasWord (heap_state self.old) address offset }
+        ensures stored { result ≡ true → IsStored (regions_of self.old.system) (word_of self.old.system) (address + offset) value (word_of self.new.system) }
+        ensures state { heap_state self.new ≡ heap_state self.old }
+        ensures regions { regions_of self.new.system ≡ regions_of self.old.system }
+        ensures follows { follows self.old.system [] self.new.system }
+        ensures same { result ≡ false → self.new ≡ self.old }
+    {
+        if !self.has_word(address, offset) {
+            return false;
+        }
+        self.heap.store(address, offset, value);
+        true
+    }
+
+    /// How many blocks there are.
+    pub fn blocks(&self) -> u64
+        ensures { HasBlocks (heap_state self.now) result }
+    {
+        self.marks.count()
+    }
+
+    /// How many words of the arena from its front are in use: each granted byte is in them.
+    pub fn used(&self) -> usize
+        ensures top { self.now.system.base + 8 * result ≡ self.now.system.top }
+        ensures above { IsAbove self.now.system (self.now.system.base + 8 * result) }
+    {
+        self.heap.system().used()
+    }
+
+    /// The extents of the heap, by ascending address.
+    pub fn extents(&self, alloc: Global) -> Result<ExtentList, AllocError>
+        ensures { IfOk result (λ list. IsListed word_of self.now list) }
+    {
+        self.heap.extents(alloc)
+    }
+}

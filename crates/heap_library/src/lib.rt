@@ -1,0 +1,18 @@
+//! A heap for callers that prove nothing: what it needs of itself is a condition of its type.
+//!
+//! `Heap` is such a heap over any system. `CheckedHeap` is one over words that the caller gives, whose calls look at the
+//! addresses that they are given.
+#![tactic(auto)]
+
+mod calls;
+mod checked;
+mod heap;
+mod heap_error;
+mod marks;
+
+pub use checked::CheckedHeap;
+pub use heap::Heap;
+pub use heap_error::HeapError;
+
+#[cfg(test)]
+mod tests;
