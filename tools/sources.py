@@ -11,7 +11,7 @@ ITEM = re.compile(r"(?:abbrev |unfoldable |pub |record |data )*(?:record |data )
 DECLARES = re.compile(r"(?:abbrev|unfoldable|pub|record|data)\b(?! (?:use|mod)\b)")
 USE = re.compile(r"(?:pub |ghost )*use Rattle\.(\w+)\.specs\.([\w.-]+)\.\{([^}]*)\}")
 WORD = re.compile(r"[^\s(){}\[\];,.⟦⟧<>]+")
-FUNCTION = re.compile(r"( *)(pub(?:\(\w+\))? )?(?:const )?fn (\w+)")
+FUNCTION = re.compile(r'( *)(pub(?:\(\w+\))? )?(?:const )?(?:unsafe )?(?:extern "C" )?fn (\w+)')
 OWNER = re.compile(r"(pub(?:\(\w+\))? )?(impl|trait)\b(.*)")
 MEMBER = re.compile(r"    ghost (\w+) = \{")
 MODEL = re.compile(r"impl(?:<.*>)? Model for (\w+)")
@@ -32,6 +32,13 @@ class Item:
     text: str
     # Of a type: what contracts see in its place (`impl Model`), if they do.
     model: str = ""
+
+    @property
+    def meaning(self):
+        """The model's own members, without the invariant and the code: the prover shows that each value has these."""
+        head, *lines, end = self.model.splitlines() or ("", "")
+        members = [braced(lines, n) for n, it in enumerate(lines) if MEMBER.match(it)]
+        return "\n".join([head, *(it for it in members if MEMBER.match(it)[1] not in ("invariant", "coded")), end]).strip()
 
 
 @dataclass

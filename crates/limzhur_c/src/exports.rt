@@ -1,0 +1,119 @@
+// What a C program calls of a heap that it began.
+ghost use Rattle.std.specs.Prelude.{◌≡◌, ◌≢◌, ◌↔◌, ◌+◌, ◌*◌, true, false, IsTrue};
+ghost use Rattle.std.specs.Int.{IsPowerOfTwo};
+ghost use Rattle.dlmalloc.specs.Blocks.{BlocksAreApart};
+ghost use Rattle.dlmalloc.specs.Requested.{IsHandedOut, IsServedAt};
+ghost use Rattle.dlmalloc.specs.Written.{IsServedCleared};
+ghost use Rattle.dlmalloc.specs.Moved.{IsGivenSize, IsResized};
+ghost use Rattle.dlmalloc.specs.AfterFree.{IsFreed};
+ghost use Rattle.dlmalloc.specs.Shortened.{IsTrimmed};
+ghost use Rattle.heap_arena.specs.Arena.{regions_of, word_of, IsAbove};
+ghost use Rattle.heap_library.specs.declared.heap_error.HeapError.{HeapError};
+ghost use Rattle.heap_library.specs.Counted.{HasBlocks};
+ghost use Rattle.heap_library.specs.Library.{HasBlock, AreZero, usable, IsRequestRefused, IsResizeRefused};
+ghost use Rattle.heap_library.specs.Checked.{zeros, follows, refuses, denies, heap_state};
+
+use crate::handle::Handle;
+
+/// The address of a block of `size` bytes at a multiple of `align`; 0 where it is refused.
+#[unsafe(no_mangle)]
+pub extern "C" fn limzhur_malloc(handle: &mut Handle, size: u64, align: u64) -> u64
+    ensures ok { result ≢ 0 → IsHandedOut regions_of word_of follows handle.old.heap size align result handle.new.heap }
+    ensures served { result ≢ 0 → IsServedAt regions_of word_of zeros follows handle.old.heap size align result handle.new.heap }
+    ensures power { result ≢ 0 → IsPowerOfTwo align }
+    ensures err { result ≡ 0 → (error : HeapError) × IsRequestRefused regions_of word_of follows refuses denies handle.old.heap size align error handle.new.heap }
+    ensures apart { BlocksAreApart (heap_state handle.new.heap) }
+{
+    match handle.open().malloc(size, align) {
+        Ok(address) => address,
+        Err(_) => 0,
+    }
+}
+
+/// The address of a block of `size` bytes of value 0 at a multiple of `align`; 0 where it is refused.
+#[unsafe(no_mangle)]
+pub extern "C" fn limzhur_calloc(handle: &mut Handle, size: u64, align: u64) -> u64
+    ensures ok { result ≢ 0 → IsHandedOut regions_of word_of follows handle.old.heap size align result handle.new.heap }
+    ensures served { result ≢ 0 → IsServedCleared regions_of word_of zeros follows handle.old.heap size align result handle.new.heap }
+    ensures zeros { result ≢ 0 → AreZero (word_of handle.new.heap.system) result size }
+    ensures power { result ≢ 0 → IsPowerOfTwo align }
+    ensures err { result ≡ 0 → (error : HeapError) × IsRequestRefused regions_of word_of follows refuses denies handle.old.heap size align error handle.new.heap }
+    ensures apart { BlocksAreApart (heap_state handle.new.heap) }
+{
+    match handle.open().calloc(size, align) {
+        Ok(address) => address,
+        Err(_) => 0,
+    }
+}
+
+/// The address of the block that the block at an address becomes, of another size, at a multiple of 16. 0 where no block
+/// begins at the address, or the size is refused; nothing then changes.
+#[unsafe(no_mangle)]
+pub extern "C" fn limzhur_realloc(handle: &mut Handle, address: u64, size: u64) -> u64
+    ensures block { result ≢ 0 → HasBlock (heap_state handle.old.heap) address }
+    ensures resized { result ≢ 0 → IsResized regions_of word_of zeros follows true true 1 handle.old.heap address (usable (heap_state handle.old.heap) address) 16 size result handle.new.heap }
+    ensures ok { result ≢ 0 → IsGivenSize regions_of word_of follows true true 1 handle.old.heap address (usable (heap_state handle.old.heap) address) 16 size result handle.new.heap }
+    ensures err { result ≡ 0 → (error : HeapError) × IsResizeRefused regions_of word_of follows refuses denies handle.old.heap address size error handle.new.heap }
+    ensures apart { BlocksAreApart (heap_state handle.new.heap) }
+{
+    match handle.open().realloc(address, size) {
+        Ok(to) => to,
+        Err(_) => 0,
+    }
+}
+
+/// Gives a block back. False where none begins at the address; nothing then changes.
+#[unsafe(no_mangle)]
+pub extern "C" fn limzhur_free(handle: &mut Handle, address: u64) -> bool
+    ensures answer { IsTrue result ↔ HasBlock (heap_state handle.old.heap) address }
+    ensures freed { result ≡ true → IsFreed regions_of word_of follows true true 1 handle.old.heap address handle.new.heap }
+    ensures same { result ≡ false → handle.new.heap ≡ handle.old.heap }
+{
+    handle.open().free(address)
+}
+
+/// Gives memory back to the arena that no block needs, all but `pad` bytes of the top.
+#[unsafe(no_mangle)]
+pub extern "C" fn limzhur_trim(handle: &mut Handle, pad: u64) -> bool
+    ensures { IsTrimmed regions_of word_of follows true true 1 handle.old.heap pad result handle.new.heap }
+{
+    handle.open().trim(pad)
+}
+
+/// The bytes of the block at an address; 0 where none begins there.
+#[unsafe(no_mangle)]
+pub extern "C" fn limzhur_usable_size(handle: &mut Handle, address: u64) -> u64
+    ensures some { HasBlock (heap_state handle.old.heap) address → result ≡ usable (heap_state handle.old.heap) address }
+    ensures none { (HasBlock (heap_state handle.old.heap) address → ⊥) → result ≡ 0 }
+    ensures same { handle.new.heap ≡ handle.old.heap }
+{
+    match handle.open().usable_size(address) {
+        Some(size) => size,
+        None => 0,
+    }
+}
+
+/// What a heap holds.
+#[repr(C)]
+#[derive(Drop)]
+pub struct Stats {
+    /// The bytes from the first word on that are in use: each granted byte is among them.
+    pub used: u64,
+    /// How many blocks there are.
+    pub blocks: u64,
+}
+
+/// Tells what a heap holds.
+#[unsafe(no_mangle)]
+pub extern "C" fn limzhur_stats(handle: &mut Handle, stats: &mut Stats)
+    ensures top { handle.old.heap.system.base + stats.new.used ≡ handle.old.heap.system.top }
+    ensures above { IsAbove handle.old.heap.system (handle.old.heap.system.base + stats.new.used) }
+    ensures blocks { HasBlocks (heap_state handle.old.heap) stats.new.blocks }
+    ensures same { handle.new.heap ≡ handle.old.heap }
+{
+    let heap = handle.open();
+    *stats = Stats {
+        used: 8 * heap.used() as u64,
+        blocks: heap.blocks(),
+    };
+}

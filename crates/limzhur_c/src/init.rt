@@ -1,0 +1,63 @@
+// Where a heap begins: in memory that C gives for good.
+ghost use Rattle.std.specs.Prelude.{◌≡◌, ℕ, ◌+◌, ◌*◌, ◌%◌, ◌^◌, ◌<◌, ◌≤◌, List, length};
+ghost use types.Logic.{sem};
+ghost use base.Fraction.{full_share};
+ghost use denote.Array.{Array};
+ghost use denote.Builtin.{u64};
+ghost use denote.RawPtr.{lies_at, room_at};
+ghost use denote.Signature.{static_lft};
+ghost use Rattle.dlmalloc.specs.declared.heap.Dlmalloc.{Dlmalloc};
+ghost use Rattle.heap_arena.specs.declared.arena.Arena.{Arena};
+ghost use Rattle.heap_library.specs.contracts.checked.CheckedHeap.{the_row as heap_row};
+ghost use Rattle.heap_library.specs.Checked.{IsCleared};
+ghost use Rattle.limzhur_c.specs.Begun.{IsBegun};
+ghost use Rattle.std.specs.Mem.{type_size};
+
+use heap_library::CheckedHeap;
+
+/// How many bytes the room of a heap has to have.
+#[unsafe(no_mangle)]
+pub extern "C" fn limzhur_room() -> usize
+    ensures { result ≡ type_size (heap_row static_lft) }
+{
+    size_of::<CheckedHeap<'static>>()
+}
+
+/// An empty heap over a memory, whose first word is at an address.
+fn begin(memory: &'static mut [u64], address: u64) -> CheckedHeap<'static>
+    requires aligned { address % 16 ≡ 0 }
+    requires low { 4096 ≤ address }
+    requires high { address + 8 * length memory.now < 2 ^ 64 }
+    requires cleared { IsCleared memory.now }
+    ensures begun { IsBegun (length memory.entry.now) address result }
+{
+    CheckedHeap::over_cleared(memory, address)
+}
+
+/// The words at a pointer. Who gives them has them no more.
+pub(crate) unsafe fn words_at(memory: *mut u64, count: usize) -> &'static mut [u64]
+    ghost words: { List ℕ }
+    requires* memory { sem 𝓛 (lies_at (Array u64 count) full_share memory words) }
+    requires few { count < 2 ^ 60 }
+    ensures words { (result.now ≡ words) × (length result.now ≡ count) }
+{
+    std::slice::from_raw_parts_mut(memory, count)
+}
+
+/// Makes an empty heap in a room, over `count` words of memory, the first of them at `address`. Room and memory are then
+/// the heap's; a handle that leads to the room has both.
+#[unsafe(no_mangle)]
+pub unsafe extern "C" fn limzhur_init(room: *mut u8, memory: *mut u64, count: usize, address: u64)
+    ghost words: { List ℕ }
+    requires* room { sem 𝓛 (room_at (heap_row static_lft) room) }
+    requires* memory { sem 𝓛 (lies_at (Array u64 count) full_share memory words) }
+    requires few { count < 2 ^ 60 }
+    requires cleared { IsCleared words }
+    requires aligned { address % 16 ≡ 0 }
+    requires low { 4096 ≤ address }
+    requires high { address + 8 * count < 2 ^ 64 }
+    ensures* heap { ∃ₛ (λ (heap : Dlmalloc Arena). sem 𝓛 (lies_at (heap_row static_lft) full_share room heap) ∗ ⌜ IsBegun count address heap ⌝) }
+{
+    let heap = begin(words_at(memory, count), address);
+    (room as *mut CheckedHeap<'static>).write(heap);
+}
