@@ -1,0 +1,81 @@
+-- The lists of a pool, computed.
+use Rattle.std.proofs.Common.{◌≡◌, ℕ, zero, suc, ◌+◌, ◌-◌, ◌^◌, List, [], ◌∷◌, ◌++◌, length, Some, None, refl}
+use Rattle.object_pool.specs.declared.key.Key.{Key}
+use Rattle.object_pool.specs.Lists.{Entry, Lists, empty, object_of, entries_at, object_count, slab_count, next_key, inserted, removed, replaced, LacksSlot}
+use Rattle.object_pool.proofs.Entries.{key_at, entry_at}
+
+-- ---- a slot is used again
+
+abbrev two : Lists
+two = inserted (2 ∷ []) (inserted (1 ∷ []) empty)
+
+abbrev again : Lists
+again = removed (key_at 0 0) two
+
+abbrev three : Lists
+three = inserted (3 ∷ []) again
+
+first_key : next_key empty ≡ key_at 0 0
+first_key = refl
+
+second_key : next_key (inserted (1 ∷ []) empty) ≡ key_at 1 0
+second_key = refl
+
+third_key : next_key again ≡ key_at 0 1
+third_key = refl
+
+gone : object_of (key_at 0 0) three.entries ≡ None
+gone = refl
+
+there : object_of (key_at 0 1) three.entries ≡ Some (3 ∷ [])
+there = refl
+
+beside : object_of (key_at 1 0) three.entries ≡ Some (2 ∷ [])
+beside = refl
+
+changed : object_of (key_at 1 0) (replaced (key_at 1 0) (9 ∷ []) three).entries ≡ Some (9 ∷ [])
+changed = refl
+
+one_slab : slab_count three.entries ≡ 1
+one_slab = refl
+
+two_objects : object_count three.entries ≡ 2
+two_objects = refl
+
+-- the slot freed last goes first
+last_first : next_key (removed (key_at 0 0) (removed (key_at 1 0) two)) ≡ key_at 0 1
+last_first = refl
+
+-- ---- 128 objects fill two slabs
+
+abbrev rows : ℕ → ℕ → List Entry
+rows index zero = []
+rows index (suc n) = entry_at index 0 (Some []) ∷ rows (index + 1) n
+
+-- the lists of a pool in which so many objects were inserted
+abbrev filled : ℕ → Lists
+filled n = record { entries = rows 0 n; freed = [] }
+
+one_more : inserted [] (filled 2) ≡ filled 3
+one_more = refl
+
+two_slabs : slab_count (filled 128).entries ≡ 2
+two_slabs = refl
+
+three_slabs : slab_count (filled 129).entries ≡ 3
+three_slabs = refl
+
+no_slot : LacksSlot (filled 128)
+no_slot = (refl, refl)
+
+one_slot : next_key (removed (key_at 77 0) (filled 128)) ≡ key_at 77 1
+one_slot = refl
+
+-- ---- the end of generations
+
+-- a slot is free again behind its object of generation 2 ^ 32 - 3, and not behind that of generation 2 ^ 32 - 2
+before_last : (key : Key) (lists : Lists) → length (entries_at key.index lists.entries) ≡ 2 ^ 32 - 2 → (removed key lists).freed ≡ lists.freed ++ key.index ∷ []
+before_last key lists many = rw many refl
+
+behind_last : (key : Key) (lists : Lists) → length (entries_at key.index lists.entries) ≡ 2 ^ 32 - 1 → (removed key lists).freed ≡ lists.freed
+behind_last key lists many = rw many refl

@@ -1,0 +1,10 @@
+mod Numbers
+mod SlotLists
+mod Granted
+mod ByteRuns
+mod HeapBlocks
+mod SlabPlaces
+mod Entries
+mod Histories
+mod Standing
+mod Examples

@@ -1,0 +1,233 @@
+-- Slabs of a heap: where the objects of their slots lie, and what the heap's calls leave of them.
+use Rattle.std.proofs.Common.{◌≡◌, ◌≢◌, ℕ, ◌+◌, ◌-◌, ◌*◌, ◌/◌, ◌%◌, ◌^◌, ◌<◌, ◌≤◌, inl, inr, List, [], ◌∷◌, ◌++◌, length, length-append, slice_index, refl, sym, ap, ◌∙◌, subst, arith, Bool, true, false, if◌then◌else◌, ◌==◌}
+use Rattle.std.proofs.lemmas.List.{get_or_append_left}
+use Rattle.std.proofs.Math.Seq.{get_or-append_seam}
+use Rattle.std.proofs.lemmas.Nat.{mul-le}
+use Rattle.heap_memory.specs.declared.grant.Grant.{Grant}
+use Rattle.heap_memory.specs.Events.{Event}
+use Rattle.dlmalloc_chunks.specs.Request.{limit}
+use Rattle.dlmalloc_chunks.proofs.Powers.{power_small}
+use Rattle.dlmalloc.specs.State.{HeapState}
+use Rattle.dlmalloc.specs.Blocks.{IsBlock, ArePlaced, BlocksAreApart}
+use Rattle.dlmalloc.specs.Heap.{state_of, IsSound, IsGranularity}
+use Rattle.dlmalloc.specs.Binned.{IsBinned}
+use Rattle.dlmalloc.specs.Requested.{IsHandedOut}
+use Rattle.dlmalloc.specs.AfterFree.{IsFreed}
+use Rattle.dlmalloc.specs.Served.{RestsOutside}
+use Rattle.dlmalloc.specs.declared.heap.Dlmalloc.{Dlmalloc}
+use Rattle.object_pool.specs.Bytes.{bytes_at, AreGranted, IsWritten}
+use Rattle.object_pool.specs.Pool.{place_of, bytes_of, IsLaidOut, KeepsOthers, IsEmptied, PlacesAreApart}
+use Rattle.object_pool.proofs.ByteRuns.{bytes_same, bytes_are}
+use Rattle.object_pool.proofs.HeapBlocks.{handed_keeps, handed_fresh, freed_keeps, freed_only, written_rests, written_keeps}
+use Rattle.object_pool.proofs.Numbers.{lt_or_le, same_or_other}
+
+-- ---- where objects lie
+
+-- one object more
+next_place : (size r s : ℕ) → r < s → size * r + size ≤ size * s
+next_place size r s less =
+    let grown : size * (r + 1) ≤ size * s = mul-le size (r + 1) size s (omega arith) (omega arith) in
+    let one : size * (r + 1) ≡ size * r + size = grind arith in
+    omega (arith, grown, one)
+
+module _ {A : Type 0} (regions : A → List Grant) (word : A → ℕ → ℕ) (heap : Dlmalloc A) (size : ℕ) (slabs : List ℕ) (laid : IsLaidOut regions word heap size slabs) where
+  slab_there : (index : ℕ) → index < 64 * length slabs → index / 64 < length slabs
+  slab_there index less = omega (arith, less)
+
+  -- the block of an index's slab
+  pub slab_block : (index : ℕ) → index < 64 * length slabs → IsBlock (state_of word heap) (slice_index slabs (index / 64)) (64 * size)
+  slab_block index less = laid.blocks (index / 64) (slab_there index less)
+
+  -- the place of an index ends in its slab
+  pub place_ends : (index : ℕ) → place_of slabs size index + size ≤ slice_index slabs (index / 64) + 64 * size
+  place_ends index =
+      let next = next_place size (index % 64) 64 (omega arith) in
+      let turned : size * 64 ≡ 64 * size = grind arith in
+      omega (arith, next, turned)
+
+  pub place_granted : ArePlaced (regions heap.system) (state_of word heap) → (index : ℕ) → index < 64 * length slabs → AreGranted (regions heap.system) (place_of slabs size index) size
+  place_granted placed index less k from to =
+      let end = place_ends index in
+      (placed (slice_index slabs (index / 64)) (64 * size) (slab_block index less)).granted k (omega (arith, from)) (omega (arith, to, end))
+
+  pub places_apart : BlocksAreApart (state_of word heap) → PlacesAreApart slabs size
+  places_apart apart i j less_i less_j differ =
+      let end_i = place_ends i in
+      let end_j = place_ends j in
+      elim (same_or_other (i / 64) (j / 64)) [
+        | inl same ↦ (
+            let start : slice_index slabs (i / 64) ≡ slice_index slabs (j / 64) = ap (slice_index slabs) same in
+            elim (lt_or_le (i % 64) (j % 64)) [
+              | inl before ↦ (let next = next_place size (i % 64) (j % 64) before in inl (omega (arith, start, next)))
+              | inr behind ↦ (let next = next_place size (j % 64) (i % 64) (omega (arith, same, differ, behind)) in inr (omega (arith, start, next)))
+            ])
+        | inr other ↦ elim (apart (slice_index slabs (i / 64)) (64 * size) (slice_index slabs (j / 64)) (64 * size) (slab_block i less_i) (slab_block j less_j)
+            (laid.distinct (i / 64) (j / 64) (slab_there i less_i) (slab_there j less_j) other)) [
+              | inl before ↦ inl (omega (arith, end_i, before))
+              | inr behind ↦ inr (omega (arith, end_j, behind))
+            ]
+      ]
+
+  -- ---- an object is written
+
+  module _ (placed : ArePlaced (regions heap.system) (state_of word heap)) (apart : BlocksAreApart (state_of word heap)) (rests : RestsOutside regions word heap)
+      (index : ℕ) (less : index < 64 * length slabs) (system : A) (same : regions system ≡ regions heap.system) (bytes : List ℕ) (many : length bytes ≡ size)
+      (written : IsWritten (regions heap.system) (word heap.system) (place_of slabs size index) bytes (length bytes) (word system)) where
+    abbrev new : Dlmalloc A
+    new = record heap { system = system }
+
+    within : place_of slabs size index + length bytes ≤ slice_index slabs (index / 64) + 64 * size
+    within = let end = place_ends index in omega (arith, end, many)
+
+    rest : IsSound regions word new × (state_of word new ≡ state_of word heap) × (IsBinned regions word heap → IsBinned regions word new)
+    rest = written_rests regions word heap system (slice_index slabs (index / 64)) (64 * size) (slab_block index less) placed (place_of slabs size index) bytes (length bytes) (omega arith) within written rests laid.sound same
+
+    pub written_state : state_of word new ≡ state_of word heap
+    written_state = rest.1
+
+    pub written_laid : IsLaidOut regions word new size slabs
+    written_laid = record {
+      sound = rest.0;
+      linked = rest.2 laid.linked;
+      some = laid.some;
+      small = laid.small;
+      blocks = λ i there. subst (λ (h : HeapState). IsBlock h (slice_index slabs i) (64 * size)) (sym written_state) (laid.blocks i there);
+      distinct = laid.distinct;
+    }
+
+    pub written_here : bytes_of word new slabs size index ≡ bytes
+    written_here = subst (λ n. bytes_at (word system) (place_of slabs size index) n ≡ bytes) many (bytes_are (word system) (place_of slabs size index) bytes written.here)
+
+    pub written_others : (other : ℕ) → other < 64 * length slabs → other ≢ index → bytes_of word new slabs size other ≡ bytes_of word heap slabs size other
+    written_others other there differ = bytes_same (word heap.system) (word system) (place_of slabs size other) size (λ k below.
+        written.elsewhere (place_of slabs size other + k) (place_granted placed other there (place_of slabs size other + k) (omega arith) (omega arith))
+        (elim (places_apart apart other index there less differ) [ inl before ↦ inl (omega (arith, before, below)) | inr behind ↦ inr (omega (arith, behind, many)) ]))
+
+    pub written_kept : KeepsOthers word slabs heap new
+    written_kept address n block none =
+        written_keeps regions word heap system (slice_index slabs (index / 64)) (64 * size) (slab_block index less) placed (place_of slabs size index) bytes (length bytes) (omega arith) within written apart written_state
+        address n block (λ e. none (index / 64) (slab_there index less) (sym e))
+
+  -- ---- a slab more
+
+  module _ (follows : A → List Event → A → Type 0) (new : Dlmalloc A) (address : ℕ) (placed : ArePlaced (regions heap.system) (state_of word heap))
+      (out : IsHandedOut regions word follows heap (64 * size) 16 address new) (linked : IsBinned regions word new) where
+    slab_other : (i : ℕ) → i < length slabs → slice_index slabs i ≢ address
+    slab_other i there same = handed_fresh regions word follows heap new (64 * size) 16 address placed out (64 * size) (subst (λ a. IsBlock (state_of word heap) a (64 * size)) same (laid.blocks i there))
+
+    front : (i : ℕ) → i < length slabs → slice_index (slabs ++ address ∷ []) i ≡ slice_index slabs i
+    front i there = get_or_append_left slabs (address ∷ []) 0 i there
+
+    last : slice_index (slabs ++ address ∷ []) (length slabs) ≡ address
+    last = get_or-append_seam slabs address [] 0
+
+    last_is : (i : ℕ) → i < length (slabs ++ address ∷ []) → length slabs ≤ i → slice_index (slabs ++ address ∷ []) i ≡ address
+    last_is i there past =
+        let many = length-append slabs (address ∷ []) in
+        let is : length slabs ≡ i = omega (arith, many) in
+        subst (λ j. slice_index (slabs ++ address ∷ []) j ≡ address) is last
+
+    pub added_laid : IsLaidOut regions word new size (slabs ++ address ∷ [])
+    added_laid = record {
+      sound = out.sound;
+      linked = linked;
+      some = laid.some;
+      small = laid.small;
+      blocks = λ i there. elim (lt_or_le i (length slabs)) [
+        | inl old ↦ subst (λ a. IsBlock (state_of word new) a (64 * size)) (sym (front i old)) (handed_keeps regions word follows heap new (64 * size) 16 address placed out (slice_index slabs i) (64 * size) (laid.blocks i old)).block
+        | inr past ↦ subst (λ a. IsBlock (state_of word new) a (64 * size)) (sym (last_is i there past)) out.block
+      ];
+      distinct = λ i j there_i there_j differ. elim (lt_or_le i (length slabs)) [
+        | inl old_i ↦ elim (lt_or_le j (length slabs)) [
+          | inl old_j ↦ (λ e. laid.distinct i j old_i old_j differ (sym (front i old_i) ∙ (e ∙ front j old_j)))
+          | inr past_j ↦ (λ e. slab_other i old_i (sym (front i old_i) ∙ (e ∙ last_is j there_j past_j)))
+        ]
+        | inr past_i ↦ elim (lt_or_le j (length slabs)) [
+          | inl old_j ↦ (λ e. slab_other j old_j (sym (front j old_j) ∙ (sym e ∙ last_is i there_i past_i)))
+          | inr past_j ↦ absurd (differ (let many = length-append slabs (address ∷ []) in omega (arith, many, there_i, there_j)))
+        ]
+      ];
+    }
+
+-- a slab is never too large
+pub never_large : (granularity size : ℕ) → IsGranularity granularity → granularity < 2 ^ 64 → size ≤ 262144 → size < limit granularity
+unfolding limit
+never_large granularity size is fits small = go (granularity == 16) (power_small granularity is.0 fits)
+  where
+    go : (b : Bool) → granularity ≤ 2 ^ 63 → size < (if b then 2 ^ 64 - 135 else 2 ^ 64 - granularity - 103)
+    go true most = omega (arith, small)
+    go false most = omega (arith, small, most)
+
+-- ---- the slabs are given back, from the last one on
+
+-- All but the slabs that are left were given back.
+pub record IsEmptying {A : Type 0} (regions : A → List Grant) (word : A → ℕ → ℕ) (old : Dlmalloc A) (slabs : List ℕ) (size : ℕ) (heap : Dlmalloc A) (left : List ℕ) : Type 0 where
+  pub laid : IsLaidOut regions word heap size left
+  pub few : length left ≤ length slabs
+  pub front : (i : ℕ) → i < length left → slice_index left i ≡ slice_index slabs i
+  pub kept : KeepsOthers word slabs old heap
+  pub only : (address n : ℕ) → IsBlock (state_of word heap) address n → IsBlock (state_of word old) address n × ((i : ℕ) → length left ≤ i → i < length slabs → slice_index slabs i ≢ address)
+
+pub emptying_none : {A : Type 0} (regions : A → List Grant) (word : A → ℕ → ℕ) (heap : Dlmalloc A) (slabs : List ℕ) (size : ℕ) → IsLaidOut regions word heap size slabs → IsEmptying regions word heap slabs size heap slabs
+emptying_none regions word heap slabs size laid = record {
+  laid = laid;
+  few = omega arith;
+  front = λ i less. refl;
+  kept = λ address n block none. record { block = block; bytes = λ k less. refl };
+  only = λ address n block. (block, λ i from to. absurd (omega (arith, from, to)));
+}
+
+pub emptied : {A : Type 0} (regions : A → List Grant) (word : A → ℕ → ℕ) (old heap : Dlmalloc A) (slabs : List ℕ) (size : ℕ) (left : List ℕ) → length left ≡ 0 → IsEmptying regions word old slabs size heap left → IsEmptied regions word old slabs heap
+emptied regions word old heap slabs size left none e = record {
+  sound = e.laid.sound;
+  linked = e.laid.linked;
+  kept = e.kept;
+  only = λ address n block. (let was = e.only address n block in (was.0, λ i less. was.1 i (omega (arith, none)) less));
+}
+
+module _ {A : Type 0} (regions : A → List Grant) (word : A → ℕ → ℕ) (follows : A → List Event → A → Type 0) (frees parts : Bool) (unit : ℕ) (old heap new : Dlmalloc A) (slabs : List ℕ) (size : ℕ) (left rest : List ℕ) (address : ℕ)
+    (e : IsEmptying regions word old slabs size heap left) (is : left ≡ rest ++ address ∷ []) (placed : ArePlaced (regions heap.system) (state_of word heap))
+    (back : IsFreed regions word follows frees parts unit heap address new) (linked : IsBinned regions word new) where
+  many : length left ≡ length rest + 1
+  many = ap length is ∙ length-append rest (address ∷ [])
+
+  final : slice_index left (length rest) ≡ address
+  final = ap (λ xs. slice_index xs (length rest)) is ∙ get_or-append_seam rest address [] 0
+
+  same : (i : ℕ) → i < length rest → slice_index rest i ≡ slice_index left i
+  same i less = sym (ap (λ xs. slice_index xs i) is ∙ get_or_append_left rest (address ∷ []) 0 i less)
+
+  pub last_block : IsBlock (state_of word heap) address (64 * size)
+  last_block = subst (λ a. IsBlock (state_of word heap) a (64 * size)) final (e.laid.blocks (length rest) (omega (arith, many)))
+
+  pub emptying_more : IsEmptying regions word old slabs size new rest
+  emptying_more = record {
+    laid = record {
+      sound = back.sound;
+      linked = linked;
+      some = e.laid.some;
+      small = e.laid.small;
+      blocks = λ i less. subst (λ a. IsBlock (state_of word new) a (64 * size)) (sym (same i less))
+          (freed_keeps regions word follows heap new frees parts unit address placed last_block.low back (slice_index left i) (64 * size) (e.laid.blocks i (omega (arith, many, less)))
+          (λ at. e.laid.distinct i (length rest) (omega (arith, many, less)) (omega (arith, many)) (λ eq. absurd (omega (arith, eq, less))) (at ∙ sym final))).block;
+      distinct = λ i j less_i less_j differ eq. e.laid.distinct i j (omega (arith, many, less_i)) (omega (arith, many, less_j)) differ (sym (same i less_i) ∙ (eq ∙ same j less_j));
+    };
+    few = let few = e.few in omega (arith, many, few);
+    front = λ i less. same i less ∙ e.front i (omega (arith, many, less));
+    kept = λ at n block none.
+        let before = e.kept at n block none in
+        let few = e.few in
+        let apart : at ≢ address = λ eq. none (length rest) (omega (arith, many, few)) (sym (e.front (length rest) (omega (arith, many))) ∙ (final ∙ sym eq)) in
+        let now = freed_keeps regions word follows heap new frees parts unit address placed last_block.low back at n before.block apart in
+        record { block = now.block; bytes = λ k less. now.bytes k less ∙ before.bytes k less };
+    only = λ at n block.
+        let was = freed_only regions word follows heap new frees parts unit address placed last_block.low back at n block in
+        let before = e.only at n was.0 in (
+          before.0,
+          λ i from to. elim (lt_or_le i (length left)) [
+            | inl here ↦ (let one : i ≡ length rest = omega (arith, many, from, here) in
+                λ eq. was.1 (sym eq ∙ (ap (slice_index slabs) one ∙ (sym (e.front (length rest) (omega (arith, many))) ∙ final))))
+            | inr past ↦ before.1 i past to
+          ],
+        );
+  }

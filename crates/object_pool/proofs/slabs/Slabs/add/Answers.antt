@@ -1,0 +1,40 @@
+use Rattle.std.proofs.Common.{◌*◌, ap, arith, sym, subst}
+use Rattle.dlmalloc_chunks.specs.Request.{limit}
+use Rattle.dlmalloc.specs.Heap.{state_of}
+use Rattle.dlmalloc.specs.Served.{IsRefused}
+use Rattle.object_pool.specs.Pool.{IsLaidOut}
+use Rattle.object_pool.proofs.HeapBlocks.{handed_keeps, handed_fresh, refused_keeps}
+use Rattle.object_pool.proofs.SlabPlaces.{added_laid}
+use Rattle.object_pool.proofs.slabs.Slabs.add.Goals as goal
+
+pub unreachable-requires : goal.unreachable-requires
+unreachable-requires g c =
+    let small = c.slabs_are_small.ensures in
+    let same = ap limit c.granularity.ensures in
+    let large = (subst (λ error. IsRefused g.A.Allocator.denies c.args.self.now.heap.system (state_of g.A.Links.word c.args.self.now.heap) (64 * c.args.self.now.size) error) c.in-Err-TooLarge.field-0-is (c.in-Err-TooLarge.ensures).err.refused) in
+    omega (arith, small, large, same)
+
+pub returns-in-Ok-clause-laid : goal.returns-in-Ok-clause-laid
+returns-in-Ok-clause-laid g c =
+    let s = c.args.self.now in
+    subst (IsLaidOut g.A.Links.regions g.A.Links.word c.take_block.new.heap s.size) (sym c.push_reserved.ensures.items)
+    (added_laid g.A.Links.regions g.A.Links.word s.heap s.size s.places.items c.requires.laid g.A.Links.follows c.take_block.new.heap c.in-Ok.address c.take_block.ensures.placed c.in-Ok.ensures.ok c.take_block.ensures.linked)
+
+pub returns-in-Ok-clause-kept : goal.returns-in-Ok-clause-kept
+returns-in-Ok-clause-kept g c =
+    let s = c.args.self.now in
+    handed_keeps g.A.Links.regions g.A.Links.word g.A.Links.follows s.heap c.take_block.new.heap (64 * s.size) 16 c.in-Ok.address c.take_block.ensures.placed c.in-Ok.ensures.ok
+
+pub returns-in-Ok-clause-added : goal.returns-in-Ok-clause-added
+returns-in-Ok-clause-added g c =
+    let s = c.args.self.now in
+    record {
+      address = c.in-Ok.address;
+      is = c.push_reserved.ensures.items;
+      fresh = handed_fresh g.A.Links.regions g.A.Links.word g.A.Links.follows s.heap c.take_block.new.heap (64 * s.size) 16 c.in-Ok.address c.take_block.ensures.placed c.in-Ok.ensures.ok;
+    }
+
+pub returns-in-Err-System-clause-kept : goal.returns-in-Err-System-clause-kept
+returns-in-Err-System-clause-kept g c =
+    let s = c.args.self.now in
+    refused_keeps g.A.Links.regions g.A.Links.word g.A.Links.follows s.heap c.take_block.new.heap g.A.Allocator.refuses c.take_block.ensures.placed c.in-Err-System.ensures.err.same

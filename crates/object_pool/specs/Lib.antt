@@ -1,0 +1,5 @@
+pub mod Bytes
+pub mod Lists
+pub mod Slots
+pub mod Pooled
+pub mod Pool

@@ -1,0 +1,85 @@
+-- The plain model of a pool: what was inserted, in order, and which slots are free again.
+use Rattle.std.specs.Prelude.{◌≡◌, ℕ, ◌+◌, ◌-◌, ◌*◌, ◌/◌, ◌^◌, max, Bool, ◌&&◌, ◌==◌, if◌then◌else◌, List, [], ◌∷◌, ◌++◌, length, map, filter, take, slice_get, is_some, unwrap_or, Option, Some, None}
+use Rattle.object_pool.specs.declared.key.Key.{Key}
+
+-- what was inserted once
+pub record Entry : Type 0 where
+  pub key : Key
+  -- the object's bytes; None from its removal on
+  pub bytes : Option (List ℕ)
+
+pub record Lists : Type 0 where
+  -- in the order inserted
+  pub entries : List Entry
+  -- the slots that are free again, the one freed last at the end
+  pub freed : List ℕ
+
+-- the lists of a new pool
+abbrev pub empty : Lists
+empty = record { entries = []; freed = [] }
+
+-- whether an entry has a key
+abbrev pub is_of : Key → Entry → Bool
+is_of key entry = entry.key.index == key.index && entry.key.generation == key.generation
+
+-- the bytes of the object that a key names, if there is one
+abbrev pub object_of : Key → List Entry → Option (List ℕ)
+object_of key [] = None
+object_of key (entry ∷ entries) = if is_of key entry then entry.bytes else object_of key entries
+
+-- the entries that an index had, in their order
+abbrev pub entries_at : ℕ → List Entry → List Entry
+entries_at index entries = filter (λ entry. entry.key.index == index) entries
+
+-- How many indexes entries have. They are 0 and up without a gap, so this is the least index that no entry has.
+abbrev pub index_count : List Entry → ℕ
+index_count [] = 0
+index_count (entry ∷ entries) = max (entry.key.index + 1) (index_count entries)
+
+-- the entries, where that of a key has other bytes or none
+abbrev pub with_bytes : Key → Option (List ℕ) → List Entry → List Entry
+with_bytes key bytes entries = map (λ entry. if is_of key entry then record entry { bytes = bytes } else entry) entries
+
+-- the slot of the next insert: the one freed last, else the lowest that was never used
+abbrev pub next_index : Lists → ℕ
+next_index lists = unwrap_or (slice_get lists.freed (length lists.freed - 1)) (index_count lists.entries)
+
+-- the key of the next insert: its generation is the number of entries that the index had
+abbrev pub next_key : Lists → Key
+next_key lists = record { index = next_index lists; generation = length (entries_at (next_index lists) lists.entries) }
+
+-- ---- what the calls do to the lists
+
+abbrev pub inserted : List ℕ → Lists → Lists
+inserted bytes lists = record {
+  entries = lists.entries ++ (record { key = next_key lists; bytes = Some bytes }) ∷ [];
+  freed = take (length lists.freed - 1) lists.freed;
+}
+
+abbrev pub replaced : Key → List ℕ → Lists → Lists
+replaced key bytes lists = record lists { entries = with_bytes key (Some bytes) lists.entries }
+
+-- a slot is not used again where its index had 2 ^ 32 - 1 entries
+abbrev pub removed : Key → Lists → Lists
+removed key lists = record {
+  entries = with_bytes key None lists.entries;
+  freed = if length (entries_at key.index lists.entries) == 2 ^ 32 - 1 then lists.freed else lists.freed ++ key.index ∷ [];
+}
+
+-- ---- what the calls answer
+
+-- how many objects there are
+abbrev pub object_count : List Entry → ℕ
+object_count entries = length (filter (λ entry. is_some entry.bytes) entries)
+
+-- how many slabs of 64 slots there are: as many as the indexes need
+abbrev pub slab_count : List Entry → ℕ
+slab_count entries = (index_count entries + 63) / 64
+
+-- no slot is free: none was freed that may be used again, and each slot of the slabs was used
+abbrev pub LacksSlot : Lists → Type 0
+LacksSlot lists = (lists.freed ≡ []) × (index_count lists.entries ≡ 64 * slab_count lists.entries)
+
+-- there are as many slots as there can be
+abbrev pub IsFull : Lists → Type 0
+IsFull lists = LacksSlot lists × (index_count lists.entries ≡ 2 ^ 32 - 64)

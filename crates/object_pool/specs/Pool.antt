@@ -1,0 +1,149 @@
+-- What a pool keeps, and when it stands for lists.
+use Rattle.std.specs.Prelude.{◌≡◌, ◌≢◌, ℕ, zero, suc, ◌+◌, ◌-◌, ◌*◌, ◌/◌, ◌%◌, ◌^◌, ◌<◌, ◌≤◌, ◌⊎◌, if◌then◌else◌, List, [], ◌∷◌, ◌++◌, length, slice_index, Some, None}
+use Rattle.heap_memory.specs.declared.grant.Grant.{Grant}
+use Rattle.heap_memory.specs.declared.grant.GrantFault.{GrantFault}
+use Rattle.heap_memory.specs.Events.{Event}
+use Rattle.dlmalloc_chunks.specs.Request.{padded}
+use Rattle.dlmalloc.specs.declared.heap.Dlmalloc.{Dlmalloc}
+use Rattle.dlmalloc.specs.Heap.{state_of, IsSound}
+use Rattle.dlmalloc.specs.Binned.{IsBinned}
+use Rattle.dlmalloc.specs.Blocks.{IsBlock}
+use Rattle.dlmalloc.specs.Grown.{IsAsItWas}
+use Rattle.dlmalloc.specs.Served.{IsDenied}
+use Rattle.object_pool.specs.declared.pool_fault.PoolFault.{PoolFault}
+use Rattle.object_pool.specs.declared.pool_fault.PoolFault.TheVariants.{Full, Heap, OutOfMemory}
+use Rattle.object_pool.specs.declared.slots.Slot.{Slot}
+use Rattle.object_pool.specs.Bytes.{byte_in, bytes_at}
+use Rattle.object_pool.specs.Lists.{Entry, Lists, entries_at, index_count, object_count, slab_count, LacksSlot, IsFull}
+use Rattle.object_pool.specs.Pooled.{Pooled}
+use Rattle.object_pool.specs.Slots.{slot_at, used_count}
+
+-- ---- where objects lie
+
+-- the place of a slot: 64 slots stand in a slab, one behind the other
+abbrev pub place_of : List ℕ → ℕ → ℕ → ℕ
+place_of slabs size index = slice_index slabs (index / 64) + size * (index % 64)
+
+-- the bytes at the place of a slot
+abbrev pub bytes_of : {A : Type 0} → (A → ℕ → ℕ) → Dlmalloc A → List ℕ → ℕ → ℕ → List ℕ
+bytes_of word heap slabs size index = bytes_at (word heap.system) (place_of slabs size index) size
+
+-- no slab begins at an address
+abbrev pub IsNoSlab : List ℕ → ℕ → Type 0
+IsNoSlab slabs address = (i : ℕ) → i < length slabs → slice_index slabs i ≢ address
+
+-- The heap is sound, and each slab is a block of it, which has room for 64 objects; no two slabs are one block.
+pub record IsLaidOut {A : Type 0} (regions : A → List Grant) (word : A → ℕ → ℕ) (heap : Dlmalloc A) (size : ℕ) (slabs : List ℕ) : Type 0 where
+  pub sound : IsSound regions word heap
+  pub linked : IsBinned regions word heap
+  pub some : 0 < size
+  pub small : size ≤ 4096
+  pub blocks : (i : ℕ) → i < length slabs → IsBlock (state_of word heap) (slice_index slabs i) (64 * size)
+  pub distinct : (i j : ℕ) → i < length slabs → j < length slabs → i ≢ j → slice_index slabs i ≢ slice_index slabs j
+
+-- the objects of two slots have no byte in common
+abbrev pub PlacesAreApart : List ℕ → ℕ → Type 0
+PlacesAreApart slabs size = (i j : ℕ) → i < 64 * length slabs → j < 64 * length slabs → i ≢ j →
+    (place_of slabs size i + size ≤ place_of slabs size j) ⊎ (place_of slabs size j + size ≤ place_of slabs size i)
+
+-- ---- what stays of a heap
+
+-- a block of a heap is one of another, with the bytes that it had
+pub record IsKept {A : Type 0} (word : A → ℕ → ℕ) (old : Dlmalloc A) (address size : ℕ) (new : Dlmalloc A) : Type 0 where
+  pub block : IsBlock (state_of word new) address size
+  pub bytes : (k : ℕ) → k < size → byte_in (word new.system) (address + k) ≡ byte_in (word old.system) (address + k)
+
+-- so is each block
+abbrev pub KeepsAll : {A : Type 0} → (A → ℕ → ℕ) → Dlmalloc A → Dlmalloc A → Type 0
+KeepsAll word old new = (address size : ℕ) → IsBlock (state_of word old) address size → IsKept word old address size new
+
+-- so is each block that is no slab
+abbrev pub KeepsOthers : {A : Type 0} → (A → ℕ → ℕ) → List ℕ → Dlmalloc A → Dlmalloc A → Type 0
+KeepsOthers word slabs old new = (address size : ℕ) → IsBlock (state_of word old) address size → IsNoSlab slabs address → IsKept word old address size new
+
+-- A slab more was taken, which was no block before.
+pub record IsAdded {A : Type 0} (word : A → ℕ → ℕ) (old : Dlmalloc A) (slabs new_slabs : List ℕ) : Type 0 where
+  pub address : ℕ
+  pub is : new_slabs ≡ slabs ++ address ∷ []
+  pub fresh : (size : ℕ) → IsBlock (state_of word old) address size → ⊥
+
+-- Every slab was given back: the heap is sound, each block of it was one that is no slab, and each of these has the bytes that
+-- it had.
+pub record IsEmptied {A : Type 0} (regions : A → List Grant) (word : A → ℕ → ℕ) (old : Dlmalloc A) (slabs : List ℕ) (new : Dlmalloc A) : Type 0 where
+  pub sound : IsSound regions word new
+  pub linked : IsBinned regions word new
+  pub kept : KeepsOthers word slabs old new
+  pub only : (address size : ℕ) → IsBlock (state_of word new) address size → IsBlock (state_of word old) address size × IsNoSlab slabs address
+
+-- ---- what a pool keeps
+
+-- Its slabs are laid out, and each slot has a place in one of them; the slots of all slabs have places in the lists.
+pub record IsPool {A : Type 0} (regions : A → List Grant) (word : A → ℕ → ℕ) (heap : Dlmalloc A) (size : ℕ) (slabs : List ℕ) (slots : List Slot) (places freed_places : ℕ) : Type 0 where
+  pub laid : IsLaidOut regions word heap size slabs
+  pub within : length slots ≤ 64 * length slabs
+  pub most : 64 * length slabs ≤ 2 ^ 32 - 64
+  pub room : 64 * length slabs ≤ places
+  pub freed_room : 64 * length slabs ≤ freed_places
+
+-- ---- which lists a pool stands for
+
+-- the entries of the objects that were removed from a slot: their generations are 0 and up
+abbrev pub past : ℕ → ℕ → List Entry
+past index zero = []
+past index (suc generation) = past index generation ++ (record { key = record { index = index; generation = generation }; bytes = None }) ∷ []
+
+-- the entry of the object that is in a slot, if there is one
+abbrev pub present : ℕ → Slot → List ℕ → List Entry
+present index slot bytes = if slot.used then (record { key = record { index = index; generation = slot.generation }; bytes = Some bytes }) ∷ [] else []
+
+-- Slots hold the entries, where an object at a slot has these bytes.
+pub record Holds (slots : List Slot) (freed : List ℕ) (bytes : ℕ → List ℕ) (lists : Lists) : Type 0 where
+  -- the entries of an index, in the order inserted, are those of the objects that were removed from its slot, and then that of
+  -- the object in it
+  pub entries : (index : ℕ) → entries_at index lists.entries ≡ past index (slot_at slots index).generation ++ present index (slot_at slots index) (bytes index)
+  -- the indexes are 0 and up without a gap
+  pub indexes : index_count lists.entries ≡ length slots
+  pub whole : (index : ℕ) → index < length slots → 0 < length (entries_at index lists.entries)
+  pub freed_are : lists.freed ≡ freed
+  pub objects : object_count lists.entries ≡ used_count slots
+
+-- A pool stands for the lists: its slots hold their entries, with the bytes that stand in its heap. There are as many slabs as
+-- the slots need.
+pub record Stands {A : Type 0} (word : A → ℕ → ℕ) (pool : Pooled A) (lists : Lists) : Type 0 where
+  pub holds : Holds pool.slots pool.freed (bytes_of word pool.heap pool.slabs pool.size) lists
+  pub slabs : slab_count lists.entries ≡ length pool.slabs
+
+-- ---- what the calls leave
+
+-- the size of objects stays, and so does each block that is no slab, with the bytes that it had
+pub record Keeps {A : Type 0} (word : A → ℕ → ℕ) (old new : Pooled A) : Type 0 where
+  pub size : new.size ≡ old.size
+  pub blocks : KeepsOthers word old.slabs old.heap new.heap
+
+-- A slab was taken, where no slot was free, or the slabs are the same.
+abbrev pub TakesSlabIfNeeded : {A : Type 0} → (A → ℕ → ℕ) → Pooled A → Lists → Pooled A → Type 0
+TakesSlabIfNeeded word old lists new = (LacksSlot lists × IsAdded word old.heap old.slabs new.slabs) ⊎ (new.slabs ≡ old.slabs)
+
+-- A slot is free: where none was, a slab was taken, and else all is as it was.
+pub record HasRoom {A : Type 0} (word : A → ℕ → ℕ) (old new : Pooled A) : Type 0 where
+  pub kept : KeepsAll word old.heap new.heap
+  pub others : new ≡ record old { heap = new.heap; slabs = new.slabs }
+  pub slab : (((old.freed ≡ []) × (length old.slots ≡ 64 * length old.slabs) × (length old.slots < 2 ^ 32 - 64)) × IsAdded word old.heap old.slabs new.slabs)
+      ⊎ (((old.freed ≡ []) × (length old.slots ≡ 64 * length old.slabs) → ⊥) × (new ≡ old))
+
+-- Why an insert is refused. Want of memory is free.
+abbrev pub IsRefused : {A : Type 0} → (A → ℕ → ℕ) → (A → ℕ → GrantFault → Type 0) → Pooled A → Lists → PoolFault → Type 0
+IsRefused word denies pool lists Full = IsFull lists
+IsRefused word denies pool lists (Heap fault) = LacksSlot lists × (index_count lists.entries < 2 ^ 32 - 64) × IsDenied denies pool.heap.system (state_of word pool.heap) (padded (64 * pool.size)) fault
+IsRefused word denies pool lists OutOfMemory = LacksSlot lists × (index_count lists.entries < 2 ^ 32 - 64)
+
+-- why a slab is refused
+abbrev pub IsRefusedBy : {A : Type 0} → (A → ℕ → ℕ) → (A → ℕ → GrantFault → Type 0) → Pooled A → PoolFault → Type 0
+IsRefusedBy word denies pool Full = length pool.slots ≡ 2 ^ 32 - 64
+IsRefusedBy word denies pool (Heap fault) = (length pool.slots < 2 ^ 32 - 64) × IsDenied denies pool.heap.system (state_of word pool.heap) (padded (64 * pool.size)) fault
+IsRefusedBy word denies pool OutOfMemory = length pool.slots < 2 ^ 32 - 64
+
+-- A refused insert leaves all as it was, but for what the system denies next.
+pub record IsUnchanged {A : Type 0} (regions : A → List Grant) (word : A → ℕ → ℕ) (follows : A → List Event → A → Type 0) (refuses : A → A → Type 0) (old new : Pooled A) : Type 0 where
+  pub heap : IsAsItWas regions word follows refuses old.heap new.heap
+  pub others : new ≡ record old { heap = new.heap }

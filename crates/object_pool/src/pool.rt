@@ -1,0 +1,227 @@
+//! The pool.
+ghost use Rattle.std.specs.Prelude.{◌≡◌, ◌≢◌, ℕ, ◌+◌, ◌-◌, ◌*◌, ◌/◌, ◌^◌, ◌<◌, ◌≤◌, Bool, true, false, if◌then◌else◌, [], ◌∷◌, ◌++◌, IfOk, IfErr, OnErr, OnOk, Some, None, Err, IsSome, IsTrue, ◌↔◌, length, vec_len, vec_capacity};
+ghost use Rattle.dlmalloc_chunks.specs.Request.{padded};
+ghost use Rattle.dlmalloc.specs.Binned.{IsBinned};
+ghost use Rattle.dlmalloc.specs.Heap.{state_of, IsSound};
+ghost use Rattle.object_pool.specs.Lists.{Lists, empty, object_of, object_count, slab_count, next_key, inserted, replaced, removed, LacksSlot, IsFull};
+
+use crate::Bytes;
+use crate::key::Key;
+use crate::pool_fault::PoolFault;
+use crate::slabs::{SLOTS, Slabs};
+use crate::slots::Slots;
+use dlmalloc::Dlmalloc;
+use heap_memory::{Allocator, Links, Memory};
+use std::alloc::{AllocError, Global};
+use std::marker::Model;
+
+/// The most slots that a pool can have.
+const MOST_SLOTS: u64 = 0x1_0000_0000 - SLOTS;
+
+/// Reserves a place for a slab more, and for its slots. It changes no slab and no slot.
+fn reserve(slabs: &mut Vec<u64>, slots: &mut Slots) -> Result<(), AllocError>
+    ensures slabs { slabs.new.items ≡ slabs.old.items }
+    ensures place { OnOk result (vec_len slabs.old < vec_capacity slabs.new) }
+    ensures slots { slots.new.slots.items ≡ slots.old.slots.items }
+    ensures freed { slots.new.freed.items ≡ slots.old.freed.items }
+    ensures room { OnOk result (length slots.old.slots.items + 64 ≤ vec_capacity slots.new.slots) }
+    ensures freed_room { OnOk result (length slots.old.slots.items + 64 ≤ vec_capacity slots.new.freed) }
+    ensures kept { (n : ℕ) → n ≤ vec_capacity slots.old.slots → n ≤ vec_capacity slots.new.slots }
+    ensures freed_kept { (n : ℕ) → n ≤ vec_capacity slots.old.freed → n ≤ vec_capacity slots.new.freed }
+{
+    slabs.reserve(1)?;
+    slots.reserve(SLOTS)
+}
+
+/// Objects of one size, in slabs of a heap, behind keys that never name another object.
+#[derive(Drop)]
+pub struct Pool<A: Allocator + Memory> {
+    alloc: Global,
+    slabs: Slabs<A>,
+    slots: Slots,
+}
+
+impl<A: Allocator + Memory> Model for Pool<A> {
+    ghost use Rattle.object_pool.specs.Pooled.{Pooled};
+
+    ghost Value = { Pooled A };
+
+    ghost use Rattle.std.specs.Prelude.{vec_capacity};
+    ghost use Rattle.object_pool.specs.Pool.{IsPool};
+
+    ghost view = { λ pool. record { heap = pool.slabs.heap; size = pool.slabs.size; slabs = pool.slabs.places.items; slots = pool.slots.slots.items; freed = pool.slots.freed.items } };
+
+    ghost invariant = { λ pool. IsPool A.regions A.word pool.slabs.heap pool.slabs.size pool.slabs.places.items pool.slots.slots.items (vec_capacity pool.slots.slots) (vec_capacity pool.slots.freed) };
+}
+
+impl<A: Allocator + Memory> Pool<A> {
+    ghost use Rattle.object_pool.specs.Pool.{HasRoom, IsAdded, IsEmptied, IsLaidOut, IsRefused, IsRefusedBy, IsUnchanged, Keeps, KeepsAll, PlacesAreApart, Stands, TakesSlabIfNeeded};
+
+    /// A pool without objects or slabs, for objects of `size` bytes, over a heap.
+    pub fn new(alloc: Global, heap: Dlmalloc<A>, size: u64) -> Pool<A>
+        requires some { 0 < size }
+        requires small { size ≤ 4096 }
+        requires sound { IsSound A.regions A.word heap }
+        requires linked { IsBinned A.regions A.word heap }
+        ensures is { result ≡ record { heap = heap; size = size; slabs = []; slots = []; freed = [] } }
+        ensures stands { Stands A.word result empty }
+    {
+        Pool {
+            alloc,
+            slabs: Slabs {
+                heap,
+                size,
+                places: Vec::new(alloc),
+            },
+            slots: Slots::new(alloc),
+        }
+    }
+
+    /// Inserts an object, and answers its key. It uses the slot freed last, else the lowest that was never used, and takes a
+    /// slab only where no slot is free. An `Err` changes nothing but what the heap's system denies next.
+    pub fn insert(&mut self, bytes: &[u8]) -> Result<Key, PoolFault>
+        requires many { length bytes.now ≡ self.old.size }
+        ensures key { (lists : Lists) → Stands A.word self.old lists → IfOk result (λ key. key ≡ next_key lists) }
+        ensures after { (lists : Lists) → Stands A.word self.old lists → IfOk result (λ key. Stands A.word self.new (inserted bytes.now lists)) }
+        ensures slab { (lists : Lists) → Stands A.word self.old lists → IfOk result (λ key. TakesSlabIfNeeded A.word self.old lists self.new) }
+        ensures refused { (lists : Lists) → Stands A.word self.old lists → IfErr result (λ fault. IsRefused A.word A.denies self.old lists fault) }
+        ensures full { (lists : Lists) → Stands A.word self.old lists → IsFull lists → result ≡ Err PoolFault.Full }
+        ensures err { IfErr result (λ fault. IsUnchanged A.regions A.word A.follows A.refuses self.old self.new) }
+        ensures kept { Keeps A.word self.old self.new }
+    {
+        self.make_room()?;
+        let key = self.slots.take();
+        self.slabs.write(key.index, bytes);
+        Ok(key)
+    }
+
+    /// Whether no slot is free.
+    fn lacks_slot(&self) -> bool
+        ensures laid { IsLaidOut A.regions A.word self.now.heap self.now.size self.now.slabs }
+        ensures within { length self.now.slots ≤ 64 * length self.now.slabs }
+        ensures answer { IsTrue result ↔ ((self.now.freed ≡ []) × (length self.now.slots ≡ 64 * length self.now.slabs)) }
+    {
+        self.slots.none_freed() && self.slots.len() == SLOTS * self.slabs.len()
+    }
+
+    /// Takes a slab where no slot is free.
+    fn make_room(&mut self) -> Result<(), PoolFault>
+        ensures laid { IsLaidOut A.regions A.word self.old.heap self.old.size self.old.slabs }
+        ensures within { length self.old.slots ≤ 64 * length self.old.slabs }
+        ensures room { OnOk result (HasRoom A.word self.old self.new) }
+        ensures kept { KeepsAll A.word self.old.heap self.new.heap }
+        ensures others { self.new ≡ record self.old { heap = self.new.heap; slabs = self.new.slabs } }
+        ensures lacks { OnErr result ((self.old.freed ≡ []) × (length self.old.slots ≡ 64 * length self.old.slabs)) }
+        ensures refused { IfErr result (λ fault. IsRefusedBy A.word A.denies self.old fault) }
+        ensures err { IfErr result (λ fault. IsUnchanged A.regions A.word A.follows A.refuses self.old self.new) }
+    {
+        if !self.lacks_slot() {
+            return Ok(());
+        }
+        self.add_slab()
+    }
+
+    /// Takes a slab more, where no slot is free. Every place that its slots need is reserved before the heap is asked.
+    fn add_slab(&mut self) -> Result<(), PoolFault>
+        requires lacks { (self.old.freed ≡ []) × (length self.old.slots ≡ 64 * length self.old.slabs) }
+        ensures added { OnOk result (IsAdded A.word self.old.heap self.old.slabs self.new.slabs) }
+        ensures few { OnOk result (length self.old.slots < 2 ^ 32 - 64) }
+        ensures kept { KeepsAll A.word self.old.heap self.new.heap }
+        ensures others { self.new ≡ record self.old { heap = self.new.heap; slabs = self.new.slabs } }
+        ensures refused { IfErr result (λ fault. IsRefusedBy A.word A.denies self.old fault) }
+        ensures err { IfErr result (λ fault. IsUnchanged A.regions A.word A.follows A.refuses self.old self.new) }
+    {
+        if self.slots.len() == MOST_SLOTS {
+            return Err(PoolFault::Full);
+        }
+        if reserve(&mut self.slabs.places, &mut self.slots).is_err() {
+            return Err(PoolFault::OutOfMemory);
+        }
+        match self.slabs.add() {
+            Ok(()) => Ok(()),
+            Err(fault) => Err(PoolFault::Heap(fault)),
+        }
+    }
+
+    /// The bytes of a key's object. None exactly where the key has no object.
+    pub fn get(&self, key: Key) -> Result<Option<Bytes>, AllocError>
+        ensures ok { (lists : Lists) → Stands A.word self.now lists → IfOk result (λ object. object ≡ object_of key lists.entries) }
+        ensures err { (lists : Lists) → Stands A.word self.now lists → OnErr result (IsSome (object_of key lists.entries)) }
+    {
+        if !self.slots.has(key) {
+            return Ok(None);
+        }
+        Ok(Some(self.slabs.read(self.alloc, key.index)?))
+    }
+
+    /// Gives a key's object other bytes. False exactly where the key has no object; then nothing changes. It takes no memory.
+    pub fn set(&mut self, key: Key, bytes: &[u8]) -> bool
+        requires many { length bytes.now ≡ self.old.size }
+        ensures answer { (lists : Lists) → Stands A.word self.old lists → IsTrue result ↔ IsSome (object_of key lists.entries) }
+        ensures after { (lists : Lists) → Stands A.word self.old lists → result ≡ true → Stands A.word self.new (replaced key bytes.now lists) }
+        ensures same { result ≡ false → self.new ≡ self.old }
+        ensures others { self.new ≡ record self.old { heap = self.new.heap } }
+        ensures state { state_of A.word self.new.heap ≡ state_of A.word self.old.heap }
+        ensures kept { Keeps A.word self.old self.new }
+    {
+        if !self.slots.has(key) {
+            return false;
+        }
+        self.slabs.write(key.index, bytes);
+        true
+    }
+
+    /// Removes a key's object. False exactly where the key has no object; then nothing changes. The slot is free, unless it was
+    /// its last generation. It takes no memory.
+    pub fn remove(&mut self, key: Key) -> bool
+        ensures answer { (lists : Lists) → Stands A.word self.old lists → IsTrue result ↔ IsSome (object_of key lists.entries) }
+        ensures after { (lists : Lists) → Stands A.word self.old lists → result ≡ true → Stands A.word self.new (removed key lists) }
+        ensures same { result ≡ false → self.new ≡ self.old }
+        ensures heap { self.new.heap ≡ self.old.heap }
+        ensures slabs { self.new.slabs ≡ self.old.slabs }
+        ensures size { self.new.size ≡ self.old.size }
+    {
+        if !self.slots.has(key) {
+            return false;
+        }
+        self.slots.release(key);
+        true
+    }
+
+    /// The number of objects.
+    pub fn len(&self) -> u64
+        ensures { (lists : Lists) → Stands A.word self.now lists → result ≡ object_count lists.entries }
+    {
+        self.slots.used()
+    }
+
+    /// The number of slabs.
+    pub fn slabs(&self) -> u64
+        ensures number { result ≡ length self.now.slabs }
+        ensures needed { (lists : Lists) → Stands A.word self.now lists → result ≡ slab_count lists.entries }
+    {
+        self.slabs.len()
+    }
+
+    /// The heap. It is sound, and each slab is a block of it.
+    pub fn heap(&self) -> &Dlmalloc<A>
+        ensures heap { result.now ≡ self.now.heap }
+        ensures laid { IsLaidOut A.regions A.word self.now.heap self.now.size self.now.slabs }
+    {
+        &self.slabs.heap
+    }
+
+    /// The objects of two slots have no byte in common (own).
+    pub fn places_are_apart(&self)
+        ensures { PlacesAreApart self.now.slabs self.now.size }
+    {
+        self.slabs.heap.blocks_are_apart();
+    }
+
+    /// Gives every slab back, and answers the heap: the blocks that are no slabs stand in it with the bytes that they had.
+    pub fn finish(self) -> Dlmalloc<A>
+        ensures { IsEmptied A.regions A.word self.heap self.slabs result }
+    {
+        self.slabs.free_all()
+    }
+}

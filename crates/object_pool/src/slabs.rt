@@ -1,0 +1,174 @@
+// Slabs: blocks of a heap, each with places for 64 objects.
+ghost use Rattle.std.specs.Prelude.{◌≡◌, ◌≢◌, ℕ, ◌+◌, ◌*◌, ◌<◌, ◌≤◌, [], ◌∷◌, ◌++◌, IfOk, IfErr, length, vec_len, vec_capacity};
+ghost use Rattle.dlmalloc_chunks.specs.Request.{limit, padded};
+ghost use Rattle.dlmalloc.specs.AfterFree.{IsFreed};
+ghost use Rattle.dlmalloc.specs.Binned.{IsBinned};
+ghost use Rattle.dlmalloc.specs.Blocks.{IsBlock, ArePlaced};
+ghost use Rattle.dlmalloc.specs.Grown.{IsAsItWas};
+ghost use Rattle.dlmalloc.specs.Heap.{state_of, IsGranularity, IsSound};
+ghost use Rattle.dlmalloc.specs.Requested.{IsHandedOut};
+ghost use Rattle.dlmalloc.specs.Served.{IsDenied, IsRefusedWith};
+ghost use Rattle.object_pool.specs.Bytes.{AreGranted};
+ghost use Rattle.object_pool.specs.Pool.{bytes_of, place_of, IsAdded, IsEmptied, IsLaidOut, KeepsAll, KeepsOthers};
+
+use crate::Bytes;
+use crate::bytes::{read_bytes, write_bytes};
+use dlmalloc::{Dlmalloc, MallocError};
+use heap_memory::{Allocator, GrantFault, Links, Memory};
+use std::alloc::{AllocError, Global};
+use std::marker::Brand;
+use std::sync::ledger::{Blank, Ledger};
+use step_count::Steps;
+
+/// How many slots stand in a slab.
+pub(crate) const SLOTS: u64 = 64;
+
+/// The alignment of a slab, in bytes.
+const ALIGNMENT: u64 = 16;
+
+/// Slabs of a heap, for objects of a size.
+#[derive(Drop)]
+pub(crate) struct Slabs<A: Allocator> {
+    pub(crate) heap: Dlmalloc<A>,
+    pub(crate) size: u64,
+    /// Where the slabs begin.
+    pub(crate) places: Vec<u64>,
+}
+
+/// A slab is never too large for a heap (own).
+fn slabs_are_small(granularity: u64, size: u64)
+    requires granularity { IsGranularity granularity }
+    requires small { size ≤ 262144 }
+    ensures { size < limit granularity }
+{}
+
+/// Asks a heap for a block of `size` bytes, with a counter of its own. The blocks before and after are placed.
+fn take_block<A: Allocator, L: Ledger>(
+    heap: &mut Dlmalloc<A>,
+    size: u64,
+    blank: Blank,
+) -> Result<u64, MallocError>
+    requires name { blank.name ≡ L.name }
+    requires parts { blank.parts ≡ L.parts }
+    requires some { 0 < blank.parts }
+    requires sound { IsSound A.regions A.word heap.old }
+    requires linked { IsBinned A.regions A.word heap.old }
+    ensures ok { IfOk result (λ address. IsHandedOut A.regions A.word A.follows heap.old size 16 address heap.new) }
+    ensures err { IfErr result (λ error. IsRefusedWith A.regions A.word A.follows A.refuses A.denies heap.old size error heap.new) }
+    ensures sound { IsSound A.regions A.word heap.new }
+    ensures linked { IsBinned A.regions A.word heap.new }
+    ensures placed { ArePlaced (A.regions heap.old.system) (state_of A.word heap.old) }
+{
+    heap.blocks_are_placed();
+    heap.malloc(size, ALIGNMENT, &mut Steps::<L>::new(blank))
+}
+
+/// Gives a block of a heap back, with a counter of its own. The blocks before and after are placed.
+fn free_block<A: Allocator, L: Ledger>(
+    heap: &mut Dlmalloc<A>,
+    address: u64,
+    size: u64,
+    blank: Blank,
+)
+    requires name { blank.name ≡ L.name }
+    requires parts { blank.parts ≡ L.parts }
+    requires some { 0 < blank.parts }
+    requires sound { IsSound A.regions A.word heap.old }
+    requires linked { IsBinned A.regions A.word heap.old }
+    requires block { IsBlock (state_of A.word heap.old) address size }
+    ensures freed { IsFreed A.regions A.word A.follows (A.frees heap.old.system) (A.parts heap.old.system) (A.unit heap.old.system) heap.old address heap.new }
+    ensures linked { IsBinned A.regions A.word heap.new }
+    ensures placed { ArePlaced (A.regions heap.old.system) (state_of A.word heap.old) }
+{
+    heap.blocks_are_placed();
+    heap.free(address, size, ALIGNMENT, &mut Steps::<L>::new(blank));
+}
+
+impl<A: Allocator + Memory> Slabs<A> {
+    /// How many slabs there are.
+    pub(crate) fn len(&self) -> u64
+        ensures { result ≡ length self.now.places.items }
+    {
+        self.places.len() as u64
+    }
+
+    /// The place of a slot. It is granted, with the bytes of an object.
+    fn place(&self, index: u32) -> u64
+        requires laid { IsLaidOut A.regions A.word self.now.heap self.now.size self.now.places.items }
+        requires there { index < 64 * length self.now.places.items }
+        ensures place { result ≡ place_of self.now.places.items self.now.size index }
+        ensures granted { AreGranted (A.regions self.now.heap.system) result self.now.size }
+    {
+        self.heap.blocks_are_placed();
+        let slot = index as u64;
+        self.places[(slot / SLOTS) as usize] + self.size * (slot % SLOTS)
+    }
+
+    /// The bytes at the place of a slot.
+    pub(crate) fn read(&self, alloc: Global, index: u32) -> Result<Bytes, AllocError>
+        requires laid { IsLaidOut A.regions A.word self.now.heap self.now.size self.now.places.items }
+        requires there { index < 64 * length self.now.places.items }
+        ensures { IfOk result (λ bytes. bytes ≡ bytes_of A.word self.now.heap self.now.places.items self.now.size index) }
+    {
+        let place = self.place(index);
+        let bytes = read_bytes(self.heap.allocator(), alloc, place, self.size)?;
+        Ok(Bytes::from_vec(bytes))
+    }
+
+    /// Puts bytes at the place of a slot.
+    pub(crate) fn write(&mut self, index: u32, bytes: &[u8])
+        requires laid { IsLaidOut A.regions A.word self.old.heap self.old.size self.old.places.items }
+        requires there { index < 64 * length self.old.places.items }
+        requires many { length bytes.now ≡ self.old.size }
+        ensures laid { IsLaidOut A.regions A.word self.new.heap self.new.size self.new.places.items }
+        ensures size { self.new.size ≡ self.old.size }
+        ensures places { self.new.places ≡ self.old.places }
+        ensures state { state_of A.word self.new.heap ≡ state_of A.word self.old.heap }
+        ensures here { bytes_of A.word self.new.heap self.old.places.items self.old.size index ≡ bytes.now }
+        ensures others { (other : ℕ) → other < 64 * length self.old.places.items → other ≢ index →
+            bytes_of A.word self.new.heap self.old.places.items self.old.size other ≡ bytes_of A.word self.old.heap self.old.places.items self.old.size other }
+        ensures kept { KeepsOthers A.word self.old.places.items self.old.heap self.new.heap }
+    {
+        let place = self.place(index);
+        self.heap.blocks_are_placed();
+        self.heap.blocks_are_apart();
+        self.heap.rests_outside();
+        write_bytes(self.heap.allocator_mut(), place, bytes);
+    }
+
+    /// Takes one more slab of the heap. It has a place in the list.
+    pub(crate) fn add(&mut self) -> Result<(), GrantFault>
+        requires laid { IsLaidOut A.regions A.word self.old.heap self.old.size self.old.places.items }
+        requires room { vec_len self.old.places < vec_capacity self.old.places }
+        ensures laid { IsLaidOut A.regions A.word self.new.heap self.new.size self.new.places.items }
+        ensures size { self.new.size ≡ self.old.size }
+        ensures kept { KeepsAll A.word self.old.heap self.new.heap }
+        ensures added { IfOk result (λ done. IsAdded A.word self.old.heap self.old.places.items self.new.places.items) }
+        ensures places { IfErr result (λ fault. self.new.places ≡ self.old.places) }
+        ensures err { IfErr result (λ fault. IsAsItWas A.regions A.word A.follows A.refuses self.old.heap self.new.heap) }
+        ensures denied { IfErr result (λ fault. IsDenied A.denies self.old.heap.system (state_of A.word self.old.heap) (padded (64 * self.old.size)) fault) }
+    {
+        slabs_are_small(self.heap.granularity(), SLOTS * self.size);
+        match take_block::<A, Brand>(&mut self.heap, SLOTS * self.size, Blank::new(1)) {
+            Ok(address) => {
+                self.places.push_reserved(address);
+                Ok(())
+            }
+            Err(MallocError::System(fault)) => Err(fault),
+            Err(MallocError::TooLarge) => unreachable!(),
+        }
+    }
+
+    /// Gives every slab back, and answers the heap.
+    pub(crate) fn free_all(self) -> Dlmalloc<A>
+        requires laid { IsLaidOut A.regions A.word self.heap self.size self.places.items }
+        ensures { IsEmptied A.regions A.word self.heap self.places.items result }
+    {
+        let mut heap = self.heap;
+        let mut places = self.places;
+        while let Some(address) = places.pop() {
+            free_block::<A, Brand>(&mut heap, address, SLOTS * self.size, Blank::new(1));
+        }
+        heap
+    }
+}

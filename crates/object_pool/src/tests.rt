@@ -1,0 +1,231 @@
+ghost use Rattle.std.specs.Prelude.{◌≡◌, ◌<◌, ◌≤◌, IfOk, OnOk, length};
+
+use crate::{GrantFault, Key, Pool, PoolFault};
+use dlmalloc::Dlmalloc;
+use heap_memory::{FlatStep, FlatSystem};
+use std::alloc::{AllocError, Global};
+use std::process::Abort;
+use std::test::Fail;
+
+/// A pool of objects of a size, over a heap whose system gives one region of so many bytes at 0x10000.
+fn pool_of(
+    alloc: Global,
+    bytes: u64,
+    granularity: u64,
+    size: u64,
+) -> Result<Pool<FlatSystem>, AllocError>
+    requires some { 0 < size }
+    requires small { size ≤ 4096 }
+    ensures { IfOk result (λ pool. pool.size ≡ size) }
+{
+    let mut script = Vec::new(alloc);
+    script.push(FlatStep::Give {
+        base: 0x1_0000,
+        size: bytes,
+        flags: 0,
+    })?;
+    let system = FlatSystem::new(alloc, script, true, true, 4096)?;
+    let mut heap = Dlmalloc::new_with_allocator(system);
+    heap.set_granularity(granularity);
+    Ok(Pool::new(alloc, heap, size))
+}
+
+/// Sees that a key has an object of these bytes, or none.
+fn expect_object<R: Abort>(
+    rt: &R,
+    pool: &Pool<FlatSystem>,
+    key: Key,
+    object: Option<&[u8]>,
+) -> Result<(), AllocError> {
+    match pool.get(key)? {
+        Some(found) => match object {
+            Some(bytes) => assert_eq!(rt; found.as_slice(), bytes),
+            None => panic!(rt; "an object where there is none"),
+        },
+        None => assert!(rt; object.is_none()),
+    }
+    Ok(())
+}
+
+/// The key of an index and a generation.
+fn key(index: u32, generation: u32) -> Key
+    ensures { result ≡ record { index = index; generation = generation } }
+{
+    Key { index, generation }
+}
+
+#[test]
+fn a_slot_is_used_again(rt: HostRuntime) -> Result<(), Fail> {
+    let mut pool = pool_of(rt.alloc(), 65536, 65536, 24)?;
+    let (a, b, c) = ([1u8; 24], [2u8; 24], [3u8; 24]);
+    assert_eq!(rt; pool.insert(&a), Ok(key(0, 0)));
+    assert_eq!(rt; pool.insert(&b), Ok(key(1, 0)));
+    assert!(rt; pool.remove(key(0, 0)));
+    assert_eq!(rt; pool.insert(&c), Ok(key(0, 1)));
+    expect_object(&rt, &pool, key(0, 0), None)?;
+    expect_object(&rt, &pool, key(0, 1), Some(&c))?;
+    expect_object(&rt, &pool, key(1, 0), Some(&b))?;
+    assert!(rt; !pool.set(key(0, 0), &a));
+    assert!(rt; !pool.remove(key(0, 0)));
+    assert!(rt; pool.set(key(1, 0), &a));
+    expect_object(&rt, &pool, key(1, 0), Some(&a))?;
+    expect_object(&rt, &pool, key(0, 1), Some(&c))?;
+    assert_eq!(rt; pool.len(), 2);
+    assert_eq!(rt; pool.slabs(), 1);
+    assert_eq!(rt; pool.heap().granularity(), 65536);
+    assert_eq!(rt; pool.finish().granularity(), 65536);
+    Ok(())
+}
+
+/// Inserts so many objects, each of which is to be served.
+fn insert_all<R: Abort>(rt: &R, pool: &mut Pool<FlatSystem>, count: u32, object: &[u8])
+    requires { length object.now ≡ pool.old.size }
+    ensures { pool.new.size ≡ pool.old.size }
+{
+    for index in 0..count {
+        assert_eq!(rt; pool.insert(object), Ok(key(index, 0)));
+    }
+}
+
+#[test]
+fn a_heap_without_room_is_told(rt: HostRuntime) -> Result<(), Fail> {
+    let mut pool = pool_of(rt.alloc(), 4096, 4096, 24)?;
+    let object = [7u8; 24];
+    insert_all(&rt, &mut pool, 128, &object);
+    assert_eq!(rt;
+        pool.insert(&object),
+        Err(PoolFault::Heap(GrantFault::NoSpace))
+    );
+    assert_eq!(rt; pool.slabs(), 2);
+    assert!(rt; pool.remove(key(77, 0)));
+    assert_eq!(rt; pool.insert(&object), Ok(key(77, 1)));
+    assert_eq!(rt;
+        pool.insert(&object),
+        Err(PoolFault::Heap(GrantFault::NoSpace))
+    );
+    assert_eq!(rt; pool.len(), 128);
+    assert_eq!(rt; pool.slabs(), 2);
+    Ok(())
+}
+
+/// The bytes of an object in the test beside a plain list, so that places stand at each address modulo 8.
+const ODD: usize = 21;
+
+/// The objects that a pool is to have, with the number that tells their bytes, and the keys of objects that are gone.
+#[derive(Drop)]
+struct Plain {
+    live: Vec<(Key, u64)>,
+    gone: Vec<Key>,
+}
+
+/// The bytes that a number tells.
+fn told(number: u64) -> [u8; ODD] {
+    let word = number.to_le_bytes();
+    let mut bytes = [0; ODD];
+    for i in 0..ODD {
+        bytes[i] = word[i % 8];
+    }
+    bytes
+}
+
+/// The next number of the generator.
+fn next(random: u64) -> u64 {
+    random
+        .wrapping_mul(6_364_136_223_846_793_005)
+        .wrapping_add(1_442_695_040_888_963_407)
+}
+
+/// Inserts an object, sets one, removes one, or looks at one that is there or at one that is gone.
+fn turn<R: Abort>(
+    rt: &R,
+    pool: &mut Pool<FlatSystem>,
+    plain: &mut Plain,
+    random: u64,
+) -> Result<(), AllocError>
+    requires { pool.old.size ≡ 21 }
+    ensures { pool.new.size ≡ 21 }
+{
+    let kind = random >> 60;
+    let object = told(random);
+    if kind < 6 || plain.live.is_empty() {
+        match pool.insert(&object) {
+            Ok(key) => plain.live.push((key, random))?,
+            Err(fault) => panic!(rt; "{fault}"),
+        }
+        return Ok(());
+    }
+    let place = (random >> 20) as usize % plain.live.len();
+    let (key, number) = plain.live[place];
+    expect_object(rt, pool, key, Some(&told(number)))?;
+    if kind < 9 {
+        assert!(rt; pool.set(key, &object));
+        plain.live[place] = (key, random);
+    } else if kind < 13 {
+        assert!(rt; pool.remove(key));
+        plain.live.swap_remove(place);
+        plain.gone.push(key)?;
+    } else if !plain.gone.is_empty() {
+        let key = plain.gone[(random >> 20) as usize % plain.gone.len()];
+        expect_object(rt, pool, key, None)?;
+        assert!(rt; !pool.set(key, &object));
+        assert!(rt; !pool.remove(key));
+    }
+    assert_eq!(rt; pool.len(), plain.live.len() as u64);
+    Ok(())
+}
+
+/// Takes so many turns.
+fn turns<R: Abort>(
+    rt: &R,
+    pool: &mut Pool<FlatSystem>,
+    plain: &mut Plain,
+    count: u64,
+) -> Result<(), AllocError>
+    requires { pool.old.size ≡ 21 }
+    ensures { pool.new.size ≡ 21 }
+{
+    let mut random = 18;
+    'turns: for _ in 0..count {
+        random = next(random);
+        turn(rt, pool, plain, random)?;
+    }
+    Ok(())
+}
+
+/// Sees that the pool has each object of a plain list.
+fn all_are_there<R: Abort>(
+    rt: &R,
+    pool: &Pool<FlatSystem>,
+    plain: &Plain,
+) -> Result<(), AllocError> {
+    for (key, number) in plain.live.iter() {
+        expect_object(rt, pool, *key, Some(&told(*number)))?;
+    }
+    Ok(())
+}
+
+#[test]
+fn objects_are_those_of_a_plain_list(rt: HostRuntime) -> Result<(), Fail> {
+    let mut pool = pool_of(rt.alloc(), 1 << 20, 65536, ODD as u64)?;
+    let mut plain = Plain {
+        live: Vec::new(rt.alloc()),
+        gone: Vec::new(rt.alloc()),
+    };
+    turns(&rt, &mut pool, &mut plain, 3000)?;
+    all_are_there(&rt, &pool, &plain)?;
+    assert!(rt; pool.slabs() > 4);
+    Ok(())
+}
+
+#[test]
+fn faults_have_texts(rt: HostRuntime) -> Result<(), Fail> {
+    let table = [
+        (PoolFault::Full, "full"),
+        (PoolFault::Heap(GrantFault::NoSpace), "no space"),
+        (PoolFault::OutOfMemory, "out of memory"),
+    ];
+    for (fault, text) in table.iter() {
+        assert_eq!(rt; format!(in rt.alloc(); "{fault}")?.as_str(), *text);
+    }
+    Ok(())
+}
