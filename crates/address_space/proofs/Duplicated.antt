@@ -10,7 +10,7 @@ use Rattle.paging_core.specs.PageChanges.{ArePagesChanged, regrant, among, only}
 use Rattle.paging_core.specs.Pool.{FreeBelow}
 use Rattle.paging_core.specs.Prefix.{prefix_of}
 use Rattle.paging_core.specs.Tree.{IsTree}
-use Rattle.paging_core.specs.Walk.{Place, reach, walk_of, reached, granted}
+use Rattle.paging_core.specs.Walk.{Place, reach, large_of, walk_of, reached, granted}
 use Rattle.paging_core.specs.declared.page_table.Rights.{Rights}
 use Rattle.meminterval.specs.declared.interval.Interval.{Interval}
 use Rattle.address_space.specs.Runs.{rights_in, is_among}
@@ -49,6 +49,7 @@ pub record IsOneCopied (old one new : List ℕ) (root source target : ℕ) (plac
   pub mapped : IsSome (walk_of one root target)
   pub size : length one ≡ length old
   pub walks : (level number : ℕ) → level ≤ 4 → reach one root level number ≡ reach old root level number
+  pub larges : (slot : ℕ) → large_of one root slot ≡ large_of old root slot
   pub tree : (free : List Bool) → IsTree old root free → IsTree one root free
   pub tree_on : (free : List Bool) → IsTree one root free → IsTree new root free
   pub copied : (k : ℕ) → k < 4096 → reached one root (4096 * target + k) ≡ reached old root (4096 * source + k)
@@ -63,6 +64,7 @@ one_copied old one new root source target place c = record {
   size = c.changed.size ∙ c.size;
   tree = λ free t. c.tree_on free (c.tree free t);
   tables = λ level number less. c.changed.stayed level number (omega (arith, less)) (λ four. absurd (omega (arith, less, four))) ∙ c.walks level number (omega (arith, less));
+  larges = λ slot. c.changed.larges slot ∙ c.larges slot;
   outside = λ number out. c.changed.stayed 4 number (omega arith) (λ four. only_among target number out) ∙ c.walks 4 number (omega arith);
   frames = λ number met at. by_only number met (c.walks 4 number (omega arith) ∙ at) (only target number) refl;
   elsewhere = λ other canonical out. c.elsewhere other canonical (λ is. out 0 (omega arith) (omega (arith, is))) ∙ walk_same old one root other c.walks;
@@ -94,6 +96,7 @@ none_copied words root from to = record {
   size = refl;
   tree = λ free t. t;
   tables = λ level number less. refl;
+  larges = λ slot. refl;
   outside = λ number out. refl;
   frames = λ number place at. (place, at, refl);
   elsewhere = λ other canonical out. refl;
@@ -108,6 +111,7 @@ more_copied old one new root from pages to source target range canonical_source 
   size = d.size ∙ c.size;
   tree = λ free tr. d.tree free (c.tree free tr);
   tables = λ level number less. d.tables level number less ∙ c.tables level number less;
+  larges = λ slot. d.larges slot ∙ c.larges slot;
   outside = λ number out. (let parts = among_parts to target pages 1 number range t out in d.outside number parts.1 ∙ c.outside number parts.0);
   frames = λ number place at. later number place (c.frames number place at);
   elsewhere = λ other canonical out. d.elsewhere other canonical (λ k less is. out pages (omega arith) (omega (arith, less, is, t))) ∙ c.elsewhere other canonical (λ k less is. out k (omega (arith, less)) is);
@@ -190,6 +194,7 @@ duplicated_kept old one words free runs from pages to rights m =
       canonical = λ page some. is_there page (side_of to (to + pages) page) some;
       found = λ page canonical. finds page canonical (side_of to (to + pages) page);
       accounted = λ frame less unmet. m.added.kept frame (m.kept.accounted frame (omega (arith, count, less)) (unmet_old frame unmet)) (unmet_one frame unmet);
+      no_large = λ slot. m.copied.larges slot ∙ (m.added.larges slot ∙ m.kept.no_large slot);
       follow = m.runs_copied.follow;
       longest = m.runs_copied.longest;
     } where

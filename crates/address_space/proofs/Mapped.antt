@@ -1,11 +1,14 @@
 -- A space after pages were mapped.
-use Rattle.std.proofs.Common.{◌≡◌, ◌∙◌, ap, sym, refl, ℕ, ◌+◌, ◌-◌, ◌*◌, ◌/◌, ◌^◌, ◌<◌, ◌≤◌, ◌==◌, ◌||◌, Bool, true, false, cond, Option, Some, None, option_map, List, subst, arith}
+use Rattle.std.proofs.Common.{◌≡◌, ◌∙◌, ap, sym, refl, ℕ, ◌+◌, ◌-◌, ◌*◌, ◌/◌, ◌^◌, ◌<◌, ◌≤◌, ◌==◌, ◌||◌, Bool, true, false, cond, Option, Some, None, option_map, List, subst, arith, ◌⊎◌, inl, inr}
 use Rattle.std.proofs.lemmas.Bool.Decides.{nat_tests}
 use Rattle.std.specs.Prelude.{IsTrue, IsSome, is_some}
 use Rattle.paging_core.specs.Address.{IsCanonicalRange, is_canonical}
 use Rattle.paging_core.specs.Memory.{frame_count}
 use Rattle.paging_core.specs.Pool.{FreeBelow}
-use Rattle.paging_core.specs.Walk.{walk_of, reached}
+use Rattle.paging_core.specs.Prefix.{prefix_of}
+use Rattle.paging_core.specs.Walk.{Place, reach, large_of, walk_of, reached}
+use Rattle.paging_core.proofs.Prefixes.{walk_reach}
+use Rattle.paging_core.proofs.Reach.{either_way}
 use Rattle.paging_core.specs.Mapping.{IsRangeAdded}
 use Rattle.paging_core.specs.declared.page_table.Rights.{Rights}
 use Rattle.meminterval.specs.declared.interval.Interval.{Interval}
@@ -47,6 +50,17 @@ is_some_of {A} o a h = rw h refl
 pub walks : (t : Tables) (page : ℕ) (rights : Rights) → IsKept t → rights_in t.runs page ≡ Some rights → IsSome (walk_of t.words t.root page)
 walks t page rights kept is = some_of rights_of (walk_of t.words t.root page) rights (kept.found page (kept.canonical page (is_some_of (rights_in t.runs page) rights is)) ∙ is)
 
+-- a page that is mapped has an entry in the table of its slot, where there are no large pages
+pub by_table : (words : List ℕ) (root page : ℕ) → ((slot : ℕ) → large_of words root slot ≡ None) → IsSome (walk_of words root page) → IsSome (reach words root 3 (prefix_of page 3))
+by_table words root page no_large some = go (walk_of words root page) refl some
+  where
+    go : (o : Option Place) → walk_of words root page ≡ o → IsSome o → IsSome (reach words root 3 (prefix_of page 3))
+    go None is none = absurd (cc)
+    go (Some place) is some = elim (either_way words root (prefix_of page 4) place (sym (walk_reach words root page) ∙ is)) [
+      | inl e ↦ (let number : prefix_of page 4 / 512 ≡ prefix_of page 3 = omega arith in is_some_of (reach words root 3 (prefix_of page 3)) e.table (ap (reach words root 3) (sym number) ∙ e.met))
+      | inr l ↦ absurd (let none = no_large (prefix_of page 4 / 512) in let no : None ≡ Some l.large = sym none ∙ l.met in cc)
+    ]
+
 -- ---- the space after it
 
 pub record AreMapped (old : Tables) (words : List ℕ) (free : List Bool) (runs : List (Interval ℕ × Rights)) (first pages : ℕ) (rights : Rights) : Type 0 where
@@ -72,6 +86,7 @@ mapped_kept old words free runs first pages rights m =
       canonical = λ page some. is_there page (is_among first pages page) refl (subst IsSome (m.runs_added.pages page) some);
       found = λ page canonical. finds page canonical (is_among first pages page) refl ∙ sym (m.runs_added.pages page);
       accounted = λ frame less unmet. m.added.kept frame (m.kept.accounted frame (omega (arith, count, less)) (λ l n met le at is. unmet l n met le (m.added.stayed l n met le at) is)) unmet;
+      no_large = λ slot. m.added.larges slot ∙ m.kept.no_large slot;
       follow = m.runs_added.follow;
       longest = m.runs_added.longest;
     } where

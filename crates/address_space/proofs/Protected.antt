@@ -54,6 +54,7 @@ protected_kept old words runs first pages rights m =
       canonical = λ page some. is_there page (side_of first (first + pages) page) some;
       found = λ page canonical. finds page canonical (side_of first (first + pages) page);
       accounted = λ frame less unmet. m.kept.accounted frame (omega (arith, count, less)) (unmet_before frame unmet);
+      no_large = λ slot. m.changed.larges slot ∙ m.kept.no_large slot;
       follow = m.added.follow;
       longest = m.added.longest;
     } where

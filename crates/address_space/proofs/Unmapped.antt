@@ -65,6 +65,7 @@ unmapped_kept old words free runs first pages m =
       canonical = λ page some. is_there page (side_of first (first + pages) page) some;
       found = λ page canonical. finds page canonical (side_of first (first + pages) page);
       accounted = λ frame less unmet. at_frame frame (omega (arith, count, less)) unmet (is_free free frame) refl;
+      no_large = λ slot. m.freed.removed.larges slot ∙ m.kept.no_large slot;
       follow = m.taken.follow;
       longest = m.taken.longest;
     } where

@@ -7,7 +7,7 @@ use Rattle.paging_core.specs.Address.{is_canonical}
 use Rattle.paging_core.specs.Memory.{frame_count, word_at, byte_of, AreWordsOf}
 use Rattle.paging_core.specs.Pool.{FreeBelow}
 use Rattle.paging_core.specs.Tree.{IsTree}
-use Rattle.paging_core.specs.Walk.{Place, reach, walk_of, reached}
+use Rattle.paging_core.specs.Walk.{Place, reach, large_of, walk_of, reached}
 use Rattle.paging_core.specs.declared.page_table.Rights.{Rights}
 use Rattle.address_space.specs.Runs.{rights_in}
 use Rattle.address_space.specs.PageMap.{IsMap, stored}
@@ -105,6 +105,7 @@ pub record AreWrittenTo (old new : List ℕ) (root at done : ℕ) (bytes : List 
   pub size : length new ≡ length old
   pub tree : (free : List Bool) → IsTree old root free → IsTree new root free
   pub walks : (level number : ℕ) → level ≤ 4 → reach new root level number ≡ reach old root level number
+  pub larges : (slot : ℕ) → large_of new root slot ≡ large_of old root slot
   pub within : done ≤ length bytes
 
 pub none_written : (words : List ℕ) (root at : ℕ) (bytes : List ℕ) → AreWrittenTo words words root at 0 bytes
@@ -113,6 +114,7 @@ none_written words root at bytes = record {
   size = refl;
   tree = λ free t. t;
   walks = λ level number le. refl;
+  larges = λ slot. refl;
   within = omega arith;
 } where
   out : (address : ℕ) → ((at ≤ address) × (address < at + 0)) ⊎ ((address < at) ⊎ (at + 0 ≤ address)) → (address < at) ⊎ (at + 0 ≤ address)
@@ -122,12 +124,13 @@ none_written words root at bytes = record {
 pub written_on : (old one new : List ℕ) (root at done count from : ℕ) (bytes part : List ℕ) → AreWrittenTo old one root at done bytes → from ≡ at + done → count ≡ length part → done + count ≤ length bytes →
     ((k : ℕ) → k < count → slice_index part k ≡ slice_index bytes (done + k)) → AreWritten (reached one root) (reached new root) from (length part) part → length new ≡ length one →
     ((free : List Bool) → IsTree one root free → IsTree new root free) → ((level number : ℕ) → level ≤ 4 → reach new root level number ≡ reach one root level number) →
-    AreWrittenTo old new root at (done + count) bytes
-written_on old one new root at done count from bytes part w is counted few same more size tree walks = record {
+    ((slot : ℕ) → large_of new root slot ≡ large_of one root slot) → AreWrittenTo old new root at (done + count) bytes
+written_on old one new root at done count from bytes part w is counted few same more size tree walks larges = record {
   written = record { each = λ address canonical. more.each address canonical ∙ by_side address canonical (side_of from (from + length part) address) (side_of at (at + done) address) };
   size = size ∙ w.size;
   tree = λ free t. tree free (w.tree free t);
   walks = λ level number le. walks level number le ∙ w.walks level number le;
+  larges = λ slot. larges slot ∙ w.larges slot;
   within = few;
 } where
   by_side : (address : ℕ) → IsTrue (is_canonical address) → ((from ≤ address) × (address < from + length part)) ⊎ ((address < from) ⊎ (from + length part ≤ address)) → ((at ≤ address) × (address < at + done)) ⊎ ((address < at) ⊎ (at + done ≤ address)) →
@@ -166,8 +169,9 @@ part_byte bytes done count k less = get_or-take (done + count - done) (drop done
 -- ---- the space after it
 
 pub written_kept : (old : Tables) (words : List ℕ) (at : ℕ) (bytes : List ℕ) → IsKept old → length words ≡ length old.words → ((free : List Bool) → IsTree old.words old.root free → IsTree words old.root free) →
-    ((level number : ℕ) → level ≤ 4 → reach words old.root level number ≡ reach old.words old.root level number) → IsKept (record { words = words; root = old.root; free = old.free; runs = old.runs })
-written_kept old words at bytes kept size tree walks =
+    ((level number : ℕ) → level ≤ 4 → reach words old.root level number ≡ reach old.words old.root level number) →
+    ((slot : ℕ) → large_of words old.root slot ≡ large_of old.words old.root slot) → IsKept (record { words = words; root = old.root; free = old.free; runs = old.runs })
+written_kept old words at bytes kept size tree walks larges =
     let count : frame_count words ≡ frame_count old.words = ap (λ n. n / 512) size in
     record {
       tree = tree old.free kept.tree;
@@ -178,6 +182,7 @@ written_kept old words at bytes kept size tree walks =
       canonical = kept.canonical;
       found = λ page canonical. ap (option_map rights_of) (walk_same old.words words old.root page walks) ∙ kept.found page canonical;
       accounted = λ frame less unmet. kept.accounted frame (omega (arith, count, less)) (λ level number met le at. unmet level number met le (walks level number le ∙ at));
+      no_large = λ slot. larges slot ∙ kept.no_large slot;
       follow = kept.follow;
       longest = kept.longest;
     }

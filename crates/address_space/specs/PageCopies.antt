@@ -4,7 +4,7 @@ use Rattle.std.specs.Option.{option_map}
 use Rattle.paging_core.specs.Address.{is_canonical}
 use Rattle.paging_core.specs.PageChanges.{among}
 use Rattle.paging_core.specs.Tree.{IsTree}
-use Rattle.paging_core.specs.Walk.{Place, reach, walk_of, reached}
+use Rattle.paging_core.specs.Walk.{Place, reach, large_of, walk_of, reached}
 use Rattle.address_space.specs.Space.{rights_of}
 
 -- so many pages from `to` on got the rights and the bytes of those from `from` on, each in its own frame
@@ -13,6 +13,7 @@ pub record ArePagesCopied (old new : List ℕ) (root from pages to : ℕ) : Type
   pub tree : (free : List Bool) → IsTree old root free → IsTree new root free
   -- each table is met as before, and so is each other page; these keep their frames
   pub tables : (level number : ℕ) → level < 4 → reach new root level number ≡ reach old root level number
+  pub larges : (slot : ℕ) → large_of new root slot ≡ large_of old root slot
   pub outside : (number : ℕ) → among to pages number ≡ false → reach new root 4 number ≡ reach old root 4 number
   pub frames : (number : ℕ) (place : Place) → reach old root 4 number ≡ Some place → (now : Place) × (reach new root 4 number ≡ Some now) × (now.frame ≡ place.frame)
   pub elsewhere :

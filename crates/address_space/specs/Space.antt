@@ -5,7 +5,7 @@ use Rattle.std.proofs.Props.{props}
 use Rattle.paging_core.specs.Address.{is_canonical}
 use Rattle.paging_core.specs.Memory.{frame_count}
 use Rattle.paging_core.specs.Pool.{is_free, FreeBelow}
-use Rattle.paging_core.specs.Walk.{Place, reach, walk_of, reached}
+use Rattle.paging_core.specs.Walk.{Place, reach, large_of, walk_of, reached}
 use Rattle.paging_core.specs.Tree.{IsTree}
 use Rattle.paging_core.specs.declared.page_table.Rights.{Rights}
 use Rattle.meminterval.specs.declared.interval.Interval.{Interval}
@@ -30,7 +30,7 @@ map_of t = record {
 }
 
 -- The walk finds a page exactly where the map has it, with its rights, and the tables are a tree. Each frame is free,
--- or the walk meets it: as a table, or as the frame of one page. The runs are the longest ones.
+-- or the walk meets it: as a table, or as the frame of one page. No page is in a large page. The runs are the longest ones.
 pub record IsKept (t : Tables) : Type 0 where
   pub tree : IsTree t.words t.root t.free
   pub known : FreeBelow t.free (frame_count t.words)
@@ -43,6 +43,7 @@ pub record IsKept (t : Tables) : Type 0 where
       (frame : ℕ) → frame < frame_count t.words →
       ((level number : ℕ) (met : Place) → level ≤ 4 → reach t.words t.root level number ≡ Some met → met.frame ≡ frame → ⊥) →
       is_free t.free frame ≡ true
+  pub no_large : (slot : ℕ) → large_of t.words t.root slot ≡ None
   pub follow : Follow 0 t.runs (2 ^ 52)
   pub longest : AreLongest t.runs
 

@@ -3,7 +3,7 @@ ghost use Rattle.std.specs.Prelude.{◌≡◌, ℕ, ◌+◌, ◌*◌, ◌/◌, �
 ghost use Rattle.paging_core.specs.Address.{is_canonical};
 ghost use Rattle.paging_core.specs.Memory.{frame_count, byte_of as byte_in};
 ghost use Rattle.paging_core.specs.Tree.{IsTree, HasTree};
-ghost use Rattle.paging_core.specs.Walk.{reach, walk_of, reached};
+ghost use Rattle.paging_core.specs.Walk.{reach, large_of, walk_of, reached};
 ghost use Rattle.address_space.specs.Access.{IsGoodSpan, byte_at, AreBytesAt, AreBytesPut, AreWritten};
 
 use paging_core::{Frames, Page, PhysFrame, VirtAddr, get_bits, load_words, set_bits, store_words};
@@ -110,6 +110,7 @@ fn write_page(frames: &mut Frames, root: PhysFrame, page: Page, offset: usize, b
     ensures size { length frames.new ≡ length frames.old }
     ensures tree { (free : List Bool) → IsTree frames.old root free → IsTree frames.new root free }
     ensures walks { (level number : ℕ) → level ≤ 4 → reach frames.new root level number ≡ reach frames.old root level number }
+    ensures larges { (slot : ℕ) → large_of frames.new root slot ≡ large_of frames.old root slot }
     ensures bytes { AreWritten (reached frames.old root) (reached frames.new root) (4096 * page + offset) (length bytes.now) bytes.now }
 {
     let mut words = [0; 512];
@@ -128,6 +129,7 @@ pub(crate) fn write_bytes(frames: &mut Frames, root: PhysFrame, at: u64, bytes: 
     ensures size { length frames.new ≡ length frames.old }
     ensures tree { (free : List Bool) → IsTree frames.old root free → IsTree frames.new root free }
     ensures walks { (level number : ℕ) → level ≤ 4 → reach frames.new root level number ≡ reach frames.old root level number }
+    ensures larges { (slot : ℕ) → large_of frames.new root slot ≡ large_of frames.old root slot }
     ensures bytes { AreWritten (reached frames.old root) (reached frames.new root) at (length bytes.now) bytes.now }
 {
     let mut done = 0;

@@ -1,9 +1,9 @@
 //! Copying pages.
-ghost use Rattle.std.specs.Prelude.{◌≡◌, ℕ, ◌+◌, ◌/◌, ◌^◌, ◌<◌, ◌≤◌, IsSome, OnOk, OnErr};
+ghost use Rattle.std.specs.Prelude.{◌≡◌, ℕ, ◌+◌, ◌/◌, ◌^◌, ◌<◌, ◌≤◌, None, IsSome, OnOk, OnErr};
 ghost use Rattle.paging_core.specs.Address.{IsCanonicalRange};
 ghost use Rattle.paging_core.specs.Memory.{frame_count};
 ghost use Rattle.paging_core.specs.Tree.{HasTree};
-ghost use Rattle.paging_core.specs.Walk.{walk_of};
+ghost use Rattle.paging_core.specs.Walk.{large_of, walk_of};
 ghost use Rattle.address_space.specs.Space.{map_of};
 ghost use Rattle.address_space.specs.Seen.{tables_of};
 ghost use Rattle.address_space.specs.Mapping.{HasFrames};
@@ -25,10 +25,11 @@ const NO_RIGHTS: Rights = Rights {
     fetch: false,
 };
 
-/// Gives a mapped page the rights and the bytes of another.
+/// Gives a mapped page the rights and the bytes of another. No page is in a large page.
 fn copy_to(frames: &mut Frames, root: PhysFrame, source: Page, target: Page)
     requires root { root < frame_count frames.old }
     requires tree { HasTree frames.old root }
+    requires no_large { (slot : ℕ) → large_of frames.old root slot ≡ None }
     requires source { IsSome (walk_of frames.old root source) }
     requires target { IsSome (walk_of frames.old root target) }
     ensures { ArePagesCopied frames.old frames.new root source 1 target }
@@ -46,10 +47,11 @@ fn copy_to(frames: &mut Frames, root: PhysFrame, source: Page, target: Page)
 }
 
 /// Gives so many mapped pages from `to` on the rights and the bytes of those from `from` on, none of which is among
-/// them.
+/// them. No page is in a large page.
 fn copy_pages(frames: &mut Frames, root: PhysFrame, from: u64, pages: u64, to: u64)
     requires root { root < frame_count frames.old }
     requires tree { HasTree frames.old root }
+    requires no_large { (slot : ℕ) → large_of frames.old root slot ≡ None }
     requires source { IsCanonicalRange from pages }
     requires target { IsCanonicalRange to pages }
     requires read { (k : ℕ) → k < pages → IsSome (walk_of frames.old root (from + k)) }

@@ -1,10 +1,12 @@
 //! Measures page tables: for each number of the command line, so many pages that are mapped, walked to and unmapped, a
-//! memory with so many regions, and an address space with so many areas.
+//! region of so many pages with large pages and without, a memory with so many regions, and an address space with so many
+//! areas.
 //!
 //! Standard output says what the calls found, standard error what processor time each took.
 #![tactic(auto)]
 
 mod regions;
+mod slots;
 mod spaces;
 mod tables;
 
@@ -32,6 +34,7 @@ fn main(rt: HostRuntime) -> io::Result<()> {
         let number = number.min(MOST);
         if number != 0 {
             tables::measure(&rt, number)?;
+            slots::measure(&rt, number)?;
         }
         regions::measure(&rt, number)?;
         spaces::measure(&rt, number)?;

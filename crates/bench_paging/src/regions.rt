@@ -27,11 +27,16 @@ fn map_all(memory: &mut MappedRegions, count: u32) -> u32
     mapped
 }
 
-/// Maps and unmaps a region of one page, and answers how often both were served.
-fn map_and_unmap(memory: &mut MappedRegions, start: u64, rounds: u32) -> u32 {
+/// Maps and unmaps a region of so many pages, and answers how often both were served.
+pub(crate) fn map_and_unmap(
+    memory: &mut MappedRegions,
+    start: u64,
+    pages: u64,
+    rounds: u32,
+) -> u32 {
     let mut served = 0u32;
     for _ in 0..rounds {
-        if memory.map(start, 1, DATA).is_ok() && memory.unmap(start, 1).is_ok() {
+        if memory.map(start, pages, DATA).is_ok() && memory.unmap(start, pages).is_ok() {
             served = served.saturating_add(1);
         }
     }
@@ -47,9 +52,9 @@ pub(crate) fn measure(rt: &HostRuntime, count: u32) -> io::Result<()>
     let mut memory = MappedRegions::new(rt.alloc(), 0x40_0000, 16, frames)?;
     let mapped = map_all(&mut memory, count);
     let start = place_of(u64::from(count));
-    map_and_unmap(&mut memory, start, 1);
+    map_and_unmap(&mut memory, start, 1, 1);
     let watch = Watch::start(rt)?;
-    let served = map_and_unmap(&mut memory, start, rounds);
+    let served = map_and_unmap(&mut memory, start, 1, rounds);
     let both = watch.mean(rt, rounds)?;
     println!(rt; "{count} regions: {mapped} mapped, {served} pairs of map and unmap served")?;
     eprintln!(rt; "{count} regions: map and unmap of a page {both:?}")

@@ -73,7 +73,8 @@ The lines of `heap run`, and their answers:
                             KIND:ADDRESS+SIZE
 
 If the heap's regions changed, a second line has `heap` and each region as
-ADDRESS+PAGES, or `heap none`.
+ADDRESS+PAGES, or `heap none`. If the call mapped large pages, a line `large`
+follows with the address of each slot of 2 MiB that it mapped as one.
 
 A refusal is `refused` and one of bad-align, too-large, no-space, no-frames,
 unknown-block, out-of-block, bad-range, heap-region, overlap, unknown-region and

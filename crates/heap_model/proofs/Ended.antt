@@ -32,6 +32,9 @@ good_ended s number good = record {
   heap = good.heap;
   users = good.users;
   frames = good.frames;
+  slots = good.slots;
+  are_slots = good.are_slots;
+  no_slot_twice = good.no_slot_twice;
 }
 
 pub holds_ended : (reached : ℕ → Option ℕ) (blocks : List (Option Block)) (number : ℕ) → HoldsBytes reached blocks → HoldsBytes reached (without_block blocks number)
@@ -53,6 +56,9 @@ good_none s good = record {
   heap = good.heap;
   users = good.users;
   frames = good.frames;
+  slots = good.slots;
+  are_slots = good.are_slots;
+  no_slot_twice = good.no_slot_twice;
 }
 
 pub holds_ended_all : (reached : ℕ → Option ℕ) (blocks : List (Option Block)) → HoldsBytes reached (all_ended blocks)

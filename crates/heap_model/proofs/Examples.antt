@@ -1,5 +1,5 @@
 -- Worked values: the definitions computed on the numbers of a few runs.
-use Rattle.std.proofs.Common.{◌≡◌, ◌-◌, ◌^◌, ◌≤◌, inr, List, [], ◌∷◌, length, refl, ap, ◌*◌, true, false, Some, None, arith, lit<}
+use Rattle.std.proofs.Common.{◌≡◌, ◌-◌, ◌^◌, ◌<◌, ◌≤◌, inr, List, [], ◌∷◌, length, refl, ap, ◌*◌, true, false, Some, None, arith, lit<}
 use Rattle.paging_core.specs.declared.page_table.Rights.{Rights}
 use Rattle.heap_model.specs.declared.region.Region.{Region}
 use Rattle.heap_model.specs.declared.config.Config.{Config}
@@ -105,7 +105,7 @@ missing-1024 : missing [] 0x400000 1024 ≡ 4
 unfolding prefixes_of prefixes_from
 missing-1024 = refl
 
-missing-3088 : missing (with_tables [] 0x400000 16) 0x410000 3088 ≡ 6
+missing-3088 : missing (with_tables [] 0x400000 16 []) 0x410000 3088 ≡ 6
 unfolding prefixes_of prefixes_from
 missing-3088 = refl
 
@@ -115,7 +115,7 @@ config : Config
 config = record { base = 0x400000; pages = 1024; granularity = 65536; frames = 1024; rate = 4095 }
 
 first : Answer
-first = record { reply = Placed 0 0x400010; regions = Some (heap_region 0x400000 16 ∷ []) }
+first = record { reply = Placed 0 0x400010; regions = Some (heap_region 0x400000 16 ∷ []); large = None }
 
 one : State
 one = after (start config) (Malloc 0 16) first
@@ -155,7 +155,7 @@ place-none = refl
 -- its block ends: the heap is all top and foot, and no record ends a segment in the middle of the region
 
 freed : State
-freed = after one (Freeing 0) (record { reply = Done; regions = None })
+freed = after one (Freeing 0) (record { reply = Done; regions = None; large = None })
 
 whole-region : List Extent
 whole-region = record { at = 0x400000; size = 65456; kind = Top } ∷ record { at = 0x40ffb0; size = 80; kind = Foot } ∷ []
@@ -282,9 +282,13 @@ map-behind_last : must_refuse (start config) (Map 0xfffffffffffff000 2 reading) 
 unfolding config
 map-behind_last = refl
 
+-- with writing too
+abbrev writing : Rights
+writing = record { write = true; user = true; fetch = false }
+
 -- the state after the map of two pages
 abbrev mapped : State
-mapped = after one (Map 0x410000 2 reading) (record { reply = Done; regions = None })
+mapped = after one (Map 0x410000 2 reading) (record { reply = Done; regions = None; large = None })
 
 mapped-met : must_refuse mapped (Map 0x411000 1 reading) ≡ Some Overlap
 unfolding one config first
@@ -302,35 +306,36 @@ unmap-whole : must_refuse mapped (Unmap 0x410000 2) ≡ None
 unfolding one config first
 unmap-whole = refl
 
-unmapped-regions : all_regions (after mapped (Unmap 0x410000 2) (record { reply = Done; regions = None })) ≡ all_regions one
+unmapped-regions : all_regions (after mapped (Unmap 0x410000 2) (record { reply = Done; regions = None; large = None })) ≡ all_regions one
 unfolding one config first
 unmapped-regions = refl
 
 -- a trim may leave the first page of a region; where it says that bytes went back, it lists the regions
-trim-front : IsAllowed one (Trim 0) (record { reply = Trimmed true; regions = Some (heap_region 0x400000 1 ∷ []) })
+trim-front : IsAllowed one (Trim 0) (record { reply = Trimmed true; regions = Some (heap_region 0x400000 1 ∷ []); large = None })
 unfolding one first config
 trim-front = record {
   reply = (refl, (inr (heap_region 0x400000 1, [], inr (lit< tt, lit< tt, refl), refl, refl), refl));
   listed = λ same. (let pages : 1 ≡ 16 = ap total_pages same in absurd (omega (arith, pages)));
+  large = tt;
 }
 
-trim-unlisted : IsAllowed one (Trim 0) (record { reply = Trimmed true; regions = None }) → ⊥
+trim-unlisted : IsAllowed one (Trim 0) (record { reply = Trimmed true; regions = None; large = None }) → ⊥
 trim-unlisted allowed = let listed : true ≡ false = allowed.reply.1.1 in cc
 
 -- another granularity
-set-granularity : (after one (SetGranularity 32) (record { reply = Accepted true; regions = None })).granularity ≡ 32
+set-granularity : (after one (SetGranularity 32) (record { reply = Accepted true; regions = None; large = None })).granularity ≡ 32
 set-granularity = refl
 
-set-not_accepted : (after one (SetGranularity 8) (record { reply = Accepted false; regions = None })).granularity ≡ 65536
+set-not_accepted : (after one (SetGranularity 8) (record { reply = Accepted false; regions = None; large = None })).granularity ≡ 65536
 unfolding one first config
 set-not_accepted = refl
 
-set-too_small : IsAllowed one (SetGranularity 8) (record { reply = Accepted true; regions = None }) → ⊥
+set-too_small : IsAllowed one (SetGranularity 8) (record { reply = Accepted true; regions = None; large = None }) → ⊥
 set-too_small allowed = let least : 16 ≤ 8 = (allowed.reply.1.1.0 refl).1 in omega (arith, least)
 
 -- a reset ends the block, whose number stays, and the heap has no region; the granularity and the tables stay
 abbrev empty : State
-empty = after one Reset (record { reply = Released 65536; regions = Some [] })
+empty = after one Reset (record { reply = Released 65536; regions = Some []; large = None })
 
 reset-blocks : empty.blocks ≡ None ∷ []
 unfolding one first config
@@ -349,5 +354,113 @@ unfolding one first config
 reset-granularity = refl
 
 -- no state allows a read that answers a number that is no byte
-no-byte : (s : State) → IsAllowed s (Read 0 0 1) (record { reply = Bytes (300 ∷ []); regions = None }) → ⊥
+no-byte : (s : State) → IsAllowed s (Read 0 0 1) (record { reply = Bytes (300 ∷ []); regions = None; large = None }) → ⊥
 no-byte s allowed = let byte = allowed.reply.1.2.0 in omega arith
+
+-- a map of one slot: one entry maps it, so the tables are those of one and two indices
+slot-map : must_refuse (start config) (Map 0x800000 512 writing) ≡ None
+unfolding config prefixes_of prefixes_from
+slot-map = refl
+
+abbrev with_slot : State
+with_slot = after (start config) (Map 0x800000 512 writing) (record { reply = Done; regions = None; large = Some (0x800000 ∷ []) })
+
+slot-large : with_slot.large ≡ 0x800000 ∷ []
+unfolding config
+slot-large = refl
+
+slot-tables : with_slot.tables ≡ record { level = 1; number = 0 } ∷ record { level = 2; number = 0 } ∷ []
+unfolding config prefixes_of prefixes_from
+slot-tables = refl
+
+slot-frames : free_frames with_slot ≡ 509
+unfolding config prefixes_of prefixes_from
+slot-frames = refl
+
+slot-probed : rights_at with_slot 0x9fffff ≡ Some writing
+unfolding config
+slot-probed = refl
+
+-- the answer lists the slot, which lies whole in the new pages and had no table
+slot-allowed : IsAllowed (start config) (Map 0x800000 512 writing) (record { reply = Done; regions = None; large = Some (0x800000 ∷ []) })
+unfolding config prefixes_of prefixes_from
+slot-allowed = record {
+  reply = (refl, refl);
+  listed = tt;
+  large = record {
+    some = λ none. absurd (cc);
+    ascending = (tt, tt);
+    within = (record { is_slot = record { aligned = refl; canonical = refl }; from = lit< tt; within = lit< tt }, tt);
+    no_table = (refl, tt);
+  };
+}
+
+-- where no run of frames was free, the slot has a table
+slot-small : free_frames (after (start config) (Map 0x800000 512 writing) (record { reply = Done; regions = None; large = None })) ≡ 508
+unfolding config prefixes_of prefixes_from
+slot-small = refl
+
+-- an answer lists no slot that is not whole in the new pages, and none twice
+no-part_slot : IsAllowed (start config) (Map 0x801000 512 writing) (record { reply = Done; regions = None; large = Some (0x800000 ∷ []) }) → ⊥
+no-part_slot allowed = let from : 0x801000 ≤ 0x800000 = allowed.large.within.0.from in omega (arith, from)
+
+no-slot_twice : IsAllowed (start config) (Map 0x800000 512 writing) (record { reply = Done; regions = None; large = Some (0x800000 ∷ 0x800000 ∷ []) }) → ⊥
+no-slot_twice allowed = let later : 0x800000 < 0x800000 = allowed.large.ascending.0.0 in omega (arith, later)
+
+-- the region leaves, and no slot is large; no table leaves and none is made
+abbrev slot_left : State
+slot_left = after with_slot (Unmap 0x800000 512) (record { reply = Done; regions = None; large = None })
+
+left-large : slot_left.large ≡ []
+unfolding config
+left-large = refl
+
+left-frames : free_frames slot_left ≡ 1021
+unfolding config prefixes_of prefixes_from
+left-frames = refl
+
+left-tables : length slot_left.tables ≡ 2
+unfolding config prefixes_of prefixes_from
+left-tables = refl
+
+-- a grant of 512 pages is one slot; a trim cuts it, and its first page has a table then
+fine : Config
+fine = record { base = 0x400000; pages = 2048; granularity = 4096; frames = 2048; rate = 4095 }
+
+abbrev grown : State
+grown = after (start fine) (Malloc 2097000 16) (record { reply = Placed 0 0x400010; regions = Some (heap_region 0x400000 512 ∷ []); large = Some (0x400000 ∷ []) })
+
+grown-large : grown.large ≡ 0x400000 ∷ []
+unfolding fine pages_for wanted padded pages_in
+grown-large = refl
+
+grown-frames : free_frames grown ≡ 1533
+unfolding fine prefixes_of prefixes_from pages_for wanted padded pages_in
+grown-frames = refl
+
+abbrev trimmed : State
+trimmed = after grown (Trim 0) (record { reply = Trimmed true; regions = Some (heap_region 0x400000 1 ∷ []); large = None })
+
+trimmed-large : trimmed.large ≡ []
+unfolding fine
+trimmed-large = refl
+
+trimmed-tables : trimmed.tables ≡ record { level = 1; number = 0 } ∷ record { level = 2; number = 0 } ∷ record { level = 3; number = 2 } ∷ []
+unfolding fine prefixes_of prefixes_from pages_for wanted padded pages_in
+trimmed-tables = refl
+
+trimmed-frames : free_frames trimmed ≡ 2043
+unfolding fine prefixes_of prefixes_from pages_for wanted padded pages_in
+trimmed-frames = refl
+
+-- a slot of which one call maps all and keeps a page is listed, and has a table after it
+abbrev cut_again : State
+cut_again = after (start fine) (Malloc 2097000 16) (record { reply = Placed 0 0x400010; regions = Some (heap_region 0x400000 1 ∷ []); large = Some (0x400000 ∷ []) })
+
+cut-again_large : cut_again.large ≡ []
+unfolding fine
+cut-again_large = refl
+
+cut-again_tables : length cut_again.tables ≡ 3
+unfolding fine prefixes_of prefixes_from pages_for wanted padded pages_in
+cut-again_tables = refl

@@ -1,11 +1,12 @@
 -- A region is granted anywhere in the window: the state after it is good, and the machine stands for it.
-use Rattle.std.proofs.Common.{◌≡◌, ℕ, ◌+◌, ◌*◌, ◌/◌, ◌<◌, ◌≤◌, ◌⊎◌, not, nat_eq, List, [], ◌∷◌, length, find, refl, sym, ap, ◌∙◌, arith, true, false, Some}
+use Rattle.std.proofs.Common.{◌≡◌, ℕ, ◌+◌, ◌*◌, ◌/◌, ◌<◌, ◌≤◌, ◌⊎◌, not, nat_eq, List, [], ◌∷◌, ◌++◌, find, refl, sym, ap, ◌∙◌, arith, true, false, Some}
 use Rattle.std.specs.List.{list_any, AllByRecursion}
 use Rattle.std.proofs.lemmas.Bool.Decides.{nat_tests}
 use Rattle.paging_core.specs.Address.{IsCanonicalRange}
 use Rattle.heap_model.specs.declared.region.Region.{Region}
 use Rattle.heap_model.specs.State.{State, is_within, total_pages, region_at}
 use Rattle.heap_model.specs.Tables.{missing, with_tables, used_frames, free_frames}
+use Rattle.heap_model.specs.Slots.{AreAscending, IsSlotOf}
 use Rattle.heap_model.specs.Place.{meets, meets_any, with_region, all_regions, IsFit}
 use Rattle.heap_model.specs.Room.{heap_rights, heap_region}
 use Rattle.heap_model.specs.Answer.{is_new}
@@ -13,12 +14,13 @@ use Rattle.heap_model.specs.Run.{IsGood, IsGoodBlock, IsHeapRegion, IsUserRegion
 use Rattle.heap_model.specs.Machine.{Paged, IsPagedGrant, Seen, Stands}
 use Rattle.heap_model.proofs.Booleans.{or_left, or_right, or_neither, neither_or}
 use Rattle.heap_model.proofs.Regions.{within, not_within, all_with, pages_with, any_with, any_all, find_without, find_alone, find_only, in_order_with, none_within}
+use Rattle.heap_model.proofs.Slots.{any_heap_more, slots_more, slots_join, slots_whole, whole_still}
 use Rattle.heap_model.proofs.Tables.{length-with_tables}
 use Rattle.heap_model.proofs.Added.{region_rights, stays, stands_added}
 
--- the state with one region more of the heap
-abbrev pub granted : State → ℕ → ℕ → State
-granted s address pages = record s { heap = with_region (heap_region address pages) s.heap; tables = with_tables s.tables address pages }
+-- the state with one region more of the heap, of which these slots are mapped by one entry each
+abbrev pub granted : State → ℕ → ℕ → List ℕ → State
+granted s address pages slots = record s { heap = with_region (heap_region address pages) s.heap; tables = with_tables s.tables address pages slots; large = s.large ++ slots }
 
 -- ---- the state is good
 
@@ -41,12 +43,12 @@ users_beside address pages heap (first ∷ rest) clear all =
     ∙ or_neither (meets first.start first.pages (heap_region address pages)) (meets_any first.start first.pages heap) (meets_back address pages first parts.0) all.0.2 in
     ((all.0.0, all.0.1, joined), users_beside address pages heap rest parts.1 all.1)
 
-pub good_granted : (s : State) (address pages : ℕ) → IsGood s → IsCanonicalRange (address / 4096) pages → IsFit s.base s.pages (all_regions s) pages address →
-    pages + missing s.tables address pages ≤ free_frames s → IsGood (granted s address pages)
-good_granted s address pages good range fit few =
+pub good_granted : (s : State) (address pages : ℕ) (slots : List ℕ) → IsGood s → IsCanonicalRange (address / 4096) pages → IsFit s.base s.pages (all_regions s) pages address →
+    pages + missing s.tables address pages ≤ free_frames s → AreAscending slots → AllByRecursion (IsSlotOf address pages) slots → IsGood (granted s address pages slots)
+good_granted s address pages slots good range fit few ascending within =
     let clear = clear_of s pages address fit in
     let total : total_pages (with_region (heap_region address pages) s.heap) ≡ pages + total_pages s.heap = pages_with (heap_region address pages) s.heap in
-    let tables : length (with_tables s.tables address pages) ≡ length s.tables + missing s.tables address pages = length-with_tables s.tables address pages in
+    let tables = length-with_tables s.tables address pages slots in
     let some : 0 < pages = range.some in
     let old : used_frames s ≤ s.frames = good.frames in
     record {
@@ -63,6 +65,10 @@ good_granted s address pages good range fit few =
       heap = all_with (IsHeapRegion s) (heap_region address pages) s.heap ((fit.aligned, range), fit.from, fit.within, refl) good.heap;
       users = users_beside address pages s.heap s.users clear.1 good.users;
       frames = omega arith;
+      slots = whole_still (heap_region address pages) (all_regions s) (all_regions (granted s address pages slots)) s.large slots
+          (λ test. any_heap_more test (heap_region address pages) s.heap s.users) good.slots (slots_whole (heap_region address pages) slots within);
+      are_slots = slots_more address pages s.large slots good.are_slots within;
+      no_slot_twice = slots_join address pages (all_regions s) s.large slots ascending within fit.clear good.slots good.no_slot_twice;
     }
 
 -- ---- the granted region is the new one of the list
@@ -111,16 +117,16 @@ find_granted s address pages good some clear =
 module _ (m : Seen) (new : Paged) (s : State) (address pages : ℕ) (stands : Stands m s)
     (range : IsCanonicalRange (address / 4096) pages) (fit : IsFit s.base s.pages (all_regions s) pages address)
     (few : pages + missing s.tables address pages ≤ free_frames s)
-    (grant : IsPagedGrant m.paged new address pages) (regions : new.regions ≡ all_regions (granted s address pages)) where
-  here : (at : ℕ) → address ≤ at → at < address + 4096 * pages → region_rights (region_at (granted s address pages) at) ≡ Some heap_rights
+    (grant : IsPagedGrant m.paged new address pages) (regions : new.regions ≡ all_regions (granted s address pages new.slots)) where
+  here : (at : ℕ) → address ≤ at → at < address + 4096 * pages → region_rights (region_at (granted s address pages new.slots) at) ≡ Some heap_rights
   here at above below =
       let none : list_any (is_within at) s.heap ≡ false = none_within address pages at s.heap above below (clear_of s pages address fit).0 in
       ap region_rights (find_alone (is_within at) (heap_region address pages) s.heap s.users (within at (heap_region address pages) above below) none)
 
-  elsewhere : (at : ℕ) → (at < address) ⊎ (address + 4096 * pages ≤ at) → region_at (granted s address pages) at ≡ region_at s at
+  elsewhere : (at : ℕ) → (at < address) ⊎ (address + 4096 * pages ≤ at) → region_at (granted s address pages new.slots) at ≡ region_at s at
   elsewhere at beside = find_without (is_within at) (heap_region address pages) s.heap s.users (not_within at (heap_region address pages) beside)
 
-  pub stands_granted : Stands (record m { paged = new }) (granted s address pages)
+  pub stands_granted : Stands (record m { paged = new }) (granted s address pages new.slots)
   stands_granted =
       let total : total_pages (with_region (heap_region address pages) s.heap) ≡ pages + total_pages s.heap = pages_with (heap_region address pages) s.heap in
       stands_added m new s address pages heap_rights (with_region (heap_region address pages) s.heap) s.users stands range fit.aligned grant here elsewhere few (omega arith) regions

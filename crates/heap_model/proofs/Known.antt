@@ -91,6 +91,9 @@ good_known s number offset bytes good = record {
   heap = good.heap;
   users = good.users;
   frames = good.frames;
+  slots = good.slots;
+  are_slots = good.are_slots;
+  no_slot_twice = good.no_slot_twice;
 }
 
 -- ---- the memory that has them

@@ -3,7 +3,9 @@ pub mod Booleans
 pub mod Regions
 pub mod FirstFit
 pub mod Tables
+pub mod Slots
 pub mod Added
+pub mod NewSlots
 pub mod Granted
 pub mod Mapped
 pub mod Placed
@@ -17,3 +19,4 @@ pub mod Runs
 pub mod Cut
 pub mod Settings
 pub mod Shortened
+pub mod Settled

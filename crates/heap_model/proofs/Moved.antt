@@ -1,11 +1,12 @@
 -- While nothing is granted, given back or mapped, a machine stands for the state with what it holds of its blocks.
 use Rattle.std.proofs.Common.{◌≡◌, ℕ, ◌/◌, ◌%◌, ◌^◌, ◌≤◌, List, map, refl, ap, ◌∙◌, arith, Option, option_map, Bool, true, false, not, ◌&&◌, ◌||◌, [], ◌∷◌}
 use Rattle.std.specs.List.{list_any, AllByRecursion}
-use Rattle.paging_core.specs.Walk.{reach, walk_of, reached}
+use Rattle.paging_core.specs.Walk.{reach, large_of, walk_of, reached}
 use Rattle.heap_model.specs.declared.live.Live.{Live}
 use Rattle.heap_model.specs.declared.region.Region.{Region}
 use Rattle.heap_model.specs.State.{State, Block, is_within}
 use Rattle.heap_model.specs.Memory.{HoldsBytes}
+use Rattle.heap_model.specs.Slots.{slot_number}
 use Rattle.heap_model.specs.Machine.{Paged, OnlyHeapBytesChange, is_of_user, Seen, Stands, rights_of, outline}
 use Rattle.heap_model.specs.Run.{IsGood, IsUserRegion}
 use Rattle.heap_model.proofs.Booleans.{or_right}
@@ -40,6 +41,7 @@ stands_moved m s new lives blocks good stands still same holds =
     let free : new.free ≡ m.paged.free = ap (λ p. p.free) still.others in
     let same_reach : (level n : ℕ) → level ≤ 4 → reach new.words new.root level n ≡ reach m.paged.words m.paged.root level n =
     λ level n low. ap (λ r. reach new.words r level n) root ∙ still.walks level n low in
+    let same_large : (n : ℕ) → large_of new.words new.root n ≡ large_of m.paged.words m.paged.root n = λ n. ap (λ r. large_of new.words r n) root ∙ still.larges n in
     let same_reached : (a : ℕ) → reached new.words new.root a ≡ reached new.words m.paged.root a = λ a. ap (λ r. reached new.words r a) root in
     record {
       root = root ∙ stands.root;
@@ -48,6 +50,7 @@ stands_moved m s new lives blocks good stands still same holds =
       table_count = ap (λ p. p.tables) still.others ∙ stands.table_count;
       pages_found = λ page canonical. ap (option_map rights_of) (same_reach 4 (page % 2 ^ 36) (omega arith)) ∙ stands.pages_found page canonical;
       tables_met = λ level n some less. rw (same_reach level n (omega arith)) (stands.tables_met level n some less);
+      larges_met = λ slot is. rw (same_large (slot_number slot)) (stands.larges_met slot is);
       regions = ap (λ p. p.regions) still.others ∙ stands.regions;
       blocks = same;
       base = ap (λ p. p.base) still.others ∙ stands.base;
@@ -70,7 +73,32 @@ good_bare s good = record {
   heap = good.heap;
   users = good.users;
   frames = good.frames;
+  slots = good.slots;
+  are_slots = good.are_slots;
+  no_slot_twice = good.no_slot_twice;
 }
 
 pub holds_none : (reached : ℕ → Option ℕ) → HoldsBytes reached []
 holds_none reached = record { known = λ number k byte block is cell. absurd (cc) }
+
+-- ---- slots that are handed out
+
+-- the slots that a machine keeps until they are asked for are nothing that a state has
+pub stands_taken : (m : Seen) (s : State) (slots : List ℕ) → Stands m s → Stands (record m { paged = record m.paged { slots = slots } }) s
+stands_taken m s slots stands = record {
+  root = stands.root;
+  tree = stands.tree;
+  free_frames = stands.free_frames;
+  table_count = stands.table_count;
+  pages_found = stands.pages_found;
+  tables_met = stands.tables_met;
+  larges_met = stands.larges_met;
+  regions = stands.regions;
+  blocks = stands.blocks;
+  base = stands.base;
+  pages = stands.pages;
+  granularity = stands.granularity;
+  frames = stands.frames;
+  bytes = stands.bytes;
+  zeros = stands.zeros;
+}

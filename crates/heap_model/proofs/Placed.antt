@@ -104,4 +104,7 @@ good_placed s block good here apart = record {
   heap = good.heap;
   users = good.users;
   frames = good.frames;
+  slots = good.slots;
+  are_slots = good.are_slots;
+  no_slot_twice = good.no_slot_twice;
 }

@@ -82,6 +82,9 @@ good_seen s address byte good = record {
   heap = good.heap;
   users = good.users;
   frames = good.frames;
+  slots = good.slots;
+  are_slots = good.are_slots;
+  no_slot_twice = good.no_slot_twice;
 }
 
 -- the memory from which the byte was read holds it
@@ -119,6 +122,7 @@ stands_seen m s address byte stands here = record {
   table_count = stands.table_count;
   pages_found = stands.pages_found;
   tables_met = stands.tables_met;
+  larges_met = stands.larges_met;
   regions = stands.regions;
   blocks = stands.blocks ∙ sym (same_outlines address byte s.blocks);
   base = stands.base;
@@ -141,7 +145,7 @@ rights_found m s at stands canonical = stands.pages_found (at / 4096) (first_can
 -- the access is granted, and the byte is the one reached
 pub step_byte : (m : Seen) (s : State) (at : ℕ) (access : Access) (user : Bool) (byte : ℕ) → IsGood s → Stands m s → IsTrue (is_canonical at) →
     is_granted (option_map rights_of (walk_of m.paged.words m.paged.root (at / 4096))) access user ≡ true → reached m.paged.words m.paged.root at ≡ Some byte → byte < 2 ^ 8 →
-    IsStep s (Probe at access user) (record { reply = Byte byte; regions = None }) m
+    IsStep s (Probe at access user) (record { reply = Byte byte; regions = None; large = None }) m
 step_byte m s at access user byte good stands canonical granted here small = record {
   allowed = record {
     reply = (
@@ -157,6 +161,7 @@ step_byte m s at access user byte good stands canonical granted here small = rec
       ),
     );
     listed = tt;
+    large = tt;
   };
   good = good_seen s at byte good;
   stands = stands_seen m s at byte stands here;
@@ -166,7 +171,7 @@ step_byte m s at access user byte good stands canonical granted here small = rec
 pub step_fault : (m : Seen) (s : State) (at : ℕ) (access : Access) (user : Bool) (code : PageFaultErrorCode) → IsGood s → Stands m s → IsTrue (is_canonical at) →
     is_granted (option_map rights_of (walk_of m.paged.words m.paged.root (at / 4096))) access user ≡ false →
     page_fault_bits code ≡ fault_code (is_some (option_map rights_of (walk_of m.paged.words m.paged.root (at / 4096)))) access user →
-    IsStep s (Probe at access user) (record { reply = Fault code; regions = None }) m
+    IsStep s (Probe at access user) (record { reply = Fault code; regions = None; large = None }) m
 step_fault m s at access user code good stands canonical denied is = record {
   allowed = record {
     reply = (
@@ -178,6 +183,7 @@ step_fault m s at access user code good stands canonical denied is = record {
       ),
     );
     listed = tt;
+    large = tt;
   };
   good = good;
   stands = stands;

@@ -227,7 +227,7 @@ any_left test start pages (region ∷ rest) is = go (is_at start pages region) i
     ]
 
 -- a listed one starts where all do, or behind
-starts_behind : (start pages from : ℕ) (list : List Region) → AllByRecursion (λ later. from ≤ later.start) list → list_any (is_at start pages) list ≡ true → from ≤ start
+pub starts_behind : (start pages from : ℕ) (list : List Region) → AllByRecursion (λ later. from ≤ later.start) list → list_any (is_at start pages) list ≡ true → from ≤ start
 starts_behind start pages from [] all there = let no : false ≡ true = there in absurd (cc)
 starts_behind start pages from (region ∷ rest) all there = go (is_at start pages region) refl (starts_behind start pages from rest all.1)
   where

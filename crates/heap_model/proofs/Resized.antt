@@ -87,6 +87,9 @@ good_resized s number change block good is here apart = record {
   heap = good.heap;
   users = good.users;
   frames = good.frames;
+  slots = good.slots;
+  are_slots = good.are_slots;
+  no_slot_twice = good.no_slot_twice;
 }
 
 -- A memory holds what is known of all, where it has the bytes of the other blocks, and those of the block that both sizes have.

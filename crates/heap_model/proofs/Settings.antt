@@ -17,6 +17,9 @@ good_set s granularity good = record {
   heap = good.heap;
   users = good.users;
   frames = good.frames;
+  slots = good.slots;
+  are_slots = good.are_slots;
+  no_slot_twice = good.no_slot_twice;
 }
 
 stands_set : (m : Seen) (s : State) (granularity : ℕ) → Stands m s → Stands (record m { granularity = granularity }) (record s { granularity = granularity })
@@ -27,6 +30,7 @@ stands_set m s granularity stands = record {
   table_count = stands.table_count;
   pages_found = stands.pages_found;
   tables_met = stands.tables_met;
+  larges_met = stands.larges_met;
   regions = stands.regions;
   blocks = stands.blocks;
   base = stands.base;
@@ -39,22 +43,22 @@ stands_set m s granularity stands = record {
 
 -- a granularity is set where it is accepted
 pub step_granularity : (m : Seen) (s : State) (granularity : ℕ) (accepted : Bool) → IsGood s → Stands m s → (IsTrue accepted ↔ (IsPowerOfTwo granularity × (16 ≤ granularity))) →
-    IsStep s (SetGranularity granularity) (record { reply = Accepted accepted; regions = None }) (record m { granularity = if accepted then granularity else m.granularity })
+    IsStep s (SetGranularity granularity) (record { reply = Accepted accepted; regions = None; large = None }) (record m { granularity = if accepted then granularity else m.granularity })
 step_granularity m s granularity true good stands is = record {
-  allowed = record { reply = (refl, (refl, is)); listed = tt };
+  allowed = record { reply = (refl, (refl, is)); listed = tt; large = tt };
   good = good_set s granularity good;
   stands = stands_set m s granularity stands;
 }
 step_granularity m s granularity false good stands is = record {
-  allowed = record { reply = (refl, (refl, is)); listed = tt };
+  allowed = record { reply = (refl, (refl, is)); listed = tt; large = tt };
   good = good;
   stands = stands;
 }
 
 -- the state has no rate
-pub step_rate : (m : Seen) (s : State) (rate : ℕ) → IsGood s → Stands m s → IsStep s (SetRate rate) (record { reply = Done; regions = None }) m
+pub step_rate : (m : Seen) (s : State) (rate : ℕ) → IsGood s → Stands m s → IsStep s (SetRate rate) (record { reply = Done; regions = None; large = None }) m
 step_rate m s rate good stands = record {
-  allowed = record { reply = (refl, refl); listed = tt };
+  allowed = record { reply = (refl, refl); listed = tt; large = tt };
   good = good;
   stands = stands;
 }

@@ -1,17 +1,21 @@
 -- Regions of the heap are cut: the state stays good, and each address is in a region of the kind that it was, or in none.
 use Rattle.std.proofs.Common.{◌≡◌, ℕ, ◌+◌, ◌/◌, ◌<◌, ◌≤◌, ◌≢◌, inl, inr, not, ◌==◌, List, [], ◌∷◌, length, find, refl, sym, ap, ◌∙◌, subst, arith, Bool, true, false, IsTrue, Option, Some, None}
 use Rattle.std.specs.List.{list_any, AllByRecursion}
+use Rattle.std.proofs.ByRecursion.{kept_by_passes}
 use Rattle.std.proofs.lemmas.Bool.Decides.{nat_tests}
 use Rattle.paging_core.specs.Address.{IsCanonicalRange}
 use Rattle.heap_model.specs.declared.region.Region.{Region}
 use Rattle.heap_model.specs.State.{State, Block, block_at, cover, end_of, is_within, total_pages}
-use Rattle.heap_model.specs.Place.{meets, meets_any}
+use Rattle.heap_model.specs.Place.{meets, meets_any, all_regions}
 use Rattle.heap_model.specs.Cut.{IsFrontOf, AreCut}
 use Rattle.heap_model.specs.Room.{AreApart}
-use Rattle.heap_model.specs.Answer.{is_new}
+use Rattle.heap_model.specs.Slots.{IsSlot, is_whole_in}
+use Rattle.heap_model.specs.Tables.{used_frames}
+use Rattle.heap_model.specs.Answer.{is_new, settled}
 use Rattle.heap_model.specs.Run.{IsGood, IsGoodBlock, IsHeapRegion, IsUserRegion, AreInOrder}
 use Rattle.heap_model.proofs.Booleans.{neither_or, or_neither, or_cases}
 use Rattle.heap_model.proofs.Regions.{find_none}
+use Rattle.heap_model.proofs.Slots.{slots_fewer, distinct_filter}
 use Rattle.heap_model.proofs.Granted.{AllStart, all_start}
 
 -- ---- a front of a region
@@ -106,19 +110,23 @@ good_there old new block was held = record { aligned = was.aligned; aligned_16 =
 -- The state is good with blocks that are good among its regions, and apart from one another.
 pub good_over : (s : State) (blocks : List (Option Block)) → IsGood (record s { blocks = [] }) → ((i : ℕ) (it : Block) → block_at blocks i ≡ Some it → IsGoodBlock s.heap it) →
     ((i j : ℕ) (a b : Block) → block_at blocks i ≡ Some a → block_at blocks j ≡ Some b → i ≢ j → AreApart a.address (cover a) b.address (cover b)) → IsGood (record s { blocks = blocks })
-good_over s blocks bare each apart = record { each = each; apart = apart; heap_order = bare.heap_order; user_order = bare.user_order; heap = bare.heap; users = bare.users; frames = bare.frames }
+good_over s blocks bare each apart = record { each = each; apart = apart; heap_order = bare.heap_order; user_order = bare.user_order; heap = bare.heap; users = bare.users; frames = bare.frames; slots = bare.slots; are_slots = bare.are_slots; no_slot_twice = bare.no_slot_twice }
 
--- The state is good with regions that are cut, where they have the bytes of each block.
+-- The state is good with regions that are cut, where they have the bytes of each block and the frames suffice.
 pub good_cut : (s : State) (list : List Region) → IsGood s → AreCut s.heap list →
-    ((number : ℕ) (block : Block) → block_at s.blocks number ≡ Some block → (k : ℕ) → k < cover block → IsTrue (list_any (is_within (block.address + k)) list)) → IsGood (record s { heap = list })
-good_cut s list good cut held = record {
+    ((number : ℕ) (block : Block) → block_at s.blocks number ≡ Some block → (k : ℕ) → k < cover block → IsTrue (list_any (is_within (block.address + k)) list)) →
+    used_frames (settled (record s { heap = list })) ≤ s.frames → IsGood (settled (record s { heap = list }))
+good_cut s list good cut held enough = record {
   each = λ number block is. good_there s.heap list block (good.each number block is) (held number block is);
   apart = good.apart;
   heap_order = order_cut s.heap list cut good.heap_order;
   user_order = good.user_order;
   heap = all_cut (IsHeapRegion s) (IsHeapRegion s) (heap_front s) s.heap list cut good.heap;
   users = beside s.users good.users;
-  frames = (let few = pages_cut s.heap list cut in let enough = good.frames in omega (arith, few, enough));
+  frames = enough;
+  slots = kept_by_passes (is_whole_in (all_regions (record s { heap = list }))) s.large;
+  are_slots = slots_fewer IsSlot (is_whole_in (all_regions (record s { heap = list }))) s.large good.are_slots;
+  no_slot_twice = distinct_filter (is_whole_in (all_regions (record s { heap = list }))) s.large good.no_slot_twice;
 }
   where
     beside : (users : List Region) → AllByRecursion (IsUserRegion s.heap) users → AllByRecursion (IsUserRegion list) users

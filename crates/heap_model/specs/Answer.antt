@@ -1,5 +1,5 @@
 -- One call: which answers are allowed, and the state after each.
-use Rattle.std.specs.Prelude.{◌≡◌, ◌≢◌, ℕ, zero, suc, ◌+◌, ◌-◌, ◌*◌, ◌^◌, ◌<◌, ◌≤◌, ◌↔◌, Bool, true, not, ◌==◌, ◌⊎◌, ⊤, nat_le, IsTrue, IsFalse, is_some, if◌then◌else◌, List, [], ◌∷◌, ◌++◌, length, map, find, replicate, slice_index, slice_set, option_map, unwrap_or, Option, Some, None, MatchOption}
+use Rattle.std.specs.Prelude.{◌≡◌, ◌≢◌, ℕ, zero, suc, ◌+◌, ◌-◌, ◌*◌, ◌^◌, ◌<◌, ◌≤◌, ◌↔◌, Bool, true, not, ◌==◌, ◌⊎◌, ⊤, nat_le, IsTrue, IsFalse, is_some, if◌then◌else◌, List, [], ◌∷◌, ◌++◌, length, map, filter, find, replicate, slice_index, slice_set, option_map, unwrap_or, Option, Some, None, MatchOption}
 use Rattle.std.specs.List.{list_any, AllByRecursion}
 use Rattle.std.specs.Int.{IsPowerOfTwo}
 use Rattle.heap_model.specs.declared.region.Region.{Region}
@@ -8,12 +8,12 @@ use Rattle.heap_model.specs.declared.call.Call.TheVariants.{Malloc, Calloc, Real
 use Rattle.heap_model.specs.declared.answer.Reply.{Reply}
 use Rattle.heap_model.specs.declared.answer.Reply.TheVariants.{Block as Placed, Done, Bytes, Byte, Fault, Trimmed, Accepted, Released, Extents as Listed, Refused}
 use Rattle.heap_model.specs.declared.answer.Answer.{Answer}
-use Rattle.paging_core.specs.Prefix.{Prefix}
 use Rattle.dlmalloc_chunks.specs.Request.{wanted}
 use Rattle.heap_model.specs.Request.{pages_for}
 use Rattle.heap_model.specs.State.{State, Cell, Fresh, Known, Block, block_at, cell_at, with_bytes, total_pages}
-use Rattle.heap_model.specs.Tables.{with_tables}
-use Rattle.heap_model.specs.Place.{with_region, without}
+use Rattle.heap_model.specs.Tables.{has_table, with_tables}
+use Rattle.heap_model.specs.Slots.{slot_prefix, is_whole_in, is_part_in, AreAscending, IsSlotOf}
+use Rattle.heap_model.specs.Place.{with_region, without, all_regions}
 use Rattle.heap_model.specs.Cut.{AreCut}
 use Rattle.heap_model.specs.Room.{user_region, IsGrowth, IsGrowthCut}
 use Rattle.heap_model.specs.Extents.{IsTiling}
@@ -55,6 +55,10 @@ resized_block address size align block = record { address = address; size = size
 abbrev pub seen_block : ℕ → ℕ → Block → Block
 seen_block address byte block = if nat_le block.address address then known_block (address - block.address) (byte ∷ []) block else block
 
+-- The slots that one region has whole stay. One of which regions have a part alone has a table from now on, and each other leaves.
+abbrev pub settled : State → State
+settled s = record s { tables = s.tables ++ map slot_prefix (filter (is_part_in (all_regions s)) s.large); large = filter (is_whole_in (all_regions s)) s.large }
+
 -- what the reply alone changes; every other reply, a refusal too, changes nothing
 abbrev pub changed : State → Call → Reply → State
 changed s (Malloc size align) (Placed number address) = record s { blocks = s.blocks ++ new_block address size align Fresh ∷ [] }
@@ -64,8 +68,8 @@ changed s (CRealloc number size) (Placed given address) = record s { blocks = wi
 changed s (Free number) Done = record s { blocks = without_block s.blocks number }
 changed s (Write number offset bytes) Done = record s { blocks = with_block s.blocks number (known_block offset bytes) }
 changed s (Read number offset count) (Bytes bytes) = record s { blocks = with_block s.blocks number (known_block offset bytes) }
-changed s (Map start pages rights) Done = record s { users = with_region (user_region start pages rights) s.users; tables = with_tables s.tables start pages }
-changed s (Unmap start pages) Done = record s { users = without start pages s.users }
+changed s (Map start pages rights) Done = record s { users = with_region (user_region start pages rights) s.users }
+changed s (Unmap start pages) Done = settled (record s { users = without start pages s.users })
 changed s (Probe at access user) (Byte byte) = record s { blocks = map (option_map (seen_block at byte)) s.blocks }
 changed s (SetGranularity granularity) (Accepted true) = record s { granularity = granularity }
 changed s Reset (Released bytes) = record s { blocks = all_ended s.blocks }
@@ -75,20 +79,41 @@ changed s call reply = s
 abbrev pub is_new : List Region → Region → Bool
 is_new regions region = not (list_any (λ old. old.start == region.start) regions)
 
--- the tables, with those of the pages that were granted for a chunk of n bytes
-abbrev pub granted_tables : State → Option ℕ → Option Region → List Prefix
-granted_tables s (Some n) (Some region) = with_tables s.tables region.start (pages_for n s.granularity)
-granted_tables s (Some n) None = s.tables
-granted_tables s None region = s.tables
+-- pages that an answer maps: so many, from an address on
+pub record NewPages : Type 0 where
+  pub start : ℕ
+  pub pages : ℕ
 
--- the state with the heap regions that the answer lists
-abbrev pub with_heap : State → Option ℕ → Option (List Region) → State
-with_heap s n None = s
-with_heap s n (Some list) = record s { heap = list; tables = granted_tables s n (find (is_new s.heap) list) }
+-- those that were granted for a chunk of n bytes, and became a region
+abbrev pub granted_pages : State → Option ℕ → Option Region → Option NewPages
+granted_pages s (Some n) (Some region) = Some (record { start = region.start; pages = pages_for n s.granularity })
+granted_pages s (Some n) None = None
+granted_pages s None region = None
+
+-- those of a map, or of the one region in the list that starts where no heap region did
+abbrev pub new_pages : State → Call → Reply → Option (List Region) → Option NewPages
+new_pages s (Map start pages rights) Done regions = Some (record { start = start; pages = pages })
+new_pages s call reply None = None
+new_pages s call reply (Some list) = granted_pages s (wanted_by s call) (find (is_new s.heap) list)
+
+-- the state with new pages: their slots that are mapped by one entry, and tables for the others
+abbrev pub with_pages : State → NewPages → List ℕ → State
+with_pages s new slots = record s { tables = with_tables s.tables new.start new.pages slots; large = s.large ++ slots }
+
+-- the state with the heap regions that the answer lists, and with new pages; what is large then settles
+abbrev pub with_regions : State → Option (List Region) → Option NewPages → List ℕ → State
+with_regions s None None slots = s
+with_regions s None (Some new) slots = settled (with_pages s new slots)
+with_regions s (Some list) None slots = settled (record s { heap = list })
+with_regions s (Some list) (Some new) slots = settled (with_pages (record s { heap = list }) new slots)
+
+-- the slots that an answer lists
+abbrev pub slots_of : Option (List ℕ) → List ℕ
+slots_of large = unwrap_or large []
 
 -- the state after the call, which the answer determines
 abbrev pub after : State → Call → Answer → State
-after s call answer = with_heap (changed s call answer.reply) (wanted_by s call) answer.regions
+after s call answer = with_regions (changed s call answer.reply) answer.regions (new_pages s call answer.reply answer.regions) (slots_of answer.large)
 
 -- the heap regions after the answer
 abbrev pub heap_after : State → Option (List Region) → List Region
@@ -133,7 +158,15 @@ abbrev pub IsReply : State → Call → Reply → Option (List Region) → Type 
 IsReply s call (Refused refusal) regions = (regions ≡ None) × ((must_refuse s call ≡ Some refusal) ⊎ ((must_refuse s call ≡ None) × MayRefuse s (wanted_by s call) refusal))
 IsReply s call reply regions = (must_refuse s call ≡ None) × IsServed s call reply regions
 
--- the answer is one that the call may have, and lists the heap regions exactly where they changed
+-- Slots that an answer lists lie whole in its new pages and had no table. They ascend, and there is one at least.
+pub record AreNewSlots (s : State) (new : NewPages) (slots : List ℕ) : Type 0 where
+  pub some : slots ≢ []
+  pub ascending : AreAscending slots
+  pub within : AllByRecursion (IsSlotOf new.start new.pages) slots
+  pub no_table : AllByRecursion (λ slot. IsFalse (has_table s.tables (slot_prefix slot))) slots
+
+-- the answer is one that the call may have; it lists the heap regions exactly where they changed, and slots of its new pages alone
 pub record IsAllowed (s : State) (call : Call) (answer : Answer) : Type 0 where
   pub reply : IsReply s call answer.reply answer.regions
   pub listed : MatchOption answer.regions ⊤ (λ list. list ≢ s.heap)
+  pub large : MatchOption answer.large ⊤ (λ slots. MatchOption (new_pages s call answer.reply answer.regions) ⊥ (λ new. AreNewSlots s new slots))

@@ -1,4 +1,5 @@
 pub mod Request
+pub mod Slots
 pub mod State
 pub mod Tables
 pub mod Place

@@ -1,20 +1,22 @@
 -- When a machine stands for a state.
-use Rattle.std.specs.Prelude.{◌≡◌, ℕ, ◌+◌, ◌*◌, ◌/◌, ◌<◌, ◌≤◌, ◌↔◌, Bool, not, ◌&&◌, IsTrue, List, length, map, option_map, Option, Some, IsSome}
-use Rattle.std.specs.List.{list_any}
+use Rattle.std.specs.Prelude.{◌≡◌, ℕ, ◌+◌, ◌*◌, ◌/◌, ◌<◌, ◌≤◌, ◌↔◌, Bool, not, ◌&&◌, IsTrue, List, length, map, option_map, Option, Some, None, IsSome}
+use Rattle.std.specs.List.{list_any, AllByRecursion}
 use Rattle.paging_core.specs.declared.page_table.Rights.{Rights}
 use Rattle.paging_core.specs.Address.{is_canonical}
 use Rattle.paging_core.specs.Memory.{frame_count, word_at}
-use Rattle.paging_core.specs.Walk.{Place, reach, walk_of, reached}
+use Rattle.paging_core.specs.Walk.{Place, reach, large_of, walk_of, reached}
 use Rattle.paging_core.specs.Pool.{free_count}
 use Rattle.paging_core.specs.Tree.{IsTree}
 use Rattle.paging_core.specs.Missing.{missing_of}
-use Rattle.paging_core.specs.Mapping.{IsRangeAdded}
+use Rattle.page_ranges.specs.RangeMapping.{IsRangeMapped}
+use Rattle.page_ranges.specs.RangeUnmapping.{AreUnmapped, cut_tables}
 use Rattle.heap_model.specs.declared.live.Live.{Live}
 use Rattle.heap_model.specs.declared.region.Region.{Region}
 use Rattle.heap_model.specs.declared.call.Call.{Call}
 use Rattle.heap_model.specs.declared.answer.Answer.{Answer}
 use Rattle.heap_model.specs.State.{State, Block, is_within, region_at}
 use Rattle.heap_model.specs.Tables.{has_table, free_frames}
+use Rattle.heap_model.specs.Slots.{IsSlot, IsSlotOf, slot_number, has_slot, AreAscending}
 use Rattle.heap_model.specs.Place.{all_regions}
 use Rattle.heap_model.specs.Room.{heap_rights}
 use Rattle.heap_model.specs.Memory.{HoldsBytes}
@@ -41,14 +43,42 @@ pub record Paged : Type 0 where
   pub joins : ℕ
   -- the regions, by address
   pub regions : List Region
+  -- the slots that the region which joined last has in large pages, until they are asked for
+  pub slots : List ℕ
 
--- Pages with these rights were added to a system from an address on, each at a new frame, with the tables that they lacked.
+-- The slots among these pages that are mapped by one entry, by ascending address.
+pub record AreLargeSlots (words : List ℕ) (root address pages : ℕ) (slots : List ℕ) : Type 0 where
+  pub ascending : AreAscending slots
+  pub within : AllByRecursion (IsSlotOf address pages) slots
+  pub exactly : (slot : ℕ) → IsSlotOf address pages slot → IsSome (large_of words root (slot_number slot)) ↔ IsTrue (has_slot slots slot)
+
+-- Pages with these rights were added to a system from an address on, each at a new frame, with the tables that they lacked: slots
+-- that lie whole among them by one entry each, as long as a run of frames was free.
 pub record ArePagesAdded (old new : Paged) (address pages : ℕ) (rights : Rights) : Type 0 where
   pub base : new.base ≡ old.base
   pub pages_is : new.pages ≡ old.pages
   pub root : new.root ≡ old.root
-  pub tables : new.tables ≡ old.tables + missing_of old.words old.root (address / 4096) pages
-  pub added : IsRangeAdded old.words new.words old.free new.free old.root (address / 4096) pages rights
+  -- the slot, in counts of 2 MiB, before which all that could be were mapped so
+  pub stop : ℕ
+  pub added : IsRangeMapped old.words new.words old.free new.free old.root (address / 4096) pages stop rights
+  pub tables : new.tables + missing_of new.words old.root (address / 4096) pages ≡ old.tables + missing_of old.words old.root (address / 4096) pages
+  pub slots : AreLargeSlots new.words old.root address pages new.slots
+
+-- Pages left a system from an address on: they are mapped no more and their frames are free, but for that of a table for what is
+-- left of a large page in which they begin. Every byte that is still mapped stays.
+pub record ArePagesGone (old new : Paged) (address pages : ℕ) : Type 0 where
+  pub base : new.base ≡ old.base
+  pub pages_is : new.pages ≡ old.pages
+  pub root : new.root ≡ old.root
+  pub joins : new.joins ≡ old.joins
+  pub slots : new.slots ≡ old.slots
+  pub tables : new.tables ≡ old.tables + cut_tables old.words old.root (address / 4096)
+  pub gone : AreUnmapped old.words new.words old.free new.free old.root (address / 4096) pages
+  pub tree : IsTree new.words old.root new.free
+  pub unmapped : (k : ℕ) → k < pages → walk_of new.words old.root (address / 4096 + k) ≡ None
+  pub others :
+      (page : ℕ) → IsTrue (is_canonical (page * 4096)) → ((k : ℕ) → k < pages → page ≡ address / 4096 + k → ⊥) → walk_of new.words old.root page ≡ walk_of old.words old.root page
+  pub bytes : (at : ℕ) → IsSome (walk_of new.words old.root (at / 4096)) → reached new.words old.root at ≡ reached old.words old.root at
 
 -- so pages of the heap are
 abbrev pub IsPagedGrant : Paged → Paged → ℕ → ℕ → Type 0
@@ -65,6 +95,7 @@ pub record OnlyHeapBytesChange (old new : Paged) : Type 0 where
   pub size : length new.words ≡ length old.words
   pub tree : IsTree old.words old.root old.free → IsTree new.words old.root old.free
   pub walks : (level number : ℕ) → level ≤ 4 → reach new.words old.root level number ≡ reach old.words old.root level number
+  pub larges : (number : ℕ) → large_of new.words old.root number ≡ large_of old.words old.root number
   pub tables :
       (level number index : ℕ) (met : Place) → level < 4 → index < 512 → reach old.words old.root level number ≡ Some met →
       word_at new.words met.frame index ≡ word_at old.words met.frame index
@@ -99,6 +130,9 @@ pub record Stands (m : Seen) (s : State) : Type 0 where
   pub tables_met :
       (level number : ℕ) → 0 < level → level < 4 →
       IsSome (reach m.paged.words m.paged.root level number) ↔ IsTrue (has_table s.tables (record { level = level; number = number }))
+  -- the walk ends at the third entry exactly in the slots of the state
+  pub larges_met :
+      (slot : ℕ) → IsSlot slot → IsSome (large_of m.paged.words m.paged.root (slot_number slot)) ↔ IsTrue (has_slot s.large slot)
   pub regions : m.paged.regions ≡ all_regions s
   pub blocks : m.blocks ≡ map (option_map outline) s.blocks
   pub base : m.paged.base ≡ s.base

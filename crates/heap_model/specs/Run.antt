@@ -7,7 +7,8 @@ use Rattle.heap_model.specs.declared.call.Call.{Call}
 use Rattle.heap_model.specs.declared.answer.Answer.{Answer}
 use Rattle.heap_model.specs.State.{State, Block, block_at, cover, end_of, is_within}
 use Rattle.heap_model.specs.Tables.{used_frames}
-use Rattle.heap_model.specs.Place.{meets_any}
+use Rattle.heap_model.specs.Slots.{IsSlot, is_whole_in, AreDistinct}
+use Rattle.heap_model.specs.Place.{meets_any, all_regions}
 use Rattle.heap_model.specs.Room.{AreApart, heap_region}
 use Rattle.heap_model.specs.Answer.{IsAllowed, after}
 
@@ -35,7 +36,8 @@ IsHeapRegion s region = IsWhole region × (s.base ≤ region.start) × (end_of r
 abbrev pub IsUserRegion : List Region → Region → Type 0
 IsUserRegion heap region = IsFalse region.heap × IsWhole region × IsFalse (meets_any region.start region.pages heap)
 
--- what holds of every state of a run: live blocks are aligned, disjoint and granted, regions are disjoint, and the frames suffice
+-- what holds of every state of a run: live blocks are aligned, disjoint and granted, regions are disjoint, the frames suffice,
+-- and each slot that is mapped by one entry lies whole in one region
 pub record IsGood (s : State) : Type 0 where
   pub each : (number : ℕ) (block : Block) → block_at s.blocks number ≡ Some block → IsGoodBlock s.heap block
   pub apart : (i j : ℕ) (a b : Block) → block_at s.blocks i ≡ Some a → block_at s.blocks j ≡ Some b → i ≢ j → AreApart a.address (cover a) b.address (cover b)
@@ -44,6 +46,9 @@ pub record IsGood (s : State) : Type 0 where
   pub heap : AllByRecursion (IsHeapRegion s) s.heap
   pub users : AllByRecursion (IsUserRegion s.heap) s.users
   pub frames : used_frames s ≤ s.frames
+  pub slots : AllByRecursion (λ slot. IsTrue (is_whole_in (all_regions s) slot)) s.large
+  pub are_slots : AllByRecursion IsSlot s.large
+  pub no_slot_twice : AreDistinct s.large
 
 -- one item of a run: a call with an answer that it may have, or a bad line (None) that is answered as one
 abbrev pub IsItem : State → Option Call → Option Answer → Type 0

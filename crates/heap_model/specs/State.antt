@@ -30,10 +30,12 @@ pub record State : Type 0 where
   pub users : List Region
   -- the index prefixes that have a table below the root, in the order in which the tables came; a table stays
   pub tables : List Prefix
+  -- the slots of 2 MiB that are mapped by one entry, each by its first address, in the order in which they came
+  pub large : List ℕ
 
 -- the state of a new machine
 abbrev pub start : Config → State
-start config = record { base = config.base; pages = config.pages; granularity = config.granularity; frames = config.frames; blocks = []; heap = []; users = []; tables = [] }
+start config = record { base = config.base; pages = config.pages; granularity = config.granularity; frames = config.frames; blocks = []; heap = []; users = []; tables = []; large = [] }
 
 -- the live block of a number
 abbrev pub block_at : List (Option Block) → ℕ → Option Block

@@ -56,11 +56,16 @@ pub enum Reply {
     Refused(Refusal),
 }
 
-/// A reply, and the heap regions after the call where the call changed them.
+/// The first addresses of slots: 2 MiB in a row that one entry maps, as a large page.
+pub type SlotList = PublicList<u64>;
+
+/// A reply, the heap regions after the call where the call changed them, and the slots that the call mapped by one
+/// entry each, by ascending address, where there are any.
 #[derive(Drop)]
 pub struct Answer {
     pub reply: Reply,
     pub regions: Option<RegionList>,
+    pub large: Option<SlotList>,
 }
 
 /// The answers to calls, one a call, in their order.

@@ -10,7 +10,7 @@ mod config;
 mod live;
 mod region;
 
-pub use answer::{Answer, AnswerList, Refusal, Reply};
+pub use answer::{Answer, AnswerList, Refusal, Reply, SlotList};
 pub use call::{Access, Call, CallList};
 pub use config::Config;
 pub use dlmalloc_chunks::{Extent, ExtentList, Kind};

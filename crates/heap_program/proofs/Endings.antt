@@ -60,14 +60,14 @@ span_end a m b n c d r s fits_x fits_y nc nd h =
     let second = decimal_end m n c d r s fits_x.1 fits_y.1 nc nd (tail_of first.1) in
     (first.0, second.0, second.1)
 
--- the text of an item ends before each byte that is no digit
+-- the text of an item ends before each byte that is no digit of base 16
 abbrev pub Ends : (A : Type 0) → (A → List ℕ) → (A → Type 0) → Type 0
-Ends A text Fits = (x y : A) (c d : ℕ) (r s : List ℕ) → Fits x → Fits y → 10 ≤ digit_value c → 10 ≤ digit_value d → text x ++ c ∷ r ≡ text y ++ d ∷ s → (x ≡ y) × (c ∷ r ≡ d ∷ s)
+Ends A text Fits = (x y : A) (c d : ℕ) (r s : List ℕ) → Fits x → Fits y → 16 ≤ digit_value c → 16 ≤ digit_value d → text x ++ c ∷ r ≡ text y ++ d ∷ s → (x ≡ y) × (c ∷ r ≡ d ∷ s)
 
 -- items with a space before each, up to the end of the line
 module _ {A : Type 0} (text : A → List ℕ) (Fits : A → Type 0) (ends : Ends A text Fits) where
   -- what stands behind an item begins with no digit
-  behind : (xs : List A) (r : List ℕ) → (c : ℕ) × (t : List ℕ) × (spaced text xs ++ 10 ∷ r ≡ c ∷ t) × (10 ≤ digit_value c)
+  behind : (xs : List A) (r : List ℕ) → (c : ℕ) × (t : List ℕ) × (spaced text xs ++ 10 ∷ r ≡ c ∷ t) × (16 ≤ digit_value c)
   behind [] r = (10, r, refl, lit≤ tt)
   behind (x ∷ xs) r = (32, (text x ++ spaced text xs) ++ 10 ∷ r, refl, lit≤ tt)
 

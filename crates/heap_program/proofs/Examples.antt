@@ -3,7 +3,7 @@ use Rattle.std.proofs.Common.{◌≡◌, ◌^◌, ◌-◌, ℕ, true, false, [],
 use Rattle.dlmalloc_chunks.specs.declared.extent.Kind.TheVariants.{Used, Free as Binned, Victim, Top, Record, Foot}
 use Rattle.heap_model.specs.declared.call.Access.TheVariants.{Read as Reading, Write as Writing, Fetch as Fetching}
 use Rattle.heap_model.specs.declared.call.Call.TheVariants.{Malloc, Calloc, Realloc, CRealloc, Free, Write, Read, Map, Unmap, Probe, Trim, SetRate, SetGranularity, Reset, Extents}
-use Rattle.heap_model.specs.declared.answer.Reply.TheVariants.{Block, Bytes, Byte, Trimmed, Accepted, Released, Extents as Listed, Refused}
+use Rattle.heap_model.specs.declared.answer.Reply.TheVariants.{Block, Done, Bytes, Byte, Trimmed, Accepted, Released, Extents as Listed, Refused}
 use Rattle.heap_model.specs.declared.answer.Refusal.TheVariants.{NoFrames, UnknownRegion, NotCanonical}
 use Rattle.std.specs.Fmt.{digits}
 use Rattle.hex.proofs.OnLiterals.{hex_on_literals}
@@ -82,63 +82,71 @@ items-probes = refl
 
 -- texts
 
-text-bytes : text_of (record { reply = Bytes (0 ∷ 255 ∷ []); regions = None }) ≡ codes "bytes 00ff\n"
+text-bytes : text_of (record { reply = Bytes (0 ∷ 255 ∷ []); regions = None; large = None }) ≡ codes "bytes 00ff\n"
 unfolding text_of hex_on_literals
 text-bytes = refl
 
-text-no_bytes : text_of (record { reply = Bytes []; regions = None }) ≡ codes "bytes\n"
+text-no_bytes : text_of (record { reply = Bytes []; regions = None; large = None }) ≡ codes "bytes\n"
 unfolding text_of
 text-no_bytes = refl
 
-text-byte : text_of (record { reply = Byte 0; regions = None }) ≡ codes "byte 00\n"
+text-byte : text_of (record { reply = Byte 0; regions = None; large = None }) ≡ codes "byte 00\n"
 unfolding text_of hex_on_literals
 text-byte = refl
 
-text-trimmed : text_of (record { reply = Trimmed true; regions = Some (heap_region 0x400000 1 ∷ []) }) ≡ codes "trimmed true\nheap 0x400000+1\n"
+text-trimmed : text_of (record { reply = Trimmed true; regions = Some (heap_region 0x400000 1 ∷ []); large = None }) ≡ codes "trimmed true\nheap 0x400000+1\n"
 unfolding text_of digits
 text-trimmed = refl
 
-text-not_trimmed : text_of (record { reply = Trimmed false; regions = None }) ≡ codes "trimmed false\n"
+text-not_trimmed : text_of (record { reply = Trimmed false; regions = None; large = None }) ≡ codes "trimmed false\n"
 unfolding text_of
 text-not_trimmed = refl
 
-text-accepted : text_of (record { reply = Accepted true; regions = None }) ≡ codes "accepted true\n"
+text-accepted : text_of (record { reply = Accepted true; regions = None; large = None }) ≡ codes "accepted true\n"
 unfolding text_of
 text-accepted = refl
 
-text-not_accepted : text_of (record { reply = Accepted false; regions = None }) ≡ codes "accepted false\n"
+text-not_accepted : text_of (record { reply = Accepted false; regions = None; large = None }) ≡ codes "accepted false\n"
 unfolding text_of
 text-not_accepted = refl
 
-text-released : text_of (record { reply = Released 65536; regions = Some [] }) ≡ codes "released 65536\nheap none\n"
+text-released : text_of (record { reply = Released 65536; regions = Some []; large = None }) ≡ codes "released 65536\nheap none\n"
 unfolding text_of digits
 text-released = refl
 
-text-unknown_region : text_of (record { reply = Refused UnknownRegion; regions = None }) ≡ codes "refused unknown-region\n"
+text-unknown_region : text_of (record { reply = Refused UnknownRegion; regions = None; large = None }) ≡ codes "refused unknown-region\n"
 unfolding text_of
 text-unknown_region = refl
 
-text-not_canonical : text_of (record { reply = Refused NotCanonical; regions = None }) ≡ codes "refused not-canonical\n"
+text-not_canonical : text_of (record { reply = Refused NotCanonical; regions = None; large = None }) ≡ codes "refused not-canonical\n"
 unfolding text_of
 text-not_canonical = refl
 
-text-block : text_of (record { reply = Block 2 0x40ffd0; regions = Some (heap_region 0x400000 16 ∷ heap_region 0x410000 16 ∷ []) }) ≡ codes "block 2 0x40ffd0\nheap 0x400000+16 0x410000+16\n"
+text-block : text_of (record { reply = Block 2 0x40ffd0; regions = Some (heap_region 0x400000 16 ∷ heap_region 0x410000 16 ∷ []); large = None }) ≡ codes "block 2 0x40ffd0\nheap 0x400000+16 0x410000+16\n"
 unfolding text_of digits
 text-block = refl
 
-text-extents : text_of (record { reply = Listed (record { at = 0x400000; size = 65440; kind = Used } ∷ record { at = 0x40ffa0; size = 16; kind = Top } ∷ record { at = 0x40ffb0; size = 80; kind = Foot } ∷ []); regions = None }) ≡ codes "extents used:0x400000+65440 top:0x40ffa0+16 foot:0x40ffb0+80\n"
+text-extents : text_of (record { reply = Listed (record { at = 0x400000; size = 65440; kind = Used } ∷ record { at = 0x40ffa0; size = 16; kind = Top } ∷ record { at = 0x40ffb0; size = 80; kind = Foot } ∷ []); regions = None; large = None }) ≡ codes "extents used:0x400000+65440 top:0x40ffa0+16 foot:0x40ffb0+80\n"
 unfolding text_of digits
 text-extents = refl
 
-text-other_extents : text_of (record { reply = Listed (record { at = 0; size = 32; kind = Binned } ∷ record { at = 32; size = 0; kind = Victim } ∷ record { at = 255; size = 1; kind = Record } ∷ []); regions = None }) ≡ codes "extents free:0x0+32 victim:0x20+0 record:0xff+1\n"
+text-other_extents : text_of (record { reply = Listed (record { at = 0; size = 32; kind = Binned } ∷ record { at = 32; size = 0; kind = Victim } ∷ record { at = 255; size = 1; kind = Record } ∷ []); regions = None; large = None }) ≡ codes "extents free:0x0+32 victim:0x20+0 record:0xff+1\n"
 unfolding text_of digits
 text-other_extents = refl
 
-text-no_extents : text_of (record { reply = Listed []; regions = None }) ≡ codes "extents\n"
+text-no_extents : text_of (record { reply = Listed []; regions = None; large = None }) ≡ codes "extents\n"
 unfolding text_of
 text-no_extents = refl
 
-text-none : text_of (record { reply = Refused NoFrames; regions = Some [] }) ≡ codes "refused no-frames\nheap none\n"
+text-large : text_of (record { reply = Done; regions = None; large = Some (0x800000 ∷ 0xa00000 ∷ []) }) ≡ codes "done\nlarge 0x800000 0xa00000\n"
+unfolding text_of digits
+text-large = refl
+
+text-granted_large : text_of (record { reply = Block 0 0x400010; regions = Some (heap_region 0x400000 736 ∷ []); large = Some (0x400000 ∷ []) }) ≡ codes "block 0 0x400010\nheap 0x400000+736\nlarge 0x400000\n"
+unfolding text_of digits
+text-granted_large = refl
+
+text-none : text_of (record { reply = Refused NoFrames; regions = Some []; large = None }) ≡ codes "refused no-frames\nheap none\n"
 unfolding text_of
 text-none = refl
 

@@ -1,5 +1,6 @@
 -- The answers of a run fit: their numbers are below 2 ^ 64, their bytes are bytes, and their regions are the heap's.
 use Rattle.std.proofs.Common.{◌≡◌, ℕ, zero, suc, ◌+◌, ◌-◌, ◌*◌, ◌/◌, ◌%◌, ◌^◌, ◌<◌, ◌≤◌, ◌⊎◌, inl, inr, ◌==◌, List, [], ◌∷◌, ◌++◌, length, Bool, true, false, cond, Option, None, Some, is_some, MatchOption, option_map, slice_set, refl, sym, ◌∙◌, ap, subst, arith, lit<, length-append}
+use Rattle.std.specs.Prelude.{⊤}
 use Rattle.std.specs.List.{list_any, onto_first, AllByRecursion}
 use Rattle.std.proofs.lemmas.List.{length-map, length-set}
 use Rattle.std.proofs.lemmas.Bool.Decides.{nat_tests, Decides-eqb}
@@ -22,14 +23,15 @@ use Rattle.heap_model.specs.declared.region.Region.{Region}
 use Rattle.heap_model.specs.State.{State, Block, Cell, Fresh, Known, block_at, is_within}
 use Rattle.heap_model.specs.Extents.{IsTiling}
 use Rattle.heap_model.specs.Probe.{rights_at, fault_code}
-use Rattle.heap_model.specs.Answer.{AreBytes, all_ended, seen_block, IsReply, IsResizing, changed, new_block, with_block, resized_block, with_heap, after}
-use Rattle.heap_model.specs.Refusal.{own_align, least_align, wanted_by}
+use Rattle.heap_model.specs.Answer.{AreBytes, all_ended, seen_block, IsReply, IsResizing, changed, new_block, with_block, resized_block, NewPages, new_pages, with_regions, slots_of, AreNewSlots, after}
+use Rattle.heap_model.specs.Refusal.{own_align, least_align}
+use Rattle.heap_model.specs.Slots.{IsSlotOf}
 use Rattle.heap_model.specs.Run.{IsGood, IsHeapRegion, IsItem, next, IsRun, last_state}
 use Rattle.heap_model.proofs.Booleans.{or_left, or_right, or_cases}
 use Rattle.heap_model.proofs.Regions.{within, within_bounds}
 use Rattle.heap_model.proofs.Resized.{replaced_here}
 use Rattle.heap_program.specs.Lines.{lines_of, items_of}
-use Rattle.heap_program.specs.Spelling.{ExtentFits, ReplyFits, RegionFits, RegionsFit, AnswerFits, RunsSpellOne}
+use Rattle.heap_program.specs.Spelling.{SlotsFit, ExtentFits, ReplyFits, RegionFits, RegionsFit, AnswerFits, RunsSpellOne}
 use Rattle.heap_program.proofs.Spellings.{spells_one}
 
 -- ---- addresses of the heap
@@ -142,22 +144,26 @@ block_small s number block good is =
     omega (arith, small)
 
 -- a good state with more or fewer heap regions has its blocks where they are
-placed_small : (s : State) (address size align : ℕ) (cell : Cell) (n : Option ℕ) (regions : Option (List Region)) →
-    IsGood (with_heap (record s { blocks = s.blocks ++ new_block address size align cell ∷ [] }) n regions) → address < 2 ^ 64
-placed_small s address size align cell n None good = block_small _ (length s.blocks) _ good (last_block s.blocks (new_block address size align cell))
-placed_small s address size align cell n (Some list) good = block_small _ (length s.blocks) _ good (last_block s.blocks (new_block address size align cell))
+placed_small : (s : State) (address size align : ℕ) (cell : Cell) (regions : Option (List Region)) (new : Option NewPages) (slots : List ℕ) →
+    IsGood (with_regions (record s { blocks = s.blocks ++ new_block address size align cell ∷ [] }) regions new slots) → address < 2 ^ 64
+placed_small s address size align cell None None slots good = block_small _ (length s.blocks) _ good (last_block s.blocks (new_block address size align cell))
+placed_small s address size align cell None (Some new) slots good = block_small _ (length s.blocks) _ good (last_block s.blocks (new_block address size align cell))
+placed_small s address size align cell (Some list) None slots good = block_small _ (length s.blocks) _ good (last_block s.blocks (new_block address size align cell))
+placed_small s address size align cell (Some list) (Some new) slots good = block_small _ (length s.blocks) _ good (last_block s.blocks (new_block address size align cell))
 
 -- and so has it a block with another size
-resized_small : (s : State) (number : ℕ) (change : Block → Block) (block : Block) (n : Option ℕ) (regions : Option (List Region)) → block_at s.blocks number ≡ Some block →
-    IsGood (with_heap (record s { blocks = with_block s.blocks number change }) n regions) → (change block).address < 2 ^ 64
-resized_small s number change block n regions is good = go regions good
+resized_small : (s : State) (number : ℕ) (change : Block → Block) (block : Block) (regions : Option (List Region)) (new : Option NewPages) (slots : List ℕ) → block_at s.blocks number ≡ Some block →
+    IsGood (with_regions (record s { blocks = with_block s.blocks number change }) regions new slots) → (change block).address < 2 ^ 64
+resized_small s number change block regions new slots is good = go regions new good
   where
     there : block_at (with_block s.blocks number change) number ≡ Some (change block)
     there = ap (λ (found : Option Block). block_at (slice_set s.blocks number (option_map change found)) number) is ∙ replaced_here s.blocks number block (change block) is
 
-    go : (regions : Option (List Region)) → IsGood (with_heap (record s { blocks = with_block s.blocks number change }) n regions) → (change block).address < 2 ^ 64
-    go None good = block_small _ number (change block) good there
-    go (Some list) good = block_small _ number (change block) good there
+    go : (regions : Option (List Region)) (new : Option NewPages) → IsGood (with_regions (record s { blocks = with_block s.blocks number change }) regions new slots) → (change block).address < 2 ^ 64
+    go None None good = block_small _ number (change block) good there
+    go None (Some new) good = block_small _ number (change block) good there
+    go (Some list) None good = block_small _ number (change block) good there
+    go (Some list) (Some new) good = block_small _ number (change block) good there
 
 -- its number is one of the numbers given
 block_within : (blocks : List (Option Block)) (number : ℕ) (block : Block) → block_at blocks number ≡ Some block → number < length blocks
@@ -166,11 +172,11 @@ block_within (first ∷ rest) zero block is = omega arith
 block_within (first ∷ rest) (suc number) block is = let later = block_within rest number block is in omega arith
 
 -- a reply that gives a block another size, where the block is one
-resized_fits : (s : State) (number given size address : ℕ) (n : Block → ℕ) (align : Block → ℕ) (found : Option Block) (wanted : Option ℕ) (regions : Option (List Region)) → length s.blocks < 2 ^ 64 → block_at s.blocks number ≡ found → given ≡ number →
-    MatchOption found ⊥ (λ block. IsResizing s block (n block) address regions) → IsGood (with_heap (record s { blocks = with_block s.blocks number (resized_block address size align) }) wanted regions) → ReplyFits (Placed given address)
-resized_fits s number given size address n align None wanted regions few at same is good = absurd is
-resized_fits s number given size address n align (Some block) wanted regions few at same is good =
-    (let within = block_within s.blocks number block at in omega arith, resized_small s number (resized_block address size align) block wanted regions at good)
+resized_fits : (s : State) (number given size address : ℕ) (n : Block → ℕ) (align : Block → ℕ) (found : Option Block) (regions : Option (List Region)) (new : Option NewPages) (slots : List ℕ) → length s.blocks < 2 ^ 64 → block_at s.blocks number ≡ found → given ≡ number →
+    MatchOption found ⊥ (λ block. IsResizing s block (n block) address regions) → IsGood (with_regions (record s { blocks = with_block s.blocks number (resized_block address size align) }) regions new slots) → ReplyFits (Placed given address)
+resized_fits s number given size address n align None regions new slots few at same is good = absurd is
+resized_fits s number given size address n align (Some block) regions new slots few at same is good =
+    (let within = block_within s.blocks number block at in omega arith, resized_small s number (resized_block address size align) block regions new slots at good)
 
 tiling_fits : (s : State) (extents : List Extent) → IsGood s → IsTiling s extents → AllByRecursion ExtentFits extents
 tiling_fits s extents good tiling =
@@ -191,37 +197,59 @@ code_small false Writing false = lit< tt
 code_small false Fetching true = lit< tt
 code_small false Fetching false = lit< tt
 
-reply_fits : (s : State) (call : Call) (reply : Reply) (regions : Option (List Region)) → length s.blocks < 2 ^ 64 → IsReply s call reply regions →
-    IsGood (after s call (record { reply = reply; regions = regions })) → ReplyFits reply
-reply_fits s call (Refused why) regions few is good = tt
-reply_fits s call Done regions few is good = tt
-reply_fits s call (Trimmed released) regions few is good = tt
-reply_fits s call (Accepted accepted) regions few is good = tt
-reply_fits s (Malloc size align) (Placed number address) regions few is good =
-    (subst (λ n. n < 2 ^ 64) (sym is.1.0) few, placed_small s address size align Fresh (wanted_by s (Malloc size align)) regions good)
-reply_fits s (Calloc size align) (Placed number address) regions few is good =
-    (subst (λ n. n < 2 ^ 64) (sym is.1.0) few, placed_small s address size align (Known 0) (wanted_by s (Calloc size align)) regions good)
-reply_fits s (Realloc number size) (Placed given address) regions few is good =
-    resized_fits s number given size address (λ block. wanted size (own_align block)) own_align (block_at s.blocks number) (wanted_by s (Realloc number size)) regions few refl is.1.0 is.1.1 good
-reply_fits s (CRealloc number size) (Placed given address) regions few is good =
-    resized_fits s number given size address (λ block. wanted size (least_align block)) least_align (block_at s.blocks number) (wanted_by s (CRealloc number size)) regions few refl is.1.0 is.1.1 good
-reply_fits s (Read number offset count) (Bytes bytes) regions few is good = bytes_fit bytes is.1.2
-reply_fits s (Probe at access user) (Byte byte) regions few is good = bytes_fit (byte ∷ []) (is.1.2.small, tt)
-reply_fits s (Probe at access user) (Fault code) regions few is good = subst (λ n. n < 2 ^ 64) (sym is.1.2) (code_small (is_some (rights_at s at)) access user)
-reply_fits s Reset (Released bytes) regions few is good = is.1.2
-reply_fits s Extents (Listed extents) regions few is good =
-    tiling_fits s extents (subst (λ r. IsGood (with_heap s None r)) is.1.0 good) is.1.1
-reply_fits s call reply regions few is good = absurd is.1
+reply_fits : (s : State) (call : Call) (reply : Reply) (regions : Option (List Region)) (large : Option (List ℕ)) → length s.blocks < 2 ^ 64 → IsReply s call reply regions →
+    IsGood (after s call (record { reply = reply; regions = regions; large = large })) → ReplyFits reply
+reply_fits s call (Refused why) regions large few is good = tt
+reply_fits s call Done regions large few is good = tt
+reply_fits s call (Trimmed released) regions large few is good = tt
+reply_fits s call (Accepted accepted) regions large few is good = tt
+reply_fits s (Malloc size align) (Placed number address) regions large few is good =
+    (subst (λ n. n < 2 ^ 64) (sym is.1.0) few, placed_small s address size align Fresh regions (new_pages s (Malloc size align) (Placed number address) regions) (slots_of large) good)
+reply_fits s (Calloc size align) (Placed number address) regions large few is good =
+    (subst (λ n. n < 2 ^ 64) (sym is.1.0) few, placed_small s address size align (Known 0) regions (new_pages s (Calloc size align) (Placed number address) regions) (slots_of large) good)
+reply_fits s (Realloc number size) (Placed given address) regions large few is good =
+    resized_fits s number given size address (λ block. wanted size (own_align block)) own_align (block_at s.blocks number) regions (new_pages s (Realloc number size) (Placed given address) regions) (slots_of large) few refl is.1.0 is.1.1 good
+reply_fits s (CRealloc number size) (Placed given address) regions large few is good =
+    resized_fits s number given size address (λ block. wanted size (least_align block)) least_align (block_at s.blocks number) regions (new_pages s (CRealloc number size) (Placed given address) regions) (slots_of large) few refl is.1.0 is.1.1 good
+reply_fits s (Read number offset count) (Bytes bytes) regions large few is good = bytes_fit bytes is.1.2
+reply_fits s (Probe at access user) (Byte byte) regions large few is good = bytes_fit (byte ∷ []) (is.1.2.small, tt)
+reply_fits s (Probe at access user) (Fault code) regions large few is good = subst (λ n. n < 2 ^ 64) (sym is.1.2) (code_small (is_some (rights_at s at)) access user)
+reply_fits s Reset (Released bytes) regions large few is good = is.1.2
+reply_fits s Extents (Listed extents) regions large few is good =
+    tiling_fits s extents (subst (λ (r : Option (List Region)). IsGood (with_regions s r (new_pages s Extents (Listed extents) r) (slots_of large))) is.1.0 good) is.1.1
+reply_fits s call reply regions large few is good = absurd is.1
 
-regions_listed : (s : State) (n : Option ℕ) (regions : Option (List Region)) → IsGood (with_heap s n regions) → RegionsFit regions
-regions_listed s n None good = tt
-regions_listed s n (Some list) good = regions_fit (with_heap s n (Some list)) list good.heap
+regions_listed : (s : State) (regions : Option (List Region)) (new : Option NewPages) (slots : List ℕ) → IsGood (with_regions s regions new slots) → RegionsFit regions
+regions_listed s None new slots good = tt
+regions_listed s (Some list) None slots good = regions_fit (with_regions s (Some list) None slots) list good.heap
+regions_listed s (Some list) (Some new) slots good = regions_fit (with_regions s (Some list) (Some new) slots) list good.heap
+
+-- ---- slots
+
+-- a canonical address is one of 64 bits
+slot_small : (slot : ℕ) → is_canonical slot ≡ true → slot < 2 ^ 64
+slot_small slot is = elim (canonical_half slot is) [
+  | inl low ↦ omega arith
+  | inr high ↦ omega arith
+]
+
+slots_small : (address pages : ℕ) (slots : List ℕ) → AllByRecursion (IsSlotOf address pages) slots → AllByRecursion (λ slot. slot < 2 ^ 64) slots
+slots_small address pages [] all = tt
+slots_small address pages (slot ∷ slots) all = (slot_small slot all.0.is_slot.canonical, slots_small address pages slots all.1)
+
+slots_fit : (s : State) (large : Option (List ℕ)) (new : Option NewPages) → MatchOption large ⊤ (λ slots. MatchOption new ⊥ (λ pages. AreNewSlots s pages slots)) → SlotsFit large
+slots_fit s None new are = tt
+slots_fit s (Some slots) None are = absurd are
+slots_fit s (Some slots) (Some new) are = slots_small new.start new.pages slots are.within
 
 -- ---- runs
 
 item_fits : (s : State) (item : Option Call) (answer : Option Answer) → length s.blocks < 2 ^ 64 → IsItem s item answer → AnswerFits answer
-item_fits s (Some call) (Some answer) few is =
-    (reply_fits s call answer.reply answer.regions few is.0.reply is.1, regions_listed (changed s call answer.reply) (wanted_by s call) answer.regions is.1)
+item_fits s (Some call) (Some answer) few is = (
+  reply_fits s call answer.reply answer.regions answer.large few is.0.reply is.1,
+  regions_listed (changed s call answer.reply) answer.regions (new_pages s call answer.reply answer.regions) (slots_of answer.large) is.1,
+  slots_fit s answer.large (new_pages s call answer.reply answer.regions) is.0.large,
+)
 item_fits s None None few is = tt
 item_fits s (Some call) None few is = absurd is
 item_fits s None (Some answer) few is = absurd is
@@ -243,14 +271,16 @@ changed_blocks s (SetGranularity granularity) (Accepted false) = omega arith
 changed_blocks s Reset (Released bytes) = let same : length (all_ended s.blocks) ≡ length s.blocks = length-map s.blocks (λ block. None) in omega (arith, same)
 changed_blocks s call reply = omega arith
 
-heap_blocks : (s : State) (n : Option ℕ) (regions : Option (List Region)) → (with_heap s n regions).blocks ≡ s.blocks
-heap_blocks s n None = refl
-heap_blocks s n (Some list) = refl
+regions_blocks : (s : State) (regions : Option (List Region)) (new : Option NewPages) (slots : List ℕ) → (with_regions s regions new slots).blocks ≡ s.blocks
+regions_blocks s None None slots = refl
+regions_blocks s None (Some new) slots = refl
+regions_blocks s (Some list) None slots = refl
+regions_blocks s (Some list) (Some new) slots = refl
 
 next_blocks : (s : State) (item : Option Call) (answer : Option Answer) → length (next s item answer).blocks ≤ length s.blocks + 1
 next_blocks s (Some call) (Some answer) =
     let more = changed_blocks s call answer.reply in
-    let same = ap (λ bs. length bs) (heap_blocks (changed s call answer.reply) (wanted_by s call) answer.regions) in
+    let same = ap (λ bs. length bs) (regions_blocks (changed s call answer.reply) answer.regions (new_pages s call answer.reply answer.regions) (slots_of answer.large)) in
     omega (arith, more, same)
 next_blocks s (Some call) None = omega arith
 next_blocks s None answer = omega arith

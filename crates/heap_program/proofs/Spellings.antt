@@ -1,5 +1,5 @@
 -- Texts that cannot be read in two ways.
-use Rattle.std.proofs.Common.{◌^◌, ◌≡◌, ◌<◌, ◌+◌, ◌/◌, ◌%◌, ℕ, zero, suc, ◌==◌, get_or, Bool, true, false, List, [], ◌∷◌, ◌++◌, length, Option, None, Some, codes, decimal, refl, sym, ◌∙◌, ap, arith, append_assoc, lit≤}
+use Rattle.std.proofs.Common.{◌^◌, ◌≡◌, ◌<◌, ◌≤◌, ◌+◌, ◌/◌, ◌%◌, ℕ, zero, suc, ◌==◌, get_or, Bool, true, false, List, [], ◌∷◌, ◌++◌, length, Option, None, Some, codes, decimal, refl, sym, ◌∙◌, ap, subst, arith, append_assoc, lit≤}
 use Rattle.std.proofs.lemmas.List.{append_cancel_left}
 use Rattle.std.specs.Prelude.{if◌then◌else◌}
 use Rattle.hex.specs.Hex.{IsBytes, decode_of, encode_lower, encode_with, lower_digits}
@@ -23,8 +23,8 @@ use Rattle.heap_model.specs.Place.{all_regions}
 use Rattle.heap_model.specs.Tables.{free_frames}
 use Rattle.heap_model.specs.State.{State}
 use Rattle.heap_program.specs.Progress.{texts_of}
-use Rattle.heap_program.specs.Spelling.{ExtentFits, ReplyFits, RegionFits, RegionsFit, AnswerFits, SpellsOne}
-use Rattle.heap_program.specs.Text.{hexadecimal, span_text, kind_word, extent_text, reply_text, pages_text, regions_text, region_line, heap_line, text_of, line_text, counts_line, end_text_of}
+use Rattle.heap_program.specs.Spelling.{ExtentFits, ReplyFits, RegionFits, RegionsFit, SlotsFit, AnswerFits, SpellsOne}
+use Rattle.heap_program.specs.Text.{hexadecimal, span_text, kind_word, spaced, extent_text, reply_text, pages_text, regions_text, region_line, heap_line, large_line, text_of, line_text, counts_line, end_text_of}
 use Rattle.heap_program.proofs.Endings.{head_of, tail_of, told_end, digits_end, decimal_end, hex_end, span_end, Ends, items_end}
 
 -- the two numbers of a block, and what follows
@@ -162,7 +162,7 @@ extent_onto x c r = append_assoc (kind_word x.kind) (58 ∷ span_text x.at x.siz
 extent_end : Ends Extent extent_text ExtentFits
 extent_end x y c d r s fx fy nc nd h =
     let kind = told_end kind_word kind_of kind_told x.kind y.kind (58 ∷ (span_text x.at x.size ++ c ∷ r)) (58 ∷ (span_text y.at y.size ++ d ∷ s)) (sym (extent_onto x c r) ∙ h ∙ extent_onto y d s) in
-    let span = span_end x.at x.size y.at y.size c d r s fx fy nc nd (tail_of kind.1) in
+    let span = span_end x.at x.size y.at y.size c d r s fx fy (omega (arith, nc)) (omega (arith, nd)) (tail_of kind.1) in
     ((λ i. record { at = span.0 i; size = span.1 i; kind = kind.0 i }), span.2)
 
 -- the second and the fifth letter tell the kinds of replies apart, and so does their sum
@@ -211,12 +211,13 @@ reply_end p q r s fp fq h = absurd (let k : letters p ≡ letters q = letters_sa
 -- a region of a heap line, before a byte that is no digit
 region_end : Ends Region pages_text RegionFits
 region_end x y c d r s fx fy nc nd h =
-    let span = span_end x.start x.pages y.start y.pages c d r s (fx.0, fx.1) (fy.0, fy.1) nc nd h in
+    let span = span_end x.start x.pages y.start y.pages c d r s (fx.0, fx.1) (fy.0, fy.1) (omega (arith, nc)) (omega (arith, nd)) h in
     (fx.2 ∙ (λ i. heap_region (span.0 i) (span.1 i)) ∙ sym fy.2, span.2)
 
--- no heap line begins there
-abbrev NoHeap : List ℕ → Type 0
-NoHeap r = (t : List ℕ) → r ≡ 104 ∷ t → ⊥
+-- neither a heap line nor a large line begins there
+pub record NoMore (r : List ℕ) : Type 0 where
+  pub no_heap : (t : List ℕ) → r ≡ 104 ∷ t → ⊥
+  pub no_large : (t : List ℕ) → r ≡ 108 ∷ t → ⊥
 
 some_end : (xs ys : List Region) (r s : List ℕ) → AllByRecursion RegionFits xs → AllByRecursion RegionFits ys → heap_line (Some xs) ++ r ≡ heap_line (Some ys) ++ s → (xs ≡ ys) × (r ≡ s)
 some_end [] [] r s fx fy h = (refl, append_cancel_left (codes "heap none\n") r s h)
@@ -224,18 +225,49 @@ some_end [] (y ∷ ys) r s fx fy h = absurd (let k : 110 ≡ 48 = head_of (tail_
 some_end (x ∷ xs) [] r s fx fy h = absurd (let k : 48 ≡ 110 = head_of (tail_of (tail_of (tail_of (tail_of (tail_of h))))) in omega (arith, k))
 some_end (x ∷ xs) (y ∷ ys) r s fx fy h = items_end pages_text RegionFits region_end (codes "heap") (x ∷ xs) (y ∷ ys) r s fx fy h
 
+-- no heap line begins there
+abbrev NoHeap : List ℕ → Type 0
+NoHeap r = (t : List ℕ) → r ≡ 104 ∷ t → ⊥
+
 heap_end : (p q : Option (List Region)) (r s : List ℕ) → RegionsFit p → RegionsFit q → NoHeap r → NoHeap s → heap_line p ++ r ≡ heap_line q ++ s → (p ≡ q) × (r ≡ s)
 heap_end None None r s fp fq nr ns h = (refl, h)
 heap_end None (Some ys) r s fp fq nr ns h = absurd (nr (codes "eap" ++ ((regions_text ys ++ 10 ∷ []) ++ s)) h)
 heap_end (Some xs) None r s fp fq nr ns h = absurd (ns (codes "eap" ++ ((regions_text xs ++ 10 ∷ []) ++ r)) (sym h))
 heap_end (Some xs) (Some ys) r s fp fq nr ns h = let k = some_end xs ys r s fp fq h in ((λ i. Some (k.0 i)), k.1)
 
-answer_end : (a b : Answer) (r s : List ℕ) → ReplyFits a.reply → RegionsFit a.regions → ReplyFits b.reply → RegionsFit b.regions → NoHeap r → NoHeap s → text_of a ++ r ≡ text_of b ++ s → (a ≡ b) × (r ≡ s)
+-- a slot, before a byte that is no digit of base 16
+slot_end : (x y c d : ℕ) (r s : List ℕ) → x < 2 ^ 64 → y < 2 ^ 64 → 16 ≤ digit_value c → 16 ≤ digit_value d → hexadecimal x ++ c ∷ r ≡ hexadecimal y ++ d ∷ s → (x ≡ y) × (c ∷ r ≡ d ∷ s)
+slot_end x y c d r s fx fy nc nd h = hex_end x y c d r s fx fy nc nd h
+
+large_end : (p q : Option (List ℕ)) (r s : List ℕ) → SlotsFit p → SlotsFit q → NoMore r → NoMore s → large_line p ++ r ≡ large_line q ++ s → (p ≡ q) × (r ≡ s)
+large_end None None r s fp fq nr ns h = (refl, h)
+large_end None (Some ys) r s fp fq nr ns h = absurd (nr.no_large (codes "arge" ++ ((spaced hexadecimal ys ++ 10 ∷ []) ++ s)) h)
+large_end (Some xs) None r s fp fq nr ns h = absurd (ns.no_large (codes "arge" ++ ((spaced hexadecimal xs ++ 10 ∷ []) ++ r)) (sym h))
+large_end (Some xs) (Some ys) r s fp fq nr ns h =
+    let k = items_end hexadecimal (λ slot. slot < 2 ^ 64) slot_end (codes "large") xs ys r s fp fq h in
+    ((λ i. Some (k.0 i)), k.1)
+
+-- no heap line begins with a large line, or where none begins
+large_head : (p : Option (List ℕ)) (r : List ℕ) → NoMore r → NoHeap (large_line p ++ r)
+large_head None r none t h = none.no_heap t h
+large_head (Some slots) r none t h = let k : 108 ≡ 104 = head_of h in omega (arith, k)
+
+-- the lines behind a reply, and what follows
+abbrev lines_onto : Answer → List ℕ → List ℕ
+lines_onto a r = heap_line a.regions ++ (large_line a.large ++ r)
+
+answer_onto : (a : Answer) (r : List ℕ) → text_of a ++ r ≡ reply_text a.reply ++ lines_onto a r
 unfolding text_of
-answer_end a b r s ra ha rb hb nr ns h =
-    let k = reply_end a.reply b.reply (heap_line a.regions ++ r) (heap_line b.regions ++ s) ra rb (sym (append_assoc (reply_text a.reply) (heap_line a.regions) r) ∙ h ∙ append_assoc (reply_text b.reply) (heap_line b.regions) s) in
-    let l = heap_end a.regions b.regions r s ha hb nr ns k.1 in
-    ((λ i. record { reply = k.0 i; regions = l.0 i }), l.1)
+answer_onto a r =
+    append_assoc (reply_text a.reply) (heap_line a.regions ++ large_line a.large) r
+    ∙ ap (λ (l : List ℕ). reply_text a.reply ++ l) (append_assoc (heap_line a.regions) (large_line a.large) r)
+
+answer_end : (a b : Answer) (r s : List ℕ) → AnswerFits (Some a) → AnswerFits (Some b) → NoMore r → NoMore s → text_of a ++ r ≡ text_of b ++ s → (a ≡ b) × (r ≡ s)
+answer_end a b r s fa fb nr ns h =
+    let k = reply_end a.reply b.reply (lines_onto a r) (lines_onto b s) fa.0 fb.0 (sym (answer_onto a r) ∙ h ∙ answer_onto b s) in
+    let l = heap_end a.regions b.regions (large_line a.large ++ r) (large_line b.large ++ s) fa.1 fb.1 (large_head a.large r nr) (large_head b.large s ns) k.1 in
+    let m = large_end a.large b.large r s fa.2 fb.2 nr ns l.1 in
+    ((λ i. record { reply = k.0 i; regions = l.0 i; large = m.0 i }), m.1)
 
 -- the first byte of a reply's text is no h, and its second no a
 reply_differs : (p : Reply) (r s t : List ℕ) → reply_text p ++ r ≡ codes "bad line\n" ++ s → ⊥
@@ -250,41 +282,45 @@ reply_differs (Released bytes) r s t h = let k : 114 ≡ 98 = head_of h in omega
 reply_differs (Extents extents) r s t h = let k : 101 ≡ 98 = head_of h in omega (arith, k)
 reply_differs (Refused why) r s t h = let k : 114 ≡ 98 = head_of h in omega (arith, k)
 
-line_end : (x y : Option Answer) (r s : List ℕ) → AnswerFits x → AnswerFits y → NoHeap r → NoHeap s → line_text x ++ r ≡ line_text y ++ s → (x ≡ y) × (r ≡ s)
-unfolding line_text text_of
+line_end : (x y : Option Answer) (r s : List ℕ) → AnswerFits x → AnswerFits y → NoMore r → NoMore s → line_text x ++ r ≡ line_text y ++ s → (x ≡ y) × (r ≡ s)
+unfolding line_text
 line_end None None r s fx fy nr ns h = (refl, append_cancel_left (codes "bad line\n") r s h)
-line_end None (Some b) r s fx fy nr ns h = absurd (reply_differs b.reply (heap_line b.regions ++ s) r [] (sym (append_assoc (reply_text b.reply) (heap_line b.regions) s) ∙ sym h))
-line_end (Some a) None r s fx fy nr ns h = absurd (reply_differs a.reply (heap_line a.regions ++ r) s [] (sym (append_assoc (reply_text a.reply) (heap_line a.regions) r) ∙ h))
-line_end (Some a) (Some b) r s fx fy nr ns h = let k = answer_end a b r s fx.0 fx.1 fy.0 fy.1 nr ns h in ((λ i. Some (k.0 i)), k.1)
+line_end None (Some b) r s fx fy nr ns h = absurd (reply_differs b.reply (lines_onto b s) r [] (sym (answer_onto b s) ∙ sym h))
+line_end (Some a) None r s fx fy nr ns h = absurd (reply_differs a.reply (lines_onto a r) s [] (sym (answer_onto a r) ∙ h))
+line_end (Some a) (Some b) r s fx fy nr ns h = let k = answer_end a b r s fx fy nr ns h in ((λ i. Some (k.0 i)), k.1)
 
-reply_head : (p : Reply) (r : List ℕ) → NoHeap (reply_text p ++ r)
-reply_head (Block m a) r t h = let k : 98 ≡ 104 = head_of h in omega (arith, k)
-reply_head Done r t h = let k : 100 ≡ 104 = head_of h in omega (arith, k)
-reply_head (Bytes bytes) r t h = let k : 98 ≡ 104 = head_of h in omega (arith, k)
-reply_head (Byte byte) r t h = let k : 98 ≡ 104 = head_of h in omega (arith, k)
-reply_head (Fault code) r t h = let k : 102 ≡ 104 = head_of h in omega (arith, k)
-reply_head (Trimmed released) r t h = let k : 116 ≡ 104 = head_of h in omega (arith, k)
-reply_head (Accepted accepted) r t h = let k : 97 ≡ 104 = head_of h in omega (arith, k)
-reply_head (Released bytes) r t h = let k : 114 ≡ 104 = head_of h in omega (arith, k)
-reply_head (Extents extents) r t h = let k : 101 ≡ 104 = head_of h in omega (arith, k)
-reply_head (Refused why) r t h = let k : 114 ≡ 104 = head_of h in omega (arith, k)
+-- neither h nor l is the first byte
+begins : (b : ℕ) (r : List ℕ) → (b ≡ 104 → ⊥) → (b ≡ 108 → ⊥) → NoMore (b ∷ r)
+begins b r h l = record { no_heap = λ t e. h (head_of e); no_large = λ t e. l (head_of e) }
 
-line_head : (x : Option Answer) (r : List ℕ) → NoHeap (line_text x ++ r)
-unfolding line_text text_of
-line_head None r t h = let k : 98 ≡ 104 = head_of h in omega (arith, k)
-line_head (Some a) r t h = reply_head a.reply (heap_line a.regions ++ r) t (sym (append_assoc (reply_text a.reply) (heap_line a.regions) r) ∙ h)
+reply_head : (p : Reply) (r : List ℕ) → NoMore (reply_text p ++ r)
+reply_head (Block m a) r = begins 98 _ (λ e. omega (arith, e)) (λ e. omega (arith, e))
+reply_head Done r = begins 100 _ (λ e. omega (arith, e)) (λ e. omega (arith, e))
+reply_head (Bytes bytes) r = begins 98 _ (λ e. omega (arith, e)) (λ e. omega (arith, e))
+reply_head (Byte byte) r = begins 98 _ (λ e. omega (arith, e)) (λ e. omega (arith, e))
+reply_head (Fault code) r = begins 102 _ (λ e. omega (arith, e)) (λ e. omega (arith, e))
+reply_head (Trimmed released) r = begins 116 _ (λ e. omega (arith, e)) (λ e. omega (arith, e))
+reply_head (Accepted accepted) r = begins 97 _ (λ e. omega (arith, e)) (λ e. omega (arith, e))
+reply_head (Released bytes) r = begins 114 _ (λ e. omega (arith, e)) (λ e. omega (arith, e))
+reply_head (Extents extents) r = begins 101 _ (λ e. omega (arith, e)) (λ e. omega (arith, e))
+reply_head (Refused why) r = begins 114 _ (λ e. omega (arith, e)) (λ e. omega (arith, e))
 
-region_lines_head : (rs : List Region) (r : List ℕ) → NoHeap r → NoHeap (flat_map region_line rs ++ r)
-region_lines_head [] r none t h = none t h
-region_lines_head (x ∷ rs) r none t h = let k : 114 ≡ 104 = head_of h in omega (arith, k)
+line_head : (x : Option Answer) (r : List ℕ) → NoMore (line_text x ++ r)
+unfolding line_text
+line_head None r = begins 98 _ (λ e. omega (arith, e)) (λ e. omega (arith, e))
+line_head (Some a) r = subst NoMore (sym (answer_onto a r)) (reply_head a.reply (lines_onto a r))
 
-end_head : (d : State) → NoHeap (end_text_of d)
+region_lines_head : (rs : List Region) (r : List ℕ) → NoMore r → NoMore (flat_map region_line rs ++ r)
+region_lines_head [] r none = none
+region_lines_head (x ∷ rs) r none = begins 114 _ (λ e. omega (arith, e)) (λ e. omega (arith, e))
+
+end_head : (d : State) → NoMore (end_text_of d)
 unfolding end_text_of
-end_head d t h = region_lines_head (all_regions d) (counts_line (free_frames d) (1 + length d.tables)) (λ u k. let l : 102 ≡ 104 = head_of k in omega (arith, l)) t h
+end_head d = region_lines_head (all_regions d) (counts_line (free_frames d) (1 + length d.tables)) (begins 102 _ (λ e. omega (arith, e)) (λ e. omega (arith, e)))
 
-lines_head : (xs : List (Option Answer)) (d : State) → NoHeap (texts_of xs ++ end_text_of d)
-lines_head [] d t h = end_head d t h
-lines_head (x ∷ xs) d t h = line_head x (texts_of xs ++ end_text_of d) t (sym (append_assoc (line_text x) (texts_of xs) (end_text_of d)) ∙ h)
+lines_head : (xs : List (Option Answer)) (d : State) → NoMore (texts_of xs ++ end_text_of d)
+lines_head [] d = end_head d
+lines_head (x ∷ xs) d = subst NoMore (sym (append_assoc (line_text x) (texts_of xs) (end_text_of d))) (line_head x (texts_of xs ++ end_text_of d))
 
 pub spells_one : SpellsOne
 spells_one [] [] d e len fx fy h = refl

@@ -1,5 +1,5 @@
 -- An output spells one list of answers.
-use Rattle.std.specs.Prelude.{◌≡◌, ◌+◌, ◌<◌, ◌≤◌, ◌^◌, ⊤, List, [], ◌∷◌, ◌++◌, length, Option, None, Some}
+use Rattle.std.specs.Prelude.{◌≡◌, ℕ, ◌+◌, ◌<◌, ◌≤◌, ◌^◌, ⊤, List, [], ◌∷◌, ◌++◌, length, Option, None, Some}
 use Rattle.std.specs.List.{AllByRecursion}
 use Rattle.hex.specs.Hex.{IsBytes}
 use Rattle.x86_tables.specs.PageFaultErrorCode.{page_fault_bits}
@@ -40,10 +40,15 @@ abbrev pub RegionsFit : Option (List Region) → Type 0
 RegionsFit None = ⊤
 RegionsFit (Some regions) = AllByRecursion RegionFits regions
 
+-- the addresses of slots fit 64 bits
+abbrev pub SlotsFit : Option (List ℕ) → Type 0
+SlotsFit None = ⊤
+SlotsFit (Some slots) = AllByRecursion (λ slot. slot < 2 ^ 64) slots
+
 -- an answer lists regions of the heap alone; a bad line is None
 abbrev pub AnswerFits : Option Answer → Type 0
 AnswerFits None = ⊤
-AnswerFits (Some answer) = ReplyFits answer.reply × RegionsFit answer.regions
+AnswerFits (Some answer) = ReplyFits answer.reply × RegionsFit answer.regions × SlotsFit answer.large
 
 -- two lists of answers to the same number of lines that are printed alike, each before an end text, are the same list
 abbrev pub SpellsOne : Type 0

@@ -86,14 +86,19 @@ abbrev pub regions_text : List Region → List ℕ
 regions_text [] = codes " none"
 regions_text (region ∷ rest) = spaced pages_text (region ∷ rest)
 
--- the second line of an answer, where it lists the heap regions
+-- the line behind a reply, where the answer lists the heap regions
 abbrev pub heap_line : Option (List Region) → List ℕ
 heap_line None = []
 heap_line (Some regions) = codes "heap" ++ (regions_text regions ++ codes "\n")
 
+-- and the line behind it, where it lists the slots that were mapped by one entry each
+abbrev pub large_line : Option (List ℕ) → List ℕ
+large_line None = []
+large_line (Some slots) = codes "large" ++ (spaced hexadecimal slots ++ codes "\n")
+
 -- the text of an answer
 unfoldable pub text_of : Answer → List ℕ
-text_of answer = reply_text answer.reply ++ heap_line answer.regions
+text_of answer = reply_text answer.reply ++ (heap_line answer.regions ++ large_line answer.large)
 
 -- what is printed for a line; None is a bad line
 unfoldable pub line_text : Option Answer → List ℕ

@@ -5,11 +5,11 @@ ghost use Rattle.hex.specs.Hex.{encode_lower, lower_digits};
 ghost use Rattle.heap_model.specs.State.{State};
 ghost use Rattle.heap_model.specs.Machine.{Stands};
 ghost use Rattle.kernel_heap.specs.Machine.{seen};
-ghost use Rattle.heap_program.specs.Text.{text_of, reply_text, bytes_text, refusal_word, truth_word, span_text, spaced, kind_word, extent_text, pages_text, regions_text, heap_line, right_text, rights_text, owner_text, region_line, counts_line, tally_line, end_text_of};
+ghost use Rattle.heap_program.specs.Text.{text_of, reply_text, bytes_text, refusal_word, truth_word, span_text, spaced, hexadecimal, kind_word, extent_text, pages_text, regions_text, heap_line, large_line, right_text, rights_text, owner_text, region_line, counts_line, tally_line, end_text_of};
 
 use bitflags::Flags;
 use kernel_heap::{
-    Answer, Bytes, Extent, Kind, Machine, Refusal, Region, RegionList, Reply, Rights,
+    Answer, Bytes, Extent, Kind, Machine, Refusal, Region, RegionList, Reply, Rights, SlotList,
 };
 use std::alloc::{AllocError, Global};
 
@@ -183,7 +183,7 @@ fn push_regions(out: &mut String, regions: &[Region]) -> Result<(), AllocError>
     Ok(())
 }
 
-// The second line of an answer, where it has one.
+// The line of the heap regions, where an answer lists them.
 fn push_heap_line(out: &mut String, regions: &Option<RegionList>) -> Result<(), AllocError>
     ensures { OnOk result (string_bytes out.new ≡ string_bytes out.old ++ heap_line regions.now) }
 {
@@ -197,17 +197,43 @@ fn push_heap_line(out: &mut String, regions: &Option<RegionList>) -> Result<(), 
     }
 }
 
+// The slots, a space before each.
+fn push_slots(out: &mut String, slots: &[u64]) -> Result<(), AllocError>
+    ensures { OnOk result (string_bytes out.new ≡ string_bytes out.old ++ spaced hexadecimal slots.now) }
+{
+    for slot in slots {
+        let slot = *slot;
+        write!(out, " 0x{slot:x}")?;
+    }
+    Ok(())
+}
+
+// The line of the slots that were mapped by one entry each, where an answer lists them.
+fn push_large_line(out: &mut String, large: &Option<SlotList>) -> Result<(), AllocError>
+    ensures { OnOk result (string_bytes out.new ≡ string_bytes out.old ++ large_line large.now) }
+{
+    match large {
+        None => Ok(()),
+        Some(slots) => {
+            out.push_str("large")?;
+            push_slots(out, slots.as_slice())?;
+            out.push_str("\n")
+        }
+    }
+}
+
 /// Puts the text of an answer at the end.
 #[tactic(auto, unfolding(crate::specs::Text::text_of))]
 pub fn push_answer(out: &mut String, answer: &Answer) -> Result<(), AllocError>
     ensures { OnOk result (string_bytes out.new ≡ string_bytes out.old ++ text_of answer.now) }
 {
     push_reply(out, &answer.reply)?;
-    push_heap_line(out, &answer.regions)
+    push_heap_line(out, &answer.regions)?;
+    push_large_line(out, &answer.large)
 }
 
-/// The text of an answer: its reply, and the heap regions where they changed. An `Err` says that the host
-/// had too little memory.
+/// The text of an answer: its reply, the heap regions where they changed, and the slots that were mapped by one entry
+/// each. An `Err` says that the host had too little memory.
 pub fn text_of(alloc: Global, answer: &Answer) -> Result<Bytes, AllocError>
     ensures { IfOk result (λ text. text ≡ text_of answer.now) }
 {

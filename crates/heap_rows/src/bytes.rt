@@ -130,7 +130,7 @@ fn blocks_are_copied(rt: HostRuntime) -> Result<(), Fail> {
 }
 
 #[test]
-fn pages_whose_tables_share_a_place(rt: HostRuntime) -> Result<(), Fail> {
+fn slots_that_share_a_place(rt: HostRuntime) -> Result<(), Fail> {
     let alloc = rt.alloc();
     let config = Config {
         pages: 9000,
@@ -144,7 +144,7 @@ fn pages_whose_tables_share_a_place(rt: HostRuntime) -> Result<(), Fail> {
         size: 0x200_0010,
         align: 16,
     })?;
-    // The last tables of these bytes have numbers that are 16 apart.
+    // The slots of these bytes have numbers that are 16 apart. One is a large page, the other has a table.
     for (offset, byte) in [(0, 1), (0x200_0000, 2)] {
         write(&mut machine, 0, offset, vec![in alloc; byte; 1]?)?;
     }

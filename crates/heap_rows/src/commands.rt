@@ -61,7 +61,7 @@ const COMMANDS: [Command; 12] = [
         words: &["run", "0x400000", "4096", "65536", "8192", "4095"],
         row: Row {
             input: "malloc 256\nmalloc 256\nfree 0\nmalloc 12582905\n",
-            output: "block 0 0x400010\nheap 0x400000+16\nblock 1 0x400120\ndone\nblock 2 0x400230\nheap 0x400000+16 0x410000+3088\nregion 0x400000+16 heap\nregion 0x410000+3088 heap\nframes 5078 tables 10\n",
+            output: "block 0 0x400010\nheap 0x400000+16\nblock 1 0x400120\ndone\nblock 2 0x400230\nheap 0x400000+16 0x410000+3088\nlarge 0x600000 0x800000 0xa00000 0xc00000 0xe00000\nregion 0x400000+16 heap\nregion 0x410000+3088 heap\nframes 5083 tables 5\n",
         },
     },
     // The default configuration in other digits, and with a rate of 0.

@@ -8,6 +8,8 @@ mod commands;
 #[cfg(test)]
 mod error_words;
 #[cfg(test)]
+mod large_pages;
+#[cfg(test)]
 mod probes;
 #[cfg(test)]
 mod registers;

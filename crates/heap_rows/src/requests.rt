@@ -16,7 +16,7 @@ const ROWS: [Row; 11] = [
     // A free that leaves a long top gives the end of it back; the tables stay.
     Row {
         input: "malloc 2500000\nfree 0\nmalloc 8\n",
-        output: "block 0 0x400010\nheap 0x400000+624\ndone\nheap 0x400000+16\nblock 1 0x400010\nregion 0x400000+16 heap\nframes 1003 tables 5\n",
+        output: "block 0 0x400010\nheap 0x400000+624\nlarge 0x400000\ndone\nheap 0x400000+16\nblock 1 0x400010\nregion 0x400000+16 heap\nframes 1003 tables 5\n",
     },
     // No power of two, and one that no window has room for.
     Row {

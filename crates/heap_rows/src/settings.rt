@@ -52,7 +52,7 @@ const RUNS: [Command; 14] = [
         words: &["run"],
         row: Row {
             input: "malloc 3000000\nfree 0\n",
-            output: "block 0 0x400010\nheap 0x400000+736\ndone\nheap 0x400000+16\nregion 0x400000+16 heap\nframes 1003 tables 5\n",
+            output: "block 0 0x400010\nheap 0x400000+736\nlarge 0x400000\ndone\nheap 0x400000+16\nregion 0x400000+16 heap\nframes 1003 tables 5\n",
         },
     },
     // A rate holds from the next large free on: at 1 that makes a release pass.

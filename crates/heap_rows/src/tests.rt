@@ -208,6 +208,7 @@ fn texts_are_made_alone(rt: HostRuntime) -> Result<(), Fail> {
     let answer = Answer {
         reply: Reply::Refused(Refusal::NoFrames),
         regions: None,
+        large: None,
     };
     let text = text_of(rt.alloc(), &answer)?;
     assert_eq!(rt; text.as_slice(), b"refused no-frames\n".as_slice());
@@ -279,6 +280,7 @@ fn each_kind_of_extent_is_printed(rt: HostRuntime) -> Result<(), Fail> {
     let answer = Answer {
         reply: Reply::Extents(extents),
         regions: None,
+        large: None,
     };
     let text = text_of(rt.alloc(), &answer)?;
     assert_eq!(rt;

@@ -26,8 +26,8 @@ const ROWS: [Row; 6] = [
     },
     // All frames but those of tables that the pages lack; and one page more, which changes nothing.
     Row {
-        input: "map 0x200000 512 rw--\nmap 0x400000 508 rw--\nmap 0x400000 507 rw--\n",
-        output: "done\nrefused no-frames\ndone\nregion 0x200000+512 user rw--\nregion 0x400000+507 user rw--\nframes 0 tables 5\n",
+        input: "map 0x200000 512 rw--\nmap 0x400000 509 rw--\nmap 0x400000 508 rw--\n",
+        output: "done\nlarge 0x200000\nrefused no-frames\ndone\nregion 0x200000+512 user rw--\nregion 0x400000+508 user rw--\nframes 0 tables 4\n",
     },
     // Words that are missing, are more, or write no rights.
     Row {

@@ -53,4 +53,4 @@ module _ (old new : Paged) (asked : ℕ) (grant : Grant) (kept : IsKept old) (is
 
   -- and every other granted word stays
   pub words : (at : ℕ) → IsWordOf (grants_of old) at → word_reached new at ≡ word_reached old at
-  words = words_added old new (grant.base / 4096) (pages_in asked) heap_rights kept is.granted.grant.root is.granted.grant.added
+  words = words_added old new grant.base (pages_in asked) heap_rights kept is.granted.grant

@@ -31,6 +31,7 @@ use Rattle.kernel_heap.proofs.BlockPlaces.{bytes_within}
 use Rattle.kernel_heap.proofs.Full.{behind}
 use Rattle.kernel_heap.proofs.HeapRegions.{granted_same}
 use Rattle.kernel_heap.proofs.Laid.{block_place, block_there, same_regions, laid_outside}
+use Rattle.kernel_heap.proofs.Numbers.{not_less}
 use Rattle.kernel_heap.proofs.Refused.{regions_are}
 
 -- both the machine and the state refuse bytes alike, and blocks
@@ -117,7 +118,7 @@ module _ (heap : Dlmalloc PagedSystem) (blocks : List (Option Live)) (number off
     within = let size = ap (λ l. l.size) block.2 in let w = has.within in omega arith
 
     reachable : refuse_bytes (block_at s.blocks number) offset count ≡ None
-    reachable = refuse_same m s number offset count stands ∙ (ap (λ l. refuse_live l offset count) has.is ∙ (let w = has.within in let small : nat_lt has.live.size (offset + count) ≡ false = grind (arith, nat_tests) in rw small refl))
+    reachable = refuse_same m s number offset count stands ∙ (ap (λ l. refuse_live l offset count) has.is ∙ (let small : nat_lt has.live.size (offset + count) ≡ false = not_less has.live.size (offset + count) has.within in rw small refl))
 
     -- bytes of the state's heap are bytes of the regions
     in_regions : (other : ℕ) → list_any (is_within other) s.heap ≡ true → AreInside (paged heap.system) other 1
@@ -128,9 +129,9 @@ module _ (heap : Dlmalloc PagedSystem) (blocks : List (Option Live)) (number off
         granted_same (heap_regions (paged heap.system).regions) k ∙ (ap (list_any (is_within k)) (sym same) ∙ subst (λ a. list_any (is_within a) s.heap ≡ true) one is)
 
     pub step_written : (new : Paged) (bytes : List ℕ) → length bytes ≡ count → IsWritten (paged heap.system) new address bytes (length bytes) →
-        IsStep s (Write number offset bytes) (record { reply = Done; regions = None }) (record m { paged = new })
+        IsStep s (Write number offset bytes) (record { reply = Done; regions = None; large = None }) (record m { paged = new })
     step_written new bytes many written = record {
-      allowed = record { reply = (ap (refuse_bytes (block_at s.blocks number) offset) many ∙ reachable, refl); listed = tt };
+      allowed = record { reply = (ap (refuse_bytes (block_at s.blocks number) offset) many ∙ reachable, refl); listed = tt; large = tt };
       good = good_known s number offset bytes good;
       stands = stands_written m s new number offset bytes block.0 good stands block.1 (let w = within in omega arith) written.still put;
     }
@@ -145,9 +146,9 @@ module _ (heap : Dlmalloc PagedSystem) (blocks : List (Option Live)) (number off
               ∙ written.elsewhere other (in_regions other is) (let p = place in elim beside [ inl below ↦ inl (omega arith) | inr above ↦ inr (omega arith) ]);
         }
 
-    pub step_read : (bytes : List ℕ) → AreRead (paged heap.system) address count bytes → IsStep s (Read number offset count) (record { reply = Bytes bytes; regions = None }) m
+    pub step_read : (bytes : List ℕ) → AreRead (paged heap.system) address count bytes → IsStep s (Read number offset count) (record { reply = Bytes bytes; regions = None; large = None }) m
     step_read bytes read = record {
-      allowed = record { reply = (reachable, (refl, read.many, read_bytes (paged heap.system) address count bytes read, agree)); listed = tt };
+      allowed = record { reply = (reachable, (refl, read.many, read_bytes (paged heap.system) address count bytes read, agree)); listed = tt; large = tt };
       good = good_known s number offset bytes good;
       stands = stands_written m s (paged heap.system) number offset bytes block.0 good stands block.1 (let w = within in let n = read.many in omega arith) (still_none (paged heap.system)) put;
     }

@@ -1,7 +1,6 @@
 -- A block ends: the machine stands for the state without it, and with the regions that are left.
-use Rattle.std.proofs.Common.{◌≡◌, ◌≢◌, ℕ, ◌+◌, ◌-◌, ◌<◌, inl, inr, Bool, true, false, if◌then◌else◌, List, [], ◌∷◌, ◌++◌, slice_set, sym, ap, ◌∙◌, subst, arith, IsTrue, Option, Some, None}
+use Rattle.std.proofs.Common.{◌≡◌, ◌≢◌, ℕ, ◌+◌, ◌-◌, ◌<◌, inl, inr, Bool, true, false, if◌then◌else◌, List, [], ◌∷◌, ◌++◌, slice_set, refl, sym, ap, ◌∙◌, subst, arith, IsTrue, Option, Some, None}
 use Rattle.std.specs.List.{list_any}
-use Rattle.paging_core.specs.Pool.{free_count}
 use Rattle.paging_core.specs.Walk.{reached}
 use Rattle.heap_memory.specs.Events.{Event}
 use Rattle.dlmalloc.specs.Extents.{extent_at}
@@ -16,18 +15,20 @@ use Rattle.heap_model.specs.declared.region.Region.{Region}
 use Rattle.heap_model.specs.declared.call.Call.TheVariants.{Free}
 use Rattle.heap_model.specs.declared.answer.Reply.TheVariants.{Done}
 use Rattle.heap_model.specs.State.{State, Block, block_at, cover, is_within, total_pages}
+use Rattle.heap_model.specs.Place.{meets_any}
 use Rattle.heap_model.specs.Memory.{HoldsBytes}
 use Rattle.heap_model.specs.Refusal.{refuse_block}
 use Rattle.heap_model.specs.Answer.{without_block}
 use Rattle.heap_model.specs.Cut.{AreCut}
 use Rattle.heap_model.specs.Run.{IsGood, IsHeapRegion}
-use Rattle.heap_model.specs.Machine.{Seen, Stands, IsStep, outline}
+use Rattle.heap_model.specs.Machine.{Paged, Seen, Stands, IsStep, outline}
 use Rattle.heap_model.proofs.Cut.{none_cut}
 use Rattle.heap_model.proofs.Known.{known_within}
 use Rattle.heap_model.proofs.Placed.{outline_of}
 use Rattle.heap_model.proofs.Ended.{left_at, outline_left, good_ended}
 use Rattle.heap_model.proofs.Shortened.{none_gone, good_cut}
-use Rattle.kernel_heap.specs.System.{paged}
+use Rattle.heap_model.proofs.Slots.{settled_same}
+use Rattle.kernel_heap.specs.System.{paged, pageless_frames}
 use Rattle.kernel_heap.specs.Words.{heap_regions}
 use Rattle.kernel_heap.specs.Heap.{regions, word, follows, heap_state}
 use Rattle.dlmalloc.specs.Blocks.{ArePlaced}
@@ -38,42 +39,55 @@ use Rattle.kernel_heap.proofs.BlockPlaces.{byte_kept}
 use Rattle.kernel_heap.proofs.Full.{behind}
 use Rattle.kernel_heap.proofs.HeapRegions.{all_more, granted_same}
 use Rattle.kernel_heap.proofs.Laid.{block_place, block_there, live_left}
-use Rattle.kernel_heap.proofs.ReleasedRegions.{AreReleases, AreShortened, follows_shortened}
-use Rattle.kernel_heap.proofs.ReleasedState.{regions_cut, frames_left, stands_left}
+use Rattle.kernel_heap.proofs.KeptEnd.{IsHeadAt, free_part, part_stays}
+use Rattle.kernel_heap.proofs.ReleasedRegions.{AreWholeReleases, AreReleases, AreShortened, IsShortenedBy, follows_shortened}
+use Rattle.kernel_heap.proofs.ReleasedState.{left_state, regions_cut, frames_left, enough_left, stands_left}
 
 -- ---- what a free does further grants nothing
 
+pub whole_releases : (segments : List Segment) → AreWholeReleases (releases segments)
+whole_releases [] = tt
+whole_releases (segment ∷ segments) = (refl, whole_releases segments)
+
 pub all_releases : (segments : List Segment) → AreReleases (releases segments)
 all_releases [] = tt
-all_releases (segment ∷ segments) = (tt, all_releases segments)
+all_releases (segment ∷ segments) = whole_releases segments
 
-pub both_releases : (first second : List Event) → AreReleases first → AreReleases second → AreReleases (first ++ second)
-both_releases [] second one two = two
-both_releases (event ∷ first) second one two = (one.0, both_releases first second one.1 two)
+-- a trim cuts the end of the head segment first
+pub trim_gives_back : (frees parts : Bool) (unit pad : ℕ) (heap : HeapState) → AreReleases (trim_releases frees parts unit pad heap)
+trim_gives_back frees parts unit pad heap = trim (is_trimmed pad heap)
+  where
+    end : (segments : List Segment) → AreReleases (end_released (cut_of heap pad) segments ++ releases (taken_back frees (handed_out parts heap.segments)))
+    end [] = all_releases (taken_back frees (handed_out parts heap.segments))
+    end (head ∷ rest) = whole_releases (taken_back frees (handed_out parts heap.segments))
+
+    cut : (b : Bool) → AreReleases ((if b then end_released (cut_of heap pad) heap.segments else []) ++ releases (taken_back frees (handed_out parts heap.segments)))
+    cut true = end heap.segments
+    cut false = all_releases (taken_back frees (handed_out parts heap.segments))
+
+    trim : (b : Bool) → AreReleases (if b then cut_off parts unit pad heap ++ releases (taken_back frees (handed_out parts heap.segments)) else [])
+    trim true = cut (is_cut parts unit pad heap)
+    trim false = tt
 
 pub free_gives_back : (frees parts : Bool) (unit : ℕ) (heap : HeapState) (at : ℕ) → AreReleases (free_releases frees parts unit heap at)
 free_gives_back frees parts unit heap at = above (is_above_check heap at)
   where
-    end : (segments : List Segment) → AreReleases (end_released (cut_of heap 0) segments)
-    end [] = tt
-    end (head ∷ rest) = (tt, tt)
-
-    cut : (b : Bool) → AreReleases (if b then end_released (cut_of heap 0) heap.segments else [])
-    cut true = end heap.segments
-    cut false = tt
-
-    trim : (b : Bool) → AreReleases (if b then cut_off parts unit 0 heap ++ releases (taken_back frees (handed_out parts heap.segments)) else [])
-    trim true = both_releases (cut_off parts unit 0 heap) (releases (taken_back frees (handed_out parts heap.segments))) (cut (is_cut parts unit 0 heap)) (all_releases (taken_back frees (handed_out parts heap.segments)))
-    trim false = tt
-
     above : (b : Bool) → AreReleases (if b then trim_releases frees parts unit 0 heap else releases (left_by_count frees parts heap at))
-    above true = trim (is_trimmed 0 heap)
+    above true = trim_gives_back frees parts unit 0 heap
     above false = all_releases (left_by_count frees parts heap at)
 
 -- so a free cuts the regions
-pub free_shortened : (heap new : Dlmalloc PagedSystem) (address : ℕ) → IsFreed regions word follows true true 4096 heap address new → AreShortened (paged heap.system) (paged new.system)
-free_shortened heap new address back = follows_shortened (paged heap.system) (paged new.system) (free_releases true true 4096 (freed (heap_state heap) (address - 16)) (address - 16)) heap.system.kept.laid
+pub free_shortened : (heap new : Dlmalloc PagedSystem) (address : ℕ) → IsFreed regions word follows true true 4096 heap address new →
+    IsShortenedBy (paged heap.system) (paged new.system) (free_releases true true 4096 (freed (heap_state heap) (address - 16)) (address - 16))
+free_shortened heap new address back = follows_shortened (paged heap.system) (paged new.system) (free_releases true true 4096 (freed (heap_state heap) (address - 16)) (address - 16)) heap.system.kept
     (free_gives_back true true 4096 (freed (heap_state heap) (address - 16)) (address - 16)) back.followed
+
+-- and leaves a part of the slot that is cut by it
+pub free_leaves_part : (old : Paged) (heap new : Dlmalloc PagedSystem) (address : ℕ) → IsFreed regions word follows true true 4096 heap address new →
+    (by : IsShortenedBy old (paged new.system) (free_releases true true 4096 (freed (heap_state heap) (address - 16)) (address - 16))) →
+    (one : ℕ) → by.slot ≡ Some one → IsTrue (meets_any one 512 (paged new.system).regions)
+free_leaves_part old heap new address back by = part_stays old new (free_releases true true 4096 (freed (heap_state heap) (address - 16)) (address - 16)) back.sound by
+    (λ at size left more is some. subst (λ (h : HeapState). IsHeadAt h at left) (sym back.state) (free_part (freed (heap_state heap) (address - 16)) (address - 16) at size left more some is))
 
 -- ---- the step
 
@@ -90,8 +104,14 @@ module _ {top : ℕ} (heap new : Dlmalloc PagedSystem) (blocks : List (Option Li
   abbrev left : List Region
   left = heap_regions (paged new.system).regions
 
-  short : AreShortened (paged heap.system) (paged new.system)
-  short = free_shortened heap new live.address back
+  by : IsShortenedBy (paged heap.system) (paged new.system) (free_releases true true 4096 (freed (heap_state heap) (live.address - 16)) (live.address - 16))
+  by = free_shortened heap new live.address back
+
+  short : AreShortened (paged heap.system) (paged new.system) by.slot
+  short = by.short
+
+  part_left : (one : ℕ) → by.slot ≡ Some one → IsTrue (meets_any one 512 (paged new.system).regions)
+  part_left = free_leaves_part (paged heap.system) heap new live.address back by
 
   -- what was known of the other blocks holds still
   holds : HoldsBytes (reached (paged new.system).words (paged new.system).root) (without_block s.blocks number)
@@ -129,43 +149,48 @@ module _ {top : ℕ} (heap new : Dlmalloc PagedSystem) (blocks : List (Option Li
   known = ap refuse_block (behind heap blocks laid s good stands number live is).1
 
   cut : AreCut s.heap left
-  cut = regions_cut m (paged new.system) s good stands heap.system.kept.mapped new.system.kept.mapped short
+  cut = regions_cut m (paged new.system) s by.slot good stands heap.system.kept.mapped new.system.kept.mapped short part_left
 
-  good_left : IsGood (record s { blocks = without_block s.blocks number; heap = left })
+  abbrev s_left : State
+  s_left = left_state s left (without_block s.blocks number)
+
+  good_left : IsGood s_left
   good_left = good_cut (record s { blocks = without_block s.blocks number }) left (good_ended s number good) cut in_left
+      (enough_left m (paged new.system) s by.slot good stands heap.system.kept.mapped new.system.kept.mapped short part_left (without_block s.blocks number))
 
-  stands_now : Stands m' (record s { blocks = without_block s.blocks number; heap = left })
-  stands_now = subst (λ g. Stands (record m' { granularity = g }) (record s { blocks = without_block s.blocks number; heap = left })) (sym back.granularity)
-      (stands_left m (paged new.system) s good stands heap.system.kept.mapped new.system.kept.mapped short (slice_set blocks number None) (without_block s.blocks number)
+  stands_now : Stands m' s_left
+  stands_now = subst (λ g. Stands (record m' { granularity = g }) s_left) (sym back.granularity)
+      (stands_left m (paged new.system) s by.slot good stands heap.system.kept.mapped new.system.kept.mapped short part_left (slice_set blocks number None) (without_block s.blocks number)
       (ap (λ list. slice_set list number None) stands.blocks ∙ sym (outline_left s.blocks number)) holds)
 
-  pages_left : free_count (paged new.system).free + total_pages left ≡ free_count (paged heap.system).free + total_pages s.heap
-  pages_left = frames_left m (paged new.system) s good stands heap.system.kept.mapped new.system.kept.mapped short
+  pages_left : pageless_frames (paged new.system) + total_pages left ≡ pageless_frames (paged heap.system) + total_pages s.heap
+  pages_left = frames_left m (paged new.system) s by.slot good stands heap.system.kept.mapped new.system.kept.mapped short part_left
 
-  -- where no frame more is free, no region was cut
-  step_kept : free_count (paged new.system).free ≡ free_count (paged heap.system).free → IsStep s (Free number) (record { reply = Done; regions = None }) m'
+  -- where as many frames have no page, no region was cut
+  step_kept : pageless_frames (paged new.system) ≡ pageless_frames (paged heap.system) → IsStep s (Free number) (record { reply = Done; regions = None; large = None }) m'
   step_kept few =
       let pages = pages_left in
       let same : left ≡ s.heap = none_gone s.heap left (all_more (IsHeapRegion s) (λ region. 0 < region.pages) (λ region whole. whole.0.1.some) s.heap good.heap) cut (omega (arith, pages, few)) in
+      let ended = good_ended s number good in
       record {
-        allowed = record { reply = (known, none_cut s.heap); listed = tt };
-        good = subst (λ (list : List Region). IsGood (record s { blocks = without_block s.blocks number; heap = list })) same good_left;
-        stands = subst (λ (list : List Region). Stands m' (record s { blocks = without_block s.blocks number; heap = list })) same stands_now;
+        allowed = record { reply = (known, none_cut s.heap); listed = tt; large = tt };
+        good = ended;
+        stands = subst (Stands m') (ap (λ (list : List Region). left_state s list (without_block s.blocks number)) same ∙ settled_same (record s { blocks = without_block s.blocks number }) ended.slots) stands_now;
       }
 
   -- else the regions that are left are listed
-  step_cut : free_count (paged new.system).free ≢ free_count (paged heap.system).free → IsStep s (Free number) (record { reply = Done; regions = Some left }) m'
+  step_cut : pageless_frames (paged new.system) ≢ pageless_frames (paged heap.system) → IsStep s (Free number) (record { reply = Done; regions = Some left; large = None }) m'
   step_cut more = record {
-    allowed = record { reply = (known, cut); listed = λ same. more (let pages = pages_left in let total = ap total_pages same in omega (arith, pages, total)) };
+    allowed = record { reply = (known, cut); listed = λ same. more (let pages = pages_left in let total = ap total_pages same in omega (arith, pages, total)); large = tt };
     good = good_left;
     stands = stands_now;
   }
 
   pub step_ended : (answered : Option (List Region)) →
-      ((paged new.system).joins ≡ (paged heap.system).joins → free_count (paged new.system).free ≡ free_count (paged heap.system).free → answered ≡ None) →
-      (((paged new.system).joins ≡ (paged heap.system).joins → free_count (paged new.system).free ≡ free_count (paged heap.system).free → ⊥) → answered ≡ Some left) →
-      IsStep s (Free number) (record { reply = Done; regions = answered }) m'
-  step_ended answered same other = elim (same_or_other (free_count (paged new.system).free) (free_count (paged heap.system).free)) [
-    | inl few ↦ subst (λ (list : Option (List Region)). IsStep s (Free number) (record { reply = Done; regions = list }) m') (sym (same short.joins few)) (step_kept few)
-    | inr more ↦ subst (λ (list : Option (List Region)). IsStep s (Free number) (record { reply = Done; regions = list }) m') (sym (other (λ joins few. more few))) (step_cut more)
+      ((paged new.system).joins ≡ (paged heap.system).joins → pageless_frames (paged new.system) ≡ pageless_frames (paged heap.system) → answered ≡ None) →
+      (((paged new.system).joins ≡ (paged heap.system).joins → pageless_frames (paged new.system) ≡ pageless_frames (paged heap.system) → ⊥) → answered ≡ Some left) →
+      IsStep s (Free number) (record { reply = Done; regions = answered; large = None }) m'
+  step_ended answered same other = elim (same_or_other (pageless_frames (paged new.system)) (pageless_frames (paged heap.system))) [
+    | inl few ↦ subst (λ (list : Option (List Region)). IsStep s (Free number) (record { reply = Done; regions = list; large = None }) m') (sym (same short.joins few)) (step_kept few)
+    | inr more ↦ subst (λ (list : Option (List Region)). IsStep s (Free number) (record { reply = Done; regions = list; large = None }) m') (sym (other (λ joins few. more few))) (step_cut more)
   ]

@@ -1,11 +1,11 @@
 -- A chunk was found for a request, in the heap's regions or in a granted one: the answer is allowed, and the machine stands
 -- for the state after it.
-use Rattle.std.proofs.Common.{◌≡◌, ◌≢◌, ℕ, ◌+◌, ◌/◌, ◌^◌, ◌<◌, ◌≤◌, inl, inr, List, [], length, map, find, refl, sym, ap, ◌∙◌, subst, arith, false, Option, Some, None, option_map, not, ◌∷◌, true, IsTrue}
+use Rattle.std.proofs.Common.{◌≡◌, ◌≢◌, ℕ, ◌+◌, ◌/◌, ◌^◌, ◌<◌, ◌≤◌, inl, inr, List, [], length, map, find, refl, sym, ap, ◌∙◌, subst, arith, false, Option, Some, None, option_map, not, ◌∷◌, true, IsTrue, IsFalse}
 use Rattle.std.specs.List.{list_any, AllByRecursion}
 use Rattle.paging_core.specs.Address.{IsCanonicalRange}
-use Rattle.paging_core.specs.Pool.{free_count}
 use Rattle.paging_core.specs.Prefix.{Prefix}
-use Rattle.paging_core.specs.Walk.{reached}
+use Rattle.paging_core.specs.Runs.{IsRunFree}
+use Rattle.paging_core.specs.Walk.{reach, large_of, reached}
 use Rattle.dlmalloc.specs.Moved.{HasByteOf}
 use Rattle.heap_memory.specs.declared.grant.Grant.{Grant}
 use Rattle.heap_memory.specs.Regions.{with_grant}
@@ -19,13 +19,14 @@ use Rattle.heap_model.specs.declared.call.Call.{Call}
 use Rattle.heap_model.specs.declared.answer.Reply.TheVariants.{Block as Placed}
 use Rattle.heap_model.specs.Request.{pages_in, pages_for}
 use Rattle.heap_model.specs.State.{State, Block, block_at, cover, is_within, total_pages}
-use Rattle.heap_model.specs.Tables.{missing, with_tables, free_frames}
+use Rattle.heap_model.specs.Tables.{has_table, missing, free_frames}
+use Rattle.heap_model.specs.Slots.{slot_number, slot_prefix, listed_slots}
 use Rattle.heap_model.specs.Place.{meets, meets_any, with_region, all_regions, IsPlace}
-use Rattle.heap_model.specs.Room.{heap_region, IsGrowth}
+use Rattle.heap_model.specs.Room.{heap_rights, heap_region, IsGrowth}
 use Rattle.heap_model.specs.Cut.{AreCut}
 use Rattle.heap_model.specs.Memory.{HoldsBytes}
 use Rattle.heap_model.specs.Refusal.{must_refuse, wanted_by}
-use Rattle.heap_model.specs.Answer.{changed, with_heap, is_new, granted_tables, heap_after, IsServed}
+use Rattle.heap_model.specs.Answer.{changed, with_regions, is_new, NewPages, granted_pages, new_pages, slots_of, heap_after, IsServed}
 use Rattle.heap_model.specs.Run.{IsGood, IsHeapRegion}
 use Rattle.heap_model.specs.Machine.{Paged, Seen, Stands, IsStep, OnlyHeapBytesChange, outline}
 use Rattle.heap_model.proofs.Added.{missing_same}
@@ -34,21 +35,24 @@ use Rattle.heap_model.proofs.Cut.{none_cut}
 use Rattle.heap_model.proofs.Granted.{granted, clear_of, good_granted, AllStart, all_start, none_new, no_start, stands_granted}
 use Rattle.heap_model.proofs.Moved.{stands_moved, good_bare, holds_none}
 use Rattle.heap_model.proofs.Regions.{length_with, all_with, beside, not_within, find_none}
+use Rattle.heap_model.proofs.NewSlots.{slots_listed, allowed_slots, slots_bare, placed_none, placed_some}
 use Rattle.heap_model.proofs.Shortened.{none_gone, good_cut, none_new_left, new_left}
+use Rattle.heap_model.proofs.Slots.{settled_same}
 use Rattle.region_tree.specs.Regions.{AreLaid}
+use Rattle.mapped_regions.specs.Mapped.{AreRunsUsed}
 use Rattle.kernel_heap.specs.Layout.{IsGrantedFor}
 use Rattle.kernel_heap.specs.Words.{heap_regions}
-use Rattle.kernel_heap.specs.System.{paged}
+use Rattle.kernel_heap.specs.System.{paged, pageless_frames}
 use Rattle.kernel_heap.specs.Heap.{regions, follows, heap_state}
-use Rattle.kernel_heap.specs.Machine.{seen_of, IsLaidOut}
+use Rattle.kernel_heap.specs.Machine.{seen_of, AreRunsUsedFor, IsLaidOut}
 use Rattle.kernel_heap.specs.declared.paged_system.PagedSystem.{PagedSystem}
 use Rattle.kernel_heap.proofs.Full.{no_room}
 use Rattle.kernel_heap.proofs.HeapRegions.{all_more, granted_same, heap_joined, joined_state}
 use Rattle.kernel_heap.proofs.Numbers.{same_or_other}
 use Rattle.kernel_heap.proofs.Places.{range_within}
 use Rattle.kernel_heap.proofs.Refused.{regions_are, place_same}
-use Rattle.kernel_heap.proofs.ReleasedRegions.{AreShortened, shortened_still, shortened_on}
-use Rattle.kernel_heap.proofs.ReleasedState.{regions_cut, frames_left, stands_left}
+use Rattle.kernel_heap.proofs.ReleasedRegions.{AreShortened, shortened_still, shortened_then}
+use Rattle.kernel_heap.proofs.ReleasedState.{left_state, regions_cut, frames_left, enough_left, stands_left}
 
 -- a chunk is found with one region more at most
 pub few_regions : (heap new : Dlmalloc PagedSystem) (n : ℕ) → IsFound follows regions heap.system (heap_state heap) n new.system (heap_state new) → length (paged new.system).regions ≤ length (paged heap.system).regions + 1
@@ -62,14 +66,16 @@ few_regions heap new n found = elim found [
       omega arith)
 ]
 
--- the state after an answer that lists the regions that are left, with new pages, has the tables of these
-state_after : (s : State) (blocks : List (Option Block)) (n at pages : ℕ) (left : List Region) → (region : Region) → find (is_new s.heap) left ≡ Some region → region.start ≡ at → pages_for n s.granularity ≡ pages →
-    record (granted s at pages) { blocks = blocks; heap = left } ≡ with_heap (record s { blocks = blocks }) (Some n) (Some left)
-state_after s blocks n at pages left region found begins same =
-    let with_blocks : State = record s { blocks = blocks } in
-    let tables : with_tables s.tables at pages ≡ granted_tables with_blocks (Some n) (find (is_new s.heap) left) =
-    ap (with_tables s.tables at) (sym same) ∙ (ap (λ (a : ℕ). with_tables s.tables a (pages_for n s.granularity)) (sym begins) ∙ ap (granted_tables with_blocks (Some n)) (sym found)) in
-    ap (λ (t : List Prefix). record s { blocks = blocks; heap = left; tables = t }) tables
+-- the pages that were granted
+new_are : (s : State) (n at pages : ℕ) (left : List Region) → (region : Region) → find (is_new s.heap) left ≡ Some region → region.start ≡ at → pages_for n s.granularity ≡ pages →
+    granted_pages s (Some n) (find (is_new s.heap) left) ≡ Some (record { start = at; pages = pages })
+new_are s n at pages left region found begins same = ap (granted_pages s (Some n)) found ∙ (λ i. Some (record { start = begins i; pages = same i }))
+
+-- the state after an answer that lists the regions that are left, with new pages, has the tables of these, and their slots
+state_after : (s : State) (blocks : List (Option Block)) (n at pages : ℕ) (left : List Region) (slots : List ℕ) → (region : Region) → find (is_new s.heap) left ≡ Some region → region.start ≡ at → pages_for n s.granularity ≡ pages →
+    left_state (granted s at pages slots) left blocks ≡ with_regions (record s { blocks = blocks }) (Some left) (granted_pages s (Some n) (find (is_new s.heap) left)) slots
+state_after s blocks n at pages left slots region found begins same =
+    ap (λ (new : Option NewPages). with_regions (record s { blocks = blocks }) (Some left) new slots) (sym (new_are s n at pages left region found begins same))
 
 -- of a machine without blocks
 nothing_held : (list : List Region) (number : ℕ) (block : Block) → block_at [] number ≡ Some block → (k : ℕ) → k < cover block → IsTrue (list_any (is_within (block.address + k)) list)
@@ -78,7 +84,8 @@ nothing_held list number block is k less = absurd (cc)
 -- A machine before a call that wants n bytes; as there was room for them; and after it, where runs of the heap may have been
 -- given back since. `blocks'` are the blocks that the answer leaves.
 module _ {top : ℕ} (heap middle new : Dlmalloc PagedSystem) (blocks blocks' : List (Option Live)) (laid : IsLaidOut heap blocks)
-    (n : ℕ) (found : IsFound follows regions heap.system (heap_state heap) n middle.system (heap_state middle)) (short : AreShortened (paged middle.system) (paged new.system)) (granularity : new.granularity ≡ heap.granularity)
+    (n : ℕ) (found : IsFound follows regions heap.system (heap_state heap) n middle.system (heap_state middle)) (slot : Option ℕ) (short : AreShortened (paged middle.system) (paged new.system) slot)
+    (part_left : (one : ℕ) → slot ≡ Some one → IsTrue (meets_any one 512 (paged new.system).regions)) (granularity : new.granularity ≡ heap.granularity)
     (stays : (grant : Grant) → 0 < grant.size → regions middle.system ≡ with_grant grant (regions heap.system) → HasByteOf grant (regions new.system))
     (s : State) (good : IsGood s) (stands : Stands (seen_of top heap blocks) s)
     (call : Call) (number address : ℕ) (after_it : List (Option Block)) (changes : changed s call (Placed number address) ≡ record s { blocks = after_it })
@@ -86,7 +93,8 @@ module _ {top : ℕ} (heap middle new : Dlmalloc PagedSystem) (blocks blocks' : 
     (serves : (list : Option (List Region)) (grown : List Region) → IsGrowth s n grown → AreCut grown (heap_after s list) → (paged new.system ≡ paged middle.system → heap_after s list ≡ grown) → (OnlyHeapBytesChange (paged heap.system) (paged new.system) → list ≡ None) →
     IsServed s call (Placed number address) list)
     (lives_same : blocks' ≡ map (option_map outline) after_it) (holds : HoldsBytes (reached (paged new.system).words (paged new.system).root) after_it)
-    (good_blocks : (list : List Region) (tables : List Prefix) → list ≡ heap_regions (paged new.system).regions → IsGood (record s { heap = list; tables = tables; blocks = [] }) → IsGood (record s { heap = list; tables = tables; blocks = after_it })) where
+    (good_blocks : (list : List Region) (tables : List Prefix) (large : List ℕ) → list ≡ heap_regions (paged new.system).regions → IsGood (record s { heap = list; tables = tables; large = large; blocks = [] }) →
+    IsGood (record s { heap = list; tables = tables; large = large; blocks = after_it })) where
   abbrev m : Seen
   m = seen_of top heap blocks
 
@@ -109,53 +117,64 @@ module _ {top : ℕ} (heap middle new : Dlmalloc PagedSystem) (blocks blocks' : 
   -- ---- nothing was granted
 
   module _ (still : OnlyHeapBytesChange (paged heap.system) (paged middle.system)) where
-    short_all : AreShortened (paged heap.system) (paged new.system)
-    short_all = shortened_on (paged heap.system) (paged middle.system) (paged new.system) (shortened_still (paged heap.system) (paged middle.system) heap.system.kept.laid still) short
+    short_all : AreShortened (paged heap.system) (paged new.system) slot
+    short_all = shortened_then (paged heap.system) (paged middle.system) (paged new.system) slot (shortened_still (paged heap.system) (paged middle.system) heap.system.kept.laid still) short
 
     cut : AreCut s.heap left
-    cut = regions_cut m (paged new.system) s good stands heap.system.kept.mapped new.system.kept.mapped short_all
+    cut = regions_cut m (paged new.system) s slot good stands heap.system.kept.mapped new.system.kept.mapped short_all part_left
 
-    pages_left : free_count (paged new.system).free + total_pages left ≡ free_count (paged heap.system).free + total_pages s.heap
-    pages_left = frames_left m (paged new.system) s good stands heap.system.kept.mapped new.system.kept.mapped short_all
+    pages_left : pageless_frames (paged new.system) + total_pages left ≡ pageless_frames (paged heap.system) + total_pages s.heap
+    pages_left = frames_left m (paged new.system) s slot good stands heap.system.kept.mapped new.system.kept.mapped short_all part_left
 
-    good_left : IsGood (record s { heap = left; blocks = after_it })
-    good_left = good_blocks left s.tables refl (good_cut bare left (good_bare s good) cut (nothing_held left))
+    abbrev s_left : State
+    s_left = left_state s left after_it
 
-    stands_now : Stands m' (record s { heap = left; blocks = after_it })
-    stands_now = granular (record s { heap = left; blocks = after_it })
-        (stands_left m (paged new.system) s good stands heap.system.kept.mapped new.system.kept.mapped short_all blocks' after_it lives_same holds)
+    good_left : IsGood s_left
+    good_left = good_blocks left s_left.tables s_left.large refl
+        (good_cut bare left (good_bare s good) cut (nothing_held left) (enough_left m (paged new.system) s slot good stands heap.system.kept.mapped new.system.kept.mapped short_all part_left []))
+
+    stands_now : Stands m' s_left
+    stands_now = granular s_left (stands_left m (paged new.system) s slot good stands heap.system.kept.mapped new.system.kept.mapped short_all part_left blocks' after_it lives_same holds)
 
     -- nothing went back either
-    step_here : free_count (paged new.system).free ≡ free_count (paged heap.system).free → IsStep s call (record { reply = Placed number address; regions = None }) m'
+    step_here : pageless_frames (paged new.system) ≡ pageless_frames (paged heap.system) → IsStep s call (record { reply = Placed number address; regions = None; large = None }) m'
     step_here few =
         let pages = pages_left in
         let same : left ≡ s.heap = none_gone s.heap left (all_more (IsHeapRegion s) (λ region. 0 < region.pages) (λ region whole. whole.0.1.some) s.heap good.heap) cut (omega (arith, pages, few)) in
+        let kept : s_left ≡ record s { blocks = after_it } = ap (λ (list : List Region). left_state s list after_it) same ∙ settled_same (record s { blocks = after_it }) good.slots in
+        let state : s_left ≡ with_regions (changed s call (Placed number address)) None (new_pages s call (Placed number address) None) [] =
+        kept ∙ (sym changes ∙ ap (λ (new : Option NewPages). with_regions (changed s call (Placed number address)) None new []) (sym (placed_none s call number address))) in
         record {
-          allowed = record { reply = (must, serves None s.heap (inl refl) (none_cut s.heap) (λ e. refl) (λ e. refl)); listed = tt };
-          good = subst IsGood (sym changes) (subst (λ (list : List Region). IsGood (record s { heap = list; blocks = after_it })) same good_left);
-          stands = subst (Stands m') (sym changes) (subst (λ (list : List Region). Stands m' (record s { heap = list; blocks = after_it })) same stands_now);
+          allowed = record { reply = (must, serves None s.heap (inl refl) (none_cut s.heap) (λ e. refl) (λ e. refl)); listed = tt; large = tt };
+          good = subst IsGood state good_left;
+          stands = subst (Stands m') state stands_now;
         }
 
-    step_cut : free_count (paged new.system).free ≢ free_count (paged heap.system).free → IsStep s call (record { reply = Placed number address; regions = Some left }) m'
+    -- no region is new
+    none_listed : new_pages s call (Placed number address) (Some left) ≡ None
+    none_listed = placed_some s call number address left ∙ (ap (λ w. granted_pages s w (find (is_new s.heap) left)) wants ∙ ap (granted_pages s (Some n)) (none_new_left s.heap left cut))
+
+    step_cut : pageless_frames (paged new.system) ≢ pageless_frames (paged heap.system) → IsStep s call (record { reply = Placed number address; regions = Some left; large = None }) m'
     step_cut more = record {
       allowed = record {
         reply = (
           must,
           serves (Some left) s.heap (inl refl) cut
               (λ same. ap (λ (p : Paged). heap_regions p.regions) same ∙ (ap (λ (p : Paged). heap_regions p.regions) still.others ∙ sym heap_is))
-              (λ kept. absurd (more (ap (λ (p : Paged). free_count p.free) kept.others))),
+              (λ kept. absurd (more (ap pageless_frames kept.others))),
         );
         listed = λ same. more (let pages = pages_left in let total = ap total_pages same in omega (arith, pages, total));
+        large = tt;
       };
       good = subst IsGood state good_left;
       stands = subst (Stands m') state stands_now;
     }
       where
-        -- no region is new, so no table is
-        state : record s { heap = left; blocks = after_it } ≡ with_heap (changed s call (Placed number address)) (wanted_by s call) (Some left)
+        -- so no table is
+        state : left_state s left after_it ≡ with_regions (changed s call (Placed number address)) (Some left) (new_pages s call (Placed number address) (Some left)) []
         state =
-            ap (λ (t : List Prefix). record s { heap = left; blocks = after_it; tables = t }) (ap (granted_tables (record s { blocks = after_it }) (Some n)) (sym (none_new_left s.heap left cut)))
-            ∙ (ap (λ t. with_heap t (Some n) (Some left)) (sym changes) ∙ ap (λ w. with_heap (changed s call (Placed number address)) w (Some left)) (sym wants))
+            ap (λ (t : State). with_regions t (Some left) None []) (sym changes)
+            ∙ ap (λ (new : Option NewPages). with_regions (changed s call (Placed number address)) (Some left) new []) (sym none_listed)
 
   -- ---- a region was granted
 
@@ -205,15 +224,19 @@ module _ {top : ℕ} (heap middle new : Dlmalloc PagedSystem) (blocks blocks' : 
         ap (λ p. heap_regions p.regions) behind.others
         ∙ (ap heap_regions is.granted.regions ∙ (heap_joined (heap_region at pages) 0 (2 ^ 64) mid.regions laid_mid refl ∙ ap (with_region (heap_region at pages)) heap_mid))
 
-    listed : later.regions ≡ all_regions (granted bare at pages)
+    -- the slots that are mapped by one entry since
+    abbrev slots : List ℕ
+    slots = later.slots
+
+    listed : later.regions ≡ all_regions (granted bare at pages slots)
     listed = is.granted.regions
         ∙ (ap (with_region (heap_region at pages)) stands_mid.regions ∙ joined_state s at pages good is.can.some (clear_of s pages at place.fit).1)
 
     abbrev more : State
-    more = granted bare at pages
+    more = granted bare at pages slots
 
     good_more : IsGood more
-    good_more = good_granted bare at pages (good_bare s good) range place.fit few
+    good_more = good_granted bare at pages slots (good_bare s good) range place.fit few is.granted.grant.slots.ascending is.granted.grant.slots.within
 
     stands_later : Stands (record m_mid { paged = later }) more
     stands_later = stands_granted m_mid later bare at pages stands_mid range place.fit few is.granted.grant listed
@@ -226,14 +249,25 @@ module _ {top : ℕ} (heap middle new : Dlmalloc PagedSystem) (blocks blocks' : 
     stands_middle = stands_moved (record m_mid { paged = later }) more (paged middle.system) [] [] good_more stands_later behind refl (holds_none (reached (paged middle.system).words (paged middle.system).root))
 
     cut_grown : AreCut grown left
-    cut_grown = regions_cut m_middle (paged new.system) more good_more stands_middle middle.system.kept.mapped new.system.kept.mapped short
+    cut_grown = regions_cut m_middle (paged new.system) more slot good_more stands_middle middle.system.kept.mapped new.system.kept.mapped short part_left
 
-    good_after : IsGood (record s { heap = left; tables = with_tables s.tables at pages; blocks = after_it })
-    good_after = good_blocks left (with_tables s.tables at pages) refl (good_cut more left good_more cut_grown (nothing_held left))
+    abbrev s_after : State
+    s_after = left_state (granted s at pages slots) left after_it
 
-    stands_after : Stands m' (record s { heap = left; tables = with_tables s.tables at pages; blocks = after_it })
-    stands_after = granular (record s { heap = left; tables = with_tables s.tables at pages; blocks = after_it })
-        (stands_left m_middle (paged new.system) more good_more stands_middle middle.system.kept.mapped new.system.kept.mapped short blocks' after_it lives_same holds)
+    good_after : IsGood s_after
+    good_after = good_blocks left s_after.tables s_after.large refl
+        (good_cut more left good_more cut_grown (nothing_held left) (enough_left m_middle (paged new.system) more slot good_more stands_middle middle.system.kept.mapped new.system.kept.mapped short part_left []))
+
+    stands_after : Stands m' s_after
+    stands_after = granular s_after
+        (stands_left m_middle (paged new.system) more slot good_more stands_middle middle.system.kept.mapped new.system.kept.mapped short part_left blocks' after_it lives_same holds)
+
+    -- they had no table, and are told still
+    slots_new : AllByRecursion (λ one. IsFalse (has_table s.tables (slot_prefix one))) slots
+    slots_new = slots_bare m_mid later bare at pages heap_rights stands_mid range place.fit.aligned is.granted.grant
+
+    pub slots_kept : (paged new.system).slots ≡ slots
+    slots_kept = short.slots ∙ ap (λ (p : Paged). p.slots) behind.others
 
     -- the granted region is new among the old ones, and is there still
     clear : meets_any at pages s.heap ≡ false
@@ -287,13 +321,36 @@ module _ {top : ℕ} (heap middle new : Dlmalloc PagedSystem) (blocks blocks' : 
         let four = ap (λ (p : Paged). p.joins) before.others in
         omega (arith, one, two, three, four, same))
 
-    step_granted : IsStep s call (record { reply = Placed number address; regions = Some left }) m'
+    -- the new pages are those that were granted
+    same_pages : pages_for n s.granularity ≡ pages
     unfolding pages_for
+    same_pages = ap (λ g. pages_in (round_up (n + 96) g)) (sym stands.granularity)
+
+    listed_pages : new_pages s call (Placed number address) (Some left) ≡ granted_pages s (Some n) (find (is_new s.heap) left)
+    listed_pages = placed_some s call number address left ∙ ap (λ w. granted_pages s w (find (is_new s.heap) left)) wants
+
+    pages_are : new_pages s call (Placed number address) (Some left) ≡ Some (record { start = at; pages = pages })
+    pages_are = listed_pages ∙ new_are s n at pages left found_new.0 found_new.1 found_new.2 same_pages
+
+    -- where a slot of theirs is not mapped by one entry, no run is free
+    runs_granted : AreRunsUsed (paged heap.system) (paged middle.system) at pages
+    runs_granted one of none small run free =
+        let root : mid.root ≡ (paged heap.system).root = ap (λ (p : Paged). p.root) before.others in
+        let root_behind : (paged middle.system).root ≡ later.root = ap (λ (p : Paged). p.root) behind.others in
+        is.granted.runs one of
+        (ap (λ (r : ℕ). reach mid.words r 3 (slot_number one)) root ∙ (before.walks 3 (slot_number one) (omega arith) ∙ none))
+        (sym (behind.larges (slot_number one)) ∙ (ap (λ (r : ℕ). large_of (paged middle.system).words r (slot_number one)) (sym root_behind) ∙ small))
+        run
+        (subst (λ frames. IsRunFree frames run) (ap (λ (p : Paged). p.free) behind.others) free)
+
+    step_granted : IsStep s call (record { reply = Placed number address; regions = Some left; large = listed_slots slots }) m'
     step_granted =
-        let same : pages_for n s.granularity ≡ pages = ap (λ g. pages_in (round_up (n + 96) g)) (sym stands.granularity) in
-        let state : record s { heap = left; tables = with_tables s.tables at pages; blocks = after_it } ≡ with_heap (changed s call (Placed number address)) (wanted_by s call) (Some left) =
-        state_after s after_it n at pages left found_new.0 found_new.1 found_new.2 same
-        ∙ (ap (λ t. with_heap t (Some n) (Some left)) (sym changes) ∙ ap (λ w. with_heap (changed s call (Placed number address)) w (Some left)) (sym wants)) in
+        let same = same_pages in
+        let state : s_after ≡ with_regions (changed s call (Placed number address)) (Some left) (new_pages s call (Placed number address) (Some left)) (slots_of (listed_slots slots)) =
+        state_after s after_it n at pages left slots found_new.0 found_new.1 found_new.2 same
+        ∙ (ap (λ (t : State). with_regions t (Some left) (granted_pages s (Some n) (find (is_new s.heap) left)) slots) (sym changes)
+        ∙ (ap (λ (new : Option NewPages). with_regions (changed s call (Placed number address)) (Some left) new slots) (sym listed_pages)
+        ∙ ap (with_regions (changed s call (Placed number address)) (Some left) (new_pages s call (Placed number address) (Some left))) (sym (slots_listed slots)))) in
         record {
           allowed = record {
             reply = (
@@ -315,25 +372,38 @@ module _ {top : ℕ} (heap middle new : Dlmalloc PagedSystem) (blocks blocks' : 
                 let none : find (is_new s.heap) s.heap ≡ None = find_none (is_new s.heap) s.heap (none_new s.heap s.heap (all_start s.heap)) in
                 let there : find (is_new s.heap) s.heap ≡ Some found_new.0 = ap (find (is_new s.heap)) (sym same') ∙ found in
                 cc);
+            large = allowed_slots s call (Placed number address) (Some left) (record { start = at; pages = pages }) slots pages_are is.granted.grant.slots.ascending is.granted.grant.slots.within slots_new;
           };
           good = subst IsGood state good_after;
           stands = subst (Stands m') state stands_after;
         }
 
-  -- the whole step, where the regions are listed if one joined, or frames are free that were not
-  pub step_found : (answered : Option (List Region)) →
-      ((paged new.system).joins ≡ (paged heap.system).joins → free_count (paged new.system).free ≡ free_count (paged heap.system).free → answered ≡ None) →
-      (((paged new.system).joins ≡ (paged heap.system).joins → free_count (paged new.system).free ≡ free_count (paged heap.system).free → ⊥) → answered ≡ Some left) →
-      IsStep s call (record { reply = Placed number address; regions = answered }) m'
-  step_found answered same other = elim found [
+  -- what an answer with these lists is, and what is said of its new pages
+  abbrev IsFoundStep : Option (List Region) × Option (List ℕ) → Type 0
+  IsFoundStep lists = IsStep s call (record { reply = Placed number address; regions = lists.0; large = lists.1 }) m'
+      × AreRunsUsedFor (paged heap.system) (paged middle.system) (new_pages s call (Placed number address) lists.0)
+
+  -- The whole step, where the regions are listed if one joined, or other frames have no page than before; and the slots of the one that joined.
+  pub step_found : (answered : Option (List Region)) (large : Option (List ℕ)) →
+      ((paged new.system).joins ≡ (paged heap.system).joins → pageless_frames (paged new.system) ≡ pageless_frames (paged heap.system) → answered ≡ None) →
+      (((paged new.system).joins ≡ (paged heap.system).joins → pageless_frames (paged new.system) ≡ pageless_frames (paged heap.system) → ⊥) → answered ≡ Some left) →
+      ((paged new.system).joins ≡ (paged heap.system).joins → large ≡ None) → (((paged new.system).joins ≡ (paged heap.system).joins → ⊥) → large ≡ listed_slots (paged new.system).slots) →
+      IsFoundStep (answered, large)
+  step_found answered large same other none told = elim found [
     | inl here ↦ (
         let joins : (paged new.system).joins ≡ (paged heap.system).joins = short.joins ∙ ap (λ (p : Paged). p.joins) here.1.others in
-        elim (same_or_other (free_count (paged new.system).free) (free_count (paged heap.system).free)) [
-          | inl few ↦ subst (λ (list : Option (List Region)). IsStep s call (record { reply = Placed number address; regions = list }) m') (sym (same joins few)) (step_here here.1 few)
-          | inr more ↦ subst (λ (list : Option (List Region)). IsStep s call (record { reply = Placed number address; regions = list }) m') (sym (other (λ j few. more few))) (step_cut here.1 more)
+        elim (same_or_other (pageless_frames (paged new.system)) (pageless_frames (paged heap.system))) [
+          | inl few ↦ subst IsFoundStep (λ i. (sym (same joins few) i, sym (none joins) i))
+              (step_here here.1 few, subst (AreRunsUsedFor (paged heap.system) (paged middle.system)) (sym (placed_none s call number address)) tt)
+          | inr more ↦ subst IsFoundStep (λ i. (sym (other (λ j few. more few)) i, sym (none joins) i))
+              (step_cut here.1 more, subst (AreRunsUsedFor (paged heap.system) (paged middle.system)) (sym (none_listed here.1)) tt)
         ])
     | inr there ↦ (let followed = there.4 in
-        subst (λ (list : Option (List Region)). IsStep s call (record { reply = Placed number address; regions = list }) m')
-        (sym (other (λ j few. joined there.2 followed.0 followed.1 followed.2 there.0 followed.3 followed.4 there.5 j)))
-        (step_granted there.2 followed.0 followed.1 followed.2 there.0 followed.3 followed.4 there.5))
+        let differ = joined there.2 followed.0 followed.1 followed.2 there.0 followed.3 followed.4 there.5 in
+        let slots_are = told differ ∙ ap listed_slots (slots_kept there.2 followed.0 followed.1 followed.2 there.0 followed.3 followed.4 there.5) in
+        subst IsFoundStep (λ i. (sym (other (λ j few. differ j)) i, sym slots_are i)) (
+          step_granted there.2 followed.0 followed.1 followed.2 there.0 followed.3 followed.4 there.5,
+          subst (AreRunsUsedFor (paged heap.system) (paged middle.system)) (sym (pages_are there.2 followed.0 followed.1 followed.2 there.0 followed.3 followed.4 there.5))
+              (runs_granted there.2 followed.0 followed.1 followed.2 there.0 followed.3 followed.4 there.5),
+        ))
   ]

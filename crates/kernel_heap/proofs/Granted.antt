@@ -14,7 +14,7 @@ use Rattle.kernel_heap.proofs.Places.{range_within}
 -- what a system keeps, it keeps where a region joined, or nothing was done
 pub kept_joined : {A B : Type 0} (answer : Result A B) (old new : Paged) (region : Region) → OnOk answer (IsJoined old new region) → OnOk answer (CanMap old region.start region.pages) → OnErr answer (new ≡ old) → IsKept old → IsMapped new → IsKept new
 kept_joined (Ok a) old new region ok can err kept mapped = record {
-  window = subst (λ b. IsGoodWindow b new.pages) (sym ok.base) (subst (IsGoodWindow old.base) (sym ok.pages) kept.window);
+  window = subst (λ b. IsGoodWindow b new.pages) (sym ok.added.base) (subst (IsGoodWindow old.base) (sym ok.added.pages_is) kept.window);
   mapped = mapped;
   laid = subst (λ regions. AreLaid 0 regions (2 ^ 64)) (sym ok.regions)
       (laid_with region 0 (2 ^ 64) old.regions can.range.0 can.range.1.some (omega arith) (range_ends_at region.start region.pages can.range) can.clear kept.laid);
@@ -24,7 +24,7 @@ kept_joined (Err e) old new region ok can err kept mapped = subst IsKept (sym er
 -- and where one left
 pub kept_left : {A B : Type 0} (answer : Result A B) (old new : Paged) (start pages : ℕ) → OnOk answer (IsLeft old new start pages) → OnErr answer (new ≡ old) → IsKept old → IsMapped new → IsKept new
 kept_left (Ok a) old new start pages ok err kept mapped = record {
-  window = subst (λ b. IsGoodWindow b new.pages) (sym ok.base) (subst (IsGoodWindow old.base) (sym ok.pages_is) kept.window);
+  window = subst (λ b. IsGoodWindow b new.pages) (sym ok.gone.base) (subst (IsGoodWindow old.base) (sym ok.gone.pages_is) kept.window);
   mapped = mapped;
   laid = subst (λ regions. AreLaid 0 regions (2 ^ 64)) (sym ok.regions) (laid_without start pages 0 (2 ^ 64) old.regions kept.laid);
 }
@@ -51,7 +51,8 @@ pub granted_joined : (old new : Paged) (region : Region) (pages address : ℕ) �
 granted_joined old new region pages address is joined =
     let j = subst (IsJoined old new) is joined in
     record {
-      grant = record { base = j.base; pages_is = j.pages; root = j.root; tables = j.tables; added = j.added };
+      grant = j.added;
+      runs = j.runs;
       joins = j.joins;
       regions = j.regions;
     }

@@ -3,7 +3,6 @@ use Rattle.std.proofs.Common.{◌≡◌, ℕ, ◌+◌, ◌-◌, ◌%◌, ◌<◌
 use Rattle.std.specs.List.{list_any}
 use Rattle.std.specs.Int.{is_power_of_two}
 use Rattle.std.proofs.Math.ListN.{length-replicate}
-use Rattle.paging_core.specs.Pool.{free_count}
 use Rattle.paging_core.specs.Prefix.{Prefix}
 use Rattle.paging_core.specs.Walk.{reached}
 use Rattle.heap_memory.specs.declared.grant.Grant.{Grant}
@@ -20,6 +19,8 @@ use Rattle.heap_model.specs.declared.region.Region.{Region}
 use Rattle.heap_model.specs.declared.call.Call.TheVariants.{Malloc, Calloc}
 use Rattle.heap_model.specs.declared.answer.Reply.TheVariants.{Block as Placed}
 use Rattle.heap_model.specs.State.{State, Cell, Fresh, Known, Block, block_at, is_within}
+use Rattle.heap_model.specs.Slots.{listed_slots}
+use Rattle.heap_model.specs.Place.{meets_any}
 use Rattle.heap_model.specs.Memory.{HoldsBytes}
 use Rattle.heap_model.specs.Refusal.{refuse_request}
 use Rattle.heap_model.specs.Run.{IsGood}
@@ -28,10 +29,10 @@ use Rattle.heap_model.specs.Room.{IsGrowth}
 use Rattle.heap_model.proofs.Known.{known_within}
 use Rattle.heap_model.proofs.Shortened.{good_there, good_over}
 use Rattle.heap_model.proofs.Placed.{outline_of, outline_push, length_outline, known_alike, holds_pushed, good_placed}
-use Rattle.kernel_heap.specs.System.{paged}
+use Rattle.kernel_heap.specs.System.{paged, pageless_frames}
 use Rattle.kernel_heap.specs.Words.{heap_regions}
 use Rattle.kernel_heap.specs.Heap.{regions, word, follows, heap_state}
-use Rattle.kernel_heap.specs.Machine.{seen_of, live_at, IsLaidOut, AreZero, request}
+use Rattle.kernel_heap.specs.Machine.{seen_of, live_at, lasting_pages, AreRunsUsedFor, IsLaidOut, AreZero, request}
 use Rattle.kernel_heap.specs.declared.paged_system.PagedSystem.{PagedSystem}
 use Rattle.kernel_heap.proofs.BlockPlaces.{byte_kept, bytes_within}
 use Rattle.kernel_heap.proofs.Bytes.{zero_reached}
@@ -91,13 +92,14 @@ module _ {top : ℕ} (heap new : Dlmalloc PagedSystem) (blocks : List (Option Li
     lives_same = ap (λ list. list ++ Some (next_live address size align) ∷ []) stands.blocks ∙ sym (outline_push s.blocks (Some (next_block address size align cell)))
 
     -- the block is good among the regions of the machine
-    good_blocks : (list : List Region) (tables : List Prefix) → list ≡ heap_regions (paged new.system).regions → IsGood (record s { heap = list; tables = tables; blocks = [] }) → IsGood (record s { heap = list; tables = tables; blocks = after_it })
-    good_blocks list tables same bare =
-        let good' : IsGood (record s { heap = list; tables = tables }) = good_over (record s { heap = list; tables = tables }) s.blocks bare
+    good_blocks : (list : List Region) (tables : List Prefix) (large : List ℕ) → list ≡ heap_regions (paged new.system).regions → IsGood (record s { heap = list; tables = tables; large = large; blocks = [] }) →
+        IsGood (record s { heap = list; tables = tables; large = large; blocks = after_it })
+    good_blocks list tables large same bare =
+        let good' : IsGood (record s { heap = list; tables = tables; large = large }) = good_over (record s { heap = list; tables = tables; large = large }) s.blocks bare
         (λ i it is. good_there s.heap list it (good.each i it is) (λ k less. ap (list_any (is_within (it.address + k))) same
         ∙ granted_within (paged new.system) (it.address + k) ((placed_now it.address it.size (live_kept heap new blocks size align address laid out i (outline it) (live_of i it is)).block).granted (it.address + k) (omega arith) (omega (arith, less)))))
         good.apart in
-        good_placed (record s { heap = list; tables = tables }) (next_block address size align cell) good'
+        good_placed (record s { heap = list; tables = tables; large = large }) (next_block address size align cell) good'
         (record {
           aligned = out.multiple;
           aligned_16 = out.aligned;
@@ -111,7 +113,7 @@ module _ {top : ℕ} (heap new : Dlmalloc PagedSystem) (blocks : List (Option Li
         (live_apart heap new blocks size align address laid out i (outline old) at)) [ inl before ↦ inl (omega arith) | inr behind ↦ inr (omega arith) ])
 
   -- nothing goes back
-  whole : AreShortened (paged new.system) (paged new.system)
+  whole : AreShortened (paged new.system) (paged new.system) None
   whole = shortened_still (paged new.system) (paged new.system) new.system.kept.laid (still_none (paged new.system))
 
   stays : (grant : Grant) → 0 < grant.size → regions new.system ≡ with_grant grant (regions heap.system) → HasByteOf grant (regions new.system)
@@ -122,29 +124,38 @@ module _ {top : ℕ} (heap new : Dlmalloc PagedSystem) (blocks : List (Option Li
     subst (λ (list : List Grant). IsTrue (is_granted list grant.base)) (sym with_it) (granted_new grant (regions heap.system) grant.base (omega arith) (omega (arith, some))),
   )
 
-  module _ (power : is_power_of_two align ≡ true) (answered : Option (List Region))
-      (same : (paged new.system).joins ≡ (paged heap.system).joins → free_count (paged new.system).free ≡ free_count (paged heap.system).free → answered ≡ None)
-      (other : ((paged new.system).joins ≡ (paged heap.system).joins → free_count (paged new.system).free ≡ free_count (paged heap.system).free → ⊥) → answered ≡ Some (heap_regions (paged new.system).regions)) where
+  no_part : (one : ℕ) → None ≡ Some one → IsTrue (meets_any one 512 (paged new.system).regions)
+  no_part one is = absurd (let no : None ≡ Some one = is in cc)
+
+  module _ (power : is_power_of_two align ≡ true) (answered : Option (List Region)) (large : Option (List ℕ))
+      (same : (paged new.system).joins ≡ (paged heap.system).joins → pageless_frames (paged new.system) ≡ pageless_frames (paged heap.system) → answered ≡ None)
+      (other : ((paged new.system).joins ≡ (paged heap.system).joins → pageless_frames (paged new.system) ≡ pageless_frames (paged heap.system) → ⊥) → answered ≡ Some (heap_regions (paged new.system).regions))
+      (none : (paged new.system).joins ≡ (paged heap.system).joins → large ≡ None) (told : ((paged new.system).joins ≡ (paged heap.system).joins → ⊥) → large ≡ listed_slots (paged new.system).slots) where
+    -- what an answer to a request is, and what is said of its new pages
+    abbrev IsRequestStep : Bool → Type 0
+    IsRequestStep cleared =
+        IsStep s (request cleared size align) (record { reply = Placed (length blocks) address; regions = answered; large = large }) m'
+        × AreRunsUsedFor (paged heap.system) (paged new.system) (lasting_pages s (request cleared size align) (record { reply = Placed (length blocks) address; regions = answered; large = large }))
+
     -- nothing is known of its bytes
-    step_handed : IsStep s (Malloc size align) (record { reply = Placed (length blocks) address; regions = answered }) m'
+    step_handed : IsRequestStep false
     step_handed =
         let fresh : (k byte : ℕ) → k < size → Fresh ≡ Known byte → reached (paged new.system).words (paged new.system).root (address + k) ≡ Some byte = λ k byte less is. absurd (cc) in
-        step_found heap new new blocks (blocks ++ Some (next_live address size align) ∷ []) laid (wanted size align) (found power) whole out.granularity stays s good stands
+        step_found heap new new blocks (blocks ++ Some (next_live address size align) ∷ []) laid (wanted size align) (found power) None whole no_part out.granularity stays s good stands
         (Malloc size align) (length blocks) address (after_it Fresh) refl (not_at_once power) refl (λ list grown growth cut same still. (number, subst (IsGrowth s (wanted size align)) (sym (same refl)) growth))
-        (lives_same Fresh) (holds Fresh fresh) (good_blocks Fresh) answered same other
+        (lives_same Fresh) (holds Fresh fresh) (good_blocks Fresh) answered large same other none told
 
     -- its bytes are zero
     step_cleared : ((k : ℕ) → k < size → reached (paged new.system).words (paged new.system).root (address + k) ≡ Some 0) →
-        IsStep s (Calloc size align) (record { reply = Placed (length blocks) address; regions = answered }) m'
+        IsRequestStep true
     step_cleared cleared =
         let zero_there : (k byte : ℕ) → k < size → Known 0 ≡ Known byte → reached (paged new.system).words (paged new.system).root (address + k) ≡ Some byte =
         λ k byte less is. cleared k less ∙ ap Some (cc is) in
-        step_found heap new new blocks (blocks ++ Some (next_live address size align) ∷ []) laid (wanted size align) (found power) whole out.granularity stays s good stands
+        step_found heap new new blocks (blocks ++ Some (next_live address size align) ∷ []) laid (wanted size align) (found power) None whole no_part out.granularity stays s good stands
         (Calloc size align) (length blocks) address (after_it (Known 0)) refl (not_at_once power) refl (λ list grown growth cut same still. (number, subst (IsGrowth s (wanted size align)) (sym (same refl)) growth))
-        (lives_same (Known 0)) (holds (Known 0) zero_there) (good_blocks (Known 0)) answered same other
+        (lives_same (Known 0)) (holds (Known 0) zero_there) (good_blocks (Known 0)) answered large same other none told
 
-    pub step_request : (cleared : Bool) → (cleared ≡ true → AreZero (word new.system) address size) →
-        IsStep s (request cleared size align) (record { reply = Placed (length blocks) address; regions = answered }) m'
+    pub step_request : (cleared : Bool) → (cleared ≡ true → AreZero (word new.system) address size) → IsRequestStep cleared
     step_request false zeros = step_handed
     step_request true zeros = step_cleared (λ k less.
         let whole = out.aligned in

@@ -31,9 +31,13 @@ pub mod UserRegions
 pub mod RunPages
 pub mod ReleasedWords
 pub mod ReleasedRegions
+pub mod ReleasedSlots
+pub mod KeptEnd
 pub mod ReleasedState
 pub mod Ended
 pub mod SettingChanges
+pub mod Told
+pub mod LastingPages
 pub mod Trimmed
 pub mod Reset
 pub mod Registers

@@ -85,9 +85,9 @@ module _ {top : ℕ} (heap : Dlmalloc PagedSystem) (blocks : List (Option Live))
     used = extent_has;
   }
 
-  pub step_listed : IsStep s Extents (record { reply = Listed list; regions = None }) m
+  pub step_listed : IsStep s Extents (record { reply = Listed list; regions = None; large = None }) m
   step_listed = record {
-    allowed = record { reply = (refl, (refl, tiling)); listed = tt };
+    allowed = record { reply = (refl, (refl, tiling)); listed = tt; large = tt };
     good = good;
     stands = stands;
   }

@@ -3,6 +3,7 @@ use Rattle.std.proofs.Common.{◌≡◌, ℕ, ◌^◌, [], sym, ap, arith, Optio
 use Rattle.std.specs.Prelude.{IsSome}
 use Rattle.heap_model.specs.declared.config.Config.{Config}
 use Rattle.heap_model.specs.State.{start}
+use Rattle.heap_model.specs.Slots.{slot_number}
 use Rattle.heap_model.specs.Machine.{Paged, Seen, Stands, rights_of}
 use Rattle.heap_model.specs.Run.{IsGood}
 use Rattle.mapped_regions.specs.Mapped.{IsMapped, IsEmpty}
@@ -25,6 +26,7 @@ new_is p base pages frames window m e = record {
   frames_are = e.frames_are;
   free_frames = e.free_frames;
   no_tables = e.no_tables;
+  no_larges = e.no_larges;
   unmapped = e.unmapped;
 }
 
@@ -38,6 +40,9 @@ start_good config good = record {
   heap = tt;
   users = tt;
   frames = (let f = good.frames in omega arith);
+  slots = tt;
+  are_slots = tt;
+  no_slot_twice = tt;
 }
 
 pub start_stands : (m : Seen) (config : Config) → IsNew m.paged config.base config.pages config.frames → m.paged.root ≡ m.top → m.granularity ≡ config.granularity → m.blocks ≡ [] → Stands m (start config)
@@ -48,6 +53,7 @@ start_stands m config new root granularity blocks = record {
   table_count = new.tables_is;
   pages_found = λ page canonical. ap (option_map rights_of) (new.unmapped page);
   tables_met = λ level number some less. ((λ is. absurd (let e = new.no_tables level number some in not_some e is)), (λ is. absurd (cc)));
+  larges_met = λ slot is. ((λ some. absurd (let e = new.no_larges (slot_number slot) in not_some e some)), (λ is. absurd (cc)));
   regions = new.regions_is;
   blocks = blocks;
   base = new.base_is;

@@ -24,7 +24,7 @@ use Rattle.heap_model.specs.State.{State, Block}
 use Rattle.heap_model.specs.Tables.{missing, free_frames}
 use Rattle.heap_model.specs.Place.{all_regions, IsPlace, HasNoPlace}
 use Rattle.heap_model.specs.Refusal.{is_too_large, refuse_request, refuse_resizing, must_refuse, wanted_by, MayRefuse}
-use Rattle.heap_model.specs.Answer.{changed}
+use Rattle.heap_model.specs.Answer.{after}
 use Rattle.heap_model.specs.Run.{IsGood}
 use Rattle.heap_model.specs.Machine.{Seen, Stands, IsStep}
 use Rattle.heap_model.proofs.Added.{missing_same}
@@ -40,32 +40,32 @@ use Rattle.kernel_heap.proofs.Places.{range_within}
 use Rattle.kernel_heap.proofs.Laid.{seen_denied}
 
 abbrev pub refused_with : Refusal → Answer
-refused_with refusal = record { reply = Refused refusal; regions = None }
+refused_with refusal = record { reply = Refused refusal; regions = None; large = None }
 
 -- a refusal changes nothing
-changed_refused : (s : State) (call : Call) (refusal : Refusal) → changed s call (Refused refusal) ≡ s
-changed_refused s (Malloc size align) refusal = refl
-changed_refused s (Calloc size align) refusal = refl
-changed_refused s (Realloc number size) refusal = refl
-changed_refused s (CRealloc number size) refusal = refl
-changed_refused s (Free number) refusal = refl
-changed_refused s (Write number offset bytes) refusal = refl
-changed_refused s (Read number offset count) refusal = refl
-changed_refused s (Map start pages rights) refusal = refl
-changed_refused s (Unmap start pages) refusal = refl
-changed_refused s (Probe at access user) refusal = refl
-changed_refused s (Trim pad) refusal = refl
-changed_refused s (SetRate rate) refusal = refl
-changed_refused s (SetGranularity granularity) refusal = refl
-changed_refused s Reset refusal = refl
-changed_refused s Extents refusal = refl
+after_refused : (s : State) (call : Call) (refusal : Refusal) → after s call (refused_with refusal) ≡ s
+after_refused s (Malloc size align) refusal = refl
+after_refused s (Calloc size align) refusal = refl
+after_refused s (Realloc number size) refusal = refl
+after_refused s (CRealloc number size) refusal = refl
+after_refused s (Free number) refusal = refl
+after_refused s (Write number offset bytes) refusal = refl
+after_refused s (Read number offset count) refusal = refl
+after_refused s (Map start pages rights) refusal = refl
+after_refused s (Unmap start pages) refusal = refl
+after_refused s (Probe at access user) refusal = refl
+after_refused s (Trim pad) refusal = refl
+after_refused s (SetRate rate) refusal = refl
+after_refused s (SetGranularity granularity) refusal = refl
+after_refused s Reset refusal = refl
+after_refused s Extents refusal = refl
 
 -- the refusal that must come
 pub step_refused : (m : Seen) (s : State) (call : Call) (refusal : Refusal) → must_refuse s call ≡ Some refusal → IsGood s → Stands m s → IsStep s call (refused_with refusal) m
 step_refused m s call refusal must good stands = record {
-  allowed = record { reply = (refl, inl must); listed = tt };
-  good = subst IsGood (sym (changed_refused s call refusal)) good;
-  stands = subst (Stands m) (sym (changed_refused s call refusal)) stands;
+  allowed = record { reply = (refl, inl must); listed = tt; large = tt };
+  good = subst IsGood (sym (after_refused s call refusal)) good;
+  stands = subst (Stands m) (sym (after_refused s call refusal)) stands;
 }
 
 -- a request for a block is refused by its size and alignment alone
@@ -156,9 +156,9 @@ module _ {top : ℕ} (heap : Dlmalloc PagedSystem) (blocks : List (Option Live))
   -- a refusal that may come, comes
   step_may : (refusal : Refusal) → MayRefuse s (Some n) refusal → IsStep s call (refused_with refusal) m
   step_may refusal may = record {
-    allowed = record { reply = (refl, inr (must, subst (λ w. MayRefuse s w refusal) (sym wants) may)); listed = tt };
-    good = subst IsGood (sym (changed_refused s call refusal)) good;
-    stands = subst (Stands m) (sym (changed_refused s call refusal)) stands;
+    allowed = record { reply = (refl, inr (must, subst (λ w. MayRefuse s w refusal) (sym wants) may)); listed = tt; large = tt };
+    good = subst IsGood (sym (after_refused s call refusal)) good;
+    stands = subst (Stands m) (sym (after_refused s call refusal)) stands;
   }
 
   -- the pages have no place

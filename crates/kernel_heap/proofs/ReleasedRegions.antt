@@ -1,27 +1,43 @@
 -- The regions of a paged system after runs were given back: the heap's are cut, and the user's are as they were.
-use Rattle.std.proofs.Common.{◌≡◌, ℕ, ◌+◌, ◌-◌, ◌*◌, ◌/◌, ◌%◌, ◌^◌, ◌<◌, ◌≤◌, inl, inr, ◌&&◌, ◌||◌, Bool, true, false, cond, not, nat_lt, List, [], ◌∷◌, length, refl, sym, ap, ◌∙◌, subst, arith, IsTrue, IsSome}
+use Rattle.std.proofs.Common.{◌≡◌, ℕ, ◌+◌, ◌-◌, ◌*◌, ◌/◌, ◌%◌, ◌^◌, ◌<◌, ◌≤◌, ◌⊎◌, inl, inr, ◌&&◌, ◌||◌, Bool, true, false, cond, not, nat_lt, List, [], ◌∷◌, length, map, refl, sym, ap, ◌∙◌, subst, arith, IsTrue, IsSome, Option, Some, None}
 use Rattle.std.specs.Prelude.{if◌then◌else◌, ⊤}
 use Rattle.std.specs.List.{AllByRecursion, list_any, filter}
 use Rattle.std.proofs.lemmas.Bool.{cases_lt}
 use Rattle.std.proofs.lemmas.Bool.Decides.{nat_tests}
-use Rattle.paging_core.specs.Address.{is_canonical}
-use Rattle.paging_core.specs.Walk.{reach, walk_of, reached}
+use Rattle.paging_core.specs.Address.{is_canonical, IsCanonicalRange}
+use Rattle.paging_core.specs.PageChanges.{among}
+use Rattle.paging_core.specs.Prefix.{prefix_of}
+use Rattle.paging_core.specs.Walk.{Place, reach, large_of, walk_of, reached, top}
+use Rattle.paging_core.proofs.Ranges.{page_in}
+use Rattle.page_ranges.specs.RangeUnmapping.{AreUnmapped, is_cut}
+use Rattle.page_ranges.proofs.Unmapped.{among_is, slot_in, cut_or_not, cut_one, cut_none, cut_is as cut_page_is}
 use Rattle.heap_memory.specs.Events.{Event, Granted, Released}
+use Rattle.heap_memory.specs.Regions.{IsApart}
+use Rattle.heap_memory.specs.Runs.{IsRun, IsWithin}
 use Rattle.heap_model.specs.declared.region.Region.{Region}
 use Rattle.heap_model.specs.State.{end_of, is_within}
 use Rattle.heap_model.specs.Place.{meets}
+use Rattle.heap_model.specs.Slots.{IsSlot, slot_number, has_whole, is_whole_in}
 use Rattle.heap_model.specs.Cut.{AreCut}
 use Rattle.heap_model.specs.Machine.{Paged, OnlyHeapBytesChange, is_of_user}
+use Rattle.heap_model.proofs.Booleans.{or_cases}
 use Rattle.heap_model.proofs.Cut.{none_cut, cut_on}
+use Rattle.heap_model.proofs.Settled.{cut_slots}
+use Rattle.heap_model.proofs.Slots.{page_slot, page_number, whole_bounds}
 use Rattle.region_tree.specs.Regions.{AreLaid, cut_of}
 use Rattle.region_tree.proofs.Laying.{laid_cut}
-use Rattle.mapped_regions.specs.Mapped.{AreGone}
+use Rattle.mapped_regions.specs.Mapped.{IsMapped, AreGone}
 use Rattle.mapped_regions.proofs.Looked.{first_canonical}
+use Rattle.kernel_heap.specs.Layout.{IsKept}
 use Rattle.kernel_heap.specs.Released.{IsReleasedFor}
 use Rattle.kernel_heap.specs.Follows.{Follows, still_none}
-use Rattle.kernel_heap.specs.Words.{heap_regions}
+use Rattle.kernel_heap.specs.Words.{heap_regions, grant_of, grants_of}
 use Rattle.kernel_heap.proofs.HeapRegions.{granted_same, not_of_user}
-use Rattle.kernel_heap.proofs.RunPages.{none_of_user, begins, count_is, run_own}
+use Rattle.kernel_heap.proofs.Numbers.{is_less, not_less}
+use Rattle.kernel_heap.proofs.Releasing.{heap_grants}
+use Rattle.kernel_heap.proofs.ReleasedWords.{cut_range, kept_cut}
+use Rattle.kernel_heap.proofs.RunPages.{AreBeside, is_own, own_granted, none_of_user, begins, count_is, run_own}
+use Rattle.kernel_heap.proofs.Still.{kept_still}
 
 -- the regions of the user among these
 abbrev pub user_regions : List Region → List Region
@@ -102,18 +118,29 @@ user_same address (region ∷ rest) = go region.heap (user_same address rest)
     go false later = ap (λ (b : Bool). is_within address region || b) later
 
 -- What stays where runs are given back, and how the regions are cut: every table, every page of the user with its frame,
--- and every byte of the user.
-pub record AreShortened (old new : Paged) : Type 0 where
+-- and every byte of the user. One slot that was mapped by one entry may have been cut, and has a table then.
+pub record AreShortened (old new : Paged) (slot : Option ℕ) : Type 0 where
   pub base : new.base ≡ old.base
   pub pages_is : new.pages ≡ old.pages
   pub root : new.root ≡ old.root
-  pub tables : new.tables ≡ old.tables
+  pub tables : new.tables ≡ old.tables + length (cut_slots slot)
   pub joins : new.joins ≡ old.joins
+  pub slots : new.slots ≡ old.slots
   pub laid : AreLaid 0 new.regions (2 ^ 64)
   pub cut : AreCut old.regions new.regions
   pub users : user_regions new.regions ≡ user_regions old.regions
   pub size : length new.words ≡ length old.words
-  pub walks : (level number : ℕ) → level < 4 → reach new.words new.root level number ≡ reach old.words old.root level number
+  pub walks :
+      (level number : ℕ) → level < 4 → ((one : ℕ) → slot ≡ Some one → level ≡ 3 → number ≡ slot_number one → ⊥) →
+      reach new.words new.root level number ≡ reach old.words old.root level number
+  pub table : (one : ℕ) → slot ≡ Some one → IsSome (reach new.words new.root 3 (slot_number one))
+  pub was_large : (one : ℕ) → slot ≡ Some one → IsSlot one × IsSome (large_of old.words old.root (slot_number one))
+  -- no large page comes, and no page; of a large page that leaves a page is unmapped
+  pub larges : (number : ℕ) → number < 2 ^ 27 → IsSome (large_of new.words new.root number) → IsSome (large_of old.words old.root number)
+  pub large_gone :
+      (number : ℕ) → number < 2 ^ 27 → IsSome (large_of old.words old.root number) → large_of new.words new.root number ≡ None →
+      (k : ℕ) × (k < 512) × (reach new.words new.root 4 (512 * number + k) ≡ None)
+  pub pages_go : (number : ℕ) → reach old.words old.root 4 number ≡ None → reach new.words new.root 4 number ≡ None
   pub user_pages :
       (address : ℕ) → IsTrue (is_canonical address) → is_of_user old.regions address ≡ true →
       walk_of new.words new.root (address / 4096) ≡ walk_of old.words old.root (address / 4096)
@@ -121,49 +148,123 @@ pub record AreShortened (old new : Paged) : Type 0 where
       (address : ℕ) → IsTrue (is_canonical address) → is_of_user old.regions address ≡ true → IsSome (walk_of old.words old.root (address / 4096)) →
       reached new.words new.root address ≡ reached old.words old.root address
 
-still_shortened : (p : Paged) (words : List ℕ) → AreLaid 0 p.regions (2 ^ 64) → OnlyHeapBytesChange p (record p { words = words }) → AreShortened p (record p { words = words })
+pub some_not_none : {A : Type 0} (o : Option A) → IsSome o → o ≡ None → ⊥
+some_not_none None is none = absurd (cc)
+some_not_none (Some x) is none = cc
+
+still_shortened : (p : Paged) (words : List ℕ) → AreLaid 0 p.regions (2 ^ 64) → OnlyHeapBytesChange p (record p { words = words }) → AreShortened p (record p { words = words }) None
 unfolding walk_of
 still_shortened p words laid still = record {
   base = refl;
   pages_is = refl;
   root = refl;
-  tables = refl;
+  tables = omega arith;
   joins = refl;
+  slots = refl;
   laid = laid;
   cut = none_cut p.regions;
   users = refl;
   size = still.size;
-  walks = λ level number low. still.walks level number (omega (arith, low));
+  walks = λ level number low other. still.walks level number (omega (arith, low));
+  table = λ one is. absurd (cc);
+  was_large = λ one is. absurd (cc);
+  larges = λ number small is. subst IsSome (still.larges number) is;
+  large_gone = λ number small is gone. absurd (some_not_none (large_of p.words p.root number) is (sym (still.larges number) ∙ gone));
+  pages_go = λ number none. still.walks 4 number (omega arith) ∙ none;
   user_pages = λ address canonical user. still.walks 4 (address / 4096 % 2 ^ 36) (omega arith);
   user_bytes = λ address canonical user some. still.users address user;
 }
 
 -- with no event
-pub shortened_still : (old new : Paged) → AreLaid 0 old.regions (2 ^ 64) → OnlyHeapBytesChange old new → AreShortened old new
-shortened_still old new laid still = subst (AreShortened old) (sym still.others) (still_shortened old new.words laid (subst (OnlyHeapBytesChange old) still.others still))
+pub shortened_still : (old new : Paged) → AreLaid 0 old.regions (2 ^ 64) → OnlyHeapBytesChange old new → AreShortened old new None
+shortened_still old new laid still = subst (λ (p : Paged). AreShortened old p None) (sym still.others) (still_shortened old new.words laid (subst (OnlyHeapBytesChange old) still.others still))
 
-pub shortened_on : (x y z : Paged) → AreShortened x y → AreShortened y z → AreShortened x z
-shortened_on x y z first second = record {
-  base = second.base ∙ first.base;
-  pages_is = second.pages_is ∙ first.pages_is;
-  root = second.root ∙ first.root;
-  tables = second.tables ∙ first.tables;
-  joins = second.joins ∙ first.joins;
-  laid = second.laid;
-  cut = cut_on x.regions y.regions z.regions first.cut second.cut;
-  users = second.users ∙ first.users;
-  size = second.size ∙ first.size;
-  walks = λ level number low. second.walks level number low ∙ first.walks level number low;
-  user_pages = λ address canonical user. second.user_pages address canonical (still_user address user) ∙ first.user_pages address canonical user;
-  user_bytes = λ address canonical user some.
-      second.user_bytes address canonical (still_user address user) (subst IsSome (sym (first.user_pages address canonical user)) some) ∙ first.user_bytes address canonical user some;
-}
-  where
-    still_user : (address : ℕ) → is_of_user x.regions address ≡ true → is_of_user y.regions address ≡ true
-    still_user address user = user_same address y.regions ∙ (ap (list_any (is_within address)) first.users ∙ (sym (user_same address x.regions) ∙ user))
+-- what was cut in the first time, or in the second
+module _ (x y z : Paged) (second_slot : Option ℕ) (first : AreShortened x y None) (second : AreShortened y z second_slot) where
+  still_user : (address : ℕ) → is_of_user x.regions address ≡ true → is_of_user y.regions address ≡ true
+  still_user address user = user_same address y.regions ∙ (ap (list_any (is_within address)) first.users ∙ (sym (user_same address x.regions) ∙ user))
 
--- a run is given back
-module _ (old new : Paged) (at size left : ℕ) (laid : AreLaid 0 old.regions (2 ^ 64)) (is : IsReleasedFor old new at size left) (less : left < size) where
+  walks_first : (level number : ℕ) → level < 4 → reach y.words y.root level number ≡ reach x.words x.root level number
+  walks_first level number low = first.walks level number low (λ one is. absurd (let no : None ≡ Some one = is in cc))
+
+  pub shortened_then : AreShortened x z second_slot
+  shortened_then = record {
+    base = second.base ∙ first.base;
+    pages_is = second.pages_is ∙ first.pages_is;
+    root = second.root ∙ first.root;
+    tables = (let a = first.tables in let b = second.tables in omega (arith, a, b));
+    joins = second.joins ∙ first.joins;
+    slots = second.slots ∙ first.slots;
+    laid = second.laid;
+    cut = cut_on x.regions y.regions z.regions first.cut second.cut;
+    users = second.users ∙ first.users;
+    size = second.size ∙ first.size;
+    walks = λ level number low other. second.walks level number low other ∙ walks_first level number low;
+    table = second.table;
+    was_large = λ one is. (let w = second.was_large one is in (w.0, first.larges (slot_number one) (omega arith) w.1));
+    larges = λ number small is. first.larges number small (second.larges number small is);
+    large_gone = λ number small is gone. left number small is gone (large_of y.words y.root number) refl;
+    pages_go = λ number none. second.pages_go number (first.pages_go number none);
+    user_pages = λ address canonical user. second.user_pages address canonical (still_user address user) ∙ first.user_pages address canonical user;
+    user_bytes = λ address canonical user some.
+        second.user_bytes address canonical (still_user address user) (subst IsSome (sym (first.user_pages address canonical user)) some) ∙ first.user_bytes address canonical user some;
+  }
+    where
+      left : (number : ℕ) → number < 2 ^ 27 → IsSome (large_of x.words x.root number) → large_of z.words z.root number ≡ None → (o : Option Place) → large_of y.words y.root number ≡ o →
+          (k : ℕ) × (k < 512) × (reach z.words z.root 4 (512 * number + k) ≡ None)
+      left number small is gone None none = let page = first.large_gone number small is none in (page.0, page.1, second.pages_go (512 * number + page.0) page.2)
+      left number small is gone (Some large) some = second.large_gone number small (subst IsSome (sym some) (let h : IsSome (Some large) = cc in h)) gone
+
+module _ (x y z : Paged) (one : ℕ) (first : AreShortened x y (Some one)) (second : AreShortened y z None) where
+  user_still : (address : ℕ) → is_of_user x.regions address ≡ true → is_of_user y.regions address ≡ true
+  user_still address user = user_same address y.regions ∙ (ap (list_any (is_within address)) first.users ∙ (sym (user_same address x.regions) ∙ user))
+
+  walks_then : (level number : ℕ) → level < 4 → reach z.words z.root level number ≡ reach y.words y.root level number
+  walks_then level number low = second.walks level number low (λ other is. absurd (let no : None ≡ Some other = is in cc))
+
+  pub shortened_before : AreShortened x z (Some one)
+  shortened_before = record {
+    base = second.base ∙ first.base;
+    pages_is = second.pages_is ∙ first.pages_is;
+    root = second.root ∙ first.root;
+    tables = (let a = first.tables in let b = second.tables in omega (arith, a, b));
+    joins = second.joins ∙ first.joins;
+    slots = second.slots ∙ first.slots;
+    laid = second.laid;
+    cut = cut_on x.regions y.regions z.regions first.cut second.cut;
+    users = second.users ∙ first.users;
+    size = second.size ∙ first.size;
+    walks = λ level number low other. walks_then level number low ∙ first.walks level number low other;
+    table = λ slot is. subst IsSome (sym (walks_then 3 (slot_number slot) (omega arith))) (first.table slot is);
+    was_large = first.was_large;
+    larges = λ number small is. first.larges number small (second.larges number small is);
+    large_gone = λ number small is gone. left number small is gone (large_of y.words y.root number) refl;
+    pages_go = λ number none. second.pages_go number (first.pages_go number none);
+    user_pages = λ address canonical user. second.user_pages address canonical (user_still address user) ∙ first.user_pages address canonical user;
+    user_bytes = λ address canonical user some.
+        second.user_bytes address canonical (user_still address user) (subst IsSome (sym (first.user_pages address canonical user)) some) ∙ first.user_bytes address canonical user some;
+  }
+    where
+      left : (number : ℕ) → number < 2 ^ 27 → IsSome (large_of x.words x.root number) → large_of z.words z.root number ≡ None → (o : Option Place) → large_of y.words y.root number ≡ o →
+          (k : ℕ) × (k < 512) × (reach z.words z.root 4 (512 * number + k) ≡ None)
+      left number small is gone None none = let page = first.large_gone number small is none in (page.0, page.1, second.pages_go (512 * number + page.0) page.2)
+      left number small is gone (Some large) some = second.large_gone number small (subst IsSome (sym some) (let h : IsSome (Some large) = cc in h)) gone
+
+-- whole runs after anything
+pub shortened_on : (x y z : Paged) (slot : Option ℕ) → AreShortened x y slot → AreShortened y z None → AreShortened x z slot
+shortened_on x y z None first second = shortened_then x y z None first second
+shortened_on x y z (Some one) first second = shortened_before x y z one first second
+
+-- ---- a run is given back
+
+-- the slot that a range cuts which leaves from a page on
+abbrev pub slot_cut : Paged → ℕ → Option ℕ
+slot_cut p page = if is_cut p.words p.root page then Some (page / 512 * 2 ^ 21) else None
+
+module _ (old new : Paged) (at size left : ℕ) (kept : IsKept old) (is : IsReleasedFor old new at size left) (less : left < size) where
+  laid : AreLaid 0 old.regions (2 ^ 64)
+  laid = kept.laid
+
   gone : AreGone old new (at + left) ((size - left) / 4096)
   gone = is.gone less
 
@@ -182,49 +283,291 @@ module _ (old new : Paged) (at size left : ℕ) (laid : AreLaid 0 old.regions (2
       (sym (granted_same (heap_regions old.regions) (at + left + 4096 * k)) ∙ is.run.granted (at + left + 4096 * k) (omega arith) (omega arith)) user
 
   page_same : (address : ℕ) → IsTrue (is_canonical address) → is_of_user old.regions address ≡ true → walk_of new.words old.root (address / 4096) ≡ walk_of old.words old.root (address / 4096)
-  page_same address canonical user = gone.elsewhere (address / 4096) (first_canonical address canonical) (λ k among same. other_page address k user among same)
+  page_same address canonical user = gone.gone.others (address / 4096) (first_canonical address canonical) (λ k among same. other_page address k user among same)
 
-  run_shortened : AreShortened old new
+  abbrev first : ℕ
+  first = (at + left) / 4096
+
+  abbrev pages : ℕ
+  pages = (size - left) / 4096
+
+  range : IsCanonicalRange first pages
+  range = (cut_range old at size left kept is.run less is.in_pages).1
+
+  first_page : IsTrue (is_canonical (first * 4096))
+  first_page = range.canonical
+
+  to_root : (words : List ℕ) (level number : ℕ) → reach words new.root level number ≡ reach words old.root level number
+  to_root words level number = ap (λ r. reach words r level number) gone.gone.root
+
+  to_large : (words : List ℕ) (number : ℕ) → large_of words new.root number ≡ large_of words old.root number
+  to_large words number = ap (λ r. large_of words r number) gone.gone.root
+
+  un : AreUnmapped old.words new.words old.free new.free old.root first pages
+  un = gone.gone.gone
+
+  -- the four indices of a page of a slot
+  index_of : (k : ℕ) → k < pages → 512 * prefix_of (first + k) 3 + (first + k) % 512 ≡ prefix_of (first + k) 4
+  index_of k among = omega arith
+
+  in_range : (k : ℕ) → k < pages → reach new.words old.root 4 (prefix_of (first + k) 4) ≡ None
+  in_range k less = un.gone (prefix_of (first + k) 4) (let a = page_in first pages k range less in among_is first pages (prefix_of (first + k) 4) (omega arith) (omega arith))
+
+  no_larger : (number : ℕ) → number < 2 ^ 27 → IsSome (large_of new.words new.root number) → IsSome (large_of old.words old.root number)
+  no_larger number small some = elim (slot_in first pages number range) [
+    | inl inside ↦ absurd (some_not_none (large_of new.words new.root number) some
+        (to_large new.words number ∙ (ap (large_of new.words old.root) inside.1.1 ∙ un.large_gone inside.0 inside.1.0)))
+    | inr beside ↦ subst IsSome (to_large new.words number ∙ un.larges_stay number beside) some
+  ]
+
+  page_gone : (number : ℕ) → number < 2 ^ 27 → IsSome (large_of old.words old.root number) → large_of new.words new.root number ≡ None →
+      (k : ℕ) × (k < 512) × (reach new.words new.root 4 (512 * number + k) ≡ None)
+  page_gone number small some none = elim (slot_in first pages number range) [
+    | inl inside ↦ (
+      (first + inside.0) % 512,
+      omega arith,
+      to_root new.words 4 (512 * number + (first + inside.0) % 512)
+          ∙ (ap (λ n. reach new.words old.root 4 (512 * n + (first + inside.0) % 512)) inside.1.1
+          ∙ (ap (reach new.words old.root 4) (index_of inside.0 inside.1.0) ∙ in_range inside.0 inside.1.0)),
+    )
+    | inr beside ↦ absurd (some_not_none (large_of old.words old.root number) some (sym (un.larges_stay number beside) ∙ (sym (to_large new.words number) ∙ none)))
+  ]
+
+  none_comes : (number : ℕ) → reach old.words old.root 4 number ≡ None → reach new.words new.root 4 number ≡ None
+  none_comes number none = to_root new.words 4 number ∙ go (among first pages number) refl
+    where
+      go : (b : Bool) → among first pages number ≡ b → reach new.words old.root 4 number ≡ None
+      go true inside = un.gone number inside
+      go false beside = un.pages_stay number beside ∙ none
+
+  -- the slot in which the range begins
+  abbrev begun : ℕ
+  begun = first / 512 * 2 ^ 21
+
+  begun_number : slot_number begun ≡ prefix_of first 3
+  begun_number = page_number first
+
+  walks_by : (cut : Bool) → is_cut old.words old.root first ≡ cut → (level number : ℕ) → level < 4 →
+      ((one : ℕ) → (if cut then Some begun else None) ≡ Some one → level ≡ 3 → number ≡ slot_number one → ⊥) → reach new.words new.root level number ≡ reach old.words old.root level number
+  walks_by true cut level number low other = to_root new.words level number ∙ un.tables_stay level number low (λ three at. absurd (other begun refl three (at ∙ sym begun_number)))
+  walks_by false none level number low other = to_root new.words level number ∙ un.tables_stay level number low (λ three at. none)
+
+  table_by : (cut : Bool) → is_cut old.words old.root first ≡ cut → (one : ℕ) → (if cut then Some begun else None) ≡ Some one → IsSome (reach new.words new.root 3 (slot_number one))
+  table_by false none one is = absurd (cc)
+  table_by true cut one is = elim (cut_or_not old.words old.root first) [
+    | inl page ↦ (
+        let one_is : begun ≡ one = cc in
+        let there = un.table page.0 page.1 in
+        let there' : reach new.words new.root 3 (slot_number one) ≡ Some (top (page.0.frame + first % 512)) =
+        ap (λ slot. reach new.words new.root 3 (slot_number slot)) (sym one_is) ∙ (ap (reach new.words new.root 3) begun_number ∙ (to_root new.words 3 (prefix_of first 3) ∙ there)) in
+        rw there' refl)
+    | inr none ↦ absurd (cc)
+  ]
+
+  large_by : (cut : Bool) → is_cut old.words old.root first ≡ cut → (one : ℕ) → (if cut then Some begun else None) ≡ Some one → IsSlot one × IsSome (large_of old.words old.root (slot_number one))
+  large_by false none one is = absurd (cc)
+  large_by true cut one is = elim (cut_or_not old.words old.root first) [
+    | inl page ↦ (
+        let one_is : begun ≡ one = cc in
+        let there : large_of old.words old.root (slot_number one) ≡ Some page.0 = ap (λ slot. large_of old.words old.root (slot_number slot)) (sym one_is) ∙ (ap (large_of old.words old.root) begun_number ∙ page.1.there) in
+        (subst IsSlot one_is (page_slot first first_page), rw there refl))
+    | inr none ↦ absurd (cc)
+  ]
+
+  tables_by : (cut : Bool) → is_cut old.words old.root first ≡ cut → new.tables ≡ old.tables + length (cut_slots (if cut then Some begun else None))
+  tables_by true cut = gone.gone.tables ∙ ap (λ n. old.tables + n) (cut_one old.words old.root first cut)
+  tables_by false none = gone.gone.tables ∙ ap (λ n. old.tables + n) (cut_none old.words old.root first none)
+
+  run_shortened : AreShortened old new (slot_cut old first)
   run_shortened =
       let g = gone in
       record {
-        base = g.base;
-        pages_is = g.pages_is;
-        root = g.root;
-        tables = g.tables;
-        joins = g.joins;
+        base = g.gone.base;
+        pages_is = g.gone.pages_is;
+        root = g.gone.root;
+        tables = tables_by (is_cut old.words old.root first) refl;
+        joins = g.gone.joins;
+        slots = g.gone.slots;
         laid = subst (λ rs. AreLaid 0 rs (2 ^ 64)) (sym g.regions) (laid_cut (at + left) ((size - left) / 4096) 0 (2 ^ 64) old.regions low_page laid);
         cut = subst (AreCut old.regions) (sym g.regions) (cut_are (at + left) ((size - left) / 4096) low_page 0 (2 ^ 64) old.regions laid);
         users = ap user_regions g.regions ∙ users_stay (at + left) ((size - left) / 4096) old.regions
             (users_apart (at + left) ((size - left) / 4096) 0 (2 ^ 64) old.regions laid (let h = high_is in omega arith)
             (λ address from before. none_of_user 0 (2 ^ 64) address old.regions laid
             (run_own 0 (2 ^ 64) at size left old.regions laid is.run less is.in_pages address (omega (arith, from)) (let h = high_is in omega (arith, before, h)))));
-        size = g.freed.removed.size;
-        walks = λ level number low. ap (λ r. reach new.words r level number) g.root ∙ g.freed.removed.stayed level number (omega (arith, low)) (λ four. absurd (omega (arith, low, four)));
-        user_pages = λ address canonical user. ap (λ r. walk_of new.words r (address / 4096)) g.root ∙ page_same address canonical user;
-        user_bytes = λ address canonical user some. ap (λ r. reached new.words r address) g.root ∙ g.bytes address (subst IsSome (sym (page_same address canonical user)) some);
+        size = un.size;
+        walks = walks_by (is_cut old.words old.root first) refl;
+        table = table_by (is_cut old.words old.root first) refl;
+        was_large = large_by (is_cut old.words old.root first) refl;
+        larges = no_larger;
+        large_gone = page_gone;
+        pages_go = none_comes;
+        user_pages = λ address canonical user. ap (λ r. walk_of new.words r (address / 4096)) g.gone.root ∙ page_same address canonical user;
+        user_bytes = λ address canonical user some. ap (λ r. reached new.words r address) g.gone.root ∙ g.gone.bytes address (subst IsSome (sym (page_same address canonical user)) some);
       }
 
-pub released_shortened : (old new : Paged) (at size left : ℕ) → AreLaid 0 old.regions (2 ^ 64) → IsReleasedFor old new at size left → AreShortened old new
-released_shortened old new at size left laid is = elim (cases_lt left size) [
-  | inr more ↦ subst (λ (p : Paged). AreShortened old p) (sym (is.none (let w = is.within in omega arith))) (shortened_still old old laid (still_none old))
-  | inl less ↦ run_shortened old new at size left laid is less
+-- ---- whole runs cut no slot
+
+own_from : (from to address : ℕ) (regions : List Region) → AreLaid from regions to → list_any (is_own address) regions ≡ true → from ≤ address
+own_from from to address [] laid is = absurd (let no : false ≡ true = is in cc)
+own_from from to address (region ∷ rest) laid is = elim (or_cases (is_own address region) (list_any (is_own address) rest) is) [
+  | inl here ↦ (let low = laid.0 in grind (arith, nat_tests))
+  | inr later ↦ (let low = laid.0 in let behind = own_from (end_of region) to address rest laid.3 later in omega (arith, low, behind))
 ]
 
--- only runs were given back
-abbrev IsRelease : Event → Type 0
-IsRelease (Granted asked grant) = ⊥
-IsRelease (Released at size left) = ⊤
+whole_from : (from to slot : ℕ) (regions : List Region) → AreLaid from regions to → is_whole_in regions slot ≡ true → from ≤ slot
+whole_from from to slot [] laid is = absurd (let no : false ≡ true = is in cc)
+whole_from from to slot (region ∷ rest) laid is = elim (or_cases (has_whole slot region) (is_whole_in rest slot) is) [
+  | inl here ↦ (let low = laid.0 in let bounds = whole_bounds slot region here in omega (arith, low, bounds.0))
+  | inr later ↦ (let low = laid.0 in let behind = whole_from (end_of region) to slot rest laid.3 later in omega (arith, low, behind))
+]
+
+-- No region has all of a slot in which a run begins behind the first byte: the run is made of whole regions.
+none_whole : (low high slot from to : ℕ) (regions : List Region) → AreLaid from regions to → low < high → slot < low → low < slot + 2 ^ 21 → AreBeside low high regions →
+    list_any (is_own low) regions ≡ true → is_whole_in regions slot ≡ true → ⊥
+none_whole low high slot from to [] laid some after before beside own whole = let no : false ≡ true = own in cc
+none_whole low high slot from to (region ∷ rest) laid some after before beside own whole =
+    go region.heap refl (or_cases (is_own low region) (list_any (is_own low) rest) own) (or_cases (has_whole slot region) (is_whole_in rest slot) whole)
+    (λ all. none_whole low high slot (end_of region) to rest laid.3 some after before all)
+  where
+    go : (heap : Bool) → region.heap ≡ heap → (is_own low region ≡ true) ⊎ (list_any (is_own low) rest ≡ true) → (has_whole slot region ≡ true) ⊎ (is_whole_in rest slot ≡ true) →
+        (AreBeside low high rest → list_any (is_own low) rest ≡ true → is_whole_in rest slot ≡ true → ⊥) → ⊥
+    -- it has the run's first byte, so it is the region that begins the run, or one of the user, and then no other has the byte
+    go true heap at (inl all) later =
+        let each = subst (λ (b : Bool). AllByRecursion (λ grant. IsApart low high grant ⊎ IsWithin low high grant) (map grant_of (cond b (region ∷ heap_regions rest) (heap_regions rest)))) heap beside in
+        let bounds = whole_bounds slot region all in
+        elim each.0 [
+          | inl (inl below) ↦ omega (arith, bounds.1, below)
+          | inl (inr above) ↦ omega (arith, bounds.0, above)
+          | inr within ↦ (let from' = within.0 in omega (arith, bounds.0, from'))
+        ]
+    go false user (inl here) all later = grind (arith, nat_tests)
+    go false user (inr at) (inl all) later = (let bounds = whole_bounds slot region all in let behind = own_from (end_of region) to low rest laid.3 at in omega (arith, bounds.1, behind))
+    go true heap (inl here) (inr all) later = (let behind = whole_from (end_of region) to slot rest laid.3 all in grind (arith, nat_tests))
+    go true heap (inr at) (inr all) later =
+        later (subst (λ (b : Bool). AllByRecursion (λ grant. IsApart low high grant ⊎ IsWithin low high grant) (map grant_of (cond b (region ∷ heap_regions rest) (heap_regions rest)))) heap beside).1 at all
+    go false user (inr at) (inr all) later =
+        later (subst (λ (b : Bool). AllByRecursion (λ grant. IsApart low high grant ⊎ IsWithin low high grant) (map grant_of (cond b (region ∷ heap_regions rest) (heap_regions rest)))) user beside) at all
+
+-- a whole run cuts no slot
+whole_run : (old : Paged) (at size : ℕ) → IsKept old → IsRun (grants_of old) at (at + size) → 0 < size → IsTrue (is_canonical (at / 4096 * 4096)) → at % 4096 ≡ 0 → slot_cut old (at / 4096) ≡ None
+whole_run old at size kept run some canonical page = elim (cut_or_not old.words old.root (at / 4096)) [
+  | inr none ↦ rw none refl
+  | inl cut ↦ absurd (
+      let slot = at / 4096 / 512 * 2 ^ 21 in
+      let there : IsSome (large_of old.words old.root (slot_number (at / 4096 / 512 * 2 ^ 21))) =
+      (let at_slot : large_of old.words old.root (slot_number (at / 4096 / 512 * 2 ^ 21)) ≡ Some cut.0 = ap (large_of old.words old.root) (page_number (at / 4096)) ∙ cut.1.there in rw at_slot refl) in
+      let whole = kept.mapped.larges (at / 4096 / 512 * 2 ^ 21) (page_slot (at / 4096) canonical) there in
+      let behind = cut.1.behind in
+      none_whole at (at + size) (at / 4096 / 512 * 2 ^ 21) 0 (2 ^ 64) old.regions kept.laid run.some (omega (arith, behind, page)) (omega (arith, page)) run.whole
+      (sym (own_granted at old.regions) ∙ run.granted at (omega arith) (omega (arith, some))) whole)
+]
+
+-- ---- events
+
+-- the slot that is cut where what is behind the first `left` bytes of a run goes
+abbrev pub slot_of_event : Paged → ℕ → ℕ → ℕ → Option ℕ
+slot_of_event p at size left = if nat_lt left size then slot_cut p ((at + left) / 4096) else None
+
+pub released_shortened : (old new : Paged) (at size left : ℕ) → IsKept old → IsReleasedFor old new at size left → AreShortened old new (slot_of_event old at size left)
+released_shortened old new at size left kept is = elim (cases_lt left size) [
+  | inr more ↦ (let test : nat_lt left size ≡ false = not_less left size more in
+      rw test (subst (λ (p : Paged). AreShortened old p None) (sym (is.none (let w = is.within in omega arith))) (shortened_still old old kept.laid (still_none old))))
+  | inl less ↦ (let test : nat_lt left size ≡ true = is_less left size less in rw test (run_shortened old new at size left kept is less))
+]
+
+-- a whole run, which cuts no slot
+pub whole_shortened : (old new : Paged) (at size : ℕ) → IsKept old → IsReleasedFor old new at size 0 → AreShortened old new None
+whole_shortened old new at size kept is = subst (AreShortened old new) (none (cases_lt 0 size)) (released_shortened old new at size 0 kept is)
+  where
+    none : (0 < size) ⊎ (size ≤ 0) → slot_of_event old at size 0 ≡ None
+    none (inr empty) = let test : nat_lt 0 size ≡ false = not_less 0 size empty in rw test refl
+    none (inl some) =
+        let test : nat_lt 0 size ≡ true = is_less 0 size some in
+        let same : at + 0 ≡ at = omega arith in
+        let begin = begins 0 (2 ^ 64) at size 0 old.regions kept.laid is.run some (omega arith) in
+        let range = (cut_range old at size 0 kept is.run some (omega arith)).1 in
+        let canonical : IsTrue (is_canonical (at / 4096 * 4096)) = subst (λ (a : ℕ). IsTrue (is_canonical (a / 4096 * 4096))) same range.canonical in
+        rw test (ap (λ (a : ℕ). slot_cut old (a / 4096)) same ∙ whole_run old at size kept is.run some canonical begin)
+
+-- only runs were given back, whole but perhaps the first
+abbrev IsWholeRelease : Event → Type 0
+IsWholeRelease (Granted asked grant) = ⊥
+IsWholeRelease (Released at size left) = left ≡ 0
+
+abbrev pub AreWholeReleases : List Event → Type 0
+AreWholeReleases events = AllByRecursion IsWholeRelease events
 
 abbrev pub AreReleases : List Event → Type 0
-AreReleases events = AllByRecursion IsRelease events
+AreReleases [] = ⊤
+AreReleases (Granted asked grant ∷ events) = ⊥
+AreReleases (Released at size left ∷ events) = AreWholeReleases events
 
-pub follows_shortened : (old new : Paged) (events : List Event) → AreLaid 0 old.regions (2 ^ 64) → AreReleases events → Follows old events new → AreShortened old new
-follows_shortened old new [] laid all still = shortened_still old new laid still
-follows_shortened old new (Granted asked grant ∷ events) laid all follows = absurd all.0
-follows_shortened old new (Released at size left ∷ events) laid all follows =
+-- what a system keeps, it keeps where a run was given back
+pub kept_released : (old new : Paged) (at size left : ℕ) → IsKept old → IsReleasedFor old new at size left → IsKept new
+kept_released old new at size left kept is = elim (cases_lt left size) [
+  | inr more ↦ subst IsKept (sym (is.none (let w = is.within in omega arith))) kept
+  | inl less ↦ (
+      let begin = begins 0 (2 ^ 64) at size left old.regions kept.laid is.run less is.in_pages in
+      let whole = is.in_pages in
+      kept_cut old new (at + left) ((size - left) / 4096) (omega arith) (is.gone less) kept is.mapped)
+]
+
+pub follows_whole : (old new : Paged) (events : List Event) → IsKept old → AreWholeReleases events → Follows old events new → AreShortened old new None
+follows_whole old new [] kept all still = shortened_still old new kept.laid still
+follows_whole old new (Granted asked grant ∷ events) kept all follows = absurd all.0
+follows_whole old new (Released at size left ∷ events) kept all follows =
     let before : Paged = follows.0 in
     let later : Paged = follows.1 in
-    let one = shortened_still old before laid follows.2 in
-    let two = released_shortened before later at size left one.laid follows.3 in
-    shortened_on old before new one (shortened_on before later new two (follows_shortened later new events two.laid all.1 follows.4))
+    let kept_before : IsKept before = kept_still old before kept follows.2 in
+    let one = shortened_still old before kept.laid follows.2 in
+    let two = whole_shortened before later at size kept_before (subst (IsReleasedFor before later at size) all.0 follows.3) in
+    shortened_on old before new None one (shortened_on before later new None two (follows_whole later new events (kept_released before later at size left kept_before follows.3) all.1 follows.4))
+
+-- The slot that was cut, if one was: it begins before the first event's end of what stays, and ends behind it.
+pub record IsShortenedBy (old new : Paged) (events : List Event) : Type 0 where
+  pub slot : Option ℕ
+  pub short : AreShortened old new slot
+  pub cut : (one : ℕ) → slot ≡ Some one → (at : ℕ) × (size : ℕ) × (left : ℕ) × (more : List Event) × (events ≡ Released at size left ∷ more) × (0 < left) × (left < size) × (one < at + left) × (at + left < one + 2 ^ 21)
+
+pub follows_shortened : (old new : Paged) (events : List Event) → IsKept old → AreReleases events → Follows old events new → IsShortenedBy old new events
+follows_shortened old new [] kept all still = record { slot = None; short = shortened_still old new kept.laid still; cut = λ one is. absurd (cc) }
+follows_shortened old new (Granted asked grant ∷ events) kept all follows = absurd all
+follows_shortened old new (Released at size left ∷ events) kept all follows =
+    let before : Paged = follows.0 in
+    let later : Paged = follows.1 in
+    let kept_before : IsKept before = kept_still old before kept follows.2 in
+    let one = shortened_still old before kept.laid follows.2 in
+    let rest = follows_whole later new events (kept_released before later at size left kept_before follows.3) all follows.4 in
+    elim (cases_lt 0 left) [
+      | inl some ↦ record {
+        slot = slot_of_event before at size left;
+        short = shortened_then old before new (slot_of_event before at size left) one (shortened_on before later new (slot_of_event before at size left) (released_shortened before later at size left kept_before follows.3) rest);
+        cut = λ slot is. part_of before later at size left events kept_before follows.3 some slot is;
+      }
+      | inr none ↦ record {
+        slot = None;
+        short = shortened_on old before new None one
+            (shortened_on before later new None (whole_shortened before later at size kept_before (subst (IsReleasedFor before later at size) (let e : left ≡ 0 = omega arith in e) follows.3)) rest);
+        cut = λ slot is. absurd (cc);
+      }
+    ]
+  where
+    part_of : (before later : Paged) (at size left : ℕ) (more : List Event) → IsKept before → IsReleasedFor before later at size left → 0 < left → (one : ℕ) → slot_of_event before at size left ≡ Some one →
+        (at' : ℕ) × (size' : ℕ) × (left' : ℕ) × (more' : List Event) × (Released at size left ∷ more ≡ Released at' size' left' ∷ more') × (0 < left') × (left' < size') × (one < at' + left') × (at' + left' < one + 2 ^ 21)
+    part_of before later at size left more kept is some one of = elim (cases_lt left size) [
+      | inr more_left ↦ absurd (let test : nat_lt left size ≡ false = not_less left size more_left in let none : None ≡ Some one = rw test at of in cc)
+      | inl less ↦ (
+          let test : nat_lt left size ≡ true = is_less left size less in
+          let begin = begins 0 (2 ^ 64) at size left before.regions kept.laid is.run less is.in_pages in
+          let pages = is.in_pages in
+          let of_page : slot_cut before ((at + left) / 4096) ≡ Some one = rw test at of in
+          elim (cut_or_not before.words before.root ((at + left) / 4096)) [
+            | inr none ↦ absurd (let no : None ≡ Some one = rw none at of_page in cc)
+            | inl page ↦ (
+                let behind = page.1.behind in
+                let is_cut_there = cut_page_is before.words before.root ((at + left) / 4096) page.0 page.1 in
+                let same : Some ((at + left) / 4096 / 512 * 2 ^ 21) ≡ Some one = rw is_cut_there at of_page in
+                let one_is : (at + left) / 4096 / 512 * 2 ^ 21 ≡ one = cc in
+                (at, size, left, more, refl, some, less, omega (arith, behind, one_is, begin, pages), omega (arith, one_is, begin, pages)))
+          ])
+    ]

@@ -1,22 +1,26 @@
 -- Runs of the heap were given back: the machine stands for the state with the regions that are left.
-use Rattle.std.proofs.Common.{◌≡◌, ℕ, ◌+◌, ◌*◌, ◌/◌, ◌^◌, ◌<◌, ◌≤◌, inl, not, nat_lt, List, [], ◌∷◌, ◌++◌, map, find, fold, refl, sym, ap, ◌∙◌, subst, arith, mul_comm, Bool, true, false, cond, IsTrue, Option, Some, None, option_map}
+use Rattle.std.proofs.Common.{◌≡◌, ℕ, ◌+◌, ◌*◌, ◌/◌, ◌^◌, ◌<◌, ◌≤◌, inl, not, nat_lt, List, [], ◌∷◌, ◌++◌, length, map, find, fold, refl, sym, ap, ◌∙◌, subst, arith, mul_comm, Bool, true, false, cond, IsTrue, Option, Some, None, option_map}
 use Rattle.std.specs.List.{list_any, AllByRecursion, filter}
 use Rattle.std.proofs.lemmas.Bool.Decides.{nat_tests}
 use Rattle.paging_core.specs.Address.{is_canonical}
 use Rattle.paging_core.specs.Pool.{free_count}
+use Rattle.paging_core.specs.Prefix.{Prefix}
 use Rattle.paging_core.specs.Walk.{reached}
 use Rattle.paging_core.specs.declared.page_table.Rights.{Rights}
 use Rattle.heap_model.specs.declared.live.Live.{Live}
 use Rattle.heap_model.specs.declared.region.Region.{Region}
 use Rattle.heap_model.specs.State.{State, Block, end_of, is_within, total_pages, region_at}
-use Rattle.heap_model.specs.Place.{with_region, all_regions}
+use Rattle.heap_model.specs.Tables.{used_frames}
+use Rattle.heap_model.specs.Slots.{slot_prefix, is_whole_in, is_part_in}
+use Rattle.heap_model.specs.Place.{meets_any, with_region, all_regions}
+use Rattle.heap_model.specs.Answer.{settled}
 use Rattle.heap_model.specs.Cut.{AreCut}
 use Rattle.heap_model.specs.Memory.{HoldsBytes}
 use Rattle.heap_model.specs.Run.{IsGood, AreInOrder}
 use Rattle.heap_model.specs.Machine.{Paged, Seen, Stands, outline}
 use Rattle.heap_model.proofs.Booleans.{or_neither}
 use Rattle.heap_model.proofs.Cut.{cut_heap}
-use Rattle.heap_model.proofs.Shortened.{pages_cut}
+use Rattle.heap_model.proofs.Settled.{AreSettled, cut_slots, settled_larges, settled_tables, settled_count}
 use Rattle.heap_model.proofs.Regions.{not_within, within_bounds, find_behind, find_same}
 use Rattle.heap_model.proofs.Mapped.{reached_walk}
 use Rattle.heap_model.proofs.Moved.{user_of_machine}
@@ -26,6 +30,7 @@ use Rattle.mapped_regions.specs.Mapped.{IsMapped}
 use Rattle.kernel_heap.specs.Words.{heap_regions}
 use Rattle.kernel_heap.proofs.HeapRegions.{all_more, heap_first, user_first, heap_of_all, user_any, within_canonical}
 use Rattle.kernel_heap.proofs.ReleasedRegions.{user_regions, AreShortened}
+use Rattle.kernel_heap.proofs.ReleasedSlots.{are_settled}
 use Rattle.kernel_heap.proofs.UserRegions.{all_of_heap, all_of_users, sorted}
 
 -- all regions, where some of the user join some of the heap
@@ -171,9 +176,10 @@ pages_of_parts (first ∷ rest) = go first.heap refl (pages_of_parts rest)
 
 -- the state with other regions of the heap, and other blocks
 abbrev pub left_state : State → List Region → List (Option Block) → State
-left_state s heap blocks = record s { heap = heap; blocks = blocks }
+left_state s heap blocks = settled (record s { heap = heap; blocks = blocks })
 
-module _ (m : Seen) (new : Paged) (s : State) (good : IsGood s) (stands : Stands m s) (mapped_before : IsMapped m.paged) (mapped : IsMapped new) (short : AreShortened m.paged new) where
+module _ (m : Seen) (new : Paged) (s : State) (slot : Option ℕ) (good : IsGood s) (stands : Stands m s) (mapped_before : IsMapped m.paged) (mapped : IsMapped new) (short : AreShortened m.paged new slot)
+    (part_left : (one : ℕ) → slot ≡ Some one → IsTrue (meets_any one 512 new.regions)) where
   pub heap_before : heap_regions m.paged.regions ≡ s.heap
   heap_before = ap heap_regions stands.regions ∙ heap_of_all s good
 
@@ -183,22 +189,54 @@ module _ (m : Seen) (new : Paged) (s : State) (good : IsGood s) (stands : Stands
   pub regions_cut : AreCut s.heap (heap_regions new.regions)
   regions_cut = subst (λ (regions : List Region). AreCut regions (heap_regions new.regions)) heap_before (cut_heap m.paged.regions new.regions short.cut)
 
-  -- as many frames are free as the pages that went
-  pub frames_left : free_count new.free + total_pages (heap_regions new.regions) ≡ free_count m.paged.free + total_pages s.heap
+  -- as many frames more are free or tables as pages went
+  pub frames_left : free_count new.free + new.tables + total_pages (heap_regions new.regions) ≡ free_count m.paged.free + m.paged.tables + total_pages s.heap
   frames_left =
       let now = mapped.count in
       let before = mapped_before.count in
-      let tables = short.tables in
       let size = ap (λ (n : ℕ). n / 512) short.size in
       let parts = pages_of_parts new.regions in
       let old_parts = pages_of_parts m.paged.regions in
       let users = ap total_pages short.users in
       let heap = ap total_pages heap_before in
-      omega (arith, now, before, tables, size, parts, old_parts, users, heap)
+      omega (arith, now, before, size, parts, old_parts, users, heap)
+
+  -- the regions of the state are those that are left
+  pub regions_now : (blocks : List (Option Block)) → all_regions (record s { heap = heap_regions new.regions; blocks = blocks }) ≡ new.regions
+  regions_now blocks = (λ i. joined (heap_regions new.regions) (sym users_now i)) ∙ parts_joined 0 (2 ^ 64) new.regions short.laid
+
+  settles : AreSettled m.paged.words new.words m.paged.root new.root new.regions slot
+  settles = are_settled m.paged new slot mapped short part_left
+
+  abbrev pub tables_left : List Prefix
+  tables_left = s.tables ++ map slot_prefix (filter (is_part_in new.regions) s.large)
+
+  abbrev pub larges_left : List ℕ
+  larges_left = filter (is_whole_in new.regions) s.large
+
+  pub left_is : (blocks : List (Option Block)) → left_state s (heap_regions new.regions) blocks ≡ record s { heap = heap_regions new.regions; blocks = blocks; tables = tables_left; large = larges_left }
+  left_is blocks = ap (λ (regions : List Region). record s { heap = heap_regions new.regions; blocks = blocks; tables = s.tables ++ map slot_prefix (filter (is_part_in regions) s.large); large = filter (is_whole_in regions) s.large }) (regions_now blocks)
+
+  tables_count : length tables_left ≡ length s.tables + length (cut_slots slot)
+  tables_count = settled_count m.paged.words new.words m.paged.root new.root new.regions slot settles s.large s.tables good.are_slots good.no_slot_twice stands.larges_met stands.tables_met
+
+  table_count : new.tables ≡ 1 + length tables_left
+  table_count = (let a = short.tables in let b = stands.table_count in let c = tables_count in omega (arith, a, b, c))
+
+  -- the frames suffice
+  pub enough_left : (blocks : List (Option Block)) → used_frames (left_state s (heap_regions new.regions) blocks) ≤ s.frames
+  enough_left blocks = subst (λ (left : State). used_frames left ≤ s.frames) (sym (left_is blocks)) (
+      let count = mapped.count in
+      let tables = table_count in
+      let parts = pages_of_parts new.regions in
+      let users = ap total_pages users_now in
+      let size = ap (λ (n : ℕ). n / 512) short.size in
+      let frames = stands.frames in
+      omega (arith, count, tables, parts, users, size, frames))
 
   module _ (lives : List (Option Live)) (blocks : List (Option Block)) (same : lives ≡ map (option_map outline) blocks) (holds : HoldsBytes (reached new.words new.root) blocks) where
     abbrev s' : State
-    s' = left_state s (heap_regions new.regions) blocks
+    s' = record s { heap = heap_regions new.regions; blocks = blocks; tables = tables_left; large = larges_left }
 
     -- the byte of a user stays
     zero_left : (address : ℕ) → list_any (is_within address) s.users ≡ true → reached new.words new.root address ≡ Some 0
@@ -208,17 +246,25 @@ module _ (m : Seen) (new : Paged) (s : State) (good : IsGood s) (stands : Stands
         let zero = stands.zeros address user in
         short.user_bytes address canonical of_user (reached_walk m.paged.words m.paged.root address 0 zero) ∙ zero
 
-    pub stands_left : Stands (record m { paged = new; blocks = lives }) s'
-    stands_left = record {
+    stands_there : Stands (record m { paged = new; blocks = lives }) s'
+    stands_there = record {
       root = short.root ∙ stands.root;
       tree = mapped.tree;
-      free_frames = (let was = stands.free_frames in let left = frames_left in let few = regions_fewer in let enough = good.frames in omega (arith, was, left, few, enough));
-      table_count = short.tables ∙ stands.table_count;
+      free_frames = (
+          let count = mapped.count in
+          let tables = table_count in
+          let parts = pages_of_parts new.regions in
+          let users = ap total_pages users_now in
+          let size = ap (λ (n : ℕ). n / 512) short.size in
+          let frames = stands.frames in
+          omega (arith, count, tables, parts, users, size, frames));
+      table_count = table_count;
       pages_found = λ page canonical.
           mapped.found page (subst (λ (a : ℕ). IsTrue (is_canonical a)) (mul_comm 4096 page) canonical)
           ∙ (kinds (4096 * page) ∙ sym (ap (option_map (λ (region : Region). region.rights)) (in_state (4096 * page))));
-      tables_met = λ level number some less. rw (short.walks level number less) (stands.tables_met level number some less);
-      regions = sym ((λ i. joined (heap_regions new.regions) (sym users_now i)) ∙ parts_joined 0 (2 ^ 64) new.regions short.laid);
+      tables_met = settled_tables m.paged.words new.words m.paged.root new.root new.regions slot settles s.large s.tables good.are_slots good.no_slot_twice stands.larges_met stands.tables_met;
+      larges_met = settled_larges m.paged.words new.words m.paged.root new.root new.regions slot settles s.large s.tables good.are_slots good.no_slot_twice stands.larges_met stands.tables_met;
+      regions = sym (regions_now blocks);
       blocks = same;
       base = short.base ∙ stands.base;
       pages = short.pages_is ∙ stands.pages;
@@ -228,9 +274,6 @@ module _ (m : Seen) (new : Paged) (s : State) (good : IsGood s) (stands : Stands
       zeros = zero_left;
     }
       where
-        regions_fewer : total_pages (heap_regions new.regions) ≤ total_pages s.heap
-        regions_fewer = pages_cut s.heap (heap_regions new.regions) regions_cut
-
         -- what is found is one region, of the heap or of the user
         in_state : (at : ℕ) → region_at s' at ≡ find (is_within at) new.regions
         in_state at = (λ i. find (is_within at) (heap_regions new.regions ++ sym users_now i)) ∙ found_in_parts at 0 (2 ^ 64) new.regions short.laid
@@ -241,3 +284,6 @@ module _ (m : Seen) (new : Paged) (s : State) (good : IsGood s) (stands : Stands
             go : (o : Option Region) → option_map (λ (kind : Bool × Rights). kind.1) (option_map (λ (region : Region). (region.heap, region.rights)) o) ≡ option_map (λ (region : Region). region.rights) o
             go None = refl
             go (Some region) = refl
+
+    pub stands_left : Stands (record m { paged = new; blocks = lives }) (left_state s (heap_regions new.regions) blocks)
+    stands_left = subst (Stands (record m { paged = new; blocks = lives })) (sym (left_is blocks)) stands_there

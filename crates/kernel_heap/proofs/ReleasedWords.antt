@@ -1,5 +1,5 @@
 -- The end of a run left a paged system: what a heap over it sees then.
-use Rattle.std.proofs.Common.{◌≡◌, ℕ, ◌+◌, ◌-◌, ◌*◌, ◌/◌, ◌%◌, ◌^◌, ◌<◌, ◌≤◌, ◌⊎◌, inl, inr, Bool, true, false, ◌&&◌, ◌||◌, List, [], ◌∷◌, refl, sym, ap, ◌∙◌, subst, arith, Option, Some, None, IsTrue}
+use Rattle.std.proofs.Common.{◌≡◌, ℕ, ◌+◌, ◌-◌, ◌*◌, ◌/◌, ◌%◌, ◌^◌, ◌<◌, ◌≤◌, ◌⊎◌, inl, inr, Bool, true, false, not, ◌&&◌, ◌||◌, List, [], ◌∷◌, refl, sym, ap, ◌∙◌, subst, arith, Option, Some, None, IsTrue}
 use Rattle.std.specs.Prelude.{nat_eq, nat_le, nat_lt, IsSome}
 use Rattle.std.specs.List.{AllByRecursion}
 use Rattle.std.proofs.lemmas.Bool.Decides.{nat_tests}
@@ -11,7 +11,8 @@ use Rattle.paging_core.specs.Address.{is_canonical}
 use Rattle.paging_core.specs.Memory.{word_at}
 use Rattle.paging_core.specs.Walk.{Place, walk_of, top}
 use Rattle.paging_core.specs.Tree.{IsTree}
-use Rattle.paging_core.specs.PageChanges.{ArePagesFreed, among}
+use Rattle.page_ranges.specs.RangeUnmapping.{AreUnmapped}
+use Rattle.page_ranges.proofs.Unmapped.{unmapped_words}
 use Rattle.heap_model.specs.Machine.{Paged}
 use Rattle.region_tree.specs.Regions.{AreLaid, AreHeld, IsBoundary}
 use Rattle.region_tree.proofs.Laying.{laid_cut}
@@ -20,6 +21,7 @@ use Rattle.mapped_regions.proofs.Looked.{first_canonical}
 use Rattle.kernel_heap.specs.Config.{IsGoodWindow}
 use Rattle.kernel_heap.specs.Layout.{IsKept}
 use Rattle.kernel_heap.specs.Words.{grants_of}
+use Rattle.kernel_heap.proofs.Numbers.{is_outside}
 use Rattle.kernel_heap.proofs.Releasing.{heap_grants}
 use Rattle.kernel_heap.proofs.RunPages.{begins, count_is, held, boundary, grants_left, own_bounds, own_granted}
 use Rattle.kernel_heap.proofs.Still.{granted_canonical, granted_mapped}
@@ -28,12 +30,11 @@ use Rattle.kernel_heap.proofs.Still.{granted_canonical, granted_mapped}
 granted_bounds : (p : Paged) (address : ℕ) → IsKept p → IsTrue (is_granted (grants_of p) address) → (p.base ≤ address) × (address < p.base + 4096 * p.pages)
 granted_bounds p address kept granted = own_bounds p.base p.pages address p.regions kept.mapped.regions (sym (own_granted address p.regions) ∙ granted)
 
-module _ (old new : List ℕ) (free free' : List Bool) (root first pages : ℕ) (tree : IsTree old root free) (freed : ArePagesFreed old new free free' root (among first pages)) where
-  -- a word of a page that was mapped is as it was, since it is in no table
-  pub word_stays : (page index : ℕ) (place : Place) → index < 512 → walk_of old root page ≡ Some place → word_at new place.frame index ≡ word_at old place.frame index
+module _ (old new : List ℕ) (free free' : List Bool) (root first pages : ℕ) (some : 0 < pages) (tree : IsTree old root free) (gone : AreUnmapped old new free free' root first pages) where
+  -- a word of a page that is still mapped is as it was, since it is in no table
+  pub word_stays : (page index : ℕ) (place : Place) → index < 512 → walk_of new root page ≡ Some place → word_at new place.frame index ≡ word_at old place.frame index
   unfolding walk_of
-  word_stays page index place less found = freed.removed.words place.frame index less
-      (λ n met. absurd (let both = tree.distinct 3 n 4 (page % 2 ^ 36) (top place.frame) place (omega arith) (omega arith) met found refl in omega (arith, both.0)))
+  word_stays page index place less found = unmapped_words old new free free' root first pages some tree gone (page % 2 ^ 36) index place less found
 
 -- What is behind the first `left` bytes of a run: pages of the window, which regions have.
 module _ (p : Paged) (at size left : ℕ) (kept : IsKept p) (run : IsRun (grants_of p) at (at + size)) (less : left < size) (in_pages : left % 4096 ≡ 0) where
@@ -94,33 +95,36 @@ module _ (old new : Paged) (at size left : ℕ) (kept : IsKept old) (run : IsRun
       let stays : IsTrue (is_granted (without (at + left) (at + size) (grants_of old)) k) = subst (λ gs. IsTrue (is_granted gs k)) released_regions word.granted in
       let was : IsTrue (is_granted (grants_of old) k) = granted_before (at + left) (at + size) (grants_of old) k stays in
       let exact = granted_without at (at + left) (at + size) (grants_of old) k run.whole (omega arith) (omega arith) in
-      let out : (nat_le (at + left) k && nat_lt k (at + size)) ≡ false = grind (arith, nat_tests) in
+      let out : (nat_le (at + left) k && nat_lt k (at + size)) ≡ false = kept_out (is_granted (grants_of old) k) (nat_le (at + left) k && nat_lt k (at + size)) (sym exact ∙ stays) in
       let canonical : IsTrue (is_canonical (k / 4096 * 4096)) = first_canonical k (granted_canonical old k kept was) in
       let other : (i : ℕ) → i < (size - left) / 4096 → k / 4096 ≡ (at + left) / 4096 + i → ⊥ = λ i in_it same. beyond k i out in_it same in
-      let same = gone.elsewhere (k / 4096) canonical other in
+      let same = gone.gone.others (k / 4096) canonical other in
       place_of (walk_of old.words old.root (k / 4096)) refl (granted_mapped old k k kept was refl) same
     where
       beyond : (k i : ℕ) → (nat_le (at + left) k && nat_lt k (at + size)) ≡ false → i < (size - left) / 4096 → k / 4096 ≡ (at + left) / 4096 + i → ⊥
       beyond k i out in_it same =
           let l = low_page in
           let h = high_is in
-          let low : at + left ≤ k = omega arith in
-          let high : k < at + size = omega arith in
-          let yes : (nat_le (at + left) k && nat_lt k (at + size)) ≡ true = grind (arith, nat_tests) in
-          cc
+          elim (is_outside (at + left) (at + size) k out) [ inl below ↦ omega arith | inr behind ↦ omega arith ]
+
+      -- what was granted, and still is, is outside
+      kept_out : (was out : Bool) → (was && not out) ≡ true → out ≡ false
+      kept_out true false e = refl
+      kept_out true true e = absurd (let no : false ≡ true = e in cc)
+      kept_out false out e = absurd (let no : false ≡ true = e in cc)
 
       place_of : (o : Option Place) → walk_of old.words old.root (k / 4096) ≡ o → IsSome o → walk_of new.words old.root (k / 4096) ≡ walk_of old.words old.root (k / 4096) → word_reached new k ≡ word_reached old k
       place_of None found some same = cc
       place_of (Some place) found some same =
-          let there : walk_of new.words new.root (k / 4096) ≡ Some place = ap (λ (r : ℕ). walk_of new.words r (k / 4096)) gone.root ∙ (same ∙ found) in
+          let there : walk_of new.words new.root (k / 4096) ≡ Some place = ap (λ (r : ℕ). walk_of new.words r (k / 4096)) gone.gone.root ∙ (same ∙ found) in
           ap (word_in new.words k) there
-          ∙ (word_stays old.words new.words old.free new.free old.root ((at + left) / 4096) ((size - left) / 4096) kept.mapped.tree gone.freed (k / 4096) (k % 4096 / 8) place (omega arith) found
+          ∙ (word_stays old.words new.words old.free new.free old.root ((at + left) / 4096) ((size - left) / 4096) (omega (arith, less, in_pages, low_page, high_is)) kept.mapped.tree gone.gone.gone (k / 4096) (k % 4096 / 8) place (omega arith) (same ∙ found)
           ∙ sym (ap (word_in old.words k) found))
 
 -- what a system keeps, it keeps then
 pub kept_cut : (old new : Paged) (start pages : ℕ) → start % 4096 ≡ 0 → AreGone old new start pages → IsKept old → IsMapped new → IsKept new
 kept_cut old new start pages whole gone kept mapped = record {
-  window = subst (λ b. IsGoodWindow b new.pages) (sym gone.base) (subst (IsGoodWindow old.base) (sym gone.pages_is) kept.window);
+  window = subst (λ b. IsGoodWindow b new.pages) (sym gone.gone.base) (subst (IsGoodWindow old.base) (sym gone.gone.pages_is) kept.window);
   mapped = mapped;
   laid = subst (λ regions. AreLaid 0 regions (2 ^ 64)) (sym gone.regions) (laid_cut start pages 0 (2 ^ 64) old.regions whole kept.laid);
 }

@@ -1,6 +1,6 @@
 -- The heap gives all its memory back and begins anew: the answer is allowed, and the machine stands for the state without
 -- blocks and without regions of the heap.
-use Rattle.std.proofs.Common.{◌≡◌, ◌≢◌, ℕ, zero, suc, ◌+◌, ◌-◌, ◌*◌, ◌^◌, ◌<◌, ◌≤◌, ◌⊎◌, inl, inr, ◌&&◌, nat_le, nat_lt, Bool, true, false, cond, List, [], ◌∷◌, length, map, filter, replicate, refl, sym, ap, ◌∙◌, subst, arith, Option, Some, None, option_map, append-nil, lit<, lit≤}
+use Rattle.std.proofs.Common.{◌≡◌, ◌≢◌, ℕ, zero, suc, ◌+◌, ◌-◌, ◌*◌, ◌^◌, ◌<◌, ◌≤◌, ◌⊎◌, inl, inr, ◌&&◌, nat_le, nat_lt, Bool, true, false, cond, IsTrue, List, [], ◌∷◌, length, map, filter, replicate, refl, sym, ap, ◌∙◌, subst, arith, Option, Some, None, option_map, append-nil, lit<, lit≤}
 use Rattle.std.specs.Prelude.{◌==◌, ◌%◌, ◌/◌}
 use Rattle.std.specs.List.{AllByRecursion}
 use Rattle.std.proofs.lemmas.Bool.Decides.{nat_tests}
@@ -19,6 +19,8 @@ use Rattle.heap_model.specs.declared.region.Region.{Region}
 use Rattle.heap_model.specs.declared.call.Call.TheVariants.{Reset}
 use Rattle.heap_model.specs.declared.answer.Reply.TheVariants.{Released}
 use Rattle.heap_model.specs.State.{State, Block, total_pages}
+use Rattle.heap_model.specs.Tables.{used_frames}
+use Rattle.heap_model.specs.Place.{meets_any}
 use Rattle.heap_model.specs.Cut.{AreCut}
 use Rattle.heap_model.specs.Answer.{all_ended}
 use Rattle.heap_model.specs.Run.{IsGood, IsHeapRegion}
@@ -27,6 +29,7 @@ use Rattle.heap_model.proofs.Booleans.{or_cases}
 use Rattle.heap_model.proofs.Placed.{length_outline}
 use Rattle.heap_model.proofs.Ended.{none_live, good_none, holds_ended_all}
 use Rattle.heap_model.proofs.Shortened.{pages_cut, none_gone, good_cut}
+use Rattle.heap_model.proofs.Slots.{settled_same}
 use Rattle.kernel_heap.specs.Config.{IsGoodWindow}
 use Rattle.kernel_heap.specs.System.{paged}
 use Rattle.kernel_heap.specs.Words.{heap_regions, grant_of}
@@ -35,10 +38,10 @@ use Rattle.kernel_heap.specs.Machine.{seen_of, live_at, HaveRegions, fresh_heap,
 use Rattle.kernel_heap.specs.declared.paged_system.PagedSystem.{PagedSystem}
 use Rattle.kernel_heap.proofs.HeapRegions.{all_more}
 use Rattle.kernel_heap.proofs.Numbers.{same_or_other}
-use Rattle.kernel_heap.proofs.ReleasedRegions.{AreShortened, follows_shortened}
-use Rattle.kernel_heap.proofs.ReleasedState.{regions_cut, frames_left, stands_left}
+use Rattle.kernel_heap.proofs.ReleasedRegions.{AreShortened, follows_whole}
+use Rattle.kernel_heap.proofs.ReleasedState.{left_state, regions_cut, frames_left, enough_left, stands_left}
 use Rattle.kernel_heap.proofs.SegmentsLeft.{HaveAll, have_all, have_without}
-use Rattle.kernel_heap.proofs.Ended.{all_releases}
+use Rattle.kernel_heap.proofs.Ended.{whole_releases}
 
 -- ---- all segments are the heap's to give back
 
@@ -123,8 +126,12 @@ module _ (heap new : Dlmalloc PagedSystem) (blocks : List (Option Live)) (releas
     distinct = λ i j a b is_a is_b differ. absurd (no_live (length blocks) i a is_a);
   }
 
-  short : AreShortened (paged heap.system) (paged new.system)
-  short = follows_shortened (paged heap.system) (paged new.system) (releases (filter is_own (heap_state heap).segments)) heap.system.kept.laid (all_releases (filter is_own (heap_state heap).segments)) out.followed
+  short : AreShortened (paged heap.system) (paged new.system) None
+  short = follows_whole (paged heap.system) (paged new.system) (releases (filter is_own (heap_state heap).segments)) heap.system.kept (whole_releases (filter is_own (heap_state heap).segments)) out.followed
+
+  -- whole segments cut no slot
+  no_part : (one : ℕ) → None ≡ Some one → IsTrue (meets_any one 512 (paged new.system).regions)
+  no_part one is = absurd (let no : None ≡ Some one = is in cc)
 
   -- frames are given back, and none is taken
   pub more_free : free_count (paged heap.system).free ≤ free_count (paged new.system).free
@@ -141,31 +148,37 @@ module _ (heap new : Dlmalloc PagedSystem) (blocks : List (Option Live)) (releas
 
   module _ {top : ℕ} (s : State) (good : IsGood s) (stands : Stands (seen_of top heap blocks) s) where
     cut_left : AreCut s.heap (heap_regions (paged new.system).regions)
-    cut_left = regions_cut (seen_of top heap blocks) (paged new.system) s good stands heap.system.kept.mapped new.system.kept.mapped short
+    cut_left = regions_cut (seen_of top heap blocks) (paged new.system) s None good stands heap.system.kept.mapped new.system.kept.mapped short no_part
 
     cut_all : AreCut s.heap []
     cut_all = subst (AreCut s.heap) none_left cut_left
 
-    good_reset : IsGood (record s { heap = []; blocks = all_ended s.blocks })
+    abbrev s_reset : State
+    s_reset = left_state s [] (all_ended s.blocks)
+
+    good_reset : IsGood s_reset
     good_reset = good_cut (record s { blocks = all_ended s.blocks }) [] (good_none s good) cut_all (λ number block is k less. absurd (none_live s.blocks number block is))
+        (subst (λ (list : List Region). used_frames (left_state s list (all_ended s.blocks)) ≤ s.frames) none_left
+        (enough_left (seen_of top heap blocks) (paged new.system) s None good stands heap.system.kept.mapped new.system.kept.mapped short no_part (all_ended s.blocks)))
 
     lives_same : blocks' ≡ map (option_map outline) (all_ended s.blocks)
     lives_same = ap none_live_of (ap length stands.blocks ∙ length_outline s.blocks) ∙ ended_lives s.blocks
 
-    stands_reset : Stands (seen_of top new blocks') (record s { heap = []; blocks = all_ended s.blocks })
+    stands_reset : Stands (seen_of top new blocks') s_reset
     stands_reset =
         let same : new.granularity ≡ heap.granularity = ap (λ (h : HeapState). h.granularity) state in
-        subst (λ (list : List Region). Stands (seen_of top new blocks') (record s { heap = list; blocks = all_ended s.blocks })) none_left
-        (subst (λ g. Stands (record (seen_of top new blocks') { granularity = g }) (record s { heap = heap_regions (paged new.system).regions; blocks = all_ended s.blocks })) (sym same)
-        (stands_left (seen_of top heap blocks) (paged new.system) s good stands heap.system.kept.mapped new.system.kept.mapped short blocks' (all_ended s.blocks) lives_same
+        subst (λ (list : List Region). Stands (seen_of top new blocks') (left_state s list (all_ended s.blocks))) none_left
+        (subst (λ g. Stands (record (seen_of top new blocks') { granularity = g }) (left_state s (heap_regions (paged new.system).regions) (all_ended s.blocks))) (sym same)
+        (stands_left (seen_of top heap blocks) (paged new.system) s None good stands heap.system.kept.mapped new.system.kept.mapped short no_part blocks' (all_ended s.blocks) lives_same
         (holds_ended_all (reached (paged new.system).words (paged new.system).root) s.blocks)))
 
     -- as many frames are free as before and those of the regions
     gained : free_count (paged new.system).free ≡ free_count (paged heap.system).free + total_pages s.heap
     gained =
-        let pages = frames_left (seen_of top heap blocks) (paged new.system) s good stands heap.system.kept.mapped new.system.kept.mapped short in
+        let pages = frames_left (seen_of top heap blocks) (paged new.system) s None good stands heap.system.kept.mapped new.system.kept.mapped short no_part in
         let none : total_pages (heap_regions (paged new.system).regions) ≡ 0 = ap total_pages none_left in
-        omega (arith, pages, none)
+        let tables = short.tables in
+        omega (arith, pages, none, tables)
 
     -- where none are, there was no region
     was_empty : total_pages s.heap ≡ 0 → [] ≡ s.heap
@@ -174,15 +187,15 @@ module _ (heap new : Dlmalloc PagedSystem) (blocks : List (Option Live)) (releas
     -- the regions are listed where frames were given back
     pub step_reset : (frames : ℕ) (answered : Option (List Region)) → frames ≡ free_count (paged new.system).free - free_count (paged heap.system).free →
         (frames ≡ 0 → answered ≡ None) → (frames ≢ 0 → answered ≡ Some []) →
-        IsStep s Reset (record { reply = Released (frames * 4096); regions = answered }) (seen_of top new blocks')
+        IsStep s Reset (record { reply = Released (frames * 4096); regions = answered; large = None }) (seen_of top new blocks')
     step_reset frames answered is none some = elim (same_or_other frames 0) [
-      | inl same ↦ subst (λ (a : Option (List Region)). IsStep s Reset (record { reply = Released (frames * 4096); regions = a }) (seen_of top new blocks')) (sym (none same)) (record {
-        allowed = record { reply = (refl, (sym (empty same), bytes, small)); listed = tt };
-        good = subst (λ (list : List Region). IsGood (record s { heap = list; blocks = all_ended s.blocks })) (empty same) good_reset;
-        stands = subst (λ (list : List Region). Stands (seen_of top new blocks') (record s { heap = list; blocks = all_ended s.blocks })) (empty same) stands_reset;
+      | inl same ↦ subst (λ (a : Option (List Region)). IsStep s Reset (record { reply = Released (frames * 4096); regions = a; large = None }) (seen_of top new blocks')) (sym (none same)) (record {
+        allowed = record { reply = (refl, (sym (empty same), bytes, small)); listed = tt; large = tt };
+        good = good_none s good;
+        stands = subst (Stands (seen_of top new blocks')) (ap (λ (list : List Region). left_state s list (all_ended s.blocks)) (empty same) ∙ settled_same (record s { blocks = all_ended s.blocks }) (good_none s good).slots) stands_reset;
       })
-      | inr more ↦ subst (λ (a : Option (List Region)). IsStep s Reset (record { reply = Released (frames * 4096); regions = a }) (seen_of top new blocks')) (sym (some more)) (record {
-        allowed = record { reply = (refl, (refl, bytes, small)); listed = λ e. more (let g = gained in let none = ap total_pages e in omega (arith, is, g, none)) };
+      | inr more ↦ subst (λ (a : Option (List Region)). IsStep s Reset (record { reply = Released (frames * 4096); regions = a; large = None }) (seen_of top new blocks')) (sym (some more)) (record {
+        allowed = record { reply = (refl, (refl, bytes, small)); listed = λ e. more (let g = gained in let none = ap total_pages e in omega (arith, is, g, none)); large = tt };
         good = good_reset;
         stands = stands_reset;
       })

@@ -1,9 +1,8 @@
 -- A block gets another size, where it is or elsewhere: the answer is allowed, and the machine stands for the state with it.
-use Rattle.std.proofs.Common.{◌≡◌, ◌≢◌, ℕ, ◌+◌, ◌-◌, ◌%◌, ◌<◌, ◌≤◌, inl, inr, List, [], ◌∷◌, map, slice_set, refl, sym, ap, ◌∙◌, subst, arith, Bool, true, false, not, ◌==◌, if◌then◌else◌, Option, Some, None, option_map}
+use Rattle.std.proofs.Common.{◌≡◌, ◌≢◌, ℕ, ◌+◌, ◌-◌, ◌%◌, ◌<◌, ◌≤◌, inl, inr, List, [], ◌∷◌, map, slice_set, refl, sym, ap, ◌∙◌, subst, arith, Bool, true, false, not, ◌==◌, if◌then◌else◌, Option, Some, None, option_map, IsTrue}
 use Rattle.std.specs.Prelude.{slice_index}
 use Rattle.std.specs.List.{list_any}
 use Rattle.std.specs.Int.{w64, to_le_bytes, is_power_of_two, IsPowerOfTwo}
-use Rattle.paging_core.specs.Pool.{free_count}
 use Rattle.paging_core.specs.Prefix.{Prefix}
 use Rattle.paging_core.specs.Walk.{reached}
 use Rattle.dlmalloc_chunks.specs.Request.{limit, wanted}
@@ -26,28 +25,30 @@ use Rattle.heap_model.specs.declared.region.Region.{Region}
 use Rattle.heap_model.specs.declared.answer.Reply.TheVariants.{Block as Placed}
 use Rattle.heap_model.specs.declared.answer.Refusal.TheVariants.{UnknownBlock}
 use Rattle.heap_model.specs.State.{State, Known, Block, block_at, cell_at, is_within}
+use Rattle.heap_model.specs.Slots.{listed_slots}
+use Rattle.heap_model.specs.Place.{meets_any}
 use Rattle.heap_model.specs.Memory.{HoldsBytes}
 use Rattle.heap_model.specs.Room.{IsGrowth}
 use Rattle.heap_model.specs.Refusal.{own_align, least_align, refuse_resizing, must_refuse, wanted_by}
 use Rattle.heap_model.specs.Answer.{with_block, resized_block, IsResizing, IsServed, changed, without_block}
 use Rattle.heap_model.specs.Run.{IsGood}
-use Rattle.heap_model.specs.Machine.{Stands, IsStep, outline}
+use Rattle.heap_model.specs.Machine.{Paged, Stands, IsStep, outline}
 use Rattle.heap_model.proofs.Ended.{left_at}
 use Rattle.heap_model.proofs.Known.{known_within}
 use Rattle.heap_model.proofs.Placed.{outline_of, outline_at}
 use Rattle.heap_model.proofs.Resized.{length-resized, outline_changed, good_resized, holds_resized}
 use Rattle.heap_model.proofs.Shortened.{good_there, good_over}
 use Rattle.kernel_heap.specs.Follows.{still_none}
-use Rattle.kernel_heap.specs.System.{paged}
+use Rattle.kernel_heap.specs.System.{paged, pageless_frames}
 use Rattle.kernel_heap.specs.Words.{heap_regions}
 use Rattle.mapped_regions.specs.Mapped.{word_reached}
 use Rattle.kernel_heap.specs.Heap.{regions, word, follows, refuses, denies, heap_state}
-use Rattle.kernel_heap.specs.Machine.{seen_of, live_at, IsLaidOut, IsRefusalOf, resizing, align_kept, IsResizedTo, HeapMoves}
+use Rattle.kernel_heap.specs.Machine.{seen_of, live_at, IsLaidOut, IsRefusalOf, IsToldFrom, resizing, align_kept, IsResizedTo, HeapMoves}
 use Rattle.kernel_heap.specs.declared.numbered_heap.NumberedHeap.{NumberedHeap}
 use Rattle.kernel_heap.specs.declared.paged_system.PagedSystem.{PagedSystem}
 use Rattle.kernel_heap.proofs.BlockPlaces.{byte_kept, bytes_within}
 use Rattle.kernel_heap.proofs.Bytes.{reached_byte}
-use Rattle.kernel_heap.proofs.Ended.{free_shortened}
+use Rattle.kernel_heap.proofs.Ended.{free_shortened, free_leaves_part}
 use Rattle.kernel_heap.proofs.Found.{step_found}
 use Rattle.kernel_heap.proofs.Full.{behind}
 use Rattle.kernel_heap.proofs.Laid.{next_live, block_place, block_there, live_stays, live_beside}
@@ -91,12 +92,25 @@ serves_resizing : (keeps : Bool) (s : State) (number size address : ℕ) (block 
 serves_resizing true s number size address block list is h = rw is (refl, h)
 serves_resizing false s number size address block list is h = rw is (refl, h)
 
--- where a block moved, the old one was freed behind the moment at which there was room
-pub moved_shortened : (heap new : Dlmalloc PagedSystem) (from held align size address : ℕ) (out : IsGivenSize regions word follows true true 4096 heap from held align size address new) → AreShortened (paged out.middle.system) (paged new.system)
+-- Where a block moved, the old one was freed behind the moment at which there was room: regions are cut, and of a slot that is cut
+-- by it a part is left.
+pub record IsCutBehind (middle new : Paged) : Type 0 where
+  pub slot : Option ℕ
+  pub short : AreShortened middle new slot
+  pub part : (one : ℕ) → slot ≡ Some one → IsTrue (meets_any one 512 new.regions)
+
+pub moved_shortened : (heap new : Dlmalloc PagedSystem) (from held align size address : ℕ) (out : IsGivenSize regions word follows true true 4096 heap from held align size address new) → IsCutBehind (paged out.middle.system) (paged new.system)
 moved_shortened heap new from held align size address out = elim (same_or_other address from) [
-  | inl same ↦ subst (λ (h : Dlmalloc PagedSystem). AreShortened (paged out.middle.system) (paged h.system)) (sym (out.here same).0)
-      (shortened_still (paged out.middle.system) (paged out.middle.system) out.middle.system.kept.laid (still_none (paged out.middle.system)))
-  | inr other ↦ free_shortened out.middle new from (out.elsewhere other)
+  | inl same ↦ subst (λ (h : Dlmalloc PagedSystem). IsCutBehind (paged out.middle.system) (paged h.system)) (sym (out.here same).0) (record {
+    slot = None;
+    short = shortened_still (paged out.middle.system) (paged out.middle.system) out.middle.system.kept.laid (still_none (paged out.middle.system));
+    part = λ one is. absurd (let no : None ≡ Some one = is in cc);
+  })
+  | inr other ↦ (let by = free_shortened out.middle new from (out.elsewhere other) in record {
+    slot = by.slot;
+    short = by.short;
+    part = free_leaves_part (paged out.middle.system) out.middle new from (out.elsewhere other) by;
+  })
 ]
 
 module _ {top : ℕ} (heap new : Dlmalloc PagedSystem) (blocks : List (Option Live)) (number : ℕ) (live : Live) (keeps : Bool) (size address : ℕ) (laid : IsLaidOut heap blocks)
@@ -198,17 +212,18 @@ module _ {top : ℕ} (heap new : Dlmalloc PagedSystem) (blocks : List (Option Li
       aligned_before false = ap (λ a. a % 16) (sym block_address) ∙ (good.each number block old.1).aligned_16
 
   -- and so are the others, in the regions that are left
-  good_others : (list : List Region) (tables : List Prefix) → list ≡ heap_regions (paged new.system).regions → IsGood (record s { heap = list; tables = tables; blocks = [] }) →
-      IsGood (record s { heap = list; tables = tables; blocks = without_block s.blocks number })
-  good_others list tables same bare = good_over (record s { heap = list; tables = tables }) (without_block s.blocks number) bare
+  good_others : (list : List Region) (tables : List Prefix) (large : List ℕ) → list ≡ heap_regions (paged new.system).regions → IsGood (record s { heap = list; tables = tables; large = large; blocks = [] }) →
+      IsGood (record s { heap = list; tables = tables; large = large; blocks = without_block s.blocks number })
+  good_others list tables large same bare = good_over (record s { heap = list; tables = tables; large = large }) (without_block s.blocks number) bare
       (λ i it at.
       let was = left_at s.blocks number i it at in
       good_there s.heap list it (good.each i it was.1) (λ k less. ap (list_any (is_within (it.address + k))) same
       ∙ granted_within (paged new.system) (it.address + k) ((placed_now it.address it.size (live_stays heap new blocks number live size align address laid is out i (outline it) was.0 (live_of i it was.1)).block).granted (it.address + k) (omega arith) (omega (arith, less)))))
       (λ i j a b is_a is_b differ. good.apart i j a b (left_at s.blocks number i a is_a).1 (left_at s.blocks number j b is_b).1 differ)
 
-  good_blocks : (list : List Region) (tables : List Prefix) → list ≡ heap_regions (paged new.system).regions → IsGood (record s { heap = list; tables = tables; blocks = [] }) → IsGood (record s { heap = list; tables = tables; blocks = after_it })
-  good_blocks list tables same bare = good_resized (record s { heap = list; tables = tables }) number change block (good_others list tables same bare) old.1
+  good_blocks : (list : List Region) (tables : List Prefix) (large : List ℕ) → list ≡ heap_regions (paged new.system).regions → IsGood (record s { heap = list; tables = tables; large = large; blocks = [] }) →
+      IsGood (record s { heap = list; tables = tables; large = large; blocks = after_it })
+  good_blocks list tables large same bare = good_resized (record s { heap = list; tables = tables; large = large }) number change block (good_others list tables large same bare) old.1
       (record {
         aligned = ap (λ a. address % a) align_same ∙ multiple;
         aligned_16 = out.aligned;
@@ -224,25 +239,27 @@ module _ {top : ℕ} (heap new : Dlmalloc PagedSystem) (blocks : List (Option Li
   -- ---- the step
 
   pub step_resized : IsPowerOfTwo align → ((grant : Grant) → 0 < grant.size → regions out.middle.system ≡ with_grant grant (regions heap.system) → HasByteOf grant (regions new.system)) →
-      (answered : Option (List Region)) →
-      ((paged new.system).joins ≡ (paged heap.system).joins → free_count (paged new.system).free ≡ free_count (paged heap.system).free → answered ≡ None) →
-      (((paged new.system).joins ≡ (paged heap.system).joins → free_count (paged new.system).free ≡ free_count (paged heap.system).free → ⊥) → answered ≡ Some (heap_regions (paged new.system).regions)) →
-      IsStep s (resizing keeps number size) (record { reply = Placed number address; regions = answered }) (seen_of top new blocks')
-  step_resized is_power stays answered same other =
+      (answered : Option (List Region)) (large : Option (List ℕ)) →
+      ((paged new.system).joins ≡ (paged heap.system).joins → pageless_frames (paged new.system) ≡ pageless_frames (paged heap.system) → answered ≡ None) →
+      (((paged new.system).joins ≡ (paged heap.system).joins → pageless_frames (paged new.system) ≡ pageless_frames (paged heap.system) → ⊥) → answered ≡ Some (heap_regions (paged new.system).regions)) →
+      ((paged new.system).joins ≡ (paged heap.system).joins → large ≡ None) → (((paged new.system).joins ≡ (paged heap.system).joins → ⊥) → large ≡ listed_slots (paged new.system).slots) →
+      IsStep s (resizing keeps number size) (record { reply = Placed number address; regions = answered; large = large }) (seen_of top new blocks')
+  step_resized is_power stays answered large same other none told =
+      let moved = moved_shortened heap new live.address live.size align size address out in
       let power : is_power_of_two align ≡ true = test_of_power align is_power in
       let small : asked size align < limit s.granularity = subst (λ g. asked size align < limit g) stands.granularity out.small in
       let must : must_refuse s (resizing keeps number size) ≡ None =
       refused_resizing keeps s number size ∙ (ap (refuse_resizing s.granularity size (align_then keeps)) old.1 ∙ not_refused_resizing s.granularity size (align_then keeps) block (subst (λ a. asked size a < limit s.granularity) (sym align_same) small)) in
       let wants : wanted_by s (resizing keeps number size) ≡ Some (wanted size align) =
       wanted_resizing keeps s number size ∙ (ap (option_map (λ (b : Block). wanted size (align_then keeps b))) old.1 ∙ ap (λ a. Some (wanted size a)) align_same) in
-      step_found heap out.middle new blocks blocks' laid (wanted size align)
-      (subst (λ n. IsFound follows regions heap.system (heap_state heap) n out.middle.system (heap_state out.middle)) (wanted_asked size align power) out.found) (moved_shortened heap new live.address live.size align size address out)
+      (step_found heap out.middle new blocks blocks' laid (wanted size align)
+      (subst (λ n. IsFound follows regions heap.system (heap_state heap) n out.middle.system (heap_state out.middle)) (wanted_asked size align power) out.found) moved.slot moved.short moved.part
       out.granularity stays s good stands (resizing keeps number size) number address after_it (changed_resizing keeps s number size number address) must wants
       (λ list grown growth cut whole still. serves_resizing keeps s number size address block list old.1 (record {
         here = λ at. still (out.here (at ∙ block_address)).1;
         growth = record { grown = grown; growth = subst (λ a. IsGrowth s (wanted size a) grown) (sym align_same) growth; cut = cut };
       }))
-      lives_same holds good_blocks answered same other
+      lives_same holds good_blocks answered large same other none told).0
 
 -- no block has the number
 pub step_unknown : {top : ℕ} → (heap : Dlmalloc PagedSystem) (blocks : List (Option Live)) (number size : ℕ) (keeps : Bool) (s : State) → IsGood s → Stands (seen_of top heap blocks) s → live_at blocks number ≡ None →
@@ -279,6 +296,7 @@ step_not_resized {top = top} heap new blocks number size keeps live laid is s go
 
 -- how the heap moves is told by the call
 pub moves_resizing : (keeps : Bool) (old : NumberedHeap) (number size address : ℕ) (live : Live) (new : NumberedHeap) → live_at old.blocks.items number ≡ Some live →
-    IsResizedTo old.heap.system (heap_state old.heap) live.address size (align_kept keeps live) address new.heap.system (heap_state new.heap) → HeapMoves old (resizing keeps number size) (Placed number address) new
-moves_resizing true old number size address live new is moves = rw is moves
-moves_resizing false old number size address live new is moves = rw is moves
+    (system : PagedSystem) → IsToldFrom system new.heap.system → IsResizedTo old.heap.system (heap_state old.heap) live.address size (align_kept keeps live) address system (heap_state new.heap) →
+    HeapMoves old (resizing keeps number size) (Placed number address) new
+moves_resizing true old number size address live new is system told moves = rw is (system, told, moves)
+moves_resizing false old number size address live new is system told moves = rw is (system, told, moves)

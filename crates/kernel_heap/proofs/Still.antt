@@ -5,7 +5,7 @@ use Rattle.std.proofs.lemmas.List.{get_or-set_other}
 use Rattle.std.specs.List.{list_any}
 use Rattle.paging_core.specs.Address.{is_canonical}
 use Rattle.paging_core.specs.Memory.{word_at}
-use Rattle.paging_core.specs.Walk.{Place, reach, walk_of, reached}
+use Rattle.paging_core.specs.Walk.{Place, reach, large_of, walk_of, reached}
 use Rattle.paging_core.specs.Tree.{IsTree}
 use Rattle.heap_memory.specs.Regions.{IsWordOf, is_granted}
 use Rattle.heap_memory.specs.Words.{IsStored}
@@ -43,7 +43,7 @@ mapped_word p at kept word = record {
 pub kept_still : (old new : Paged) → IsKept old → OnlyHeapBytesChange old new → IsKept new
 kept_still old new kept still = subst IsKept (sym still.others) (record {
   window = kept.window;
-  mapped = stored_mapped old new.words kept.mapped still.size (still.tree kept.mapped.tree) still.walks;
+  mapped = stored_mapped old new.words kept.mapped still.size (still.tree kept.mapped.tree) still.walks still.larges;
   laid = kept.laid;
 })
 
@@ -62,15 +62,17 @@ place_at p at some = go (walk_of p.words p.root (at / 4096)) some
 -- words of one page of the regions were put, and no other: that page is no table
 pub still_beside : (p : Paged) (words : List ℕ) (at : ℕ) (place : Place) → IsKept p → walk_of p.words p.root (at / 4096) ≡ Some place → length words ≡ length p.words →
     ((free : List Bool) → IsTree p.words p.root free → (level number : ℕ) → level ≤ 4 → reach words p.root level number ≡ reach p.words p.root level number) →
+    ((free : List Bool) → IsTree p.words p.root free → (number : ℕ) → large_of words p.root number ≡ large_of p.words p.root number) →
     ((free : List Bool) → IsTree p.words p.root free → IsTree words p.root free) →
     ((frame index : ℕ) → index < 512 → frame ≢ place.frame → word_at words frame index ≡ word_at p.words frame index) →
     ((address : ℕ) → IsTrue (is_of_user p.regions address) → reached words p.root address ≡ reached p.words p.root address) → OnlyHeapBytesChange p (record p { words = words })
 unfolding walk_of
-still_beside p words at place kept found size walks tree others users = record {
+still_beside p words at place kept found size walks larges tree others users = record {
   others = refl;
   size = size;
   tree = tree p.free;
   walks = walks p.free kept.mapped.tree;
+  larges = larges p.free kept.mapped.tree;
   tables = tables;
   users = users;
 }
@@ -85,6 +87,7 @@ module _ (p : Paged) (words : List ℕ) (at value a : ℕ)
     (size : length words ≡ length p.words)
     (set : IfSome (walk_of p.words p.root (a / 4096)) (λ place. words ≡ slice_set p.words (512 * place.frame + a % 4096 / 8) value))
     (walks : (free : List Bool) → IsTree p.words p.root free → (level number : ℕ) → level ≤ 4 → reach words p.root level number ≡ reach p.words p.root level number)
+    (larges : (free : List Bool) → IsTree p.words p.root free → (number : ℕ) → large_of words p.root number ≡ large_of p.words p.root number)
     (tree : (free : List Bool) → IsTree p.words p.root free → IsTree words p.root free)
     (stored : (free : List Bool) → IsTree p.words p.root free → IfSome (walk_of p.words p.root (a / 4096)) (λ place. word_at words place.frame (a % 4096 / 8) ≡ value))
     (others : (free : List Bool) → IsTree p.words p.root free → (other : ℕ) → IsTrue (is_canonical other) → (other / 8 ≡ a / 8 → ⊥) →
@@ -97,7 +100,7 @@ module _ (p : Paged) (words : List ℕ) (at value a : ℕ)
   still_stored =
       let place = place_at p a (granted_mapped p at a kept word.granted at_is) in
       let is_set : words ≡ slice_set p.words (512 * place.0.frame + a % 4096 / 8) value = subst (λ o. IfSome o (λ q. words ≡ slice_set p.words (512 * q.frame + a % 4096 / 8) value)) place.1 set in
-      still_beside p words a place.0 kept place.1 size walks tree
+      still_beside p words a place.0 kept place.1 size walks larges tree
       (λ frame index small apart. ap (λ ws. word_at ws frame index) is_set ∙ get_or-set_other p.words (512 * place.0.frame + a % 4096 / 8) (512 * frame + index) value 0 (λ e. apart (omega arith))) users
     where
       -- and in that of a page of the heap

@@ -4,10 +4,10 @@ use Rattle.std.specs.Prelude.{IfSome}
 use Rattle.std.proofs.lemmas.Bool.Decides.{nat_tests}
 use Rattle.paging_core.specs.Address.{is_canonical}
 use Rattle.paging_core.specs.Memory.{word_at, AreWordsWritten}
-use Rattle.paging_core.specs.Walk.{Place, reach, walk_of, reached}
+use Rattle.paging_core.specs.Walk.{Place, reach, large_of, walk_of, reached}
 use Rattle.paging_core.specs.Tree.{IsTree}
-use Rattle.heap_memory.specs.Regions.{IsWordOf}
-use Rattle.heap_memory.specs.Words.{IsBeside}
+use Rattle.heap_memory.specs.Regions.{is_granted, IsWordOf}
+use Rattle.heap_memory.specs.Words.{IsBeside, AreWordsOf}
 use Rattle.heap_model.specs.Machine.{Paged, OnlyHeapBytesChange, is_of_user}
 use Rattle.kernel_heap.specs.Layout.{IsKept}
 use Rattle.kernel_heap.specs.Words.{grants_of}
@@ -16,6 +16,18 @@ use Rattle.mapped_regions.specs.Mapped.{IsMappedWord, word_reached}
 use Rattle.kernel_heap.proofs.Numbers.{lt_or_le}
 use Rattle.kernel_heap.proofs.HeapRegions.{user_any, within_canonical, not_of_user}
 use Rattle.kernel_heap.proofs.Still.{still_beside, granted_within, granted_canonical, granted_mapped, mapped_word, kept_still, word_at_place, place_at}
+
+-- a part of words that stand in the regions stands there still
+pub in_page : (old mid : Paged) (at count done run : ℕ) → OnlyHeapBytesChange old mid → AreWordsOf (grants_of old) at count → done + run ≤ count → 0 < run → (at + 8 * done) % 4096 / 8 + run ≤ 512 → AreInPage mid (at + 8 * done) run
+in_page old mid at count done run still words few some page = record {
+  words = record {
+    granted = λ k from before. subst (λ (p : Paged). IsTrue (is_granted (grants_of p) k)) (sym still.others) (words.granted k (omega arith) (omega (arith, few, before)));
+    aligned = (let whole = words.aligned in omega (arith, whole));
+    small = (let small = words.small in omega (arith, small, few));
+  };
+  some = some;
+  page = page;
+}
 
 pub first_word : (p : Paged) (at count : ℕ) → AreInPage p at count → IsWordOf (grants_of p) at
 first_word p at count there = record {
@@ -35,6 +47,7 @@ module _ (p : Paged) (words run : List ℕ) (at : ℕ) (kept : IsKept p) (there 
     (size : length words ≡ length p.words)
     (set : IfSome (walk_of p.words p.root (at / 4096)) (λ place. AreWordsWritten p.words words place.frame (at % 4096 / 8) run))
     (walks : (free : List Bool) → IsTree p.words p.root free → (level number : ℕ) → level ≤ 4 → reach words p.root level number ≡ reach p.words p.root level number)
+    (larges : (free : List Bool) → IsTree p.words p.root free → (number : ℕ) → large_of words p.root number ≡ large_of p.words p.root number)
     (tree : (free : List Bool) → IsTree p.words p.root free → IsTree words p.root free)
     (bytes : (free : List Bool) → IsTree p.words p.root free → (other : ℕ) → IsTrue (is_canonical other) → (other < at) ⊎ (at + 8 * length run ≤ other) → reached words p.root other ≡ reached p.words p.root other) where
   tree_is : IsTree p.words p.root p.free
@@ -54,7 +67,7 @@ module _ (p : Paged) (words run : List ℕ) (at : ℕ) (kept : IsKept p) (there 
   stays page = walks p.free tree_is 4 (page % 2 ^ 36) (omega arith)
 
   pub still_put : OnlyHeapBytesChange p (record p { words = words })
-  still_put = still_beside p words at place.0 kept place.1 size walks tree (λ frame index small apart. written.others frame index small (λ same from to. absurd (apart same))) users
+  still_put = still_beside p words at place.0 kept place.1 size walks larges tree (λ frame index small apart. written.others frame index small (λ same from to. absurd (apart same))) users
     where
       -- and in that of a page of the heap
       beside : (address : ℕ) → IsTrue (is_of_user p.regions address) → (address < at) ⊎ (at + 8 * length run ≤ address)

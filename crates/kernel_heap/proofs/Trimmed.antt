@@ -3,12 +3,11 @@
 use Rattle.std.proofs.Common.{◌≡◌, ◌≢◌, ℕ, ◌+◌, ◌-◌, ◌^◌, ◌<◌, ◌≤◌, inl, inr, Bool, true, false, nat_lt, List, [], ◌∷◌, ◌++◌, length, refl, sym, ap, ◌∙◌, subst, arith, Option, Some, None, is_some, IsTrue}
 use Rattle.std.specs.Prelude.{if◌then◌else◌}
 use Rattle.std.specs.List.{list_any}
-use Rattle.paging_core.specs.Pool.{free_count}
 use Rattle.paging_core.specs.Walk.{reached}
 use Rattle.dlmalloc.specs.State.{HeapState, Segment, extents_in}
 use Rattle.dlmalloc.specs.Blocks.{ArePlaced}
-use Rattle.dlmalloc.specs.Released.{handed_out, releases, passed}
-use Rattle.dlmalloc.specs.Trimmed.{cut_top, cut_of, is_cut, gives_back, top_bytes, is_trimmed, trimmed, end_released, trim_releases, regions_trimmed}
+use Rattle.dlmalloc.specs.Released.{passed}
+use Rattle.dlmalloc.specs.Trimmed.{cut_top, cut_of, is_cut, gives_back, top_bytes, is_trimmed, trimmed, trim_releases, regions_trimmed}
 use Rattle.dlmalloc.specs.Shortened.{IsTrimmed}
 use Rattle.dlmalloc.specs.declared.heap.Dlmalloc.{Dlmalloc}
 use Rattle.heap_model.specs.declared.live.Live.{Live}
@@ -16,6 +15,7 @@ use Rattle.heap_model.specs.declared.region.Region.{Region}
 use Rattle.heap_model.specs.declared.call.Call.TheVariants.{Trim}
 use Rattle.heap_model.specs.declared.answer.Reply.TheVariants.{Trimmed}
 use Rattle.heap_model.specs.State.{State, Block, block_at, cover, is_within, total_pages}
+use Rattle.heap_model.specs.Place.{meets_any}
 use Rattle.heap_model.specs.Cut.{AreCut}
 use Rattle.heap_model.specs.Memory.{HoldsBytes}
 use Rattle.heap_model.specs.Run.{IsGood, IsHeapRegion}
@@ -24,36 +24,25 @@ use Rattle.heap_model.proofs.Cut.{none_cut}
 use Rattle.heap_model.proofs.Known.{known_within}
 use Rattle.heap_model.proofs.Placed.{outline_of}
 use Rattle.heap_model.proofs.Shortened.{length_cut, none_gone, good_cut}
-use Rattle.kernel_heap.specs.System.{paged}
+use Rattle.heap_model.proofs.Slots.{settled_same}
+use Rattle.kernel_heap.specs.System.{paged, pageless_frames}
 use Rattle.kernel_heap.specs.Words.{heap_regions}
 use Rattle.kernel_heap.specs.Heap.{regions, word, follows, heap_state, HasBins}
 use Rattle.kernel_heap.specs.Machine.{seen_of, live_at, has_region, HaveRegions, IsLive, IsLaidOut}
 use Rattle.kernel_heap.specs.declared.paged_system.PagedSystem.{PagedSystem}
 use Rattle.kernel_heap.proofs.BlockPlaces.{byte_kept}
-use Rattle.kernel_heap.proofs.Ended.{all_releases, both_releases}
+use Rattle.kernel_heap.proofs.Ended.{trim_gives_back}
 use Rattle.kernel_heap.proofs.HeapRegions.{all_more}
 use Rattle.kernel_heap.proofs.Laid.{block_there, block_moved}
 use Rattle.kernel_heap.proofs.Numbers.{same_or_other}
-use Rattle.kernel_heap.proofs.ReleasedRegions.{AreShortened, AreReleases, follows_shortened}
-use Rattle.kernel_heap.proofs.ReleasedState.{regions_cut, frames_left, stands_left}
+use Rattle.kernel_heap.proofs.KeptEnd.{IsHeadAt, trim_part, part_stays}
+use Rattle.kernel_heap.proofs.ReleasedRegions.{AreShortened, IsShortenedBy, follows_shortened}
+use Rattle.kernel_heap.proofs.ReleasedState.{left_state, regions_cut, frames_left, enough_left, stands_left}
 use Rattle.kernel_heap.proofs.Still.{granted_within}
 use Rattle.kernel_heap.proofs.SegmentsLeft.{Has, have_all, have_trimmed}
 
--- ---- what a trim does to the system: it gives runs back
+-- ---- the granularity stays
 
-end_are : (less : ℕ) (segments : List Segment) → AreReleases (end_released less segments)
-end_are less [] = tt
-end_are less (segment ∷ segments) = (tt, tt)
-
-trim_are : (pad : ℕ) (heap : HeapState) → AreReleases (trim_releases true true 4096 pad heap)
-trim_are pad heap = go (is_trimmed pad heap) (is_cut true 4096 pad heap)
-  where
-    go : (b c : Bool) → AreReleases (if b then (if c then end_released (cut_of heap pad) heap.segments else []) ++ releases (handed_out true heap.segments) else [])
-    go false c = tt
-    go true true = both_releases (end_released (cut_of heap pad) heap.segments) (releases (handed_out true heap.segments)) (end_are (cut_of heap pad) heap.segments) (all_releases (handed_out true heap.segments))
-    go true false = all_releases (handed_out true heap.segments)
-
--- and its granularity stays
 cut_granularity : (less : ℕ) (heap : HeapState) (segments : List Segment) → (cut_top less (record heap { segments = segments })).granularity ≡ heap.granularity
 cut_granularity less heap [] = refl
 cut_granularity less heap (segment ∷ segments) = refl
@@ -104,8 +93,15 @@ module _ (heap new : Dlmalloc PagedSystem) (blocks : List (Option Live)) (pad : 
     distinct = laid.distinct;
   }
 
-  short : AreShortened (paged heap.system) (paged new.system)
-  short = follows_shortened (paged heap.system) (paged new.system) (trim_releases true true 4096 pad (heap_state heap)) heap.system.kept.laid (trim_are pad (heap_state heap)) out.followed
+  by : IsShortenedBy (paged heap.system) (paged new.system) (trim_releases true true 4096 pad (heap_state heap))
+  by = follows_shortened (paged heap.system) (paged new.system) (trim_releases true true 4096 pad (heap_state heap)) heap.system.kept (trim_gives_back true true 4096 pad (heap_state heap)) out.followed
+
+  short : AreShortened (paged heap.system) (paged new.system) by.slot
+  short = by.short
+
+  part_left : (one : ℕ) → by.slot ≡ Some one → IsTrue (meets_any one 512 (paged new.system).regions)
+  part_left = part_stays (paged heap.system) new (trim_releases true true 4096 pad (heap_state heap)) out.sound by
+      (λ at size left more is some. subst (λ (h : HeapState). IsHeadAt h at left) (sym out.state) (trim_part pad (heap_state heap) at size left more some is))
 
   pub few_left : length (paged new.system).regions ≤ length (paged heap.system).regions
   few_left = length_cut (paged heap.system).regions (paged new.system).regions short.cut
@@ -136,41 +132,44 @@ module _ (heap new : Dlmalloc PagedSystem) (blocks : List (Option Live)) (pad : 
         ((placed_now block.address block.size (live_now number (outline block) (live_of number block is)).block).granted (block.address + k) (omega arith) (omega arith))
 
     cut_now : AreCut s.heap left
-    cut_now = regions_cut (seen_of top heap blocks) (paged new.system) s good stands heap.system.kept.mapped new.system.kept.mapped short
+    cut_now = regions_cut (seen_of top heap blocks) (paged new.system) s by.slot good stands heap.system.kept.mapped new.system.kept.mapped short part_left
 
-    good_now : IsGood (record s { heap = left })
-    good_now = good_cut s left good cut_now granted_now
+    abbrev s_left : State
+    s_left = left_state s left s.blocks
 
-    stands_now : Stands (seen_of top new blocks) (record s { heap = left })
+    good_now : IsGood s_left
+    good_now = good_cut s left good cut_now granted_now (enough_left (seen_of top heap blocks) (paged new.system) s by.slot good stands heap.system.kept.mapped new.system.kept.mapped short part_left s.blocks)
+
+    stands_now : Stands (seen_of top new blocks) s_left
     stands_now =
         let same : new.granularity ≡ heap.granularity = ap (λ (h : HeapState). h.granularity) out.state ∙ trimmed_granularity pad (heap_state heap) in
-        subst (λ g. Stands (record (seen_of top new blocks) { granularity = g }) (record s { heap = left })) (sym same)
-        (stands_left (seen_of top heap blocks) (paged new.system) s good stands heap.system.kept.mapped new.system.kept.mapped short blocks s.blocks stands.blocks held)
+        subst (λ g. Stands (record (seen_of top new blocks) { granularity = g }) s_left) (sym same)
+        (stands_left (seen_of top heap blocks) (paged new.system) s by.slot good stands heap.system.kept.mapped new.system.kept.mapped short part_left blocks s.blocks stands.blocks held)
 
-    pages_left : free_count (paged new.system).free + total_pages left ≡ free_count (paged heap.system).free + total_pages s.heap
-    pages_left = frames_left (seen_of top heap blocks) (paged new.system) s good stands heap.system.kept.mapped new.system.kept.mapped short
+    pages_left : pageless_frames (paged new.system) + total_pages left ≡ pageless_frames (paged heap.system) + total_pages s.heap
+    pages_left = frames_left (seen_of top heap blocks) (paged new.system) s by.slot good stands heap.system.kept.mapped new.system.kept.mapped short part_left
 
-    same_left : free_count (paged new.system).free ≡ free_count (paged heap.system).free → left ≡ s.heap
+    same_left : pageless_frames (paged new.system) ≡ pageless_frames (paged heap.system) → left ≡ s.heap
     same_left is =
         let pages = pages_left in
         none_gone s.heap left (all_more (IsHeapRegion s) (λ region. 0 < region.pages) (λ region whole. whole.0.1.some) s.heap good.heap) cut_now (omega (arith, pages, is))
 
-    other_left : free_count (paged new.system).free ≢ free_count (paged heap.system).free → left ≢ s.heap
+    other_left : pageless_frames (paged new.system) ≢ pageless_frames (paged heap.system) → left ≢ s.heap
     other_left differ same = differ (let pages = pages_left in let total = ap total_pages same in omega (arith, pages, total))
 
-    -- the regions are listed where another number of frames is free
+    -- the regions are listed where another number of frames has no page
     pub step_trimmed : (answered : Option (List Region)) →
-        ((paged new.system).joins ≡ (paged heap.system).joins → free_count (paged new.system).free ≡ free_count (paged heap.system).free → answered ≡ None) →
-        (((paged new.system).joins ≡ (paged heap.system).joins → free_count (paged new.system).free ≡ free_count (paged heap.system).free → ⊥) → answered ≡ Some left) →
-        IsStep s (Trim pad) (record { reply = Trimmed (is_some answered); regions = answered }) (seen_of top new blocks)
-    step_trimmed answered same other = elim (same_or_other (free_count (paged new.system).free) (free_count (paged heap.system).free)) [
-      | inl is ↦ subst (λ (a : Option (List Region)). IsStep s (Trim pad) (record { reply = Trimmed (is_some a); regions = a }) (seen_of top new blocks)) (sym (same short.joins is)) (record {
-        allowed = record { reply = (refl, (none_cut s.heap, refl)); listed = tt };
+        ((paged new.system).joins ≡ (paged heap.system).joins → pageless_frames (paged new.system) ≡ pageless_frames (paged heap.system) → answered ≡ None) →
+        (((paged new.system).joins ≡ (paged heap.system).joins → pageless_frames (paged new.system) ≡ pageless_frames (paged heap.system) → ⊥) → answered ≡ Some left) →
+        IsStep s (Trim pad) (record { reply = Trimmed (is_some answered); regions = answered; large = None }) (seen_of top new blocks)
+    step_trimmed answered same other = elim (same_or_other (pageless_frames (paged new.system)) (pageless_frames (paged heap.system))) [
+      | inl is ↦ subst (λ (a : Option (List Region)). IsStep s (Trim pad) (record { reply = Trimmed (is_some a); regions = a; large = None }) (seen_of top new blocks)) (sym (same short.joins is)) (record {
+        allowed = record { reply = (refl, (none_cut s.heap, refl)); listed = tt; large = tt };
         good = good;
-        stands = subst (λ (list : List Region). Stands (seen_of top new blocks) (record s { heap = list })) (same_left is) stands_now;
+        stands = subst (Stands (seen_of top new blocks)) (ap (λ (list : List Region). left_state s list s.blocks) (same_left is) ∙ settled_same s good.slots) stands_now;
       })
-      | inr differ ↦ subst (λ (a : Option (List Region)). IsStep s (Trim pad) (record { reply = Trimmed (is_some a); regions = a }) (seen_of top new blocks)) (sym (other (λ joins few. differ few))) (record {
-        allowed = record { reply = (refl, (cut_now, refl)); listed = other_left differ };
+      | inr differ ↦ subst (λ (a : Option (List Region)). IsStep s (Trim pad) (record { reply = Trimmed (is_some a); regions = a; large = None }) (seen_of top new blocks)) (sym (other (λ joins few. differ few))) (record {
+        allowed = record { reply = (refl, (cut_now, refl)); listed = other_left differ; large = tt };
         good = good_now;
         stands = stands_now;
       })

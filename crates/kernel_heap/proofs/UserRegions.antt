@@ -16,10 +16,12 @@ use Rattle.heap_model.specs.Place.{meets, meets_any, is_at, without, with_region
 use Rattle.heap_model.specs.Room.{user_region}
 use Rattle.heap_model.specs.Refusal.{is_page_range, must_refuse}
 use Rattle.heap_model.specs.Run.{IsGood, IsHeapRegion, IsUserRegion, AreInOrder}
-use Rattle.heap_model.specs.Machine.{Paged, ArePagesAdded, Seen, Stands, IsStep}
+use Rattle.heap_model.specs.Slots.{listed_slots}
+use Rattle.heap_model.specs.Machine.{Paged, Seen, Stands, IsStep}
 use Rattle.heap_model.proofs.Booleans.{or_neither, neither_or}
 use Rattle.heap_model.proofs.Regions.{any_all}
 use Rattle.heap_model.proofs.Added.{missing_same}
+use Rattle.heap_model.proofs.NewSlots.{slots_bare}
 use Rattle.heap_model.proofs.Mapped.{range_whole, whole_range, user_beside, with_user, without_user, stands_mapped, stands_unmapped, step_mapped, step_unmapped}
 use Rattle.region_tree.proofs.AllRegions.{Sorted, joined_users, left_users, heap_met, user_listed}
 use Rattle.mapped_regions.specs.declared.map_fault.MapFault.{MapFault}
@@ -139,32 +141,30 @@ module _ (m : Seen) (s : State) (start pages : ℕ) (good : IsGood s) (stands : 
   -- ---- the steps
 
   pub step_map : (rights : Rights) (new : Paged) → CanMap m.paged start pages → IsJoined m.paged new (user_region start pages rights) →
-      IsStep s (Map start pages rights) (record { reply = Done; regions = None }) (record m { paged = new })
+      IsStep s (Map start pages rights) (record { reply = Done; regions = None; large = listed_slots new.slots }) (record m { paged = new })
   step_map rights new can joined =
       let both = clear can.clear in
       let lacks = missing_same m s start pages stands can.range.1 in
       let free = stands.free_frames in
       let frames = can.frames in
       let few : pages + missing s.tables start pages ≤ free_frames s = omega arith in
-      let added : ArePagesAdded m.paged new start pages rights = record { base = joined.base; pages_is = joined.pages; root = joined.root; tables = joined.tables; added = joined.added } in
-      let regions : new.regions ≡ all_regions (with_user s start pages rights) =
+      let regions : new.regions ≡ all_regions (with_user s start pages rights new.slots) =
       joined.regions ∙ (ap (with_region (user_region start pages rights)) stands.regions
       ∙ sym (joined_users (user_region start pages rights) s.heap s.users (start_elsewhere start pages s.heap s.users can.range.1.some good.users both.1))) in
-      step_mapped m new s start pages rights good can.range.0 can.range.1 both.0 both.1 few
-      (stands_mapped m new s start pages rights stands can.range.0 can.range.1 both.0 both.1 few added regions
-      (λ at inside. ap (λ r. reached new.words r at) joined.root ∙ joined.zeros at inside))
+      step_mapped m new s start pages rights new.slots good can.range.0 can.range.1 both.0 both.1 few joined.added.slots.ascending joined.added.slots.within
+      (slots_bare m new s start pages rights stands can.range.1 can.range.0 joined.added)
+      (stands_mapped m new s start pages rights stands can.range.0 can.range.1 both.0 both.1 few joined.added regions
+      (λ at inside. ap (λ r. reached new.words r at) joined.added.root ∙ joined.zeros at inside))
 
   pub step_unmap : (new : Paged) → CanUnmap m.paged start pages → IsLeft m.paged new start pages →
-      IsStep s (Unmap start pages) (record { reply = Done; regions = None }) (record m { paged = new })
+      IsStep s (Unmap start pages) (record { reply = Done; regions = None; large = None }) (record m { paged = new })
   step_unmap new can left =
       let there : list_any (is_at start pages) s.users ≡ true = sym listed_same ∙ can.there in
       let beside : meets_any start pages s.heap ≡ false = (user_beside s start pages good there).1 in
       let regions : new.regions ≡ all_regions (without_user s start pages) =
       left.regions ∙ (ap (without start pages) stands.regions
       ∙ sym (left_users start pages s.heap s.users can.range.1.some (sorted s.heap good.heap_order) (none_just start pages s.heap can.range.1.some beside) good.user_order)) in
-      step_unmapped m new s start pages good there
-      (stands_unmapped m new s start pages good stands there left.base left.pages_is left.root left.tables left.freed.removed.size regions left.tree left.count
-      (λ level number less. left.freed.removed.stayed level number (omega arith) (λ same. absurd (omega arith))) left.unmapped left.others left.bytes)
+      step_unmapped m new s start pages good there (stands_unmapped m new s start pages good stands there left.gone left.whole regions)
 
   -- pages are not mapped, or not unmapped
   pub map_denied : (rights : Rights) (fault : MapFault) → IsMapRefused m.paged start pages fault → (answer : Answer) → IsRefusal (map_refusal fault) answer → IsStep s (Map start pages rights) answer m

@@ -2,7 +2,7 @@
 use Rattle.std.specs.Prelude.{◌≡◌, List, [], ◌∷◌, ◌++◌, refl}
 use Rattle.std.proofs.Common.{ap, ◌∙◌, subst, sym, arith}
 use Rattle.heap_memory.specs.Events.{Event, Granted, Released}
-use Rattle.paging_core.specs.Walk.{reach, reached}
+use Rattle.paging_core.specs.Walk.{reach, large_of, reached}
 use Rattle.heap_model.specs.Machine.{Paged, OnlyHeapBytesChange}
 use Rattle.kernel_heap.specs.Layout.{IsGrantedFor}
 use Rattle.kernel_heap.specs.Released.{IsReleasedFor}
@@ -15,7 +15,7 @@ Follows old (Granted asked grant ∷ events) new = (at : Paged) × (later : Page
 Follows old (Released at size left ∷ events) new = (before : Paged) × (later : Paged) × OnlyHeapBytesChange old before × IsReleasedFor before later at size left × Follows later events new
 
 pub still_none : (p : Paged) → OnlyHeapBytesChange p p
-still_none p = record { others = refl; size = refl; tree = λ t. t; walks = λ level number low. refl; tables = λ level number index met low small is. refl; users = λ address user. refl }
+still_none p = record { others = refl; size = refl; tree = λ t. t; walks = λ level number low. refl; larges = λ number. refl; tables = λ level number index met low small is. refl; users = λ address user. refl }
 
 pub still_on : (x y z : Paged) → OnlyHeapBytesChange x y → OnlyHeapBytesChange y z → OnlyHeapBytesChange x z
 still_on x y z first second =
@@ -28,6 +28,7 @@ still_on x y z first second =
       size = second.size ∙ first.size;
       tree = λ t. rw (← root, ← free) (second.tree (rw (root, free) (first.tree t)));
       walks = λ level number low. ap (λ r. reach z.words r level number) (sym root) ∙ (second.walks level number low ∙ (ap (λ r. reach y.words r level number) root ∙ first.walks level number low));
+      larges = λ number. ap (λ r. large_of z.words r number) (sym root) ∙ (second.larges number ∙ (ap (λ r. large_of y.words r number) root ∙ first.larges number));
       tables = λ level number index met low small is.
           second.tables level number index met low small (ap (λ r. reach y.words r level number) root ∙ (first.walks level number (omega arith) ∙ is)) ∙ first.tables level number index met low small is;
       users = λ address user. ap (λ r. reached z.words r address) (sym root) ∙ (second.users address (rw regions user) ∙ (ap (λ r. reached y.words r address) root ∙ first.users address user));

@@ -2,7 +2,7 @@
 use Rattle.std.specs.Prelude.{◌≡◌, ℕ, ◌+◌, ◌*◌, ◌/◌, ◌%◌, ◌^◌, ◌<◌, ◌≤◌, List, [], ◌∷◌, None}
 use Rattle.paging_core.specs.Memory.{frame_count}
 use Rattle.paging_core.specs.Pool.{free_count}
-use Rattle.paging_core.specs.Walk.{reach, walk_of}
+use Rattle.paging_core.specs.Walk.{reach, large_of, walk_of}
 use Rattle.paging_core.specs.Missing.{missing_of}
 use Rattle.heap_memory.specs.declared.grant.Grant.{Grant}
 use Rattle.heap_memory.specs.declared.grant.GrantFault.{GrantFault}
@@ -14,7 +14,7 @@ use Rattle.heap_model.specs.Place.{with_region, IsPlace, HasNoPlace}
 use Rattle.heap_model.specs.Room.{heap_region}
 use Rattle.heap_model.specs.Machine.{Paged, IsPagedGrant}
 use Rattle.region_tree.specs.Regions.{AreLaid}
-use Rattle.mapped_regions.specs.Mapped.{IsMapped, IsMapped-prop}
+use Rattle.mapped_regions.specs.Mapped.{IsMapped, IsMapped-prop, AreRunsUsed}
 use Rattle.std.proofs.Props.{props}
 use Rattle.kernel_heap.specs.Config.{IsGoodWindow}
 
@@ -34,6 +34,7 @@ pub record IsNew (p : Paged) (base pages frames : ℕ) : Type 0 where
   pub frames_are : frame_count p.words ≡ frames
   pub free_frames : free_count p.free + 1 ≡ frames
   pub no_tables : (level number : ℕ) → 0 < level → reach p.words p.root level number ≡ None
+  pub no_larges : (number : ℕ) → large_of p.words p.root number ≡ None
   pub unmapped : (page : ℕ) → walk_of p.words p.root page ≡ None
 
 -- So many pages have their place at an address, and there are frames for them and the tables that they lack.
@@ -49,9 +50,11 @@ LacksPlaceOrFrames p pages NoSpace = HasNoPlace p.base p.pages p.regions pages
 LacksPlaceOrFrames p pages NoFrames = (address : ℕ) × IsPlace p.base p.pages p.regions pages address × (free_count p.free < pages + missing_of p.words p.root (address / 4096) pages)
 LacksPlaceOrFrames p pages OutOfMemory = ⊥
 
--- So many pages were granted at an address, and their region joined the others.
+-- So many pages were granted at an address, and their region joined the others. Slots that lie whole in it and had no table were
+-- mapped by one entry each, as long as a run of frames was free.
 pub record IsGranted (old new : Paged) (pages address : ℕ) : Type 0 where
   pub grant : IsPagedGrant old new address pages
+  pub runs : AreRunsUsed old new address pages
   pub joins : new.joins ≡ (old.joins + 1) % 2 ^ 64
   pub regions : new.regions ≡ with_region (heap_region address pages) old.regions
 

@@ -28,7 +28,10 @@ use Rattle.heap_model.specs.declared.answer.Reply.{Reply}
 use Rattle.heap_model.specs.declared.answer.Reply.TheVariants.{Block as Placed, Done, Byte, Trimmed, Accepted, Released, Extents as Listed, Refused}
 use Rattle.heap_model.specs.declared.answer.Refusal.{Refusal}
 use Rattle.heap_model.specs.declared.answer.Refusal.TheVariants.{TooLarge as IsTooLarge, NoSpace as HasNoSpace, NoFrames as HasNoFrames, UnknownBlock, OutOfBlock, BadRange, HeapRegion, Overlap, UnknownRegion}
+use Rattle.heap_model.specs.State.{State}
+use Rattle.heap_model.specs.Answer.{NewPages, new_pages}
 use Rattle.heap_model.specs.Machine.{Paged, Seen}
+use Rattle.mapped_regions.specs.Mapped.{AreRunsUsed}
 use Rattle.mapped_regions.specs.declared.map_fault.MapFault.{MapFault}
 use Rattle.mapped_regions.specs.declared.map_fault.MapFault.TheVariants as Mapping
 use Rattle.mapped_regions.specs.declared.map_fault.UnmapFault.{UnmapFault}
@@ -139,7 +142,7 @@ refusal_of (System OutOfMemory) = None
 
 -- an answer is a refusal
 abbrev pub IsRefusal : Option Refusal → Answer → Type 0
-IsRefusal why answer = (refusal : Refusal) × (why ≡ Some refusal) × (answer ≡ record { reply = Refused refusal; regions = None })
+IsRefusal why answer = (refusal : Refusal) × (why ≡ Some refusal) × (answer ≡ record { reply = Refused refusal; regions = None; large = None })
 
 -- it is the one that the heap gave
 abbrev pub IsRefusalOf : MallocError → Answer → Type 0
@@ -193,16 +196,36 @@ abbrev pub IsReachedByte : Paged → Call → Reply → Type 0
 IsReachedByte p (Probe at access user) (Byte byte) = reached p.words p.root at ≡ Some byte
 IsReachedByte p call reply = ⊤
 
+-- The pages that an answer to a call maps, where no page leaves in the same call: those of a map, or those that were granted for a
+-- new block.
+abbrev pub lasting_pages : State → Call → Answer → Option NewPages
+lasting_pages s (Realloc number size) answer = None
+lasting_pages s (CRealloc number size) answer = None
+lasting_pages s call answer = new_pages s call answer.reply answer.regions
+
+-- Where a slot lies whole among them, had no table, and is not mapped by one entry now, no run of frames is free that it could have.
+abbrev pub AreRunsUsedFor : Paged → Paged → Option NewPages → Type 0
+AreRunsUsedFor old new None = ⊤
+AreRunsUsedFor old new (Some pages) = AreRunsUsed old new pages.start pages.pages
+
+-- a system once the slots of the region that joined last are told: they are kept no more, and nothing else is different
+abbrev pub IsToldFrom : PagedSystem → PagedSystem → Type 0
+IsToldFrom before now = paged now ≡ record (paged before) { slots = (paged now).slots }
+
 -- How the state of the heap moves in a step: a block is cut, and may be cleared then, a block gets another size or is
 -- freed, memory that none needs goes back, a setting is another, the heap is a new one with the settings in force, and nothing
 -- else changes it. The extents that are listed are the heap's.
 abbrev pub HeapMoves : NumberedHeap → Call → Reply → NumberedHeap → Type 0
-HeapMoves old (Malloc size align) (Placed number address) new = IsCutFor false (system_of old) (heap_of old) size align address (system_of new) (heap_of new)
-HeapMoves old (Calloc size align) (Placed number address) new = IsCutFor true (system_of old) (heap_of old) size align address (system_of new) (heap_of new)
+HeapMoves old (Malloc size align) (Placed number address) new =
+    (system : PagedSystem) × IsToldFrom system (system_of new) × IsCutFor false (system_of old) (heap_of old) size align address system (heap_of new)
+HeapMoves old (Calloc size align) (Placed number address) new =
+    (system : PagedSystem) × IsToldFrom system (system_of new) × IsCutFor true (system_of old) (heap_of old) size align address system (heap_of new)
 HeapMoves old (Realloc number size) (Placed given address) new =
-    MatchOption (live_at old.blocks.items number) ⊥ (λ live. IsResizedTo (system_of old) (heap_of old) live.address size live.align address (system_of new) (heap_of new))
+    MatchOption (live_at old.blocks.items number) ⊥
+    (λ live. (system : PagedSystem) × IsToldFrom system (system_of new) × IsResizedTo (system_of old) (heap_of old) live.address size live.align address system (heap_of new))
 HeapMoves old (CRealloc number size) (Placed given address) new =
-    MatchOption (live_at old.blocks.items number) ⊥ (λ live. IsResizedTo (system_of old) (heap_of old) live.address size 16 address (system_of new) (heap_of new))
+    MatchOption (live_at old.blocks.items number) ⊥
+    (λ live. (system : PagedSystem) × IsToldFrom system (system_of new) × IsResizedTo (system_of old) (heap_of old) live.address size 16 address system (heap_of new))
 HeapMoves old (Free number) Done new = MatchOption (live_at old.blocks.items number) ⊥ (λ live. IsFreedAt (system_of old) (heap_of old) live.address (system_of new) (heap_of new))
 HeapMoves old (Trim pad) (Trimmed released) new = heap_of new ≡ trimmed true true 4096 pad (heap_of old)
 HeapMoves old (SetRate rate) Done new = heap_of new ≡ record (heap_of old) { rate = rate; countdown = countdown_from rate }

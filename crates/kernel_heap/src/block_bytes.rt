@@ -43,6 +43,7 @@ impl NumberedHeap {
                 Answer {
                     reply: Reply::Done,
                     regions: None,
+                    large: None,
                 }
             }
             Err(refusal) => refused(refusal),
@@ -62,6 +63,7 @@ impl NumberedHeap {
                         .read_bytes(self.alloc, address, count)?,
                 ),
                 regions: None,
+                large: None,
             }),
             Err(refusal) => Ok(refused(refusal)),
         }

@@ -22,7 +22,7 @@ mod user_regions;
 
 pub use heap_model::{
     Access, Answer, AnswerList, Bytes, Call, CallList, Config, Extent, ExtentList, Kind,
-    PageFaultErrorCode, PublicList, Refusal, Region, RegionList, Reply, Rights,
+    PageFaultErrorCode, PublicList, Refusal, Region, RegionList, Reply, Rights, SlotList,
 };
 pub use machine::Machine;
 pub use mapped_regions::{MapFault, UnmapFault};

@@ -79,7 +79,7 @@ impl Model for Machine {
 
 impl Machine {
     ghost use Rattle.kernel_heap.specs.System.{paged};
-    ghost use Rattle.kernel_heap.specs.Machine.{seen, system_of, heap_of, fresh_heap, HeapMoves, IsReachedByte};
+    ghost use Rattle.kernel_heap.specs.Machine.{seen, system_of, heap_of, fresh_heap, lasting_pages, AreRunsUsedFor, HeapMoves, IsReachedByte};
 
     /// A machine with the configuration's window, granularity and frames. A configuration from which none can be
     /// made is refused before any memory is taken.
@@ -127,6 +127,9 @@ impl Machine {
         ensures err { OnErr result (seen self.new ≡ seen self.old) }
         ensures heap { IfOk result (λ answer. HeapMoves self.old.heap call.now answer.reply self.new.heap) }
         ensures heap_err { OnErr result (heap_of self.new.heap ≡ heap_of self.old.heap) }
+        // After a map, or a block that was granted new pages, each slot that lies whole among the new pages and had no table is
+        // mapped by one entry, or no run of frames is free.
+        ensures runs { (s : State) → IsGood s → Stands (seen self.old) s → IfOk result (λ answer. AreRunsUsedFor (paged (system_of self.old.heap)) (paged (system_of self.new.heap)) (lasting_pages s call.now answer)) }
         // A fault writes CR2, and nothing else changes a register.
         ensures registers { IfOk result (λ answer. self.new.cpu ≡ cpu_after self.old.cpu call.now answer.reply) }
         ensures registers_err { OnErr result (self.new.cpu ≡ self.old.cpu) }

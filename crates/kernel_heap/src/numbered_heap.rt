@@ -1,16 +1,16 @@
 // A heap over a paged system, and the blocks that were handed out of it, by number.
 ghost use Rattle.std.specs.Prelude.{◌≡◌, ◌≢◌, ℕ, ◌<◌, ◌≤◌, ◌++◌, ◌∷◌, Some, None, IfOk, OnErr, [], vec_len, vec_capacity, length};
-ghost use Rattle.paging_core.specs.Pool.{free_count};
 ghost use Rattle.heap_model.specs.State.{State};
 ghost use Rattle.heap_model.specs.Run.{IsGood};
 ghost use Rattle.heap_model.specs.Machine.{Stands, IsStep};
+ghost use Rattle.heap_model.specs.Slots.{listed_slots};
 ghost use Rattle.kernel_heap.specs.Machine.{refusal_of, IsRefusalOf, align_kept};
 
 use crate::heap_calls;
 use crate::paged_system::PagedSystem;
 use dlmalloc::{Dlmalloc, MallocError};
 use heap_memory::GrantFault;
-use heap_model::{Answer, Call, Live, Refusal, Region, RegionList, Reply};
+use heap_model::{Answer, Call, Live, Refusal, Region, RegionList, Reply, SlotList};
 use std::alloc::{AllocError, Global};
 use std::marker::Brand;
 use std::sync::ledger::Blank;
@@ -20,11 +20,12 @@ const LEAST_ALIGNMENT: u64 = 16;
 
 /// The answer that refuses a call.
 pub(crate) fn refused(refusal: Refusal) -> Answer
-    ensures { result ≡ record { reply = Reply.Refused refusal; regions = None } }
+    ensures { result ≡ record { reply = Reply.Refused refusal; regions = None; large = None } }
 {
     Answer {
         reply: Reply::Refused(refusal),
         regions: None,
+        large: None,
     }
 }
 
@@ -48,12 +49,13 @@ fn refused_by(error: MallocError) -> Result<Answer, AllocError>
     }
 }
 
-/// How often a region joined the system, modulo 2^64, and its free frames. A call of the heap brings at most one region, so
-/// the heap's regions are as they were where both are.
+/// How often a region joined the system, modulo 2^64, and its frames that hold no page. A call of the heap brings at most
+/// one region, so the heap's regions are as they were where both are.
 #[derive(Clone, Copy)]
 pub(crate) struct Marks {
     joins: u64,
-    free: u64,
+    /// The free frames and the tables: a cut through a large page may free none, where the first frame becomes a table.
+    pageless: u64,
 }
 
 /// A heap over a paged system, and its blocks by number.
@@ -68,8 +70,8 @@ pub(crate) struct NumberedHeap {
 
 impl NumberedHeap {
     ghost use Rattle.kernel_heap.specs.Words.{heap_regions};
-    ghost use Rattle.kernel_heap.specs.System.{paged};
-    ghost use Rattle.kernel_heap.specs.Machine.{seen_with, system_of, heap_of, live_at, request, resizing, HeapMoves, IsSound};
+    ghost use Rattle.kernel_heap.specs.System.{paged, pageless_frames};
+    ghost use Rattle.kernel_heap.specs.Machine.{seen_with, system_of, heap_of, live_at, request, resizing, lasting_pages, AreRunsUsedFor, HeapMoves, IsSound};
 
     /// Hands out a block of `size` bytes at a multiple of `align`, of value 0 where that is asked for. The answer and the
     /// block have their places before anything changes.
@@ -83,6 +85,7 @@ impl NumberedHeap {
         ensures sound { IsSound self.new }
         ensures ok { (top : ℕ) (s : State) → IsGood s → Stands (seen_with top self.old) s → IfOk result (λ answer. IsStep s (request cleared size align) answer (seen_with top self.new)) }
         ensures err { (top : ℕ) → OnErr result (seen_with top self.new ≡ seen_with top self.old) }
+        ensures runs { (top : ℕ) (s : State) → IsGood s → Stands (seen_with top self.old) s → IfOk result (λ answer. AreRunsUsedFor (paged (system_of self.old)) (paged (system_of self.new)) (lasting_pages s (request cleared size align) answer)) }
         ensures heap { IfOk result (λ answer. HeapMoves self.old (request cleared size align) answer.reply self.new) }
         ensures heap_err { OnErr result (heap_of self.new ≡ heap_of self.old) }
     {
@@ -98,6 +101,7 @@ impl NumberedHeap {
             Ok(address) => Ok(Answer {
                 reply: self.add_block(address, size, align),
                 regions: self.changed_regions(before),
+                large: self.new_slots(before),
             }),
             Err(error) => refused_by(error),
         }
@@ -142,6 +146,7 @@ impl NumberedHeap {
                 Ok(Answer {
                     reply: Reply::Block { number, address },
                     regions: self.changed_regions(before),
+                    large: self.new_slots(before),
                 })
             }
             Err(error) => refused_by(error),
@@ -178,11 +183,12 @@ impl NumberedHeap {
     /// What tells whether regions come or go behind this moment.
     pub(crate) fn marks(&self) -> Marks
         ensures joins { result.joins ≡ (paged (system_of self.now)).joins }
-        ensures free { result.free ≡ free_count (paged (system_of self.now)).free }
+        ensures pageless { result.pageless ≡ pageless_frames (paged (system_of self.now)) }
     {
+        let system = self.heap.allocator();
         Marks {
-            joins: self.heap.allocator().joins(),
-            free: self.heap.allocator().free_frames(),
+            joins: system.joins(),
+            pageless: system.free_frames() + system.tables(),
         }
     }
 
@@ -190,16 +196,35 @@ impl NumberedHeap {
     pub(crate) fn changed_regions(&mut self, before: Marks) -> Option<RegionList>
         requires empty { self.old.list.items ≡ [] }
         requires places { length (paged (system_of self.old)).regions ≤ vec_capacity self.old.list }
-        ensures same { (paged (system_of self.old)).joins ≡ before.joins → free_count (paged (system_of self.old)).free ≡ before.free → result ≡ None }
-        ensures other { ((paged (system_of self.old)).joins ≡ before.joins → free_count (paged (system_of self.old)).free ≡ before.free → ⊥) → result ≡ Some (heap_regions (paged (system_of self.old)).regions) }
+        ensures same { (paged (system_of self.old)).joins ≡ before.joins → pageless_frames (paged (system_of self.old)) ≡ before.pageless → result ≡ None }
+        ensures other { ((paged (system_of self.old)).joins ≡ before.joins → pageless_frames (paged (system_of self.old)) ≡ before.pageless → ⊥) → result ≡ Some (heap_regions (paged (system_of self.old)).regions) }
         ensures blocks { self.new.blocks ≡ self.old.blocks }
         ensures heap { self.new.heap ≡ self.old.heap }
     {
         let now = self.marks();
-        if now.joins == before.joins && now.free == before.free {
+        if now.joins == before.joins && now.pageless == before.pageless {
             return None;
         }
         Some(self.list_regions())
+    }
+
+    /// The slots that the region which joined since a moment has in large pages, if one joined and has any. They are
+    /// told once.
+    pub(crate) fn new_slots(&mut self, before: Marks) -> Option<SlotList>
+        requires sound { IsSound self.old }
+        ensures none { (paged (system_of self.old)).joins ≡ before.joins → result ≡ None × self.new ≡ self.old }
+        ensures slots { ((paged (system_of self.old)).joins ≡ before.joins → ⊥) → result ≡ listed_slots (paged (system_of self.old)).slots }
+        ensures paged { ((paged (system_of self.old)).joins ≡ before.joins → ⊥) → paged (system_of self.new) ≡ record (paged (system_of self.old)) { slots = [] } }
+        ensures sound { IsSound self.new }
+        ensures heap { heap_of self.new ≡ heap_of self.old }
+        ensures granularity { self.new.heap.granularity ≡ self.old.heap.granularity }
+        ensures blocks { self.new.blocks ≡ self.old.blocks }
+    {
+        if self.marks().joins == before.joins {
+            return None;
+        }
+        self.heap.rests_outside();
+        self.heap.allocator_mut().take_slots()
     }
 
     /// The regions of the heap, in the list that has places for them.
@@ -235,6 +260,7 @@ impl NumberedHeap {
         Ok(Answer {
             reply: Reply::Done,
             regions: self.changed_regions(before),
+            large: None,
         })
     }
 
@@ -251,6 +277,7 @@ impl NumberedHeap {
                 Blank::new(1),
             )?),
             regions: None,
+            large: None,
         })
     }
 }

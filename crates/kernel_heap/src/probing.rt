@@ -69,11 +69,13 @@ impl NumberedHeap {
             return Answer {
                 reply: Reply::Fault(fault_code(rights.is_some(), access, user)),
                 regions: None,
+                large: None,
             };
         }
         Answer {
             reply: Reply::Byte(system.byte(at)),
             regions: None,
+            large: None,
         }
     }
 }

@@ -20,6 +20,7 @@ impl NumberedHeap {
         Answer {
             reply: Reply::Done,
             regions: None,
+            large: None,
         }
     }
 
@@ -33,6 +34,7 @@ impl NumberedHeap {
         Answer {
             reply: Reply::Accepted(self.heap.set_granularity(granularity)),
             regions: None,
+            large: None,
         }
     }
 }

@@ -33,6 +33,7 @@ impl NumberedHeap {
         Ok(Answer {
             reply: Reply::Trimmed(regions.is_some()),
             regions,
+            large: None,
         })
     }
 
@@ -58,6 +59,7 @@ impl NumberedHeap {
             } else {
                 Some(RegionList::new(self.alloc))
             },
+            large: None,
         })
     }
 

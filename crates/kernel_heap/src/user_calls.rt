@@ -1,9 +1,10 @@
 // Regions of the user, as calls of the machine.
 ghost use Rattle.std.specs.Prelude.{◌≡◌, ℕ, IfOk, OnErr, None};
 ghost use Rattle.heap_model.specs.State.{State};
+ghost use Rattle.kernel_heap.specs.System.{paged};
 ghost use Rattle.heap_model.specs.Run.{IsGood};
 ghost use Rattle.heap_model.specs.Machine.{Stands, IsStep};
-ghost use Rattle.kernel_heap.specs.Machine.{seen_with, heap_of, map_refusal, unmap_refusal, IsRefusal, IsSound};
+ghost use Rattle.kernel_heap.specs.Machine.{seen_with, system_of, heap_of, lasting_pages, AreRunsUsedFor, map_refusal, unmap_refusal, IsRefusal, IsSound};
 
 use crate::numbered_heap::{NumberedHeap, refused};
 use heap_model::{Answer, Call, Refusal, Reply, Rights};
@@ -46,14 +47,17 @@ impl NumberedHeap {
         requires sound { IsSound self.old }
         ensures sound { IsSound self.new }
         ensures ok { (top : ℕ) (s : State) → IsGood s → Stands (seen_with top self.old) s → IfOk result (λ answer. IsStep s (Call.Map start pages rights) answer (seen_with top self.new)) }
+        ensures runs { (top : ℕ) (s : State) → IsGood s → Stands (seen_with top self.old) s → IfOk result (λ answer. AreRunsUsedFor (paged (system_of self.old)) (paged (system_of self.new)) (lasting_pages s (Call.Map start pages rights) answer)) }
         ensures err { (top : ℕ) → OnErr result (seen_with top self.new ≡ seen_with top self.old) }
         ensures heap { heap_of self.new ≡ heap_of self.old }
     {
         self.heap.rests_outside();
+        let before = self.marks();
         match self.heap.allocator_mut().map(start, pages, rights) {
             Ok(()) => Ok(Answer {
                 reply: Reply::Done,
                 regions: None,
+                large: self.new_slots(before),
             }),
             Err(fault) => refused_map(fault),
         }
@@ -71,6 +75,7 @@ impl NumberedHeap {
             Ok(()) => Answer {
                 reply: Reply::Done,
                 regions: None,
+                large: None,
             },
             Err(fault) => refused(unmap_refusal(fault)),
         }

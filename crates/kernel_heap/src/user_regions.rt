@@ -1,17 +1,29 @@
 // Regions of the user beside the heap: pages that are mapped and unmapped at an address that the caller names.
-ghost use Rattle.std.specs.Prelude.{◌≡◌, IfErr, OnOk, OnErr};
+ghost use Rattle.std.specs.Prelude.{◌≡◌, [], IfErr, OnOk, OnErr};
+ghost use Rattle.heap_model.specs.Slots.{listed_slots};
 ghost use Rattle.mapped_regions.specs.Mapped.{CanMap, IsJoined, IsLeft};
 ghost use Rattle.mapped_regions.specs.UserRegions.{user_region, IsMapRefused, IsUnmapRefused, CanUnmap};
 ghost use Rattle.kernel_heap.specs.System.{paged};
 ghost use Rattle.kernel_heap.specs.Beside.{IsBeside};
 
 use crate::paged_system::PagedSystem;
-use heap_model::Rights;
+use heap_model::{Rights, SlotList};
 use mapped_regions::{MapFault, UnmapFault};
 
 impl PagedSystem {
+    /// Hands out the slots that the region which joined last has in large pages, by first address, if there are any and
+    /// they were not handed out yet. Nothing else is changed (own).
+    pub fn take_slots(&mut self) -> Option<SlotList>
+        ensures slots { result ≡ listed_slots (paged self.old).slots }
+        ensures others { paged self.new ≡ record (paged self.old) { slots = [] } }
+        ensures beside { IsBeside (paged self.old) (paged self.new) }
+    {
+        self.regions.take_slots()
+    }
+
     /// Maps `pages` pages from the address `start` on as a region of the user with these rights, each at a cleared
-    /// frame. A refused call changes nothing, and either leaves the regions of the heap and every word of them (own).
+    /// frame. Slots of 2 MiB that lie whole among them and have no table are mapped by one entry each, as long as a run of
+    /// frames is free. A refused call changes nothing, and either leaves the regions of the heap and every word of them (own).
     pub fn map(&mut self, start: u64, pages: u64, rights: Rights) -> Result<(), MapFault>
         ensures ok { OnOk result (IsJoined (paged self.old) (paged self.new) (user_region start pages rights)) }
         ensures can { OnOk result (CanMap (paged self.old) start pages) }

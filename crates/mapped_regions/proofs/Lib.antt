@@ -1,5 +1,9 @@
-pub mod LastTables
+pub mod MetSlots
+pub mod LargeSlots
+pub mod FewerMissing
 pub mod Looked
 pub mod Mapped
+pub mod NewSlots
+pub mod Ends
 pub mod UserRegions
 pub mod CutPages

@@ -1,21 +1,26 @@
 -- What is kept is kept when a region joins and when one leaves.
-use Rattle.std.proofs.Common.{◌≡◌, ℕ, ◌+◌, ◌-◌, ◌*◌, ◌/◌, ◌%◌, ◌^◌, ◌<◌, ◌≤◌, ◌||◌, ◌&&◌, nat_le, nat_lt, nat_eq, List, [], ◌∷◌, length, refl, sym, ap, ◌∙◌, subst, arith, Bool, true, false, IsTrue, Option, Some, None, option_map, IsSome}
+use Rattle.std.proofs.Common.{◌≡◌, ℕ, ◌+◌, ◌-◌, ◌*◌, ◌/◌, ◌%◌, ◌^◌, ◌<◌, ◌≤◌, ◌||◌, ◌&&◌, ◌⊎◌, inl, inr, nat_le, nat_lt, nat_eq, List, [], ◌∷◌, length, refl, sym, ap, ◌∙◌, subst, arith, Bool, true, false, IsTrue, Option, Some, None, option_map, IsSome}
 use Rattle.std.specs.List.{list_any, AllByRecursion}
+use Rattle.std.proofs.lemmas.Bool.{cases_lt}
 use Rattle.std.proofs.lemmas.Bool.Decides.{nat_tests}
 use Rattle.paging_core.specs.Address.{is_canonical}
 use Rattle.paging_core.specs.Memory.{frame_count}
-use Rattle.paging_core.specs.PageChanges.{ArePagesFreed, among}
-use Rattle.paging_core.specs.Pool.{is_free, free_count, FreeBelow}
-use Rattle.paging_core.specs.Walk.{Place, reach, walk_of, reached, granted}
+use Rattle.paging_core.specs.Prefix.{prefix_of}
+use Rattle.paging_core.specs.Pool.{is_free, FreeBelow}
+use Rattle.paging_core.specs.Walk.{Place, reach, large_of, walk_of, reached, granted}
 use Rattle.paging_core.specs.Tree.{IsTree}
+use Rattle.paging_core.proofs.Reached.{some_not_none}
 use Rattle.paging_core.specs.declared.page_table.Rights.{Rights}
+use Rattle.page_ranges.specs.RangeUnmapping.{AreUnmapped, cut_tables}
 use Rattle.heap_model.specs.declared.region.Region.{Region}
 use Rattle.heap_model.specs.State.{is_within, total_pages}
 use Rattle.heap_model.specs.Place.{meets_any}
-use Rattle.heap_model.specs.Machine.{Paged, rights_of}
-use Rattle.heap_model.proofs.Regions.{within, within_bounds, all_with, pages_with, none_within, find_none, all_without, pages_without, listed, page_canonical}
-use Rattle.region_tree.specs.Regions.{kind_at, is_at, without, AreHeld, IsPutIn, AreTakenOut}
-use Rattle.mapped_regions.specs.Mapped.{IsPageRange, IsRegion, IsMapped, CanMap, IsJoined, IsLeft}
+use Rattle.heap_model.specs.Slots.{IsSlot, slot_number, has_whole, is_whole_in}
+use Rattle.heap_model.specs.Machine.{Paged, ArePagesGone, rights_of}
+use Rattle.heap_model.proofs.Regions.{within, within_bounds, all_with, pages_with, none_within, find_none, listed, any_with, page_canonical}
+use Rattle.heap_model.proofs.Slots.{same_slot, page_slot, page_number, slot_among, whole_true}
+use Rattle.region_tree.specs.Regions.{kind_at, is_at, AreHeld, IsPutIn, AreTakenOut}
+use Rattle.mapped_regions.specs.Mapped.{IsPageRange, IsRegion, IsMapped, CanMap, IsJoined}
 
 -- ---- regions of a list
 
@@ -82,6 +87,11 @@ held_mapped p start pages k m range held less =
     some_mapped (walk_of p.words p.root (start / 4096 + k)) (kind_at p.regions (4096 * (start / 4096 + k))) (m.found (start / 4096 + k) (page_canonical (start / 4096) pages k range.1 less))
     (kind_held (4096 * (start / 4096 + k)) p.regions (held (4096 * (start / 4096 + k)) (omega arith) (omega arith)))
 
+-- where no slot is large, there is nothing to say of them
+pub none_large : (words : List ℕ) (root : ℕ) (regions : List Region) → ((slot : ℕ) → large_of words root slot ≡ None) →
+    (slot : ℕ) → IsSlot slot → IsSome (large_of words root (slot_number slot)) → is_whole_in regions slot ≡ true
+none_large words root regions none slot is some = absurd (some_not_none (large_of words root (slot_number slot)) some (none (slot_number slot)))
+
 -- ---- a region joins
 
 pub joined_mapped : (old new : Paged) (region : Region) → IsMapped old → IsRegion old.base old.pages region → CanMap old region.start region.pages → IsJoined old new region →
@@ -89,32 +99,50 @@ pub joined_mapped : (old new : Paged) (region : Region) → IsMapped old → IsR
     ((other : ℕ) → IsTrue (is_canonical (other * 4096)) → ((k : ℕ) → k < region.pages → other ≡ region.start / 4096 + k → ⊥) → walk_of new.words old.root other ≡ walk_of old.words old.root other) →
     IsMapped new
 joined_mapped old new region m kind can j put elsewhere = record {
-  window = subst (λ b. IsPageRange b new.pages) (sym j.base) (subst (λ n. IsPageRange old.base n) (sym j.pages) m.window);
-  tree = subst (λ r. IsTree new.words r new.free) (sym j.root) j.added.tree;
+  window = subst (λ b. IsPageRange b new.pages) (sym j.added.base) (subst (λ n. IsPageRange old.base n) (sym j.added.pages_is) m.window);
+  tree = subst (λ r. IsTree new.words r new.free) (sym j.added.root) j.added.added.pages_added.tree;
   known = known;
-  flags = (let s = j.added.size in let f = j.added.flags in let h = m.flags in omega arith);
-  root_in = (let r = j.root in let s = j.added.size in let h = m.root_in in omega arith);
-  few_frames = (let s = j.added.size in let h = m.few_frames in omega arith);
-  count = (let s = j.added.size in let h = m.count in let c = j.added.count in let t = j.tables in
+  flags = (let s = j.added.added.pages_added.size in let f = j.added.added.pages_added.flags in let h = m.flags in omega arith);
+  root_in = (let r = j.added.root in let s = j.added.added.pages_added.size in let h = m.root_in in omega arith);
+  few_frames = (let s = j.added.added.pages_added.size in let h = m.few_frames in omega arith);
+  count = (let s = j.added.added.pages_added.size in let h = m.count in let c = j.added.added.count in let t = j.added.tables in
       let all : total_pages new.regions ≡ region.pages + total_pages old.regions = ap total_pages j.regions ∙ pages_with region old.regions in omega arith);
-  regions = subst (λ b. AllByRecursion (IsRegion b new.pages) new.regions) (sym j.base) (subst (λ n. AllByRecursion (IsRegion old.base n) new.regions) (sym j.pages)
+  regions = subst (λ b. AllByRecursion (IsRegion b new.pages) new.regions) (sym j.added.base) (subst (λ n. AllByRecursion (IsRegion old.base n) new.regions) (sym j.added.pages_is)
       (subst (AllByRecursion (IsRegion old.base old.pages)) (sym j.regions) (all_with (IsRegion old.base old.pages) region old.regions kind m.regions)));
-  found = λ page canonical. subst (λ r. option_map rights_of (walk_of new.words r page) ≡ option_map (λ (kind : Bool × Rights). kind.1) (kind_at new.regions (4096 * page))) (sym j.root)
+  found = λ page canonical. subst (λ r. option_map rights_of (walk_of new.words r page) ≡ option_map (λ (kind : Bool × Rights). kind.1) (kind_at new.regions (4096 * page))) (sym j.added.root)
       (found page canonical (is_within (4096 * page) region) refl);
+  larges = λ slot is some. ap (λ regions. is_whole_in regions slot) j.regions ∙ (any_with (has_whole slot) region old.regions
+      ∙ whole slot is (subst (λ r. IsSome (large_of new.words r (slot_number slot))) j.added.root some) (large_of old.words old.root (slot_number slot)) refl (has_whole slot region) refl);
 }
   where
     known : FreeBelow new.free (frame_count new.words)
     known f free = elim (is_free old.free f) as (λ b. is_free old.free f ≡ b → f < frame_count new.words) [
-      | true ↦ λ was. (let h = m.known f was in let s = j.added.size in omega arith)
-      | false ↦ λ was. (let h = j.added.fewer f was in absurd (cc))
+      | true ↦ λ was. (let h = m.known f was in let s = j.added.added.pages_added.size in omega arith)
+      | false ↦ λ was. (let h = j.added.added.pages_added.fewer f was in absurd (cc))
     ] refl
+
+    -- a large page that was there lies whole in a region as before, and a new one in the region that joined
+    whole : (slot : ℕ) → IsSlot slot → IsSome (large_of new.words old.root (slot_number slot)) → (was : Option Place) → large_of old.words old.root (slot_number slot) ≡ was →
+        (b : Bool) → has_whole slot region ≡ b → (b || is_whole_in old.regions slot) ≡ true
+    whole slot is some was at true here = refl
+    whole slot is some (Some large) at false here = m.larges slot is (subst IsSome (sym at) refl)
+    whole slot is some None at false here = absurd (
+        let same = j.added.added.slots.small (slot_number slot) (λ count wide less e. (
+        let of = slot_among region.start region.pages count can.range.0 can.range.1 wide.from wide.to in
+        let number : slot_number (count * 2 ^ 21) ≡ count % 2 ^ 27 = omega arith in
+        let one = same_slot slot (count * 2 ^ 21) is of.is_slot (e ∙ sym number) in
+        let from = of.from in
+        let to = of.within in
+        let yes = whole_true slot region (omega arith) (omega arith) in
+        let no : true ≡ false = sym yes ∙ here in cc)) in
+        some_not_none (large_of new.words old.root (slot_number slot)) some (same ∙ at))
 
     found : (page : ℕ) → IsTrue (is_canonical (page * 4096)) → (b : Bool) → is_within (4096 * page) region ≡ b →
         option_map rights_of (walk_of new.words old.root page) ≡ option_map (λ (kind : Bool × Rights). kind.1) (kind_at new.regions (4096 * page))
     found page canonical true is =
         let whole = can.range.0 in
         let bounds = within_bounds (4096 * page) region is in
-        let n = j.added.mapped (page - region.start / 4096) (omega (arith, bounds.0, bounds.1)) in
+        let n = j.added.added.mapped (page - region.start / 4096) (omega (arith, bounds.0, bounds.1)) in
         let same : region.start / 4096 + (page - region.start / 4096) ≡ page = omega (arith, bounds.0) in
         let at : walk_of new.words old.root page ≡ Some (granted n.frame region.rights) = subst (λ q. walk_of new.words old.root q ≡ Some (granted n.frame region.rights)) same n.found in
         let here : kind_at new.regions (4096 * page) ≡ Some (region.heap, region.rights) = put (4096 * page) ∙ rw is refl in
@@ -128,83 +156,102 @@ joined_mapped old new region m kind can j put elsewhere = record {
 
 -- ---- a region leaves
 
--- its pages are removed and their frames freed, and it is listed no more
-pub is_left : (old : Paged) (words : List ℕ) (free : List Bool) (regions : List Region) (first start pages : ℕ) → first ≡ start / 4096 → regions ≡ without start pages old.regions →
-    ArePagesFreed old.words words old.free free old.root (among first pages) → IsTree words old.root free → free_count free ≡ free_count old.free + pages →
-    ((k : ℕ) → k < pages → walk_of words old.root (first + k) ≡ None) →
+-- its pages are unmapped
+pub pages_gone : (old : Paged) (words : List ℕ) (free : List Bool) (regions : List Region) (tables first start pages : ℕ) → first ≡ start / 4096 →
+    AreUnmapped old.words words old.free free old.root first pages → IsTree words old.root free → ((k : ℕ) → k < pages → walk_of words old.root (first + k) ≡ None) →
     ((other : ℕ) → IsTrue (is_canonical (other * 4096)) → ((k : ℕ) → k < pages → other ≡ first + k → ⊥) → walk_of words old.root other ≡ walk_of old.words old.root other) →
     ((address : ℕ) → IsSome (walk_of words old.root (address / 4096)) → reached words old.root address ≡ reached old.words old.root address) →
-    IsLeft old (record old { words = words; free = free; regions = regions }) start pages
-is_left old words free regions first start pages first_is gone freed tree count unmapped others bytes = record {
+    tables ≡ old.tables + cut_tables old.words old.root (start / 4096) → ArePagesGone old (record old { words = words; free = free; regions = regions; tables = tables }) start pages
+pages_gone old words free regions tables first start pages first_is gone tree unmapped others bytes count = record {
   base = refl;
   pages_is = refl;
   root = refl;
-  tables = refl;
   joins = refl;
-  regions = gone;
-  freed = subst (λ f. ArePagesFreed old.words words old.free free old.root (among f pages)) first_is freed;
+  slots = refl;
+  tables = count;
+  gone = subst (λ f. AreUnmapped old.words words old.free free old.root f pages) first_is gone;
   tree = tree;
-  count = count;
   unmapped = λ k less. subst (λ f. walk_of words old.root (f + k) ≡ None) first_is (unmapped k less);
   others = λ other canonical apart. others other canonical (λ k less e. apart k less (e ∙ ap (λ f. f + k) first_is));
   bytes = bytes;
 }
 
--- what stays beside the regions when pages leave
-pub record IsRest (old new : Paged) (start pages : ℕ) : Type 0 where
-  pub base : new.base ≡ old.base
-  pub pages_is : new.pages ≡ old.pages
-  pub root : new.root ≡ old.root
-  pub tables : new.tables ≡ old.tables
-  pub freed : ArePagesFreed old.words new.words old.free new.free old.root (among (start / 4096) pages)
-  pub count : free_count new.free ≡ free_count old.free + pages
+inside : (from to at : ℕ) → from ≤ at → at < to → (nat_le from at && nat_lt at to) ≡ true
+inside from to at above below = grind (arith, nat_tests)
 
-pub fewer_mapped : (old new : Paged) (start pages : ℕ) → IsMapped old → start % 4096 ≡ 0 → total_pages new.regions + pages ≡ total_pages old.regions →
-    AllByRecursion (IsRegion old.base old.pages) new.regions → IsRest old new start pages →
-    AreTakenOut start (start + 4096 * pages) old.regions new.regions → IsTree new.words old.root new.free → FreeBelow new.free (frame_count new.words) →
-    ((k : ℕ) → k < pages → walk_of new.words old.root (start / 4096 + k) ≡ None) →
-    ((other : ℕ) → IsTrue (is_canonical (other * 4096)) → ((k : ℕ) → k < pages → other ≡ start / 4096 + k → ⊥) → walk_of new.words old.root other ≡ walk_of old.words old.root other) →
-    IsMapped new
-fewer_mapped old new start pages m whole all regions l taken tree known none elsewhere = record {
-  window = subst (λ b. IsPageRange b new.pages) (sym l.base) (subst (λ n. IsPageRange old.base n) (sym l.pages_is) m.window);
-  tree = subst (λ r. IsTree new.words r new.free) (sym l.root) tree;
+inside_bounds : (from to at : ℕ) → (nat_le from at && nat_lt at to) ≡ true → (from ≤ at) × (at < to)
+inside_bounds from to at is = (grind (arith, nat_tests), grind (arith, nat_tests))
+
+pub fewer_mapped : (old new : Paged) (start pages : ℕ) → IsMapped old → IsPageRange start pages → total_pages new.regions + pages ≡ total_pages old.regions →
+    AllByRecursion (IsRegion old.base old.pages) new.regions → ArePagesGone old new start pages →
+    AreTakenOut start (start + 4096 * pages) old.regions new.regions → FreeBelow new.free (frame_count new.words) →
+    ((slot : ℕ) → IsSlot slot → (slot + 2 ^ 21 ≤ start) ⊎ (start + 4096 * pages ≤ slot) → is_whole_in old.regions slot ≡ true → is_whole_in new.regions slot ≡ true) → IsMapped new
+fewer_mapped old new start pages m range all regions g taken known whole = record {
+  window = subst (λ b. IsPageRange b new.pages) (sym g.base) (subst (λ n. IsPageRange old.base n) (sym g.pages_is) m.window);
+  tree = subst (λ r. IsTree new.words r new.free) (sym g.root) g.tree;
   known = known;
-  flags = (let s = l.freed.removed.size in let f = l.freed.flags in let h = m.flags in omega arith);
-  root_in = (let r = l.root in let s = l.freed.removed.size in let h = m.root_in in omega arith);
-  few_frames = (let s = l.freed.removed.size in let h = m.few_frames in omega arith);
-  count = (let s = l.freed.removed.size in let h = m.count in let c = l.count in let t = l.tables in omega arith);
-  regions = subst (λ b. AllByRecursion (IsRegion b new.pages) new.regions) (sym l.base) (subst (λ n. AllByRecursion (IsRegion old.base n) new.regions) (sym l.pages_is)
+  flags = (let s = g.gone.size in let f = g.gone.flags in let h = m.flags in omega arith);
+  root_in = (let r = g.root in let s = g.gone.size in let h = m.root_in in omega arith);
+  few_frames = (let s = g.gone.size in let h = m.few_frames in omega arith);
+  count = (let s = g.gone.size in let h = m.count in let c = g.gone.count in let t = g.tables in omega arith);
+  regions = subst (λ b. AllByRecursion (IsRegion b new.pages) new.regions) (sym g.base) (subst (λ n. AllByRecursion (IsRegion old.base n) new.regions) (sym g.pages_is)
       regions);
-  found = λ page canonical. subst (λ r. option_map rights_of (walk_of new.words r page) ≡ option_map (λ (kind : Bool × Rights). kind.1) (kind_at new.regions (4096 * page))) (sym l.root)
+  found = λ page canonical. subst (λ r. option_map rights_of (walk_of new.words r page) ≡ option_map (λ (kind : Bool × Rights). kind.1) (kind_at new.regions (4096 * page))) (sym g.root)
       (found page canonical (nat_le start (4096 * page) && nat_lt (4096 * page) (start + 4096 * pages)) refl);
+  larges = λ slot is some. larges slot is (subst (λ r. IsSome (large_of new.words r (slot_number slot))) g.root some);
 }
   where
+    aligned : start % 4096 ≡ 0
+    aligned = range.0
+
     found : (page : ℕ) → IsTrue (is_canonical (page * 4096)) → (b : Bool) → (nat_le start (4096 * page) && nat_lt (4096 * page) (start + 4096 * pages)) ≡ b →
         option_map rights_of (walk_of new.words old.root page) ≡ option_map (λ (kind : Bool × Rights). kind.1) (kind_at new.regions (4096 * page))
     found page canonical true is =
-        let above : start ≤ 4096 * page = grind (arith, nat_tests) in
-        let below : 4096 * page < start + 4096 * pages = grind (arith, nat_tests) in
+        let at = aligned in
+        let bounds = inside_bounds start (start + 4096 * pages) (4096 * page) is in
+        let above : start ≤ 4096 * page = bounds.0 in
+        let below : 4096 * page < start + 4096 * pages = bounds.1 in
         let same : start / 4096 + (page - start / 4096) ≡ page = omega arith in
-        let gone : walk_of new.words old.root page ≡ None = subst (λ q. walk_of new.words old.root q ≡ None) same (none (page - start / 4096) (omega arith)) in
+        let gone : walk_of new.words old.root page ≡ None = subst (λ q. walk_of new.words old.root q ≡ None) same (g.unmapped (page - start / 4096) (omega arith)) in
         let here : kind_at new.regions (4096 * page) ≡ None = taken (4096 * page) ∙ rw is refl in
         ap (option_map rights_of) gone ∙ sym (ap (option_map (λ (kind : Bool × Rights). kind.1)) here)
     found page canonical false is =
+        let at = aligned in
         let apart : (k : ℕ) → k < pages → page ≡ start / 4096 + k → ⊥ = λ k less e. (
         let above : start ≤ 4096 * page = omega arith in
         let below : 4096 * page < start + 4096 * pages = omega arith in
-        let yes : (nat_le start (4096 * page) && nat_lt (4096 * page) (start + 4096 * pages)) ≡ true = grind (arith, nat_tests) in absurd (cc)) in
+        let no : true ≡ false = sym (inside start (start + 4096 * pages) (4096 * page) above below) ∙ is in cc) in
         let here : kind_at new.regions (4096 * page) ≡ kind_at old.regions (4096 * page) = taken (4096 * page) ∙ rw is refl in
-        ap (option_map rights_of) (elsewhere page canonical apart) ∙ (m.found page canonical ∙ sym (ap (option_map (λ (kind : Bool × Rights). kind.1)) here))
+        ap (option_map rights_of) (g.others page canonical apart) ∙ (m.found page canonical ∙ sym (ap (option_map (λ (kind : Bool × Rights). kind.1)) here))
 
-pub left_mapped : (old new : Paged) (start pages : ℕ) → IsMapped old → list_any (is_at start pages) old.regions ≡ true → IsLeft old new start pages →
-    AreTakenOut start (start + 4096 * pages) old.regions new.regions → FreeBelow new.free (frame_count new.words) → IsMapped new
-left_mapped old new start pages m there l taken known =
-    fewer_mapped old new start pages m
-    (let r = listed (IsRegion old.base old.pages) start pages old.regions m.regions there in let w = r.1.range.0 in let s = r.2 in omega arith)
-    (ap (λ rs. total_pages rs + pages) l.regions ∙ pages_without start pages old.regions there)
-    (subst (AllByRecursion (IsRegion old.base old.pages)) (sym l.regions) (all_without (IsRegion old.base old.pages) start pages old.regions m.regions))
-    (record { base = l.base; pages_is = l.pages_is; root = l.root; tables = l.tables; freed = l.freed; count = l.count })
-    taken l.tree known l.unmapped l.others
+    -- the slot of a page that leaves has no large page
+    no_large : (slot k : ℕ) → IsSlot slot → IsSome (large_of new.words old.root (slot_number slot)) → k < pages → slot ≡ (start / 4096 + k) / 512 * 2 ^ 21 → ⊥
+    no_large slot k is some less at =
+        let number : slot_number slot ≡ prefix_of (start / 4096 + k) 3 = ap slot_number at ∙ page_number (start / 4096 + k) in
+        let none : large_of new.words old.root (slot_number slot) ≡ None = ap (large_of new.words old.root) number ∙ g.gone.large_gone k less in
+        some_not_none (large_of new.words old.root (slot_number slot)) some none
+
+    -- so a slot that has one is beside the pages, and it was there
+    beside : (slot : ℕ) → IsSlot slot → IsSome (large_of new.words old.root (slot_number slot)) → (slot + 2 ^ 21 ≤ start) ⊎ (start + 4096 * pages ≤ slot)
+    beside slot is some = elim (cases_lt start (slot + 2 ^ 21)) [
+      | inr before ↦ inl before
+      | inl below ↦ elim (cases_lt slot (start + 4096 * pages)) [
+        | inr behind ↦ inr behind
+        | inl above ↦ absurd (elim (cases_lt start slot) [
+          | inl inside ↦ (let w = is.aligned in let a = aligned in no_large slot (slot / 4096 - start / 4096) is some (omega arith) (omega arith))
+          | inr over ↦ (let w = is.aligned in let a = aligned in let positive = range.1.some in no_large slot 0 is some (omega arith) (omega arith))
+        ])
+      ]
+    ]
+
+    larges : (slot : ℕ) → IsSlot slot → IsSome (large_of new.words old.root (slot_number slot)) → is_whole_in new.regions slot ≡ true
+    larges slot is some =
+        let apart = beside slot is some in
+        let same = g.gone.larges_stay (slot_number slot) (λ k less e. (
+        let canonical = page_canonical (start / 4096) pages k range.1 less in
+        let one = same_slot slot ((start / 4096 + k) / 512 * 2 ^ 21) is (page_slot (start / 4096 + k) canonical) (e ∙ sym (page_number (start / 4096 + k))) in
+        no_large slot k is some less one)) in
+        whole slot is apart (m.larges slot is (subst IsSome same some))
 
 -- ---- a range, and the region that has it
 
@@ -231,9 +278,10 @@ listed_range p start pages m there =
 -- ---- a word is stored
 
 pub stored_mapped : (p : Paged) (words : List ℕ) → IsMapped p → length words ≡ length p.words → IsTree words p.root p.free →
-    ((level number : ℕ) → level ≤ 4 → reach words p.root level number ≡ reach p.words p.root level number) → IsMapped (record p { words = words })
+    ((level number : ℕ) → level ≤ 4 → reach words p.root level number ≡ reach p.words p.root level number) →
+    ((number : ℕ) → large_of words p.root number ≡ large_of p.words p.root number) → IsMapped (record p { words = words })
 unfolding walk_of
-stored_mapped p words m size tree walks = record {
+stored_mapped p words m size tree walks larges = record {
   window = m.window;
   tree = tree;
   known = λ f free. (let h = m.known f free in omega arith);
@@ -243,4 +291,22 @@ stored_mapped p words m size tree walks = record {
   count = (let h = m.count in omega arith);
   regions = m.regions;
   found = λ page canonical. ap (option_map rights_of) (walks 4 (page % 2 ^ 36) (omega arith)) ∙ m.found page canonical;
+  larges = λ slot is some. m.larges slot is (subst IsSome (larges (slot_number slot)) some);
+}
+
+-- ---- the list of slots
+
+-- what is kept says nothing of it
+pub with_slots : (p : Paged) (slots : List ℕ) → IsMapped p → IsMapped (record p { slots = slots })
+with_slots p slots m = record {
+  window = m.window;
+  tree = m.tree;
+  known = m.known;
+  flags = m.flags;
+  root_in = m.root_in;
+  few_frames = m.few_frames;
+  count = m.count;
+  regions = m.regions;
+  found = m.found;
+  larges = m.larges;
 }

@@ -1,4 +1,4 @@
-pub mod LastTables
+pub mod MetSlots
 pub mod Mapped
 pub mod Shown
 pub mod UserRegions

@@ -1,21 +1,22 @@
 -- What is kept where regions are mapped, and how they join and leave. `old` is what is seen before, `new` after.
-use Rattle.std.specs.Prelude.{◌≡◌, ℕ, ◌+◌, ◌*◌, ◌/◌, ◌%◌, ◌^◌, ◌<◌, ◌≤◌, true, IsTrue, IsFalse, IsSome, List, [], length, Option, Some, None}
+use Rattle.std.specs.Prelude.{◌≡◌, ℕ, ◌+◌, ◌*◌, ◌/◌, ◌%◌, ◌^◌, ◌<◌, ◌≤◌, true, false, IsTrue, IsFalse, IsSome, List, [], length, Option, Some, None}
 use Rattle.std.specs.Option.{option_map}
 use Rattle.std.specs.List.{AllByRecursion, AllByRecursion-prop}
 use Rattle.std.proofs.Props.{props}
 use Rattle.paging_core.specs.Address.{is_canonical, IsCanonicalRange}
 use Rattle.paging_core.specs.Memory.{frame_count, word_at}
 use Rattle.paging_core.specs.Pool.{FreeBelow, free_count}
-use Rattle.paging_core.specs.Walk.{reach, walk_of, reached, Place}
+use Rattle.paging_core.specs.Runs.{IsRunFree}
+use Rattle.paging_core.specs.Walk.{reach, large_of, walk_of, reached, Place}
 use Rattle.paging_core.specs.Tree.{IsTree}
 use Rattle.paging_core.specs.Missing.{missing_of}
-use Rattle.paging_core.specs.Mapping.{IsRangeAdded}
-use Rattle.paging_core.specs.PageChanges.{ArePagesFreed, among}
 use Rattle.heap_model.specs.declared.region.Region.{Region}
 use Rattle.heap_model.specs.State.{end_of, is_within, total_pages}
 use Rattle.heap_model.specs.Place.{meets_any, with_region}
 use Rattle.heap_model.specs.Room.{heap_rights}
-use Rattle.heap_model.specs.Machine.{Paged, rights_of}
+use Rattle.page_ranges.specs.RangeUnmapping.{is_cut}
+use Rattle.heap_model.specs.Slots.{IsSlot, IsSlotOf, slot_number, is_whole_in}
+use Rattle.heap_model.specs.Machine.{Paged, ArePagesAdded, ArePagesGone, rights_of}
 use Rattle.region_tree.specs.Regions.{kind_at, without, cut_of}
 
 -- whole pages from an address on: at least one, and all in one canonical half
@@ -29,8 +30,8 @@ pub record IsRegion (base window : ℕ) (region : Region) : Type 0 where
   pub within : region.heap ≡ true → end_of region ≤ base + 4096 * window
   pub rights : region.heap ≡ true → region.rights ≡ heap_rights
 
--- The tables form a tree; the walk finds a page exactly where a region has it, with the region's rights; and each frame
--- is free, or a table, or that of a page of a region.
+-- The tables form a tree; the walk finds a page exactly where a region has it, with the region's rights; each slot that one
+-- entry maps lies whole in a region; and each frame is free, or a table, or that of a page of a region.
 pub record IsMapped (p : Paged) : Type 0 where
   pub window : IsPageRange p.base p.pages
   pub tree : IsTree p.words p.root p.free
@@ -43,6 +44,7 @@ pub record IsMapped (p : Paged) : Type 0 where
   pub found :
       (page : ℕ) → IsTrue (is_canonical (page * 4096)) →
       option_map rights_of (walk_of p.words p.root page) ≡ option_map (λ kind. kind.1) (kind_at p.regions (4096 * page))
+  pub larges : (slot : ℕ) → IsSlot slot → IsSome (large_of p.words p.root (slot_number slot)) → IsTrue (is_whole_in p.regions slot)
 
 -- nothing is mapped, and all frames but that of the root are free
 pub record IsEmpty (p : Paged) (base pages frames : ℕ) : Type 0 where
@@ -53,6 +55,8 @@ pub record IsEmpty (p : Paged) (base pages frames : ℕ) : Type 0 where
   pub frames_are : frame_count p.words ≡ frames
   pub free_frames : free_count p.free + 1 ≡ frames
   pub no_tables : (level number : ℕ) → 0 < level → reach p.words p.root level number ≡ None
+  pub no_larges : (number : ℕ) → large_of p.words p.root number ≡ None
+  pub no_slots : p.slots ≡ []
   pub unmapped : (page : ℕ) → walk_of p.words p.root page ≡ None
 
 -- there are frames for so many pages from a page on, and for the tables that they lack
@@ -65,53 +69,37 @@ pub record CanMap (p : Paged) (start pages : ℕ) : Type 0 where
   pub clear : IsFalse (meets_any start pages p.regions)
   pub frames : HasFrames p (start / 4096) pages
 
+-- Where a slot lies whole among so many pages from an address on, had no table, and is not mapped by one entry now, no run of
+-- frames is free that it could have.
+abbrev pub AreRunsUsed : Paged → Paged → ℕ → ℕ → Type 0
+AreRunsUsed old new start pages =
+    (slot : ℕ) → IsSlotOf start pages slot → reach old.words old.root 3 (slot_number slot) ≡ None → large_of new.words new.root (slot_number slot) ≡ None →
+    (run : ℕ) → IsRunFree new.free run → ⊥
+
 -- A region joined the others. Its pages are mapped with its rights, each at a new frame that reads as 0, with the
--- tables that they lacked; every byte that was mapped stays.
+-- tables that they lacked; slots that lie whole in it and had no table are mapped by one entry each, as long as a run of
+-- frames was free; every byte that was mapped stays.
 pub record IsJoined (old new : Paged) (region : Region) : Type 0 where
-  pub base : new.base ≡ old.base
-  pub pages : new.pages ≡ old.pages
-  pub root : new.root ≡ old.root
   pub regions : new.regions ≡ with_region region old.regions
-  pub tables : new.tables ≡ old.tables + missing_of old.words old.root (region.start / 4096) region.pages
   pub joins : new.joins ≡ (old.joins + 1) % 2 ^ 64
-  pub added : IsRangeAdded old.words new.words old.free new.free old.root (region.start / 4096) region.pages region.rights
+  pub added : ArePagesAdded old new region.start region.pages region.rights
+  pub runs : AreRunsUsed old new region.start region.pages
   pub zeros : (address : ℕ) → IsTrue (is_within address region) → reached new.words old.root address ≡ Some 0
   pub bytes : (address : ℕ) → IsSome (walk_of old.words old.root (address / 4096)) → reached new.words old.root address ≡ reached old.words old.root address
 
 -- The region of so many pages at an address left. Its pages are mapped no more and their frames are free; the tables
--- stay, and so does every byte that is still mapped.
+-- stay and none is made, and so does every byte that is still mapped.
 pub record IsLeft (old new : Paged) (start pages : ℕ) : Type 0 where
-  pub base : new.base ≡ old.base
-  pub pages_is : new.pages ≡ old.pages
-  pub root : new.root ≡ old.root
-  pub tables : new.tables ≡ old.tables
-  pub joins : new.joins ≡ old.joins
   pub regions : new.regions ≡ without start pages old.regions
-  pub freed : ArePagesFreed old.words new.words old.free new.free old.root (among (start / 4096) pages)
-  pub tree : IsTree new.words old.root new.free
-  pub count : free_count new.free ≡ free_count old.free + pages
-  pub unmapped : (k : ℕ) → k < pages → walk_of new.words old.root (start / 4096 + k) ≡ None
-  pub others :
-      (page : ℕ) → IsTrue (is_canonical (page * 4096)) → ((k : ℕ) → k < pages → page ≡ start / 4096 + k → ⊥) → walk_of new.words old.root page ≡ walk_of old.words old.root page
-  pub bytes : (address : ℕ) → IsSome (walk_of new.words old.root (address / 4096)) → reached new.words old.root address ≡ reached old.words old.root address
+  pub gone : ArePagesGone old new start pages
+  pub whole : is_cut old.words old.root (start / 4096) ≡ false
 
 -- So many pages from an address on left the regions: one that begins among them left, and one that reaches there from
--- before ends where they begin. They are mapped no more and their frames are free; the tables stay, and so does every
--- byte that is still mapped.
+-- before ends where they begin. They are mapped no more and their frames are free, but for that of the table of a slot that
+-- was mapped by one entry and is left in part; the other tables stay, and so does every byte that is still mapped.
 pub record AreGone (old new : Paged) (start pages : ℕ) : Type 0 where
-  pub base : new.base ≡ old.base
-  pub pages_is : new.pages ≡ old.pages
-  pub root : new.root ≡ old.root
-  pub tables : new.tables ≡ old.tables
-  pub joins : new.joins ≡ old.joins
   pub regions : new.regions ≡ cut_of start pages old.regions
-  pub freed : ArePagesFreed old.words new.words old.free new.free old.root (among (start / 4096) pages)
-  pub count : free_count new.free ≡ free_count old.free + pages
-  pub unmapped : (k : ℕ) → k < pages → walk_of new.words old.root (start / 4096 + k) ≡ None
-  pub elsewhere :
-      (page : ℕ) → IsTrue (is_canonical (page * 4096)) → ((k : ℕ) → k < pages → page ≡ start / 4096 + k → ⊥) →
-      walk_of new.words old.root page ≡ walk_of old.words old.root page
-  pub bytes : (address : ℕ) → IsSome (walk_of new.words old.root (address / 4096)) → reached new.words old.root address ≡ reached old.words old.root address
+  pub gone : ArePagesGone old new start pages
 
 -- a word stands at the address, in a page that is mapped
 pub record IsMappedWord (p : Paged) (at : ℕ) : Type 0 where

@@ -2,13 +2,16 @@
 //! anywhere.
 #![tactic(auto)]
 
-mod last_tables;
+mod large_slots;
 mod map_fault;
+mod met_slots;
 mod regions;
 mod user_regions;
 
 pub use map_fault::{MapFault, UnmapFault};
 pub use regions::MappedRegions;
 
+#[cfg(test)]
+mod random_tests;
 #[cfg(test)]
 mod tests;

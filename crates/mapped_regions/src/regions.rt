@@ -1,26 +1,29 @@
 // Regions that are mapped in page tables over a physical memory.
-ghost use Rattle.std.specs.Prelude.{◌≡◌, ℕ, ◌+◌, ◌*◌, ◌/◌, ◌%◌, ◌^◌, ◌≤◌, ◌<◌, ◌↔◌, IsTrue, IsSome, IfOk, IfErr, IfSome, IfNone, OnOk, OnErr, List, Bool, set, filter, length, slice_index, vec_capacity, Some, [], ◌⊎◌};
+ghost use Rattle.std.specs.Prelude.{◌≡◌, ℕ, ◌+◌, ◌*◌, ◌/◌, ◌%◌, ◌^◌, ◌≤◌, ◌<◌, ◌↔◌, IsTrue, IsSome, IfOk, IfErr, IfSome, IfNone, OnOk, OnErr, List, Bool, set, filter, length, slice_index, vec_capacity, Some, [], ◌⊎◌, ◌≢◌};
 ghost use Rattle.std.specs.List.{list_any};
 ghost use Rattle.std.specs.Option.{option_map};
 ghost use Rattle.paging_core.specs.Address.{is_canonical, IsCanonicalRange};
 ghost use Rattle.paging_core.specs.Memory.{word_at, byte_of, AreWordsWritten};
 ghost use Rattle.paging_core.specs.Pool.{free_count};
-ghost use Rattle.paging_core.specs.Walk.{walk_of, reach, reached};
+ghost use Rattle.paging_core.specs.Walk.{walk_of, reach, large_of, reached};
 ghost use Rattle.paging_core.specs.Tree.{IsTree};
 ghost use Rattle.heap_model.specs.Place.{IsPlace, HasNoPlace};
 ghost use Rattle.heap_model.specs.Machine.{rights_of};
 ghost use Rattle.region_tree.specs.Regions.{is_at, kind_at, AreHeld, IsBoundary};
-ghost use Rattle.mapped_regions.specs.LastTables.{AreMet, AreMet-prop};
+ghost use Rattle.mapped_regions.specs.MetSlots.{AreMet, AreMet-prop};
 ghost use Rattle.mapped_regions.specs.Mapped.{IsPageRange, IsMapped, IsMapped-prop};
 
-use crate::last_tables::LastTables;
-use heap_model::{Region, RegionList, Rights};
+use crate::large_slots::list_large;
+use crate::met_slots::MetSlots;
+use heap_model::{Region, RegionList, Rights, SlotList};
+use page_ranges::{map_pages, unmap_pages};
 use paging_core::{
-    FramePool, Frames, Page, PageSize, PhysFrame, Size4KiB, VirtAddr, load_word, make_root,
-    map_range, missing_tables, unmap_range, walk,
+    FramePool, Frames, Page, PageSize, PhysFrame, Size2MiB, Size4KiB, VirtAddr, load_word,
+    make_root, missing_tables, walk,
 };
 use region_tree::RegionTree;
 use std::alloc::{AllocError, Global};
+use std::mem;
 
 /// The place in its page of the word at a multiple of 8.
 fn word_index(at: u64) -> u16
@@ -31,7 +34,8 @@ fn word_index(at: u64) -> u16
 }
 
 /// Physical memory with its page tables and its free frames, and regions of pages that are mapped in it, each page at
-/// a frame of its own: regions of the heap in a window, and regions of the user anywhere.
+/// a frame of its own: regions of the heap in a window, and regions of the user anywhere. A slot that lies whole in a
+/// region may be mapped by one entry, as a large page.
 #[derive(Drop)]
 pub struct MappedRegions {
     alloc: Global,
@@ -43,11 +47,13 @@ pub struct MappedRegions {
     tables: u64,
     /// How often a region joined. It begins anew behind the greatest number, and tells no more than whether one did of late.
     joins: u64,
-    /// The last tables that stores met: a word of one of their pages takes one step of the walk.
-    last_tables: LastTables,
+    /// The tables and large pages of slots that stores met: a word of one of their pages takes one step of the walk at most.
+    met_slots: MetSlots,
+    /// The first addresses of the slots that the region which joined last has in large pages, until they are asked for.
+    slots: Vec<u64>,
     pub(crate) regions: RegionTree,
-    ghost met: { AreMet frames root last_tables } by { AreMet-prop frames root last_tables },
-    ghost mapped: { IsMapped (record { base = base; pages = pages; words = frames; root = root; free = pool; tables = tables; joins = joins; regions = regions }) } by { IsMapped-prop (record { base = base; pages = pages; words = frames; root = root; free = pool; tables = tables; joins = joins; regions = regions }) },
+    ghost met: { AreMet frames root met_slots } by { AreMet-prop frames root met_slots },
+    ghost mapped: { IsMapped (record { base = base; pages = pages; words = frames; root = root; free = pool; tables = tables; joins = joins; regions = regions; slots = slots.items }) } by { IsMapped-prop (record { base = base; pages = pages; words = frames; root = root; free = pool; tables = tables; joins = joins; regions = regions; slots = slots.items }) },
 }
 
 impl MappedRegions {
@@ -75,7 +81,8 @@ impl MappedRegions {
             root,
             tables: 1,
             joins: 0,
-            last_tables: LastTables::new(root),
+            met_slots: MetSlots::new(root),
+            slots: Vec::new(alloc),
             regions: RegionTree::new(base / Size4KiB::SIZE),
         })
     }
@@ -177,7 +184,8 @@ impl MappedRegions {
         Some(page * Size4KiB::SIZE)
     }
 
-    /// Maps the pages of a region, and puts it among the others. An `Err` changes nothing.
+    /// Maps the pages of a region, and puts it among the others. Slots that lie whole in it and have no table are mapped
+    /// by one entry each, as long as a run of frames is free. An `Err` changes nothing.
     pub fn join(&mut self, region: Region) -> Result<(), AllocError>
         requires region { IsRegion (shown self.old).base (shown self.old).pages region }
         requires can { CanMap (shown self.old) region.start region.pages }
@@ -185,9 +193,11 @@ impl MappedRegions {
         ensures err { OnErr result (shown self.new ≡ shown self.old) }
     {
         let free = self.pool.free_count();
+        let places = region.pages * Size4KiB::SIZE / Size2MiB::SIZE;
+        self.slots.reserve(places as usize)?;
         self.regions.add(self.alloc, region)?;
         self.joins = self.joins.wrapping_add(1);
-        map_range(
+        let stop = map_pages(
             &mut self.frames,
             &mut self.pool,
             self.root,
@@ -196,7 +206,23 @@ impl MappedRegions {
             region.rights,
         );
         self.tables += free - region.pages - self.pool.free_count();
+        self.slots.clear();
+        list_large(&mut self.slots, &self.frames, self.root, region, stop);
         Ok(())
+    }
+
+    /// The slots that the region which joined last has in large pages, by ascending address, where there are any and
+    /// they were not asked for before.
+    pub fn take_slots(&mut self) -> Option<SlotList>
+        ensures none { IfNone result ((shown self.old).slots ≡ []) }
+        ensures some { IfSome result (λ list. (list ≡ (shown self.old).slots) × (list ≢ [])) }
+        ensures rest { shown self.new ≡ record (shown self.old) { slots = [] } }
+    {
+        if self.slots.is_empty() {
+            return None;
+        }
+        let slots = mem::replace(&mut self.slots, Vec::new(self.alloc));
+        Some(SlotList::from_vec(slots))
     }
 
     /// Unmaps the pages of a region, and takes it out. It takes no memory.
@@ -204,14 +230,17 @@ impl MappedRegions {
         requires there { IsTrue (list_any (is_at region.now.start region.now.pages) (shown self.old).regions) }
         ensures { IsLeft (shown self.old) (shown self.new) region.now.start region.now.pages }
     {
+        // The tree says here how its regions lie.
+        let _ = self.regions.count();
         self.regions.remove(region);
-        unmap_range(
+        unmap_pages(
             &mut self.frames,
             &mut self.pool,
             self.root,
             Page::containing_address(VirtAddr::new(region.start)),
             region.pages,
         );
+        self.met_slots.forget_large_pages();
     }
 
     /// What may be done at an address: the rights of the region that has it, if there is one, by a walk.
@@ -243,7 +272,8 @@ impl MappedRegions {
     }
 
     /// Unmaps `pages` pages from the address `start` on and takes them out of the regions, which have all of them and
-    /// of which none reaches over their end. It takes no memory.
+    /// of which none reaches over their end. Where they begin in the middle of a large page, the first frame of them becomes
+    /// the table of what is left of it. It takes no memory, and no free frame.
     pub fn cut(&mut self, start: u64, pages: u64)
         requires range { IsPageRange start pages }
         requires held { AreHeld start (start + 4096 * pages) (shown self.old).regions }
@@ -253,13 +283,16 @@ impl MappedRegions {
         // The tree says here how its regions lie.
         let _ = self.regions.count();
         self.regions.cut(start / Size4KiB::SIZE, pages);
-        unmap_range(
+        let free = self.pool.free_count();
+        unmap_pages(
             &mut self.frames,
             &mut self.pool,
             self.root,
             Page::containing_address(VirtAddr::new(start)),
             pages,
         );
+        self.tables += free + pages - self.pool.free_count();
+        self.met_slots.forget_large_pages();
     }
 
     /// The word at a multiple of 8 in a page that is mapped, by a walk.
@@ -268,7 +301,7 @@ impl MappedRegions {
         ensures { result ≡ word_reached (shown self.now) at }
     {
         let page = Page::containing_address(VirtAddr::new(at));
-        let frame = self.last_tables.frame(&self.frames, self.root, page);
+        let frame = self.met_slots.frame(&self.frames, self.root, page);
         self.frames.word(frame, word_index(at))
     }
 
@@ -279,6 +312,7 @@ impl MappedRegions {
         ensures size { length (shown self.new).words ≡ length (shown self.old).words }
         ensures set { IfSome (walk_of (shown self.old).words (shown self.old).root (at / 4096)) (λ place. (shown self.new).words ≡ set (shown self.old).words (512 * place.frame + at % 4096 / 8) value) }
         ensures walks { (free : List Bool) → IsTree (shown self.old).words (shown self.old).root free → (level number : ℕ) → level ≤ 4 → reach (shown self.new).words (shown self.old).root level number ≡ reach (shown self.old).words (shown self.old).root level number }
+        ensures larges { (free : List Bool) → IsTree (shown self.old).words (shown self.old).root free → (number : ℕ) → large_of (shown self.new).words (shown self.old).root number ≡ large_of (shown self.old).words (shown self.old).root number }
         ensures tree { (free : List Bool) → IsTree (shown self.old).words (shown self.old).root free → IsTree (shown self.new).words (shown self.old).root free }
         ensures stored { (free : List Bool) → IsTree (shown self.old).words (shown self.old).root free → IfSome (walk_of (shown self.old).words (shown self.old).root (at / 4096)) (λ place. word_at (shown self.new).words place.frame (at % 4096 / 8) ≡ value) }
         ensures other_words { (free : List Bool) → IsTree (shown self.old).words (shown self.old).root free → (other : ℕ) → IsTrue (is_canonical other) → (other / 8 ≡ at / 8 → ⊥) →
@@ -286,7 +320,7 @@ impl MappedRegions {
         ensures bytes { (free : List Bool) → IsTree (shown self.old).words (shown self.old).root free → (other : ℕ) → IsTrue (is_canonical other) → (other / 8 ≡ at / 8 → ⊥) → reached (shown self.new).words (shown self.old).root other ≡ reached (shown self.old).words (shown self.old).root other }
     {
         let page = Page::containing_address(VirtAddr::new(at));
-        let frame = self.last_tables.frame_kept(&self.frames, self.root, page);
+        let frame = self.met_slots.frame_kept(&self.frames, self.root, page);
         self.frames.set_word(frame, word_index(at), value);
     }
 
@@ -298,7 +332,7 @@ impl MappedRegions {
         ensures length { length words.new ≡ length words.old }
     {
         let page = Page::containing_address(VirtAddr::new(at));
-        let frame = self.last_tables.frame(&self.frames, self.root, page);
+        let frame = self.met_slots.frame(&self.frames, self.root, page);
         self.frames.read_words(frame, word_index(at), words);
     }
 
@@ -311,6 +345,7 @@ impl MappedRegions {
         ensures size { length (shown self.new).words ≡ length (shown self.old).words }
         ensures set { IfSome (walk_of (shown self.old).words (shown self.old).root (at / 4096)) (λ place. AreWordsWritten (shown self.old).words (shown self.new).words place.frame (at % 4096 / 8) words.now) }
         ensures walks { (free : List Bool) → IsTree (shown self.old).words (shown self.old).root free → (level number : ℕ) → level ≤ 4 → reach (shown self.new).words (shown self.old).root level number ≡ reach (shown self.old).words (shown self.old).root level number }
+        ensures larges { (free : List Bool) → IsTree (shown self.old).words (shown self.old).root free → (number : ℕ) → large_of (shown self.new).words (shown self.old).root number ≡ large_of (shown self.old).words (shown self.old).root number }
         ensures tree { (free : List Bool) → IsTree (shown self.old).words (shown self.old).root free → IsTree (shown self.new).words (shown self.old).root free }
         ensures bytes { (free : List Bool) → IsTree (shown self.old).words (shown self.old).root free → (k : ℕ) → k < 8 * length words.now →
             reached (shown self.new).words (shown self.old).root (at + k) ≡ Some (byte_of (slice_index words.now (k / 8)) (k % 8)) }
@@ -318,7 +353,7 @@ impl MappedRegions {
             reached (shown self.new).words (shown self.old).root other ≡ reached (shown self.old).words (shown self.old).root other }
     {
         let page = Page::containing_address(VirtAddr::new(at));
-        let frame = self.last_tables.frame_kept(&self.frames, self.root, page);
+        let frame = self.met_slots.frame_kept(&self.frames, self.root, page);
         self.frames.write_words(frame, word_index(at), words);
     }
 }

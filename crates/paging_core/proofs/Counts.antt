@@ -87,17 +87,17 @@ absent_one_present words root level from m e =
     absent_suc words root level from 0 ∙ rw (e, absent_none words root level (from + 1)) refl
 
 -- a prefix below one that has no table has none
-pub none_under : (words : List ℕ) (root level d n : ℕ) → reach words root level (n / 2 ^ (9 * d)) ≡ None → reach words root (level + d) n ≡ None
-none_under words root level zero n e =
+pub none_under : (words : List ℕ) (root level d n : ℕ) → level + d ≤ 3 → reach words root level (n / 2 ^ (9 * d)) ≡ None → reach words root (level + d) n ≡ None
+none_under words root level zero n le e =
     let a : level + 0 ≡ level = omega arith in
     let b : n / 2 ^ (9 * 0) ≡ n = omega arith in
     rw (a, ← b) e
-none_under words root level (suc d) n e =
+none_under words root level (suc d) n le e =
     let a : level + suc d ≡ suc (level + d) = omega arith in
     let b : n / 2 ^ 9 / 2 ^ (9 * d) ≡ n / 2 ^ (9 + 9 * d) = shr-shr n 9 (9 * d) in
     let c : 9 + 9 * d ≡ 9 * suc d = omega arith in
-    let h : reach words root (level + d) (n / 512) ≡ None = none_under words root level d (n / 512) (ap (reach words root level) (b ∙ ap (λ k. n / 2 ^ k) c) ∙ e) in
-    rw (a, reach_suc, h) refl
+    let h : reach words root (level + d) (n / 512) ≡ None = none_under words root level d (n / 512) (omega arith) (ap (reach words root level) (b ∙ ap (λ k. n / 2 ^ k) c) ∙ e) in
+    rw (a, reach_suc words root (level + d) n (omega arith), h) refl
 
 -- the prefix one level on, in the walk along a prefix of `level` indices
 pub ancestor : (n level met : ℕ) → met < level → n / 2 ^ (9 * (level - (met + 1))) / 512 ≡ n / 2 ^ (9 * (level - met))
@@ -105,15 +105,15 @@ ancestor n level met lt =
     let e : 9 * (level - (met + 1)) + 9 ≡ 9 * (level - met) = omega arith in
     shr-shr n (9 * (level - (met + 1))) 9 ∙ ap (λ k. n / 2 ^ k) e
 
-reach_one : (words : List ℕ) (root level n : ℕ) → reach words root (level + 1) n ≡ next_from words level (reach words root level (n / 512)) (n % 512)
-reach_one words root level n = let s : level + 1 ≡ suc level = omega arith in ap (λ k. reach words root k n) s ∙ reach_suc words root level n
+reach_one : (words : List ℕ) (root level n : ℕ) → level < 3 → reach words root (level + 1) n ≡ next_from words level (reach words root level (n / 512)) (n % 512)
+reach_one words root level n lt = let s : level + 1 ≡ suc level = omega arith in ap (λ k. reach words root k n) s ∙ reach_suc words root level n lt
 
-pub reach_on : (words : List ℕ) (root n level met : ℕ) (at : Place) → met < level →
+pub reach_on : (words : List ℕ) (root n level met : ℕ) (at : Place) → level < 4 → met < level →
     reach words root met (n / 2 ^ (9 * (level - met))) ≡ Some at →
     reach words root (met + 1) (n / 2 ^ (9 * (level - (met + 1)))) ≡ step words met at (n / 2 ^ (9 * (level - (met + 1))) % 512)
-reach_on words root n level met at lt e =
+reach_on words root n level met at low lt e =
     let a = ancestor n level met lt in
-    reach_one words root met (n / 2 ^ (9 * (level - (met + 1))))
+    reach_one words root met (n / 2 ^ (9 * (level - (met + 1)))) (omega arith)
     ∙ (ap (λ k. next_from words met (reach words root met k) (n / 2 ^ (9 * (level - (met + 1))) % 512)) a
     ∙ ap (λ o. next_from words met o (n / 2 ^ (9 * (level - (met + 1))) % 512)) e)
 
@@ -130,17 +130,17 @@ same_block from n k pos lo hi =
     div-eq_of_lt-le k (omega arith) (omega arith)
 
 -- one missing table leaves the whole block below it with none
-pub absent_block : (words : List ℕ) (root level met from end : ℕ) → met < level →
+pub absent_block : (words : List ℕ) (root level met from end : ℕ) → level < 4 → met < level →
     reach words root (met + 1) (from / 2 ^ (9 * (level - (met + 1)))) ≡ None → from ≤ end →
     end ≤ from - from % 2 ^ (9 * (level - (met + 1))) + 2 ^ (9 * (level - (met + 1))) →
     absent words root level from (end - from) ≡ end - from
-absent_block words root level met from end lt e lo hi =
+absent_block words root level met from end low lt e lo hi =
     absent_all words root level (end - from) from
     (λ n from_n n_to.
     let b : n / 2 ^ (9 * (level - (met + 1))) ≡ from / 2 ^ (9 * (level - (met + 1))) =
     same_block from n (2 ^ (9 * (level - (met + 1)))) (pow_pos (9 * (level - (met + 1)))) from_n (omega arith) in
     let d : (met + 1) + (level - (met + 1)) ≡ level = omega arith in
-    let u = none_under words root (met + 1) (level - (met + 1)) n (ap (reach words root (met + 1)) b ∙ e) in
+    let u = none_under words root (met + 1) (level - (met + 1)) n (omega arith) (ap (reach words root (met + 1)) b ∙ e) in
     rw d at u)
 
 pub absent_on : (words : List ℕ) (root level first from end : ℕ) → first ≤ from → from ≤ end →

@@ -116,7 +116,7 @@ freed_known old new free free' root gone root_in freed known f is = go (cases_lt
     go : (f < frame_count old) ⊎ (frame_count old ≤ f) → f < frame_count new
     go (inl x) = let s = freed.removed.size in omega arith
     go (inr x) =
-        let k = freed.kept f (λ n p g at e. let b = reach_below old root 4 n p root_in at in absurd (omega arith)) in
+        let k = freed.kept f (λ n p g at e. let b = reach_below old root 4 n p (omega arith) root_in at in absurd (omega arith)) in
         let h = known f (sym k ∙ is) in absurd (omega arith)
 
 -- the frame that a page reaches is out
@@ -124,7 +124,7 @@ pub reached_out : (words : List ℕ) (free : List Bool) (root page : ℕ) (place
     IsTree words root free → walk_of words root page ≡ Some place → IsOut free place.frame
 reached_out words free root page place root_in flags tree at =
     let was : reach words root 4 (prefix_of page 4) ≡ Some place = sym (walk_reach words root page) ∙ at in
-    let b = reach_below words root 4 (prefix_of page 4) place root_in was in
+    let b = reach_below words root 4 (prefix_of page 4) place (omega arith) root_in was in
     out_of free place.frame (omega arith) (tree.used 4 (prefix_of page 4) place (omega arith) was)
 
 -- a page of a range leaves after some of it

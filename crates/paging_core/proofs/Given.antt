@@ -1,5 +1,5 @@
 -- A frame is given back.
-use Rattle.std.proofs.Common.{◌≡◌, ℕ, zero, suc, ◌+◌, ◌<◌, ◌≤◌, Bool, true, false, cond, List, [], ◌∷◌, length, set, refl, ◌⊎◌, inl, inr, arith}
+use Rattle.std.proofs.Common.{◌≡◌, ℕ, zero, suc, ◌+◌, ◌<◌, ◌≤◌, Bool, true, false, cond, List, [], ◌∷◌, length, set, refl, ◌∙◌, ◌⊎◌, inl, inr, arith}
 use Rattle.std.proofs.lemmas.Bool.{cases_lt}
 use Rattle.std.proofs.lemmas.List.{get_or-set_same, get_or-set_other, get_or_past}
 use Rattle.std.proofs.lemmas.List.Sums.{sum_by-set}
@@ -31,3 +31,6 @@ given_here free f e = get_or-set_same free f true false (out_below free f e)
 
 pub given_other : (free : List Bool) (f g : ℕ) → (g ≡ f → ⊥) → is_free (set free f true) g ≡ is_free free g
 given_other free f g ne = get_or-set_other free f g true false ne
+
+pub out_other : (free : List Bool) (f g : ℕ) → (g ≡ f → ⊥) → IsOut free g → IsOut (set free f true) g
+out_other free f g ne e = get_or-set_other free f g true true ne ∙ e

@@ -5,20 +5,19 @@ use Rattle.std.proofs.lemmas.Bool.Decides.{nat_tests}
 use Rattle.paging_core.specs.Entry.{has_bit, frame_of, table_entry, page_entry}
 use Rattle.paging_core.specs.Memory.{word_at, frame_count}
 use Rattle.paging_core.specs.Prefix.{prefix_of}
-use Rattle.paging_core.specs.Walk.{Place, step, reach, next_from, top, walk_of, granted}
+use Rattle.paging_core.specs.Walk.{Place, step, reach, large_of, top, walk_of, granted}
 use Rattle.paging_core.specs.Pool.{is_free}
 use Rattle.paging_core.specs.Tree.{IsTree}
 use Rattle.paging_core.specs.Tables.{IsPrepared}
 use Rattle.paging_core.specs.Mapping.{HasExactEntries, IsPageAdded}
 use Rattle.paging_core.specs.declared.page_table.Rights.{Rights}
-use Rattle.paging_core.proofs.Reach.{step_same}
 use Rattle.paging_core.proofs.Words.{word_at_set_same, word_at_set_other}
-use Rattle.paging_core.proofs.Prefixes.{reach_prefix, prefix_more, prefix_split, walk_reach, none_below}
-use Rattle.paging_core.proofs.Link.{IsLink, link_there, link_others, tree_link}
+use Rattle.paging_core.proofs.Prefixes.{reach_page, prefix_more, prefix_split, walk_reach, none_below}
+use Rattle.paging_core.proofs.Link.{IsLink, link_there, link_others, link_larges, tree_link}
 use Rattle.paging_core.proofs.Made.{reach_below}
 use Rattle.paging_core.proofs.Counts.{missing_one}
 
-not_not : (b : Bool) → not (not b) ≡ b
+pub not_not : (b : Bool) → not (not b) ≡ b
 not_not true = refl
 not_not false = refl
 
@@ -44,10 +43,10 @@ page_bits n lt rights = go rights.write rights.user rights.fetch
     go false false true = record { names = omega arith; present = grind (arith, nat_tests); writable = grind (arith, nat_tests); usable = grind (arith, nat_tests); executable = grind (arith, nat_tests) }
     go false false false = record { names = omega arith; present = grind (arith, nat_tests); writable = grind (arith, nat_tests); usable = grind (arith, nat_tests); executable = grind (arith, nat_tests) }
 
-pub step_page : (words : List ℕ) (level t j frame : ℕ) (rights : Rights) → frame < 2 ^ 40 → frame < frame_count words →
-    word_at words t j ≡ page_entry frame rights → step words level (top t) j ≡ Some (granted frame rights)
+pub step_page : (words : List ℕ) (t j frame : ℕ) (rights : Rights) → frame < 2 ^ 40 → frame < frame_count words →
+    word_at words t j ≡ page_entry frame rights → step words 3 (top t) j ≡ Some (granted frame rights)
 unfolding step
-step_page words level t j frame rights small within e =
+step_page words t j frame rights small within e =
     let p : ltb frame (frame_count words) ≡ true = lt-ltb frame (frame_count words) within in
     let is = page_bits frame small rights in
     rw (e, is.names, is.present, is.writable, is.usable, is.executable, p, not_not) refl
@@ -75,17 +74,16 @@ module _ (old mid new : List ℕ) (free free' : List Bool) (root page table inde
   size = rw written (length-set mid (512 * table + index) (page_entry frame rights))
 
   table_in : table < frame_count mid
-  table_in = let s = prepared.size in reach_below mid root 3 (prefix_of page 3) (top table) (omega arith) met
+  table_in = let s = prepared.size in reach_below mid root 3 (prefix_of page 3) (top table) (omega arith) (omega arith) met
 
   place : 512 * prefix_of page 3 + index ≡ prefix_of page 4
   place = rw ix (prefix_more page 3 (omega arith))
 
   was : step mid 3 (top table) index ≡ None
   was =
-      let a = reach_prefix mid root page 3 (omega arith) in
+      let a = reach_page mid root page (top table) met in
       let b = prepared.others 4 (prefix_of page 4) (omega arith) (λ le _. absurd (omega arith)) in
-      ap (step mid 3 (top table)) ix
-      ∙ (ap (λ o. next_from mid 3 o (prefix_of page 4 % 512)) (sym met) ∙ (sym a ∙ (b ∙ (sym (walk_reach old root page) ∙ unmapped))))
+      ap (step mid 3 (top table)) ix ∙ (sym a ∙ (b ∙ (sym (walk_reach old root page) ∙ unmapped)))
 
   word_stays : (f i : ℕ) → i < 512 → (f ≡ table → i ≡ index → ⊥) → word_at new f i ≡ word_at mid f i
   word_stays f i li ne = ap (λ w. word_at w f i) written ∙ word_at_set_other mid table index (page_entry frame rights) f i index_in li ne
@@ -98,9 +96,11 @@ module _ (old mid new : List ℕ) (free free' : List Bool) (root page table inde
     level_bound = omega arith;
     index_bound = index_in;
     here = met;
-    elsewhere = λ l b j lj ne. step_same mid new l b j size (word_stays b.frame j lj ne);
+    size = size;
+    elsewhere = word_stays;
+    small = λ e. absurd (omega arith);
     was = was;
-    is = step_page new 3 table index frame rights small (let a = size in let b = prepared.size in omega arith) written_here;
+    is = step_page new table index frame rights small (let a = size in let b = prepared.size in omega arith) written_here;
     bare = λ lt j lj. absurd (omega arith);
   }
 
@@ -128,6 +128,9 @@ module _ (old mid new : List ℕ) (free free' : List Bool) (root page table inde
       go (inl x) (inr lo) = here_of x lo (some_or_none (reach old root l (prefix_of page l)))
       go (inr x) _ = unmet l n b le (sym (prepared.others l n le (λ _ y. x y)) ∙ now) e
       go _ (inl hi) = unmet l n b le (sym (prepared.others l n le (λ lo _. absurd (omega arith))) ∙ now) e
+
+  larges : (n : ℕ) → large_of new root n ≡ large_of old root n
+  larges n = link_larges mid new root 3 (prefix_of page 3) index (top table) (granted frame rights) free' link tree n ∙ prepared.larges n
 
   pub mapped_tree : IsTree new root free'
   mapped_tree = tree_link mid new root 3 (prefix_of page 3) index (top table) (granted frame rights) free' link tree free' fresh
@@ -299,6 +302,7 @@ module _ (old mid new : List ℕ) (free free' : List Bool) (root page table inde
     pages = λ other ne.
         walk_reach new root other ∙ (others 4 (prefix_of other 4) (omega arith) (λ e. ne (omega arith)) ∙ sym (walk_reach old root other));
     others = others;
+    larges = larges;
     stayed = stayed;
     made = λ l lt none. made_of l lt none (some_or_none (reach mid root l (prefix_of page l)));
     fewer = prepared.fewer;

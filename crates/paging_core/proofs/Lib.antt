@@ -7,11 +7,13 @@ pub mod Alignment
 pub mod FieldBits
 pub mod PageOrder
 pub mod Link
+pub mod Slot
 pub mod Made
 pub mod Prepare
 pub mod Counts
 pub mod LastEntry
 pub mod Given
+pub mod Runs
 pub mod Reached
 pub mod Ranges
 pub mod PageWritten
@@ -20,6 +22,11 @@ pub mod RangeChanged
 pub mod Freed
 pub mod NewPage
 pub mod RangeAdded
+pub mod LargeAdded
+pub mod LargeGone
+pub mod LargeCut
+pub mod RunTaken
+pub mod LargeMissing
 pub mod Roots
 pub mod FreshFrame
 pub mod PrefixLists

@@ -1,22 +1,26 @@
 -- A write of one entry that adds one place to the tree.
-use Rattle.std.proofs.Common.{◌≡◌, ℕ, suc, ◌+◌, ◌*◌, ◌<◌, ◌≤◌, Bool, false, List, Some, None, sym, ap, ◌∙◌, ◌⊎◌, inl, inr, arith}
+use Rattle.std.proofs.Common.{◌≡◌, ℕ, suc, ◌+◌, ◌*◌, ◌<◌, ◌≤◌, Bool, false, List, length, Some, None, sym, ap, ◌∙◌, ◌⊎◌, inl, inr, arith}
 use Rattle.std.proofs.lemmas.Bool.{cases_eq}
 use Rattle.paging_core.specs.Walk.{Place}
-use Rattle.paging_core.specs.Walk.{step, reach, next_from, top}
+use Rattle.paging_core.specs.Walk.{step, large_step, large_of, large_from, reach, next_from, top}
+use Rattle.paging_core.specs.Memory.{word_at}
 use Rattle.paging_core.specs.Pool.{is_free}
 use Rattle.paging_core.specs.Tree.{IsTree}
-use Rattle.paging_core.proofs.Reach.{reach_there, reach_others}
+use Rattle.paging_core.proofs.Reach.{reach_there, reach_others, larges_others, step_zero, large_zero}
 
 -- the entry `index` of the table at `at`, absent in `old`, leads to `to` in `new`, and no other step is changed
 pub record IsLink (old new : List ℕ) (root level prefix index : ℕ) (at to : Place) : Type 0 where
   pub level_bound : level ≤ 3
   pub index_bound : index < 512
   pub here : reach old root level prefix ≡ Some at
-  pub elsewhere : (l : ℕ) (b : Place) (j : ℕ) → j < 512 → (b.frame ≡ at.frame → j ≡ index → ⊥) → step new l b j ≡ step old l b j
+  pub size : length new ≡ length old
+  pub elsewhere : (f j : ℕ) → j < 512 → (f ≡ at.frame → j ≡ index → ⊥) → word_at new f j ≡ word_at old f j
   pub was : step old level at index ≡ None
   pub is : step new level at index ≡ Some to
+  -- it mapped no large page, and maps none
+  pub small : level ≡ 2 → (large_step old at index ≡ None) × (large_step new at index ≡ None)
   -- the new place is no table yet, or one with no entry
-  pub bare : level < 3 → (j : ℕ) → j < 512 → step new (suc level) to j ≡ None
+  pub bare : level < 3 → (j : ℕ) → j < 512 → word_at new to.frame j ≡ 0
 
 module _ (old new : List ℕ) (root level prefix index : ℕ) (at to : Place) (free : List Bool)
     (link : IsLink old new root level prefix index at to)
@@ -25,14 +29,23 @@ module _ (old new : List ℕ) (root level prefix index : ℕ) (at to : Place) (f
   alone l n b lt is e = tree.distinct l n level prefix b at (omega arith) (omega (arith, link.level_bound)) is link.here e
 
   below : level < 3 → (j : ℕ) → j < 512 → next_from new (suc level) (step new level at index) j ≡ next_from old (suc level) (step old level at index) j
-  below lt j lj = rw (link.is, link.was) (link.bare lt j lj)
+  below lt j lj = rw (link.is, link.was) (step_zero new (suc level) to j (link.bare lt j lj))
+
+  below_large : level ≡ 1 → (j : ℕ) → j < 512 → large_from new (step new level at index) j ≡ large_from old (step old level at index) j
+  below_large e j lj = rw (link.is, link.was) (large_zero new to j (link.bare (omega arith) j lj))
+
+  large : level ≡ 2 → large_step new at index ≡ large_step old at index
+  large e = (link.small e).1 ∙ sym (link.small e).0
 
   pub link_there : reach new root (suc level) (512 * prefix + index) ≡ Some to
   link_there =
-      reach_there old new root level prefix index at link.index_bound link.here link.elsewhere alone below (omega (arith, link.level_bound)) ∙ link.is
+      reach_there old new root level prefix index at link.size link.index_bound link.level_bound link.here link.elsewhere alone below below_large large ∙ link.is
 
   pub link_others : (l n : ℕ) → l ≤ 4 → (l ≡ suc level → n ≡ 512 * prefix + index → ⊥) → reach new root l n ≡ reach old root l n
-  link_others = reach_others old new root level prefix index at link.index_bound link.here link.elsewhere alone below
+  link_others = reach_others old new root level prefix index at link.size link.index_bound link.level_bound link.here link.elsewhere alone below below_large large
+
+  pub link_larges : (n : ℕ) → large_of new root n ≡ large_of old root n
+  link_larges = larges_others old new root level prefix index at link.size link.index_bound link.level_bound link.here link.elsewhere alone below below_large large
 
   -- what the new walk meets is the new place or an old one
   met : (l n : ℕ) (b : Place) → l ≤ 4 → reach new root l n ≡ Some b →

@@ -1,28 +1,28 @@
 -- A table that is made at an entry adds one place to the tree.
-use Rattle.std.proofs.Common.{◌≡◌, ℕ, zero, suc, ◌+◌, ◌*◌, ◌/◌, ◌%◌, ◌^◌, ◌<◌, ◌≤◌, Bool, true, false, cond, ltb, eqb, List, [], ◌∷◌, length, set, Option, Some, None, refl, sym, ap, ◌∙◌, ◌⊎◌, inl, inr, arith, length-set}
-use Rattle.std.proofs.lemmas.Bool.{cases_eq, cases_Bool, ltb-true, lt-ltb, and_parts, cases_lt}
+use Rattle.std.proofs.Common.{◌≡◌, ℕ, zero, suc, ◌+◌, ◌*◌, ◌/◌, ◌%◌, ◌^◌, ◌<◌, ◌≤◌, Bool, true, false, not, ◌&&◌, cond, ltb, eqb, List, [], ◌∷◌, length, set, Option, Some, None, refl, sym, ap, ◌∙◌, ◌⊎◌, inl, inr, arith, length-set}
+use Rattle.std.proofs.lemmas.Bool.{cases_eq, cases_Bool, ltb-true, eqb-true, lt-ltb, and_parts, cases_lt}
 use Rattle.std.proofs.lemmas.Bool.Decides.{nat_tests}
+use Rattle.std.proofs.Math.Bool.{and-false}
 use Rattle.std.proofs.lemmas.List.{get_or-set_same, get_or-set_other, get_or_past}
 use Rattle.paging_core.specs.Entry.{has_bit, frame_of, table_entry}
 use Rattle.paging_core.specs.Memory.{word_at, frame_count, cleared}
-use Rattle.paging_core.specs.Walk.{Place, step, reach, next_from, top, is_present, named}
+use Rattle.paging_core.specs.Walk.{Place, step, large_step, large_of, large_from, reach, next_from, top, is_present, is_run, ends_walk, named}
 use Rattle.paging_core.specs.Tree.{IsTree}
 use Rattle.paging_core.specs.Pool.{is_free, free_count, FreeBelow, AreLowestTaken}
 use Rattle.paging_core.specs.Tables.{IsTableMade}
 use Rattle.std.proofs.lemmas.List.Sums.{sum_by-set}
-use Rattle.paging_core.proofs.Reach.{step_same, reach_same, reach_zero, reach_suc}
+use Rattle.paging_core.proofs.Reach.{step_same, large_same, reach_same, larges_same, reach_zero, reach_suc, large_is, either_way, ByEntry, InLarge}
 use Rattle.paging_core.proofs.Words.{length_cleared, word_at_cleared_same, word_at_cleared_other, word_at_set_same, word_at_set_other}
-use Rattle.paging_core.proofs.Link.{IsLink, link_there, link_others, tree_link}
+use Rattle.paging_core.proofs.Link.{IsLink, link_there, link_others, link_larges, tree_link}
 
 -- ---- one step
-
-pub step_zero : (words : List ℕ) (level : ℕ) (b : Place) (j : ℕ) → word_at words b.frame j ≡ 0 → step words level b j ≡ None
-unfolding step
-step_zero words level b j e = rw e refl
 
 table_bits : (f : ℕ) → f < 2 ^ 40 →
     (frame_of (table_entry f) ≡ f) × (has_bit (table_entry f) 0 ≡ true) × (has_bit (table_entry f) 1 ≡ true) × (has_bit (table_entry f) 2 ≡ true) × (has_bit (table_entry f) 63 ≡ false)
 table_bits f lt = (omega arith, grind (arith, nat_tests), grind (arith, nat_tests), grind (arith, nat_tests), grind (arith, nat_tests))
+
+table_small : (f : ℕ) → f < 2 ^ 40 → has_bit (table_entry f) 7 ≡ false
+table_small f lt = grind (arith, nat_tests)
 
 pub step_table : (words : List ℕ) (level t j f : ℕ) → f < 2 ^ 40 → f < frame_count words → word_at words t j ≡ table_entry f →
     step words level (top t) j ≡ Some (top f)
@@ -30,7 +30,13 @@ unfolding step
 step_table words level t j f lt within e =
     let b = table_bits f lt in
     let p : ltb f (frame_count words) ≡ true = lt-ltb f (frame_count words) within in
-    rw (e, b.0, b.1, b.2, b.3, b.4, p) refl
+    let s = table_small f lt in
+    rw (e, b.0, b.1, b.2, b.3, b.4, s, p, and-false) refl
+
+-- an entry that names a table maps no large page
+pub large_table : (words : List ℕ) (t j f : ℕ) → f < 2 ^ 40 → word_at words t j ≡ table_entry f → large_step words (top t) j ≡ None
+unfolding large_step
+large_table words t j f lt e = let s = table_small f lt in rw (e, s, and-false) refl
 
 pub some_of_cond : {A : Type 0} (c : Bool) (x y : A) → cond c (Some x) None ≡ Some y → (c ≡ true) × (x ≡ y)
 some_of_cond true x y e = (refl, cc)
@@ -40,23 +46,62 @@ pub step_below : (words : List ℕ) (level : ℕ) (b m : Place) (j : ℕ) → st
 unfolding step
 step_below words level b m j e = bound (word_at words b.frame j) e
   where
-    bound : (w : ℕ) → cond (is_present words w) (Some (named b w)) None ≡ Some m → m.frame < frame_count words
+    bound : (w : ℕ) → cond (is_present words w && not (ends_walk level w)) (Some (named b w)) None ≡ Some m → m.frame < frame_count words
     bound w e =
-        let p : (is_present words w ≡ true) × (named b w ≡ m) = some_of_cond (is_present words w) (named b w) m e in
-        let q : (has_bit w 0 ≡ true) × (ltb (frame_of w) (frame_count words) ≡ true) = and_parts (has_bit w 0) (ltb (frame_of w) (frame_count words)) p.0 in
+        let p : (is_present words w && not (ends_walk level w) ≡ true) × (named b w ≡ m) = some_of_cond (is_present words w && not (ends_walk level w)) (named b w) m e in
+        let r : (is_present words w ≡ true) × (not (ends_walk level w) ≡ true) = and_parts (is_present words w) (not (ends_walk level w)) p.0 in
+        let q : (has_bit w 0 ≡ true) × (ltb (frame_of w) (frame_count words) ≡ true) = and_parts (has_bit w 0) (ltb (frame_of w) (frame_count words)) r.0 in
         let f : frame_of w ≡ m.frame = ap (λ x. x.frame) p.1 in
         rw (← f) (ltb-true (frame_of w) (frame_count words) q.1)
 
-pub reach_below : (words : List ℕ) (root l n : ℕ) (m : Place) → root < frame_count words → reach words root l n ≡ Some m → m.frame < frame_count words
-reach_below words root zero n m lt e =
+-- the frames of a large page exist
+pub large_step_below : (words : List ℕ) (b m : Place) (j : ℕ) → large_step words b j ≡ Some m → (m.frame % 512 ≡ 0) × (m.frame + 511 < frame_count words)
+unfolding large_step
+large_step_below words b m j e = bound (word_at words b.frame j) e
+  where
+    bound : (w : ℕ) → cond (is_present words w && (has_bit w 7 && is_run words (frame_of w))) (Some (named b w)) None ≡ Some m →
+        (m.frame % 512 ≡ 0) × (m.frame + 511 < frame_count words)
+    bound w e =
+        let p : (is_present words w && (has_bit w 7 && is_run words (frame_of w)) ≡ true) × (named b w ≡ m) =
+        some_of_cond (is_present words w && (has_bit w 7 && is_run words (frame_of w))) (named b w) m e in
+        let r : (is_present words w ≡ true) × (has_bit w 7 && is_run words (frame_of w) ≡ true) = and_parts (is_present words w) (has_bit w 7 && is_run words (frame_of w)) p.0 in
+        let s : (has_bit w 7 ≡ true) × (is_run words (frame_of w) ≡ true) = and_parts (has_bit w 7) (is_run words (frame_of w)) r.1 in
+        let q : (eqb (frame_of w % 512) 0 ≡ true) × (ltb (frame_of w + 511) (frame_count words) ≡ true) =
+        and_parts (eqb (frame_of w % 512) 0) (ltb (frame_of w + 511) (frame_count words)) s.1 in
+        let f : frame_of w ≡ m.frame = ap (λ x. x.frame) p.1 in
+        rw (← f) (eqb-true (frame_of w % 512) 0 q.0, ltb-true (frame_of w + 511) (frame_count words) q.1)
+
+pub large_below : (words : List ℕ) (root n : ℕ) (m : Place) → large_of words root n ≡ Some m → (m.frame % 512 ≡ 0) × (m.frame + 511 < frame_count words)
+large_below words root n m e = go (reach words root 2 (n / 512)) (sym (large_is words root n) ∙ e)
+  where
+    go : (o : Option Place) → large_from words o (n % 512) ≡ Some m → (m.frame % 512 ≡ 0) × (m.frame + 511 < frame_count words)
+    go None x = absurd (cc)
+    go (Some b) x = large_step_below words b m (n % 512) x
+
+low_below : (words : List ℕ) (root l n : ℕ) (m : Place) → l < 4 → root < frame_count words → reach words root l n ≡ Some m → m.frame < frame_count words
+low_below words root zero n m low lt e =
     let p : (eqb n 0 ≡ true) × (top root ≡ m) = some_of_cond (eqb n 0) (top root) m (sym (reach_zero words root n) ∙ e) in
     let f : root ≡ m.frame = ap (λ x. x.frame) p.1 in
     rw (← f) lt
-reach_below words root (suc l) n m lt e = go (reach words root l (n / 512)) (sym (reach_suc words root l n) ∙ e)
+low_below words root (suc l) n m low lt e = go (reach words root l (n / 512)) (sym (reach_suc words root l n (omega arith)) ∙ e)
   where
     go : (o : Option Place) → next_from words l o (n % 512) ≡ Some m → m.frame < frame_count words
     go None x = absurd (cc)
     go (Some b) x = step_below words l b m (n % 512) x
+
+pub reach_below : (words : List ℕ) (root l n : ℕ) (m : Place) → l ≤ 4 → root < frame_count words → reach words root l n ≡ Some m → m.frame < frame_count words
+reach_below words root l n m le lt e = go (cases_eq l 4)
+  where
+    way : ByEntry words root n m ⊎ InLarge words root n m → m.frame < frame_count words
+    way (inl x) = step_below words 3 x.table m (n % 512) x.led
+    way (inr x) =
+        let b = large_below words root (n / 512) x.large x.met in
+        let f : m.frame ≡ x.large.frame + n % 512 = ap (λ p. p.frame) x.is in
+        omega arith
+
+    go : (l ≡ 4) ⊎ (l ≡ 4 → ⊥) → m.frame < frame_count words
+    go (inr ne) = low_below words root l n m (omega arith) lt e
+    go (inl x) = way (either_way words root n m (rw x at e))
 
 -- ---- the flags
 
@@ -128,12 +173,13 @@ module _ (old new : List ℕ) (free free' : List Bool) (root level prefix table 
     (known : FreeBelow free (frame_count old))
     (met : reach old root level prefix ≡ Some (top table))
     (missing : step old level (top table) index ≡ None)
+    (small : level ≡ 2 → large_step old (top table) index ≡ None)
     (m : IsTableMade old new free free' table index made) where
   made_in : made < frame_count old
   made_in = known made m.was_free
 
   table_in : table < frame_count old
-  table_in = reach_below old root level prefix (top table) root_in met
+  table_in = reach_below old root level prefix (top table) (omega arith) root_in met
 
   cleared_size : length (cleared old made) ≡ length old
   cleared_size = length_cleared old made made_in
@@ -148,9 +194,12 @@ module _ (old new : List ℕ) (free free' : List Bool) (root level prefix table 
   table_apart e = unmet level prefix (top table) (omega arith) met e
 
   mid_same : (l n : ℕ) → l ≤ 4 → reach (cleared old made) root l n ≡ reach old root l n
-  mid_same = reach_same old (cleared old made) root
-      (λ l n b j lt is lj. step_same old (cleared old made) l b j cleared_size
-      (word_at_cleared_other old made b.frame j made_in lj (unmet l n b (omega arith) is)))
+  mid_same = reach_same old (cleared old made) root cleared_size
+      (λ l n b j lt is lj. word_at_cleared_other old made b.frame j made_in lj (unmet l n b (omega arith) is))
+
+  mid_larges : (n : ℕ) → large_of (cleared old made) root n ≡ large_of old root n
+  mid_larges = larges_same old (cleared old made) root cleared_size
+      (λ l n b j lt is lj. word_at_cleared_other old made b.frame j made_in lj (unmet l n b (omega arith) is))
 
   mid_tree : IsTree (cleared old made) root free
   mid_tree = tree_same old (cleared old made) root free mid_same tree
@@ -160,16 +209,22 @@ module _ (old new : List ℕ) (free free' : List Bool) (root level prefix table 
     level_bound = omega arith;
     index_bound = li;
     here = mid_same level prefix (omega arith) ∙ met;
-    elsewhere = λ l b j lj ne. step_same (cleared old made) new l b j new_size
-        (ap (λ w. word_at w b.frame j) m.words ∙ word_at_set_other (cleared old made) table index (table_entry made) b.frame j li lj ne);
+    size = new_size;
+    elsewhere = λ f j lj ne. ap (λ w. word_at w f j) m.words ∙ word_at_set_other (cleared old made) table index (table_entry made) f j li lj ne;
+    small = λ e. (
+      large_same old (cleared old made) (top table) index cleared_size (word_at_cleared_other old made table index made_in li table_apart) ∙ small e,
+      large_table new table index made m.bounded
+          (ap (λ w. word_at w table index) m.words
+          ∙ word_at_set_same (cleared old made) table index (table_entry made) (let a = table_in in let b = cleared_size in omega arith) li),
+    );
     was = step_same old (cleared old made) level (top table) index cleared_size (word_at_cleared_other old made table index made_in li table_apart) ∙ missing;
     is = step_table new level table index made m.bounded (let a = made_in in let b = cleared_size in let c = new_size in omega arith)
         (ap (λ w. word_at w table index) m.words
         ∙ word_at_set_same (cleared old made) table index (table_entry made) (let a = table_in in let b = cleared_size in omega arith) li);
-    bare = λ lt j lj. step_zero new (suc level) (top made) j
-        (ap (λ w. word_at w made j) m.words
+    bare = λ lt j lj.
+        ap (λ w. word_at w made j) m.words
         ∙ (word_at_set_other (cleared old made) table index (table_entry made) made j li lj (λ e _. table_apart (sym e))
-        ∙ word_at_cleared_same old made j made_in lj));
+        ∙ word_at_cleared_same old made j made_in lj);
   }
 
   pub made_there : reach new root (level + 1) (512 * prefix + index) ≡ Some (top made)
@@ -178,6 +233,9 @@ module _ (old new : List ℕ) (free free' : List Bool) (root level prefix table 
   pub made_others : (l n : ℕ) → l ≤ 4 → (l ≡ level + 1 → n ≡ 512 * prefix + index → ⊥) → reach new root l n ≡ reach old root l n
   made_others l n le ne =
       link_others (cleared old made) new root level prefix index (top table) (top made) free link mid_tree l n le (λ x y. ne (omega arith) y) ∙ mid_same l n le
+
+  pub made_larges : (n : ℕ) → large_of new root n ≡ large_of old root n
+  made_larges n = link_larges (cleared old made) new root level prefix index (top table) (top made) free link mid_tree n ∙ mid_larges n
 
   pub made_tree : IsTree new root free'
   made_tree = tree_link (cleared old made) new root level prefix index (top table) (top made) free link mid_tree free'

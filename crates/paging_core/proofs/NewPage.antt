@@ -5,12 +5,12 @@ use Rattle.std.proofs.lemmas.List.{get_or-set_other}
 use Rattle.paging_core.specs.Memory.{word_at, frame_count, cleared}
 use Rattle.paging_core.specs.Prefix.{prefix_of}
 use Rattle.paging_core.specs.Pool.{is_free, FreeBelow, AreLowestTaken}
-use Rattle.paging_core.specs.Walk.{Place, reach, walk_of, top, granted}
+use Rattle.paging_core.specs.Walk.{Place, reach, large_of, walk_of, top, granted}
 use Rattle.paging_core.specs.Tree.{IsTree}
 use Rattle.paging_core.specs.Missing.{missing_of}
 use Rattle.paging_core.specs.Mapping.{HasExactEntries, IsPageAdded, IsRangeAdded}
 use Rattle.paging_core.specs.declared.page_table.Rights.{Rights}
-use Rattle.paging_core.proofs.Reach.{step_same, reach_same}
+use Rattle.paging_core.proofs.Reach.{reach_same, larges_same}
 use Rattle.paging_core.proofs.Prefixes.{walk_reach}
 use Rattle.paging_core.proofs.Made.{tree_same}
 use Rattle.paging_core.proofs.FreshFrame.{free_before, fresh_size, fresh_fewer, fresh_other, fresh_zero, fresh_used, fresh_count}
@@ -40,8 +40,10 @@ module _ (old mid : List ℕ) (free free1 : List Bool) (root frame : ℕ)
   mid_other = fresh_other old mid free free1 frame known was_free taken blank
 
   pub mid_same : (l n : ℕ) → l ≤ 4 → reach mid root l n ≡ reach old root l n
-  mid_same = reach_same old mid root
-      (λ l n b j lt is lj. step_same old mid l b j mid_size (mid_other b.frame j lj (mid_unmet l n b (omega arith) is)))
+  mid_same = reach_same old mid root mid_size (λ l n b j lt is lj. mid_other b.frame j lj (mid_unmet l n b (omega arith) is))
+
+  mid_larges : (n : ℕ) → large_of mid root n ≡ large_of old root n
+  mid_larges = larges_same old mid root mid_size (λ l n b j lt is lj. mid_other b.frame j lj (mid_unmet l n b (omega arith) is))
 
   pub mid_tree : IsTree mid root free1
   mid_tree =
@@ -215,6 +217,7 @@ module _ (old mid : List ℕ) (free free1 : List Bool) (root frame : ℕ)
       others = λ l n le ne.
           let e : page + 0 ≡ page = omega arith in
           added.others l n le (λ x. ne 0 (omega arith) (x ∙ ap (λ p. prefix_of p l) (sym e))) ∙ mid_same l n le;
+      larges = λ n. added.larges n ∙ mid_larges n;
       stayed = stayed;
       made = λ l n m lt none now. free_before free free1 mid_fewer m.frame (made_of l n m lt none now);
       fewer = fewer;

@@ -5,14 +5,14 @@ use Rattle.std.proofs.lemmas.Bool.Decides.{nat_tests}
 use Rattle.std.specs.Prelude.{IsSome}
 use Rattle.paging_core.specs.Memory.{word_at, frame_count, byte_of}
 use Rattle.paging_core.specs.Prefix.{prefix_of}
-use Rattle.paging_core.specs.Walk.{Place, step, reach, top, walk_of, granted, reached}
+use Rattle.paging_core.specs.Walk.{Place, step, reach, large_of, top, walk_of, granted, reached}
 use Rattle.paging_core.specs.Tree.{IsTree}
 use Rattle.paging_core.specs.PageChanges.{Change, removal, regrant, IsLastEntry, IsPageChanged, ArePagesChanged, only}
 use Rattle.paging_core.specs.declared.page_table.Rights.{Rights}
-use Rattle.paging_core.proofs.Reach.{step_same, reach_there, reach_others}
+use Rattle.paging_core.proofs.Reach.{step_zero, reach_there, reach_others, larges_others}
 use Rattle.paging_core.proofs.Words.{word_at_set_same, word_at_set_other}
 use Rattle.paging_core.proofs.Prefixes.{walk_reach, prefix_more}
-use Rattle.paging_core.proofs.Made.{reach_below, step_zero}
+use Rattle.paging_core.proofs.Made.{reach_below}
 use Rattle.paging_core.proofs.LastEntry.{step_page, some_or_none}
 
 -- ---- what a change does to the frame
@@ -54,11 +54,11 @@ module _ (old new : List ℕ) (root page : ℕ) (change : Change)
   size = rw one.words (length-set old (512 * one.table.frame + prefix_of page 4 % 512) (change.entry one.place))
 
   table_in : one.table.frame < frame_count old
-  table_in = reach_below old root 3 (prefix_of page 3) one.table root_in one.met
+  table_in = reach_below old root 3 (prefix_of page 3) one.table (omega arith) root_in one.met
 
   pub place_in : one.place.frame < frame_count new
   place_in = let s = size in
-      let b = reach_below old root 4 (prefix_of page 4) one.place root_in (sym (walk_reach old root page) ∙ one.was) in omega arith
+      let b = reach_below old root 4 (prefix_of page 4) one.place (omega arith) root_in (sym (walk_reach old root page) ∙ one.was) in omega arith
 
   place : 512 * prefix_of page 3 + prefix_of page 4 % 512 ≡ prefix_of page 4
   place = prefix_more page 3 (omega arith)
@@ -82,15 +82,20 @@ module _ (old new : List ℕ) (root page : ℕ) (change : Change)
     there : reach new root 4 (prefix_of page 4) ≡ change.leads one.place
     there =
         rw (← place)
-        (reach_there old new root 3 (prefix_of page 3) (prefix_of page 4 % 512) one.table (omega arith) one.met
-        (λ l b j lj ne. step_same old new l b j size (word_stays b.frame j lj ne)) alone (λ lt j lj. absurd (omega arith)) (omega arith)
+        (reach_there old new root 3 (prefix_of page 3) (prefix_of page 4 % 512) one.table size (omega arith) (omega arith) one.met
+        word_stays alone (λ lt j lj. absurd (omega arith)) (λ e j lj. absurd (omega arith)) (λ e. absurd (omega arith))
         ∙ leads)
 
     others : (l n : ℕ) → l ≤ 4 → (l ≡ 4 → n ≡ prefix_of page 4 → ⊥) → reach new root l n ≡ reach old root l n
     others l n le ne =
-        reach_others old new root 3 (prefix_of page 3) (prefix_of page 4 % 512) one.table (omega arith) one.met
-        (λ l b j lj ne. step_same old new l b j size (word_stays b.frame j lj ne)) alone (λ lt j lj. absurd (omega arith)) l n le
+        reach_others old new root 3 (prefix_of page 3) (prefix_of page 4 % 512) one.table size (omega arith) (omega arith) one.met
+        word_stays alone (λ lt j lj. absurd (omega arith)) (λ e j lj. absurd (omega arith)) (λ e. absurd (omega arith)) l n le
         (λ x y. ne x (y ∙ place))
+
+    larges : (n : ℕ) → large_of new root n ≡ large_of old root n
+    larges =
+        larges_others old new root 3 (prefix_of page 3) (prefix_of page 4 % 512) one.table size (omega arith) (omega arith) one.met
+        word_stays alone (λ lt j lj. absurd (omega arith)) (λ e j lj. absurd (omega arith)) (λ e. absurd (omega arith))
 
     is_table : one.table ≡ top one.table.frame
     is_table = tree.rights 3 (prefix_of page 3) one.table (omega arith) one.met
@@ -109,6 +114,7 @@ module _ (old new : List ℕ) (root page : ℕ) (change : Change)
           let e : n ≡ prefix_of page 4 = grind (arith, nat_tests) in
           ap (reach new root 4) e ∙ (there ∙ ap change.leads (same_place n p e is));
       stayed = λ l n le ne. others l n le (λ x y. let z = ne x in grind (arith, nat_tests));
+      larges = larges;
       entries = λ n i f p li g here is.
           let e : 512 * n + i ≡ prefix_of page 4 = grind (arith, nat_tests) in
           let en : n ≡ prefix_of page 3 = omega (arith, place) in
@@ -136,7 +142,7 @@ page_regranted old new root page rights free root_in one small tree =
     let is_top : one.table ≡ top one.table.frame = tree.rights 3 (prefix_of page 3) one.table (omega arith) one.met in
     page_changed old new root page (regrant rights) root_in one free tree
     (ap (λ t. step new 3 t (prefix_of page 4 % 512)) is_top
-    ∙ step_page new 3 one.table.frame (prefix_of page 4 % 512) one.place.frame rights small (place_in old new root page (regrant rights) root_in one)
+    ∙ step_page new one.table.frame (prefix_of page 4 % 512) one.place.frame rights small (place_in old new root page (regrant rights) root_in one)
     (entry_here old new root page (regrant rights) root_in one))
 
 -- ---- any pages
@@ -268,6 +274,7 @@ module _ (old mid new : List ℕ) (root : ℕ) (change : Change) (a b c : ℕ �
       mapped = λ n g. mapped_of n g (cases_Bool (a n));
       changed = λ n place g at. changed_of n place g at (cases_Bool (a n));
       stayed = λ l n le ne. two.stayed l n le (λ e. (neither n (ne e)).1) ∙ one.stayed l n le (λ e. (neither n (ne e)).0);
+      larges = λ n. two.larges n ∙ one.larges n;
       entries = λ n i f place li g here at. entries_of n i f place li g here at (cases_Bool (a (512 * n + i)));
       words = λ f i li ne.
           two.words f i li (λ n at. (neither (512 * n + i) (ne n (sym (tables n) ∙ at))).1) ∙ one.words f i li (λ n at. (neither (512 * n + i) (ne n at)).0);
@@ -280,6 +287,7 @@ none_changed words root change chosen none = record {
   mapped = λ n g. let e = none n in absurd (cc);
   changed = λ n place g at. let e = none n in absurd (cc);
   stayed = λ l n le ne. refl;
+  larges = λ n. refl;
   entries = λ n i f place li g here at. let e = none (512 * n + i) in absurd (cc);
   words = λ f i li apart. refl;
 }

@@ -5,18 +5,27 @@ use Rattle.std.specs.Prelude.{IsTrue}
 use Rattle.paging_core.specs.Address.{is_canonical}
 use Rattle.paging_core.specs.Memory.{word_at, byte_of, AreWordsWritten, IsFrameCopied}
 use Rattle.paging_core.specs.Prefix.{prefix_of}
-use Rattle.paging_core.specs.Walk.{Place, reach, walk_of, reached}
+use Rattle.paging_core.specs.Walk.{Place, reach, large_of, walk_of, reached}
 use Rattle.paging_core.specs.Tree.{IsTree}
 use Rattle.paging_core.proofs.LastEntry.{some_or_none}
 use Rattle.paging_core.proofs.Made.{tree_same}
 use Rattle.paging_core.proofs.Prefixes.{walk_reach}
 use Rattle.paging_core.proofs.Ranges.{same_number}
-use Rattle.paging_core.proofs.Reached.{reach_data}
+use Rattle.paging_core.proofs.Reached.{reach_data, larges_data}
 
 -- the byte at an address of a page
 pub reached_at : (words : List ℕ) (root address : ℕ) (place : Place) → walk_of words root (address / 4096) ≡ Some place →
     reached words root address ≡ Some (byte_of (word_at words place.frame (address % 4096 / 8)) (address % 8))
 reached_at words root address place at = rw at refl
+
+-- a byte stays where its page keeps the frame, and the frame the word
+pub same_byte : (old new : List ℕ) (root address : ℕ) (was now : Place) → walk_of old root (address / 4096) ≡ Some was →
+    walk_of new root (address / 4096) ≡ Some now → now.frame ≡ was.frame →
+    word_at new was.frame (address % 4096 / 8) ≡ word_at old was.frame (address % 4096 / 8) → reached new root address ≡ reached old root address
+same_byte old new root address was now a b e w =
+    reached_at new root address now b
+    ∙ (ap (λ f. Some (byte_of (word_at new f (address % 4096 / 8)) (address % 8))) e
+    ∙ (ap (λ v. Some (byte_of v (address % 8))) w ∙ sym (reached_at old root address was a)))
 
 module _ (old new : List ℕ) (root page : ℕ) (place : Place) (free : List Bool)
     (at : walk_of old root page ≡ Some place)
@@ -28,6 +37,9 @@ module _ (old new : List ℕ) (root page : ℕ) (place : Place) (free : List Boo
 
   pub written_walks : (l n : ℕ) → l ≤ 4 → reach new root l n ≡ reach old root l n
   written_walks = reach_data old new root place.frame (prefix_of page 4) free place tree here refl size elsewhere
+
+  pub written_larges : (n : ℕ) → large_of new root n ≡ large_of old root n
+  written_larges = larges_data old new root place.frame (prefix_of page 4) free place tree here refl size elsewhere
 
   pub written_tree : IsTree new root free
   written_tree = tree_same old new root free written_walks tree

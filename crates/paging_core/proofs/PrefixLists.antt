@@ -42,7 +42,7 @@ contains_from level number (suc count) (suc d) lt =
     (record { level = level; number = number + 1 + d }) (contains_from level (number + 1) count d (omega arith)))
 
 -- each prefix between those of the first and the last page is one of a page of the range
-page_at : (first more level number : ℕ) → IsCanonicalRange first (suc more) → 0 < level → level < 4 → (prefix_of first level ≡ number → ⊥) →
+pub page_at : (first more level number : ℕ) → IsCanonicalRange first (suc more) → 0 < level → level < 4 → (prefix_of first level ≡ number → ⊥) →
     prefix_of first level ≤ number → number ≤ prefix_of (first + more) level → (k : ℕ) × ((k < suc more) × (number ≡ prefix_of (first + k) level))
 page_at first more zero number range pos lt ne lo hi = absurd (omega arith)
 page_at first more (suc zero) number range pos lt ne lo hi =

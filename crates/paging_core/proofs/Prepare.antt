@@ -1,23 +1,25 @@
 -- The missing tables of a page are made, one level after the other.
-use Rattle.std.proofs.Common.{◌≡◌, ℕ, zero, suc, ◌+◌, ◌*◌, ◌%◌, ◌<◌, ◌≤◌, Bool, true, false, List, length, Option, Some, None, refl, sym, ap, ◌∙◌, ◌⊎◌, inl, inr, arith, length-set}
+use Rattle.std.proofs.Common.{◌≡◌, ℕ, zero, suc, ◌+◌, ◌*◌, ◌/◌, ◌%◌, ◌<◌, ◌≤◌, Bool, true, false, List, length, Option, Some, None, refl, sym, ap, ◌∙◌, ◌⊎◌, inl, inr, arith, length-set}
 use Rattle.std.proofs.lemmas.Bool.{cases_eq, cases_lt, cases_Bool}
 use Rattle.std.proofs.lemmas.List.{get_or-set_other}
 use Rattle.paging_core.specs.Entry.{table_entry}
 use Rattle.paging_core.specs.Memory.{word_at, frame_count, cleared}
 use Rattle.paging_core.specs.Prefix.{prefix_of}
 use Rattle.paging_core.specs.Pool.{is_free, free_count, FreeBelow}
-use Rattle.paging_core.specs.Walk.{Place, step, reach, next_from, top}
+use Rattle.paging_core.specs.Walk.{Place, step, large_step, large_of, large_from, reach, next_from, top}
 use Rattle.paging_core.specs.Tree.{IsTree}
 use Rattle.paging_core.specs.Tables.{IsTableMade, IsEnsured, IsPrepared, missing_at, missing_past}
 use Rattle.paging_core.proofs.Words.{word_at_cleared_same, word_at_cleared_other, word_at_set_other, word_at_set_same, length_cleared}
 use Rattle.paging_core.proofs.Prefixes.{reach_prefix, prefix_more}
-use Rattle.paging_core.proofs.Made.{made_tree, made_there, made_others, made_size, fewer_flags, lowest_more, taken_count, reach_below}
+use Rattle.paging_core.proofs.Reach.{large_is}
+use Rattle.paging_core.proofs.Made.{made_tree, made_there, made_others, made_larges, made_size, fewer_flags, lowest_more, taken_count, reach_below}
 
 pub prepared_start : (words : List ℕ) (free : List Bool) (root page : ℕ) → IsPrepared words words free free root page 0
 prepared_start words free root page = record {
   size = refl;
   flags = refl;
   others = λ l n le ne. refl;
+  larges = λ n. refl;
   stayed = λ l m le is. is;
   made = λ l m le absent is. absurd (cc);
   fewer = λ f e. e;
@@ -38,6 +40,19 @@ missing_more words root page (suc zero) lt = refl
 missing_more words root page (suc (suc zero)) lt = omega arith
 missing_more words root page (suc (suc (suc n))) lt = absurd (omega arith)
 
+-- fewer are missing past a later level
+missing_fewer : (words : List ℕ) (root page a b : ℕ) → a ≤ b → b ≤ 3 → missing_past words root page b ≤ missing_past words root page a
+missing_fewer words root page zero zero le top = omega arith
+missing_fewer words root page zero (suc zero) le top = omega arith
+missing_fewer words root page zero (suc (suc zero)) le top = omega arith
+missing_fewer words root page (suc zero) (suc zero) le top = omega arith
+missing_fewer words root page (suc zero) (suc (suc zero)) le top = omega arith
+missing_fewer words root page (suc (suc zero)) (suc (suc zero)) le top = omega arith
+missing_fewer words root page a (suc (suc (suc n))) le top = omega arith
+missing_fewer words root page (suc (suc n)) (suc zero) le top = absurd (omega arith)
+missing_fewer words root page (suc n) zero le top = absurd (omega arith)
+missing_fewer words root page (suc (suc (suc n))) (suc (suc zero)) le top = absurd (omega arith)
+
 missing_none : (words : List ℕ) (root page level : ℕ) → reach words root level (prefix_of page level) ≡ None → missing_at words root page level ≡ 1
 missing_none words root page level e = rw e refl
 
@@ -51,18 +66,29 @@ module _ (old mid : List ℕ) (free freem : List Bool) (root page level table in
     (ix : index ≡ prefix_of page (level + 1) % 512)
     (tree : IsTree mid root freem)
     (met : reach mid root level (prefix_of page level) ≡ Some (top table))
-    (prepared : IsPrepared old mid free freem root page level) where
+    (prepared : IsPrepared old mid free freem root page level)
+    (slot : level ≡ 2 → large_of old root (prefix_of page 3) ≡ None) where
   -- what the walk meets one level on
   child : reach mid root (level + 1) (prefix_of page (level + 1)) ≡ step mid level (top table) index
   child =
       reach_prefix mid root page level (omega arith)
       ∙ (ap (λ o. next_from mid level o (prefix_of page (level + 1) % 512)) met ∙ ap (step mid level (top table)) (sym ix))
 
+  -- the entry maps no large page
+  small : level ≡ 2 → large_step mid (top table) index ≡ None
+  small e =
+      let p : prefix_of page 3 / 512 ≡ prefix_of page 2 = omega arith in
+      let q : prefix_of page 3 % 512 ≡ index = ap (λ l. prefix_of page (l + 1) % 512) (sym e) ∙ sym ix in
+      let m : reach mid root 2 (prefix_of page 3 / 512) ≡ Some (top table) = ap (reach mid root 2) p ∙ (ap (λ l. reach mid root l (prefix_of page l)) (sym e) ∙ met) in
+      ap (large_step mid (top table)) (sym q)
+      ∙ (sym (ap (λ o. large_from mid o (prefix_of page 3 % 512)) m)
+      ∙ (sym (large_is mid root (prefix_of page 3)) ∙ (prepared.larges (prefix_of page 3) ∙ slot e)))
+
   child_old : reach old root (level + 1) (prefix_of page (level + 1)) ≡ step mid level (top table) index
   child_old = sym (prepared.others (level + 1) (prefix_of page (level + 1)) (omega arith) (λ le _. absurd (omega arith))) ∙ child
 
   pub table_below : table < frame_count mid
-  table_below = let s = prepared.size in reach_below mid root level (prefix_of page level) (top table) (omega arith) met
+  table_below = let s = prepared.size in reach_below mid root level (prefix_of page level) (top table) (omega arith) (omega arith) met
 
   -- a frame that is free was free at first
   first_free : (f : ℕ) → is_free freem f ≡ true → is_free free f ≡ true
@@ -75,8 +101,10 @@ module _ (old mid : List ℕ) (free freem : List Bool) (root page level table in
   pub known_mid : FreeBelow freem (frame_count mid)
   known_mid f e = let s = prepared.size in let b = known f (first_free f e) in omega arith
 
-  pub room_for : missing_past old root page 0 ≤ free_count free → step mid level (top table) index ≡ None → 0 < free_count freem
-  room_for room absent =
+  pub room_for : (levels : ℕ) → level < levels → levels ≤ 3 → missing_past old root page 0 ≤ free_count free + missing_past old root page levels →
+      step mid level (top table) index ≡ None → 0 < free_count freem
+  room_for levels on le room absent =
+      let past = missing_fewer old root page (level + 1) levels (omega arith) le in
       let c = prepared.count in
       let m = missing_more old root page level lt in
       let one : missing_at old root page (level + 1) ≡ 1 = missing_none old root page (level + 1) (child_old ∙ absent) in
@@ -88,6 +116,7 @@ module _ (old mid : List ℕ) (free freem : List Bool) (root page level table in
     size = prepared.size;
     flags = prepared.flags;
     others = λ l n le ne. prepared.others l n le (λ ll e. ne (omega arith) e);
+    larges = prepared.larges;
     stayed = prepared.stayed;
     made = λ l b le absent now. made_of l b absent now (cases_lt level l) le;
     fewer = prepared.fewer;
@@ -145,18 +174,21 @@ module _ (old mid : List ℕ) (free freem : List Bool) (root page level table in
 
     now_there : reach new root (level + 1) (prefix_of page (level + 1)) ≡ Some (top made)
     now_there = rw (← place)
-        (made_there mid new freem free' root level (prefix_of page level) table index made tree lt index_in root_mid known_mid met absent m)
+        (made_there mid new freem free' root level (prefix_of page level) table index made tree lt index_in root_mid known_mid met absent small m)
 
     now_others : (l n : ℕ) → l ≤ 4 → (l ≡ level + 1 → n ≡ prefix_of page (level + 1) → ⊥) → reach new root l n ≡ reach mid root l n
     now_others l n le ne =
-        made_others mid new freem free' root level (prefix_of page level) table index made tree lt index_in root_mid known_mid met absent m l n le
+        made_others mid new freem free' root level (prefix_of page level) table index made tree lt index_in root_mid known_mid met absent small m l n le
         (λ x y. ne x (y ∙ place))
 
     now_tree : IsTree new root free'
-    now_tree = made_tree mid new freem free' root level (prefix_of page level) table index made tree lt index_in root_mid known_mid met absent m
+    now_tree = made_tree mid new freem free' root level (prefix_of page level) table index made tree lt index_in root_mid known_mid met absent small m
+
+    now_larges : (n : ℕ) → large_of new root n ≡ large_of mid root n
+    now_larges = made_larges mid new freem free' root level (prefix_of page level) table index made tree lt index_in root_mid known_mid met absent small m
 
     now_size : length new ≡ length mid
-    now_size = made_size mid new freem free' root level (prefix_of page level) table index made tree lt index_in root_mid known_mid met absent m
+    now_size = made_size mid new freem free' root level (prefix_of page level) table index made tree lt index_in root_mid known_mid met absent small m
 
     grown : (l : ℕ) (b : Place) → l ≤ 4 → reach mid root l (prefix_of page l) ≡ Some b → reach new root l (prefix_of page l) ≡ Some b
     grown l b le is = go (cases_eq l (level + 1))
@@ -203,6 +235,7 @@ module _ (old mid : List ℕ) (free freem : List Bool) (root page level table in
       flags = rw m.taken (length-set freem made false) ∙ prepared.flags;
       others = λ l n le ne.
           now_others l n le (λ x y. ne (omega arith) (y ∙ ap (prefix_of page) (sym x))) ∙ prepared.others l n le (λ x y. ne (omega arith) y);
+      larges = λ n. now_larges n ∙ prepared.larges n;
       stayed = λ l b le is. grown l b le (prepared.stayed l b le is);
       made = λ l b le none now. made_of l b none now (cases_lt level l) le;
       fewer = λ f e. rw m.taken (fewer_flags freem made f (prepared.fewer f e));

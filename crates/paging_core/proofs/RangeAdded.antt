@@ -7,12 +7,13 @@ use Rattle.paging_core.specs.Memory.{word_at, byte_of}
 use Rattle.paging_core.specs.Entry.{table_entry, page_entry}
 use Rattle.paging_core.specs.Prefix.{prefix_of}
 use Rattle.paging_core.specs.Pool.{is_free, free_count}
-use Rattle.paging_core.specs.Walk.{Place, reach, walk_of, reached, top, granted}
+use Rattle.paging_core.specs.Walk.{Place, reach, large_of, walk_of, reached, top, granted}
 use Rattle.paging_core.specs.Tree.{IsTree}
 use Rattle.paging_core.specs.Missing.{missing_of}
 use Rattle.paging_core.specs.Mapping.{IsNewPage, IsRangeAdded}
 use Rattle.paging_core.specs.declared.page_table.Rights.{Rights}
 use Rattle.paging_core.proofs.Prefixes.{walk_reach, none_child}
+use Rattle.paging_core.proofs.Reach.{reach_none, table_none}
 use Rattle.paging_core.proofs.LastEntry.{some_or_none}
 use Rattle.paging_core.proofs.Ranges.{missing_none, missing_step, missing_le, page_in, page_canonical, range_front, same_number}
 use Rattle.paging_core.proofs.FreshFrame.{free_before}
@@ -26,6 +27,7 @@ range_start words free root first rights tree = record {
   mapped = λ k lt. absurd (omega arith);
   tables = λ l k lt lk. absurd (omega arith);
   others = λ l n le ne. refl;
+  larges = λ n. refl;
   stayed = λ l n met le is. is;
   made = λ l n met lt none is. absurd (cc);
   fewer = λ f e. e;
@@ -226,12 +228,27 @@ module _ (old mid : List ℕ) (free free1 : List Bool) (root first pages k : ℕ
         (t, next.entries.old_words l n f i ll li t (next.stayed (l + 1) (512 * n + i) p (omega arith) on ∙ sym on))
 
     -- what is met past a table shows the table
-    parent : (words : List ℕ) (l n i : ℕ) (p : Place) → i < 512 → reach words root (l + 1) (512 * n + i) ≡ Some p → (m : Place) × (reach words root l n ≡ Some m)
-    parent words l n i p li on = go (some_or_none (reach words root l n))
+    parent : (words : List ℕ) (l n i : ℕ) (p : Place) → l < 3 → i < 512 → reach words root (l + 1) (512 * n + i) ≡ Some p → (m : Place) × (reach words root l n ≡ Some m)
+    parent words l n i p low li on = go (some_or_none (reach words root l n))
       where
         go : ((m : Place) × (reach words root l n ≡ Some m)) ⊎ (reach words root l n ≡ None) → (m : Place) × (reach words root l n ≡ Some m)
         go (inl q) = q
-        go (inr none) = let gone = none_child words root l n i li none in absurd (cc)
+        go (inr none) = let gone = none_child words root l n i low li none in absurd (cc)
+
+    -- a page that was there between, in a slot that has a table after
+    its_table : (n f i : ℕ) (p : Place) → i < 512 → reach new root 3 n ≡ Some (top f) → reach mid root 4 (512 * n + i) ≡ Some p →
+        (m : Place) × (reach mid root 3 n ≡ Some m)
+    its_table n f i p li here on = go (some_or_none (reach mid root 3 n))
+      where
+        e : (512 * n + i) / 512 ≡ n
+        e = omega arith
+
+        go : ((m : Place) × (reach mid root 3 n ≡ Some m)) ⊎ (reach mid root 3 n ≡ None) → (m : Place) × (reach mid root 3 n ≡ Some m)
+        go (inl q) = q
+        go (inr none) =
+            let z = reach_none mid root (512 * n + i) (ap (reach mid root 3) e ∙ none)
+            (ap (large_of mid root) e ∙ (sym (next.larges n) ∙ table_none new root n (top f) here)) in
+            absurd (cc)
 
     blank : (l n f i : ℕ) → l < 4 → i < 512 → reach old root l n ≡ None → reach new root l n ≡ Some (top f) →
         reach new root (l + 1) (512 * n + i) ≡ None → word_at new f i ≡ 0
@@ -253,7 +270,7 @@ module _ (old mid : List ℕ) (free free1 : List Bool) (root first pages k : ℕ
         go : ((m : Place) × (reach mid root (l + 1) (512 * n + i) ≡ Some m)) ⊎ (reach mid root (l + 1) (512 * n + i) ≡ None) → word_at new f i ≡ table_entry made
         go (inr e) = next.entries.table_words l n f i made ll li here e now
         go (inl p) =
-            let q = parent mid l n i p.0 li p.1 in
+            let q = parent mid l n i p.0 ll li p.1 in
             let w = word_between l n f i q.0 p.0 (omega arith) li here q.1 p.1 in
             let s = next.stayed (l + 1) (512 * n + i) p.0 (omega arith) p.1 in
             let same : p.0 ≡ top made = cc in
@@ -266,7 +283,7 @@ module _ (old mid : List ℕ) (free free1 : List Bool) (root first pages k : ℕ
         go : ((m : Place) × (reach mid root 4 (512 * n + i) ≡ Some m)) ⊎ (reach mid root 4 (512 * n + i) ≡ None) → word_at new f i ≡ page_entry place.frame rights
         go (inr e) = next.entries.page_words n f i place li here e now
         go (inl p) =
-            let q = parent mid 3 n i p.0 li p.1 in
+            let q = its_table n f i p.0 li here p.1 in
             let w = word_between 3 n f i q.0 p.0 (omega arith) li here q.1 p.1 in
             let s = next.stayed 4 (512 * n + i) p.0 (omega arith) p.1 in
             let same : p.0 ≡ place = cc in
@@ -282,6 +299,7 @@ module _ (old mid : List ℕ) (free free1 : List Bool) (root first pages k : ℕ
       others = λ l n le ne.
           next.others l n le (λ j lj e. ne k (omega arith) (let z : first + k + j ≡ first + k = omega arith in e ∙ ap (λ p. prefix_of p l) z))
           ∙ added.others l n le (λ j lj e. ne j (omega arith) e);
+      larges = λ n. next.larges n ∙ added.larges n;
       stayed = λ l n met le is. next.stayed l n met le (added.stayed l n met le is);
       made = λ l n met ll none now. made_of l n met ll none now (some_or_none (reach mid root l n));
       fewer = λ f e. next.fewer f (added.fewer f e);

@@ -6,9 +6,9 @@ use Rattle.std.proofs.lemmas.Bool.Decides.{nat_tests}
 use Rattle.paging_core.specs.Address.{is_canonical}
 use Rattle.paging_core.specs.Memory.{word_at, frame_count, byte_of}
 use Rattle.paging_core.specs.Prefix.{prefix_of}
-use Rattle.paging_core.specs.Walk.{Place, reach, walk_of, reached}
+use Rattle.paging_core.specs.Walk.{Place, reach, large_of, walk_of, reached}
 use Rattle.paging_core.specs.Tree.{IsTree}
-use Rattle.paging_core.proofs.Reach.{step_same, reach_same}
+use Rattle.paging_core.proofs.Reach.{reach_same, larges_same}
 use Rattle.paging_core.proofs.Words.{word_at_set_same, word_at_set_other}
 use Rattle.paging_core.proofs.Prefixes.{walk_reach}
 use Rattle.paging_core.proofs.Made.{tree_same, reach_below}
@@ -19,9 +19,18 @@ pub reach_data : (old new : List ℕ) (root frame page : ℕ) (free : List Bool)
     ((f i : ℕ) → i < 512 → (f ≡ frame → ⊥) → word_at new f i ≡ word_at old f i) →
     (l n : ℕ) → l ≤ 4 → reach new root l n ≡ reach old root l n
 reach_data old new root frame page free met tree here is size others =
-    reach_same old new root
-    (λ l n b j lt at lj. step_same old new l b j size (others b.frame j lj
-    (λ e. let p : (l ≡ 4) × (n ≡ page) = tree.distinct l n 4 page b met (omega arith) (omega arith) at here (e ∙ sym is) in absurd (omega arith))))
+    reach_same old new root size
+    (λ l n b j lt at lj. others b.frame j lj
+    (λ e. let p : (l ≡ 4) × (n ≡ page) = tree.distinct l n 4 page b met (omega arith) (omega arith) at here (e ∙ sym is) in absurd (omega arith)))
+
+pub larges_data : (old new : List ℕ) (root frame page : ℕ) (free : List Bool) (met : Place) → IsTree old root free →
+    reach old root 4 page ≡ Some met → met.frame ≡ frame → length new ≡ length old →
+    ((f i : ℕ) → i < 512 → (f ≡ frame → ⊥) → word_at new f i ≡ word_at old f i) →
+    (n : ℕ) → large_of new root n ≡ large_of old root n
+larges_data old new root frame page free met tree here is size others =
+    larges_same old new root size
+    (λ l n b j lt at lj. others b.frame j lj
+    (λ e. let p : (l ≡ 4) × (n ≡ page) = tree.distinct l n 4 page b met (omega arith) (omega arith) at here (e ∙ sym is) in absurd (omega arith)))
 
 -- the eight bytes from a multiple of 8 on are those of one word
 pub reached_word : (words : List ℕ) (root address k : ℕ) (place : Place) → address % 8 ≡ 0 → k < 8 → walk_of words root (address / 4096) ≡ Some place →
@@ -52,6 +61,12 @@ module _ (old new : List ℕ) (root address value : ℕ) (place : Place) (free :
       (rw written (length-set old (512 * place.frame + address % 4096 / 8) value))
       (λ f i li ne. ap (λ w. word_at w f i) written ∙ word_at_set_other old place.frame (address % 4096 / 8) value f i (omega arith) li (λ e _. ne e))
 
+  pub stored_larges : (n : ℕ) → large_of new root n ≡ large_of old root n
+  stored_larges =
+      larges_data old new root place.frame (prefix_of (address / 4096) 4) free place tree at_reach refl
+      (rw written (length-set old (512 * place.frame + address % 4096 / 8) value))
+      (λ f i li ne. ap (λ w. word_at w f i) written ∙ word_at_set_other old place.frame (address % 4096 / 8) value f i (omega arith) li (λ e _. ne e))
+
   pub stored_tree : IsTree new root free
   stored_tree = tree_same old new root free stored_walks tree
 
@@ -60,7 +75,7 @@ module _ (old new : List ℕ) (root address value : ℕ) (place : Place) (free :
 
   pub stored_word : word_at new place.frame (address % 4096 / 8) ≡ value
   stored_word =
-      let below : place.frame < frame_count old = reach_below old root 4 (prefix_of (address / 4096) 4) place root_in at_reach in
+      let below : place.frame < frame_count old = reach_below old root 4 (prefix_of (address / 4096) 4) place (omega arith) root_in at_reach in
       ap (λ w. word_at w place.frame (address % 4096 / 8)) written ∙ word_at_set_same old place.frame (address % 4096 / 8) value below (omega arith)
 
   pub stored_bytes : (k : ℕ) → k < 8 → reached new root (address + k) ≡ Some (byte_of value k)
@@ -93,5 +108,8 @@ module _ (old new : List ℕ) (root address value : ℕ) (place : Place) (free :
       go (Some p) is = ap (λ w. Some (byte_of w (other % 8))) (other_words other p co ne is)
 
 -- a page that no walk finds is not mapped
+pub some_not_none : (o : Option Place) → IsSome o → o ≡ None → ⊥
+some_not_none o h e = let k = rw e at h in absurd (cc)
+
 pub not_mapped : (words : List ℕ) (root page : ℕ) → IsSome (walk_of words root page) → walk_of words root page ≡ None → ⊥
 not_mapped words root page h e = let k = rw e at h in absurd (cc)

@@ -18,3 +18,7 @@ table_entry frame = frame * 2 ^ 12 + 7
 abbrev pub page_entry : ℕ → Rights → ℕ
 page_entry frame rights =
     frame * 2 ^ 12 + 1 + (if rights.write then 2 else 0) + (if rights.user then 4 else 0) + (if rights.fetch then 0 else 2 ^ 63)
+
+-- the word that maps a large page from the frame on: that of a page, with bit 7
+abbrev pub large_entry : ℕ → Rights → ℕ
+large_entry frame rights = page_entry frame rights + 2 ^ 7

@@ -1,22 +1,22 @@
 -- What the walk and the tree rule mean: laws above the definitions.
-use Rattle.std.specs.Prelude.{◌≡◌, ℕ, ◌+◌, ◌*◌, ◌/◌, ◌%◌, ◌^◌, ◌<◌, ◌≤◌, ◌↔◌, Bool, false, IsTrue, List, Some, Contains}
+use Rattle.std.specs.Prelude.{◌≡◌, ℕ, ◌+◌, ◌*◌, ◌/◌, ◌%◌, ◌^◌, ◌<◌, ◌≤◌, ◌↔◌, Bool, false, IsTrue, IsSome, List, Some, None, Contains}
 use Rattle.paging_core.specs.Address.{IsCanonicalRange, is_canonical}
 use Rattle.paging_core.specs.Prefix.{prefix_of, prefixes_of}
 use Rattle.paging_core.specs.Steps.{position, pages_before}
 use Rattle.paging_core.specs.Pool.{is_free, IsFrameGiven}
-use Rattle.paging_core.specs.Walk.{Place, step, next_from, reach, walk_of, top}
+use Rattle.paging_core.specs.Walk.{Place, step, next_from, large_from, large_of, page_in, page_or, reach, walk_of, top}
 use Rattle.paging_core.specs.Tree.{IsTree}
 use Rattle.paging_core.specs.Mapping.{IsPageAdded}
 use Rattle.paging_core.specs.declared.page_table.Rights.{Rights}
 
--- the walk takes four steps from the root, by the four indices of the page
-abbrev pub WalkTakesFourSteps : Type 0
-WalkTakesFourSteps =
+-- the walk takes four steps from the root, by the four indices of the page, or ends after three in a large page
+abbrev pub WalkStepsByIndices : Type 0
+WalkStepsByIndices =
     (words : List ℕ) (root page : ℕ) →
     let p4 = step words 0 (top root) (page / 2 ^ 27 % 512) in
     let p3 = next_from words 1 p4 (page / 2 ^ 18 % 512) in
     let p2 = next_from words 2 p3 (page / 2 ^ 9 % 512) in
-    walk_of words root page ≡ next_from words 3 p2 (page % 512)
+    walk_of words root page ≡ page_or (large_from words p3 (page / 2 ^ 9 % 512)) (page % 512) (next_from words 3 p2 (page % 512))
 
 -- the prefixes of a range are those of its pages, of one, two and three indices
 abbrev pub PrefixesAreOfPages : Type 0
@@ -56,3 +56,15 @@ abbrev pub GivingKeepsTheTree : Type 0
 GivingKeepsTheTree =
     (words : List ℕ) (root : ℕ) (free free' : List Bool) (frame : ℕ) → IsTree words root free → IsFrameGiven free free' frame →
     ((level number : ℕ) (met : Place) → level ≤ 4 → reach words root level number ≡ Some met → met.frame ≡ frame → ⊥) → IsTree words root free'
+
+-- a page that is mapped, and in no large page, has an entry in the table of its slot
+abbrev pub MappedByATable : Type 0
+MappedByATable =
+    (words : List ℕ) (root page : ℕ) (place : Place) → walk_of words root page ≡ Some place → large_of words root (prefix_of page 3) ≡ None →
+    IsSome (reach words root 3 (prefix_of page 3))
+
+-- a slot with a large page has no table, and its pages are those of the large page
+abbrev pub MappedInALargePage : Type 0
+MappedInALargePage =
+    (words : List ℕ) (root page : ℕ) (large : Place) → large_of words root (prefix_of page 3) ≡ Some large →
+    (walk_of words root page ≡ Some (page_in (page % 512) large)) × (reach words root 3 (prefix_of page 3) ≡ None)

@@ -8,9 +8,11 @@ pub mod Prefix
 pub mod Steps
 pub mod Walk
 pub mod Pool
+pub mod Runs
 pub mod Tree
 pub mod Tables
 pub mod Missing
 pub mod Mapping
 pub mod PageChanges
+pub mod Large
 pub mod Laws

@@ -4,7 +4,7 @@ use Rattle.paging_core.specs.Memory.{word_at}
 use Rattle.paging_core.specs.Entry.{table_entry, page_entry}
 use Rattle.paging_core.specs.Prefix.{prefix_of}
 use Rattle.paging_core.specs.Pool.{is_free, free_count, AreLowestTaken}
-use Rattle.paging_core.specs.Walk.{Place, reach, walk_of, top, granted}
+use Rattle.paging_core.specs.Walk.{Place, reach, large_of, walk_of, top, granted}
 use Rattle.paging_core.specs.Tree.{IsTree}
 use Rattle.paging_core.specs.Missing.{missing_of}
 use Rattle.paging_core.specs.declared.page_table.Rights.{Rights}
@@ -36,6 +36,7 @@ pub record IsPageAdded (old new : List ℕ) (free free' : List Bool) (root page 
   -- nothing else of the walk is changed: no other page, and no table that was there
   pub pages : (other : ℕ) → (other % 2 ^ 36 ≡ page % 2 ^ 36 → ⊥) → walk_of new root other ≡ walk_of old root other
   pub others : (l n : ℕ) → l ≤ 4 → (n ≡ prefix_of page l → ⊥) → reach new root l n ≡ reach old root l n
+  pub larges : (n : ℕ) → large_of new root n ≡ large_of old root n
   pub stayed : (l n : ℕ) (met : Place) → l < 4 → reach old root l n ≡ Some met → reach new root l n ≡ Some met
   -- the frames of the new tables were free, the lowest ones, and no other frame was taken
   pub made :
@@ -70,6 +71,7 @@ pub record IsRangeAdded (old new : List ℕ) (free free' : List Bool) (root firs
   -- what is no prefix of a page of the range is met as before, and so is a table or a page that was there
   pub others :
       (l n : ℕ) → l ≤ 4 → ((k : ℕ) → k < pages → n ≡ prefix_of (first + k) l → ⊥) → reach new root l n ≡ reach old root l n
+  pub larges : (n : ℕ) → large_of new root n ≡ large_of old root n
   pub stayed : (l n : ℕ) (met : Place) → l ≤ 4 → reach old root l n ≡ Some met → reach new root l n ≡ Some met
   -- the frames of the new tables were free
   pub made :

@@ -5,7 +5,7 @@ use Rattle.paging_core.specs.Memory.{word_at}
 use Rattle.paging_core.specs.Entry.{page_entry}
 use Rattle.paging_core.specs.Prefix.{prefix_of}
 use Rattle.paging_core.specs.Pool.{is_free}
-use Rattle.paging_core.specs.Walk.{Place, reach, walk_of, top, granted}
+use Rattle.paging_core.specs.Walk.{Place, reach, large_of, walk_of, top, granted}
 use Rattle.paging_core.specs.declared.page_table.Rights.{Rights}
 
 -- What becomes of a page that led to a place: the word of its entry, and where the page leads then.
@@ -20,6 +20,12 @@ removal = record { entry = λ place. 0; leads = λ place. None }
 -- the page keeps its frame, and has these rights
 abbrev pub regrant : Rights → Change
 regrant rights = record { entry = λ place. page_entry place.frame rights; leads = λ place. Some (granted place.frame rights) }
+
+-- The page leads to the frame.
+pub record IsFrameOf (words : List ℕ) (root page frame : ℕ) : Type 0 where
+  pub place : Place
+  pub found : walk_of words root page ≡ Some place
+  pub to_frame : place.frame ≡ frame
 
 -- Entry `index` of the page's last table leads to its frame.
 pub record IsLastEntry (words : List ℕ) (root page table index frame : ℕ) : Type 0 where
@@ -46,6 +52,7 @@ pub record ArePagesChanged (old new : List ℕ) (root : ℕ) (change : Change) (
   pub changed : (n : ℕ) (place : Place) → chosen n ≡ true → reach old root 4 n ≡ Some place → reach new root 4 n ≡ change.leads place
   -- every table is met as before, and every other page
   pub stayed : (l n : ℕ) → l ≤ 4 → (l ≡ 4 → chosen n ≡ false) → reach new root l n ≡ reach old root l n
+  pub larges : (n : ℕ) → large_of new root n ≡ large_of old root n
   -- the entries of these pages are written, and no other word is changed
   pub entries :
       (n i f : ℕ) (place : Place) → i < 512 → chosen (512 * n + i) ≡ true → reach old root 3 n ≡ Some (top f) →

@@ -4,7 +4,7 @@ use Rattle.paging_core.specs.Memory.{word_at, cleared}
 use Rattle.paging_core.specs.Entry.{table_entry}
 use Rattle.paging_core.specs.Prefix.{prefix_of}
 use Rattle.paging_core.specs.Pool.{is_free, free_count, AreLowestTaken}
-use Rattle.paging_core.specs.Walk.{Place, reach, top}
+use Rattle.paging_core.specs.Walk.{Place, reach, large_of, top}
 
 -- a free frame was cleared, and is named as a table by an entry
 pub record IsTableMade (old new : List ℕ) (free free' : List Bool) (table index made : ℕ) : Type 0 where
@@ -36,6 +36,7 @@ pub record IsPrepared (old new : List ℕ) (free free' : List Bool) (root page l
   pub flags : length free' ≡ length free
   -- nothing else of the walk is changed
   pub others : (l n : ℕ) → l ≤ 4 → (l ≤ level → n ≡ prefix_of page l → ⊥) → reach new root l n ≡ reach old root l n
+  pub larges : (n : ℕ) → large_of new root n ≡ large_of old root n
   pub stayed : (l : ℕ) (met : Place) → l ≤ 4 → reach old root l (prefix_of page l) ≡ Some met → reach new root l (prefix_of page l) ≡ Some met
   -- the frames of the new tables were free, and no other frame was taken
   pub made :

@@ -1,12 +1,12 @@
 ghost use Rattle.std.specs.Prelude.{◌≡◌, ℕ, ◌+◌, ◌-◌, ◌*◌, ◌/◌, ◌%◌, ◌^◌, ◌<◌, ◌≤◌, IsSome, IfSome, Some, length, List, Bool, set, IsTrue, slice_index};
 ghost use Rattle.paging_core.specs.Address.{is_canonical};
 ghost use Rattle.paging_core.specs.Memory.{frame_count, word_at, byte_of, IsFrameCopied, AreWordsWritten, AreWordsOf};
-ghost use Rattle.paging_core.specs.Walk.{reach, walk_of, reached};
+ghost use Rattle.paging_core.specs.Walk.{reach, large_of, walk_of, reached};
 ghost use Rattle.paging_core.specs.Tree.{IsTree};
 
 use crate::addr::VirtAddr;
 use crate::memory::Frames;
-use crate::page_walk::{LastEntry, last_entry, walk};
+use crate::page_walk::{frame_of_page, walk};
 use crate::pages::Page;
 use crate::phys_frames::PhysFrame;
 
@@ -45,6 +45,7 @@ pub fn store_word(frames: &mut Frames, root: PhysFrame, address: VirtAddr, value
     ensures word { IfSome (walk_of frames.old root (address / 4096)) (λ place. frames.new ≡ set frames.old (512 * place.frame + address % 4096 / 8) value) }
     ensures size { length frames.new ≡ length frames.old }
     ensures walks { (free : List Bool) → IsTree frames.old root free → (level number : ℕ) → level ≤ 4 → reach frames.new root level number ≡ reach frames.old root level number }
+    ensures larges { (free : List Bool) → IsTree frames.old root free → (slot : ℕ) → large_of frames.new root slot ≡ large_of frames.old root slot }
     ensures tree { (free : List Bool) → IsTree frames.old root free → IsTree frames.new root free }
     ensures stored { (free : List Bool) → IsTree frames.old root free → IfSome (walk_of frames.old root (address / 4096)) (λ place. word_at frames.new place.frame (address % 4096 / 8) ≡ value) }
     ensures other_words { (free : List Bool) → IsTree frames.old root free → (other : ℕ) → IsTrue (is_canonical other) → (other / 8 ≡ address / 8 → ⊥) →
@@ -70,7 +71,7 @@ pub fn load_words(frames: &Frames, root: PhysFrame, page: Page, index: u16, word
     ensures bytes { (address : ℕ) → address / 4096 ≡ page → index ≤ address % 4096 / 8 → address % 4096 / 8 < index + length words.new →
         reached frames.now root address ≡ Some (byte_of (slice_index words.new (address % 4096 / 8 - index)) (address % 8)) }
 {
-    let LastEntry { frame, .. } = last_entry(frames, root, page);
+    let frame = frame_of_page(frames, root, page);
     frames.read_words(frame, index, words);
 }
 
@@ -84,13 +85,14 @@ pub fn store_words(frames: &mut Frames, root: PhysFrame, page: Page, index: u16,
     ensures words { IfSome (walk_of frames.old root page) (λ place. AreWordsWritten frames.old frames.new place.frame index words.now) }
     ensures size { length frames.new ≡ length frames.old }
     ensures walks { (free : List Bool) → IsTree frames.old root free → (level number : ℕ) → level ≤ 4 → reach frames.new root level number ≡ reach frames.old root level number }
+    ensures larges { (free : List Bool) → IsTree frames.old root free → (slot : ℕ) → large_of frames.new root slot ≡ large_of frames.old root slot }
     ensures tree { (free : List Bool) → IsTree frames.old root free → IsTree frames.new root free }
     ensures bytes { (free : List Bool) → IsTree frames.old root free → (address : ℕ) → address / 4096 ≡ page → index ≤ address % 4096 / 8 → address % 4096 / 8 < index + length words.now →
         reached frames.new root address ≡ Some (byte_of (slice_index words.now (address % 4096 / 8 - index)) (address % 8)) }
     ensures others { (free : List Bool) → IsTree frames.old root free → (address : ℕ) → IsTrue (is_canonical address) →
         (address / 4096 ≡ page → index ≤ address % 4096 / 8 → address % 4096 / 8 < index + length words.now → ⊥) → reached frames.new root address ≡ reached frames.old root address }
 {
-    let LastEntry { frame, .. } = last_entry(frames, root, page);
+    let frame = frame_of_page(frames, root, page);
     frames.write_words(frame, index, words);
 }
 
@@ -104,11 +106,12 @@ pub fn copy_page(frames: &mut Frames, root: PhysFrame, from: Page, to: Page)
     ensures words { IfSome (walk_of frames.old root from) (λ source. IfSome (walk_of frames.old root to) (λ target. IsFrameCopied frames.old frames.new source.frame target.frame)) }
     ensures size { length frames.new ≡ length frames.old }
     ensures walks { (free : List Bool) → IsTree frames.old root free → (level number : ℕ) → level ≤ 4 → reach frames.new root level number ≡ reach frames.old root level number }
+    ensures larges { (free : List Bool) → IsTree frames.old root free → (slot : ℕ) → large_of frames.new root slot ≡ large_of frames.old root slot }
     ensures tree { (free : List Bool) → IsTree frames.old root free → IsTree frames.new root free }
     ensures bytes { (free : List Bool) → IsTree frames.old root free → (k : ℕ) → k < 4096 → reached frames.new root (4096 * to + k) ≡ reached frames.old root (4096 * from + k) }
     ensures others { (free : List Bool) → IsTree frames.old root free → (address : ℕ) → IsTrue (is_canonical address) → (address / 4096 ≡ to → ⊥) → reached frames.new root address ≡ reached frames.old root address }
 {
-    let source = last_entry(frames, root, from);
-    let target = last_entry(frames, root, to);
-    frames.copy_frame(source.frame, target.frame);
+    let source = frame_of_page(frames, root, from);
+    let target = frame_of_page(frames, root, to);
+    frames.copy_frame(source, target);
 }

@@ -1,11 +1,11 @@
 //! Laws above the definitions of the walk and of the tree rule. Each function does nothing: its contract
 //! is the law.
 
-ghost use Rattle.paging_core.specs.Laws.{WalkTakesFourSteps, PrefixesAreOfPages, OnePageForAFrame, NoPageAtAFreeFrame, MappingCommutes, PlacesCountPages, GivingKeepsTheTree};
+ghost use Rattle.paging_core.specs.Laws.{WalkStepsByIndices, PrefixesAreOfPages, OnePageForAFrame, NoPageAtAFreeFrame, MappingCommutes, PlacesCountPages, GivingKeepsTheTree, MappedByATable, MappedInALargePage};
 
-/// The walk of a page takes four steps from the root, by the page's four indices.
-pub fn walk_takes_four_steps()
-    ensures { WalkTakesFourSteps }
+/// The walk of a page goes from the root by the page's four indices, or ends after three of them in a large page.
+pub fn walk_steps_by_indices()
+    ensures { WalkStepsByIndices }
 {}
 
 /// The index prefixes of a range are those of its pages.
@@ -36,4 +36,14 @@ pub fn places_count_pages()
 /// Under the tree rule a frame that no walk meets may be given back.
 pub fn giving_keeps_the_tree()
     ensures { GivingKeepsTheTree }
+{}
+
+/// A page that is mapped, and in no large page, has an entry in the table of its slot.
+pub fn mapped_by_a_table()
+    ensures { MappedByATable }
+{}
+
+/// A slot with a large page has no table, and its pages are those of the large page.
+pub fn mapped_in_a_large_page()
+    ensures { MappedInALargePage }
 {}

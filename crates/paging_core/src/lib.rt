@@ -11,6 +11,9 @@ pub mod bit_field;
 pub mod frame_allocator;
 #[cfg(test)]
 mod key_tests;
+pub mod large;
+#[cfg(test)]
+mod large_tests;
 pub mod laws;
 pub mod mapping;
 pub mod memory;
@@ -32,6 +35,7 @@ pub use access::{copy_page, load_word, load_words, store_word, store_words};
 pub use addr::{PhysAddr, PhysAddrNotValid, VirtAddr, VirtAddrNotValid, align_down, align_up};
 pub use bit_field::{get_bits, set_bits};
 pub use frame_allocator::{FrameAllocator, FrameDeallocator};
+pub use large::{cut_large, has_table, large_page, map_large, map_slot, unmap_large};
 pub use mapping::map_page;
 pub use memory::Frames;
 pub use missing::missing_tables;

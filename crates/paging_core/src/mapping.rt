@@ -40,7 +40,7 @@ pub fn map_page(
     ensures elsewhere { (other : ℕ) → IsTrue (is_canonical (other * 4096)) → (other ≡ page → ⊥) → walk_of frames.new root other ≡ walk_of frames.old root other }
     ensures added { IsPageAdded frames.old frames.new pool.old pool.new root page frame rights }
 {
-    let table = ensure_tables(frames, pool, root, page);
+    let table = ensure_tables(frames, pool, root, page, 3);
     let entry = PageTableEntry::to_page(frame, rights);
     frames.set_word(table, index_after(page, 3), entry.bits());
 }

@@ -1,6 +1,6 @@
 ghost use Rattle.std.specs.Prelude.{◌≡◌, ℕ, ◌+◌, ◌*◌, ◌/◌, ◌%◌, ◌^◌, ◌<◌, ◌≤◌, ◌==◌, not, IsTrue, ◌↔◌, bit_and, if◌then◌else◌};
 ghost use Rattle.paging_core.specs.PageTableFlags.{page_table_bits};
-ghost use Rattle.paging_core.specs.Entry.{has_bit, frame_of, table_entry, page_entry};
+ghost use Rattle.paging_core.specs.Entry.{has_bit, frame_of, table_entry, page_entry, large_entry};
 
 use crate::addr::PhysAddr;
 use crate::page_table_flags::PageTableFlags;
@@ -126,6 +126,13 @@ impl PageTableEntry {
         self.has(PageTableFlags::USER_ACCESSIBLE)
     }
 
+    /// Whether the entry has bit 7: at the third step of a walk it maps a large page.
+    pub(crate) fn is_huge(&self) -> bool
+        ensures { result ≡ has_bit self.now 7 }
+    {
+        self.has(PageTableFlags::HUGE_PAGE)
+    }
+
     pub(crate) fn is_no_execute(&self) -> bool
         ensures { result ≡ has_bit self.now 63 }
     {
@@ -152,6 +159,17 @@ impl PageTableEntry {
             | bits_where(rights.user, PageTableFlags::USER_ACCESSIBLE);
         let high = bits_where(!rights.fetch, PageTableFlags::NO_EXECUTE);
         PageTableEntry(high | (frame.number() << 12 | low))
+    }
+}
+
+impl PageTableEntry {
+    /// The entry that maps a large page from the frame on with the rights.
+    pub(crate) fn to_large(frame: PhysFrame, rights: Rights) -> Self
+        ensures value { result ≡ large_entry frame rights }
+        ensures fits { frame < 2 ^ 40 }
+    {
+        let page = PageTableEntry::to_page(frame, rights);
+        PageTableEntry(page.0 + PageTableFlags::HUGE_PAGE.bits())
     }
 }
 

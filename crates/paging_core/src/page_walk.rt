@@ -1,13 +1,13 @@
-ghost use Rattle.std.specs.Prelude.{◌≡◌, ℕ, ◌+◌, ◌*◌, ◌/◌, ◌%◌, ◌^◌, ◌<◌, ◌≤◌, IsSome, IfSome, IsTrue, true};
+ghost use Rattle.std.specs.Prelude.{◌≡◌, ℕ, ◌+◌, ◌*◌, ◌/◌, ◌%◌, ◌^◌, ◌<◌, ◌≤◌, IsSome, IfSome, IsTrue, true, if◌then◌else◌, Some, None};
 ghost use Rattle.std.specs.Option.{option_map};
 ghost use Rattle.paging_core.specs.Memory.{frame_count};
 ghost use Rattle.paging_core.specs.Prefix.{prefix_of};
-ghost use Rattle.paging_core.specs.Walk.{step, reach, walk_of, place_of};
+ghost use Rattle.paging_core.specs.Walk.{is_present, is_run, named, step, next_from, large_step, page_in, page_or, reach, walk_of, place_of};
 ghost use Rattle.paging_core.specs.Address.{is_canonical};
-ghost use Rattle.paging_core.specs.PageChanges.{IsLastEntry};
+ghost use Rattle.paging_core.specs.PageChanges.{IsFrameOf, IsLastEntry};
 
 use crate::memory::Frames;
-use crate::page_table::PageTableEntry;
+use crate::page_table::{PageTableEntry, Rights};
 use crate::pages::{Page, index_after};
 use crate::phys_frames::PhysFrame;
 
@@ -25,6 +25,17 @@ pub struct Mapped {
 }
 
 impl Mapped {
+    /// The rights of the place.
+    pub(crate) fn rights(self) -> Rights
+        ensures { result ≡ record { write = self.write; user = self.user; fetch = self.fetch } }
+    {
+        Rights {
+            write: self.write,
+            user: self.user,
+            fetch: self.fetch,
+        }
+    }
+
     /// A place with all rights.
     pub(crate) fn full(frame: PhysFrame) -> Self
         ensures { result ≡ record { frame = frame; write = true; user = true; fetch = true } }
@@ -38,15 +49,11 @@ impl Mapped {
     }
 }
 
-/// One step of the walk, from a table that was met after `level` steps.
-#[tactic(auto, unfolding(crate::specs::Walk::step))]
-pub(crate) fn next(frames: &Frames, level: u32, from: Mapped, index: u16) -> Option<Mapped>
-    requires frame { from.frame < frame_count frames.now }
-    requires index { index < 512 }
-    ensures step { option_map place_of result ≡ step frames.now level (place_of from) index }
+/// Where the entry leads, from a place.
+fn follow(frames: &Frames, from: Mapped, entry: PageTableEntry) -> Option<Mapped>
+    ensures led { option_map place_of result ≡ (if is_present frames.now entry then Some (named (place_of from) entry) else None) }
     ensures below { IfSome result (λ to. to.frame < frame_count frames.now) }
 {
-    let entry = PageTableEntry::from_bits(frames.word(from.frame, index));
     if !entry.is_present() {
         return None;
     }
@@ -62,10 +69,88 @@ pub(crate) fn next(frames: &Frames, level: u32, from: Mapped, index: u16) -> Opt
     })
 }
 
-/// Where the first steps of the page's walk arrive.
+/// One step of the walk to a table or, from the last one, to a page's frame: from a table that was met after
+/// `level` steps. None also where the entry maps a large page.
+#[tactic(auto, unfolding(crate::specs::Walk::step))]
+pub(crate) fn next(frames: &Frames, level: u32, from: Mapped, index: u16) -> Option<Mapped>
+    requires frame { from.frame < frame_count frames.now }
+    requires index { index < 512 }
+    ensures step { option_map place_of result ≡ step frames.now level (place_of from) index }
+    ensures below { IfSome result (λ to. to.frame < frame_count frames.now) }
+{
+    let entry = PageTableEntry::from_bits(frames.word(from.frame, index));
+    if level == 2 && entry.is_huge() {
+        return None;
+    }
+    follow(frames, from, entry)
+}
+
+/// Whether a large page may begin at the frame: it is a multiple of 512, and the 512 frames from it on exist.
+fn is_run(frames: &Frames, first: PhysFrame) -> bool
+    ensures run { result ≡ is_run frames.now first }
+    ensures bounded { result ≡ true → first + 511 < 2 ^ 32 }
+{
+    let number = first.number();
+    number % 512 == 0 && number + 511 < u64::from(frames.count())
+}
+
+/// The large page that the entry of a table of the third step maps, by its first frame.
+#[tactic(auto, unfolding(crate::specs::Walk::large_step))]
+pub(crate) fn large_at(frames: &Frames, at: Mapped, index: u16) -> Option<Mapped>
+    requires frame { at.frame < frame_count frames.now }
+    requires index { index < 512 }
+    ensures step { option_map place_of result ≡ large_step frames.now (place_of at) index }
+    ensures bounded { IfSome result (λ large. large.frame + 511 < 2 ^ 32) }
+{
+    let entry = PageTableEntry::from_bits(frames.word(at.frame, index));
+    let to = follow(frames, at, entry)?;
+    if entry.is_huge() && is_run(frames, to.frame) {
+        Some(to)
+    } else {
+        None
+    }
+}
+
+/// The page with this index in a large page that begins at the place. None where the frames of the large page
+/// do not all exist, or the first is no multiple of 512.
+fn in_run(frames: &Frames, large: Mapped, index: u16) -> Option<Mapped>
+    requires index { index < 512 }
+    requires below { large.frame < frame_count frames.now }
+    ensures page { option_map place_of result ≡ (if is_run frames.now large.frame then Some (page_in index (place_of large)) else None) }
+    ensures below { IfSome result (λ page. page.frame < frame_count frames.now) }
+{
+    if !is_run(frames, large.frame) {
+        return None;
+    }
+    Some(Mapped {
+        frame: large.frame.after(u64::from(index)),
+        ..large
+    })
+}
+
+/// Where a walk ends that is at a table of the third step: by that entry of it, in a large page, or by the last
+/// entry.
+#[tactic(auto, unfolding(crate::specs::Walk::step, crate::specs::Walk::large_step))]
+fn last_steps(frames: &Frames, at: Mapped, index: u16, last: u16) -> Option<Mapped>
+    requires frame { at.frame < frame_count frames.now }
+    requires index { index < 512 }
+    requires last { last < 512 }
+    ensures page { option_map place_of result ≡ page_or (large_step frames.now (place_of at) index) last (next_from frames.now 3 (step frames.now 2 (place_of at) index) last) }
+    ensures below { IfSome result (λ page. page.frame < frame_count frames.now) }
+{
+    let entry = PageTableEntry::from_bits(frames.word(at.frame, index));
+    let to = follow(frames, at, entry)?;
+    if entry.is_huge() {
+        in_run(frames, to, last)
+    } else {
+        next(frames, 3, to, last)
+    }
+}
+
+/// The table at which the first steps of the page's walk arrive.
 pub(crate) fn descend(frames: &Frames, root: PhysFrame, page: Page, levels: u32) -> Option<Mapped>
     requires root { root < frame_count frames.now }
-    requires levels { levels ≤ 4 }
+    requires levels { levels ≤ 3 }
     ensures reach { option_map place_of result ≡ reach frames.now root levels (prefix_of page levels) }
     ensures below { IfSome result (λ at. at.frame < frame_count frames.now) }
 {
@@ -76,13 +161,30 @@ pub(crate) fn descend(frames: &Frames, root: PhysFrame, page: Page, levels: u32)
     Some(at)
 }
 
-/// Where the page is mapped: None where one of the four entries is not present.
+/// Where the page is mapped. The walk reads three entries where the third maps a large page, and else four; None
+/// where one of them is not present, or the frames of the large page are not there.
 pub fn walk(frames: &Frames, root: PhysFrame, page: Page) -> Option<Mapped>
     requires { root < frame_count frames.now }
     ensures found { option_map place_of result ≡ walk_of frames.now root page }
     ensures below { IfSome result (λ mapped. mapped.frame < frame_count frames.now) }
 {
-    descend(frames, root, page, 4)
+    let at = descend(frames, root, page, 2)?;
+    last_steps(frames, at, index_after(page, 2), index_after(page, 3))
+}
+
+/// The frame of the page, which is mapped.
+pub(crate) fn frame_of_page(frames: &Frames, root: PhysFrame, page: Page) -> PhysFrame
+    requires root { root < frame_count frames.now }
+    requires mapped { IsSome (walk_of frames.now root page) }
+    ensures place { IsFrameOf frames.now root page result }
+    ensures frame { result < frame_count frames.now }
+    ensures canonical { IsTrue (is_canonical (page * 4096)) }
+{
+    let Some(mapped) = walk(frames, root, page) else {
+        unreachable!()
+    };
+    page.number();
+    mapped.frame
 }
 
 /// The entry that maps a page: its table, its index there, and the frame that it names.
@@ -93,10 +195,11 @@ pub(crate) struct LastEntry {
     pub(crate) frame: PhysFrame,
 }
 
-/// The last entry of the page, which is mapped.
+/// The last entry of the page, which is mapped by one: its slot has a table.
 pub(crate) fn last_entry(frames: &Frames, root: PhysFrame, page: Page) -> LastEntry
     requires root { root < frame_count frames.now }
     requires mapped { IsSome (walk_of frames.now root page) }
+    requires small { IsSome (reach frames.now root 3 (prefix_of page 3)) }
     ensures entry { IsLastEntry frames.now root page result.table result.index result.frame }
     ensures table { result.table < frame_count frames.now }
     ensures index { result.index < 512 }

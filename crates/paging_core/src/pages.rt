@@ -309,8 +309,8 @@ impl<S: NotGiantPageSize> Page<S> {
 }
 
 impl Page<Size4KiB> {
-    /// The page so many pages on, which lies in the same canonical half.
-    pub(crate) fn after(self, pages: u64) -> Self
+    /// The page so many pages on, in the same canonical half (own).
+    pub fn after(self, pages: u64) -> Self
         requires { IsTrue (is_canonical ((self + pages) * 4096)) }
         ensures { result ≡ self + pages }
     {

@@ -60,6 +60,19 @@ impl<S: PageSize> PhysFrame<S> {
     }
 }
 
+impl PhysFrame {
+    /// The frame so many frames on.
+    pub(crate) fn after(self, frames: u64) -> Self
+        requires { self + frames < 2 ^ 40 }
+        ensures { result ≡ self + frames }
+    {
+        PhysFrame {
+            number: self.number + frames,
+            size: PhantomData,
+        }
+    }
+}
+
 /// The frames from `start` up to `end`, `end` excluded.
 #[derive(Clone, Copy, PartialEq, Eq, Hash, Debug)]
 pub struct PhysFrameRange<S: PageSize = Size4KiB> {

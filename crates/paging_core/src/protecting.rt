@@ -1,7 +1,8 @@
 ghost use Rattle.std.specs.Prelude.{◌≡◌, ℕ, ◌+◌, ◌*◌, ◌/◌, ◌%◌, ◌^◌, ◌<◌, ◌≤◌, IsSome, IfSome, IsTrue, List, Bool, Some};
 ghost use Rattle.paging_core.specs.Address.{is_canonical, IsCanonicalRange};
 ghost use Rattle.paging_core.specs.Memory.{frame_count};
-ghost use Rattle.paging_core.specs.Walk.{walk_of, reached, granted};
+ghost use Rattle.paging_core.specs.Prefix.{prefix_of};
+ghost use Rattle.paging_core.specs.Walk.{reach, walk_of, reached, granted};
 ghost use Rattle.paging_core.specs.Tree.{IsTree, HasTree};
 ghost use Rattle.paging_core.specs.PageChanges.{regrant, IsPageChanged, ArePagesChanged, only, among};
 
@@ -14,10 +15,11 @@ use crate::phys_frames::PhysFrame;
 /// Gives the page these rights: its last entry becomes the one that maps its frame with them, and no other
 /// word is changed.
 ///
-/// The page is mapped.
+/// The page is mapped by an entry of a last table, and not in a large page.
 pub fn protect_page(frames: &mut Frames, root: PhysFrame, page: Page, rights: Rights)
     requires root { root < frame_count frames.old }
     requires mapped { IsSome (walk_of frames.old root page) }
+    requires small { IsSome (reach frames.old root 3 (prefix_of page 3)) }
     ensures changed { IsPageChanged frames.old frames.new root page (regrant rights) }
 
     // Where the tables are a tree they stay one; no other page's walk is changed, and no byte of any page.
@@ -38,12 +40,13 @@ pub fn protect_page(frames: &mut Frames, root: PhysFrame, page: Page, rights: Ri
 
 /// Gives the pages from `first` on these rights. Each keeps its frame.
 ///
-/// The range lies in one canonical half, and each of its pages is mapped. The tables are a tree.
+/// The range lies in one canonical half, and each of its pages is mapped, none in a large page. The tables are a tree.
 pub fn protect_range(frames: &mut Frames, root: PhysFrame, first: Page, pages: u64, rights: Rights)
     requires root { root < frame_count frames.old }
     requires tree { HasTree frames.old root }
     requires range { IsCanonicalRange first pages }
     requires mapped { (k : ℕ) → k < pages → IsSome (walk_of frames.old root (first + k)) }
+    requires small { (k : ℕ) → k < pages → IsSome (reach frames.old root 3 (prefix_of (first + k) 3)) }
     ensures changed { ArePagesChanged frames.old frames.new root (regrant rights) (among first pages) }
     ensures tree { (free : List Bool) → IsTree frames.old root free → IsTree frames.new root free }
 

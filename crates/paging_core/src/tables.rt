@@ -1,11 +1,10 @@
 ghost use Rattle.std.specs.Prelude.{◌≡◌, ℕ, ◌+◌, ◌*◌, ◌/◌, ◌%◌, ◌^◌, ◌<◌, ◌≤◌, None, Some, IfSome, MatchOption, length, false};
 ghost use Rattle.paging_core.specs.Memory.{frame_count, cleared};
 ghost use Rattle.paging_core.specs.Prefix.{prefix_of};
-ghost use Rattle.paging_core.specs.Walk.{step, reach, walk_of, top};
+ghost use Rattle.paging_core.specs.Walk.{step, large_of, reach, walk_of, top};
 ghost use Rattle.paging_core.specs.Pool.{is_free, free_count, FreeBelow, IsFrameTaken};
 ghost use Rattle.paging_core.specs.Tree.{IsTree};
-ghost use Rattle.paging_core.specs.Missing.{missing_of};
-ghost use Rattle.paging_core.specs.Tables.{IsTableMade, IsEnsured, IsPrepared};
+ghost use Rattle.paging_core.specs.Tables.{IsTableMade, IsEnsured, IsPrepared, missing_past};
 
 use crate::frame_allocator::FrameAllocator;
 use crate::memory::Frames;
@@ -29,6 +28,7 @@ pub fn make_root(frames: &mut Frames, pool: &mut FramePool) -> Option<PhysFrame>
     ensures below { IfSome result (λ root. root < frame_count frames.new) }
     ensures tree { IfSome result (λ root. IsTree frames.new root pool.new) }
     ensures empty { IfSome result (λ root. (level number : ℕ) → 0 < level → reach frames.new root level number ≡ None) }
+    ensures no_large { IfSome result (λ root. (slot : ℕ) → large_of frames.new root slot ≡ None) }
     ensures unmapped { IfSome result (λ root. (page : ℕ) → walk_of frames.new root page ≡ None) }
 {
     let root = pool.allocate_frame()?;
@@ -73,23 +73,26 @@ fn ensure_table(
     }
 }
 
-/// The page's last table, with all that is missing above it made.
+/// The page's table after so many steps, with all that is missing above it made.
 pub(crate) fn ensure_tables(
     frames: &mut Frames,
     pool: &mut FramePool,
     root: PhysFrame,
     page: Page,
+    levels: u32,
 ) -> PhysFrame
     requires root { root < frame_count frames.old }
     requires known { FreeBelow pool.old (frame_count frames.old) }
     requires tree { IsTree frames.old root pool.old }
-    requires room { missing_of frames.old root page 1 ≤ free_count pool.old }
+    requires levels { levels ≤ 3 }
+    requires small { levels ≡ 3 → large_of frames.old root (prefix_of page 3) ≡ None }
+    requires room { missing_past frames.old root page 0 ≤ free_count pool.old + missing_past frames.old root page levels }
     ensures tree { IsTree frames.new root pool.new }
-    ensures met { reach frames.new root 3 (prefix_of page 3) ≡ Some (top result) }
-    ensures prepared { IsPrepared frames.old frames.new pool.old pool.new root page 3 }
+    ensures met { reach frames.new root levels (prefix_of page levels) ≡ Some (top result) }
+    ensures prepared { IsPrepared frames.old frames.new pool.old pool.new root page levels }
 {
     let mut table = root;
-    for level in 0..3 {
+    for level in 0..levels {
         table = ensure_table(frames, pool, level, table, index_after(page, level));
     }
     table

@@ -324,3 +324,47 @@ fn fields_are_read_and_replaced(rt: HostRuntime) -> Result<(), Fail> {
     assert_eq!(rt; set_bits(0, 0, 64, u64::MAX), u64::MAX);
     Ok(())
 }
+
+/// The lowest run that is wholly free, by its number.
+fn take_run(pool: &mut FramePool) -> Option<u64> {
+    let run: Option<PhysFrame<Size2MiB>> = pool.allocate_frame();
+    Some(run?.number())
+}
+
+/// The lowest free frame, by its number.
+fn take_frame(pool: &mut FramePool) -> Option<u64> {
+    let frame: Option<PhysFrame<Size4KiB>> = pool.allocate_frame();
+    Some(frame?.number())
+}
+
+#[test]
+fn runs_are_taken_from_the_lowest_on(rt: HostRuntime) -> Result<(), Fail> {
+    let mut pool = FramePool::new(rt.alloc(), 2047)?;
+    assert_eq!(rt; take_run(&mut pool), Some(0));
+    assert_eq!(rt; take_frame(&mut pool), Some(512));
+    assert_eq!(rt; take_run(&mut pool), Some(2));
+    // Run 1 lacks a frame, and run 3 has 511.
+    assert_eq!(rt; take_run(&mut pool), None);
+    assert_eq!(rt; pool.free_count(), 2047 - 512 - 1 - 512);
+    for number in 513..1024 {
+        assert_eq!(rt; take_frame(&mut pool), Some(number));
+    }
+    assert_eq!(rt; take_frame(&mut pool), Some(1536));
+    Ok(())
+}
+
+#[test]
+fn a_run_comes_back(rt: HostRuntime) -> Result<(), Fail> {
+    let mut pool = FramePool::new(rt.alloc(), 1024)?;
+    let Some(run) = FrameAllocator::<Size2MiB>::allocate_frame(&mut pool) else {
+        return Err(Fail::from("no run"));
+    };
+    assert_eq!(rt; run.start_address().as_u64(), 0);
+    assert_eq!(rt; pool.free_count(), 512);
+    FrameDeallocator::<Size2MiB>::deallocate_frame(&mut pool, run);
+    assert_eq!(rt; pool.free_count(), 1024);
+    assert_eq!(rt; take_run(&mut pool), Some(0));
+    assert_eq!(rt; take_run(&mut pool), Some(1));
+    assert_eq!(rt; take_run(&mut pool), None);
+    Ok(())
+}

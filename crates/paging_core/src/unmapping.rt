@@ -1,7 +1,8 @@
 ghost use Rattle.std.specs.Prelude.{◌≡◌, ℕ, ◌+◌, ◌*◌, ◌/◌, ◌%◌, ◌^◌, ◌<◌, ◌≤◌, IsSome, IfSome, IsTrue, List, Bool, None, length};
 ghost use Rattle.paging_core.specs.Address.{is_canonical, IsCanonicalRange};
 ghost use Rattle.paging_core.specs.Memory.{frame_count};
-ghost use Rattle.paging_core.specs.Walk.{walk_of, reached};
+ghost use Rattle.paging_core.specs.Prefix.{prefix_of};
+ghost use Rattle.paging_core.specs.Walk.{reach, walk_of, reached};
 ghost use Rattle.paging_core.specs.Pool.{free_count, FreeBelow};
 ghost use Rattle.paging_core.specs.Tree.{IsTree};
 ghost use Rattle.paging_core.specs.PageChanges.{removal, IsPageChanged, ArePagesChanged, ArePagesFreed, only, among};
@@ -16,10 +17,12 @@ use crate::pool::FramePool;
 /// Unmaps the page: its last entry becomes 0, and no other word is changed. The answer is the frame to
 /// which the page led.
 ///
-/// The page is mapped. Its tables stay, and its frame is still out.
+/// The page is mapped by an entry of a last table, and not in a large page. Its tables stay, and its frame is
+/// still out.
 pub fn unmap_page(frames: &mut Frames, root: PhysFrame, page: Page) -> PhysFrame
     requires root { root < frame_count frames.old }
     requires mapped { IsSome (walk_of frames.old root page) }
+    requires small { IsSome (reach frames.old root 3 (prefix_of page 3)) }
     ensures frame { IfSome (walk_of frames.old root page) (λ place. result ≡ place.frame) }
     ensures below { result < frame_count frames.new }
     ensures removed { IsPageChanged frames.old frames.new root page removal }
@@ -41,8 +44,8 @@ pub fn unmap_page(frames: &mut Frames, root: PhysFrame, page: Page) -> PhysFrame
 
 /// Unmaps the pages from `first` on, in ascending order, and gives their frames back. The tables stay.
 ///
-/// The range lies in one canonical half, and each of its pages is mapped. The pool has a flag for each
-/// frame.
+/// The range lies in one canonical half, and each of its pages is mapped, none in a large page. The pool has a
+/// flag for each frame.
 pub fn unmap_range(
     frames: &mut Frames,
     pool: &mut FramePool,
@@ -55,6 +58,7 @@ pub fn unmap_range(
     requires tree { IsTree frames.old root pool.old }
     requires range { IsCanonicalRange first pages }
     requires mapped { (k : ℕ) → k < pages → IsSome (walk_of frames.old root (first + k)) }
+    requires small { (k : ℕ) → k < pages → IsSome (reach frames.old root 3 (prefix_of (first + k) 3)) }
     ensures freed { ArePagesFreed frames.old frames.new pool.old pool.new root (among first pages) }
     ensures tree { IsTree frames.new root pool.new }
     ensures count { free_count pool.new ≡ free_count pool.old + pages }

@@ -16,4 +16,4 @@ loop-done-preserved c =
     let less = c.loop-done-test.true in
     written_on c.args.frames.now c.loop-done.frames c.write_page.new.frames c.args.root c.args.at done count (4096 * c.containing_address-page.result + (c.args.at + done) % 4096) bytes (take (done + count - done) (drop done bytes))
     c.loop-done.invariant (omega (arith, page, at)) (sym (part_length bytes done count (omega (arith, least, less)))) (omega (arith, least, less))
-    (λ k k_less. part_byte bytes done count k k_less) c.write_page.ensures.bytes c.write_page.ensures.size c.write_page.ensures.tree c.write_page.ensures.walks
+    (λ k k_less. part_byte bytes done count k k_less) c.write_page.ensures.bytes c.write_page.ensures.size c.write_page.ensures.tree c.write_page.ensures.walks c.write_page.ensures.larges

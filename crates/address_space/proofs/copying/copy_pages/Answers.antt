@@ -1,4 +1,4 @@
-use Rattle.std.proofs.Common.{ℕ, ◌+◌, sym, subst, arith}
+use Rattle.std.proofs.Common.{ℕ, ◌+◌, ◌∙◌, sym, subst, arith}
 use Rattle.std.specs.Prelude.{IsSome}
 use Rattle.paging_core.specs.Walk.{walk_of}
 use Rattle.address_space.proofs.Mapped.{canonical_in}
@@ -17,6 +17,9 @@ page_at-requires-in-loop-step c = canonical_in c.args.to c.args.pages (c.args.to
 
 pub copy_to-requires-clause-tree : goal.copy_to-requires-clause-tree
 copy_to-requires-clause-tree c = let t = c.requires.tree in (t.0, c.loop-step.invariant.tree t.0 t.1)
+
+pub copy_to-requires-clause-no_large : goal.copy_to-requires-clause-no_large
+copy_to-requires-clause-no_large c = λ slot. c.loop-step.invariant.larges slot ∙ c.requires.no_large slot
 
 pub copy_to-requires-clause-source : goal.copy_to-requires-clause-source
 copy_to-requires-clause-source c =

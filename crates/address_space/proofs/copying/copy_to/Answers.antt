@@ -1,6 +1,7 @@
 use Rattle.std.proofs.Common.{◌∙◌, ap, option_map, sym, subst}
 use Rattle.std.specs.Prelude.{IsSome}
 use Rattle.paging_core.specs.Walk.{walk_of, place_of}
+use Rattle.address_space.proofs.Mapped.{by_table}
 use Rattle.address_space.proofs.Unmapped.{not_there}
 use Rattle.address_space.proofs.Written.{walk_same}
 use Rattle.address_space.proofs.Duplicated.{one_copied}
@@ -10,6 +11,12 @@ pub protect_page-requires-clause-mapped : goal.protect_page-requires-clause-mapp
 protect_page-requires-clause-mapped c =
     let t = c.requires.tree in
     subst IsSome (sym (walk_same c.args.frames.now c.copy_page.new.frames c.args.root c.args.target (c.copy_page.ensures.walks t.0 t.1))) c.requires.target
+
+pub protect_page-requires-clause-small : goal.protect_page-requires-clause-small
+protect_page-requires-clause-small c =
+    let t = c.requires.tree in
+    by_table c.copy_page.new.frames c.args.root c.args.target (λ slot. c.copy_page.ensures.larges t.0 t.1 slot ∙ c.requires.no_large slot)
+    (subst IsSome (sym (walk_same c.args.frames.now c.copy_page.new.frames c.args.root c.args.target (c.copy_page.ensures.walks t.0 t.1))) c.requires.target)
 
 pub unreachable-requires : goal.unreachable-requires
 unreachable-requires c =
@@ -29,6 +36,7 @@ returns c =
       mapped = subst IsSome (sym (walk_same c.args.frames.now c.copy_page.new.frames c.args.root c.args.target walks)) c.requires.target;
       size = c.copy_page.ensures.size;
       walks = walks;
+      larges = c.copy_page.ensures.larges t.0 t.1;
       tree = c.copy_page.ensures.tree;
       tree_on = c.protect_page.ensures.tree;
       copied = c.copy_page.ensures.bytes t.0 t.1;

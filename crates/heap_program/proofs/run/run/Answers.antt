@@ -1,9 +1,10 @@
-use Rattle.std.proofs.Common.{List, Option, length, ap}
+use Rattle.std.proofs.Common.{Err, List, Option, length, ap}
 use Rattle.heap_model.specs.State.{Block}
+use Rattle.heap_program.specs.declared.run.Stop.{Stop}
 use Rattle.heap_program.specs.declared.run.Stop.TheVariants.{ReadFault, TooLong}
 use Rattle.heap_program.proofs.Errors.{on_err}
 use Rattle.heap_program.proofs.Sessions.{begun}
-use Rattle.heap_program.proofs.Wholes.{answered, seen_stopped, seen_last, err_long, late_long, ok_long, stop_is, stop_long}
+use Rattle.heap_program.proofs.Wholes.{answered, seen_stopped, seen_last, err_long, late_long, ok_long, of_sink, sink_isnt, stop_is, stop_long}
 use Rattle.heap_program.proofs.run.run.Goals as goal
 
 pub returns-in_err-read_all-clause-stopped : goal.returns-in_err-read_all-clause-stopped
@@ -62,3 +63,33 @@ returns-clause-too_long g c s at =
     let h = c.in_ok-read_all.ensures.ok s (begun s c.new-session.result c.args.machine c.new-session.ensures.machine at) in
     ok_long s c.read_all.new.session.machine c.close.new.session.machine c.read_all.new.session.line (left c.args.source.now) (left c.read_all.new.source) (taken c.args.sink.now) (taken c.read_all.new.sink) c.in_ok-read_all.field-0
     h c.in_ok-read_all.ensures.short
+
+pub returns-in_err-read_all-clause-flushed_fault :
+    goal.returns-in_err-read_all-clause-flushed_fault
+returns-in_err-read_all-clause-flushed_fault g c is =
+    c.in_err-read_all.ensures.flushed_fault (ap (λ (e : Stop). Err e) (stop_is c.from_residual.result c.in_err-read_all.field-0.0 ReadFault c.from_residual.ensures.1 is))
+
+pub returns-in_err-read_all-clause-flushed_long : goal.returns-in_err-read_all-clause-flushed_long
+returns-in_err-read_all-clause-flushed_long g c is =
+    c.in_err-read_all.ensures.flushed_long (ap (λ (e : Stop). Err e) (stop_is c.from_residual.result c.in_err-read_all.field-0.0 TooLong c.from_residual.ensures.1 is))
+
+-- the sink is all that stops the end of a run
+pub returns-in_err-close-clause-read_cause : goal.returns-in_err-close-clause-read_cause
+returns-in_err-close-clause-read_cause g c is less =
+    absurd (sink_isnt c.in_err-close.field-0.0 c.in_err-close.ensures.which (stop_is c.from_residual-in_err-close.result c.in_err-close.field-0.0 ReadFault c.from_residual-in_err-close.ensures.1 is))
+
+pub returns-in_err-close-clause-flushed_fault : goal.returns-in_err-close-clause-flushed_fault
+returns-in_err-close-clause-flushed_fault g c is =
+    absurd (sink_isnt c.in_err-close.field-0.0 c.in_err-close.ensures.which (stop_is c.from_residual-in_err-close.result c.in_err-close.field-0.0 ReadFault c.from_residual-in_err-close.ensures.1 is))
+
+pub returns-in_err-close-clause-flushed_long : goal.returns-in_err-close-clause-flushed_long
+returns-in_err-close-clause-flushed_long g c is =
+    absurd (of_sink c.in_err-close.field-0.0 c.in_err-close.ensures.which (stop_is c.from_residual-in_err-close.result c.in_err-close.field-0.0 TooLong c.from_residual-in_err-close.ensures.1 is))
+
+pub returns-in_err-close-clause-at_fault : goal.returns-in_err-close-clause-at_fault
+returns-in_err-close-clause-at_fault g c is s at =
+    absurd (sink_isnt c.in_err-close.field-0.0 c.in_err-close.ensures.which (stop_is c.from_residual-in_err-close.result c.in_err-close.field-0.0 ReadFault c.from_residual-in_err-close.ensures.1 is))
+
+pub returns-in_err-close-clause-at_length : goal.returns-in_err-close-clause-at_length
+returns-in_err-close-clause-at_length g c is s at =
+    absurd (of_sink c.in_err-close.field-0.0 c.in_err-close.ensures.which (stop_is c.from_residual-in_err-close.result c.in_err-close.field-0.0 TooLong c.from_residual-in_err-close.ensures.1 is))

@@ -18,3 +18,9 @@ returns-clause-zeros g c =
       | then-cleared w ↦ λ is. rw (w.heap-is, w.answer-is) (IfOk-weaker w.calloc-answer.result _ _ (λ address out. words_zero heap w.calloc-answer.new.self c.args.size c.args.align address out) w.calloc-answer.ensures.served)
       | else-cleared w ↦ λ is. absurd (let no = w.if-cleared.false in cc)
     ]
+
+pub returns-clause-linked : goal.returns-clause-linked
+returns-clause-linked g c = elim c.if-cleared.branch [
+  | then-cleared w ↦ rw w.heap-is w.calloc-answer.ensures.linked
+  | else-cleared w ↦ rw w.heap-is w.malloc-answer.ensures.linked
+]

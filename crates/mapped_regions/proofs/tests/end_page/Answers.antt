@@ -1,39 +1,17 @@
-use Rattle.std.proofs.Common.{◌≡◌, ◌*◌, ◌^◌, ◌<◌, ◌≤◌, ℕ, ◌+◌, ◌-◌, ◌/◌, ◌%◌, ◌⊎◌, inl, inr, true, nat_lt, List, [], ◌∷◌, sym, ◌∙◌, ap, subst, arith, w64, Fits}
-use Rattle.std.specs.List.{list_any, AllByRecursion}
+use Rattle.std.proofs.Common.{◌≡◌, ◌*◌, ◌^◌, ◌<◌, ◌≤◌, ℕ, ◌+◌, ◌/◌, ◌%◌, true, List, [], ◌∷◌, sym, ◌∙◌, subst, arith}
+use Rattle.std.specs.List.{list_any}
 use Rattle.std.proofs.lemmas.Bool.Decides.{nat_tests}
 use Rattle.heap_model.specs.declared.region.Region.{Region}
-use Rattle.heap_model.specs.State.{end_of, is_within}
-use Rattle.heap_model.proofs.Booleans.{or_cases}
-use Rattle.region_tree.specs.Regions.{AreLaid, AreHeld, IsBoundary, is_at}
+use Rattle.heap_model.specs.State.{is_within}
+use Rattle.region_tree.specs.Regions.{IsBoundary, is_at}
 use Rattle.region_tree.proofs.Cutting.{found}
 use Rattle.mapped_regions.specs.Shown.{shown}
+use Rattle.mapped_regions.proofs.Ends.{listed_ends}
 use Rattle.mapped_regions.proofs.tests.end_page.Goals as goal
 
 listed_within : (start pages address : ℕ) (list : List Region) → list_any (is_at start pages) list ≡ true → start ≤ address → address < start + 4096 * pages → list_any (is_within address) list ≡ true
 listed_within start pages address [] there from before = cc
 listed_within start pages address (first ∷ rest) there from before = grind (arith, nat_tests, listed_within start pages address rest)
-
-behind : (address from to : ℕ) (list : List Region) → AreLaid from list to → address ≤ from → IsBoundary address list
-behind address from to [] laid less = tt
-behind address from to (first ∷ rest) laid less = (inr (omega (arith, less, laid.0)), behind address (end_of first) to rest laid.3 (omega (arith, less, laid.0)))
-
-listed_from : (start pages from to : ℕ) (list : List Region) → AreLaid from list to → list_any (is_at start pages) list ≡ true → from ≤ start
-listed_from start pages from to [] laid there = cc
-listed_from start pages from to (first ∷ rest) laid there = elim (or_cases (is_at start pages first) (list_any (is_at start pages) rest) there) [
-  | inl here ↦ (let low = laid.0 in grind (arith, nat_tests))
-  | inr later ↦ (let more = listed_from start pages (end_of first) to rest laid.3 later in omega (arith, laid.0, more))
-]
-
-listed_ends : (start pages from to : ℕ) (list : List Region) → AreLaid from list to → list_any (is_at start pages) list ≡ true → IsBoundary (start + 4096 * pages) list
-listed_ends start pages from to [] laid there = tt
-listed_ends start pages from to (first ∷ rest) laid there = elim (or_cases (is_at start pages first) (list_any (is_at start pages) rest) there) [
-  | inl here ↦ (
-      let end : end_of first ≡ start + 4096 * pages = grind (arith, nat_tests) in
-      (inl (omega (arith, end)), behind (start + 4096 * pages) (end_of first) to rest laid.3 (omega (arith, end))))
-  | inr later ↦ (
-      let more = listed_from start pages (end_of first) to rest laid.3 later in
-      (inl (omega (arith, more)), listed_ends start pages (end_of first) to rest laid.3 later))
-]
 
 end_is : (start pages : ℕ) → start % 4096 ≡ 0 → start + 4096 * pages ≡ 4096 * (start / 4096 + pages)
 end_is start pages whole = omega arith

@@ -1,41 +1,47 @@
 use Rattle.std.proofs.Common.{ℕ, sym, subst}
 use Rattle.paging_core.specs.Memory.{IsFrameCopied}
-use Rattle.paging_core.proofs.PageWritten.{written_walks, written_tree, copy_bytes, copy_others}
+use Rattle.paging_core.proofs.PageWritten.{written_walks, written_larges, written_tree, copy_bytes, copy_others}
 use Rattle.paging_core.proofs.access.copy_page.Goals as goal
 
 copied : (c : goal.After-copy_frame) →
-    IsFrameCopied c.args.frames.now c.copy_frame.new.self c.last_entry-source.ensures.entry.place.frame c.last_entry-target.ensures.entry.place.frame
+    IsFrameCopied c.args.frames.now c.copy_frame.new.self c.frame_of_page-source.ensures.place.place.frame c.frame_of_page-target.ensures.place.place.frame
 copied c =
-    let e = c.last_entry-source.ensures.entry in
-    let t = c.last_entry-target.ensures.entry in
-    let P : ℕ → Type 0 = λ f. IsFrameCopied c.args.frames.now c.copy_frame.new.self f c.last_entry-target.result.frame in
+    let e = c.frame_of_page-source.ensures.place in
+    let t = c.frame_of_page-target.ensures.place in
+    let P : ℕ → Type 0 = λ f. IsFrameCopied c.args.frames.now c.copy_frame.new.self f c.frame_of_page-target.result in
     let Q : ℕ → Type 0 = λ f. IsFrameCopied c.args.frames.now c.copy_frame.new.self e.place.frame f in
     subst Q (sym t.to_frame) (subst P (sym e.to_frame) c.copy_frame.ensures)
 
 pub returns-clause-words : goal.returns-clause-words
-returns-clause-words c = rw (c.last_entry-source.ensures.entry.found, c.last_entry-target.ensures.entry.found) (copied c)
+returns-clause-words c = rw (c.frame_of_page-source.ensures.place.found, c.frame_of_page-target.ensures.place.found) (copied c)
 
 pub returns-clause-size : goal.returns-clause-size
 returns-clause-size c = c.copy_frame.ensures.size
 
 pub returns-clause-walks : goal.returns-clause-walks
 returns-clause-walks c = λ free tree.
-    let e = c.last_entry-target.ensures.entry in
+    let e = c.frame_of_page-target.ensures.place in
     let p = copied c in
     written_walks c.args.frames.now c.copy_frame.new.self c.args.root c.args.to e.place free e.found p.size p.others tree
 
+pub returns-clause-larges : goal.returns-clause-larges
+returns-clause-larges c = λ free tree.
+    let e = c.frame_of_page-target.ensures.place in
+    let p = copied c in
+    written_larges c.args.frames.now c.copy_frame.new.self c.args.root c.args.to e.place free e.found p.size p.others tree
+
 pub returns-clause-tree : goal.returns-clause-tree
 returns-clause-tree c = λ free tree.
-    let e = c.last_entry-target.ensures.entry in
+    let e = c.frame_of_page-target.ensures.place in
     let p = copied c in
     written_tree c.args.frames.now c.copy_frame.new.self c.args.root c.args.to e.place free e.found p.size p.others tree
 
 pub returns-clause-bytes : goal.returns-clause-bytes
 returns-clause-bytes c = λ free tree.
-    copy_bytes c.args.frames.now c.copy_frame.new.self c.args.root c.args.from c.args.to c.last_entry-source.ensures.entry.place c.last_entry-target.ensures.entry.place free
-    c.last_entry-source.ensures.entry.found c.last_entry-target.ensures.entry.found (copied c) tree
+    copy_bytes c.args.frames.now c.copy_frame.new.self c.args.root c.args.from c.args.to c.frame_of_page-source.ensures.place.place c.frame_of_page-target.ensures.place.place free
+    c.frame_of_page-source.ensures.place.found c.frame_of_page-target.ensures.place.found (copied c) tree
 
 pub returns-clause-others : goal.returns-clause-others
 returns-clause-others c = λ free tree.
-    copy_others c.args.frames.now c.copy_frame.new.self c.args.root c.args.from c.args.to c.last_entry-source.ensures.entry.place c.last_entry-target.ensures.entry.place free
-    c.last_entry-source.ensures.entry.found c.last_entry-target.ensures.entry.found (copied c) tree c.last_entry-target.ensures.canonical
+    copy_others c.args.frames.now c.copy_frame.new.self c.args.root c.args.from c.args.to c.frame_of_page-source.ensures.place.place c.frame_of_page-target.ensures.place.place free
+    c.frame_of_page-source.ensures.place.found c.frame_of_page-target.ensures.place.found (copied c) tree c.frame_of_page-target.ensures.canonical

@@ -7,11 +7,11 @@ use Rattle.paging_core.proofs.access.load_words.Goals as goal
 pub returns-clause-words : goal.returns-clause-words
 returns-clause-words c =
     let P : ℕ → Type 0 = λ f. AreWordsOf c.args.frames.now f c.args.index c.read_words.new.words in
-    rw c.last_entry-frame.ensures.entry.found (subst P (sym c.last_entry-frame.ensures.entry.to_frame) c.read_words.ensures.read)
+    rw c.frame_of_page-frame.ensures.place.found (subst P (sym c.frame_of_page-frame.ensures.place.to_frame) c.read_words.ensures.read)
 
 pub returns-clause-bytes : goal.returns-clause-bytes
 returns-clause-bytes c = λ address at lo hi.
-    let e = c.last_entry-frame.ensures.entry in
+    let e = c.frame_of_page-frame.ensures.place in
     let P : ℕ → Type 0 = λ f. AreWordsOf c.args.frames.now f c.args.index c.read_words.new.words in
     let g = subst P (sym e.to_frame) c.read_words.ensures.read in
     let z : c.args.index + (address % 4096 / 8 - c.args.index) ≡ address % 4096 / 8 = omega arith in

@@ -5,7 +5,7 @@ use Rattle.paging_core.specs.Memory.{word_at}
 use Rattle.paging_core.specs.Tree.{IsTree}
 use Rattle.std.specs.Option.{option_map}
 use Rattle.paging_core.specs.Walk.{Place, walk_of, place_of}
-use Rattle.paging_core.proofs.Reached.{not_mapped, stored_walks, stored_tree, stored_word, other_words, stored_bytes, stored_others}
+use Rattle.paging_core.proofs.Reached.{not_mapped, stored_walks, stored_larges, stored_tree, stored_word, other_words, stored_bytes, stored_others}
 use Rattle.paging_core.proofs.access.store_word.Goals as goal
 
 pub unreachable-requires : goal.unreachable-requires
@@ -24,6 +24,9 @@ returns-clause-word c = rw (at c) (written c)
 
 pub returns-clause-walks : goal.returns-clause-walks
 returns-clause-walks c = λ free tree. stored_walks c.args.frames.now c.set_word.new.self c.args.root c.args.address c.args.value (place_of c.in-Some.page) free c.requires.root c.requires.aligned c.word_index.ensures.canonical (at c) (written c) tree
+
+pub returns-clause-larges : goal.returns-clause-larges
+returns-clause-larges c = λ free tree. stored_larges c.args.frames.now c.set_word.new.self c.args.root c.args.address c.args.value (place_of c.in-Some.page) free c.requires.root c.requires.aligned c.word_index.ensures.canonical (at c) (written c) tree
 
 pub returns-clause-tree : goal.returns-clause-tree
 returns-clause-tree c = λ free tree. stored_tree c.args.frames.now c.set_word.new.self c.args.root c.args.address c.args.value (place_of c.in-Some.page) free c.requires.root c.requires.aligned c.word_index.ensures.canonical (at c) (written c) tree

@@ -13,12 +13,12 @@ loop-met-init c = record {
 pub loop-met-preserved : goal.loop-met-preserved
 loop-met-preserved c = record {
   here =
-      reach_on c.args.frames.now c.args.root c.args.prefix c.args.level c.loop-met.met (place_of c.loop-met.at) (omega arith) c.loop-met.invariant.here
+      reach_on c.args.frames.now c.args.root c.args.prefix c.args.level c.loop-met.met (place_of c.loop-met.at) (omega arith) (omega arith) c.loop-met.invariant.here
       ∙ (ap (step c.args.frames.now c.loop-met.met (place_of c.loop-met.at)) (sym (and_mask (c.args.prefix / 2 ^ (9 * (c.args.level - (c.loop-met.met + 1)))) 9)) ∙ sym c.in-Some.ensures.step);
   below = c.in-Some.ensures.below;
 }
 
 pub returns-in-None-clause-absent : goal.returns-in-None-clause-absent
 returns-in-None-clause-absent c = λ lt.
-    reach_on c.args.frames.now c.args.root c.args.prefix c.args.level c.loop-met.met (place_of c.loop-met.at) lt c.loop-met.invariant.here
+    reach_on c.args.frames.now c.args.root c.args.prefix c.args.level c.loop-met.met (place_of c.loop-met.at) (omega arith) lt c.loop-met.invariant.here
     ∙ (ap (step c.args.frames.now c.loop-met.met (place_of c.loop-met.at)) (sym (and_mask (c.args.prefix / 2 ^ (9 * (c.args.level - (c.loop-met.met + 1)))) 9)) ∙ sym c.in-None.ensures.step)

@@ -1,22 +1,20 @@
-use Rattle.std.proofs.Common.{◌≡◌, ◌∙◌, ◌%◌, refl, sym, ap, arith, Some, None, List, ℕ}
+use Rattle.std.proofs.Common.{◌≡◌, ◌∙◌, ◌%◌, refl, sym, ap, Some, None, List, ℕ}
 use Rattle.std.specs.Option.{option_map}
 use Rattle.paging_core.specs.Prefix.{prefix_of}
-use Rattle.paging_core.specs.Walk.{Place, step, reach, next_from, walk_of, place_of}
-use Rattle.paging_core.proofs.Prefixes.{walk_reach, reach_prefix, none_more}
-use Rattle.paging_core.proofs.Reached.{not_mapped}
+use Rattle.paging_core.specs.Walk.{Place, step, reach, walk_of, place_of}
+use Rattle.paging_core.proofs.Prefixes.{walk_reach, reach_page}
+use Rattle.paging_core.proofs.Reached.{not_mapped, some_not_none}
 use Rattle.paging_core.proofs.page_walk.last_entry.Goals as goal
 
 pub unreachable-requires : goal.unreachable-requires
 unreachable-requires c =
     let none : reach c.args.frames.now c.args.root 3 (prefix_of c.args.page 3) ≡ None = sym c.descend.ensures.reach ∙ ap (option_map place_of) c.in_default.is in
-    not_mapped c.args.frames.now c.args.root c.args.page c.requires.mapped
-    (walk_reach c.args.frames.now c.args.root c.args.page ∙ none_more c.args.frames.now c.args.root c.args.page 3 (omega arith) none)
+    some_not_none (reach c.args.frames.now c.args.root 3 (prefix_of c.args.page 3)) c.requires.small none
 
 -- the walk is one step from the last table
 last_step : (words : List ℕ) (root page index : ℕ) (at : Place) → reach words root 3 (prefix_of page 3) ≡ Some at → index ≡ prefix_of page 4 % 512 →
     walk_of words root page ≡ step words 3 at index
-last_step words root page index at met ix =
-    walk_reach words root page ∙ (reach_prefix words root page 3 (omega arith) ∙ (ap (λ o. next_from words 3 o (prefix_of page 4 % 512)) met ∙ ap (step words 3 at) (sym ix)))
+last_step words root page index at met ix = walk_reach words root page ∙ (reach_page words root page at met ∙ ap (step words 3 at) (sym ix))
 
 pub unreachable-requires-in_default-next : goal.unreachable-requires-in_default-next
 unreachable-requires-in_default-next c =

@@ -1,4 +1,5 @@
 use Rattle.std.proofs.Common.{◌+◌, arith}
+use Rattle.paging_core.specs.Prefix.{prefix_of}
 use Rattle.paging_core.specs.Walk.{walk_of}
 use Rattle.paging_core.specs.PageChanges.{regrant, among}
 use Rattle.paging_core.proofs.Ranges.{page_canonical}
@@ -23,6 +24,14 @@ protect_page-requires-clause-mapped c =
           c.requires.range c.loop-step.invariant c.loop-step-test.true,
     )
     (c.requires.mapped c.loop-step.step c.loop-step-test.true)
+
+pub protect_page-requires-clause-small : goal.protect_page-requires-clause-small
+protect_page-requires-clause-small c =
+    rw (
+      c.after.ensures,
+      c.loop-step.invariant.stayed 3 (prefix_of (c.args.first + c.loop-step.step) 3) (omega arith) (λ e. absurd (omega arith)),
+    )
+    (c.requires.small c.loop-step.step c.loop-step-test.true)
 
 pub loop-step-preserved : goal.loop-step-preserved
 loop-step-preserved c =

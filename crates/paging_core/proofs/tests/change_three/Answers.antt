@@ -1,4 +1,4 @@
-use Rattle.std.proofs.Common.{refl}
+use Rattle.std.proofs.Common.{refl, arith, ◌∙◌}
 use Rattle.paging_core.proofs.tests.change_three.Goals as goal
 
 pub protect_range-requires-clause-mapped : goal.protect_range-requires-clause-mapped
@@ -12,3 +12,12 @@ unmap_range-requires-clause-mapped g c = λ k lt.
     let m = c.map_range.ensures.added.mapped k lt in
     let g = rw m.found at (c.protect_range.ensures.granted k lt) in
     rw g refl
+
+pub protect_range-requires-clause-small : goal.protect_range-requires-clause-small
+protect_range-requires-clause-small g c = λ k lt. let t = c.map_range.ensures.added.tables 3 k (omega arith) lt in rw t.1 refl
+
+pub unmap_range-requires-clause-small : goal.unmap_range-requires-clause-small
+unmap_range-requires-clause-small g c = λ k lt.
+    let t = c.map_range.ensures.added.tables 3 k (omega arith) lt in
+    let s = c.protect_range.ensures.changed.stayed 3 _ (omega arith) (λ e. absurd (omega arith)) ∙ t.1 in
+    rw s refl

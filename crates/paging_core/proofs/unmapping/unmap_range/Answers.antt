@@ -1,5 +1,6 @@
 use Rattle.std.proofs.Common.{◌≡◌, ◌∙◌, ◌+◌, ◌/◌, sym, ap, arith}
 use Rattle.paging_core.specs.Pool.{free_count}
+use Rattle.paging_core.specs.Prefix.{prefix_of}
 use Rattle.paging_core.specs.Walk.{walk_of}
 use Rattle.paging_core.specs.PageChanges.{removal, among, only}
 use Rattle.paging_core.proofs.Given.{given_count}
@@ -19,6 +20,14 @@ unmap_page-frame-requires-clause-mapped c =
           c.requires.range c.loop-step.invariant.freed.removed c.loop-step-test.true,
     )
     (c.requires.mapped c.loop-step.step c.loop-step-test.true)
+
+pub unmap_page-frame-requires-clause-small : goal.unmap_page-frame-requires-clause-small
+unmap_page-frame-requires-clause-small c =
+    rw (
+      c.after.ensures,
+      c.loop-step.invariant.freed.removed.stayed 3 (prefix_of (c.args.first + c.loop-step.step) 3) (omega arith) (λ e. absurd (omega arith)),
+    )
+    (c.requires.small c.loop-step.step c.loop-step-test.true)
 
 pub deallocate_frame-requires : goal.deallocate_frame-requires
 deallocate_frame-requires c =

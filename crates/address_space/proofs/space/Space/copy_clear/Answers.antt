@@ -1,4 +1,4 @@
-use Rattle.std.proofs.Common.{ℕ, ◌+◌, false, refl, sym, subst, arith}
+use Rattle.std.proofs.Common.{ℕ, ◌+◌, ◌∙◌, false, refl, sym, subst, arith}
 use Rattle.std.specs.Prelude.{IsSome}
 use Rattle.meminterval.specs.Tree.{entries}
 use Rattle.paging_core.specs.Walk.{walk_of}
@@ -10,6 +10,9 @@ use Rattle.address_space.proofs.space.Space.copy_clear.Goals as goal
 
 pub copy_pages-requires-clause-tree : goal.copy_pages-requires-clause-tree
 copy_pages-requires-clause-tree c = (c.map_range.new.pool, c.map_range.ensures.added.tree)
+
+pub copy_pages-requires-clause-no_large : goal.copy_pages-requires-clause-no_large
+copy_pages-requires-clause-no_large c = λ slot. c.map_range.ensures.added.larges slot ∙ c.args.self.now.kept.no_large slot
 
 pub copy_pages-requires-clause-read : goal.copy_pages-requires-clause-read
 copy_pages-requires-clause-read c = λ k less.

@@ -1,9 +1,15 @@
-use Rattle.std.proofs.Common.{ℕ, ◌+◌, refl, subst}
+use Rattle.std.proofs.Common.{ℕ, ◌+◌, refl, subst, arith}
 use Rattle.meminterval.specs.Tree.{entries}
 use Rattle.address_space.specs.Joining.{IsAdded}
 use Rattle.address_space.specs.Seen.{tables_of}
-use Rattle.address_space.proofs.Protected.{AreProtected, protected_kept, protected_map}
+use Rattle.address_space.proofs.Protected.{AreProtected, mapped_walks, protected_kept, protected_map}
+use Rattle.address_space.proofs.Mapped.{by_table}
 use Rattle.address_space.proofs.space.Space.protect_full.Goals as goal
+
+pub protect_range-requires-clause-small : goal.protect_range-requires-clause-small
+protect_range-requires-clause-small c = λ k less.
+    by_table c.args.self.now.frames c.args.self.now.root (c.args.first + k) c.args.self.now.kept.no_large
+    (mapped_walks (tables_of c.args.self.now) (c.args.first + k) c.args.self.now.kept (c.requires.full (c.args.first + k) (omega arith) (omega (arith, less))))
 
 pub invariant_of-self-2 : goal.invariant_of-self-2
 invariant_of-self-2 c =

@@ -10,7 +10,7 @@ use Rattle.std.specs.Prelude.{true}
 
 pub invariant_of-self : goal.invariant_of-self
 invariant_of-self c = record {
-  kept = written_kept (tables_of c.args.self.now) c.write_bytes.new.frames c.args.at c.args.bytes.now c.args.self.now.kept c.write_bytes.ensures.size c.write_bytes.ensures.tree c.write_bytes.ensures.walks;
+  kept = written_kept (tables_of c.args.self.now) c.write_bytes.new.frames c.args.at c.args.bytes.now c.args.self.now.kept c.write_bytes.ensures.size c.write_bytes.ensures.tree c.write_bytes.ensures.walks c.write_bytes.ensures.larges;
 }
 
 pub returns-clause-ok : goal.returns-clause-ok

@@ -7,7 +7,7 @@ use Rattle.address_space.specs.RunChanges.{AreTaken}
 use Rattle.address_space.specs.Changing.{IsUnmapped}
 use Rattle.address_space.specs.Space.{Tables}
 use Rattle.address_space.specs.Seen.{tables_of}
-use Rattle.address_space.proofs.Mapped.{canonical_in, is_some_of}
+use Rattle.address_space.proofs.Mapped.{canonical_in, is_some_of, by_table}
 use Rattle.address_space.proofs.OneRun.{run_rights}
 use Rattle.address_space.proofs.Protected.{mapped_walks}
 use Rattle.address_space.proofs.Unmapped.{AreUnmapped, part_of_range, not_there, unmapped_kept, unmapped_part, unmapped_none}
@@ -64,6 +64,18 @@ unmap_range-requires-clause-mapped c = λ k less.
     let page = c.page_at.result + k in
     mapped_walks (tables_of c.args.self.now) page c.args.self.now.kept
     (is_some_of (rights_in es page) run.rights (run_rights es run.start run.end run.rights page c.in-Some.ensures.run (omega (arith, from_is, at)) (omega (arith, from_is, to_is, at, less))))
+
+pub unmap_range-requires-clause-small : goal.unmap_range-requires-clause-small
+unmap_range-requires-clause-small c = λ k less.
+    let es = entries c.args.self.now.runs in
+    let run = c.in-Some.run' in
+    let from_is = c.max-from.ensures in
+    let to_is = c.min.ensures in
+    let at = c.page_at.ensures in
+    let page = c.page_at.result + k in
+    by_table c.args.self.now.frames c.args.self.now.root page c.args.self.now.kept.no_large
+    (mapped_walks (tables_of c.args.self.now) page c.args.self.now.kept
+    (is_some_of (rights_in es page) run.rights (run_rights es run.start run.end run.rights page c.in-Some.ensures.run (omega (arith, from_is, at)) (omega (arith, from_is, to_is, at, less)))))
 
 pub invariant_of-self-2 : goal.invariant_of-self-2
 invariant_of-self-2 c =

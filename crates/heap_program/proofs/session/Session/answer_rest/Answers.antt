@@ -1,5 +1,4 @@
-use Rattle.std.proofs.Common.{◌≡◌, ◌<◌, ℕ, List, ◌∷◌, [], length, string_bytes, sym, ◌∙◌, ap, subst, arith, false-eqb}
-use Rattle.std.proofs.lemmas.Bool.Decides.{nat_tests}
+use Rattle.std.proofs.Common.{◌≡◌, ◌<◌, ℕ, List, ◌∷◌, [], length, string_bytes, sym, ◌∙◌, ap, subst, arith, true-eqb, false-eqb}
 use Rattle.std.proofs.lemmas.Result.{on_ok_weaker}
 use Rattle.heap_program.specs.Grammar.{item_of}
 use Rattle.heap_program.specs.Lines.{IsOneLine}
@@ -11,7 +10,7 @@ pub returns-then-is_empty : goal.returns-then-is_empty
 returns-then-is_empty c s at =
     let line = c.args.self.now.line in
     let same : c.bytes.result.now ≡ line = c.bytes.ensures.value in
-    let none : length c.bytes.result.now ≡ 0 = grind (arith, nat_tests, c.is_empty.ensures, c.if-is_empty.true) in
+    let none : length c.bytes.result.now ≡ 0 = true-eqb (length c.bytes.result.now) 0 (sym (sym c.is_empty.ensures ∙ c.if-is_empty.true)) in
     no_line_answered s line c.args.self.now.machine (string_bytes c.args.self.now.output) (sym (ap length same) ∙ none) at
 
 pub returns : goal.returns

@@ -24,3 +24,10 @@ loop-done-preserved c =
           (advanced_more s c.args.self.now c.loop-done.self c.feed_line.new.self (take done piece) (take n (drop done piece)) a b),
       omega (arith, few, within, length-drop done piece),
     )
+
+pub returns-clause-fed : goal.returns-clause-fed
+returns-clause-fed c s at =
+    let piece = c.args.piece.now in
+    let done = c.loop-done.done in
+    let all : take done piece ≡ piece = take_all done piece (omega (arith, c.loop-done-test.false)) in
+    subst (Advanced s c.args.self.now c.loop-done.self) all (c.loop-done.invariant.0 s at)

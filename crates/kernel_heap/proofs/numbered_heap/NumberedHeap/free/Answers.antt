@@ -1,15 +1,21 @@
-use Rattle.std.proofs.Common.{rules, arith, ◌≤◌, vec_capacity, ◌≡◌, ◌∙◌, ap, sym, length}
+use Rattle.std.proofs.Common.{rules, arith, ◌≤◌, vec_capacity, ◌≡◌, ◌∙◌, ap, sym, length, None}
 use Rattle.heap_model.proofs.Shortened.{length_cut}
 use Rattle.kernel_heap.specs.System.{paged}
 use Rattle.kernel_heap.proofs.Laid.{laid_ended}
 use Rattle.kernel_heap.proofs.Ended.{free_shortened, step_ended}
+use Rattle.heap_model.specs.declared.call.Call.TheVariants.{Free}
+use Rattle.heap_model.specs.declared.answer.Refusal.TheVariants.{UnknownBlock}
+use Rattle.heap_model.specs.Refusal.{refuse_block}
+use Rattle.kernel_heap.specs.Machine.{seen_with, live_at}
+use Rattle.kernel_heap.proofs.BlockBytes.{unknown_same}
+use Rattle.kernel_heap.proofs.Refused.{step_refused}
 use Rattle.kernel_heap.proofs.numbered_heap.NumberedHeap.free.Goals as goal
 
 -- there are no more regions than before
 pub changed_regions-requires-clause-places : goal.changed_regions-requires-clause-places
 changed_regions-requires-clause-places c =
     let short = free_shortened c.args.self.now.heap c.free.new.heap c.in-Some.live.address c.free.ensures.freed in
-    let few = length_cut (paged c.args.self.now.heap.system).regions (paged c.free.new.heap.system).regions short.cut in
+    let few = length_cut (paged c.args.self.now.heap.system).regions (paged c.free.new.heap.system).regions short.short.cut in
     let count : c.region_count-count.result ≡ length (paged c.args.self.now.heap.system).regions = c.region_count-count.ensures.count ∙ ap (λ system. length (paged system).regions) c.allocator.ensures in
     let places : c.region_count-count.result ≤ vec_capacity c.reserve.new.self = search rules in
     omega arith
@@ -25,10 +31,15 @@ returns-clause-ok c = λ top s good stands.
     let is = sym c.live.ensures ∙ c.in-Some.is in
     rw (c.changed_regions.ensures.heap, c.changed_regions.ensures.blocks)
     (step_ended c.args.self.now.heap c.free.new.heap c.args.self.now.blocks.items c.args.number c.in-Some.live c.requires.sound is c.free.ensures.freed c.free.ensures.placed_before c.free.ensures.placed s good stands c.changed_regions.result
-    (λ joins few. c.changed_regions.ensures.same (joins ∙ sym c.marks-before.ensures.joins) (few ∙ sym c.marks-before.ensures.free))
-    (λ other. c.changed_regions.ensures.other (λ joins few. other (joins ∙ c.marks-before.ensures.joins) (few ∙ c.marks-before.ensures.free))))
+    (λ joins few. c.changed_regions.ensures.same (joins ∙ sym c.marks-before.ensures.joins) (few ∙ sym c.marks-before.ensures.pageless))
+    (λ other. c.changed_regions.ensures.other (λ joins few. other (joins ∙ c.marks-before.ensures.joins) (few ∙ c.marks-before.ensures.pageless))))
 
 pub returns-clause-heap : goal.returns-clause-heap
 returns-clause-heap c =
     let is = sym c.live.ensures ∙ c.in-Some.is in
     rw (is, c.changed_regions.ensures.heap) (c.free.ensures.freed.state, c.free.ensures.freed.followed)
+
+pub returns-in_default-clause-ok : goal.returns-in_default-clause-ok
+returns-in_default-clause-ok c = λ top s good stands.
+    let none : live_at c.args.self.now.blocks.items c.args.number ≡ None = search rules in
+    rw c.refused.ensures (step_refused (seen_with top c.args.self.now) s (Free c.args.number) UnknownBlock (ap refuse_block (unknown_same (seen_with top c.args.self.now) s c.args.number stands none)) good stands)

@@ -1,30 +1,40 @@
-use Rattle.std.proofs.Common.{rules, arith, ℕ, ◌+◌, ◌≤◌, vec_capacity, ◌≡◌, ◌∙◌, ap, sym, length, Some, Bool, true, false}
+use Rattle.std.proofs.Common.{rules, arith, ℕ, ◌+◌, ◌≤◌, vec_capacity, ◌≡◌, ◌∙◌, ap, refl, sym, subst, length, Some, Bool, true, false}
 use Rattle.std.specs.Int.{is_power_of_two}
-use Rattle.std.proofs.lemmas.Result.{IfOk-weaker}
-use Rattle.paging_core.specs.Pool.{free_count}
+use Rattle.std.proofs.lemmas.Result.{IfOk-weaker, on_err_weaker}
 use Rattle.dlmalloc_chunks.specs.Request.{padded, wanted}
 use Rattle.dlmalloc_chunks.proofs.PowersOfTwo.{power_from_test}
 use Rattle.dlmalloc.specs.Requested.{asked}
-use Rattle.heap_model.specs.declared.answer.Reply.TheVariants.{Block as Placed}
-use Rattle.kernel_heap.specs.System.{paged}
+use Rattle.heap_model.specs.declared.answer.Answer.{Answer}
+use Rattle.heap_model.specs.declared.answer.Refusal.{Refusal}
+use Rattle.heap_model.specs.declared.answer.Refusal.TheVariants.{BadAlign}
+use Rattle.heap_model.specs.declared.answer.Reply.TheVariants.{Block as Placed, Refused}
+use Rattle.heap_model.specs.Refusal.{refuse_request}
+use Rattle.heap_model.specs.Slots.{listed_slots}
+use Rattle.heap_model.specs.Machine.{IsStep}
+use Rattle.kernel_heap.specs.System.{paged, pageless_frames}
 use Rattle.kernel_heap.specs.Words.{heap_regions}
 use Rattle.kernel_heap.specs.Heap.{heap_state}
-use Rattle.kernel_heap.specs.Machine.{request, IsCutFor, HeapMoves}
+use Rattle.kernel_heap.specs.Machine.{system_of, seen_with, heap_of, request, lasting_pages, AreRunsUsedFor, IsCutFor, IsToldFrom, HeapMoves}
 use Rattle.kernel_heap.specs.declared.numbered_heap.NumberedHeap.{NumberedHeap}
+use Rattle.kernel_heap.specs.declared.paged_system.PagedSystem.{PagedSystem}
+use Rattle.kernel_heap.proofs.LastingPages.{runs_refused}
 use Rattle.kernel_heap.proofs.Laid.{laid_handed, laid_denied}
 use Rattle.kernel_heap.proofs.Found.{few_regions}
 use Rattle.kernel_heap.proofs.Handed.{step_request}
+use Rattle.kernel_heap.proofs.Told.{AreTold, step_told, runs_told, told_from}
 use Rattle.kernel_heap.proofs.Refused.{step_denied, refused_large, not_refused, wanted_asked, request_refused, request_wants}
+use Rattle.kernel_heap.proofs.Laid.{seen_denied}
+use Rattle.kernel_heap.proofs.Refused.{step_refused}
 use Rattle.kernel_heap.proofs.numbered_heap.NumberedHeap.hand_out.Goals as goal
 
 pub hand_out-requires-clause-align : goal.hand_out-requires-clause-align
 hand_out-requires-clause-align c = let power : is_power_of_two c.args.align ≡ true = search rules in power_from_test c.args.align power
 
 -- how the heap moves is told by the request
-moves_request : (cleared : Bool) (old : NumberedHeap) (size align number address : ℕ) (new : NumberedHeap) → IsCutFor cleared old.heap.system (heap_state old.heap) size align address new.heap.system (heap_state new.heap) →
-    HeapMoves old (request cleared size align) (Placed number address) new
-moves_request false old size align number address new cut = cut
-moves_request true old size align number address new cut = cut
+moves_request : (cleared : Bool) (old : NumberedHeap) (size align number address : ℕ) (new : NumberedHeap) (system : PagedSystem) → IsToldFrom system new.heap.system →
+    IsCutFor cleared old.heap.system (heap_state old.heap) size align address system (heap_state new.heap) → HeapMoves old (request cleared size align) (Placed number address) new
+moves_request false old size align number address new system told cut = (system, told, cut)
+moves_request true old size align number address new system told cut = (system, told, cut)
 
 -- the list has a place for one region more
 pub changed_regions-requires-clause-places : goal.changed_regions-requires-clause-places
@@ -35,27 +45,83 @@ changed_regions-requires-clause-places c =
     let places : c.region_count-count.result + 1 ≤ vec_capacity c.add_block.new.self.list = search rules in
     omega arith
 
-pub returns-in-Ok-clause-sound : goal.returns-in-Ok-clause-sound
-returns-in-Ok-clause-sound c =
+-- with the block the heap is sound, before its new slots are told
+pub new_slots-requires : goal.new_slots-requires
+new_slots-requires c =
     let power : is_power_of_two c.args.align ≡ true = search rules in
-    rw (c.changed_regions.ensures.heap, c.changed_regions.ensures.blocks, c.add_block.ensures.heap, c.add_block.ensures.blocks, c.in_ok-reserve.ensures.items)
-    (laid_handed c.args.self.now.heap c.hand_out.new.heap c.args.self.now.blocks.items c.args.size c.args.align c.in-Ok.address c.requires.sound c.in-Ok.ensures.ok (power_from_test c.args.align power) c.hand_out.ensures.linked)
+    record {
+      sound = rw (c.changed_regions.ensures.heap, c.changed_regions.ensures.blocks, c.add_block.ensures.heap, c.add_block.ensures.blocks, c.in_ok-reserve.ensures.items)
+          (laid_handed c.args.self.now.heap c.hand_out.new.heap c.args.self.now.blocks.items c.args.size c.args.align c.in-Ok.address c.requires.sound c.in-Ok.ensures.ok (power_from_test c.args.align power) c.hand_out.ensures.linked);
+    }
+
+pub returns-in-Ok-clause-sound : goal.returns-in-Ok-clause-sound
+returns-in-Ok-clause-sound c = c.new_slots.ensures.sound
 
 pub returns-in-Ok-clause-ok : goal.returns-in-Ok-clause-ok
 returns-in-Ok-clause-ok c = λ top s good stands.
     let power : is_power_of_two c.args.align ≡ true = search rules in
     let joins = ap (λ heap. (paged heap.system).joins) c.add_block.ensures.heap in
-    let free = ap (λ heap. free_count (paged heap.system).free) c.add_block.ensures.heap in
-    rw (c.changed_regions.ensures.heap, c.changed_regions.ensures.blocks, c.add_block.ensures.heap, c.add_block.ensures.blocks, c.add_block.ensures.reply, c.in_ok-reserve.ensures.items)
-    (step_request c.args.self.now.heap c.hand_out.new.heap c.args.self.now.blocks.items c.args.size c.args.align c.in-Ok.address c.requires.sound c.in-Ok.ensures.ok c.hand_out.ensures.placed_before c.hand_out.ensures.placed c.hand_out.ensures.apart s good stands
-    power c.changed_regions.result
-    (λ same few. c.changed_regions.ensures.same (joins ∙ (same ∙ sym c.marks-before.ensures.joins)) (free ∙ (few ∙ sym c.marks-before.ensures.free)))
-    (λ other. c.changed_regions.ensures.other (λ same few. other (sym joins ∙ (same ∙ c.marks-before.ensures.joins)) (sym free ∙ (few ∙ c.marks-before.ensures.free)))
+    let free = ap (λ heap. pageless_frames (paged heap.system)) c.add_block.ensures.heap in
+    let joins_now = ap (λ heap. (paged heap.system).joins) c.changed_regions.ensures.heap ∙ joins in
+    let step = step_request c.args.self.now.heap c.hand_out.new.heap c.args.self.now.blocks.items c.args.size c.args.align c.in-Ok.address c.requires.sound c.in-Ok.ensures.ok c.hand_out.ensures.placed_before c.hand_out.ensures.placed c.hand_out.ensures.apart s good stands
+    power c.changed_regions.result c.new_slots.result
+    (λ same few. c.changed_regions.ensures.same (joins ∙ (same ∙ sym c.marks-before.ensures.joins)) (free ∙ (few ∙ sym c.marks-before.ensures.pageless)))
+    (λ other. c.changed_regions.ensures.other (λ same few. other (sym joins ∙ (same ∙ c.marks-before.ensures.joins)) (sym free ∙ (few ∙ c.marks-before.ensures.pageless)))
     ∙ ap (λ heap. Some (heap_regions (paged heap.system).regions)) c.add_block.ensures.heap)
-    c.args.cleared (λ asked. c.in-Ok.ensures.zeros asked))
+    (λ same. (c.new_slots.ensures.none (joins_now ∙ (same ∙ sym c.marks-before.ensures.joins))).0)
+    (λ other. c.new_slots.ensures.slots (λ same. other (sym joins_now ∙ (same ∙ c.marks-before.ensures.joins)))
+    ∙ ap (λ heap. listed_slots (paged heap.system).slots) (c.changed_regions.ensures.heap ∙ c.add_block.ensures.heap))
+    c.args.cleared (λ asked. c.in-Ok.ensures.zeros asked) in
+    let told : AreTold c.changed_regions.new.self c.new_slots.new.self c.marks-before.result.joins = record {
+      none = λ same. (c.new_slots.ensures.none same).1;
+      taken = c.new_slots.ensures.paged;
+      granularity = c.new_slots.ensures.granularity;
+      blocks = c.new_slots.ensures.blocks;
+    } in
+    let before : IsStep s (request c.args.cleared c.args.size c.args.align) (record { reply = c.add_block.result; regions = c.changed_regions.result; large = c.new_slots.result }) (seen_with top c.changed_regions.new.self) =
+    rw (c.changed_regions.ensures.heap, c.changed_regions.ensures.blocks, c.add_block.ensures.heap, c.add_block.ensures.blocks, c.add_block.ensures.reply, c.in_ok-reserve.ensures.items) step.0 in
+    step_told c.changed_regions.new.self c.new_slots.new.self c.marks-before.result.joins told top s (request c.args.cleared c.args.size c.args.align) _ before
+
+pub returns-in-Ok-clause-runs : goal.returns-in-Ok-clause-runs
+returns-in-Ok-clause-runs c = λ top s good stands.
+    let power : is_power_of_two c.args.align ≡ true = search rules in
+    let joins = ap (λ heap. (paged heap.system).joins) c.add_block.ensures.heap in
+    let free = ap (λ heap. pageless_frames (paged heap.system)) c.add_block.ensures.heap in
+    let joins_now = ap (λ heap. (paged heap.system).joins) c.changed_regions.ensures.heap ∙ joins in
+    let step = step_request c.args.self.now.heap c.hand_out.new.heap c.args.self.now.blocks.items c.args.size c.args.align c.in-Ok.address c.requires.sound c.in-Ok.ensures.ok c.hand_out.ensures.placed_before c.hand_out.ensures.placed c.hand_out.ensures.apart s good stands
+    power c.changed_regions.result c.new_slots.result
+    (λ same few. c.changed_regions.ensures.same (joins ∙ (same ∙ sym c.marks-before.ensures.joins)) (free ∙ (few ∙ sym c.marks-before.ensures.pageless)))
+    (λ other. c.changed_regions.ensures.other (λ same few. other (sym joins ∙ (same ∙ c.marks-before.ensures.joins)) (sym free ∙ (few ∙ c.marks-before.ensures.pageless)))
+    ∙ ap (λ heap. Some (heap_regions (paged heap.system).regions)) c.add_block.ensures.heap)
+    (λ same. (c.new_slots.ensures.none (joins_now ∙ (same ∙ sym c.marks-before.ensures.joins))).0)
+    (λ other. c.new_slots.ensures.slots (λ same. other (sym joins_now ∙ (same ∙ c.marks-before.ensures.joins)))
+    ∙ ap (λ heap. listed_slots (paged heap.system).slots) (c.changed_regions.ensures.heap ∙ c.add_block.ensures.heap))
+    c.args.cleared (λ asked. c.in-Ok.ensures.zeros asked) in
+    let told : AreTold c.changed_regions.new.self c.new_slots.new.self c.marks-before.result.joins = record {
+      none = λ same. (c.new_slots.ensures.none same).1;
+      taken = c.new_slots.ensures.paged;
+      granularity = c.new_slots.ensures.granularity;
+      blocks = c.new_slots.ensures.blocks;
+    } in
+    let before : AreRunsUsedFor (paged (system_of c.args.self.now)) (paged (system_of c.changed_regions.new.self))
+    (lasting_pages s (request c.args.cleared c.args.size c.args.align) (record { reply = c.add_block.result; regions = c.changed_regions.result; large = c.new_slots.result })) =
+    rw (c.changed_regions.ensures.heap, c.add_block.ensures.heap, c.add_block.ensures.reply, c.in_ok-reserve.ensures.items) step.1 in
+    runs_told c.changed_regions.new.self c.new_slots.new.self c.marks-before.result.joins told (paged (system_of c.args.self.now)) _ before
 
 pub returns-in-Ok-clause-heap : goal.returns-in-Ok-clause-heap
-returns-in-Ok-clause-heap c = rw (c.changed_regions.ensures.heap, c.add_block.ensures.heap, c.add_block.ensures.reply) (moves_request c.args.cleared c.args.self.now c.args.size c.args.align _ c.in-Ok.address _ c.in-Ok.ensures.cut)
+returns-in-Ok-clause-heap c =
+    let told : AreTold c.changed_regions.new.self c.new_slots.new.self c.marks-before.result.joins = record {
+      none = λ same. (c.new_slots.ensures.none same).1;
+      taken = c.new_slots.ensures.paged;
+      granularity = c.new_slots.ensures.granularity;
+      blocks = c.new_slots.ensures.blocks;
+    } in
+    let heap = c.changed_regions.ensures.heap ∙ c.add_block.ensures.heap in
+    rw c.add_block.ensures.reply
+    (moves_request c.args.cleared c.args.self.now c.args.size c.args.align _ c.in-Ok.address c.new_slots.new.self c.hand_out.new.heap.system
+    (subst (λ h. IsToldFrom h.system c.new_slots.new.self.heap.system) heap (told_from c.changed_regions.new.self c.new_slots.new.self c.marks-before.result.joins told))
+    (subst (λ h. IsCutFor c.args.cleared c.args.self.now.heap.system (heap_state c.args.self.now.heap) c.args.size c.args.align c.in-Ok.address c.hand_out.new.heap.system h)
+    (sym (c.new_slots.ensures.heap ∙ ap heap_state heap)) c.in-Ok.ensures.cut))
 
 pub returns-in-Err-clause-sound : goal.returns-in-Err-clause-sound
 returns-in-Err-clause-sound c =
@@ -72,3 +138,42 @@ returns-in-Err-clause-ok c = λ top s good stands.
     (λ less. request_refused c.args.cleared s c.args.size c.args.align ∙ not_refused s.granularity c.args.size c.args.align power less)
     (request_wants c.args.cleared s c.args.size c.args.align) c.in-Err.error c.in-Err.ensures.err answer given))
     c.refused_by.ensures.ok
+
+pub returns-in-Err-clause-runs : goal.returns-in-Err-clause-runs
+returns-in-Err-clause-runs c = λ top s good stands.
+    IfOk-weaker c.refused_by.result _ _ (λ answer given. runs_refused (paged (system_of c.args.self.now)) (paged c.hand_out.new.heap.system) s (request c.args.cleared c.args.size c.args.align) _ answer given) c.refused_by.ensures.ok
+
+pub returns-then-not-is_power_of_two-clause-runs : goal.returns-then-not-is_power_of_two-clause-runs
+returns-then-not-is_power_of_two-clause-runs c = λ top s good stands.
+    runs_refused (paged (system_of c.args.self.now)) (paged (system_of c.args.self.now)) s (request c.args.cleared c.args.size c.args.align) (Some BadAlign) c.refused.result (BadAlign, refl, c.refused.ensures)
+
+-- no other power of two is told
+bad_align : (granularity size align : ℕ) → is_power_of_two align ≡ false → refuse_request granularity size align ≡ Some BadAlign
+bad_align granularity size align other = rw other refl
+
+pub returns-then-not-is_power_of_two-clause-ok : goal.returns-then-not-is_power_of_two-clause-ok
+returns-then-not-is_power_of_two-clause-ok c = λ top s good stands.
+    let no : is_power_of_two c.args.align ≡ false = search rules in
+    rw c.refused.ensures (step_refused (seen_with top c.args.self.now) s (request c.args.cleared c.args.size c.args.align) BadAlign
+    (request_refused c.args.cleared s c.args.size c.args.align ∙ bad_align s.granularity c.args.size c.args.align no) good stands)
+
+pub returns-in-Err-clause-err : goal.returns-in-Err-clause-err
+returns-in-Err-clause-err c = λ top. on_err_weaker c.refused_by.result
+    (λ none. rw c.in_ok-reserve.ensures.items (seen_denied c.args.self.now.heap c.hand_out.new.heap c.args.self.now.blocks.items (asked c.args.size c.args.align) c.in-Err.error c.in-Err.ensures.err top))
+    c.refused_by.ensures.err
+
+-- a refused request moves nothing
+moves_refused : (cleared : Bool) (old : NumberedHeap) (size align : ℕ) (refusal : Refusal) (new : NumberedHeap) → heap_of new ≡ heap_of old → HeapMoves old (request cleared size align) (Refused refusal) new
+moves_refused false old size align refusal new same = same
+moves_refused true old size align refusal new same = same
+
+pub returns-in-Err-clause-heap : goal.returns-in-Err-clause-heap
+returns-in-Err-clause-heap c =
+    let new : NumberedHeap = record { alloc = c.args.self.now.alloc; heap = c.hand_out.new.heap; blocks = c.reserve.new.self; list = c.reserve-2.new.self } in
+    IfOk-weaker c.refused_by.result _ _
+    (λ answer given. subst (λ (a : Answer). HeapMoves c.args.self.now (request c.args.cleared c.args.size c.args.align) a.reply new) (sym given.2)
+    (moves_refused c.args.cleared c.args.self.now c.args.size c.args.align given.0 new c.in-Err.ensures.err.same.state))
+    c.refused_by.ensures.ok
+
+pub returns-in-Err-clause-heap_err : goal.returns-in-Err-clause-heap_err
+returns-in-Err-clause-heap_err c = on_err_weaker c.refused_by.result (λ none. c.in-Err.ensures.err.same.state) c.refused_by.ensures.err

@@ -1,31 +1,74 @@
-use Rattle.std.proofs.Common.{ap, ◌∙◌, subst, sym}
+use Rattle.std.proofs.Common.{◌≡◌, ℕ, ap, ◌∙◌, subst, sym, arith, List, Option, Some, None}
 use Rattle.std.proofs.lemmas.Result.{IfOk-weaker, on_err_weaker}
 use Rattle.heap_model.specs.declared.call.Call.TheVariants.{Map}
+use Rattle.heap_model.specs.declared.answer.Reply.TheVariants.{Done}
+use Rattle.heap_model.specs.declared.region.Region.{Region}
 use Rattle.heap_model.specs.Room.{user_region}
-use Rattle.heap_model.specs.Machine.{IsStep}
+use Rattle.heap_model.specs.Machine.{Paged, IsStep}
 use Rattle.mapped_regions.specs.Mapped.{CanMap, IsJoined}
 use Rattle.mapped_regions.specs.UserRegions.{IsMapRefused}
 use Rattle.kernel_heap.specs.Beside.{IsBeside}
 use Rattle.kernel_heap.specs.System.{paged}
-use Rattle.kernel_heap.specs.Machine.{seen_with}
+use Rattle.kernel_heap.specs.Machine.{system_of, seen_with}
+use Rattle.kernel_heap.specs.declared.numbered_heap.NumberedHeap.{NumberedHeap}
+use Rattle.kernel_heap.specs.declared.paged_system.PagedSystem.{PagedSystem}
+use Rattle.kernel_heap.proofs.LastingPages.{runs_refused}
 use Rattle.kernel_heap.proofs.Laid.{heap_beside}
+use Rattle.kernel_heap.proofs.Told.{AreTold, step_told, runs_told}
 use Rattle.kernel_heap.proofs.UserRegions.{step_map, map_denied, laid_beside}
 use Rattle.kernel_heap.proofs.numbered_heap.NumberedHeap.map.Goals as goal
 
+-- a numbered heap over another system
+abbrev with_system : NumberedHeap → PagedSystem → NumberedHeap
+with_system numbered system = record numbered { heap = record numbered.heap { system = system } }
+
+-- a region joined since the mark
+joined_since : (old new : Paged) (region : Region) (mark : ℕ) → IsJoined old new region → mark ≡ old.joins → new.joins ≡ mark → ⊥
+joined_since old new region mark joined is same = (let more = joined.joins in omega arith)
+
+pub new_slots-requires : goal.new_slots-requires
+new_slots-requires c = record {
+  sound = laid_beside c.args.self.now.heap c.args.self.now.blocks.items c.requires.sound c.map.new.self
+      (subst (λ system. IsBeside (paged system) (paged c.map.new.self)) c.allocator_mut.ensures.value c.map.ensures.beside) c.rests_outside.ensures;
+}
+
 pub returns-in-Ok-clause-sound : goal.returns-in-Ok-clause-sound
-returns-in-Ok-clause-sound c =
-    laid_beside c.args.self.now.heap c.args.self.now.blocks.items c.requires.sound c.map.new.self
-    (subst (λ system. IsBeside (paged system) (paged c.map.new.self)) c.allocator_mut.ensures.value c.map.ensures.beside) c.rests_outside.ensures
+returns-in-Ok-clause-sound c = c.new_slots.ensures.sound
 
 pub returns-in-Ok-clause-ok : goal.returns-in-Ok-clause-ok
 returns-in-Ok-clause-ok c = λ top s good stands.
-    step_map (seen_with top c.args.self.now) s c.args.start c.args.pages good stands c.args.rights (paged c.map.new.self)
-    (subst (λ system. CanMap (paged system) c.args.start c.args.pages) c.allocator_mut.ensures.value c.in-Ok.ensures.can)
-    (subst (λ system. IsJoined (paged system) (paged c.map.new.self) (user_region c.args.start c.args.pages c.args.rights)) c.allocator_mut.ensures.value c.in-Ok.ensures.ok)
+    let same_system = c.allocator_mut.ensures.value in
+    let joined = subst (λ system. IsJoined (paged system) (paged c.map.new.self) (user_region c.args.start c.args.pages c.args.rights)) same_system c.in-Ok.ensures.ok in
+    let told : AreTold (with_system c.args.self.now c.map.new.self) c.new_slots.new.self c.marks-before.result.joins = record {
+      none = λ same. (c.new_slots.ensures.none same).1;
+      taken = c.new_slots.ensures.paged;
+      granularity = c.new_slots.ensures.granularity;
+      blocks = c.new_slots.ensures.blocks;
+    } in
+    let region = user_region c.args.start c.args.pages c.args.rights in
+    let slots = c.new_slots.ensures.slots (joined_since (paged (system_of c.args.self.now)) (paged c.map.new.self) region c.marks-before.result.joins joined c.marks-before.ensures.joins) in
+    let step = step_map (seen_with top c.args.self.now) s c.args.start c.args.pages good stands c.args.rights (paged c.map.new.self)
+    (subst (λ system. CanMap (paged system) c.args.start c.args.pages) same_system c.in-Ok.ensures.can) joined in
+    let before : IsStep s (Map c.args.start c.args.pages c.args.rights) (record { reply = Done; regions = None; large = c.new_slots.result }) (seen_with top (with_system c.args.self.now c.map.new.self)) =
+    subst (λ (large : Option (List ℕ)). IsStep s (Map c.args.start c.args.pages c.args.rights) (record { reply = Done; regions = None; large = large }) (seen_with top (with_system c.args.self.now c.map.new.self))) (sym slots) step in
+    step_told (with_system c.args.self.now c.map.new.self) c.new_slots.new.self c.marks-before.result.joins told top s (Map c.args.start c.args.pages c.args.rights) _ before
+
+pub returns-in-Ok-clause-runs : goal.returns-in-Ok-clause-runs
+returns-in-Ok-clause-runs c = λ top s good stands.
+    let same_system = c.allocator_mut.ensures.value in
+    let joined = subst (λ system. IsJoined (paged system) (paged c.map.new.self) (user_region c.args.start c.args.pages c.args.rights)) same_system c.in-Ok.ensures.ok in
+    let told : AreTold (with_system c.args.self.now c.map.new.self) c.new_slots.new.self c.marks-before.result.joins = record {
+      none = λ same. (c.new_slots.ensures.none same).1;
+      taken = c.new_slots.ensures.paged;
+      granularity = c.new_slots.ensures.granularity;
+      blocks = c.new_slots.ensures.blocks;
+    } in
+    runs_told (with_system c.args.self.now c.map.new.self) c.new_slots.new.self c.marks-before.result.joins told (paged (system_of c.args.self.now)) (Some (record { start = c.args.start; pages = c.args.pages })) joined.runs
 
 pub returns-in-Ok-clause-heap : goal.returns-in-Ok-clause-heap
 returns-in-Ok-clause-heap c =
-    (heap_beside c.args.self.now.heap c.requires.sound.heap_sound c.map.new.self
+    c.new_slots.ensures.heap
+    ∙ (heap_beside c.args.self.now.heap c.requires.sound.heap_sound c.map.new.self
     (subst (λ system. IsBeside (paged system) (paged c.map.new.self)) c.allocator_mut.ensures.value c.map.ensures.beside) c.rests_outside.ensures).1
 
 pub returns-in-Err-clause-sound : goal.returns-in-Err-clause-sound
@@ -51,3 +94,7 @@ pub returns-in-Err-clause-heap : goal.returns-in-Err-clause-heap
 returns-in-Err-clause-heap c =
     (heap_beside c.args.self.now.heap c.requires.sound.heap_sound c.map.new.self
     (subst (λ system. IsBeside (paged system) (paged c.map.new.self)) c.allocator_mut.ensures.value c.map.ensures.beside) c.rests_outside.ensures).1
+
+pub returns-in-Err-clause-runs : goal.returns-in-Err-clause-runs
+returns-in-Err-clause-runs c = λ top s good stands.
+    IfOk-weaker c.refused_map.result _ _ (λ answer given. runs_refused (paged (system_of c.args.self.now)) (paged c.map.new.self) s (Map c.args.start c.args.pages c.args.rights) _ answer given) c.refused_map.ensures.ok

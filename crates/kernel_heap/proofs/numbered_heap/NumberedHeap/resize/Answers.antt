@@ -1,13 +1,22 @@
-use Rattle.std.proofs.Common.{rules, arith, ◌+◌, ◌≤◌, vec_capacity, ◌≡◌, ◌∙◌, ap, sym, length}
-use Rattle.std.proofs.lemmas.Result.{IfOk-weaker}
+use Rattle.std.proofs.Common.{rules, arith, ℕ, Bool, true, false, None, ◌+◌, ◌≤◌, vec_capacity, ◌≡◌, ◌∙◌, ap, sym, subst, length}
+use Rattle.std.proofs.lemmas.Result.{IfOk-weaker, on_err_weaker}
 use Rattle.dlmalloc_chunks.specs.Request.{padded}
 use Rattle.dlmalloc.specs.Requested.{asked}
+use Rattle.heap_model.proofs.Shortened.{length_cut}
+use Rattle.heap_model.specs.declared.answer.Reply.TheVariants.{Block as Placed, Refused}
+use Rattle.heap_model.specs.Slots.{listed_slots}
+use Rattle.heap_model.specs.Machine.{IsStep}
 use Rattle.kernel_heap.specs.System.{paged}
-use Rattle.kernel_heap.specs.Machine.{align_kept}
+use Rattle.kernel_heap.specs.Heap.{heap_state}
+use Rattle.kernel_heap.specs.Machine.{seen_with, heap_of, live_at, resizing, align_kept, HeapMoves, IsToldFrom, IsResizedTo}
 use Rattle.kernel_heap.proofs.Laid.{laid_resized, laid_denied}
 use Rattle.kernel_heap.proofs.Found.{few_regions}
-use Rattle.kernel_heap.proofs.Resized.{step_resized, step_not_resized, kept_power, moves_resizing, moved_shortened}
-use Rattle.heap_model.proofs.Shortened.{length_cut}
+use Rattle.kernel_heap.proofs.Resized.{step_resized, step_not_resized, step_unknown, kept_power, moves_resizing, moved_shortened}
+use Rattle.kernel_heap.proofs.Told.{AreTold, step_told, told_from}
+use Rattle.kernel_heap.proofs.Laid.{seen_denied}
+use Rattle.kernel_heap.specs.declared.numbered_heap.NumberedHeap.{NumberedHeap}
+use Rattle.heap_model.specs.declared.answer.Answer.{Answer}
+use Rattle.heap_model.specs.declared.answer.Refusal.{Refusal}
 use Rattle.kernel_heap.proofs.numbered_heap.NumberedHeap.resize.Goals as goal
 
 pub resize-requires-clause-block : goal.resize-requires-clause-block
@@ -18,33 +27,57 @@ pub changed_regions-requires-clause-places : goal.changed_regions-requires-claus
 changed_regions-requires-clause-places c =
     let out = c.in-Ok.ensures.ok in
     let few = few_regions c.args.self.now.heap out.middle (padded (asked c.args.size (align_kept c.args.keeps_alignment c.in-Some.live))) out.found in
-    let cut = length_cut (paged out.middle.system).regions (paged c.resize.new.heap.system).regions (moved_shortened c.args.self.now.heap c.resize.new.heap c.in-Some.live.address c.in-Some.live.size (align_kept c.args.keeps_alignment c.in-Some.live) c.args.size c.in-Ok.address out).cut in
+    let cut = length_cut (paged out.middle.system).regions (paged c.resize.new.heap.system).regions (moved_shortened c.args.self.now.heap c.resize.new.heap c.in-Some.live.address c.in-Some.live.size (align_kept c.args.keeps_alignment c.in-Some.live) c.args.size c.in-Ok.address out).short.cut in
     let count : c.region_count-count.result ≡ length (paged c.args.self.now.heap.system).regions = c.region_count-count.ensures.count ∙ ap (λ system. length (paged system).regions) c.allocator.ensures in
     let places : c.region_count-count.result + 1 ≤ vec_capacity c.reserve.new.self = search rules in
     omega arith
 
-pub returns-in-Ok-clause-sound : goal.returns-in-Ok-clause-sound
-returns-in-Ok-clause-sound c =
+pub new_slots-requires : goal.new_slots-requires
+new_slots-requires c =
     let is = sym c.live.ensures ∙ c.in-Some.is in
     let power = kept_power c.args.keeps_alignment c.in-Some.live (c.requires.sound.lives c.args.number c.in-Some.live is).align in
-    rw (c.changed_regions.ensures.heap, c.changed_regions.ensures.blocks, c.alignment_kept-align.ensures)
-    (laid_resized c.args.self.now.heap c.resize.new.heap c.args.self.now.blocks.items c.args.number c.in-Some.live c.args.size (align_kept c.args.keeps_alignment c.in-Some.live) c.in-Ok.address c.requires.sound is c.in-Ok.ensures.ok power c.resize.ensures.linked)
+    record {
+      sound = rw (c.changed_regions.ensures.heap, c.changed_regions.ensures.blocks, c.alignment_kept-align.ensures)
+          (laid_resized c.args.self.now.heap c.resize.new.heap c.args.self.now.blocks.items c.args.number c.in-Some.live c.args.size (align_kept c.args.keeps_alignment c.in-Some.live) c.in-Ok.address c.requires.sound is c.in-Ok.ensures.ok power c.resize.ensures.linked);
+    }
+
+pub returns-in-Ok-clause-sound : goal.returns-in-Ok-clause-sound
+returns-in-Ok-clause-sound c = c.new_slots.ensures.sound
 
 pub returns-in-Ok-clause-ok : goal.returns-in-Ok-clause-ok
 returns-in-Ok-clause-ok c = λ top s good stands.
     let is = sym c.live.ensures ∙ c.in-Some.is in
     let power = kept_power c.args.keeps_alignment c.in-Some.live (c.requires.sound.lives c.args.number c.in-Some.live is).align in
-    rw (c.changed_regions.ensures.heap, c.changed_regions.ensures.blocks, c.alignment_kept-align.ensures)
-    (step_resized c.args.self.now.heap c.resize.new.heap c.args.self.now.blocks.items c.args.number c.in-Some.live c.args.keeps_alignment c.args.size c.in-Ok.address c.requires.sound is c.in-Ok.ensures.ok
-    c.resize.ensures.placed_before c.resize.ensures.placed c.resize.ensures.apart s good stands power (λ grant some is. c.in-Ok.ensures.ok.still grant is) c.changed_regions.result
-    (λ joins few. c.changed_regions.ensures.same (joins ∙ sym c.marks-before.ensures.joins) (few ∙ sym c.marks-before.ensures.free))
-    (λ other. c.changed_regions.ensures.other (λ joins few. other (joins ∙ c.marks-before.ensures.joins) (few ∙ c.marks-before.ensures.free))))
+    let joins_now = ap (λ heap. (paged heap.system).joins) c.changed_regions.ensures.heap in
+    let step = step_resized c.args.self.now.heap c.resize.new.heap c.args.self.now.blocks.items c.args.number c.in-Some.live c.args.keeps_alignment c.args.size c.in-Ok.address c.requires.sound is c.in-Ok.ensures.ok
+    c.resize.ensures.placed_before c.resize.ensures.placed c.resize.ensures.apart s good stands power (λ grant some is. c.in-Ok.ensures.ok.still grant is) c.changed_regions.result c.new_slots.result
+    (λ joins few. c.changed_regions.ensures.same (joins ∙ sym c.marks-before.ensures.joins) (few ∙ sym c.marks-before.ensures.pageless))
+    (λ other. c.changed_regions.ensures.other (λ joins few. other (joins ∙ c.marks-before.ensures.joins) (few ∙ c.marks-before.ensures.pageless)))
+    (λ same. (c.new_slots.ensures.none (joins_now ∙ (same ∙ sym c.marks-before.ensures.joins))).0)
+    (λ other. c.new_slots.ensures.slots (λ same. other (sym joins_now ∙ (same ∙ c.marks-before.ensures.joins))) ∙ ap (λ heap. listed_slots (paged heap.system).slots) c.changed_regions.ensures.heap) in
+    let told : AreTold c.changed_regions.new.self c.new_slots.new.self c.marks-before.result.joins = record {
+      none = λ same. (c.new_slots.ensures.none same).1;
+      taken = c.new_slots.ensures.paged;
+      granularity = c.new_slots.ensures.granularity;
+      blocks = c.new_slots.ensures.blocks;
+    } in
+    let before : IsStep s (resizing c.args.keeps_alignment c.args.number c.args.size) (record { reply = Placed c.args.number c.in-Ok.address; regions = c.changed_regions.result; large = c.new_slots.result }) (seen_with top c.changed_regions.new.self) =
+    rw (c.changed_regions.ensures.heap, c.changed_regions.ensures.blocks, c.alignment_kept-align.ensures) step in
+    step_told c.changed_regions.new.self c.new_slots.new.self c.marks-before.result.joins told top s (resizing c.args.keeps_alignment c.args.number c.args.size) _ before
 
 pub returns-in-Ok-clause-heap : goal.returns-in-Ok-clause-heap
 returns-in-Ok-clause-heap c =
     let is = sym c.live.ensures ∙ c.in-Some.is in
-    moves_resizing c.args.keeps_alignment c.args.self.now c.args.number c.args.size c.in-Ok.address c.in-Some.live c.changed_regions.new.self is
-    (rw c.changed_regions.ensures.heap c.in-Ok.ensures.moves)
+    let told : AreTold c.changed_regions.new.self c.new_slots.new.self c.marks-before.result.joins = record {
+      none = λ same. (c.new_slots.ensures.none same).1;
+      taken = c.new_slots.ensures.paged;
+      granularity = c.new_slots.ensures.granularity;
+      blocks = c.new_slots.ensures.blocks;
+    } in
+    moves_resizing c.args.keeps_alignment c.args.self.now c.args.number c.args.size c.in-Ok.address c.in-Some.live c.new_slots.new.self is c.resize.new.heap.system
+    (subst (λ h. IsToldFrom h.system c.new_slots.new.self.heap.system) c.changed_regions.ensures.heap (told_from c.changed_regions.new.self c.new_slots.new.self c.marks-before.result.joins told))
+    (subst (λ h. IsResizedTo c.args.self.now.heap.system (heap_state c.args.self.now.heap) c.in-Some.live.address c.args.size (align_kept c.args.keeps_alignment c.in-Some.live) c.in-Ok.address c.resize.new.heap.system h)
+    (sym (c.new_slots.ensures.heap ∙ ap heap_state c.changed_regions.ensures.heap)) c.in-Ok.ensures.moves)
 
 pub returns-in-Err-clause-sound : goal.returns-in-Err-clause-sound
 returns-in-Err-clause-sound c =
@@ -57,3 +90,29 @@ returns-in-Err-clause-ok c = λ top s good stands.
     IfOk-weaker c.refused_by.result _ _
     (λ answer given. step_not_resized c.args.self.now.heap c.resize.new.heap c.args.self.now.blocks.items c.args.number c.args.size c.args.keeps_alignment c.in-Some.live c.requires.sound is s good stands power c.in-Err.error c.in-Err.ensures.err answer given)
     c.refused_by.ensures.ok
+
+pub returns-in_default-clause-ok : goal.returns-in_default-clause-ok
+returns-in_default-clause-ok c = λ top s good stands.
+    let none : live_at c.args.self.now.blocks.items c.args.number ≡ None = search rules in
+    rw c.refused.ensures (step_unknown c.args.self.now.heap c.args.self.now.blocks.items c.args.number c.args.size c.args.keeps_alignment s good stands none)
+
+pub returns-in-Err-clause-err : goal.returns-in-Err-clause-err
+returns-in-Err-clause-err c = λ top. on_err_weaker c.refused_by.result
+    (λ none. seen_denied c.args.self.now.heap c.resize.new.heap c.args.self.now.blocks.items (asked c.args.size (align_kept c.args.keeps_alignment c.in-Some.live)) c.in-Err.error c.in-Err.ensures.err top)
+    c.refused_by.ensures.err
+
+-- a refused call moves nothing
+moves_refused : (keeps : Bool) (old : NumberedHeap) (number size : ℕ) (refusal : Refusal) (new : NumberedHeap) → heap_of new ≡ heap_of old → HeapMoves old (resizing keeps number size) (Refused refusal) new
+moves_refused true old number size refusal new same = same
+moves_refused false old number size refusal new same = same
+
+pub returns-in-Err-clause-heap : goal.returns-in-Err-clause-heap
+returns-in-Err-clause-heap c =
+    let new : NumberedHeap = record { alloc = c.args.self.now.alloc; heap = c.resize.new.heap; blocks = c.args.self.now.blocks; list = c.reserve.new.self } in
+    IfOk-weaker c.refused_by.result _ _
+    (λ answer given. subst (λ (a : Answer). HeapMoves c.args.self.now (resizing c.args.keeps_alignment c.args.number c.args.size) a.reply new) (sym given.2)
+    (moves_refused c.args.keeps_alignment c.args.self.now c.args.number c.args.size given.0 new c.in-Err.ensures.err.same.state))
+    c.refused_by.ensures.ok
+
+pub returns-in-Err-clause-heap_err : goal.returns-in-Err-clause-heap_err
+returns-in-Err-clause-heap_err c = on_err_weaker c.refused_by.result (λ none. c.in-Err.ensures.err.same.state) c.refused_by.ensures.err

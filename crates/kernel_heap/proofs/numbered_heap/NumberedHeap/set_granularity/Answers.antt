@@ -19,6 +19,6 @@ pub returns-clause-ok : goal.returns-clause-ok
 returns-clause-ok c = λ top s good stands.
     let is = c.set_granularity.ensures in
     let accepted = c.set_granularity.result in
-    subst (λ (m : Seen). IsStep s (SetGranularity c.args.granularity) (record { reply = Accepted accepted; regions = None }) m)
+    subst (λ (m : Seen). IsStep s (SetGranularity c.args.granularity) (record { reply = Accepted accepted; regions = None; large = None }) m)
     (sym (seen_set c.args.self.now.heap c.set_granularity.new.self c.args.self.now.blocks.items is.system top (if accepted then c.args.granularity else c.args.self.now.heap.granularity) (ap (λ (h : HeapState). h.granularity) is.state)))
     (step_granularity (seen_with top c.args.self.now) s c.args.granularity accepted good stands is.answer)

@@ -17,6 +17,6 @@ returns-clause-sound c =
 pub returns-clause-ok : goal.returns-clause-ok
 returns-clause-ok c = λ top s good stands.
     let is = c.set_max_release_check_rate.ensures in
-    subst (λ (m : Seen). IsStep s (SetRate c.args.rate) (record { reply = Done; regions = None }) m)
+    subst (λ (m : Seen). IsStep s (SetRate c.args.rate) (record { reply = Done; regions = None; large = None }) m)
     (sym (seen_set c.args.self.now.heap c.set_max_release_check_rate.new.self c.args.self.now.blocks.items is.system top c.args.self.now.heap.granularity (ap (λ (h : HeapState). h.granularity) is.state)))
     (step_rate (seen_with top c.args.self.now) s c.args.rate good stands)

@@ -21,8 +21,8 @@ returns-clause-ok c = λ top s good stands.
     rw (c.is_some.ensures, c.changed_regions-regions.ensures.heap, c.changed_regions-regions.ensures.blocks)
     (step_trimmed c.args.self.now.heap c.trim.new.heap c.args.self.now.blocks.items c.args.pad c.trim.result c.requires.sound c.trim.ensures.trimmed c.trim.ensures.placed_before c.trim.ensures.placed
     s good stands c.changed_regions-regions.result
-    (λ joins few. c.changed_regions-regions.ensures.same (joins ∙ sym c.marks-before.ensures.joins) (few ∙ sym c.marks-before.ensures.free))
-    (λ other. c.changed_regions-regions.ensures.other (λ joins few. other (joins ∙ c.marks-before.ensures.joins) (few ∙ c.marks-before.ensures.free))))
+    (λ joins few. c.changed_regions-regions.ensures.same (joins ∙ sym c.marks-before.ensures.joins) (few ∙ sym c.marks-before.ensures.pageless))
+    (λ other. c.changed_regions-regions.ensures.other (λ joins few. other (joins ∙ c.marks-before.ensures.joins) (few ∙ c.marks-before.ensures.pageless))))
 
 pub returns-clause-heap : goal.returns-clause-heap
 returns-clause-heap c = rw c.changed_regions-regions.ensures.heap c.trim.ensures.trimmed.state

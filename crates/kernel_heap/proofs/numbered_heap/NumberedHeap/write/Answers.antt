@@ -1,7 +1,10 @@
-use Rattle.std.proofs.Common.{length, refl, subst, sym}
+use Rattle.std.proofs.Common.{◌∙◌, length, refl, subst, sym}
 use Rattle.kernel_heap.specs.System.{paged}
 use Rattle.kernel_heap.specs.Written.{AreInside, IsWritten}
-use Rattle.kernel_heap.proofs.BlockBytes.{bytes_inside, heap_written, laid_written, step_written}
+use Rattle.kernel_heap.proofs.BlockBytes.{bytes_inside, heap_written, laid_written, refuse_same, step_written}
+use Rattle.heap_model.specs.declared.call.Call.TheVariants.{Write}
+use Rattle.kernel_heap.specs.Machine.{seen_with}
+use Rattle.kernel_heap.proofs.Refused.{step_refused}
 use Rattle.kernel_heap.proofs.numbered_heap.NumberedHeap.write.Goals as goal
 
 pub write_bytes-requires : goal.write_bytes-requires
@@ -27,3 +30,8 @@ returns-in-Ok-clause-heap c =
     c.write_bytes.new.self c.args.bytes.now refl
     (subst (λ system. IsWritten (paged system) (paged c.write_bytes.new.self) c.in-Ok.address c.args.bytes.now (length c.args.bytes.now)) c.allocator_mut.ensures.value c.write_bytes.ensures)
     c.rests_outside.ensures
+
+pub returns-in-Err-clause-ok : goal.returns-in-Err-clause-ok
+returns-in-Err-clause-ok c = λ top s good stands.
+    rw c.refused.ensures (step_refused (seen_with top c.args.self.now) s (Write c.args.number c.args.offset c.args.bytes.now) c.in-Err.refusal
+    (refuse_same (seen_with top c.args.self.now) s c.args.number c.args.offset (length c.args.bytes.now) stands ∙ c.in-Err.ensures.err) good stands)

@@ -1,12 +1,13 @@
-use Rattle.std.proofs.Common.{◌≡◌, ℕ, ◌+◌, ◌*◌, ◌++◌, length, take, drop, ◌∙◌, subst, arith}
+use Rattle.std.proofs.Common.{◌≡◌, ℕ, ◌+◌, ◌*◌, ◌<◌, ◌≤◌, ◌++◌, length, take, drop, ◌∙◌, ap, sym, subst, arith}
 use Rattle.std.proofs.lemmas.List.{length-take-le}
 use Rattle.std.proofs.Math.Seq.{take-append_seam}
 use Rattle.heap_memory.specs.Words.{AreCopied}
 use Rattle.mapped_regions.specs.Mapped.{word_reached}
 use Rattle.kernel_heap.specs.System.{paged}
 use Rattle.kernel_heap.specs.Words.{grants_of}
-use Rattle.kernel_heap.specs.Written.{ArePut}
+use Rattle.kernel_heap.specs.Written.{AreInPage, ArePut}
 use Rattle.kernel_heap.specs.Follows.{still_on}
+use Rattle.kernel_heap.proofs.StillRuns.{in_page}
 use Rattle.kernel_heap.proofs.WordRuns.{copied_on, put_since}
 use Rattle.kernel_heap.proofs.paged_system.PagedSystem.copy_words.Goals as goal
 
@@ -32,3 +33,29 @@ loop-done-preserved c =
           c.loop-done.invariant.1),
       omega (arith, inner, few, less),
     )
+
+pub words-requires : goal.words-requires
+words-requires c =
+    let n = c.run_of-run.result in
+    let inner = c.run_of.ensures.few in
+    let few = c.run_of-run.ensures.few in
+    let short = c.run_of-run.ensures.short in
+    let less = c.loop-done-test.true in
+    let page = c.run_of.ensures.page in
+    subst (AreInPage (paged c.loop-done.self) (c.args.from + 8 * c.loop-done.done)) (sym (length-take-le n c.loop-done.words (omega (arith, short, c.run_of-run.array_long))))
+    (in_page (paged c.args.self.now) (paged c.loop-done.self) c.args.from c.args.count c.loop-done.done n c.loop-done.invariant.0 c.requires.from (omega (arith, inner, few, less))
+    (c.run_of-run.ensures.some (c.run_of.ensures.some (omega (arith, less)))) (omega (arith, page, few)))
+
+pub set_words-requires : goal.set_words-requires
+set_words-requires c =
+    let n = c.run_of-run.result in
+    let inner = c.run_of.ensures.few in
+    let few = c.run_of-run.ensures.few in
+    let short = c.run_of-run.ensures.short in
+    let less = c.loop-done-test.true in
+    let run = c.words.new.words in
+    let len : length run ≡ n = c.words.ensures.length ∙ length-take-le n c.loop-done.words (omega (arith, short, c.run_of-run.array_long)) in
+    let same : take n (run ++ drop n c.loop-done.words) ≡ run = subst (λ (j : ℕ). take j (run ++ drop n c.loop-done.words) ≡ run) len (take-append_seam run (drop n c.loop-done.words)) in
+    subst (AreInPage (paged c.loop-done.self) (c.args.to + 8 * c.loop-done.done)) (sym (ap length same ∙ len))
+    (in_page (paged c.args.self.now) (paged c.loop-done.self) c.args.to c.args.count c.loop-done.done n c.loop-done.invariant.0 c.requires.to (omega (arith, inner, few, less))
+    (c.run_of-run.ensures.some (c.run_of.ensures.some (omega (arith, less)))) c.run_of-run.ensures.page)

@@ -1,10 +1,12 @@
-use Rattle.std.proofs.Common.{◌≡◌, ◌+◌, ◌*◌, length, take, replicate, ◌∙◌, subst, arith}
+use Rattle.std.proofs.Common.{◌≡◌, ◌+◌, ◌*◌, ◌<◌, ◌≤◌, length, take, replicate, ◌∙◌, sym, subst, arith}
 use Rattle.std.proofs.lemmas.List.{length-take-le, length-replicate, get_or-take, get_or-replicate}
 use Rattle.heap_memory.specs.Words.{AreFilled}
 use Rattle.mapped_regions.specs.Mapped.{word_reached}
 use Rattle.kernel_heap.specs.System.{paged}
 use Rattle.kernel_heap.specs.Words.{grants_of}
 use Rattle.kernel_heap.specs.Follows.{still_on}
+use Rattle.kernel_heap.specs.Written.{AreInPage}
+use Rattle.kernel_heap.proofs.StillRuns.{in_page}
 use Rattle.kernel_heap.proofs.WordRuns.{filled_on, put_since}
 use Rattle.kernel_heap.proofs.paged_system.PagedSystem.fill_words.Goals as goal
 
@@ -27,3 +29,12 @@ loop-done-preserved c =
           c.loop-done.invariant.1),
       omega (arith, few, less),
     )
+
+pub set_words-requires : goal.set_words-requires
+set_words-requires c =
+    let n = c.run_of-run.result in
+    let few = c.run_of-run.ensures.few in
+    let short = c.run_of-run.ensures.short in
+    let less = c.loop-done-test.true in
+    subst (AreInPage (paged c.loop-done.self) (c.args.at + 8 * c.loop-done.done)) (sym (length-take-le n (replicate 64 c.args.value) (omega (arith, short, length-replicate 64 c.args.value))))
+    (in_page (paged c.args.self.now) (paged c.loop-done.self) c.args.at c.args.count c.loop-done.done n c.loop-done.invariant.0 c.requires (omega (arith, few, less)) (c.run_of-run.ensures.some (omega (arith, less))) c.run_of-run.ensures.page)

@@ -49,3 +49,13 @@ returns-clause-regions c = released_regions (paged c.args.self.now) (shown c.cut
 pub returns-clause-words : goal.returns-clause-words
 returns-clause-words c = released_words (paged c.args.self.now) (shown c.cut.new.self) c.args.at c.args.size c.args.left c.args.self.now.kept c.requires.run
     (below c.args.left c.args.size c.requires.within c.if-left-size.false) c.requires.in_pages c.cut.ensures
+
+pub returns-clause-released : goal.returns-clause-released
+returns-clause-released c = record {
+  run = c.requires.run;
+  within = c.requires.within;
+  in_pages = c.requires.in_pages;
+  gone = λ less. c.cut.ensures;
+  none = λ same. absurd (c.if-left-size.false same);
+  mapped = c.cut.new.self.mapped;
+}

@@ -1,66 +1,89 @@
 use Rattle.std.proofs.Common.{◌≡◌, ◌+◌, ◌-◌, ◌/◌, ◌%◌, ◌^◌, refl, ap, ◌∙◌, subst, sym, arith, None}
 use Rattle.paging_core.specs.Walk.{walk_of}
-use Rattle.paging_core.specs.Mapping.{IsRangeAdded}
 use Rattle.heap_model.specs.Machine.{Paged}
 use Rattle.heap_model.proofs.Regions.{within_bounds}
 use Rattle.mapped_regions.specs.Mapped.{IsJoined}
 use Rattle.mapped_regions.specs.Shown.{shown}
-use Rattle.mapped_regions.proofs.LastTables.{met_stay}
+use Rattle.mapped_regions.proofs.MetSlots.{met_stay}
+use Rattle.mapped_regions.proofs.FewerMissing.{missing_fewer}
 use Rattle.mapped_regions.proofs.Mapped.{unmapped, joined_mapped}
+use Rattle.mapped_regions.proofs.NewSlots.{none_behind, runs_used, by_address}
 use Rattle.mapped_regions.proofs.regions.MappedRegions.join.Goals as goal
-use Rattle.mapped_regions.proofs.regions.MappedRegions.join.Goals.{After-free_count}
+use Rattle.mapped_regions.proofs.regions.MappedRegions.join.Goals.{After-list_large}
 
-pub map_range-requires-clause-unmapped : goal.map_range-requires-clause-unmapped
-map_range-requires-clause-unmapped c = λ k less.
+pub map_pages-stop-requires-clause-unmapped : goal.map_pages-stop-requires-clause-unmapped
+map_pages-stop-requires-clause-unmapped c = λ k less.
     let first : c.containing_address.result ≡ c.args.region.start / 4096 = c.containing_address.ensures ∙ ap (λ a. a / 4096) c.new.ensures in
     subst (λ f. walk_of c.args.self.now.frames c.args.self.now.root (f + k) ≡ None) (sym first)
     (unmapped (shown c.args.self.now) c.args.region.start c.args.region.pages k c.args.self.now.mapped c.requires.can less)
 
+pub overflow_sub-self-2 : goal.overflow_sub-self-2
+overflow_sub-self-2 c =
+    let a = c.map_pages-stop.ensures.mapped in
+    let count = a.count in
+    let fewer = missing_fewer c.args.self.now.frames c.map_pages-stop.new.frames c.args.self.now.root a.pages_added.stayed c.containing_address.result c.args.region.pages in
+    let before = c.free_count-free.ensures in
+    let now = c.free_count.ensures in
+    omega arith
+
+pub list_large-requires-clause-rest : goal.list_large-requires-clause-rest
+list_large-requires-clause-rest c =
+    none_behind (shown c.args.self.now) c.map_pages-stop.new.frames c.map_pages-stop.new.pool c.args.region.start c.args.region.pages c.map_pages-stop.result c.args.region.rights
+    c.args.self.now.mapped c.requires.can (by_address c.args.self.now.frames c.map_pages-stop.new.frames c.args.self.now.pool c.map_pages-stop.new.pool c.args.self.now.root c.containing_address.result c.args.region.start c.args.region.pages c.map_pages-stop.result c.args.region.rights
+    (c.containing_address.ensures ∙ ap (λ a. a / 4096) c.new.ensures) c.map_pages-stop.ensures.mapped)
+
 -- what is seen after the region joined
-abbrev after : After-free_count → Paged
+abbrev after : After-list_large → Paged
 after c = record {
   base = c.args.self.now.base;
   pages = c.args.self.now.pages;
-  words = c.map_range.new.frames;
+  words = c.map_pages-stop.new.frames;
   root = c.args.self.now.root;
-  free = c.map_range.new.pool;
+  free = c.map_pages-stop.new.pool;
   tables = c.args.self.now.tables + (c.free_count-free.result - c.args.region.pages - c.free_count.result);
   joins = (c.args.self.now.joins + 1) % 2 ^ 64;
   regions = c.add.new.self;
+  slots = c.list_large.new.slots.items;
 }
 
-joined : (c : After-free_count) → IsJoined (shown c.args.self.now) (after c) c.args.region
+joined : (c : After-list_large) → IsJoined (shown c.args.self.now) (after c) c.args.region
 joined c =
-    let first : c.containing_address.result ≡ c.args.region.start / 4096 = c.containing_address.ensures ∙ ap (λ a. a / 4096) c.new.ensures in
-    let added : IsRangeAdded c.args.self.now.frames c.map_range.new.frames c.args.self.now.pool c.map_range.new.pool c.args.self.now.root (c.args.region.start / 4096) c.args.region.pages c.args.region.rights =
-    subst (λ f. IsRangeAdded c.args.self.now.frames c.map_range.new.frames c.args.self.now.pool c.map_range.new.pool c.args.self.now.root f c.args.region.pages c.args.region.rights) first
-    c.map_range.ensures.added in
-    let count = added.count in
+    let a = by_address c.args.self.now.frames c.map_pages-stop.new.frames c.args.self.now.pool c.map_pages-stop.new.pool c.args.self.now.root c.containing_address.result c.args.region.start c.args.region.pages c.map_pages-stop.result c.args.region.rights
+    (c.containing_address.ensures ∙ ap (λ a. a / 4096) c.new.ensures) c.map_pages-stop.ensures.mapped in
+    let count = a.count in
+    let fewer = missing_fewer c.args.self.now.frames c.map_pages-stop.new.frames c.args.self.now.root a.pages_added.stayed (c.args.region.start / 4096) c.args.region.pages in
     let before = c.free_count-free.ensures in
     let now = c.free_count.ensures in
     let whole = c.requires.can.range.0 in
     record {
-      base = refl;
-      pages = refl;
-      root = refl;
       regions = c.in_ok-add.ensures.ok;
-      tables = omega arith;
       joins = refl;
-      added = added;
+      added = record {
+        base = refl;
+        pages_is = refl;
+        root = refl;
+        stop = c.map_pages-stop.result;
+        added = a;
+        tables = omega arith;
+        slots = c.list_large.ensures;
+      };
+      runs = runs_used c.args.self.now.frames c.map_pages-stop.new.frames c.args.self.now.pool c.map_pages-stop.new.pool c.args.self.now.root c.args.region.start c.args.region.pages c.map_pages-stop.result c.args.region.rights whole a;
       zeros = λ address here. (
           let bounds = within_bounds address c.args.region here in
-          c.map_range.ensures.zeros address (address / 4096 - c.args.region.start / 4096) (omega (arith, bounds.0, bounds.1)) (omega (arith, bounds.0, bounds.1)));
-      bytes = c.map_range.ensures.bytes;
+          c.map_pages-stop.ensures.zeros address (address / 4096 - c.args.region.start / 4096) (omega (arith, bounds.0, bounds.1)) (omega (arith, bounds.0, bounds.1)));
+      bytes = c.map_pages-stop.ensures.bytes;
     }
 
 pub invariant_of-self-2 : goal.invariant_of-self-2
 invariant_of-self-2 c =
     let first : c.containing_address.result ≡ c.args.region.start / 4096 = c.containing_address.ensures ∙ ap (λ a. a / 4096) c.new.ensures in
+    let pages = c.map_pages-stop.ensures.mapped.pages_added in
     record {
-      met = met_stay c.args.self.now.frames c.map_range.new.frames c.args.self.now.root c.args.self.now.last_tables (λ number at is. c.map_range.ensures.added.stayed 3 number at (omega arith) is) c.args.self.now.met;
+      met = met_stay c.args.self.now.frames c.map_pages-stop.new.frames c.args.self.now.root c.args.self.now.met_slots (λ number at is. pages.stayed 3 number at (omega arith) is)
+          pages.large_stayed c.args.self.now.met;
       mapped = joined_mapped (shown c.args.self.now) (after c) c.args.region c.args.self.now.mapped c.requires.region c.requires.can (joined c) c.in_ok-add.ensures.put
-          (λ other canonical apart. c.map_range.ensures.elsewhere other canonical (λ k less e. apart k less (e ∙ ap (λ f. f + k) first)));
+          (λ other canonical apart. c.map_pages-stop.ensures.elsewhere other canonical (λ k less e. apart k less (e ∙ ap (λ f. f + k) first)));
     }
 
 pub returns-clause-ok : goal.returns-clause-ok
-returns-clause-ok c = joined (goal.at.returns-clause-ok c).After-free_count
+returns-clause-ok c = joined (goal.at.returns-clause-ok c).After-list_large

@@ -1,11 +1,20 @@
-use Rattle.std.proofs.Common.{◌≡◌, ◌+◌, ◌/◌, ap, ◌∙◌, subst, sym, arith, IsSome}
+use Rattle.std.proofs.Common.{◌≡◌, ◌+◌, ◌/◌, ◌^◌, ap, ◌∙◌, subst, sym, arith, IsSome}
+use Rattle.std.specs.List.{AllByRecursion}
 use Rattle.paging_core.specs.Address.{IsCanonicalRange}
 use Rattle.paging_core.specs.Walk.{walk_of}
+use Rattle.page_ranges.specs.RangeUnmapping.{NoLargePageReachesOver}
+use Rattle.page_ranges.proofs.Unmapped.{cut_none}
+use Rattle.heap_model.specs.State.{total_pages}
+use Rattle.heap_model.specs.Slots.{is_whole_in}
 use Rattle.heap_model.specs.Machine.{Paged}
+use Rattle.heap_model.proofs.Regions.{pages_without, all_without}
+use Rattle.mapped_regions.specs.Mapped.{IsRegion, IsLeft}
 use Rattle.mapped_regions.specs.Shown.{shown}
-use Rattle.mapped_regions.proofs.LastTables.{met_stay}
-use Rattle.mapped_regions.proofs.Mapped.{mapped, is_left, left_mapped, listed_range, range_canonical, range_ends_at}
+use Rattle.mapped_regions.proofs.MetSlots.{tables_stay}
+use Rattle.mapped_regions.proofs.Ends.{listed_ends, listed_starts, none_over, no_cut, whole_without}
+use Rattle.mapped_regions.proofs.Mapped.{mapped, pages_gone, fewer_mapped, listed_range, range_canonical, range_ends_at}
 use Rattle.mapped_regions.proofs.regions.MappedRegions.leave.Goals as goal
+use Rattle.mapped_regions.proofs.regions.MappedRegions.leave.Goals.{After-forget_large_pages}
 
 pub remove-requires-clause-at_page : goal.remove-requires-clause-at_page
 remove-requires-clause-at_page c = (listed_range (shown c.args.self.now) c.args.region.now.start c.args.region.now.pages c.args.self.now.mapped c.requires.there).0
@@ -18,34 +27,60 @@ pub new-requires : goal.new-requires
 new-requires c =
     range_canonical c.args.region.now.start c.args.region.now.pages (listed_range (shown c.args.self.now) c.args.region.now.start c.args.region.now.pages c.args.self.now.mapped c.requires.there)
 
-pub unmap_range-requires-clause-range : goal.unmap_range-requires-clause-range
-unmap_range-requires-clause-range c =
+pub unmap_pages-requires-clause-range : goal.unmap_pages-requires-clause-range
+unmap_pages-requires-clause-range c =
     let first : c.containing_address.result ≡ c.args.region.now.start / 4096 = c.containing_address.ensures ∙ ap (λ a. a / 4096) c.new.ensures in
     subst (λ f. IsCanonicalRange f c.args.region.now.pages) (sym first) (listed_range (shown c.args.self.now) c.args.region.now.start c.args.region.now.pages c.args.self.now.mapped c.requires.there).1
 
-pub unmap_range-requires-clause-mapped : goal.unmap_range-requires-clause-mapped
-unmap_range-requires-clause-mapped c = λ k less.
+pub unmap_pages-requires-clause-mapped : goal.unmap_pages-requires-clause-mapped
+unmap_pages-requires-clause-mapped c = λ k less.
     let first : c.containing_address.result ≡ c.args.region.now.start / 4096 = c.containing_address.ensures ∙ ap (λ a. a / 4096) c.new.ensures in
     let range = listed_range (shown c.args.self.now) c.args.region.now.start c.args.region.now.pages c.args.self.now.mapped c.requires.there in
     subst (λ f. IsSome (walk_of c.args.self.now.frames c.args.self.now.root (f + k))) (sym first)
     (mapped (shown c.args.self.now) c.args.region.now.start c.args.region.now.pages k c.args.self.now.mapped range c.requires.there less)
 
+pub unmap_pages-requires-clause-ends : goal.unmap_pages-requires-clause-ends
+unmap_pages-requires-clause-ends c =
+    let first : c.containing_address.result ≡ c.args.region.now.start / 4096 = c.containing_address.ensures ∙ ap (λ a. a / 4096) c.new.ensures in
+    let range = listed_range (shown c.args.self.now) c.args.region.now.start c.args.region.now.pages c.args.self.now.mapped c.requires.there in
+    subst (λ f. NoLargePageReachesOver c.args.self.now.frames c.args.self.now.root f c.args.region.now.pages) (sym first)
+    (none_over (shown c.args.self.now) c.args.region.now.start c.args.region.now.pages c.args.self.now.mapped range
+    (listed_ends c.args.region.now.start c.args.region.now.pages 0 (2 ^ 64) (shown c.args.self.now).regions c.count.ensures.laid c.requires.there))
+
+-- what is seen after the region left
+abbrev after : After-forget_large_pages → Paged
+after c = record (shown c.args.self.now) { words = c.unmap_pages.new.frames; free = c.unmap_pages.new.pool; regions = c.remove.new.self }
+
+left : (c : After-forget_large_pages) → IsLeft (shown c.args.self.now) (after c) c.args.region.now.start c.args.region.now.pages
+left c =
+    let first : c.containing_address.result ≡ c.args.region.now.start / 4096 = c.containing_address.ensures ∙ ap (λ a. a / 4096) c.new.ensures in
+    let range = listed_range (shown c.args.self.now) c.args.region.now.start c.args.region.now.pages c.args.self.now.mapped c.requires.there in
+    let whole = no_cut (shown c.args.self.now) c.args.region.now.start c.args.region.now.pages c.args.self.now.mapped range
+    (listed_starts c.args.region.now.start c.args.region.now.pages 0 (2 ^ 64) (shown c.args.self.now).regions c.count.ensures.laid c.requires.there) in
+    let none = cut_none c.args.self.now.frames c.args.self.now.root (c.args.region.now.start / 4096) whole in
+    record {
+      regions = c.remove.ensures.regions;
+      gone = pages_gone (shown c.args.self.now) c.unmap_pages.new.frames c.unmap_pages.new.pool c.remove.new.self c.args.self.now.tables c.containing_address.result c.args.region.now.start c.args.region.now.pages first
+          c.unmap_pages.ensures.unmapped c.unmap_pages.ensures.tree c.unmap_pages.ensures.gone c.unmap_pages.ensures.elsewhere c.unmap_pages.ensures.bytes (omega arith);
+      whole = whole;
+    }
+
 pub invariant_of-self : goal.invariant_of-self
 invariant_of-self c =
-    let first : c.containing_address.result ≡ c.args.region.now.start / 4096 = c.containing_address.ensures ∙ ap (λ a. a / 4096) c.new.ensures in
-    let old : Paged = shown c.args.self.now in
-    let new : Paged = record old { words = c.unmap_range.new.frames; free = c.unmap_range.new.pool; regions = c.remove.new.self } in
-    let left = is_left old new.words new.free new.regions c.containing_address.result c.args.region.now.start c.args.region.now.pages first c.remove.ensures.regions
-    c.unmap_range.ensures.freed c.unmap_range.ensures.tree c.unmap_range.ensures.count c.unmap_range.ensures.unmapped c.unmap_range.ensures.elsewhere c.unmap_range.ensures.bytes in
+    let l = left c in
+    let m = c.args.self.now.mapped in
+    let range = listed_range (shown c.args.self.now) c.args.region.now.start c.args.region.now.pages m c.requires.there in
     record {
-      met = met_stay c.args.self.now.frames c.unmap_range.new.frames c.args.self.now.root c.args.self.now.last_tables
-          (λ number at is. c.unmap_range.ensures.freed.removed.stayed 3 number (omega arith) (λ e. absurd (omega arith)) ∙ is) c.args.self.now.met;
-      mapped = left_mapped old new c.args.region.now.start c.args.region.now.pages c.args.self.now.mapped c.requires.there left (c.remove.ensures.taken c.requires.there)
-          (c.unmap_range.ensures.known c.args.self.now.mapped.known);
+      met = tables_stay c.args.self.now.frames c.unmap_pages.new.frames c.args.self.now.root c.forget_large_pages.new.self
+          (λ number at is. l.gone.gone.tables_stay 3 number (omega arith) (λ e same. l.whole) ∙ is) c.forget_large_pages.ensures.tables
+          (c.forget_large_pages.ensures.met c.args.self.now.frames c.args.self.now.root c.args.self.now.met);
+      mapped = fewer_mapped (shown c.args.self.now) (after c) c.args.region.now.start c.args.region.now.pages m range
+          (ap (λ rs. total_pages rs + c.args.region.now.pages) l.regions ∙ pages_without c.args.region.now.start c.args.region.now.pages (shown c.args.self.now).regions c.requires.there)
+          (subst (AllByRecursion (IsRegion (shown c.args.self.now).base (shown c.args.self.now).pages)) (sym l.regions)
+          (all_without (IsRegion (shown c.args.self.now).base (shown c.args.self.now).pages) c.args.region.now.start c.args.region.now.pages (shown c.args.self.now).regions m.regions))
+          l.gone (c.remove.ensures.taken c.requires.there) (c.unmap_pages.ensures.known m.known)
+          (λ slot is beside whole. ap (λ rs. is_whole_in rs slot) l.regions ∙ whole_without c.args.region.now.start c.args.region.now.pages slot (shown c.args.self.now).regions beside whole);
     }
 
 pub returns : goal.returns
-returns c =
-    is_left (shown c.args.self.now) c.unmap_range.new.frames c.unmap_range.new.pool c.remove.new.self c.containing_address.result c.args.region.now.start c.args.region.now.pages
-    (c.containing_address.ensures ∙ ap (λ a. a / 4096) c.new.ensures) c.remove.ensures.regions
-    c.unmap_range.ensures.freed c.unmap_range.ensures.tree c.unmap_range.ensures.count c.unmap_range.ensures.unmapped c.unmap_range.ensures.elsewhere c.unmap_range.ensures.bytes
+returns c = left (goal.at.returns c).After-forget_large_pages

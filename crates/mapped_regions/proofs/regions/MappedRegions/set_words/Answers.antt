@@ -1,8 +1,8 @@
 use Rattle.std.proofs.Common.{◌≡◌, ◌+◌, ◌-◌, ◌/◌, ◌%◌, Some, get_or, ap, ◌∙◌, inl, inr, arith}
 use Rattle.paging_core.specs.Memory.{byte_of}
-use Rattle.paging_core.proofs.PageWritten.{written_walks, written_tree, run_elsewhere, run_bytes, run_others}
+use Rattle.paging_core.proofs.PageWritten.{written_walks, written_larges, written_tree, run_elsewhere, run_bytes, run_others}
 use Rattle.mapped_regions.specs.Shown.{shown}
-use Rattle.mapped_regions.proofs.LastTables.{met_stay, frame_at, put_at, page_canonical}
+use Rattle.mapped_regions.proofs.MetSlots.{met_stay, frame_at, put_at, page_canonical}
 use Rattle.mapped_regions.proofs.Mapped.{stored_mapped}
 use Rattle.mapped_regions.proofs.regions.MappedRegions.set_words.Goals as goal
 
@@ -13,9 +13,10 @@ invariant_of-self c =
     let f = frame_at c.args.self.now.frames c.args.self.now.root c.args.at c.new.result c.containing_address-page.result c.frame_kept-frame.result c.containing_address-page.ensures c.new.ensures c.frame_kept-frame.ensures.frame in
     let put = put_at c.args.self.now.frames c.write_words.new.self c.args.self.now.root c.args.at c.word_index.result c.frame_kept-frame.result c.args.words.now f c.word_index.ensures.index c.write_words.ensures in
     let walks = written_walks c.args.self.now.frames c.write_words.new.self c.args.self.now.root (c.args.at / 4096) f.place free f.found put.size (run_elsewhere c.args.self.now.frames c.write_words.new.self c.args.self.now.root (c.args.at / 4096) (c.args.at % 4096 / 8) c.args.words.now f.place free f.found c.requires.fits put tree) tree in
+    let larges = written_larges c.args.self.now.frames c.write_words.new.self c.args.self.now.root (c.args.at / 4096) f.place free f.found put.size (run_elsewhere c.args.self.now.frames c.write_words.new.self c.args.self.now.root (c.args.at / 4096) (c.args.at % 4096 / 8) c.args.words.now f.place free f.found c.requires.fits put tree) tree in
     record {
-      met = met_stay c.args.self.now.frames c.write_words.new.self c.args.self.now.root c.frame_kept-frame.new.self (λ number met is. walks 3 number (omega arith) ∙ is) c.frame_kept-frame.ensures.met;
-      mapped = stored_mapped (shown c.args.self.now) c.write_words.new.self c.args.self.now.mapped put.size (written_tree c.args.self.now.frames c.write_words.new.self c.args.self.now.root (c.args.at / 4096) f.place free f.found put.size (run_elsewhere c.args.self.now.frames c.write_words.new.self c.args.self.now.root (c.args.at / 4096) (c.args.at % 4096 / 8) c.args.words.now f.place free f.found c.requires.fits put tree) tree) walks;
+      met = met_stay c.args.self.now.frames c.write_words.new.self c.args.self.now.root c.frame_kept-frame.new.self (λ number met is. walks 3 number (omega arith) ∙ is) (λ number large is. larges number ∙ is) c.frame_kept-frame.ensures.met;
+      mapped = stored_mapped (shown c.args.self.now) c.write_words.new.self c.args.self.now.mapped put.size (written_tree c.args.self.now.frames c.write_words.new.self c.args.self.now.root (c.args.at / 4096) f.place free f.found put.size (run_elsewhere c.args.self.now.frames c.write_words.new.self c.args.self.now.root (c.args.at / 4096) (c.args.at % 4096 / 8) c.args.words.now f.place free f.found c.requires.fits put tree) tree) walks larges;
     }
 
 pub returns-clause-walks : goal.returns-clause-walks
@@ -23,6 +24,12 @@ returns-clause-walks c = λ free tree.
     let f = frame_at c.args.self.now.frames c.args.self.now.root c.args.at c.new.result c.containing_address-page.result c.frame_kept-frame.result c.containing_address-page.ensures c.new.ensures c.frame_kept-frame.ensures.frame in
     let put = put_at c.args.self.now.frames c.write_words.new.self c.args.self.now.root c.args.at c.word_index.result c.frame_kept-frame.result c.args.words.now f c.word_index.ensures.index c.write_words.ensures in
     written_walks c.args.self.now.frames c.write_words.new.self c.args.self.now.root (c.args.at / 4096) f.place free f.found put.size (run_elsewhere c.args.self.now.frames c.write_words.new.self c.args.self.now.root (c.args.at / 4096) (c.args.at % 4096 / 8) c.args.words.now f.place free f.found c.requires.fits put tree) tree
+
+pub returns-clause-larges : goal.returns-clause-larges
+returns-clause-larges c = λ free tree.
+    let f = frame_at c.args.self.now.frames c.args.self.now.root c.args.at c.new.result c.containing_address-page.result c.frame_kept-frame.result c.containing_address-page.ensures c.new.ensures c.frame_kept-frame.ensures.frame in
+    let put = put_at c.args.self.now.frames c.write_words.new.self c.args.self.now.root c.args.at c.word_index.result c.frame_kept-frame.result c.args.words.now f c.word_index.ensures.index c.write_words.ensures in
+    written_larges c.args.self.now.frames c.write_words.new.self c.args.self.now.root (c.args.at / 4096) f.place free f.found put.size (run_elsewhere c.args.self.now.frames c.write_words.new.self c.args.self.now.root (c.args.at / 4096) (c.args.at % 4096 / 8) c.args.words.now f.place free f.found c.requires.fits put tree) tree
 
 pub returns-clause-tree : goal.returns-clause-tree
 returns-clause-tree c = λ free tree.

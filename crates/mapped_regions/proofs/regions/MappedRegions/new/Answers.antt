@@ -1,0 +1,35 @@
+use Rattle.std.proofs.Common.{◌≡◌, ◌*◌, ◌/◌, ap, ◌∙◌, sym, subst, length, true, List, Bool, option_map, arith}
+use Rattle.std.specs.List.{AllByRecursion}
+use Rattle.std.proofs.lemmas.List.{length-replicate}
+use Rattle.paging_core.specs.Memory.{frame_count}
+use Rattle.paging_core.specs.declared.page_table.Rights.{Rights}
+use Rattle.heap_model.specs.declared.region.Region.{Region}
+use Rattle.heap_model.specs.State.{total_pages}
+use Rattle.heap_model.specs.Machine.{rights_of}
+use Rattle.region_tree.specs.Regions.{kind_at}
+use Rattle.mapped_regions.specs.Mapped.{IsRegion}
+use Rattle.mapped_regions.proofs.Mapped.{none_large}
+use Rattle.mapped_regions.proofs.regions.MappedRegions.new.Goals as goal
+
+pub invariant_of-result : goal.invariant_of-result
+invariant_of-result c =
+    let size : frame_count c.make_root.new.frames ≡ c.args.frames = ap (λ n. n / 512) c.in-Some.ensures.size ∙ c.in_ok-memory.ensures.count in
+    let fits = c.ranges.frames.fits in
+    let free = c.in-Some.ensures.count in
+    let all = c.in_ok-pool.ensures.count in
+    let none : total_pages c.new-5.result ≡ 0 = ap total_pages c.new-5.ensures in
+    record {
+      met = c.new-3.ensures c.make_root.new.frames c.in-Some.root;
+      mapped = record {
+        window = c.requires.window;
+        tree = c.in-Some.ensures.tree;
+        known = c.in-Some.ensures.known;
+        flags = c.in-Some.ensures.flags ∙ (ap length c.in_ok-pool.ensures.free ∙ (length-replicate c.args.frames true ∙ sym size));
+        root_in = c.in-Some.ensures.below;
+        few_frames = omega arith;
+        count = omega arith;
+        regions = subst (AllByRecursion (IsRegion c.args.base c.args.pages)) (sym c.new-5.ensures) tt;
+        found = λ page canonical. ap (option_map rights_of) (c.in-Some.ensures.unmapped page) ∙ ap (λ (rs : List Region). option_map (λ (kind : Bool × Rights). kind.1) (kind_at rs (4096 * page))) (sym c.new-5.ensures);
+        larges = none_large c.make_root.new.frames c.in-Some.root c.new-5.result c.in-Some.ensures.no_large;
+      };
+    }

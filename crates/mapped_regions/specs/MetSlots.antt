@@ -1,0 +1,56 @@
+-- What maps the pages of slots, and of which slots it is kept: a slot goes by the first three indices of its pages, as one
+-- number in base 512 (own).
+use Rattle.std.specs.Prelude.{◌≡◌, ℕ, ◌^◌, ◌<◌, ⊤, List, Some}
+use Rattle.std.specs.Option.{option_map}
+use Rattle.std.specs.List.{All}
+use Rattle.std.proofs.Props.{props}
+use Rattle.paging_core.specs.Memory.{frame_count}
+use Rattle.paging_core.specs.Walk.{Place, reach, large_of, walk_of}
+use Rattle.mapped_regions.specs.declared.met_slots.SlotMap.{SlotMap}
+use Rattle.mapped_regions.specs.declared.met_slots.SlotMap.TheVariants as Map
+use Rattle.mapped_regions.specs.declared.met_slots.MetSlot.{MetSlot}
+use Rattle.mapped_regions.specs.declared.met_slots.MetSlots.{MetSlots}
+
+-- three steps of the walk arrive at the table
+abbrev pub IsTable : List ℕ → ℕ → ℕ → ℕ → Type 0
+IsTable words root number table = option_map (λ (place : Place). place.frame) (reach words root 3 number) ≡ Some table
+
+-- the walk ends after three steps, in the large page that begins at the frame
+abbrev pub IsLargePage : List ℕ → ℕ → ℕ → ℕ → Type 0
+IsLargePage words root number first = option_map (λ (place : Place). place.frame) (large_of words root number) ≡ Some first
+
+-- this maps the pages of the slot
+abbrev pub IsMapOf : List ℕ → ℕ → ℕ → SlotMap → Type 0
+IsMapOf words root number (Map.Table table) = IsTable words root number table
+IsMapOf words root number (Map.LargePage first) = IsLargePage words root number first
+
+-- what is kept of a slot maps its pages; 27 bits have the numbers of slots
+abbrev pub IsMet : List ℕ → ℕ → MetSlot → Type 0
+IsMet words root met = met.number < 2 ^ 27 → IsMapOf words root met.number met.map
+
+abbrev pub AreMet : List ℕ → ℕ → MetSlots → Type 0
+AreMet words root slots = All (IsMet words root) slots.met
+
+-- of the slot its table is kept, if anything is
+abbrev pub IsTableMap : SlotMap → Type 0
+IsTableMap (Map.Table table) = ⊤
+IsTableMap (Map.LargePage first) = ⊥
+
+abbrev pub KeepsNoLargePage : MetSlot → Type 0
+KeepsNoLargePage met = met.number < 2 ^ 27 → IsTableMap met.map
+
+-- the walk to the page arrives at the frame
+pub record IsFrameOf (words : List ℕ) (root page frame : ℕ) : Type 0 where
+  pub place : Place
+  pub found : walk_of words root page ≡ Some place
+  pub to_frame : place.frame ≡ frame
+  pub below : frame < frame_count words
+
+-- ---- this is kept in one way
+
+IsMapOf-prop : (words : List ℕ) (root number : ℕ) (map : SlotMap) → IsProp (IsMapOf words root number map)
+IsMapOf-prop words root number (Map.Table table) = hlevel props
+IsMapOf-prop words root number (Map.LargePage first) = hlevel props
+
+pub AreMet-prop : (words : List ℕ) (root : ℕ) (slots : MetSlots) → IsProp (AreMet words root slots)
+AreMet-prop words root slots = hlevel (props, IsMapOf-prop words root)

@@ -1,0 +1,10 @@
+pub mod Pieces
+pub mod PagesAdded
+pub mod RangeSteps
+pub mod SlotLoop
+pub mod GapLoop
+pub mod Unmapped
+pub mod UnmapSteps
+pub mod UnmapPieces
+pub mod Found
+pub mod Leaving

@@ -1,0 +1,249 @@
+-- What follows from pages that were unmapped, and a range that is unmapped in pieces.
+use Rattle.std.proofs.Common.{◌≡◌, ℕ, zero, suc, ◌+◌, ◌-◌, ◌*◌, ◌/◌, ◌%◌, ◌<◌, ◌≤◌, Bool, true, false, ◌&&◌, ◌==◌, is_some, List, Some, None, refl, sym, ap, ◌∙◌, ◌⊎◌, inl, inr, arith}
+use Rattle.std.specs.Prelude.{IsSome, IsTrue}
+use Rattle.std.proofs.lemmas.Bool.{cases_Bool, cases_eq, cases_lt}
+use Rattle.std.proofs.lemmas.Bool.Decides.{nat_tests}
+use Rattle.paging_core.specs.Address.{is_canonical, IsCanonicalRange}
+use Rattle.paging_core.specs.Memory.{word_at, frame_count}
+use Rattle.paging_core.specs.Prefix.{prefix_of}
+use Rattle.paging_core.specs.Pool.{is_free, FreeBelow}
+use Rattle.paging_core.specs.Walk.{Place, reach, large_of, walk_of, reached, page_in, top}
+use Rattle.paging_core.specs.Tree.{IsTree}
+use Rattle.paging_core.specs.PageChanges.{among}
+use Rattle.page_ranges.specs.RangeUnmapping.{is_cut, cut_tables, IsCutPage, AreUnmapped}
+use Rattle.paging_core.proofs.Prefixes.{walk_reach, prefix_parent}
+use Rattle.paging_core.proofs.Reach.{reach_in, table_none}
+use Rattle.paging_core.proofs.LastEntry.{some_or_none}
+use Rattle.paging_core.proofs.Made.{reach_below}
+use Rattle.paging_core.proofs.PageChanged.{some_place}
+use Rattle.paging_core.proofs.PageWritten.{same_byte}
+use Rattle.paging_core.proofs.Ranges.{page_in as range_page, page_canonical, same_number}
+use Rattle.page_ranges.proofs.Pieces.{at_page}
+
+-- ---- the pages of a range by their four indices
+
+pub among_is : (first pages n : ℕ) → prefix_of first 4 ≤ n → n < prefix_of first 4 + pages → among first pages n ≡ true
+among_is first pages n lo hi = grind (arith, nat_tests)
+
+pub among_from : (first pages n : ℕ) → among first pages n ≡ true → prefix_of first 4 ≤ n
+among_from first pages n is = grind (arith, nat_tests)
+
+pub among_to : (first pages n : ℕ) → among first pages n ≡ true → n < prefix_of first 4 + pages
+among_to first pages n is = grind (arith, nat_tests)
+
+pub among_not : (first pages n : ℕ) → (prefix_of first 4 ≤ n → n < prefix_of first 4 + pages → ⊥) → among first pages n ≡ false
+among_not first pages n ne = go (cases_Bool (among first pages n))
+  where
+    go : (among first pages n ≡ true) ⊎ (among first pages n ≡ false) → among first pages n ≡ false
+    go (inr x) = x
+    go (inl x) = absurd (ne (among_from first pages n x) (among_to first pages n x))
+
+-- whether a slot has a page of the range
+pub slot_in : (first pages n : ℕ) → IsCanonicalRange first pages →
+    ((k : ℕ) × ((k < pages) × (n ≡ prefix_of (first + k) 3))) ⊎ ((k : ℕ) → k < pages → n ≡ prefix_of (first + k) 3 → ⊥)
+slot_in first zero n range = absurd (let s = range.some in omega arith)
+slot_in first (suc more) n range = go (cases_lt n (prefix_of first 3)) (cases_lt (prefix_of (first + more) 3) n)
+  where
+    go : (n < prefix_of first 3) ⊎ (prefix_of first 3 ≤ n) → (prefix_of (first + more) 3 < n) ⊎ (n ≤ prefix_of (first + more) 3) →
+        ((k : ℕ) × ((k < suc more) × (n ≡ prefix_of (first + k) 3))) ⊎ ((k : ℕ) → k < suc more → n ≡ prefix_of (first + k) 3 → ⊥)
+    go (inl x) _ = inr (λ k lt e. let a = range_page first (suc more) k range lt in omega arith)
+    go _ (inl y) = inr (λ k lt e. let a = range_page first (suc more) k range lt in let b = range_page first (suc more) more range (omega arith) in omega arith)
+    go (inr x) (inr y) = inl (at_page first more 3 n range (omega arith) (omega arith) x y)
+
+-- ---- a page that is cut
+
+pub cut_is : (words : List ℕ) (root first : ℕ) (large : Place) → IsCutPage words root first large → is_cut words root first ≡ true
+cut_is words root first large it =
+    let b = it.behind in
+    let z : (first % 512 == 0) ≡ false = grind (arith, nat_tests) in
+    rw (it.there, z) refl
+
+-- there is none where the first page is mapped by a table
+pub no_cut_small : (words : List ℕ) (root first : ℕ) → large_of words root (prefix_of first 3) ≡ None → is_cut words root first ≡ false
+no_cut_small words root first e = rw e refl
+
+-- and none where the range begins with a slot
+pub no_cut_whole : (words : List ℕ) (root first : ℕ) → first % 512 ≡ 0 → is_cut words root first ≡ false
+no_cut_whole words root first e = rw e (go (is_some (large_of words root (prefix_of first 3))))
+  where
+    go : (b : Bool) → (b && false) ≡ false
+    go true = refl
+    go false = refl
+
+pub cut_none : (words : List ℕ) (root first : ℕ) → is_cut words root first ≡ false → cut_tables words root first ≡ 0
+cut_none words root first e = rw e refl
+
+pub cut_one : (words : List ℕ) (root first : ℕ) → is_cut words root first ≡ true → cut_tables words root first ≡ 1
+cut_one words root first e = rw e refl
+
+-- a range that is cut, or one that is not
+pub cut_or_not : (words : List ℕ) (root first : ℕ) → ((large : Place) × IsCutPage words root first large) ⊎ (is_cut words root first ≡ false)
+cut_or_not words root first = go (some_or_none (large_of words root (prefix_of first 3))) (cases_eq (first % 512) 0)
+  where
+    go : ((m : Place) × (large_of words root (prefix_of first 3) ≡ Some m)) ⊎ (large_of words root (prefix_of first 3) ≡ None) →
+        (first % 512 ≡ 0) ⊎ (first % 512 ≡ 0 → ⊥) → ((large : Place) × IsCutPage words root first large) ⊎ (is_cut words root first ≡ false)
+    go (inr none) _ = inr (no_cut_small words root first none)
+    go _ (inl e) = inr (no_cut_whole words root first e)
+    go (inl p) (inr ne) = inl (p.0, record { there = p.1; behind = omega arith })
+
+-- the page that was there at the frame of the new table: the first of the range
+pub cut_page : (words : List ℕ) (root first : ℕ) (large : Place) → IsCutPage words root first large →
+    reach words root 4 (prefix_of first 4) ≡ Some (page_in (first % 512) large)
+cut_page words root first large it =
+    let i : prefix_of first 4 % 512 ≡ first % 512 = omega arith in
+    reach_in words root (prefix_of first 4) large (ap (large_of words root) (prefix_parent first 3 (omega arith)) ∙ it.there)
+    ∙ ap (λ j. Some (page_in j large)) i
+
+-- ---- what follows
+
+module _ (old new : List ℕ) (free free' : List Bool) (root first pages : ℕ)
+    (some : 0 < pages)
+    (tree : IsTree old root free)
+    (a : AreUnmapped old new free free' root first pages) where
+  first_among : among first pages (prefix_of first 4) ≡ true
+  first_among = among_is first pages (prefix_of first 4) (omega arith) (omega arith)
+
+  -- the new table, at the frame of the first page
+  pub record IsNewTable (l n : ℕ) (met : Place) : Type 0 where
+    pub large : Place
+    pub cut : IsCutPage old root first large
+    pub at_three : l ≡ 3
+    pub of_slot : n ≡ prefix_of first 3
+    pub framed : met ≡ top (large.frame + first % 512)
+
+  -- any other place, that was there before
+  pub record IsOld (l n : ℕ) (met : Place) : Type 0 where
+    pub was : reach old root l n ≡ Some met
+    pub outside : l ≡ 4 → among first pages n ≡ false
+
+  pub ways : (l n : ℕ) (met : Place) → l ≤ 4 → reach new root l n ≡ Some met → IsNewTable l n met ⊎ IsOld l n met
+  ways l n met le is = go (cases_eq l 4) (cut_or_not old root first) (cases_eq l 3) (cases_eq n (prefix_of first 3))
+    where
+      stays : reach new root l n ≡ reach old root l n → (l ≡ 4 → among first pages n ≡ false) → IsNewTable l n met ⊎ IsOld l n met
+      stays e out = inr (record { was = sym e ∙ is; outside = out })
+
+      last : (among first pages n ≡ true) ⊎ (among first pages n ≡ false) → l ≡ 4 → IsNewTable l n met ⊎ IsOld l n met
+      last (inl x) e = let z = a.gone n x in let w : reach new root 4 n ≡ Some met = rw (← e) is in absurd (cc)
+      last (inr x) e = stays (rw e (a.pages_stay n x)) (λ _. x)
+
+      go : (l ≡ 4) ⊎ (l ≡ 4 → ⊥) → ((large : Place) × IsCutPage old root first large) ⊎ (is_cut old root first ≡ false) → (l ≡ 3) ⊎ (l ≡ 3 → ⊥) →
+          (n ≡ prefix_of first 3) ⊎ (n ≡ prefix_of first 3 → ⊥) → IsNewTable l n met ⊎ IsOld l n met
+      go (inl e) _ _ _ = last (cases_Bool (among first pages n)) e
+      go (inr ne) (inr whole) _ _ = stays (a.tables_stay l n (omega arith) (λ _ _. whole)) (λ e. absurd (ne e))
+      go (inr ne) _ (inr x) _ = stays (a.tables_stay l n (omega arith) (λ e _. absurd (x e))) (λ e. absurd (ne e))
+      go (inr ne) _ _ (inr x) = stays (a.tables_stay l n (omega arith) (λ _ e. absurd (x e))) (λ e. absurd (ne e))
+      go (inr ne) (inl cut) (inl e) (inl f) =
+          let t = a.table cut.0 cut.1 in
+          let w : reach new root 3 (prefix_of first 3) ≡ Some met = rw (← f) (ap (λ k. reach new root k n) (sym e) ∙ is) in
+          inl (record { large = cut.0; cut = cut.1; at_three = e; of_slot = f; framed = cc })
+
+  -- no place but the new table is at its frame
+  not_new : (l n k j : ℕ) (x y : Place) → k ≤ 4 → IsNewTable l n x → IsOld k j y → x.frame ≡ y.frame → ⊥
+  not_new l n k j x y le t o e =
+      let d = tree.distinct 4 (prefix_of first 4) k j (page_in (first % 512) t.large) y (omega arith) le (cut_page old root first t.large t.cut) o.was
+      (sym (ap (λ p. p.frame) t.framed) ∙ e) in
+      let out = o.outside (sym d.0) in
+      let is : among first pages j ≡ true = ap (among first pages) (sym d.1) ∙ first_among in
+      cc
+
+  same_place : (l n k j : ℕ) (x y : Place) → l ≤ 4 → k ≤ 4 → IsNewTable l n x ⊎ IsOld l n x → IsNewTable k j y ⊎ IsOld k j y → x.frame ≡ y.frame →
+      (l ≡ k) × (n ≡ j)
+  same_place l n k j x y ll lk (inl t) (inl u) e = (t.at_three ∙ sym u.at_three, t.of_slot ∙ sym u.of_slot)
+  same_place l n k j x y ll lk (inl t) (inr o) e = absurd (not_new l n k j x y lk t o e)
+  same_place l n k j x y ll lk (inr o) (inl t) e = absurd (not_new k j l n y x ll t o (sym e))
+  same_place l n k j x y ll lk (inr o) (inr q) e = tree.distinct l n k j x y ll lk o.was q.was e
+
+  -- an old place is at no frame of a page of the range
+  keeps_frame : (l n : ℕ) (met : Place) → l ≤ 4 → IsOld l n met → is_free free' met.frame ≡ is_free free met.frame
+  keeps_frame l n met le o = a.kept met.frame (λ m place g at e.
+      let d = tree.distinct 4 m l n place met (omega arith) le at o.was e in
+      let out = o.outside (sym d.0) in
+      let is : among first pages n ≡ true = ap (among first pages) (sym d.1) ∙ g in
+      cc)
+
+  pub unmapped_tree : IsTree new root free'
+  unmapped_tree = record {
+    rights = λ l n met lt is. rights_of l n met lt (ways l n met (omega arith) is);
+    distinct = λ l n k j x y ll lk is at e. same_place l n k j x y ll lk (ways l n x ll is) (ways k j y lk at) e;
+    used = λ l n met le is. used_of l n met le (ways l n met le is);
+  }
+    where
+      rights_of : (l n : ℕ) (met : Place) → l < 4 → IsNewTable l n met ⊎ IsOld l n met → met ≡ top met.frame
+      rights_of l n met lt (inl t) = t.framed ∙ ap top (sym (ap (λ p. p.frame) t.framed))
+      rights_of l n met lt (inr o) = tree.rights l n met lt o.was
+
+      used_of : (l n : ℕ) (met : Place) → l ≤ 4 → IsNewTable l n met ⊎ IsOld l n met → is_free free' met.frame ≡ false
+      used_of l n met le (inl t) = ap (is_free free') (ap (λ p. p.frame) t.framed) ∙ a.used t.large t.cut
+      used_of l n met le (inr o) = keeps_frame l n met le o ∙ tree.used l n met le o.was
+
+  -- a table that was there is met as before
+  pub unmapped_tables : (l n : ℕ) (met : Place) → l < 4 → reach old root l n ≡ Some met → reach new root l n ≡ Some met
+  unmapped_tables l n met lt is = a.tables_stay l n lt small ∙ is
+    where
+      small : l ≡ 3 → n ≡ prefix_of first 3 → is_cut old root first ≡ false
+      small e f = no_cut_small old root first (table_none old root (prefix_of first 3) met (ap (reach old root 3) (sym f) ∙ (ap (λ k. reach old root k n) (sym e) ∙ is)))
+
+  -- what is met at level 4 was met before
+  page_before : (n : ℕ) (met : Place) → reach new root 4 n ≡ Some met → (reach old root 4 n ≡ Some met) × (among first pages n ≡ false)
+  page_before n met is = go (cases_Bool (among first pages n))
+    where
+      go : (among first pages n ≡ true) ⊎ (among first pages n ≡ false) → (reach old root 4 n ≡ Some met) × (among first pages n ≡ false)
+      go (inl x) = let z = a.gone n x in absurd (cc)
+      go (inr x) = (sym (a.pages_stay n x) ∙ is, x)
+
+  -- the words of a page that is still mapped
+  pub unmapped_words : (n i : ℕ) (met : Place) → i < 512 → reach new root 4 n ≡ Some met → word_at new met.frame i ≡ word_at old met.frame i
+  unmapped_words n i met li is =
+      let p = page_before n met is in
+      a.entries.words met.frame i li
+      (λ m at. absurd (let d = tree.distinct 3 m 4 n (top met.frame) met (omega arith) (omega arith) at p.0 refl in omega (arith, d.0)))
+      (λ m at. absurd (let d = tree.distinct 2 m 4 n (top met.frame) met (omega arith) (omega arith) at p.0 refl in omega (arith, d.0)))
+      (λ large it e.
+      let d = tree.distinct 4 (prefix_of first 4) 4 n (page_in (first % 512) large) met (omega arith) (omega arith) (cut_page old root first large it) p.0 (sym e) in
+      let is : among first pages n ≡ true = ap (among first pages) (sym d.1) ∙ first_among in
+      let out = p.1 in
+      cc)
+
+  pub unmapped_bytes : (address : ℕ) → IsSome (walk_of new root (address / 4096)) → reached new root address ≡ reached old root address
+  unmapped_bytes address is =
+      let p = some_place (walk_of new root (address / 4096)) is in
+      let now : reach new root 4 (prefix_of (address / 4096) 4) ≡ Some p.0 = sym (walk_reach new root (address / 4096)) ∙ p.1 in
+      let q = page_before (prefix_of (address / 4096) 4) p.0 now in
+      same_byte old new root address p.0 p.0 (walk_reach old root (address / 4096) ∙ q.0) p.1 refl
+      (unmapped_words (prefix_of (address / 4096) 4) (address % 4096 / 8) p.0 (omega arith) now)
+
+  pub unmapped_known : root < frame_count old → FreeBelow free (frame_count old) → FreeBelow free' (frame_count new)
+  unmapped_known root_in known f is = go (cases_lt f (frame_count old))
+    where
+      go : (f < frame_count old) ⊎ (frame_count old ≤ f) → f < frame_count new
+      go (inl x) = let s = a.size in omega arith
+      go (inr x) =
+          let k = a.kept f (λ n p g at e. let b = reach_below old root 4 n p (omega arith) root_in at in absurd (omega arith)) in
+          let h = known f (sym k ∙ is) in absurd (omega arith)
+
+  module _ (range : IsCanonicalRange first pages) where
+    -- a large page that is there was there before
+    pub unmapped_large : (n : ℕ) (large : Place) → large_of new root n ≡ Some large → large_of old root n ≡ Some large
+    unmapped_large n large is = go (slot_in first pages n range)
+      where
+        go : ((k : ℕ) × ((k < pages) × (n ≡ prefix_of (first + k) 3))) ⊎ ((k : ℕ) → k < pages → n ≡ prefix_of (first + k) 3 → ⊥) →
+            large_of old root n ≡ Some large
+        go (inl k) = let z = a.large_gone k.0 k.1.0 in let w : large_of new root n ≡ None = ap (large_of new root) k.1.1 ∙ z in absurd (cc)
+        go (inr ne) = sym (a.larges_stay n ne) ∙ is
+
+    pub unmapped_gone : (k : ℕ) → k < pages → walk_of new root (first + k) ≡ None
+    unmapped_gone k lt =
+        let p = range_page first pages k range lt in
+        walk_reach new root (first + k) ∙ a.gone (prefix_of (first + k) 4) (among_is first pages (prefix_of (first + k) 4) (omega arith) (omega arith))
+
+    pub unmapped_elsewhere : (other : ℕ) → IsTrue (is_canonical (other * 4096)) → ((k : ℕ) → k < pages → other ≡ first + k → ⊥) →
+        walk_of new root other ≡ walk_of old root other
+    unmapped_elsewhere other canonical apart =
+        walk_reach new root other
+        ∙ (a.pages_stay (prefix_of other 4) (among_not first pages (prefix_of other 4) (λ lo hi.
+        let lk : prefix_of other 4 - prefix_of first 4 < pages = omega arith in
+        let p = range_page first pages (prefix_of other 4 - prefix_of first 4) range lk in
+        let h = page_canonical first pages (prefix_of other 4 - prefix_of first 4) range lk in
+        apart (prefix_of other 4 - prefix_of first 4) lk
+        (same_number other (first + (prefix_of other 4 - prefix_of first 4)) canonical h (omega arith))))
+        ∙ sym (walk_reach old root other))

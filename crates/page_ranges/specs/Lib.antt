@@ -1,0 +1,2 @@
+pub mod RangeMapping
+pub mod RangeUnmapping

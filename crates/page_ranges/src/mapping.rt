@@ -1,0 +1,91 @@
+ghost use Rattle.std.specs.Prelude.{◌≡◌, ℕ, ◌+◌, ◌-◌, ◌*◌, ◌/◌, ◌%◌, ◌^◌, ◌<◌, ◌≤◌, None, Some, IsSome, IsTrue, IsFalse};
+ghost use Rattle.paging_core.specs.Address.{is_canonical, IsCanonicalRange};
+ghost use Rattle.paging_core.specs.Memory.{frame_count};
+ghost use Rattle.paging_core.specs.Walk.{walk_of, reached, reach, large_of};
+ghost use Rattle.paging_core.specs.Pool.{free_count, FreeBelow};
+ghost use Rattle.paging_core.specs.Tree.{IsTree};
+ghost use Rattle.paging_core.specs.Missing.{missing_of};
+ghost use Rattle.paging_core.specs.Large.{slot_of};
+ghost use Rattle.page_ranges.specs.RangeMapping.{NoRunAt, AreSlotsAdded, IsRangeMapped};
+
+use crate::slots::slot_at;
+use paging_core::{
+    FramePool, Frames, Page, PhysFrame, Rights, has_table, large_page, map_range, map_slot,
+};
+
+/// Goes in ascending order through the slots that lie whole in the range and have no table, and maps each with the rights by
+/// one entry to the lowest run of frames that are all free, which is cleared. It stops where no such run is left.
+///
+/// The answer is the slot at which it stopped, or that after the last one: exactly the slots below it are mapped. The range lies
+/// in one canonical half, and none of its pages is mapped. The pool has the frames for the pages and for the missing tables.
+pub fn map_slots(
+    frames: &mut Frames,
+    pool: &mut FramePool,
+    root: PhysFrame,
+    first: Page,
+    pages: u64,
+    rights: Rights,
+) -> u64
+    requires root { root < frame_count frames.old }
+    requires known { FreeBelow pool.old (frame_count frames.old) }
+    requires tree { IsTree frames.old root pool.old }
+    requires range { IsCanonicalRange first pages }
+    requires unmapped { (k : ℕ) → k < pages → walk_of frames.old root (first + k) ≡ None }
+    requires room { pages + missing_of frames.old root first pages ≤ free_count pool.old }
+    ensures known { FreeBelow pool.new (frame_count frames.new) }
+    ensures stop { result ≤ (first + pages) / 512 }
+    ensures added { AreSlotsAdded frames.old frames.new pool.old pool.new root first pages result rights }
+    ensures full { NoRunAt frames.old pool.new root first pages result }
+{
+    let end = (first.number() + pages) / 512;
+    let start = first.number().div_ceil(512);
+    for slot in start..end {
+        let page = slot_at(first.after(512 * slot - first.number()));
+        if !has_table(frames, root, page) && !map_slot(frames, pool, root, page, rights) {
+            return slot;
+        }
+    }
+    end
+}
+
+/// Maps the pages from `first` on with the rights. The slots that lie whole in the range and have no table are mapped by one
+/// entry each, in ascending order, as long as a run of frames is free; then the other pages, by tables and single frames.
+/// All frames are cleared.
+///
+/// The answer is as that of `map_slots`. The range lies in one canonical half, and none of its pages is mapped. The pool has
+/// the frames for the pages and for the missing tables, counted as if no large page were used.
+pub fn map_pages(
+    frames: &mut Frames,
+    pool: &mut FramePool,
+    root: PhysFrame,
+    first: Page,
+    pages: u64,
+    rights: Rights,
+) -> u64
+    requires root { root < frame_count frames.old }
+    requires known { FreeBelow pool.old (frame_count frames.old) }
+    requires tree { IsTree frames.old root pool.old }
+    requires range { IsCanonicalRange first pages }
+    requires unmapped { (k : ℕ) → k < pages → walk_of frames.old root (first + k) ≡ None }
+    requires room { pages + missing_of frames.old root first pages ≤ free_count pool.old }
+    ensures known { FreeBelow pool.new (frame_count frames.new) }
+    ensures stop { result ≤ (first + pages) / 512 }
+    ensures mapped { IsRangeMapped frames.old frames.new pool.old pool.new root first pages result rights }
+
+    // No other page's walk is changed, and no byte of a page that was mapped; each byte of the range is 0.
+    ensures elsewhere { (other : ℕ) → IsTrue (is_canonical (other * 4096)) → ((k : ℕ) → k < pages → other ≡ first + k → ⊥) → walk_of frames.new root other ≡ walk_of frames.old root other }
+    ensures zeros { (address k : ℕ) → k < pages → address / 4096 ≡ first + k → reached frames.new root address ≡ Some 0 }
+    ensures bytes { (address : ℕ) → IsSome (walk_of frames.old root (address / 4096)) → reached frames.new root address ≡ reached frames.old root address }
+{
+    let stop = map_slots(frames, pool, root, first, pages, rights);
+    let mut done = 0;
+    while done < pages {
+        let page = first.after(done);
+        let count = (512 - page.number() % 512).min(pages - done);
+        if large_page(frames, root, slot_at(page)).is_none() {
+            map_range(frames, pool, root, page, count, rights);
+        }
+        done += count;
+    }
+    stop
+}

@@ -1,0 +1,270 @@
+ghost use Rattle.std.specs.Prelude.{◌≡◌, ℕ, ◌+◌, ◌*◌, ◌/◌, ◌%◌, ◌^◌, ◌<◌, ◌≤◌, ◌↔◌, IsSome, IfSome, IsTrue, List, Bool, None, Some, true, false, length, IsFalse};
+ghost use Rattle.std.specs.Option.{option_map};
+ghost use Rattle.paging_core.specs.Address.{is_canonical, IsCanonicalRange};
+ghost use Rattle.paging_core.specs.Memory.{frame_count, word_at};
+ghost use Rattle.paging_core.specs.Entry.{page_entry};
+ghost use Rattle.paging_core.specs.Walk.{Place, reach, large_of, walk_of, reached, place_of};
+ghost use Rattle.paging_core.specs.Pool.{is_free, free_count, FreeBelow, IsOut};
+ghost use Rattle.paging_core.specs.Runs.{IsRunFree};
+ghost use Rattle.paging_core.specs.Tree.{IsTree};
+ghost use Rattle.paging_core.specs.Missing.{missing_of};
+ghost use Rattle.paging_core.specs.Large.{slot_of, missing_above, IsSlotEmpty, IsLargeAdded, AreFramesCleared, IsSlotAdded, IsLargeEntry, IsLargeCleared, IsLargeRemoved, IsLargeCut};
+
+use crate::frame_allocator::{FrameAllocator, FrameDeallocator};
+use crate::memory::Frames;
+use crate::page_table::{PageTableEntry, Rights};
+use crate::page_walk::{Mapped, descend, large_at};
+use crate::pages::{Page, Size2MiB, index_after};
+use crate::phys_frames::PhysFrame;
+use crate::pool::FramePool;
+use crate::tables::ensure_tables;
+
+/// The first page of the slot.
+fn first_page(page: Page<Size2MiB>) -> Page
+    ensures { result ≡ 512 * page }
+{
+    Page::containing_address(page.start_address())
+}
+
+/// The first frame of the run.
+fn first_frame(frame: PhysFrame<Size2MiB>) -> PhysFrame
+    ensures first { result ≡ 512 * frame }
+    ensures fits { result + 512 ≤ 2 ^ 40 }
+{
+    let _fits = frame.number();
+    PhysFrame::containing_address(frame.start_address())
+}
+
+/// Maps the slot of the page to the run of frames with the rights, by one entry. The tables above it that are missing
+/// are made, each in a frame from the pool.
+///
+/// No page of the slot is mapped, and it has no table. The frames are neither free nor met by a walk. The pool has the
+/// frames for the missing tables.
+pub fn map_large(
+    frames: &mut Frames,
+    pool: &mut FramePool,
+    root: PhysFrame,
+    page: Page<Size2MiB>,
+    frame: PhysFrame<Size2MiB>,
+    rights: Rights,
+)
+    requires root { root < frame_count frames.old }
+    requires known { FreeBelow pool.old (frame_count frames.old) }
+    requires tree { IsTree frames.old root pool.old }
+    requires empty { IsSlotEmpty frames.old root page }
+    requires frame { 512 * frame + 511 < frame_count frames.old }
+    requires used { (k : ℕ) → k < 512 → is_free pool.old (512 * frame + k) ≡ false }
+    requires unmet { (k level number : ℕ) (met : Place) → k < 512 → level ≤ 4 → reach frames.old root level number ≡ Some met → met.frame ≡ 512 * frame + k → ⊥ }
+    requires room { missing_above frames.old root page ≤ free_count pool.old }
+    ensures tree { IsTree frames.new root pool.new }
+    ensures known { FreeBelow pool.new (frame_count frames.new) }
+    ensures elsewhere { (other : ℕ) → IsTrue (is_canonical (other * 4096)) → (other / 512 ≡ page → ⊥) → walk_of frames.new root other ≡ walk_of frames.old root other }
+    ensures bytes { (address : ℕ) → IsSome (walk_of frames.old root (address / 4096)) → reached frames.new root address ≡ reached frames.old root address }
+    ensures added { IsLargeAdded frames.old frames.new pool.old pool.new root page frame rights }
+
+    // A range of pages with the slot misses the tables above it no more. The slot's own counts as missing still.
+    ensures missing { (first pages : ℕ) → IsCanonicalRange first pages → first ≤ 512 * page → 512 * page + 512 ≤ first + pages →
+        missing_of frames.new root first pages + missing_above frames.old root page ≡ missing_of frames.old root first pages }
+{
+    let first = first_page(page);
+    let table = ensure_tables(frames, pool, root, first, 2);
+    let entry = PageTableEntry::to_large(first_frame(frame), rights);
+    frames.set_word(table, index_after(first, 2), entry.bits());
+}
+
+/// Makes the frames in a row 0.
+fn clear_frames(frames: &mut Frames, first: PhysFrame, count: u64)
+    requires inside { first + count ≤ frame_count frames.old }
+    requires bounded { first + count ≤ 2 ^ 40 }
+    ensures { AreFramesCleared frames.old frames.new first count }
+{
+    for step in 0..count {
+        frames.clear_frame(first.after(step));
+    }
+}
+
+/// Maps the slot with the rights to the lowest run of frames that are all free, which is cleared. False exactly where
+/// there is none; then nothing is changed.
+///
+/// No page of the slot is mapped, and it has no table. The pool has the frames of a run and for the missing tables.
+pub fn map_slot(
+    frames: &mut Frames,
+    pool: &mut FramePool,
+    root: PhysFrame,
+    page: Page<Size2MiB>,
+    rights: Rights,
+) -> bool
+    requires root { root < frame_count frames.old }
+    requires known { FreeBelow pool.old (frame_count frames.old) }
+    requires tree { IsTree frames.old root pool.old }
+    requires empty { IsSlotEmpty frames.old root page }
+    requires room { 512 + missing_above frames.old root page ≤ free_count pool.old }
+    ensures tree { IsTree frames.new root pool.new }
+    ensures known { FreeBelow pool.new (frame_count frames.new) }
+    ensures full { IsFalse result → ((run : ℕ) → IsRunFree pool.old run → ⊥) × (frames.new ≡ frames.old) × (pool.new ≡ pool.old) }
+    ensures added { IsTrue result → IsSlotAdded frames.old frames.new pool.old pool.new root page rights }
+
+    // A range of pages with the slot misses the tables above it no more. The slot's own counts as missing still.
+    ensures missing { IsTrue result → (first pages : ℕ) → IsCanonicalRange first pages → first ≤ 512 * page → 512 * page + 512 ≤ first + pages →
+        missing_of frames.new root first pages + missing_above frames.old root page ≡ missing_of frames.old root first pages }
+    ensures count { IsTrue result → free_count pool.new + 512 + missing_above frames.old root page ≡ free_count pool.old }
+
+    // No other page's walk is changed, and no byte of a page that was mapped; each byte of the slot is 0.
+    ensures elsewhere { (other : ℕ) → IsTrue (is_canonical (other * 4096)) → (other / 512 ≡ page → ⊥) → walk_of frames.new root other ≡ walk_of frames.old root other }
+    ensures zeros { IsTrue result → (address k : ℕ) → k < 512 → address / 4096 ≡ 512 * page + k → reached frames.new root address ≡ Some 0 }
+    ensures bytes { (address : ℕ) → IsSome (walk_of frames.old root (address / 4096)) → reached frames.new root address ≡ reached frames.old root address }
+{
+    let run: Option<PhysFrame<Size2MiB>> = pool.allocate_frame();
+    let Some(run) = run else {
+        return false;
+    };
+    clear_frames(frames, first_frame(run), 512);
+    map_large(frames, pool, root, page, run, rights);
+    true
+}
+
+/// The large page of the slot, by its first frame. None exactly where the slot is not mapped by one entry.
+pub fn large_page(frames: &Frames, root: PhysFrame, page: Page<Size2MiB>) -> Option<Mapped>
+    requires root { root < frame_count frames.now }
+    ensures { option_map place_of result ≡ large_of frames.now root (slot_of page) }
+{
+    let first = first_page(page);
+    let at = descend(frames, root, first, 2)?;
+    large_at(frames, at, index_after(first, 2))
+}
+
+/// Whether the slot has a table, whose entries map its pages.
+pub fn has_table(frames: &Frames, root: PhysFrame, page: Page<Size2MiB>) -> bool
+    requires root { root < frame_count frames.now }
+    ensures { IsTrue result ↔ IsSome (reach frames.now root 3 (slot_of page)) }
+{
+    descend(frames, root, first_page(page), 3).is_some()
+}
+
+/// The entry that maps a slot: its table, its index there, and the large page.
+#[derive(Clone, Copy)]
+struct LargeEntry {
+    table: PhysFrame,
+    index: u16,
+    large: Mapped,
+}
+
+/// The entry of the slot, which is mapped by one.
+fn large_entry(frames: &Frames, root: PhysFrame, page: Page<Size2MiB>) -> LargeEntry
+    requires root { root < frame_count frames.now }
+    requires large { IsSome (large_of frames.now root (slot_of page)) }
+    ensures entry { IsLargeEntry frames.now root page result.table result.index (place_of result.large) }
+    ensures table { result.table < frame_count frames.now }
+    ensures index { result.index < 512 }
+    ensures bounded { result.large.frame + 511 < 2 ^ 32 }
+    ensures canonical { IsTrue (is_canonical (512 * page * 4096)) }
+{
+    let first = first_page(page);
+    let Some(at) = descend(frames, root, first, 2) else {
+        unreachable!()
+    };
+    let table = at.frame;
+    let index = index_after(first, 2);
+    let Some(large) = large_at(frames, at, index) else {
+        unreachable!()
+    };
+    LargeEntry {
+        table,
+        index,
+        large,
+    }
+}
+
+/// Unmaps the slot of the page: its entry becomes 0, and no other word is changed. The answer is the run of frames to
+/// which the slot led.
+///
+/// The slot is mapped by one entry. The tables stay, and the frames are still out.
+pub fn unmap_large(
+    frames: &mut Frames,
+    root: PhysFrame,
+    page: Page<Size2MiB>,
+) -> PhysFrame<Size2MiB>
+    requires root { root < frame_count frames.old }
+    requires large { IsSome (large_of frames.old root (slot_of page)) }
+    ensures frame { IfSome (large_of frames.old root (slot_of page)) (λ large. 512 * result ≡ large.frame) }
+    ensures below { 512 * result + 511 < frame_count frames.new }
+    ensures cleared { IsLargeCleared frames.old frames.new root page }
+
+    // Where the tables are a tree they stay one, and no other page's walk is changed.
+    ensures tree { (free : List Bool) → IsTree frames.old root free → IsTree frames.new root free }
+    ensures bytes { (free : List Bool) → IsTree frames.old root free → (address : ℕ) → IsSome (walk_of frames.new root (address / 4096)) → reached frames.new root address ≡ reached frames.old root address }
+    ensures removed { (free : List Bool) → IsTree frames.old root free → IsLargeRemoved frames.old frames.new root page }
+    ensures elsewhere { (free : List Bool) → IsTree frames.old root free → (other : ℕ) → IsTrue (is_canonical (other * 4096)) → (other / 512 ≡ page → ⊥) → walk_of frames.new root other ≡ walk_of frames.old root other }
+{
+    let LargeEntry {
+        table,
+        index,
+        large,
+    } = large_entry(frames, root, page);
+    frames.set_word(table, index, 0);
+    PhysFrame::containing_address(large.frame.start_address())
+}
+
+/// Writes the entries of a table that map its first pages to frames in a row.
+fn fill_table(frames: &mut Frames, table: PhysFrame, first: PhysFrame, count: u16, rights: Rights)
+    requires table { table < frame_count frames.old }
+    requires count { count < 512 }
+    requires first { first + 511 < 2 ^ 32 }
+    ensures size { length frames.new ≡ length frames.old }
+    ensures filled { (k : ℕ) → k < count → word_at frames.new table k ≡ page_entry (first + k) rights }
+    ensures others { (f i : ℕ) → i < 512 → (f ≡ table → i < count → ⊥) → word_at frames.new f i ≡ word_at frames.old f i }
+{
+    for index in 0..count {
+        let entry = PageTableEntry::to_page(first.after(u64::from(index)), rights);
+        frames.set_word(table, index, entry.bits());
+    }
+}
+
+/// Gives frames in a row back.
+fn free_frames(pool: &mut FramePool, first: PhysFrame, count: u64)
+    requires first { first + count < 2 ^ 40 }
+    requires out { (k : ℕ) → k < count → IsOut pool.old (first + k) }
+    ensures flags { length pool.new ≡ length pool.old }
+    ensures given { (k : ℕ) → k < count → is_free pool.new (first + k) ≡ true }
+    ensures kept { (f : ℕ) → ((k : ℕ) → k < count → f ≡ first + k → ⊥) → is_free pool.new f ≡ is_free pool.old f }
+    ensures count { free_count pool.new ≡ free_count pool.old + count }
+{
+    for step in 0..count {
+        pool.deallocate_frame(first.after(step));
+    }
+}
+
+/// Cuts the large page of the slot: its first `keep` pages keep their frames and rights, by a table of single entries. The
+/// first frame given up becomes that table, and the others are free.
+///
+/// The slot is mapped by one entry, and its frames were handed out. At least one page is kept, and not all are.
+pub fn cut_large(
+    frames: &mut Frames,
+    pool: &mut FramePool,
+    root: PhysFrame,
+    page: Page<Size2MiB>,
+    keep: u16,
+)
+    requires root { root < frame_count frames.old }
+    requires flags { frame_count frames.old ≤ length pool.old }
+    requires tree { IsTree frames.old root pool.old }
+    requires large { IsSome (large_of frames.old root (slot_of page)) }
+    requires some { 0 < keep }
+    requires part { keep < 512 }
+    ensures tree { IsTree frames.new root pool.new }
+    ensures bytes { (address : ℕ) → IsSome (walk_of frames.new root (address / 4096)) → reached frames.new root address ≡ reached frames.old root address }
+    ensures cut { IsLargeCut frames.old frames.new pool.old pool.new root page keep }
+    ensures known { FreeBelow pool.old (frame_count frames.old) → FreeBelow pool.new (frame_count frames.new) }
+    ensures elsewhere { (other : ℕ) → IsTrue (is_canonical (other * 4096)) → (other / 512 ≡ page → ⊥) → walk_of frames.new root other ≡ walk_of frames.old root other }
+{
+    let LargeEntry {
+        table,
+        index,
+        large,
+    } = large_entry(frames, root, page);
+    let made = large.frame.after(u64::from(keep));
+    frames.clear_frame(made);
+    fill_table(frames, made, large.frame, keep, large.rights());
+    frames.set_word(table, index, PageTableEntry::to_table(made).bits());
+    free_frames(pool, made.after(1), 511 - u64::from(keep));
+}
