@@ -16,6 +16,8 @@ mod registers;
 #[cfg(test)]
 mod requests;
 #[cfg(test)]
+mod room;
+#[cfg(test)]
 mod settings;
 #[cfg(test)]
 mod streams;

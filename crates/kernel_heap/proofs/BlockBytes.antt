@@ -2,7 +2,6 @@
 use Rattle.std.proofs.Common.{◌≡◌, ℕ, suc, ◌+◌, ◌/◌, ◌%◌, ◌^◌, ◌<◌, ◌≤◌, inl, inr, nat_lt, true, false, List, [], ◌∷◌, length, refl, sym, ap, ◌∙◌, subst, arith, Option, Some, None, option_map}
 use Rattle.std.specs.Prelude.{slice_index}
 use Rattle.std.specs.List.{list_any}
-use Rattle.std.proofs.lemmas.Bool.Decides.{nat_tests}
 use Rattle.paging_core.specs.Memory.{word_at, byte_of}
 use Rattle.paging_core.specs.Walk.{Place, walk_of, reached}
 use Rattle.dlmalloc.specs.declared.heap.Dlmalloc.{Dlmalloc}

@@ -2,7 +2,6 @@
 use Rattle.std.proofs.Common.{◌≡◌, ◌≢◌, ℕ, ◌+◌, ◌-◌, ◌<◌, inl, inr, Bool, true, false, if◌then◌else◌, List, [], ◌∷◌, ◌++◌, slice_set, refl, sym, ap, ◌∙◌, subst, arith, IsTrue, Option, Some, None}
 use Rattle.std.specs.List.{list_any}
 use Rattle.paging_core.specs.Walk.{reached}
-use Rattle.heap_memory.specs.Events.{Event}
 use Rattle.dlmalloc.specs.Extents.{extent_at}
 use Rattle.dlmalloc.specs.State.{HeapState, Segment, extents_in}
 use Rattle.dlmalloc.specs.Freed.{freed}

@@ -1,11 +1,8 @@
 -- Where the first event of a trim keeps a part of a run, that part is the head segment that is left: so a slot that was cut has
 -- a byte of it still.
-use Rattle.std.proofs.Common.{◌≡◌, ℕ, ◌+◌, ◌-◌, ◌*◌, ◌^◌, ◌<◌, ◌≤◌, inl, inr, refl, Bool, true, false, if◌then◌else◌, List, [], ◌∷◌, ◌++◌, sym, ap, ◌∙◌, subst, arith, IsTrue, Option, Some}
+use Rattle.std.proofs.Common.{◌≡◌, ℕ, ◌+◌, ◌-◌, ◌^◌, ◌<◌, ◌≤◌, inl, inr, refl, Bool, true, false, if◌then◌else◌, List, [], ◌∷◌, ◌++◌, sym, ◌∙◌, subst, arith, IsTrue, Some}
 use Rattle.std.specs.List.{list_any}
-use Rattle.std.proofs.lemmas.Bool.Decides.{nat_tests}
-use Rattle.heap_memory.specs.declared.grant.Grant.{Grant}
-use Rattle.heap_memory.specs.Regions.{is_granted}
-use Rattle.heap_memory.specs.Events.{Event, Granted, Released}
+use Rattle.heap_memory.specs.Events.{Event, Released}
 use Rattle.dlmalloc.specs.State.{HeapState, Segment}
 use Rattle.dlmalloc.specs.Heap.{IsSound}
 use Rattle.dlmalloc.specs.Segments.{AreSegments}
@@ -14,7 +11,7 @@ use Rattle.dlmalloc.specs.Trimmed.{cut_of, shortened, takes_end, is_trimmed, tri
 use Rattle.dlmalloc.specs.AfterFree.{is_above_check, after_free, free_releases}
 use Rattle.dlmalloc.specs.declared.heap.Dlmalloc.{Dlmalloc}
 use Rattle.heap_model.specs.declared.region.Region.{Region}
-use Rattle.heap_model.specs.State.{end_of, is_within}
+use Rattle.heap_model.specs.State.{is_within}
 use Rattle.heap_model.specs.Place.{meets, meets_any}
 use Rattle.heap_model.specs.Machine.{Paged}
 use Rattle.heap_model.proofs.Booleans.{or_left, or_right, or_cases}
@@ -24,7 +21,7 @@ use Rattle.kernel_heap.specs.Words.{heap_regions}
 use Rattle.kernel_heap.specs.Heap.{regions, word, heap_state}
 use Rattle.kernel_heap.specs.declared.paged_system.PagedSystem.{PagedSystem}
 use Rattle.kernel_heap.proofs.HeapRegions.{granted_same, heap_any}
-use Rattle.kernel_heap.proofs.ReleasedRegions.{AreShortened, IsShortenedBy}
+use Rattle.kernel_heap.proofs.ReleasedRegions.{IsShortenedBy}
 
 -- the head segment of a heap has these bytes
 pub record IsHeadAt (heap : HeapState) (base size : ℕ) : Type 0 where

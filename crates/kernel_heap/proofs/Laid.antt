@@ -19,7 +19,7 @@ use Rattle.kernel_heap.specs.Beside.{IsBeside}
 use Rattle.kernel_heap.specs.Words.{heap_regions, grant_of, grants_of}
 use Rattle.kernel_heap.specs.System.{paged}
 use Rattle.kernel_heap.specs.Heap.{follows, refuses, denies, regions, word, heap_state, IsHeap, HasBins}
-use Rattle.dlmalloc.specs.Requested.{asked, IsFound, IsHandedOut}
+use Rattle.dlmalloc.specs.Requested.{asked, IsHandedOut}
 use Rattle.dlmalloc.specs.Moved.{IsGivenSize}
 use Rattle.dlmalloc.specs.AfterFree.{after_free, IsFreed}
 use Rattle.dlmalloc.specs.Served.{IsRefusedWith, regions_in, KeepsRegions, OnlyBlocksChange, RestsOutside}

@@ -19,6 +19,7 @@ pub mod HeapCalls
 pub mod BlockPlaces
 pub mod Full
 pub mod Refused
+pub mod WantOfRoom
 pub mod Found
 pub mod Handed
 pub mod Resized

@@ -26,7 +26,7 @@ use Rattle.heap_model.proofs.Settled.{cut_slots}
 use Rattle.heap_model.proofs.Slots.{page_slot, page_number, whole_bounds}
 use Rattle.region_tree.specs.Regions.{AreLaid, cut_of}
 use Rattle.region_tree.proofs.Laying.{laid_cut}
-use Rattle.mapped_regions.specs.Mapped.{IsMapped, AreGone}
+use Rattle.mapped_regions.specs.Mapped.{AreGone}
 use Rattle.mapped_regions.proofs.Looked.{first_canonical}
 use Rattle.kernel_heap.specs.Layout.{IsKept}
 use Rattle.kernel_heap.specs.Released.{IsReleasedFor}
@@ -34,7 +34,6 @@ use Rattle.kernel_heap.specs.Follows.{Follows, still_none}
 use Rattle.kernel_heap.specs.Words.{heap_regions, grant_of, grants_of}
 use Rattle.kernel_heap.proofs.HeapRegions.{granted_same, not_of_user}
 use Rattle.kernel_heap.proofs.Numbers.{is_less, not_less}
-use Rattle.kernel_heap.proofs.Releasing.{heap_grants}
 use Rattle.kernel_heap.proofs.ReleasedWords.{cut_range, kept_cut}
 use Rattle.kernel_heap.proofs.RunPages.{AreBeside, is_own, own_granted, none_of_user, begins, count_is, run_own}
 use Rattle.kernel_heap.proofs.Still.{kept_still}

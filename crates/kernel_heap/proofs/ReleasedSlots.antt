@@ -1,5 +1,5 @@
 -- Runs of the heap were given back: which slots one entry maps then, and which has got a table.
-use Rattle.std.proofs.Common.{◌≡◌, ℕ, ◌+◌, ◌-◌, ◌*◌, ◌/◌, ◌%◌, ◌^◌, ◌<◌, ◌≤◌, ◌⊎◌, inl, inr, ◌&&◌, ◌||◌, not, nat_eq, List, [], ◌∷◌, refl, sym, ap, ◌∙◌, subst, arith, Bool, true, false, IsTrue, Option, Some, None, option_map}
+use Rattle.std.proofs.Common.{◌≡◌, ℕ, ◌+◌, ◌-◌, ◌*◌, ◌/◌, ◌%◌, ◌^◌, ◌<◌, ◌≤◌, inl, inr, ◌&&◌, ◌||◌, not, nat_eq, List, [], ◌∷◌, refl, sym, ap, ◌∙◌, subst, arith, Bool, true, false, IsTrue, Option, Some, None}
 use Rattle.std.specs.Prelude.{IsSome}
 use Rattle.std.specs.List.{list_any, AllByRecursion}
 use Rattle.std.proofs.lemmas.Bool.{cases_lt}
@@ -7,14 +7,13 @@ use Rattle.std.proofs.lemmas.Bool.Decides.{nat_tests}
 use Rattle.paging_core.specs.Address.{is_canonical}
 use Rattle.paging_core.specs.Prefix.{prefix_of}
 use Rattle.paging_core.specs.Walk.{Place, reach, large_of, walk_of}
-use Rattle.paging_core.specs.declared.page_table.Rights.{Rights}
 use Rattle.paging_core.proofs.Prefixes.{walk_reach}
-use Rattle.paging_core.proofs.Reach.{large_none, table_none, either_way, ByEntry, InLarge}
+use Rattle.paging_core.proofs.Reach.{large_none, table_none, either_way}
 use Rattle.heap_model.specs.declared.region.Region.{Region}
 use Rattle.heap_model.specs.State.{end_of, is_within}
 use Rattle.heap_model.specs.Place.{meets, meets_any}
 use Rattle.heap_model.specs.Slots.{IsSlot, slot_number, has_whole, is_whole_in, is_part_in}
-use Rattle.heap_model.specs.Machine.{Paged, rights_of}
+use Rattle.heap_model.specs.Machine.{Paged}
 use Rattle.heap_model.proofs.Booleans.{or_left, or_right, or_cases}
 use Rattle.heap_model.proofs.Regions.{within}
 use Rattle.heap_model.proofs.Settled.{AreSettled}

@@ -9,7 +9,7 @@ use Rattle.heap_memory.specs.Runs.{IsRun, IsWithin, begins_in, without}
 use Rattle.heap_memory.specs.RunLaws.{granted_without, granted_before}
 use Rattle.paging_core.specs.Address.{is_canonical}
 use Rattle.paging_core.specs.Memory.{word_at}
-use Rattle.paging_core.specs.Walk.{Place, walk_of, top}
+use Rattle.paging_core.specs.Walk.{Place, walk_of}
 use Rattle.paging_core.specs.Tree.{IsTree}
 use Rattle.page_ranges.specs.RangeUnmapping.{AreUnmapped}
 use Rattle.page_ranges.proofs.Unmapped.{unmapped_words}

@@ -1,14 +1,13 @@
 -- The slots of the region that joined last are told: nothing that a state has is different then.
-use Rattle.std.proofs.Common.{◌≡◌, ℕ, ◌⊎◌, inl, inr, List, [], Option, Some, None, refl, sym, ap, ◌∙◌, subst}
+use Rattle.std.proofs.Common.{◌≡◌, ℕ, inl, inr, List, [], Option, Some, None, refl, sym, ap, ◌∙◌, subst}
 use Rattle.heap_model.specs.declared.call.Call.{Call}
 use Rattle.heap_model.specs.declared.answer.Answer.{Answer}
 use Rattle.heap_model.specs.State.{State}
 use Rattle.heap_model.specs.Answer.{NewPages}
-use Rattle.heap_model.specs.Machine.{Paged, Seen, IsStep}
+use Rattle.heap_model.specs.Machine.{Paged, IsStep}
 use Rattle.heap_model.proofs.Moved.{stands_taken}
 use Rattle.kernel_heap.specs.System.{paged}
-use Rattle.kernel_heap.specs.Heap.{heap_state}
-use Rattle.kernel_heap.specs.Machine.{system_of, seen_with, heap_of, AreRunsUsedFor, IsToldFrom}
+use Rattle.kernel_heap.specs.Machine.{system_of, seen_with, AreRunsUsedFor, IsToldFrom}
 use Rattle.kernel_heap.specs.declared.numbered_heap.NumberedHeap.{NumberedHeap}
 use Rattle.kernel_heap.proofs.Numbers.{same_or_other}
 

@@ -1,11 +1,13 @@
 -- What contracts see of a machine and of its numbered heap, and how that lays out its blocks.
-use Rattle.std.specs.Prelude.{◌≡◌, ◌≢◌, ℕ, ⊤, ◌+◌, ◌-◌, ◌%◌, ◌<◌, ◌≤◌, ◌⊎◌, Bool, true, false, List, [], map, slice_index_or, Option, Some, None, MatchOption, ◌&&◌, nat_lt, nat_le, if◌then◌else◌, IsTrue}
+use Rattle.std.specs.Prelude.{◌≡◌, ◌≢◌, ℕ, ⊤, ◌+◌, ◌-◌, ◌%◌, ◌<◌, ◌≤◌, ◌⊎◌, Bool, true, false, List, [], map, slice_index_or, Option, Some, None, MatchOption, not, ◌&&◌, nat_lt, nat_le, if◌then◌else◌, IsTrue}
 use Rattle.std.specs.Int.{IsPowerOfTwo}
 use Rattle.std.specs.List.{list_any, AllByRecursion}
 use Rattle.paging_core.specs.Walk.{reached}
 use Rattle.dlmalloc_chunks.specs.declared.extent.Extent.{Extent}
 use Rattle.dlmalloc_chunks.specs.declared.extent.Kind.TheVariants.{Used}
 use Rattle.dlmalloc.specs.Extents.{extent_at}
+use Rattle.dlmalloc.specs.Choice.{chosen}
+use Rattle.dlmalloc.specs.Requested.{asked, IsMemberServed}
 use Rattle.dlmalloc.specs.State.{HeapState, Segment, extents_in, extents_by_address, shown, new_heap, countdown_from}
 use Rattle.dlmalloc_chunks.specs.Request.{padded, enlarged}
 use Rattle.dlmalloc.specs.Blocks.{IsBlock}
@@ -25,7 +27,7 @@ use Rattle.heap_model.specs.declared.call.Call.{Call}
 use Rattle.heap_model.specs.declared.call.Call.TheVariants.{Malloc, Calloc, Realloc, CRealloc, Free, Probe, Trim, SetRate, SetGranularity, Reset, Extents}
 use Rattle.heap_model.specs.declared.answer.Answer.{Answer}
 use Rattle.heap_model.specs.declared.answer.Reply.{Reply}
-use Rattle.heap_model.specs.declared.answer.Reply.TheVariants.{Block as Placed, Done, Byte, Trimmed, Accepted, Released, Extents as Listed, Refused}
+use Rattle.heap_model.specs.declared.answer.Reply.TheVariants.{Block as Placed, Done, Bytes, Byte, Fault, Trimmed, Accepted, Released, Extents as Listed, Refused}
 use Rattle.heap_model.specs.declared.answer.Refusal.{Refusal}
 use Rattle.heap_model.specs.declared.answer.Refusal.TheVariants.{TooLarge as IsTooLarge, NoSpace as HasNoSpace, NoFrames as HasNoFrames, UnknownBlock, OutOfBlock, BadRange, HeapRegion, Overlap, UnknownRegion}
 use Rattle.heap_model.specs.State.{State}
@@ -38,7 +40,7 @@ use Rattle.mapped_regions.specs.declared.map_fault.UnmapFault.{UnmapFault}
 use Rattle.mapped_regions.specs.declared.map_fault.UnmapFault.TheVariants as Unmapping
 use Rattle.x86_registers.specs.Cr3.{root_of}
 use Rattle.kernel_heap.specs.System.{paged}
-use Rattle.kernel_heap.specs.Heap.{regions, follows, heap_state, IsHeap, HasBins}
+use Rattle.kernel_heap.specs.Heap.{regions, word, follows, heap_state, IsHeap, HasBins}
 use Rattle.kernel_heap.specs.declared.paged_system.PagedSystem.{PagedSystem}
 use Rattle.kernel_heap.specs.declared.numbered_heap.NumberedHeap.{NumberedHeap}
 use Rattle.kernel_heap.specs.Parts.{Parts}
@@ -140,6 +142,20 @@ refusal_of (System NoSpace) = Some HasNoSpace
 refusal_of (System NoFrames) = Some HasNoFrames
 refusal_of (System OutOfMemory) = None
 
+-- whether a refusal is for want of room: of addresses, or of frames
+abbrev pub is_for_room : Refusal → Bool
+is_for_room HasNoSpace = true
+is_for_room HasNoFrames = true
+is_for_room why = false
+
+-- a request is refused for want of room only if no extent of the heap is chosen for it
+abbrev pub HasNoneFor : HeapState → ℕ → ℕ → Refusal → Type 0
+HasNoneFor heap size align why = IsTrue (is_for_room why) → chosen heap (padded (asked size align)) ≡ None
+
+-- So a block is refused another size: no extent is chosen for it, and up to alignment 16 it cannot get that size where it stands.
+abbrev pub HasNoneBeside : HeapState → ℕ → ℕ → ℕ → Refusal → Type 0
+HasNoneBeside heap from size align why = HasNoneFor heap size align why × (IsTrue (is_for_room why) → align ≤ 16 → in_place heap (from - 16) (padded size) ≡ None)
+
 -- an answer is a refusal
 abbrev pub IsRefusal : Option Refusal → Answer → Type 0
 IsRefusal why answer = (refusal : Refusal) × (why ≡ Some refusal) × (answer ≡ record { reply = Refused refusal; regions = None; large = None })
@@ -212,12 +228,29 @@ AreRunsUsedFor old new (Some pages) = AreRunsUsed old new pages.start pages.page
 abbrev pub IsToldFrom : PagedSystem → PagedSystem → Type 0
 IsToldFrom before now = paged now ≡ record (paged before) { slots = (paged now).slots }
 
+-- Whether a reply tells that nothing was changed: the call was refused, or looked at bytes, at a byte or at the extents, or met a
+-- fault, or a setting was not accepted.
+abbrev pub leaves_all : Reply → Bool
+leaves_all (Refused why) = true
+leaves_all (Bytes bytes) = true
+leaves_all (Byte byte) = true
+leaves_all (Fault code) = true
+leaves_all (Listed list) = true
+leaves_all (Accepted accepted) = not accepted
+leaves_all reply = false
+
+-- Then the same is seen of a numbered heap as before, whatever frame is in CR3.
+abbrev pub IsSeenAsBefore : Reply → NumberedHeap → NumberedHeap → Type 0
+IsSeenAsBefore reply old new = IsTrue (leaves_all reply) → (top : ℕ) → seen_with top new ≡ seen_with top old
+
 -- How the state of the heap moves in a step: a block is cut, and may be cleared then, a block gets another size or is
 -- freed, memory that none needs goes back, a setting is another, the heap is a new one with the settings in force, and nothing
--- else changes it. The extents that are listed are the heap's.
+-- else changes it. A binned chunk for a block that is not cleared is the one that the bins' order names. Room is wanting only if the
+-- heap itself has none. The extents that are listed are the heap's.
 abbrev pub HeapMoves : NumberedHeap → Call → Reply → NumberedHeap → Type 0
 HeapMoves old (Malloc size align) (Placed number address) new =
     (system : PagedSystem) × IsToldFrom system (system_of new) × IsCutFor false (system_of old) (heap_of old) size align address system (heap_of new)
+    × IsMemberServed regions word old.heap size align address
 HeapMoves old (Calloc size align) (Placed number address) new =
     (system : PagedSystem) × IsToldFrom system (system_of new) × IsCutFor true (system_of old) (heap_of old) size align address system (heap_of new)
 HeapMoves old (Realloc number size) (Placed given address) new =
@@ -226,6 +259,12 @@ HeapMoves old (Realloc number size) (Placed given address) new =
 HeapMoves old (CRealloc number size) (Placed given address) new =
     MatchOption (live_at old.blocks.items number) ⊥
     (λ live. (system : PagedSystem) × IsToldFrom system (system_of new) × IsResizedTo (system_of old) (heap_of old) live.address size 16 address system (heap_of new))
+HeapMoves old (Malloc size align) (Refused why) new = (heap_of new ≡ heap_of old) × HasNoneFor (heap_of old) size align why
+HeapMoves old (Calloc size align) (Refused why) new = (heap_of new ≡ heap_of old) × HasNoneFor (heap_of old) size align why
+HeapMoves old (Realloc number size) (Refused why) new =
+    (heap_of new ≡ heap_of old) × MatchOption (live_at old.blocks.items number) ⊤ (λ live. HasNoneBeside (heap_of old) live.address size live.align why)
+HeapMoves old (CRealloc number size) (Refused why) new =
+    (heap_of new ≡ heap_of old) × MatchOption (live_at old.blocks.items number) ⊤ (λ live. HasNoneBeside (heap_of old) live.address size 16 why)
 HeapMoves old (Free number) Done new = MatchOption (live_at old.blocks.items number) ⊥ (λ live. IsFreedAt (system_of old) (heap_of old) live.address (system_of new) (heap_of new))
 HeapMoves old (Trim pad) (Trimmed released) new = heap_of new ≡ trimmed true true 4096 pad (heap_of old)
 HeapMoves old (SetRate rate) Done new = heap_of new ≡ record (heap_of old) { rate = rate; countdown = countdown_from rate }

@@ -1,10 +1,12 @@
 // Calls of the heap over the paged system, each with a counter of its own.
-ghost use Rattle.std.specs.Prelude.{◌≡◌, ◌<◌, true, IfOk, IfErr, filter};
+ghost use Rattle.std.specs.Prelude.{◌≡◌, ◌≢◌, ◌-◌, ◌<◌, ◌≤◌, true, false, None, IfOk, IfErr, filter};
 ghost use Rattle.std.specs.Int.{IsPowerOfTwo};
 ghost use Rattle.dlmalloc.specs.Blocks.{IsBlock, ArePlaced, BlocksAreApart};
 ghost use Rattle.dlmalloc.specs.Served.{IsRefusedWith, IsListed};
 ghost use Rattle.dlmalloc.specs.AfterFree.{IsFreed};
-ghost use Rattle.dlmalloc.specs.Requested.{asked, IsHandedOut};
+ghost use Rattle.dlmalloc.specs.Requested.{asked, IsHandedOut, IsMemberServed};
+ghost use Rattle.dlmalloc.specs.Resized.{in_place};
+ghost use Rattle.dlmalloc_chunks.specs.Request.{padded};
 ghost use Rattle.dlmalloc.specs.Moved.{IsGivenSize};
 ghost use Rattle.kernel_heap.specs.Heap.{regions, word, follows, denies, refuses, heap_state, IsHeap, HasBins};
 ghost use Rattle.kernel_heap.specs.Machine.{IsLive, IsCutFor, AreZero, align_kept, IsResizedTo, fresh_heap};
@@ -38,6 +40,7 @@ pub(crate) fn hand_out<L: Ledger>(
     ensures ok { IfOk result (λ address. IsHandedOut regions word follows heap.old size align address heap.new) }
     ensures cut { IfOk result (λ address. IsCutFor cleared heap.old.system (heap_state heap.old) size align address heap.new.system (heap_state heap.new)) }
     ensures zeros { cleared ≡ true → IfOk result (λ address. AreZero (word heap.new.system) address size) }
+    ensures member { cleared ≡ false → IfOk result (λ address. IsMemberServed regions word heap.old size align address) }
     ensures err { IfErr result (λ error. IsRefusedWith regions word follows refuses denies heap.old (asked size align) error heap.new) }
     ensures linked { HasBins heap.new }
     ensures placed_before { ArePlaced (regions heap.old.system) (heap_state heap.old) }
@@ -74,6 +77,7 @@ pub(crate) fn resize<L: Ledger>(
     ensures ok { IfOk result (λ address. IsGivenSize regions word follows true true 4096 heap.old live.address live.size (align_kept keeps_alignment live) size address heap.new) }
     ensures moves { IfOk result (λ address. IsResizedTo heap.old.system (heap_state heap.old) live.address size (align_kept keeps_alignment live) address heap.new.system (heap_state heap.new)) }
     ensures err { IfErr result (λ error. IsRefusedWith regions word follows refuses denies heap.old (asked size (align_kept keeps_alignment live)) error heap.new) }
+    ensures tried { IfErr result (λ error. error ≢ MallocError.TooLarge → align_kept keeps_alignment live ≤ 16 → in_place (heap_state heap.old) (live.address - 16) (padded size) ≡ None) }
     ensures linked { HasBins heap.new }
     ensures placed_before { ArePlaced (regions heap.old.system) (heap_state heap.old) }
     ensures placed { ArePlaced (regions heap.new.system) (heap_state heap.new) }

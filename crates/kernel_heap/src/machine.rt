@@ -1,5 +1,5 @@
 // The machine: a numbered heap over a paged system, which is always sound, and the registers of the processor.
-ghost use Rattle.std.specs.Prelude.{◌≡◌, ℕ, IfOk, IfErr, IsOk, OnOk, OnErr, List, Bool};
+ghost use Rattle.std.specs.Prelude.{◌≡◌, ℕ, IsTrue, IfOk, IfErr, IsOk, OnOk, OnErr, List, Bool};
 ghost use Rattle.heap_model.specs.declared.call.Access.{Access};
 ghost use Rattle.heap_model.specs.State.{State, start};
 ghost use Rattle.heap_model.specs.Run.{IsGood};
@@ -79,7 +79,7 @@ impl Model for Machine {
 
 impl Machine {
     ghost use Rattle.kernel_heap.specs.System.{paged};
-    ghost use Rattle.kernel_heap.specs.Machine.{seen, system_of, heap_of, fresh_heap, lasting_pages, AreRunsUsedFor, HeapMoves, IsReachedByte};
+    ghost use Rattle.kernel_heap.specs.Machine.{seen, system_of, heap_of, fresh_heap, lasting_pages, AreRunsUsedFor, HeapMoves, leaves_all, IsReachedByte};
 
     /// A machine with the configuration's window, granularity and frames. A configuration from which none can be
     /// made is refused before any memory is taken.
@@ -127,6 +127,8 @@ impl Machine {
         ensures err { OnErr result (seen self.new ≡ seen self.old) }
         ensures heap { IfOk result (λ answer. HeapMoves self.old.heap call.now answer.reply self.new.heap) }
         ensures heap_err { OnErr result (heap_of self.new.heap ≡ heap_of self.old.heap) }
+        // A refused call, one that only looks, a fault and a setting that is not accepted leave each byte, block and region as it was.
+        ensures kept { IfOk result (λ answer. IsTrue (leaves_all answer.reply) → seen self.new ≡ seen self.old) }
         // After a map, or a block that was granted new pages, each slot that lies whole among the new pages and had no table is
         // mapped by one entry, or no run of frames is free.
         ensures runs { (s : State) → IsGood s → Stands (seen self.old) s → IfOk result (λ answer. AreRunsUsedFor (paged (system_of self.old.heap)) (paged (system_of self.new.heap)) (lasting_pages s call.now answer)) }

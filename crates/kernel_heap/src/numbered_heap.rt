@@ -71,7 +71,7 @@ pub(crate) struct NumberedHeap {
 impl NumberedHeap {
     ghost use Rattle.kernel_heap.specs.Words.{heap_regions};
     ghost use Rattle.kernel_heap.specs.System.{paged, pageless_frames};
-    ghost use Rattle.kernel_heap.specs.Machine.{seen_with, system_of, heap_of, live_at, request, resizing, lasting_pages, AreRunsUsedFor, HeapMoves, IsSound};
+    ghost use Rattle.kernel_heap.specs.Machine.{seen_with, system_of, heap_of, live_at, request, resizing, lasting_pages, AreRunsUsedFor, HeapMoves, IsSeenAsBefore, IsSound};
 
     /// Hands out a block of `size` bytes at a multiple of `align`, of value 0 where that is asked for. The answer and the
     /// block have their places before anything changes.
@@ -87,6 +87,7 @@ impl NumberedHeap {
         ensures err { (top : ℕ) → OnErr result (seen_with top self.new ≡ seen_with top self.old) }
         ensures runs { (top : ℕ) (s : State) → IsGood s → Stands (seen_with top self.old) s → IfOk result (λ answer. AreRunsUsedFor (paged (system_of self.old)) (paged (system_of self.new)) (lasting_pages s (request cleared size align) answer)) }
         ensures heap { IfOk result (λ answer. HeapMoves self.old (request cleared size align) answer.reply self.new) }
+        ensures kept { IfOk result (λ answer. IsSeenAsBefore answer.reply self.old self.new) }
         ensures heap_err { OnErr result (heap_of self.new ≡ heap_of self.old) }
     {
         if !align.is_power_of_two() {
@@ -120,6 +121,7 @@ impl NumberedHeap {
         ensures ok { (top : ℕ) (s : State) → IsGood s → Stands (seen_with top self.old) s → IfOk result (λ answer. IsStep s (resizing keeps_alignment number size) answer (seen_with top self.new)) }
         ensures err { (top : ℕ) → OnErr result (seen_with top self.new ≡ seen_with top self.old) }
         ensures heap { IfOk result (λ answer. HeapMoves self.old (resizing keeps_alignment number size) answer.reply self.new) }
+        ensures kept { IfOk result (λ answer. IsSeenAsBefore answer.reply self.old self.new) }
         ensures heap_err { OnErr result (heap_of self.new ≡ heap_of self.old) }
     {
         let Some(live) = self.live(number) else {
@@ -246,6 +248,7 @@ impl NumberedHeap {
         ensures ok { (top : ℕ) (s : State) → IsGood s → Stands (seen_with top self.old) s → IfOk result (λ answer. IsStep s (Call.Free number) answer (seen_with top self.new)) }
         ensures err { (top : ℕ) → OnErr result (seen_with top self.new ≡ seen_with top self.old) }
         ensures heap { IfOk result (λ answer. HeapMoves self.old (Call.Free number) answer.reply self.new) }
+        ensures kept { IfOk result (λ answer. IsSeenAsBefore answer.reply self.old self.new) }
         ensures heap_err { OnErr result (heap_of self.new ≡ heap_of self.old) }
     {
         let Some(live) = self.live(number) else {

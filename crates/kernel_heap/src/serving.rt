@@ -5,7 +5,7 @@ ghost use Rattle.heap_model.specs.State.{State};
 ghost use Rattle.heap_model.specs.Run.{IsGood};
 ghost use Rattle.heap_model.specs.Machine.{Stands, IsStep};
 ghost use Rattle.kernel_heap.specs.System.{paged};
-ghost use Rattle.kernel_heap.specs.Machine.{seen_with, system_of, heap_of, lasting_pages, AreRunsUsedFor, HeapMoves, IsReachedByte, IsSound};
+ghost use Rattle.kernel_heap.specs.Machine.{seen_with, system_of, heap_of, lasting_pages, AreRunsUsedFor, HeapMoves, IsSeenAsBefore, IsReachedByte, IsSound};
 
 use crate::numbered_heap::NumberedHeap;
 use heap_model::{Answer, Call};
@@ -20,6 +20,7 @@ impl NumberedHeap {
         ensures err { (top : ℕ) → OnErr result (seen_with top self.new ≡ seen_with top self.old) }
         ensures runs { (top : ℕ) (s : State) → IsGood s → Stands (seen_with top self.old) s → IfOk result (λ answer. AreRunsUsedFor (paged (system_of self.old)) (paged (system_of self.new)) (lasting_pages s call.now answer)) }
         ensures heap { IfOk result (λ answer. HeapMoves self.old call.now answer.reply self.new) }
+        ensures kept { IfOk result (λ answer. IsSeenAsBefore answer.reply self.old self.new) }
         ensures heap_err { OnErr result (heap_of self.new ≡ heap_of self.old) }
         ensures reached { IfOk result (λ answer. IsReachedByte (paged (system_of self.new)) call.now answer.reply) }
         ensures write { (number offset : ℕ) (bytes : List ℕ) → call.now ≡ Call.Write number offset bytes → IsOk result }

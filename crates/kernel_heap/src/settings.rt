@@ -3,7 +3,7 @@ ghost use Rattle.std.specs.Prelude.{ℕ};
 ghost use Rattle.heap_model.specs.State.{State};
 ghost use Rattle.heap_model.specs.Run.{IsGood};
 ghost use Rattle.heap_model.specs.Machine.{Stands, IsStep};
-ghost use Rattle.kernel_heap.specs.Machine.{seen_with, HeapMoves, IsSound};
+ghost use Rattle.kernel_heap.specs.Machine.{seen_with, HeapMoves, IsSeenAsBefore, IsSound};
 
 use crate::numbered_heap::NumberedHeap;
 use heap_model::{Answer, Call, Reply};
@@ -15,6 +15,7 @@ impl NumberedHeap {
         ensures sound { IsSound self.new }
         ensures ok { (top : ℕ) (s : State) → IsGood s → Stands (seen_with top self.old) s → IsStep s (Call.SetRate rate) result (seen_with top self.new) }
         ensures heap { HeapMoves self.old (Call.SetRate rate) result.reply self.new }
+        ensures kept { IsSeenAsBefore result.reply self.old self.new }
     {
         self.heap.set_max_release_check_rate(rate);
         Answer {
@@ -30,6 +31,7 @@ impl NumberedHeap {
         ensures sound { IsSound self.new }
         ensures ok { (top : ℕ) (s : State) → IsGood s → Stands (seen_with top self.old) s → IsStep s (Call.SetGranularity granularity) result (seen_with top self.new) }
         ensures heap { HeapMoves self.old (Call.SetGranularity granularity) result.reply self.new }
+        ensures kept { IsSeenAsBefore result.reply self.old self.new }
     {
         Answer {
             reply: Reply::Accepted(self.heap.set_granularity(granularity)),

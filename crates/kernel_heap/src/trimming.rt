@@ -3,7 +3,7 @@ ghost use Rattle.std.specs.Prelude.{◌≡◌, ℕ, None, IfOk, OnErr, length, r
 ghost use Rattle.heap_model.specs.State.{State};
 ghost use Rattle.heap_model.specs.Run.{IsGood};
 ghost use Rattle.heap_model.specs.Machine.{Stands, IsStep};
-ghost use Rattle.kernel_heap.specs.Machine.{seen_with, heap_of, HeapMoves, IsSound};
+ghost use Rattle.kernel_heap.specs.Machine.{seen_with, heap_of, HeapMoves, IsSeenAsBefore, IsSound};
 
 use crate::heap_calls;
 use crate::numbered_heap::NumberedHeap;
@@ -22,6 +22,7 @@ impl NumberedHeap {
         ensures ok { (top : ℕ) (s : State) → IsGood s → Stands (seen_with top self.old) s → IfOk result (λ answer. IsStep s (Call.Trim pad) answer (seen_with top self.new)) }
         ensures err { (top : ℕ) → OnErr result (seen_with top self.new ≡ seen_with top self.old) }
         ensures heap { IfOk result (λ answer. HeapMoves self.old (Call.Trim pad) answer.reply self.new) }
+        ensures kept { IfOk result (λ answer. IsSeenAsBefore answer.reply self.old self.new) }
         ensures heap_err { OnErr result (heap_of self.new ≡ heap_of self.old) }
     {
         let count = self.heap.allocator().region_count();
@@ -45,6 +46,7 @@ impl NumberedHeap {
         ensures ok { (top : ℕ) (s : State) → IsGood s → Stands (seen_with top self.old) s → IfOk result (λ answer. IsStep s Call.Reset answer (seen_with top self.new)) }
         ensures err { (top : ℕ) → OnErr result (seen_with top self.new ≡ seen_with top self.old) }
         ensures heap { IfOk result (λ answer. HeapMoves self.old Call.Reset answer.reply self.new) }
+        ensures kept { IfOk result (λ answer. IsSeenAsBefore answer.reply self.old self.new) }
         ensures heap_err { OnErr result (heap_of self.new ≡ heap_of self.old) }
     {
         let other = PagedSystem::new(self.alloc, Size4KiB::SIZE, 1, 1)?;

@@ -19,6 +19,12 @@ returns-clause-zeros g c =
       | else-cleared w ↦ λ is. absurd (let no = w.if-cleared.false in cc)
     ]
 
+pub returns-clause-member : goal.returns-clause-member
+returns-clause-member g c = elim c.if-cleared.branch [
+  | then-cleared w ↦ λ is. absurd (let yes = w.if-cleared.true in cc)
+  | else-cleared w ↦ λ is. rw w.answer-is w.malloc-answer.ensures.member
+]
+
 pub returns-clause-linked : goal.returns-clause-linked
 returns-clause-linked g c = elim c.if-cleared.branch [
   | then-cleared w ↦ rw w.heap-is w.calloc-answer.ensures.linked

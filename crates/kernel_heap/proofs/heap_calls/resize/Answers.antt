@@ -1,4 +1,4 @@
-use Rattle.std.proofs.lemmas.Result.{IfOk-weaker}
+use Rattle.std.proofs.lemmas.Result.{IfOk-weaker, IfErr-weaker}
 use Rattle.std.proofs.Common.{◌-◌, ◌==◌}
 use Rattle.dlmalloc.specs.State.{extents_in, size_where}
 use Rattle.kernel_heap.specs.Heap.{heap_state}
@@ -28,6 +28,12 @@ returns-clause-moves g c =
           (IfOk-weaker w.c_realloc-answer.result _ _ (λ address out. resized_to heap w.c_realloc-answer.new.self live.address (size_where (λ extent. extent.at == live.address - 16) (extents_in (heap_state heap)) - 8) c.args.size 16 address out)
           w.c_realloc-answer.ensures.resized)
     ]
+
+pub returns-clause-tried : goal.returns-clause-tried
+returns-clause-tried g c = elim c.if-keeps_alignment.branch [
+  | then-keeps_alignment w ↦ rw (w.answer-is, w.if-keeps_alignment.true) w.realloc-answer.ensures.tried
+  | else-keeps_alignment w ↦ rw (w.answer-is, w.if-keeps_alignment.false) (IfErr-weaker w.c_realloc-answer.result _ _ (λ error tried large few. tried large) w.c_realloc-answer.ensures.tried)
+]
 
 pub returns-clause-linked : goal.returns-clause-linked
 returns-clause-linked g c = elim c.if-keeps_alignment.branch [

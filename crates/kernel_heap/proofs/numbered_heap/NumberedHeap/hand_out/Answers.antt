@@ -3,18 +3,17 @@ use Rattle.std.specs.Int.{is_power_of_two}
 use Rattle.std.proofs.lemmas.Result.{IfOk-weaker, on_err_weaker}
 use Rattle.dlmalloc_chunks.specs.Request.{padded, wanted}
 use Rattle.dlmalloc_chunks.proofs.PowersOfTwo.{power_from_test}
-use Rattle.dlmalloc.specs.Requested.{asked}
+use Rattle.dlmalloc.specs.Requested.{asked, IsMemberServed}
 use Rattle.heap_model.specs.declared.answer.Answer.{Answer}
-use Rattle.heap_model.specs.declared.answer.Refusal.{Refusal}
 use Rattle.heap_model.specs.declared.answer.Refusal.TheVariants.{BadAlign}
-use Rattle.heap_model.specs.declared.answer.Reply.TheVariants.{Block as Placed, Refused}
+use Rattle.heap_model.specs.declared.answer.Reply.TheVariants.{Block as Placed}
 use Rattle.heap_model.specs.Refusal.{refuse_request}
 use Rattle.heap_model.specs.Slots.{listed_slots}
 use Rattle.heap_model.specs.Machine.{IsStep}
 use Rattle.kernel_heap.specs.System.{paged, pageless_frames}
 use Rattle.kernel_heap.specs.Words.{heap_regions}
-use Rattle.kernel_heap.specs.Heap.{heap_state}
-use Rattle.kernel_heap.specs.Machine.{system_of, seen_with, heap_of, request, lasting_pages, AreRunsUsedFor, IsCutFor, IsToldFrom, HeapMoves}
+use Rattle.kernel_heap.specs.Heap.{regions, word, heap_state}
+use Rattle.kernel_heap.specs.Machine.{system_of, seen_with, request, lasting_pages, AreRunsUsedFor, IsCutFor, IsToldFrom, leaves_all, HeapMoves}
 use Rattle.kernel_heap.specs.declared.numbered_heap.NumberedHeap.{NumberedHeap}
 use Rattle.kernel_heap.specs.declared.paged_system.PagedSystem.{PagedSystem}
 use Rattle.kernel_heap.proofs.LastingPages.{runs_refused}
@@ -25,6 +24,7 @@ use Rattle.kernel_heap.proofs.Told.{AreTold, step_told, runs_told, told_from}
 use Rattle.kernel_heap.proofs.Refused.{step_denied, refused_large, not_refused, wanted_asked, request_refused, request_wants}
 use Rattle.kernel_heap.proofs.Laid.{seen_denied}
 use Rattle.kernel_heap.proofs.Refused.{step_refused}
+use Rattle.kernel_heap.proofs.WantOfRoom.{none_for, request_refused_moves, other_reply}
 use Rattle.kernel_heap.proofs.numbered_heap.NumberedHeap.hand_out.Goals as goal
 
 pub hand_out-requires-clause-align : goal.hand_out-requires-clause-align
@@ -32,9 +32,10 @@ hand_out-requires-clause-align c = let power : is_power_of_two c.args.align ≡ 
 
 -- how the heap moves is told by the request
 moves_request : (cleared : Bool) (old : NumberedHeap) (size align number address : ℕ) (new : NumberedHeap) (system : PagedSystem) → IsToldFrom system new.heap.system →
-    IsCutFor cleared old.heap.system (heap_state old.heap) size align address system (heap_state new.heap) → HeapMoves old (request cleared size align) (Placed number address) new
-moves_request false old size align number address new system told cut = (system, told, cut)
-moves_request true old size align number address new system told cut = (system, told, cut)
+    IsCutFor cleared old.heap.system (heap_state old.heap) size align address system (heap_state new.heap) → (cleared ≡ false → IsMemberServed regions word old.heap size align address) →
+    HeapMoves old (request cleared size align) (Placed number address) new
+moves_request false old size align number address new system told cut member = (system, told, cut, member refl)
+moves_request true old size align number address new system told cut member = (system, told, cut)
 
 -- the list has a place for one region more
 pub changed_regions-requires-clause-places : goal.changed_regions-requires-clause-places
@@ -121,7 +122,8 @@ returns-in-Ok-clause-heap c =
     (moves_request c.args.cleared c.args.self.now c.args.size c.args.align _ c.in-Ok.address c.new_slots.new.self c.hand_out.new.heap.system
     (subst (λ h. IsToldFrom h.system c.new_slots.new.self.heap.system) heap (told_from c.changed_regions.new.self c.new_slots.new.self c.marks-before.result.joins told))
     (subst (λ h. IsCutFor c.args.cleared c.args.self.now.heap.system (heap_state c.args.self.now.heap) c.args.size c.args.align c.in-Ok.address c.hand_out.new.heap.system h)
-    (sym (c.new_slots.ensures.heap ∙ ap heap_state heap)) c.in-Ok.ensures.cut))
+    (sym (c.new_slots.ensures.heap ∙ ap heap_state heap)) c.in-Ok.ensures.cut)
+    (λ is. c.in-Ok.ensures.member is))
 
 pub returns-in-Err-clause-sound : goal.returns-in-Err-clause-sound
 returns-in-Err-clause-sound c =
@@ -162,18 +164,27 @@ returns-in-Err-clause-err c = λ top. on_err_weaker c.refused_by.result
     (λ none. rw c.in_ok-reserve.ensures.items (seen_denied c.args.self.now.heap c.hand_out.new.heap c.args.self.now.blocks.items (asked c.args.size c.args.align) c.in-Err.error c.in-Err.ensures.err top))
     c.refused_by.ensures.err
 
--- a refused request moves nothing
-moves_refused : (cleared : Bool) (old : NumberedHeap) (size align : ℕ) (refusal : Refusal) (new : NumberedHeap) → heap_of new ≡ heap_of old → HeapMoves old (request cleared size align) (Refused refusal) new
-moves_refused false old size align refusal new same = same
-moves_refused true old size align refusal new same = same
-
 pub returns-in-Err-clause-heap : goal.returns-in-Err-clause-heap
 returns-in-Err-clause-heap c =
     let new : NumberedHeap = record { alloc = c.args.self.now.alloc; heap = c.hand_out.new.heap; blocks = c.reserve.new.self; list = c.reserve-2.new.self } in
     IfOk-weaker c.refused_by.result _ _
     (λ answer given. subst (λ (a : Answer). HeapMoves c.args.self.now (request c.args.cleared c.args.size c.args.align) a.reply new) (sym given.2)
-    (moves_refused c.args.cleared c.args.self.now c.args.size c.args.align given.0 new c.in-Err.ensures.err.same.state))
+    (request_refused_moves c.args.cleared c.args.self.now c.args.size c.args.align given.0 new c.in-Err.ensures.err.same.state
+    (none_for c.args.self.now.heap c.args.size c.args.align c.in-Err.error given.0 given.1 c.in-Err.ensures.err.refused)))
     c.refused_by.ensures.ok
 
 pub returns-in-Err-clause-heap_err : goal.returns-in-Err-clause-heap_err
 returns-in-Err-clause-heap_err c = on_err_weaker c.refused_by.result (λ none. c.in-Err.ensures.err.same.state) c.refused_by.ensures.err
+
+pub returns-then-not-is_power_of_two-clause-heap : goal.returns-then-not-is_power_of_two-clause-heap
+returns-then-not-is_power_of_two-clause-heap c =
+    rw c.refused.ensures (request_refused_moves c.args.cleared c.args.self.now c.args.size c.args.align BadAlign c.args.self.now refl (λ room. absurd (cc)))
+
+pub returns-in-Ok-clause-kept : goal.returns-in-Ok-clause-kept
+returns-in-Ok-clause-kept c = other_reply c.add_block.result c.args.self.now c.new_slots.new.self (ap leaves_all c.add_block.ensures.reply)
+
+pub returns-in-Err-clause-kept : goal.returns-in-Err-clause-kept
+returns-in-Err-clause-kept c =
+    IfOk-weaker c.refused_by.result _ _ (λ answer given told top.
+    rw c.in_ok-reserve.ensures.items (seen_denied c.args.self.now.heap c.hand_out.new.heap c.args.self.now.blocks.items (asked c.args.size c.args.align) c.in-Err.error c.in-Err.ensures.err top))
+    c.refused_by.ensures.ok

@@ -98,3 +98,8 @@ returns-in-Err-clause-heap c =
 pub returns-in-Err-clause-runs : goal.returns-in-Err-clause-runs
 returns-in-Err-clause-runs c = λ top s good stands.
     IfOk-weaker c.refused_map.result _ _ (λ answer given. runs_refused (paged (system_of c.args.self.now)) (paged c.map.new.self) s (Map c.args.start c.args.pages c.args.rights) _ answer given) c.refused_map.ensures.ok
+
+pub returns-in-Err-clause-kept : goal.returns-in-Err-clause-kept
+returns-in-Err-clause-kept c =
+    let same = c.in-Err.ensures.err ∙ ap paged c.allocator_mut.ensures.value in
+    IfOk-weaker c.refused_map.result _ _ (λ answer given told top. ap (λ p. record (seen_with top c.args.self.now) { paged = p }) same) c.refused_map.ensures.ok

@@ -1,22 +1,23 @@
-use Rattle.std.proofs.Common.{rules, arith, ℕ, Bool, true, false, None, ◌+◌, ◌≤◌, vec_capacity, ◌≡◌, ◌∙◌, ap, sym, subst, length}
+use Rattle.std.proofs.Common.{rules, arith, None, ◌+◌, ◌≤◌, vec_capacity, ◌≡◌, ◌∙◌, ap, refl, sym, subst, length}
 use Rattle.std.proofs.lemmas.Result.{IfOk-weaker, on_err_weaker}
 use Rattle.dlmalloc_chunks.specs.Request.{padded}
 use Rattle.dlmalloc.specs.Requested.{asked}
 use Rattle.heap_model.proofs.Shortened.{length_cut}
-use Rattle.heap_model.specs.declared.answer.Reply.TheVariants.{Block as Placed, Refused}
+use Rattle.heap_model.specs.declared.answer.Reply.TheVariants.{Block as Placed}
 use Rattle.heap_model.specs.Slots.{listed_slots}
 use Rattle.heap_model.specs.Machine.{IsStep}
 use Rattle.kernel_heap.specs.System.{paged}
 use Rattle.kernel_heap.specs.Heap.{heap_state}
-use Rattle.kernel_heap.specs.Machine.{seen_with, heap_of, live_at, resizing, align_kept, HeapMoves, IsToldFrom, IsResizedTo}
+use Rattle.kernel_heap.specs.Machine.{seen_with, live_at, resizing, align_kept, HeapMoves, IsToldFrom, IsResizedTo}
 use Rattle.kernel_heap.proofs.Laid.{laid_resized, laid_denied}
 use Rattle.kernel_heap.proofs.Found.{few_regions}
 use Rattle.kernel_heap.proofs.Resized.{step_resized, step_not_resized, step_unknown, kept_power, moves_resizing, moved_shortened}
 use Rattle.kernel_heap.proofs.Told.{AreTold, step_told, told_from}
 use Rattle.kernel_heap.proofs.Laid.{seen_denied}
+use Rattle.kernel_heap.proofs.WantOfRoom.{none_beside, resizing_refused_moves, unknown_moves}
 use Rattle.kernel_heap.specs.declared.numbered_heap.NumberedHeap.{NumberedHeap}
 use Rattle.heap_model.specs.declared.answer.Answer.{Answer}
-use Rattle.heap_model.specs.declared.answer.Refusal.{Refusal}
+use Rattle.heap_model.specs.declared.answer.Refusal.TheVariants.{UnknownBlock}
 use Rattle.kernel_heap.proofs.numbered_heap.NumberedHeap.resize.Goals as goal
 
 pub resize-requires-clause-block : goal.resize-requires-clause-block
@@ -101,18 +102,26 @@ returns-in-Err-clause-err c = λ top. on_err_weaker c.refused_by.result
     (λ none. seen_denied c.args.self.now.heap c.resize.new.heap c.args.self.now.blocks.items (asked c.args.size (align_kept c.args.keeps_alignment c.in-Some.live)) c.in-Err.error c.in-Err.ensures.err top)
     c.refused_by.ensures.err
 
--- a refused call moves nothing
-moves_refused : (keeps : Bool) (old : NumberedHeap) (number size : ℕ) (refusal : Refusal) (new : NumberedHeap) → heap_of new ≡ heap_of old → HeapMoves old (resizing keeps number size) (Refused refusal) new
-moves_refused true old number size refusal new same = same
-moves_refused false old number size refusal new same = same
-
 pub returns-in-Err-clause-heap : goal.returns-in-Err-clause-heap
 returns-in-Err-clause-heap c =
+    let is = sym c.live.ensures ∙ c.in-Some.is in
     let new : NumberedHeap = record { alloc = c.args.self.now.alloc; heap = c.resize.new.heap; blocks = c.args.self.now.blocks; list = c.reserve.new.self } in
     IfOk-weaker c.refused_by.result _ _
     (λ answer given. subst (λ (a : Answer). HeapMoves c.args.self.now (resizing c.args.keeps_alignment c.args.number c.args.size) a.reply new) (sym given.2)
-    (moves_refused c.args.keeps_alignment c.args.self.now c.args.number c.args.size given.0 new c.in-Err.ensures.err.same.state))
+    (resizing_refused_moves c.args.keeps_alignment c.args.self.now c.args.number c.args.size given.0 new c.in-Some.live is c.in-Err.ensures.err.same.state
+    (none_beside c.args.self.now.heap c.args.size (align_kept c.args.keeps_alignment c.in-Some.live) c.in-Some.live.address c.in-Err.error given.0 given.1 c.in-Err.ensures.err.refused c.in-Err.ensures.tried)))
     c.refused_by.ensures.ok
 
 pub returns-in-Err-clause-heap_err : goal.returns-in-Err-clause-heap_err
 returns-in-Err-clause-heap_err c = on_err_weaker c.refused_by.result (λ none. c.in-Err.ensures.err.same.state) c.refused_by.ensures.err
+
+pub returns-in_default-clause-heap : goal.returns-in_default-clause-heap
+returns-in_default-clause-heap c =
+    let none : live_at c.args.self.now.blocks.items c.args.number ≡ None = search rules in
+    rw c.refused.ensures (unknown_moves c.args.keeps_alignment c.args.self.now c.args.number c.args.size UnknownBlock c.args.self.now none refl)
+
+pub returns-in-Err-clause-kept : goal.returns-in-Err-clause-kept
+returns-in-Err-clause-kept c =
+    IfOk-weaker c.refused_by.result _ _
+    (λ answer given told top. seen_denied c.args.self.now.heap c.resize.new.heap c.args.self.now.blocks.items (asked c.args.size (align_kept c.args.keeps_alignment c.in-Some.live)) c.in-Err.error c.in-Err.ensures.err top)
+    c.refused_by.ensures.ok

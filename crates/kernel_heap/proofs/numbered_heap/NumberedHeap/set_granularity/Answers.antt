@@ -1,4 +1,4 @@
-use Rattle.std.proofs.Common.{None, ap, subst, sym}
+use Rattle.std.proofs.Common.{◌≡◌, ◌∙◌, Bool, true, false, not, None, refl, ap, subst, sym}
 use Rattle.std.specs.Prelude.{if◌then◌else◌}
 use Rattle.dlmalloc.specs.State.{HeapState}
 use Rattle.heap_model.specs.declared.call.Call.TheVariants.{SetGranularity}
@@ -22,3 +22,15 @@ returns-clause-ok c = λ top s good stands.
     subst (λ (m : Seen). IsStep s (SetGranularity c.args.granularity) (record { reply = Accepted accepted; regions = None; large = None }) m)
     (sym (seen_set c.args.self.now.heap c.set_granularity.new.self c.args.self.now.blocks.items is.system top (if accepted then c.args.granularity else c.args.self.now.heap.granularity) (ap (λ (h : HeapState). h.granularity) is.state)))
     (step_granularity (seen_with top c.args.self.now) s c.args.granularity accepted good stands is.answer)
+
+-- a setting that is not accepted
+not_accepted : (accepted : Bool) → not accepted ≡ true → accepted ≡ false
+not_accepted false is = refl
+not_accepted true is = absurd (cc)
+
+pub returns-clause-kept : goal.returns-clause-kept
+returns-clause-kept c = λ told top.
+    let is = c.set_granularity.ensures in
+    seen_set c.args.self.now.heap c.set_granularity.new.self c.args.self.now.blocks.items is.system top c.args.self.now.heap.granularity
+    (ap (λ (h : HeapState). h.granularity) is.state
+    ∙ ap (λ (b : Bool). if b then c.args.granularity else c.args.self.now.heap.granularity) (not_accepted c.set_granularity.result told))

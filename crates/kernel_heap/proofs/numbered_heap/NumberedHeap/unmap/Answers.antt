@@ -44,3 +44,8 @@ pub returns-in-Err-clause-heap : goal.returns-in-Err-clause-heap
 returns-in-Err-clause-heap c =
     (heap_beside c.args.self.now.heap c.requires.sound.heap_sound c.unmap.new.self
     (subst (λ system. IsBeside (paged system) (paged c.unmap.new.self)) c.allocator_mut.ensures.value c.unmap.ensures.beside) c.rests_outside.ensures).1
+
+pub returns-in-Err-clause-kept : goal.returns-in-Err-clause-kept
+returns-in-Err-clause-kept c = λ told top.
+    let same = c.in-Err.ensures.err ∙ ap paged c.allocator_mut.ensures.value in
+    ap (λ p. record (seen_with top c.args.self.now) { paged = p }) same

@@ -1,0 +1,61 @@
+-- Calls that are refused: where room is wanting the heap has none, and what is seen of the machine stays.
+use Rattle.std.proofs.Common.{◌≡◌, ◌≢◌, ℕ, ◌-◌, ◌≤◌, Bool, true, false, None, Some, refl, subst}
+use Rattle.std.specs.Prelude.{IsTrue}
+use Rattle.heap_memory.specs.declared.grant.GrantFault.TheVariants.{NoSpace, NoFrames, OutOfMemory}
+use Rattle.dlmalloc_chunks.specs.Request.{padded}
+use Rattle.dlmalloc.specs.Requested.{asked}
+use Rattle.dlmalloc.specs.Resized.{in_place}
+use Rattle.dlmalloc.specs.Served.{IsRefused}
+use Rattle.dlmalloc.specs.declared.heap.Dlmalloc.{Dlmalloc}
+use Rattle.dlmalloc.specs.declared.malloc_error.MallocError.{MallocError}
+use Rattle.dlmalloc.specs.declared.malloc_error.MallocError.TheVariants.{TooLarge, System}
+use Rattle.heap_model.specs.declared.live.Live.{Live}
+use Rattle.heap_model.specs.declared.answer.Refusal.{Refusal}
+use Rattle.heap_model.specs.declared.answer.Refusal.TheVariants.{TooLarge as IsTooLarge}
+use Rattle.heap_model.specs.declared.answer.Reply.{Reply}
+use Rattle.heap_model.specs.declared.answer.Reply.TheVariants.{Refused}
+use Rattle.kernel_heap.specs.Heap.{denies, heap_state}
+use Rattle.kernel_heap.specs.Machine.{heap_of, live_at, refusal_of, request, resizing, align_kept, is_for_room, HasNoneFor, HasNoneBeside, leaves_all, IsSeenAsBefore, HeapMoves}
+use Rattle.kernel_heap.specs.declared.paged_system.PagedSystem.{PagedSystem}
+use Rattle.kernel_heap.specs.declared.numbered_heap.NumberedHeap.{NumberedHeap}
+
+-- a size that is too large wants no room
+not_for_room : (refusal : Refusal) → refusal_of TooLarge ≡ Some refusal → is_for_room refusal ≡ false
+not_for_room refusal is = (let one : IsTooLarge ≡ refusal = cc in subst (λ (r : Refusal). is_for_room r ≡ false) one refl)
+
+module _ (heap : Dlmalloc PagedSystem) (size align : ℕ) where
+  pub none_for : (error : MallocError) (refusal : Refusal) → refusal_of error ≡ Some refusal → IsRefused denies heap.system (heap_state heap) (asked size align) error → HasNoneFor (heap_state heap) size align refusal
+  none_for TooLarge refusal is why room = (let no = not_for_room refusal is in absurd (cc))
+  none_for (System NoSpace) refusal is why room = why.1.none_chosen
+  none_for (System NoFrames) refusal is why room = why.1.none_chosen
+  none_for (System OutOfMemory) refusal is why room = absurd (cc)
+
+  pub none_beside : (from : ℕ) (error : MallocError) (refusal : Refusal) → refusal_of error ≡ Some refusal → IsRefused denies heap.system (heap_state heap) (asked size align) error →
+      (error ≢ TooLarge → align ≤ 16 → in_place (heap_state heap) (from - 16) (padded size) ≡ None) → HasNoneBeside (heap_state heap) from size align refusal
+  none_beside from error refusal is why tried = (none_for error refusal is why, beside error is tried)
+    where
+      beside : (error : MallocError) → refusal_of error ≡ Some refusal → (error ≢ TooLarge → align ≤ 16 → in_place (heap_state heap) (from - 16) (padded size) ≡ None) →
+          IsTrue (is_for_room refusal) → align ≤ 16 → in_place (heap_state heap) (from - 16) (padded size) ≡ None
+      beside TooLarge is tried room few = (let no = not_for_room refusal is in absurd (cc))
+      beside (System fault) is tried room few = tried (λ e. absurd (cc)) few
+
+-- a request that is refused moves nothing
+pub request_refused_moves : (cleared : Bool) (old : NumberedHeap) (size align : ℕ) (refusal : Refusal) (new : NumberedHeap) → heap_of new ≡ heap_of old → HasNoneFor (heap_of old) size align refusal →
+    HeapMoves old (request cleared size align) (Refused refusal) new
+request_refused_moves false old size align refusal new same none = (same, none)
+request_refused_moves true old size align refusal new same none = (same, none)
+
+-- and so does another size that is refused, of a block or of none
+pub resizing_refused_moves : (keeps : Bool) (old : NumberedHeap) (number size : ℕ) (refusal : Refusal) (new : NumberedHeap) (live : Live) → live_at old.blocks.items number ≡ Some live → heap_of new ≡ heap_of old →
+    HasNoneBeside (heap_of old) live.address size (align_kept keeps live) refusal → HeapMoves old (resizing keeps number size) (Refused refusal) new
+resizing_refused_moves true old number size refusal new live is same none = rw is (same, none)
+resizing_refused_moves false old number size refusal new live is same none = rw is (same, none)
+
+pub unknown_moves : (keeps : Bool) (old : NumberedHeap) (number size : ℕ) (refusal : Refusal) (new : NumberedHeap) → live_at old.blocks.items number ≡ None → heap_of new ≡ heap_of old →
+    HeapMoves old (resizing keeps number size) (Refused refusal) new
+unknown_moves true old number size refusal new none same = rw none (same, tt)
+unknown_moves false old number size refusal new none same = rw none (same, tt)
+
+-- any other reply may tell of a change
+pub other_reply : (reply : Reply) (old new : NumberedHeap) → leaves_all reply ≡ false → IsSeenAsBefore reply old new
+other_reply reply old new other told top = absurd (cc)
