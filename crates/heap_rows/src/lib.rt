@@ -25,3 +25,5 @@ mod streams;
 mod tests;
 #[cfg(test)]
 mod users;
+#[cfg(test)]
+mod wants;

@@ -42,3 +42,6 @@ pub mod LastingPages
 pub mod Trimmed
 pub mod Reset
 pub mod Registers
+pub mod FlatWindows
+pub mod Twins
+pub mod TwinHeaps

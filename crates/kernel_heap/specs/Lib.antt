@@ -12,3 +12,6 @@ pub mod Registers
 pub mod Machine
 pub mod Written
 pub mod Runs
+pub mod FlatWindow
+pub mod Twin
+pub mod TwinSystem

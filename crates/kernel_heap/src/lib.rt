@@ -3,6 +3,7 @@
 
 mod block_bytes;
 mod configuration;
+mod flat_window;
 mod heap_calls;
 mod machine;
 mod numbered_heap;
@@ -17,6 +18,7 @@ mod runs;
 mod serving;
 mod settings;
 mod trimming;
+mod twin_system;
 mod user_calls;
 mod user_regions;
 
@@ -29,8 +31,13 @@ pub use mapped_regions::{MapFault, UnmapFault};
 pub use paged_system::PagedSystem;
 pub use run_error::RunError;
 pub use runs::{Run, run_calls};
+pub use twin_system::TwinSystem;
 
 #[cfg(test)]
 mod release_tests;
 #[cfg(test)]
 mod tests;
+#[cfg(test)]
+mod twin_rows;
+#[cfg(test)]
+mod twin_tests;

@@ -31,7 +31,7 @@ fn heap_rights() -> Rights
 
 /// The pages that hold so many bytes.
 #[tactic(auto, unfolding(heap_model::specs::Request::pages_in))]
-fn pages_in(size: u64) -> u64
+pub(crate) fn pages_in(size: u64) -> u64
     ensures { result ≡ pages_in size }
 {
     size.div_ceil(Size4KiB::SIZE)
@@ -139,7 +139,7 @@ impl PagedSystem {
     }
 
     /// The place of so many pages, where they have one and can be granted there.
-    fn plan(&self, pages: u64) -> Result<u64, GrantFault>
+    pub(crate) fn plan(&self, pages: u64) -> Result<u64, GrantFault>
         requires some { 0 < pages }
         ensures ok { IfOk result (λ place. CanGrant (paged self.now) pages place) }
         ensures lacks { IfErr result (λ fault. LacksPlaceOrFrames (paged self.now) pages fault) }

@@ -1,0 +1,4 @@
+use Rattle.kernel_heap.proofs.twin_system.TwinSystem.word.Goals as goal
+
+pub word-requires : goal.word-requires
+word-requires c = c.args.self.now.twin.covered c.args.at c.requires

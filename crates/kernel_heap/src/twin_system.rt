@@ -1,0 +1,322 @@
+// A paged system with flat words beside it.
+ghost use Rattle.std.specs.Prelude.{◌≡◌, ◌≢◌, ℕ, ◌+◌, ◌*◌, ◌%◌, ◌<◌, ◌≤◌, ◌⊎◌, [], ◌∷◌, true, refl, IsTrue, IfOk, IfErr, OnErr};
+ghost use Rattle.std.specs.List.{AllByRecursion};
+ghost use Rattle.std.specs.Int.{is_power_of_two};
+ghost use Rattle.kernel_heap.specs.Config.{IsGoodWindow};
+ghost use Rattle.kernel_heap.specs.System.{paged};
+ghost use Rattle.kernel_heap.specs.Twin.{IsTwin, IsTwin-prop};
+
+use crate::flat_window::FlatWindow;
+use crate::paged_system::{PagedSystem, pages_in};
+use crate::paged_words::count_steps;
+use heap_memory::{Allocator, Grant, GrantFault, Links, Memory};
+use paging_core::{PageSize, Size4KiB};
+use std::alloc::{AllocError, Global};
+use std::sync::ledger::Ledger;
+use step_count::Steps;
+
+/// A paged system, and flat words that are those of its granted regions: every store writes both, and a load is the word
+/// of both.
+///
+/// The flat words begin with the window and reach to the end of the highest grant that there was, so never past the
+/// window. The word of an address is found by its distance from there.
+#[derive(Drop)]
+pub struct TwinSystem {
+    mapped: PagedSystem,
+    flat: FlatWindow,
+    ghost twin: { IsTwin (paged mapped) flat } by { IsTwin-prop (paged mapped) flat },
+}
+
+impl TwinSystem {
+    ghost use Rattle.heap_memory.specs.Regions.{IsWordOf};
+    ghost use Rattle.heap_memory.specs.Words.{IsStored, AreWordsOf, AreFilled, AreCopied};
+    ghost use Rattle.heap_model.specs.Machine.{OnlyHeapBytesChange};
+    ghost use Rattle.mapped_regions.specs.Mapped.{word_reached};
+    ghost use Rattle.heap_memory.specs.declared.grant.GrantFault.TheVariants.{OutOfMemory};
+    ghost use Rattle.heap_model.specs.Request.{pages_in};
+    ghost use Rattle.kernel_heap.specs.Layout.{IsNew, IsGrantedFor, LacksPlaceOrFrames};
+    ghost use Rattle.kernel_heap.specs.FlatWindow.{flat_word};
+    ghost use Rattle.kernel_heap.specs.TwinSystem.{paged_of, IsFlatCleared};
+    ghost use Rattle.kernel_heap.specs.Words.{grants_of};
+
+    /// A system with a window of `pages` pages from the address `base` on, and with `frames` frames, of which one
+    /// holds the root table. Nothing is granted.
+    pub fn new(alloc: Global, base: u64, pages: u64, frames: u32) -> Result<Self, AllocError>
+        requires window { IsGoodWindow base pages }
+        requires frames { 0 < frames }
+        ensures { IfOk result (λ system. IsNew (paged_of system) base pages frames) }
+    {
+        let mapped = PagedSystem::new(alloc, base, pages, frames)?;
+        let flat = FlatWindow::new(alloc, base);
+        Ok(TwinSystem { mapped, flat })
+    }
+
+    /// The paged system in it.
+    pub fn paged(&self) -> &PagedSystem
+        ensures { result.now ≡ self.now.mapped }
+    {
+        &self.mapped
+    }
+
+    /// At every granted place the flat word is the word that the walk reaches. It does nothing: its clause is what a
+    /// caller has by calling it.
+    pub fn words_agree(&self)
+        ensures { (at : ℕ) → IsWordOf (grants_of (paged_of self.now)) at → flat_word self.now.flat at ≡ word_reached (paged_of self.now) at }
+    {}
+
+    /// The flat word at an address, if there is one.
+    #[cfg(test)]
+    pub(crate) fn flat_word(&self, at: u64) -> Option<u64> {
+        self.flat.get(at)
+    }
+
+    /// The word at a multiple of 8 in the regions: that of the flat words, and that which the walk reaches.
+    fn word(&self, at: u64) -> u64
+        requires { IsWordOf (grants_of (paged_of self.now)) at }
+        ensures reached { result ≡ word_reached (paged_of self.now) at }
+        ensures flat { result ≡ flat_word self.now.flat at }
+    {
+        let word = self.mapped.word(at);
+        if word != self.flat.word(at) {
+            unreachable!();
+        }
+        word
+    }
+
+    /// Puts a word at a multiple of 8 in the regions, into both, and changes nothing else.
+    fn set_word(&mut self, at: u64, value: u64)
+        requires { IsWordOf (grants_of (paged_of self.old)) at }
+        ensures still { OnlyHeapBytesChange (paged_of self.old) (paged_of self.new) }
+        ensures stored { IsStored (grants_of (paged_of self.old)) (word_reached (paged_of self.old)) at value (word_reached (paged_of self.new)) }
+        ensures flat { IsStored (grants_of (paged_of self.old)) (flat_word self.old.flat) at value (flat_word self.new.flat) }
+    {
+        self.mapped.set_word(at, value);
+        self.flat.set_word(at, value);
+    }
+
+    /// Puts the same word at each of `count` places, from an address on, into both, and changes nothing else.
+    fn fill_words(&mut self, at: u64, count: u64, value: u64)
+        requires { AreWordsOf (grants_of (paged_of self.old)) at count }
+        ensures still { OnlyHeapBytesChange (paged_of self.old) (paged_of self.new) }
+        ensures filled { AreFilled (grants_of (paged_of self.old)) (word_reached (paged_of self.old)) at count value (word_reached (paged_of self.new)) }
+        ensures flat { AreFilled (grants_of (paged_of self.old)) (flat_word self.old.flat) at count value (flat_word self.new.flat) }
+    {
+        self.mapped.fill_words(at, count, value);
+        self.flat.fill(at, count, value);
+    }
+
+    /// Copies `count` words from one place to another, apart from it, in both, and changes nothing else.
+    fn copy_words(&mut self, from: u64, to: u64, count: u64)
+        requires from { AreWordsOf (grants_of (paged_of self.old)) from count }
+        requires to { AreWordsOf (grants_of (paged_of self.old)) to count }
+        requires apart { (from + 8 * count ≤ to) ⊎ (to + 8 * count ≤ from) }
+        ensures still { OnlyHeapBytesChange (paged_of self.old) (paged_of self.new) }
+        ensures copied { AreCopied (grants_of (paged_of self.old)) (word_reached (paged_of self.old)) from to count (word_reached (paged_of self.new)) }
+        ensures flat { AreCopied (grants_of (paged_of self.old)) (flat_word self.old.flat) from to count (flat_word self.new.flat) }
+    {
+        self.mapped.copy_words(from, to, count);
+        self.flat.copy(from, to, count);
+    }
+
+    /// Grants the pages that hold so many bytes, which are cleared in both. The flat words of the grant are made before
+    /// anything is changed. An `Err` changes no region and no word of one.
+    fn grant_bytes(&mut self, size: u64) -> Result<Grant, GrantFault>
+        requires some { 0 < size }
+        ensures ok { IfOk result (λ grant. IsGrantedFor (paged_of self.old) (paged_of self.new) size grant) }
+        ensures flat { IfOk result (λ grant. IsFlatCleared self.new grant) }
+        ensures err { OnErr result (paged_of self.new ≡ paged_of self.old) }
+        ensures lacks { IfErr result (λ fault. fault ≢ OutOfMemory → LacksPlaceOrFrames (paged_of self.old) (pages_in size) fault) }
+    {
+        let pages = pages_in(size);
+        let place = self.mapped.plan(pages)?;
+        match self.flat.cover(place + pages * Size4KiB::SIZE) {
+            Ok(()) => (),
+            Err(_) => return Err(GrantFault::OutOfMemory),
+        }
+        let grant = self.mapped.grant_bytes(size)?;
+        self.flat.fill(grant.base, grant.size / 8, 0);
+        Ok(grant)
+    }
+}
+
+impl Links for TwinSystem {
+    ghost use Rattle.heap_memory.specs.Regions.{IsWordOf};
+    ghost use Rattle.heap_memory.specs.Words.{IsStored, AreWordsOf, AreFilled, AreCopied};
+    ghost use Rattle.kernel_heap.specs.FlatWindow.{flat_word};
+    ghost use Rattle.kernel_heap.specs.Follows.{Follows, still_none, follows_on as paged_follows_on};
+    ghost use Rattle.kernel_heap.specs.Ordered.{regions_whole};
+    ghost use Rattle.kernel_heap.specs.TwinSystem.{paged_of};
+    ghost use Rattle.kernel_heap.specs.Words.{grants_of};
+    ghost use Rattle.mapped_regions.specs.Mapped.{word_reached};
+
+    ghost regions = { λ system. grants_of (paged_of system) };
+
+    ghost word = { λ system at. word_reached (paged_of system) at };
+
+    ghost whole = { λ system. regions_whole (paged_of system) system.mapped.kept };
+
+    ghost follows = { λ old events new. Follows (paged_of old) events (paged_of new) };
+
+    ghost follows_none = { λ system. still_none (paged_of system) };
+
+    ghost follows_on = { λ x y z a b c first second is. paged_follows_on (paged_of x) (paged_of y) (paged_of z) a b c first second is };
+
+    /// The word at an address, which both have. It is one step.
+    fn load_counted<L: Ledger>(&self, at: u64, steps: &mut Steps<L>) -> u64
+        requires { IsWordOf (grants_of (paged_of self.now)) at }
+        ensures value { result ≡ word_reached (paged_of self.now) at }
+        ensures flat { result ≡ flat_word self.now.flat at }
+        ensures counted { steps.new ≡ steps.old + 1 }
+    {
+        steps.tick();
+        self.word(at)
+    }
+
+    /// Puts a word at an address, into both, and changes nothing else. It is one step.
+    fn store_counted<L: Ledger>(&mut self, at: u64, value: u64, steps: &mut Steps<L>)
+        requires { IsWordOf (grants_of (paged_of self.old)) at }
+        ensures stored { IsStored (grants_of (paged_of self.old)) (word_reached (paged_of self.old)) at value (word_reached (paged_of self.new)) }
+        ensures flat { IsStored (grants_of (paged_of self.old)) (flat_word self.old.flat) at value (flat_word self.new.flat) }
+        ensures regions { grants_of (paged_of self.new) ≡ grants_of (paged_of self.old) }
+        ensures follows { Follows (paged_of self.old) [] (paged_of self.new) }
+        ensures counted { steps.new ≡ steps.old + 1 }
+    {
+        self.set_word(at, value);
+        steps.tick()
+    }
+
+    /// Puts the same word at each of `count` places, into both, and changes nothing else. Each is one step.
+    fn fill_counted<L: Ledger>(&mut self, at: u64, count: u64, value: u64, steps: &mut Steps<L>)
+        requires { AreWordsOf (grants_of (paged_of self.old)) at count }
+        ensures filled { AreFilled (grants_of (paged_of self.old)) (word_reached (paged_of self.old)) at count value (word_reached (paged_of self.new)) }
+        ensures flat { AreFilled (grants_of (paged_of self.old)) (flat_word self.old.flat) at count value (flat_word self.new.flat) }
+        ensures regions { grants_of (paged_of self.new) ≡ grants_of (paged_of self.old) }
+        ensures follows { Follows (paged_of self.old) [] (paged_of self.new) }
+        ensures counted { steps.new ≡ steps.old + count }
+    {
+        self.fill_words(at, count, value);
+        count_steps(steps, count)
+    }
+
+    /// Copies `count` words from one place to another, apart from it, in both, and changes nothing else. Each is two
+    /// steps.
+    fn copy_counted<L: Ledger>(&mut self, from: u64, to: u64, count: u64, steps: &mut Steps<L>)
+        requires from { AreWordsOf (grants_of (paged_of self.old)) from count }
+        requires to { AreWordsOf (grants_of (paged_of self.old)) to count }
+        requires apart { (from + 8 * count ≤ to) ⊎ (to + 8 * count ≤ from) }
+        ensures copied { AreCopied (grants_of (paged_of self.old)) (word_reached (paged_of self.old)) from to count (word_reached (paged_of self.new)) }
+        ensures flat { AreCopied (grants_of (paged_of self.old)) (flat_word self.old.flat) from to count (flat_word self.new.flat) }
+        ensures regions { grants_of (paged_of self.new) ≡ grants_of (paged_of self.old) }
+        ensures follows { Follows (paged_of self.old) [] (paged_of self.new) }
+        ensures counted { steps.new ≡ steps.old + 2 * count }
+    {
+        self.copy_words(from, to, count);
+        count_steps(steps, 2 * count)
+    }
+}
+
+impl Memory for TwinSystem {
+    ghost use Rattle.heap_memory.specs.Regions.{IsWordOf};
+    ghost use Rattle.heap_memory.specs.Words.{IsStored};
+    ghost use Rattle.kernel_heap.specs.FlatWindow.{flat_word};
+    ghost use Rattle.kernel_heap.specs.Follows.{Follows};
+    ghost use Rattle.kernel_heap.specs.TwinSystem.{paged_of};
+    ghost use Rattle.kernel_heap.specs.Words.{grants_of};
+    ghost use Rattle.mapped_regions.specs.Mapped.{word_reached};
+
+    /// The word at an address, which both have.
+    fn load(&self, at: u64) -> u64
+        requires { IsWordOf (grants_of (paged_of self.now)) at }
+        ensures reached { result ≡ word_reached (paged_of self.now) at }
+        ensures flat { result ≡ flat_word self.now.flat at }
+    {
+        self.word(at)
+    }
+
+    /// Puts a word at an address, into both, and changes nothing else.
+    fn store(&mut self, at: u64, value: u64)
+        requires { IsWordOf (grants_of (paged_of self.old)) at }
+        ensures stored { IsStored (grants_of (paged_of self.old)) (word_reached (paged_of self.old)) at value (word_reached (paged_of self.new)) }
+        ensures flat { IsStored (grants_of (paged_of self.old)) (flat_word self.old.flat) at value (flat_word self.new.flat) }
+        ensures regions { grants_of (paged_of self.new) ≡ grants_of (paged_of self.old) }
+        ensures follows { Follows (paged_of self.old) [] (paged_of self.new) }
+    {
+        self.set_word(at, value);
+    }
+}
+
+impl Allocator for TwinSystem {
+    ghost use Rattle.heap_memory.specs.Events.{Granted};
+    ghost use Rattle.heap_memory.specs.Regions.{IsWordOf, IsApart, IsGoodGrant, with_grant};
+    ghost use Rattle.heap_memory.specs.declared.grant.GrantFault.TheVariants.{OutOfMemory};
+    ghost use Rattle.heap_model.specs.Request.{pages_in};
+    ghost use Rattle.kernel_heap.specs.Follows.{Follows};
+    ghost use Rattle.kernel_heap.specs.Words.{grants_of};
+    ghost use Rattle.mapped_regions.specs.Mapped.{word_reached};
+    ghost use Rattle.kernel_heap.specs.Layout.{LacksPlaceOrFrames};
+    ghost use Rattle.kernel_heap.specs.Ordered.{regions_ordered};
+    ghost use Rattle.kernel_heap.specs.TwinSystem.{paged_of, IsFlatCleared};
+
+    ghost denies = { λ system size fault. LacksPlaceOrFrames (paged_of system) (pages_in size) fault };
+
+    ghost zeros = { λ system. true };
+
+    ghost frees = { λ system. true };
+
+    ghost unit = { λ system. 4096 };
+
+    ghost parts = { λ system. true };
+
+    ghost refuses = { λ old new. paged_of new ≡ paged_of old };
+
+    ghost refuses_none = { λ system. refl };
+
+    ghost ordered = { λ system. regions_ordered (paged_of system) system.mapped.kept };
+
+    ghost fixed = { λ x y events follows. record { zeros_same = refl; frees_same = refl; parts_same = refl; unit_same = refl } };
+
+    /// Grants what the paged system does, cleared in both. An `Err` changes no region and no word of one.
+    fn alloc(&mut self, size: u64) -> Result<Grant, GrantFault>
+        requires some { 0 < size }
+        requires whole { size % 16 ≡ 0 }
+        ensures good { IfOk result (λ grant. IsGoodGrant size grant) }
+        ensures apart { IfOk result (λ grant. AllByRecursion (IsApart grant.base (grant.base + grant.size)) (grants_of (paged_of self.old))) }
+        ensures flags { IfOk result (λ grant. grant.flags ≡ 0) }
+        ensures regions { IfOk result (λ grant. grants_of (paged_of self.new) ≡ with_grant grant (grants_of (paged_of self.old))) }
+        ensures zeros { IfOk result (λ grant.
+            (at : ℕ) → grant.base ≤ at → at < grant.base + grant.size → at % 8 ≡ 0 → word_reached (paged_of self.new) at ≡ 0) }
+        ensures flat { IfOk result (λ grant. IsFlatCleared self.new grant) }
+        ensures follows { IfOk result (λ grant. Follows (paged_of self.old) (Granted size grant ∷ []) (paged_of self.new)) }
+        ensures words { (at : ℕ) → IsWordOf (grants_of (paged_of self.old)) at → word_reached (paged_of self.new) at ≡ word_reached (paged_of self.old) at }
+        ensures err { OnErr result (paged_of self.new ≡ paged_of self.old) }
+        ensures denied { IfErr result (λ fault. fault ≢ OutOfMemory → LacksPlaceOrFrames (paged_of self.old) (pages_in size) fault) }
+    {
+        self.grant_bytes(size)
+    }
+
+    fn free_part(&mut self, at: u64, old_size: u64, new_size: u64) -> bool {
+        if new_size % Size4KiB::SIZE != 0 {
+            return false;
+        }
+        self.mapped.free_part(at, old_size, new_size)
+    }
+
+    fn free(&mut self, at: u64, size: u64) -> bool {
+        self.mapped.free(at, size)
+    }
+
+    fn can_release_part(&self, flags: u32) -> bool {
+        self.mapped.can_release_part(flags)
+    }
+
+    fn allocates_zeros(&self) -> bool {
+        self.mapped.allocates_zeros()
+    }
+
+    fn page_size(&self) -> u64
+        ensures page { result ≡ 4096 }
+        ensures power { IsTrue (is_power_of_two result) }
+    {
+        self.mapped.page_size()
+    }
+}
