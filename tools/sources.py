@@ -35,10 +35,10 @@ class Item:
 
     @property
     def meaning(self):
-        """The model's own members, without the invariant and the code: the prover shows that each value has these."""
+        """What contracts see of a value: the model's own members, without what the prover shows of each value."""
         head, *lines, end = self.model.splitlines() or ("", "")
         members = [braced(lines, n) for n, it in enumerate(lines) if MEMBER.match(it)]
-        return "\n".join([head, *(it for it in members if MEMBER.match(it)[1] not in ("invariant", "coded")), end]).strip()
+        return "\n".join([head, *(it for it in members if MEMBER.match(it)[1] not in ("invariant", "coded", "inverse")), end]).strip()
 
 
 @dataclass

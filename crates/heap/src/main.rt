@@ -1,10 +1,13 @@
 //! The program `heap`: a kernel heap over four-level page tables, driven by lines of text.
 #![tactic(auto)]
 
-ghost use Rattle.std.specs.Prelude.{◌≡◌, ◌≤◌, ◌⊎◌};
-ghost use Rattle.std.specs.Process.{exit_status};
+mod pages;
+mod served;
+#[cfg(test)]
+mod tests;
 
-use heap_program::{ReaderSource, WriterSink, heap_main, status_text};
+use heap_program::{ReaderSource, WriterSink};
+use served::program;
 use std::process::ExitCode;
 use std::{env, io};
 
@@ -88,67 +91,22 @@ At the end each region has a line, `region ADDRESS+PAGES heap`, or if the user's
 `region ADDRESS+PAGES user RIGHTS`. The last is `frames FREE tables TABLES`.
 ";
 
-/// The words after the program's own name.
-fn words(rt: &HostRuntime) -> io::Result<Vec<String>> {
-    let mut words = Vec::new(rt.alloc());
-    for word in env::args(rt)?.skip(1) {
-        words.push(word)?;
-    }
-    Ok(words)
-}
-
-/// The status after words that could not be read.
-fn status_of(error: &io::Error) -> u8
-    ensures { result ≤ 8 }
-{
-    if error.kind() == io::ErrorKind::OutOfMemory {
-        5
-    } else {
-        1
-    }
-}
-
-/// Prints a text, and answers the status: 0, or 7 if the text could not be written.
-fn show(rt: &impl Print, text: &str) -> u8
-    ensures { (result ≡ 0) ⊎ (result ≡ 7) }
-{
-    match rt.print(text) {
-        Ok(()) => 0,
-        Err(_) => 7,
-    }
-}
-
-fn status(rt: &HostRuntime, words: &[String]) -> u8
-    ensures { result ≤ 8 }
-{
-    match words {
-        [word] if word.as_str() == "--help" => show(rt, HELP),
-        [help, lines] if help.as_str() == "--help" && lines.as_str() == "lines" => show(rt, LINES),
-        [word] if word.as_str() == "--version" => show(rt, VERSION),
-        _ => {
-            let mut source = ReaderSource::new(rt.reader());
-            let mut sink = WriterSink::new(io::writer(rt));
-            heap_main(rt.alloc(), words, &mut source, &mut sink).status
-        }
-    }
-}
-
-/// Ends with a status, and says on standard error what it means if it is not 0. A text that cannot be written there
-/// changes nothing.
-fn exit_with(rt: &impl Eprint, status: u8) -> ExitCode
-    requires { status ≤ 8 }
-    ensures { exit_status result ≡ status }
-{
-    if status != 0 {
-        let _ = eprintln!(rt; "{}", status_text(status));
-    }
-    ExitCode::from(status)
+/// The program's arguments, its own name first.
+fn arguments(rt: &HostRuntime) -> io::Result<Vec<String>> {
+    let all = env::args(rt)?.collect(rt.alloc())?;
+    Ok(all)
 }
 
 fn main(rt: HostRuntime) -> ExitCode {
-    let status = match words(&rt) {
-        Ok(words) => status(&rt, &words),
-        Err(error) => status_of(&error),
-    };
-    exit_with(&rt, status)
+    let stderr = rt.stderr();
+    let mut source = ReaderSource::new(rt.reader());
+    let mut sink = WriterSink::new(io::writer(&rt));
+    let mut errors = WriterSink::new(io::writer(&stderr));
+    program(
+        rt.alloc(),
+        arguments(&rt),
+        &mut source,
+        &mut sink,
+        &mut errors,
+    )
 }

@@ -7,6 +7,7 @@ pub mod Fits
 pub mod Hexes
 pub mod Known
 pub mod LineLemmas
+pub mod LiveBlocks
 pub mod Numerals
 pub mod Powers
 pub mod Runs

@@ -8,6 +8,7 @@ pub mod Generator
 pub mod Grammar
 pub mod Headline
 pub mod Lines
+pub mod LiveBlocks
 pub mod Number
 pub mod Planned
 pub mod Progress

@@ -3,6 +3,7 @@ ghost use Rattle.std.specs.Prelude.{◌≡◌, ◌≢◌, ℕ, ◌≤◌, ◌<�
 ghost use Rattle.heap_model.specs.State.{start};
 ghost use Rattle.heap_model.specs.declared.config.Config.{Config};
 ghost use Rattle.kernel_heap.specs.Config.{IsGoodConfig};
+ghost use Rattle.kernel_heap.specs.Machine.{seen};
 ghost use Rattle.heap_program.specs.declared.arguments.Command.{Command};
 ghost use Rattle.heap_program.specs.declared.arguments.Command.TheVariants.{Run, Generate};
 ghost use Rattle.heap_program.specs.Command.{command_of, machine_config, IsGenerate};
@@ -10,6 +11,7 @@ ghost use Rattle.heap_program.specs.Faults.{HasRisen};
 ghost use Rattle.heap_program.specs.Flushed.{IsUpToDate};
 ghost use Rattle.heap_program.specs.Generated.{IsGenerated, IsGenerationStopped};
 ghost use Rattle.heap_program.specs.Headline.{IsAnswered, IsInterrupted, IsStopped};
+ghost use Rattle.heap_program.specs.LiveBlocks.{HoldsBlocks};
 ghost use Rattle.heap_program.specs.Status.{TellsRefusal};
 
 use crate::arguments::{Command, command_of};
@@ -95,6 +97,11 @@ pub fn heap_main<S: Source, K: Sink>(
     ensures machine { IsSome result.machine ↔ (result.status ≡ 0) }
     ensures answered { (config : Config) → command_of words.now ≡ Some (Run config) → IfSome result.machine (λ machine.
         IsAnswered (start config) (S.left source.old) (S.left source.new) (K.taken sink.old) (K.taken sink.new) (K.flushed sink.new) machine) }
+    // By the walk over the raw page tables, each live block of the machine lies wholly in present writable pages that
+    // hold the bytes last written, and apart from the others.
+    ensures live { (config : Config) → command_of words.now ≡ Some (Run config) → IfSome result.machine (λ machine.
+        (run : IsAnswered (start config) (S.left source.old) (S.left source.new) (K.taken sink.old) (K.taken sink.new) (K.flushed sink.new) machine)
+        × HoldsBlocks (seen machine) run.state.blocks) }
 
     // At a status from 5 on, part of that was done.
     ensures stopped { (config : Config) → command_of words.now ≡ Some (Run config) → 5 ≤ result.status →
@@ -112,6 +119,10 @@ pub fn heap_main<S: Source, K: Sink>(
     ensures generated { (seed count : ℕ) (config : Config) → command_of words.now ≡ Some (Generate seed count config) →
         IfSome result.machine (λ machine. IfSome result.answers (λ answers.
         IsGenerated (start config) seed count (K.taken sink.old) (K.taken sink.new) (K.flushed sink.new) answers machine)) }
+    ensures generated_live { (seed count : ℕ) (config : Config) → command_of words.now ≡ Some (Generate seed count config) →
+        IfSome result.machine (λ machine. IfSome result.answers (λ answers.
+        (run : IsGenerated (start config) seed count (K.taken sink.old) (K.taken sink.new) (K.flushed sink.new) answers machine)
+        × HoldsBlocks (seen machine) run.state.blocks)) }
     ensures generation_stopped { (seed count : ℕ) (config : Config) → command_of words.now ≡ Some (Generate seed count config) → 5 ≤ result.status →
         IsGenerationStopped (start config) seed count (K.taken sink.old) (K.taken sink.new) }
     ensures unread { (seed count : ℕ) (config : Config) → command_of words.now ≡ Some (Generate seed count config) →

@@ -1,4 +1,5 @@
 // Laws of the definitions, which no call needs.
+ghost use Rattle.heap_program.specs.LiveBlocks.{HoldsEachBlock};
 ghost use Rattle.heap_program.specs.Spelling.{SpellsOne, RunsSpellOne};
 
 /// An output spells one list of answers: where two lists of answers to the same number of lines are
@@ -8,4 +9,11 @@ ghost use Rattle.heap_program.specs.Spelling.{SpellsOne, RunsSpellOne};
 pub fn one_spelling()
     ensures answers { SpellsOne }
     ensures runs { RunsSpellOne }
+{}
+
+/// By the walk over the raw page tables, each live block lies wholly in present writable pages that hold the
+/// bytes last written, and apart from the others. So it is of each machine that stands for a good state: a new
+/// one, and one that has answered a call.
+pub fn live_blocks()
+    ensures { HoldsEachBlock }
 {}

@@ -67,12 +67,26 @@ fn write_all<K: Sink>(sink: &mut K, bytes: &[u8]) -> Result<(), SinkFault>
     ensures err { OnErr result ((n : ℕ) × Appends (K.taken sink.old) (K.taken sink.new) (take n bytes.now)) }
     ensures later { K.faults sink.old ≤ K.faults sink.new }
     ensures cause { IsErrOf result SinkFault.Failed → HasRisen (K.faults sink.old) (K.faults sink.new) }
+    ensures memory { ((k : K) → K.needs_memory k → ⊥) → IsErrOf result SinkFault.OutOfMemory → ⊥ }
 {
     let mut written = 0;
     while written < bytes.len() {
         written += sink.write(&bytes[written..])?;
     }
     Ok(())
+}
+
+/// Writes a text and flushes it. Of a text that fails, a front may be written.
+pub fn write_text<K: Sink>(sink: &mut K, text: &str) -> Result<(), SinkFault>
+    ensures ok { OnOk result (Appends (K.taken sink.old) (K.taken sink.new) text.now) }
+    ensures flushed { OnOk result (IsAllFlushed (K.taken sink.new) (K.flushed sink.new)) }
+    ensures err { OnErr result ((n : ℕ) × Appends (K.taken sink.old) (K.taken sink.new) (take n text.now)) }
+    ensures later { K.faults sink.old ≤ K.faults sink.new }
+    ensures cause { IsErrOf result SinkFault.Failed → HasRisen (K.faults sink.old) (K.faults sink.new) }
+    ensures memory { ((k : K) → K.needs_memory k → ⊥) → IsErrOf result SinkFault.OutOfMemory → ⊥ }
+{
+    write_all(sink, text.as_bytes())?;
+    sink.flush()
 }
 
 // Writes the text that waits, and flushes it, so that whoever waits for it sees it.

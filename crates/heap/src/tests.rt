@@ -1,0 +1,313 @@
+// The program over readers and writers of its own: its pages, its statuses and what it tells of them.
+use crate::pages::{Page, text_of};
+use crate::served::program;
+use heap_program::{MemorySink, MemorySource, ReaderSource, WriterSink};
+use std::alloc::{AllocError, Global};
+use std::io::{self, Error, ErrorKind, Read, Write};
+use std::process::ExitCode;
+use std::test::Fail;
+
+/// A call of the program: its words, and what is to come of it.
+struct Row {
+    words: &'static [&'static str],
+    status: u8,
+    output: &'static str,
+    errors: &'static str,
+}
+
+const END: &str = "frames 1023 tables 1\n";
+
+const ROWS: [Row; 12] = [
+    Row {
+        words: &["run"],
+        status: 0,
+        output: END,
+        errors: "",
+    },
+    Row {
+        words: &[],
+        status: 1,
+        output: "",
+        errors: "usage\n",
+    },
+    Row {
+        words: &["--version"],
+        status: 0,
+        output: "heap 0.1.0\n",
+        errors: "",
+    },
+    Row {
+        words: &["--version", "run"],
+        status: 1,
+        output: "",
+        errors: "usage\n",
+    },
+    Row {
+        words: &["--help", "run"],
+        status: 1,
+        output: "",
+        errors: "usage\n",
+    },
+    Row {
+        words: &["--help", "lines", "run"],
+        status: 1,
+        output: "",
+        errors: "usage\n",
+    },
+    Row {
+        words: &["lines"],
+        status: 1,
+        output: "",
+        errors: "usage\n",
+    },
+    Row {
+        words: &["--help", "Lines"],
+        status: 1,
+        output: "",
+        errors: "usage\n",
+    },
+    Row {
+        words: &["run", "0x400001", "1024", "65536", "1024", "4095"],
+        status: 2,
+        output: "",
+        errors: "bad window\n",
+    },
+    Row {
+        words: &["run", "0x400000", "1024", "65537", "1024", "4095"],
+        status: 3,
+        output: "",
+        errors: "bad granularity\n",
+    },
+    Row {
+        words: &["run", "0x400000", "1024", "65536", "0", "4095"],
+        status: 4,
+        output: "",
+        errors: "too few frames\n",
+    },
+    Row {
+        words: &["gen", "7", "1000001"],
+        status: 1,
+        output: "",
+        errors: "usage\n",
+    },
+];
+
+/// The arguments: the program's name, and then the words.
+fn arguments(alloc: Global, words: &[&str]) -> Result<Vec<String>, AllocError> {
+    let mut all = Vec::new(alloc);
+    all.push("heap".to_string(alloc)?)?;
+    for word in words {
+        all.push(word.to_string(alloc)?)?;
+    }
+    Ok(all)
+}
+
+/// The program over an input in memory, with calls of the source, the sink and the sink for errors that fail.
+#[derive(Drop)]
+struct Call {
+    source: MemorySource,
+    sink: MemorySink,
+    errors: MemorySink,
+}
+
+impl Call {
+    fn new(alloc: Global, input: &str, reads: &[u64], writes: &[u64]) -> Result<Call, AllocError> {
+        Ok(Call {
+            source: MemorySource::new(input.as_bytes().to_vec(alloc)?, 4096, reads.to_vec(alloc)?),
+            sink: MemorySink::new(alloc, 4096, writes.to_vec(alloc)?),
+            errors: MemorySink::new(alloc, 4096, Vec::new(alloc)),
+        })
+    }
+
+    fn run(&mut self, alloc: Global, arguments: io::Result<Vec<String>>) -> ExitCode {
+        program(
+            alloc,
+            arguments,
+            &mut self.source,
+            &mut self.sink,
+            &mut self.errors,
+        )
+    }
+}
+
+#[test]
+fn words_have_their_statuses(rt: HostRuntime) -> Result<(), Fail> {
+    for row in &ROWS {
+        let mut call = Call::new(rt.alloc(), "", &[], &[])?;
+        let status = call.run(rt.alloc(), Ok(arguments(rt.alloc(), row.words)?));
+        assert_eq!(rt; status, ExitCode::from(row.status), "{:?}", row.words);
+        assert_eq!(rt;
+            call.sink.written(),
+            row.output.as_bytes(),
+            "{:?}",
+            row.words
+        );
+        assert_eq!(rt;
+            call.errors.written(),
+            row.errors.as_bytes(),
+            "{:?}",
+            row.words
+        );
+    }
+    Ok(())
+}
+
+#[test]
+fn pages_are_shown(rt: HostRuntime) -> Result<(), Fail> {
+    for (words, page) in [
+        (["--help"].as_slice(), Page::Help),
+        (["--help", "lines"].as_slice(), Page::Lines),
+        (["--version"].as_slice(), Page::Version),
+    ] {
+        let mut call = Call::new(rt.alloc(), "malloc 24\n", &[0], &[])?;
+        let status = call.run(rt.alloc(), Ok(arguments(rt.alloc(), words)?));
+        assert_eq!(rt; status, ExitCode::from(0));
+        assert_eq!(rt; call.sink.written(), text_of(page).as_bytes());
+        assert_eq!(rt; call.sink.flushed(), call.sink.written().len());
+        assert_eq!(rt; call.errors.written(), b"".as_slice());
+    }
+    Ok(())
+}
+
+#[test]
+fn faults_have_their_statuses(rt: HostRuntime) -> Result<(), Fail> {
+    for (words, reads, writes, status, errors) in [
+        (
+            ["run"].as_slice(),
+            [0].as_slice(),
+            [].as_slice(),
+            6,
+            "read fault\n",
+        ),
+        (
+            ["run"].as_slice(),
+            [].as_slice(),
+            [0].as_slice(),
+            7,
+            "write fault\n",
+        ),
+        (
+            ["--help"].as_slice(),
+            [].as_slice(),
+            [0].as_slice(),
+            7,
+            "write fault\n",
+        ),
+        (
+            ["--help"].as_slice(),
+            [].as_slice(),
+            [1].as_slice(),
+            7,
+            "write fault\n",
+        ),
+    ] {
+        let mut call = Call::new(rt.alloc(), "malloc 24\n", reads, writes)?;
+        let ended = call.run(rt.alloc(), Ok(arguments(rt.alloc(), words)?));
+        assert_eq!(rt; ended, ExitCode::from(status));
+        assert_eq!(rt; call.errors.written(), errors.as_bytes());
+    }
+    Ok(())
+}
+
+#[test]
+fn unread_arguments_have_their_statuses(rt: HostRuntime) -> Result<(), Fail> {
+    for (kind, status, errors) in [
+        (ErrorKind::OutOfMemory, 5, "out of memory\n"),
+        (ErrorKind::InvalidData, 1, "usage\n"),
+    ] {
+        let mut call = Call::new(rt.alloc(), "", &[], &[])?;
+        let ended = call.run(rt.alloc(), Err(Error::from(kind)));
+        assert_eq!(rt; ended, ExitCode::from(status));
+        assert_eq!(rt; call.errors.written(), errors.as_bytes());
+    }
+    Ok(())
+}
+
+/// A text that cannot be told changes no status.
+#[test]
+fn untold_statuses_stay(rt: HostRuntime) -> Result<(), Fail> {
+    let mut call = Call::new(rt.alloc(), "", &[], &[])?;
+    call.errors = MemorySink::new(rt.alloc(), 4096, [0].to_vec(rt.alloc())?);
+    let status = call.run(rt.alloc(), Ok(arguments(rt.alloc(), &[])?));
+    assert_eq!(rt; status, ExitCode::from(1));
+    Ok(())
+}
+
+/// Bytes, before each of which a signal interrupts the reader.
+#[derive(Drop)]
+struct InterruptedReader {
+    bytes: &'static [u8],
+    interrupts: bool,
+}
+
+impl Read for InterruptedReader {
+    fn read(&mut self, buf: &mut [u8]) -> io::Result<usize> {
+        self.interrupts = !self.interrupts;
+        if self.interrupts {
+            return Err(Error::from(ErrorKind::Interrupted));
+        }
+        match (self.bytes.split_first(), buf.first_mut()) {
+            (Some((byte, rest)), Some(place)) => {
+                *place = *byte;
+                self.bytes = rest;
+                Ok(1)
+            }
+            _ => Ok(0),
+        }
+    }
+}
+
+/// Bytes, before each write and each flush of which a signal interrupts the writer.
+#[derive(Drop)]
+struct InterruptedWriter {
+    bytes: Vec<u8>,
+    interrupts: bool,
+}
+
+impl Write for InterruptedWriter {
+    fn write(&mut self, buf: &[u8]) -> io::Result<usize> {
+        self.interrupts = !self.interrupts;
+        if self.interrupts {
+            return Err(Error::from(ErrorKind::Interrupted));
+        }
+        self.bytes.extend_from_slice(buf)?;
+        Ok(buf.len())
+    }
+
+    fn flush(&mut self) -> io::Result<()> {
+        self.interrupts = !self.interrupts;
+        if self.interrupts {
+            return Err(Error::from(ErrorKind::Interrupted));
+        }
+        Ok(())
+    }
+}
+
+#[test]
+fn interrupted_calls_are_tried_again(rt: HostRuntime) -> Result<(), Fail> {
+    let mut writer = InterruptedWriter {
+        bytes: Vec::new(rt.alloc()),
+        interrupts: false,
+    };
+    let mut source = ReaderSource::new(InterruptedReader {
+        bytes: b"malloc 24\n",
+        interrupts: false,
+    });
+    let mut sink = WriterSink::new(&mut writer);
+    let mut errors = MemorySink::new(rt.alloc(), 4096, Vec::new(rt.alloc()));
+    let arguments = arguments(rt.alloc(), &["run"])?;
+    let status = program(
+        rt.alloc(),
+        Ok(arguments),
+        &mut source,
+        &mut sink,
+        &mut errors,
+    );
+    assert_eq!(rt; status, ExitCode::from(0));
+    assert_eq!(rt; errors.written(), b"".as_slice());
+    assert_eq!(rt;
+        writer.bytes.as_slice(),
+        b"block 0 0x400010\nheap 0x400000+16\nregion 0x400000+16 heap\nframes 1004 tables 4\n".as_slice()
+    );
+    Ok(())
+}

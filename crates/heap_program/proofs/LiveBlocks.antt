@@ -1,0 +1,91 @@
+-- A machine that stands for a good state holds its live blocks.
+use Rattle.std.proofs.Common.{◌≡◌, ℕ, ◌+◌, ◌*◌, ◌/◌, ◌%◌, inl, inr, IfSome, List, [], ◌∷◌, ◌++◌, find, refl, sym, ap, ◌∙◌, subst, arith, Bool, true, false, cond, Option, Some, None, option_map, IsTrue}
+use Rattle.std.proofs.lemmas.Bool.Decides.{nat_tests}
+use Rattle.std.specs.List.{list_any, AllByRecursion}
+use Rattle.paging_core.specs.Address.{is_canonical}
+use Rattle.paging_core.specs.Walk.{Place, walk_of, reached}
+use Rattle.paging_core.specs.declared.page_table.Rights.{Rights}
+use Rattle.heap_model.specs.declared.answer.Answer.{Answer}
+use Rattle.heap_model.specs.declared.region.Region.{Region}
+use Rattle.heap_model.specs.State.{State, is_within}
+use Rattle.heap_model.specs.Room.{heap_rights}
+use Rattle.heap_model.specs.Run.{IsGood, IsWhole, IsHeapRegion}
+use Rattle.heap_model.specs.Machine.{Seen, Stands, rights_of}
+use Rattle.heap_model.proofs.Regions.{within_canonical}
+use Rattle.kernel_heap.specs.declared.machine.Machine.{Machine}
+use Rattle.kernel_heap.specs.Machine.{seen}
+use Rattle.heap_program.specs.Generated.{IsGenerated}
+use Rattle.heap_program.specs.Headline.{IsAnswered}
+use Rattle.heap_program.specs.LiveBlocks.{HoldsBlocks, HoldsEachBlock}
+
+abbrev region_rights : Option Region → Option Rights
+region_rights found = option_map (λ region. region.rights) found
+
+-- a whole region has a page exactly where it has an address of it
+with_page : (at : ℕ) (region : Region) → IsWhole region → (b : Bool) → is_within at region ≡ b → is_within (4096 * (at / 4096)) region ≡ b
+with_page at region whole b is = let start : region.start % 4096 ≡ 0 = whole.0 in grind (arith, nat_tests)
+
+-- the page of an address in a heap region has the rights of the heap
+page_rights : (s : State) (at : ℕ) (heap users : List Region) → AllByRecursion (IsHeapRegion s) heap → list_any (is_within at) heap ≡ true →
+    region_rights (find (is_within (4096 * (at / 4096))) (heap ++ users)) ≡ Some heap_rights
+page_rights s at [] users all there = absurd (cc)
+page_rights s at (region ∷ rest) users all there = go (is_within at region) refl (page_rights s at rest users all.1)
+  where
+    go : (b : Bool) → is_within at region ≡ b → (list_any (is_within at) rest ≡ true → region_rights (find (is_within (4096 * (at / 4096))) (rest ++ users)) ≡ Some heap_rights) →
+        region_rights (cond (is_within (4096 * (at / 4096)) region) (Some region) (find (is_within (4096 * (at / 4096))) (rest ++ users))) ≡ Some heap_rights
+    go true is later =
+        let page : is_within (4096 * (at / 4096)) region ≡ true = with_page at region all.0.0 true is in
+        rw page (ap (λ (r : Region). Some r.rights) all.0.3)
+    go false is later =
+        let page : is_within (4096 * (at / 4096)) region ≡ false = with_page at region all.0.0 false is in
+        rw page (later (rw is at there))
+
+-- a page with the rights of the heap
+record IsWritable (found : Option Place) : Type 0 where
+  pub page : Place
+  pub is : found ≡ Some page
+  pub writable : IsTrue page.write
+
+writable_page : (found : Option Place) → option_map rights_of found ≡ Some heap_rights → IsWritable found
+writable_page None is = absurd (cc)
+writable_page (Some page) is =
+    let same : rights_of page ≡ heap_rights = cc in
+    record { page = page; is = refl; writable = ap (λ (r : Rights). r.write) same }
+
+-- the walk finds it at each address in a heap region
+walked : (m : Seen) (s : State) (at : ℕ) → IsGood s → Stands m s → list_any (is_within at) s.heap ≡ true → IsWritable (walk_of m.paged.words m.top (at / 4096))
+walked m s at good stands there =
+    let canonical : IsTrue (is_canonical (at / 4096 * 4096)) = within_canonical (IsHeapRegion s) (λ region h. h.0) at s.heap good.heap there in
+    let page : at / 4096 * 4096 ≡ 4096 * (at / 4096) = omega arith in
+    subst (λ root. IsWritable (walk_of m.paged.words root (at / 4096))) stands.root
+    (writable_page (walk_of m.paged.words m.paged.root (at / 4096))
+    (stands.pages_found (at / 4096) (subst (λ a. IsTrue (is_canonical a)) page canonical) ∙ page_rights s at s.heap s.users good.heap there))
+
+pub holds_blocks : HoldsEachBlock
+holds_blocks m s good stands = record {
+  live = stands.blocks;
+  aligned = λ i a is. (good.each i a is).aligned;
+  held = λ i k a is less.
+      let found = walked m s (a.address + k) good stands ((good.each i a is).granted k less) in
+      record {
+        page = found.page;
+        found = found.is;
+        writable = found.writable;
+        byte = λ value known. ap (λ root. reached m.paged.words root (a.address + k)) (sym stands.root) ∙ stands.bytes.known i k value a is known;
+      };
+  apart = λ i j k l a b is_a is_b differ less_a less_b same. elim (good.apart i j a b is_a is_b differ) [ inl before ↦ omega arith | inr after ↦ omega arith ];
+}
+
+-- ---- the machine at the end of a run
+
+pub answered_live : (machine : Option Machine) (s : State) (had left before after : Option (List ℕ)) (flushed : Option ℕ) → IfSome machine (λ m. IsAnswered s had left before after flushed m) →
+    IfSome machine (λ m. (run : IsAnswered s had left before after flushed m) × HoldsBlocks (seen m) run.state.blocks)
+answered_live None s had left before after flushed done = tt
+answered_live (Some m) s had left before after flushed done = (done, holds_blocks (seen m) done.state done.good done.stands)
+
+pub generated_live : (machine : Option Machine) (answers : Option (List Answer)) (s : State) (seed count : ℕ) (before after : Option (List ℕ)) (flushed : Option ℕ) →
+    IfSome machine (λ m. IfSome answers (λ list. IsGenerated s seed count before after flushed list m)) →
+    IfSome machine (λ m. IfSome answers (λ list. (run : IsGenerated s seed count before after flushed list m) × HoldsBlocks (seen m) run.state.blocks))
+generated_live None answers s seed count before after flushed done = tt
+generated_live (Some m) None s seed count before after flushed done = tt
+generated_live (Some m) (Some list) s seed count before after flushed done = (done, holds_blocks (seen m) done.state done.good done.stands)
