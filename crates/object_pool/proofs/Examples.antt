@@ -1,7 +1,7 @@
 -- The lists of a pool, computed.
-use Rattle.std.proofs.Common.{◌≡◌, ℕ, zero, suc, ◌+◌, ◌-◌, ◌^◌, List, [], ◌∷◌, ◌++◌, length, Some, None, refl}
+use Rattle.std.proofs.Common.{◌≡◌, ℕ, zero, suc, ◌+◌, ◌-◌, ◌^◌, List, [], ◌∷◌, ◌++◌, length, Some, None, refl, arith}
 use Rattle.object_pool.specs.declared.key.Key.{Key}
-use Rattle.object_pool.specs.Lists.{Entry, Lists, empty, object_of, entries_at, object_count, slab_count, next_key, inserted, removed, replaced, LacksSlot}
+use Rattle.object_pool.specs.Lists.{Entry, Lists, empty, object_of, entries_at, index_count, keys_of, object_count, slab_count, next_key, inserted, removed, replaced, LacksSlot, IsFull}
 use Rattle.object_pool.proofs.Entries.{key_at, entry_at}
 
 -- ---- a slot is used again
@@ -42,6 +42,12 @@ one_slab = refl
 two_objects : object_count three.entries ≡ 2
 two_objects = refl
 
+by_index : keys_of three.entries ≡ key_at 0 1 ∷ key_at 1 0 ∷ []
+by_index = refl
+
+no_more : keys_of again.entries ≡ key_at 1 0 ∷ []
+no_more = refl
+
 -- the slot freed last goes first
 last_first : next_key (removed (key_at 0 0) (removed (key_at 1 0) two)) ≡ key_at 0 1
 last_first = refl
@@ -79,3 +85,12 @@ before_last key lists many = rw many refl
 
 behind_last : (key : Key) (lists : Lists) → length (entries_at key.index lists.entries) ≡ 2 ^ 32 - 1 → (removed key lists).freed ≡ lists.freed
 behind_last key lists many = rw many refl
+
+-- ---- the end of slots
+
+-- a pool is full at 2 ^ 32 - 64 slots, where none is free, and not a slab before
+full : (lists : Lists) → lists.freed ≡ [] → index_count lists.entries ≡ 2 ^ 32 - 64 → IsFull lists
+full lists none many = ((none, omega (arith, many)), many)
+
+not_full : (lists : Lists) → index_count lists.entries ≡ 2 ^ 32 - 128 → IsFull lists → ⊥
+not_full lists many is = absurd (let all = is.1 in omega (arith, many, all))

@@ -1,5 +1,5 @@
 -- Blocks of a heap before and after its calls, with their bytes.
-use Rattle.std.proofs.Common.{◌≡◌, ◌≢◌, ℕ, ◌+◌, ◌-◌, ◌%◌, ◌<◌, ◌≤◌, inl, inr, Bool, true, false, ◌==◌, if◌then◌else◌, List, [], ◌∷◌, slice_index, refl, sym, ap, ◌∙◌, subst, arith, Some}
+use Rattle.std.proofs.Common.{◌≡◌, ◌≢◌, ℕ, ◌+◌, ◌-◌, ◌*◌, ◌%◌, ◌<◌, ◌≤◌, ◌⊎◌, inl, inr, Bool, true, false, ◌==◌, if◌then◌else◌, List, [], ◌∷◌, slice_index, refl, sym, ap, ◌∙◌, subst, arith, Some}
 use Rattle.std.specs.Int.{w64, to_le_bytes}
 use Rattle.std.proofs.lemmas.Bool.Decides.{nat_tests}
 use Rattle.heap_memory.specs.declared.grant.Grant.{Grant}
@@ -11,13 +11,15 @@ use Rattle.dlmalloc.specs.State.{HeapState, Segment, extents_in}
 use Rattle.dlmalloc.specs.Blocks.{IsBlock, ArePlaced, BlocksAreApart, KeepsBlocks}
 use Rattle.dlmalloc.specs.Heap.{state_of, IsSound}
 use Rattle.dlmalloc.specs.Grown.{IsAsItWas}
-use Rattle.dlmalloc.specs.Requested.{IsHandedOut}
+use Rattle.dlmalloc.specs.Requested.{IsHandedOut, IsServedAt}
 use Rattle.dlmalloc.specs.AfterFree.{IsFreed}
-use Rattle.dlmalloc.specs.Served.{regions_in, KeepsRegions, OnlyBlocksChange, RestsOutside}
+use Rattle.dlmalloc.specs.Served.{regions_in, IsObtained, KeepsRegions, OnlyBlocksChange, RestsOutside}
 use Rattle.dlmalloc.specs.Binned.{IsBinned}
 use Rattle.dlmalloc.specs.declared.heap.Dlmalloc.{Dlmalloc}
+use Rattle.dlmalloc_chunks.specs.Request.{padded}
 use Rattle.object_pool.specs.Bytes.{byte_in, IsWritten}
-use Rattle.object_pool.specs.Pool.{IsKept, KeepsAll}
+use Rattle.object_pool.specs.Pool.{IsKept, KeepsAll, HasServed}
+use Rattle.object_pool.proofs.Numbers.{same_or_other}
 
 -- ---- a block and its extent
 
@@ -75,6 +77,26 @@ module _ {A : Type 0} (regions : A → List Grant) (word : A → ℕ → ℕ) (f
     handed_fresh n block =
         let place = block_place (state_of word old) address n block in
         out.more.new block.extent block.used (block_there (state_of word old) address n block) (omega arith)
+
+    -- it is the one that came
+    pub handed_only : (at n : ℕ) → IsBlock (state_of word new) at n → IsBlock (state_of word old) at n ⊎ (at ≡ address)
+    handed_only at n block =
+        let place = block_place (state_of word new) at n block in
+        let low = out.low in
+        elim (same_or_other at address) [
+          | inl same ↦ inr same
+          | inr differ ↦ inl (block_moved (state_of word new) at n block (state_of word old)
+              (out.more.only block.extent block.used (block_there (state_of word new) at n block) (λ e. differ (omega (arith, place, low, e)))))
+        ]
+
+  -- at alignment 16 the chunk of the block is cut for its padded size
+  served_cut : (zeros : A → Bool) (size address : ℕ) → IsServedAt regions word zeros follows old size 16 address new →
+      IsObtained follows regions old.system (state_of word old) (padded size) (address - 16) new.system (state_of word new)
+  served_cut zeros size address served = elim served [ inl here ↦ here.1.cut | inr more ↦ absurd (let over = more.0 in omega (arith, over)) ]
+
+  pub served_once : (zeros : A → Bool) (size address : ℕ) → IsServedAt regions word zeros follows old (64 * size) 16 address new → HasServed regions word follows old size address new
+  unfolding HasServed
+  served_once zeros size address served = served_cut zeros (64 * size) address served
 
   -- ---- a block less
 

@@ -3,8 +3,10 @@ mod SlotLists
 mod Granted
 mod ByteRuns
 mod HeapBlocks
+mod Rates
 mod SlabPlaces
 mod Entries
 mod Histories
+mod KeyLists
 mod Standing
 mod Examples

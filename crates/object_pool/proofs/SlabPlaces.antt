@@ -13,6 +13,7 @@ use Rattle.dlmalloc.specs.Heap.{state_of, IsSound, IsGranularity}
 use Rattle.dlmalloc.specs.Binned.{IsBinned}
 use Rattle.dlmalloc.specs.Requested.{IsHandedOut}
 use Rattle.dlmalloc.specs.AfterFree.{IsFreed}
+use Rattle.dlmalloc.specs.Freed.{freed}
 use Rattle.dlmalloc.specs.Served.{RestsOutside}
 use Rattle.dlmalloc.specs.declared.heap.Dlmalloc.{Dlmalloc}
 use Rattle.object_pool.specs.Bytes.{bytes_at, AreGranted, IsWritten}
@@ -20,6 +21,7 @@ use Rattle.object_pool.specs.Pool.{place_of, bytes_of, IsLaidOut, KeepsOthers, I
 use Rattle.object_pool.proofs.ByteRuns.{bytes_same, bytes_are}
 use Rattle.object_pool.proofs.HeapBlocks.{handed_keeps, handed_fresh, freed_keeps, freed_only, written_rests, written_keeps}
 use Rattle.object_pool.proofs.Numbers.{lt_or_le, same_or_other}
+use Rattle.object_pool.proofs.Rates.{rate_after}
 
 -- ---- where objects lie
 
@@ -167,6 +169,8 @@ pub record IsEmptying {A : Type 0} (regions : A → List Grant) (word : A → �
   pub front : (i : ℕ) → i < length left → slice_index left i ≡ slice_index slabs i
   pub kept : KeepsOthers word slabs old heap
   pub only : (address n : ℕ) → IsBlock (state_of word heap) address n → IsBlock (state_of word old) address n × ((i : ℕ) → length left ≤ i → i < length slabs → slice_index slabs i ≢ address)
+  pub granularity : heap.granularity ≡ old.granularity
+  pub rate : heap.rate ≡ old.rate
 
 pub emptying_none : {A : Type 0} (regions : A → List Grant) (word : A → ℕ → ℕ) (heap : Dlmalloc A) (slabs : List ℕ) (size : ℕ) → IsLaidOut regions word heap size slabs → IsEmptying regions word heap slabs size heap slabs
 emptying_none regions word heap slabs size laid = record {
@@ -175,6 +179,8 @@ emptying_none regions word heap slabs size laid = record {
   front = λ i less. refl;
   kept = λ address n block none. record { block = block; bytes = λ k less. refl };
   only = λ address n block. (block, λ i from to. absurd (omega (arith, from, to)));
+  granularity = refl;
+  rate = refl;
 }
 
 pub emptied : {A : Type 0} (regions : A → List Grant) (word : A → ℕ → ℕ) (old heap : Dlmalloc A) (slabs : List ℕ) (size : ℕ) (left : List ℕ) → length left ≡ 0 → IsEmptying regions word old slabs size heap left → IsEmptied regions word old slabs heap
@@ -183,6 +189,8 @@ emptied regions word old heap slabs size left none e = record {
   linked = e.laid.linked;
   kept = e.kept;
   only = λ address n block. (let was = e.only address n block in (was.0, λ i less. was.1 i (omega (arith, none)) less));
+  granularity = e.granularity;
+  rate = e.rate;
 }
 
 module _ {A : Type 0} (regions : A → List Grant) (word : A → ℕ → ℕ) (follows : A → List Event → A → Type 0) (frees parts : Bool) (unit : ℕ) (old heap new : Dlmalloc A) (slabs : List ℕ) (size : ℕ) (left rest : List ℕ) (address : ℕ)
@@ -230,4 +238,6 @@ module _ {A : Type 0} (regions : A → List Grant) (word : A → ℕ → ℕ) (f
             | inr past ↦ before.1 i past to
           ],
         );
+    granularity = back.granularity ∙ e.granularity;
+    rate = ap (λ (h : HeapState). h.rate) back.state ∙ (rate_after frees parts unit (freed (state_of word heap) (address - 16)) (address - 16) ∙ e.rate);
   }

@@ -1,9 +1,13 @@
 -- A pool that stands for lists, before and after its calls.
-use Rattle.std.proofs.Common.{◌≡◌, ◌≢◌, ℕ, ◌+◌, ◌*◌, ◌/◌, ◌%◌, ◌<◌, ◌≤◌, inl, inr, true, List, [], ◌∷◌, length, length-append, slice_index, refl, sym, ap, ◌∙◌, subst, arith, Option, Some, None, is_some, Result, Ok, Err, OnErr, IsSome}
+use Rattle.std.proofs.Common.{◌≡◌, ◌≢◌, ℕ, ◌+◌, ◌-◌, ◌*◌, ◌/◌, ◌%◌, ◌<◌, ◌≤◌, inl, inr, true, List, [], ◌∷◌, ◌++◌, length, length-append, slice_index, refl, sym, ap, ◌∙◌, subst, arith, Option, Some, None, is_some, Result, Ok, Err, OnErr, IsSome}
 use Rattle.std.proofs.lemmas.List.{get_or_append_left}
 use Rattle.std.proofs.Math.Seq.{get_or-append_seam}
 use Rattle.heap_memory.specs.declared.grant.Grant.{Grant}
 use Rattle.heap_memory.specs.declared.grant.GrantFault.{GrantFault}
+use Rattle.heap_memory.specs.Events.{Event, Granted}
+use Rattle.dlmalloc_chunks.specs.Request.{padded, round_up}
+use Rattle.dlmalloc.specs.State.{HeapState}
+use Rattle.dlmalloc.specs.Served.{IsTakenFromExtent, IsTakenFromGrant, IsObtained}
 use Rattle.dlmalloc.specs.Blocks.{IsBlock}
 use Rattle.dlmalloc.specs.Heap.{state_of}
 use Rattle.dlmalloc.specs.declared.heap.Dlmalloc.{Dlmalloc}
@@ -13,7 +17,7 @@ use Rattle.object_pool.specs.Lists.{Lists, empty, index_count, object_of, next_k
 use Rattle.object_pool.specs.Slots.{IsIn, IsNext, IsTaken, IsReleased}
 use Rattle.object_pool.specs.Pooled.{Pooled}
 use Rattle.object_pool.specs.Bytes.{byte_in, bytes_at}
-use Rattle.object_pool.specs.Pool.{place_of, bytes_of, Stands, IsLaidOut, IsNoSlab, KeepsOthers, Keeps, HasRoom, IsRefused, IsRefusedBy, TakesSlabIfNeeded}
+use Rattle.object_pool.specs.Pool.{place_of, bytes_of, Stands, IsLaidOut, IsNoSlab, KeepsOthers, Keeps, StaysInState, HasServed, IsAdded, HasRoom, IsRefused, IsRefusedBy, TakesSlabIfNeeded}
 use Rattle.object_pool.specs.declared.pool_fault.PoolFault.{PoolFault}
 use Rattle.object_pool.specs.declared.pool_fault.PoolFault.TheVariants.{Full, Heap, OutOfMemory}
 use Rattle.object_pool.proofs.ByteRuns.{bytes_same}
@@ -103,10 +107,41 @@ module _ {A : Type 0} (word : A → ℕ → ℕ) where
     full_fault denies (Heap fault) full why = absurd (let indexes = stands.holds.indexes in let all = full.1 in let few = why.0 in omega (arith, indexes, all, few))
     full_fault denies OutOfMemory full why = absurd (let indexes = stands.holds.indexes in let all = full.1 in omega (arith, indexes, all, why))
 
+-- ---- bytes are written into a heap that served a request
+
+module _ {A : Type 0} (regions : A → List Grant) (word : A → ℕ → ℕ) (follows : A → List Event → A → Type 0) (follows_on : (x y z : A) (a b c : List Event) → follows x a y → follows y b z → a ++ b ≡ c → follows x c z)
+    (old heap new : Dlmalloc A) (stays : StaysInState regions word follows heap new) where
+  cut_stays : (n at : ℕ) → IsObtained follows regions old.system (state_of word old) n at heap.system (state_of word heap) → IsObtained follows regions old.system (state_of word old) n at new.system (state_of word new)
+  cut_stays n at (inl taken) = inl (
+    subst (λ (h : HeapState). IsTakenFromExtent (state_of word old) n at h) (sym stays.state) taken.0,
+    follows_on old.system heap.system new.system [] [] [] taken.1 stays.followed refl,
+    stays.regions_same ∙ taken.2,
+  )
+  cut_stays n at (inr cut) = inr (
+    cut.0,
+    subst (λ (h : HeapState). IsTakenFromGrant (state_of word old) n at cut.0 h) (sym stays.state) cut.1,
+    follows_on old.system heap.system new.system (Granted (round_up (n + 96) old.granularity) cut.0 ∷ []) [] (Granted (round_up (n + 96) old.granularity) cut.0 ∷ []) cut.2 stays.followed refl,
+    stays.regions_same ∙ cut.3,
+    cut.4,
+  )
+
+  served_stays : (size address : ℕ) → HasServed regions word follows old size address heap → HasServed regions word follows old size address new
+  unfolding HasServed
+  served_stays size address served = cut_stays (padded (64 * size)) (address - 16) served
+
+  pub added_stays : (size : ℕ) (slabs new_slabs : List ℕ) → IsAdded regions word follows old size slabs heap new_slabs → IsAdded regions word follows old size slabs new new_slabs
+  added_stays size slabs new_slabs added = record {
+    address = added.address;
+    is = added.is;
+    fresh = added.fresh;
+    only = λ at n block. added.only at n (subst (λ (h : HeapState). IsBlock h at n) stays.state block);
+    served = served_stays size added.address added.served;
+  }
+
 -- ---- a slot is made free, and used
 
-module _ {A : Type 0} (regions : A → List Grant) (word : A → ℕ → ℕ) (old : Pooled A) (heap : Dlmalloc A) (size : ℕ) (slabs : List ℕ) (slots : List Slot) (freed : List ℕ)
-    (laid_old : IsLaidOut regions word old.heap old.size old.slabs) (room : HasRoom word old (pooled heap size slabs slots freed)) (within : length slots ≤ 64 * length slabs) where
+module _ {A : Type 0} (regions : A → List Grant) (word : A → ℕ → ℕ) (follows : A → List Event → A → Type 0) (old : Pooled A) (heap : Dlmalloc A) (size : ℕ) (slabs : List ℕ) (slots : List Slot) (freed : List ℕ)
+    (laid_old : IsLaidOut regions word old.heap old.size old.slabs) (room : HasRoom regions word follows old (pooled heap size slabs slots freed)) (within : length slots ≤ 64 * length slabs) where
   size_is : size ≡ old.size
   size_is = ap (λ p. p.size) room.others
 
@@ -224,10 +259,18 @@ module _ {A : Type 0} (regions : A → List Grant) (word : A → ℕ → ℕ) (o
             record { block = after.block; bytes = λ k less. after.bytes k less ∙ before.bytes k less });
       }
 
-      pub made_slab : (lists : Lists) → Stands word old lists → TakesSlabIfNeeded word old lists (pooled new new_size new_slabs new_slots new_freed)
-      made_slab lists stands = elim room.slab [
-        | inl taken_slab ↦ inl (slots_lacking word old.heap old.size old.slabs old.slots old.freed lists stands (taken_slab.0.0, taken_slab.0.1), record { address = taken_slab.1.address; is = same_slabs ∙ taken_slab.1.is; fresh = taken_slab.1.fresh })
-        | inr kept ↦ inr (same_slabs ∙ ap (λ p. p.slabs) kept.1)
+      pub made_slab : (follows_on : (x y z : A) (a b c : List Event) → follows x a y → follows y b z → a ++ b ≡ c → follows x c z) → StaysInState regions word follows heap new → (lists : Lists) → Stands word old lists →
+          TakesSlabIfNeeded regions word follows old lists (pooled new new_size new_slabs new_slots new_freed)
+      made_slab follows_on stays lists stands = elim room.slab [
+        | inl taken_slab ↦ inl (
+          slots_lacking word old.heap old.size old.slabs old.slots old.freed lists stands (taken_slab.0.0, taken_slab.0.1),
+          added_stays regions word follows follows_on old.heap heap new stays old.size old.slabs new_slabs
+              (subst (λ (list : List ℕ). IsAdded regions word follows old.heap old.size old.slabs heap list) (sym same_slabs) taken_slab.1),
+        )
+        | inr kept ↦ inr (
+          same_slabs ∙ ap (λ p. p.slabs) kept.1,
+          subst (λ (h : Dlmalloc A). StaysInState regions word follows h new) (ap (λ p. p.heap) kept.1) stays,
+        )
       ]
 
     -- so there was a slot

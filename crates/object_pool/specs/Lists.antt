@@ -1,5 +1,5 @@
 -- The plain model of a pool: what was inserted, in order, and which slots are free again.
-use Rattle.std.specs.Prelude.{◌≡◌, ℕ, ◌+◌, ◌-◌, ◌*◌, ◌/◌, ◌^◌, max, Bool, ◌&&◌, ◌==◌, if◌then◌else◌, List, [], ◌∷◌, ◌++◌, length, map, filter, take, slice_get, is_some, unwrap_or, Option, Some, None}
+use Rattle.std.specs.Prelude.{◌≡◌, ℕ, zero, suc, ◌+◌, ◌-◌, ◌*◌, ◌/◌, ◌^◌, max, Bool, ◌&&◌, ◌==◌, if◌then◌else◌, List, [], ◌∷◌, ◌++◌, length, map, filter, take, slice_get, is_some, unwrap_or, Option, Some, None}
 use Rattle.object_pool.specs.declared.key.Key.{Key}
 
 -- what was inserted once
@@ -71,6 +71,15 @@ removed key lists = record {
 -- how many objects there are
 abbrev pub object_count : List Entry → ℕ
 object_count entries = length (filter (λ entry. is_some entry.bytes) entries)
+
+-- the keys of the objects at so many indexes from one on, in the order of the indexes
+abbrev pub keys_at : ℕ → ℕ → List Entry → List Key
+keys_at index zero entries = []
+keys_at index (suc count) entries = map (λ (entry : Entry). entry.key) (filter (λ (entry : Entry). is_some entry.bytes) (entries_at index entries)) ++ keys_at (index + 1) count entries
+
+-- the keys of all objects, by index
+abbrev pub keys_of : List Entry → List Key
+keys_of entries = keys_at 0 (index_count entries) entries
 
 -- how many slabs of 64 slots there are: as many as the indexes need
 abbrev pub slab_count : List Entry → ℕ

@@ -9,7 +9,7 @@ use Rattle.dlmalloc.specs.Heap.{state_of, IsSound}
 use Rattle.dlmalloc.specs.Binned.{IsBinned}
 use Rattle.dlmalloc.specs.Blocks.{IsBlock}
 use Rattle.dlmalloc.specs.Grown.{IsAsItWas}
-use Rattle.dlmalloc.specs.Served.{IsDenied}
+use Rattle.dlmalloc.specs.Served.{IsDenied, IsObtained}
 use Rattle.object_pool.specs.declared.pool_fault.PoolFault.{PoolFault}
 use Rattle.object_pool.specs.declared.pool_fault.PoolFault.TheVariants.{Full, Heap, OutOfMemory}
 use Rattle.object_pool.specs.declared.slots.Slot.{Slot}
@@ -61,19 +61,34 @@ KeepsAll word old new = (address size : ℕ) → IsBlock (state_of word old) add
 abbrev pub KeepsOthers : {A : Type 0} → (A → ℕ → ℕ) → List ℕ → Dlmalloc A → Dlmalloc A → Type 0
 KeepsOthers word slabs old new = (address size : ℕ) → IsBlock (state_of word old) address size → IsNoSlab slabs address → IsKept word old address size new
 
--- A slab more was taken, which was no block before.
-pub record IsAdded {A : Type 0} (word : A → ℕ → ℕ) (old : Dlmalloc A) (slabs new_slabs : List ℕ) : Type 0 where
+-- The heap is in its state, and its system was asked for nothing: at most bytes of blocks were written.
+pub record StaysInState {A : Type 0} (regions : A → List Grant) (word : A → ℕ → ℕ) (follows : A → List Event → A → Type 0) (old new : Dlmalloc A) : Type 0 where
+  pub state : state_of word new ≡ state_of word old
+  pub regions_same : regions new.system ≡ regions old.system
+  pub followed : follows old.system [] new.system
+
+-- The heap served one request, for the slab at an address: it was cut from what the heap had, or from a region of its system
+-- where it had no room.
+unfoldable pub HasServed : {A : Type 0} → (A → List Grant) → (A → ℕ → ℕ) → (A → List Event → A → Type 0) → Dlmalloc A → ℕ → ℕ → Dlmalloc A → Type 0
+HasServed regions word follows old size address new = IsObtained follows regions old.system (state_of word old) (padded (64 * size)) (address - 16) new.system (state_of word new)
+
+-- A slab more was taken, which was no block before. It is the one block that came: the heap served one request, for it.
+pub record IsAdded {A : Type 0} (regions : A → List Grant) (word : A → ℕ → ℕ) (follows : A → List Event → A → Type 0) (old : Dlmalloc A) (size : ℕ) (slabs : List ℕ) (new : Dlmalloc A) (new_slabs : List ℕ) : Type 0 where
   pub address : ℕ
   pub is : new_slabs ≡ slabs ++ address ∷ []
-  pub fresh : (size : ℕ) → IsBlock (state_of word old) address size → ⊥
+  pub fresh : (n : ℕ) → IsBlock (state_of word old) address n → ⊥
+  pub only : (at n : ℕ) → IsBlock (state_of word new) at n → IsBlock (state_of word old) at n ⊎ (at ≡ address)
+  pub served : HasServed regions word follows old size address new
 
 -- Every slab was given back: the heap is sound, each block of it was one that is no slab, and each of these has the bytes that
--- it had.
+-- it had. What the heap's owner set stays.
 pub record IsEmptied {A : Type 0} (regions : A → List Grant) (word : A → ℕ → ℕ) (old : Dlmalloc A) (slabs : List ℕ) (new : Dlmalloc A) : Type 0 where
   pub sound : IsSound regions word new
   pub linked : IsBinned regions word new
   pub kept : KeepsOthers word slabs old new
   pub only : (address size : ℕ) → IsBlock (state_of word new) address size → IsBlock (state_of word old) address size × IsNoSlab slabs address
+  pub granularity : new.granularity ≡ old.granularity
+  pub rate : new.rate ≡ old.rate
 
 -- ---- what a pool keeps
 
@@ -120,15 +135,17 @@ pub record Keeps {A : Type 0} (word : A → ℕ → ℕ) (old new : Pooled A) : 
   pub size : new.size ≡ old.size
   pub blocks : KeepsOthers word old.slabs old.heap new.heap
 
--- A slab was taken, where no slot was free, or the slabs are the same.
-abbrev pub TakesSlabIfNeeded : {A : Type 0} → (A → ℕ → ℕ) → Pooled A → Lists → Pooled A → Type 0
-TakesSlabIfNeeded word old lists new = (LacksSlot lists × IsAdded word old.heap old.slabs new.slabs) ⊎ (new.slabs ≡ old.slabs)
+-- A slab was taken, where no slot was free; or the slabs are the same, and the heap stays in its state.
+abbrev pub TakesSlabIfNeeded : {A : Type 0} → (A → List Grant) → (A → ℕ → ℕ) → (A → List Event → A → Type 0) → Pooled A → Lists → Pooled A → Type 0
+TakesSlabIfNeeded regions word follows old lists new =
+    (LacksSlot lists × IsAdded regions word follows old.heap old.size old.slabs new.heap new.slabs)
+    ⊎ ((new.slabs ≡ old.slabs) × StaysInState regions word follows old.heap new.heap)
 
 -- A slot is free: where none was, a slab was taken, and else all is as it was.
-pub record HasRoom {A : Type 0} (word : A → ℕ → ℕ) (old new : Pooled A) : Type 0 where
+pub record HasRoom {A : Type 0} (regions : A → List Grant) (word : A → ℕ → ℕ) (follows : A → List Event → A → Type 0) (old new : Pooled A) : Type 0 where
   pub kept : KeepsAll word old.heap new.heap
   pub others : new ≡ record old { heap = new.heap; slabs = new.slabs }
-  pub slab : (((old.freed ≡ []) × (length old.slots ≡ 64 * length old.slabs) × (length old.slots < 2 ^ 32 - 64)) × IsAdded word old.heap old.slabs new.slabs)
+  pub slab : (((old.freed ≡ []) × (length old.slots ≡ 64 * length old.slabs) × (length old.slots < 2 ^ 32 - 64)) × IsAdded regions word follows old.heap old.size old.slabs new.heap new.slabs)
       ⊎ (((old.freed ≡ []) × (length old.slots ≡ 64 * length old.slabs) → ⊥) × (new ≡ old))
 
 -- Why an insert is refused. Want of memory is free.
@@ -143,7 +160,8 @@ IsRefusedBy word denies pool Full = length pool.slots ≡ 2 ^ 32 - 64
 IsRefusedBy word denies pool (Heap fault) = (length pool.slots < 2 ^ 32 - 64) × IsDenied denies pool.heap.system (state_of word pool.heap) (padded (64 * pool.size)) fault
 IsRefusedBy word denies pool OutOfMemory = length pool.slots < 2 ^ 32 - 64
 
--- A refused insert leaves all as it was, but for what the system denies next.
-pub record IsUnchanged {A : Type 0} (regions : A → List Grant) (word : A → ℕ → ℕ) (follows : A → List Event → A → Type 0) (refuses : A → A → Type 0) (old new : Pooled A) : Type 0 where
-  pub heap : IsAsItWas regions word follows refuses old.heap new.heap
-  pub others : new ≡ record old { heap = new.heap }
+-- A refused insert leaves all as it was. Where the heap's system denied a region, what it denies next may be other.
+abbrev pub IsUnchanged : {A : Type 0} → (A → List Grant) → (A → ℕ → ℕ) → (A → List Event → A → Type 0) → (A → A → Type 0) → Pooled A → PoolFault → Pooled A → Type 0
+IsUnchanged regions word follows refuses old Full new = new ≡ old
+IsUnchanged regions word follows refuses old (Heap fault) new = IsAsItWas regions word follows refuses old.heap new.heap × (new ≡ record old { heap = new.heap })
+IsUnchanged regions word follows refuses old OutOfMemory new = new ≡ old

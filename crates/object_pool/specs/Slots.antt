@@ -50,3 +50,8 @@ pub record IsReleased (old : List Slot) (old_freed : List ℕ) (key : Key) (new 
 -- a key's object is in its slot
 abbrev pub IsIn : List Slot → Key → Type 0
 IsIn slots key = slot_at slots key.index ≡ record { generation = key.generation; used = true }
+
+-- the keys of the objects in slots, the first of which has an index
+abbrev pub keys_from : ℕ → List Slot → List Key
+keys_from index [] = []
+keys_from index (slot ∷ slots) = if slot.used then (record { index = index; generation = slot.generation }) ∷ keys_from (index + 1) slots else keys_from (index + 1) slots

@@ -2,11 +2,12 @@
 ghost use Rattle.std.specs.Prelude.{◌≡◌, ◌≢◌, ℕ, ◌+◌, ◌-◌, ◌*◌, ◌/◌, ◌^◌, ◌<◌, ◌≤◌, Bool, true, false, if◌then◌else◌, [], ◌∷◌, ◌++◌, IfOk, IfErr, OnErr, OnOk, Some, None, Err, IsSome, IsTrue, ◌↔◌, length, vec_len, vec_capacity};
 ghost use Rattle.dlmalloc_chunks.specs.Request.{padded};
 ghost use Rattle.dlmalloc.specs.Binned.{IsBinned};
-ghost use Rattle.dlmalloc.specs.Heap.{state_of, IsSound};
-ghost use Rattle.object_pool.specs.Lists.{Lists, empty, object_of, object_count, slab_count, next_key, inserted, replaced, removed, LacksSlot, IsFull};
+ghost use Rattle.dlmalloc.specs.Heap.{IsSound};
+ghost use Rattle.object_pool.specs.Lists.{Lists, empty, object_of, object_count, slab_count, next_key, keys_of, inserted, replaced, removed, LacksSlot, IsFull};
 
 use crate::Bytes;
 use crate::key::Key;
+use crate::keys::Keys;
 use crate::pool_fault::PoolFault;
 use crate::slabs::{SLOTS, Slabs};
 use crate::slots::Slots;
@@ -55,7 +56,7 @@ impl<A: Allocator + Memory> Model for Pool<A> {
 }
 
 impl<A: Allocator + Memory> Pool<A> {
-    ghost use Rattle.object_pool.specs.Pool.{HasRoom, IsAdded, IsEmptied, IsLaidOut, IsRefused, IsRefusedBy, IsUnchanged, Keeps, KeepsAll, PlacesAreApart, Stands, TakesSlabIfNeeded};
+    ghost use Rattle.object_pool.specs.Pool.{HasRoom, IsAdded, IsEmptied, IsLaidOut, IsRefused, IsRefusedBy, IsUnchanged, Keeps, KeepsAll, PlacesAreApart, Stands, StaysInState, TakesSlabIfNeeded};
 
     /// A pool without objects or slabs, for objects of `size` bytes, over a heap.
     pub fn new(alloc: Global, heap: Dlmalloc<A>, size: u64) -> Pool<A>
@@ -78,15 +79,16 @@ impl<A: Allocator + Memory> Pool<A> {
     }
 
     /// Inserts an object, and answers its key. It uses the slot freed last, else the lowest that was never used, and takes a
-    /// slab only where no slot is free. An `Err` changes nothing but what the heap's system denies next.
+    /// slab only where no slot is free. An `Err` changes nothing, but where the heap's
+    /// system denied a region: what it denies next may be other.
     pub fn insert(&mut self, bytes: &[u8]) -> Result<Key, PoolFault>
         requires many { length bytes.now ≡ self.old.size }
         ensures key { (lists : Lists) → Stands A.word self.old lists → IfOk result (λ key. key ≡ next_key lists) }
         ensures after { (lists : Lists) → Stands A.word self.old lists → IfOk result (λ key. Stands A.word self.new (inserted bytes.now lists)) }
-        ensures slab { (lists : Lists) → Stands A.word self.old lists → IfOk result (λ key. TakesSlabIfNeeded A.word self.old lists self.new) }
+        ensures slab { (lists : Lists) → Stands A.word self.old lists → IfOk result (λ key. TakesSlabIfNeeded A.regions A.word A.follows self.old lists self.new) }
         ensures refused { (lists : Lists) → Stands A.word self.old lists → IfErr result (λ fault. IsRefused A.word A.denies self.old lists fault) }
         ensures full { (lists : Lists) → Stands A.word self.old lists → IsFull lists → result ≡ Err PoolFault.Full }
-        ensures err { IfErr result (λ fault. IsUnchanged A.regions A.word A.follows A.refuses self.old self.new) }
+        ensures err { IfErr result (λ fault. IsUnchanged A.regions A.word A.follows A.refuses self.old fault self.new) }
         ensures kept { Keeps A.word self.old self.new }
     {
         self.make_room()?;
@@ -108,12 +110,12 @@ impl<A: Allocator + Memory> Pool<A> {
     fn make_room(&mut self) -> Result<(), PoolFault>
         ensures laid { IsLaidOut A.regions A.word self.old.heap self.old.size self.old.slabs }
         ensures within { length self.old.slots ≤ 64 * length self.old.slabs }
-        ensures room { OnOk result (HasRoom A.word self.old self.new) }
+        ensures room { OnOk result (HasRoom A.regions A.word A.follows self.old self.new) }
         ensures kept { KeepsAll A.word self.old.heap self.new.heap }
         ensures others { self.new ≡ record self.old { heap = self.new.heap; slabs = self.new.slabs } }
         ensures lacks { OnErr result ((self.old.freed ≡ []) × (length self.old.slots ≡ 64 * length self.old.slabs)) }
         ensures refused { IfErr result (λ fault. IsRefusedBy A.word A.denies self.old fault) }
-        ensures err { IfErr result (λ fault. IsUnchanged A.regions A.word A.follows A.refuses self.old self.new) }
+        ensures err { IfErr result (λ fault. IsUnchanged A.regions A.word A.follows A.refuses self.old fault self.new) }
     {
         if !self.lacks_slot() {
             return Ok(());
@@ -124,12 +126,12 @@ impl<A: Allocator + Memory> Pool<A> {
     /// Takes a slab more, where no slot is free. Every place that its slots need is reserved before the heap is asked.
     fn add_slab(&mut self) -> Result<(), PoolFault>
         requires lacks { (self.old.freed ≡ []) × (length self.old.slots ≡ 64 * length self.old.slabs) }
-        ensures added { OnOk result (IsAdded A.word self.old.heap self.old.slabs self.new.slabs) }
+        ensures added { OnOk result (IsAdded A.regions A.word A.follows self.old.heap self.old.size self.old.slabs self.new.heap self.new.slabs) }
         ensures few { OnOk result (length self.old.slots < 2 ^ 32 - 64) }
         ensures kept { KeepsAll A.word self.old.heap self.new.heap }
         ensures others { self.new ≡ record self.old { heap = self.new.heap; slabs = self.new.slabs } }
         ensures refused { IfErr result (λ fault. IsRefusedBy A.word A.denies self.old fault) }
-        ensures err { IfErr result (λ fault. IsUnchanged A.regions A.word A.follows A.refuses self.old self.new) }
+        ensures err { IfErr result (λ fault. IsUnchanged A.regions A.word A.follows A.refuses self.old fault self.new) }
     {
         if self.slots.len() == MOST_SLOTS {
             return Err(PoolFault::Full);
@@ -161,11 +163,11 @@ impl<A: Allocator + Memory> Pool<A> {
         ensures after { (lists : Lists) → Stands A.word self.old lists → result ≡ true → Stands A.word self.new (replaced key bytes.now lists) }
         ensures same { result ≡ false → self.new ≡ self.old }
         ensures others { self.new ≡ record self.old { heap = self.new.heap } }
-        ensures state { state_of A.word self.new.heap ≡ state_of A.word self.old.heap }
+        ensures heap { StaysInState A.regions A.word A.follows self.old.heap self.new.heap }
         ensures kept { Keeps A.word self.old self.new }
     {
         if !self.slots.has(key) {
-            return false;
+            return false; // and no byte changes
         }
         self.slabs.write(key.index, bytes);
         true
@@ -186,6 +188,13 @@ impl<A: Allocator + Memory> Pool<A> {
         }
         self.slots.release(key);
         true
+    }
+
+    /// The keys of the objects, by index. They take no memory, and a step costs what the slots that it passes do.
+    pub fn keys(&self) -> Keys<'_>
+        ensures { (lists : Lists) → Stands A.word self.now lists → result ≡ keys_of lists.entries }
+    {
+        self.slots.keys()
     }
 
     /// The number of objects.

@@ -6,10 +6,10 @@ ghost use Rattle.dlmalloc.specs.Binned.{IsBinned};
 ghost use Rattle.dlmalloc.specs.Blocks.{IsBlock, ArePlaced};
 ghost use Rattle.dlmalloc.specs.Grown.{IsAsItWas};
 ghost use Rattle.dlmalloc.specs.Heap.{state_of, IsGranularity, IsSound};
-ghost use Rattle.dlmalloc.specs.Requested.{IsHandedOut};
+ghost use Rattle.dlmalloc.specs.Requested.{IsHandedOut, IsServedAt};
 ghost use Rattle.dlmalloc.specs.Served.{IsDenied, IsRefusedWith};
 ghost use Rattle.object_pool.specs.Bytes.{AreGranted};
-ghost use Rattle.object_pool.specs.Pool.{bytes_of, place_of, IsAdded, IsEmptied, IsLaidOut, KeepsAll, KeepsOthers};
+ghost use Rattle.object_pool.specs.Pool.{bytes_of, place_of, IsAdded, IsEmptied, IsLaidOut, KeepsAll, KeepsOthers, StaysInState};
 
 use crate::Bytes;
 use crate::bytes::{read_bytes, write_bytes};
@@ -54,6 +54,7 @@ fn take_block<A: Allocator, L: Ledger>(
     requires sound { IsSound A.regions A.word heap.old }
     requires linked { IsBinned A.regions A.word heap.old }
     ensures ok { IfOk result (λ address. IsHandedOut A.regions A.word A.follows heap.old size 16 address heap.new) }
+    ensures served { IfOk result (λ address. IsServedAt A.regions A.word A.zeros A.follows heap.old size 16 address heap.new) }
     ensures err { IfErr result (λ error. IsRefusedWith A.regions A.word A.follows A.refuses A.denies heap.old size error heap.new) }
     ensures sound { IsSound A.regions A.word heap.new }
     ensures linked { IsBinned A.regions A.word heap.new }
@@ -123,7 +124,7 @@ impl<A: Allocator + Memory> Slabs<A> {
         ensures laid { IsLaidOut A.regions A.word self.new.heap self.new.size self.new.places.items }
         ensures size { self.new.size ≡ self.old.size }
         ensures places { self.new.places ≡ self.old.places }
-        ensures state { state_of A.word self.new.heap ≡ state_of A.word self.old.heap }
+        ensures state { StaysInState A.regions A.word A.follows self.old.heap self.new.heap }
         ensures here { bytes_of A.word self.new.heap self.old.places.items self.old.size index ≡ bytes.now }
         ensures others { (other : ℕ) → other < 64 * length self.old.places.items → other ≢ index →
             bytes_of A.word self.new.heap self.old.places.items self.old.size other ≡ bytes_of A.word self.old.heap self.old.places.items self.old.size other }
@@ -143,7 +144,7 @@ impl<A: Allocator + Memory> Slabs<A> {
         ensures laid { IsLaidOut A.regions A.word self.new.heap self.new.size self.new.places.items }
         ensures size { self.new.size ≡ self.old.size }
         ensures kept { KeepsAll A.word self.old.heap self.new.heap }
-        ensures added { IfOk result (λ done. IsAdded A.word self.old.heap self.old.places.items self.new.places.items) }
+        ensures added { IfOk result (λ done. IsAdded A.regions A.word A.follows self.old.heap self.old.size self.old.places.items self.new.heap self.new.places.items) }
         ensures places { IfErr result (λ fault. self.new.places ≡ self.old.places) }
         ensures err { IfErr result (λ fault. IsAsItWas A.regions A.word A.follows A.refuses self.old.heap self.new.heap) }
         ensures denied { IfErr result (λ fault. IsDenied A.denies self.old.heap.system (state_of A.word self.old.heap) (padded (64 * self.old.size)) fault) }

@@ -1,8 +1,9 @@
 // The slots of a pool: which have an object, and which may be used again.
 ghost use Rattle.std.specs.Prelude.{◌≡◌, ℕ, ◌+◌, ◌-◌, ◌^◌, ◌<◌, ◌≤◌, ◌↔◌, [], length, vec_len, vec_capacity, IsTrue, OnOk, OnErr};
-ghost use Rattle.object_pool.specs.Slots.{AreFreed, AreYoung, IsIn, IsNext, IsReleased, IsTaken, used_count};
+ghost use Rattle.object_pool.specs.Slots.{AreFreed, AreYoung, IsIn, IsNext, IsReleased, IsTaken, keys_from, used_count};
 
 use crate::key::Key;
+use crate::keys::Keys;
 use std::alloc::{AllocError, Global};
 
 /// The generation at which a slot is not used again.
@@ -11,8 +12,8 @@ const LAST_GENERATION: u32 = u32::MAX;
 /// A slot: how many objects were removed from it, and whether one is in it.
 #[derive(Clone, Copy, Drop)]
 pub(crate) struct Slot {
-    generation: u32,
-    used: bool,
+    pub(crate) generation: u32,
+    pub(crate) used: bool,
 }
 
 /// The slots that were used once, and those of them that may be used again. Each of these has a place in the list, so that
@@ -57,6 +58,13 @@ impl Slots {
         ensures { result ≡ used_count self.now.slots.items }
     {
         self.used
+    }
+
+    /// The keys of the objects.
+    pub(crate) fn keys(&self) -> Keys<'_>
+        ensures { result ≡ keys_from 0 self.now.slots.items }
+    {
+        Keys::new(self.slots.as_slice())
     }
 
     /// Whether a key's object is in its slot.

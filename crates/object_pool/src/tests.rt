@@ -7,6 +7,23 @@ use std::alloc::{AllocError, Global};
 use std::process::Abort;
 use std::test::Fail;
 
+/// A pool of objects of a size, over a heap whose system follows a script.
+fn pool_over(
+    alloc: Global,
+    script: Vec<FlatStep>,
+    granularity: u64,
+    size: u64,
+) -> Result<Pool<FlatSystem>, AllocError>
+    requires some { 0 < size }
+    requires small { size ≤ 4096 }
+    ensures { IfOk result (λ pool. pool.size ≡ size) }
+{
+    let system = FlatSystem::new(alloc, script, true, true, 4096)?;
+    let mut heap = Dlmalloc::new_with_allocator(system);
+    heap.set_granularity(granularity);
+    Ok(Pool::new(alloc, heap, size))
+}
+
 /// A pool of objects of a size, over a heap whose system gives one region of so many bytes at 0x10000.
 fn pool_of(
     alloc: Global,
@@ -24,10 +41,7 @@ fn pool_of(
         size: bytes,
         flags: 0,
     })?;
-    let system = FlatSystem::new(alloc, script, true, true, 4096)?;
-    let mut heap = Dlmalloc::new_with_allocator(system);
-    heap.set_granularity(granularity);
-    Ok(Pool::new(alloc, heap, size))
+    pool_over(alloc, script, granularity, size)
 }
 
 /// Sees that a key has an object of these bytes, or none.
@@ -105,6 +119,104 @@ fn a_heap_without_room_is_told(rt: HostRuntime) -> Result<(), Fail> {
     );
     assert_eq!(rt; pool.len(), 128);
     assert_eq!(rt; pool.slabs(), 2);
+    Ok(())
+}
+
+/// Sees that the keys of a pool's objects are these.
+fn expect_keys<R: Abort>(rt: &R, pool: &Pool<FlatSystem>, keys: &[Key]) {
+    let mut found = pool.keys();
+    for key in keys {
+        assert_eq!(rt; found.next(), Some(*key));
+    }
+    assert_eq!(rt; found.next(), None);
+}
+
+/// Sees that no call knows these keys, and that none of them removes an object.
+fn expect_unknown<R: Abort>(
+    rt: &R,
+    pool: &mut Pool<FlatSystem>,
+    keys: &[Key],
+    object: &[u8],
+) -> Result<(), AllocError>
+    requires { length object.now ≡ pool.old.size }
+    ensures { pool.new.size ≡ pool.old.size }
+{
+    for key in keys {
+        let many = pool.len();
+        expect_object(rt, pool, *key, None)?;
+        assert!(rt; !pool.set(*key, object));
+        assert!(rt; !pool.remove(*key));
+        assert_eq!(rt; pool.len(), many);
+    }
+    Ok(())
+}
+
+#[test]
+fn keys_without_an_object_are_refused(rt: HostRuntime) -> Result<(), Fail> {
+    let mut pool = pool_of(rt.alloc(), 65536, 65536, 24)?;
+    let (a, b) = ([1u8; 24], [2u8; 24]);
+    expect_keys(&rt, &pool, &[]);
+    insert_all(&rt, &mut pool, 4, &a);
+    expect_keys(&rt, &pool, &[key(0, 0), key(1, 0), key(2, 0), key(3, 0)]);
+    assert!(rt; pool.remove(key(0, 0)));
+    assert!(rt; pool.remove(key(3, 0)));
+    assert!(rt; pool.remove(key(1, 0)));
+    assert_eq!(rt; pool.insert(&b), Ok(key(1, 1)));
+    let unknown = [
+        key(0, 0), // removed; its slot is free
+        key(1, 0), // removed; its slot has another object
+        key(0, 1), // the next of a free slot
+        key(1, 2), // the next of a slot with an object
+        key(2, 1), // likewise, where none was removed
+        key(4, 0), // of a slot that was never used
+        key(63, 0), // the last of the slab
+        key(64, 0), // of no slab
+        key(u32::MAX, 0),
+        key(1, u32::MAX),
+        key(u32::MAX, u32::MAX),
+    ];
+    expect_unknown(&rt, &mut pool, &unknown, &a)?;
+    expect_keys(&rt, &pool, &[key(1, 1), key(2, 0)]);
+    expect_object(&rt, &pool, key(1, 1), Some(&b))?;
+    expect_object(&rt, &pool, key(2, 0), Some(&a))?;
+    Ok(())
+}
+
+/// A system that denies one request with a fault, and gives the next.
+fn denying(alloc: Global, fault: GrantFault) -> Result<Vec<FlatStep>, AllocError> {
+    let mut script = Vec::new(alloc);
+    script.push(FlatStep::Refuse { fault })?;
+    script.push(FlatStep::Give {
+        base: 0x1_0000,
+        size: 65536,
+        flags: 0,
+    })?;
+    Ok(script)
+}
+
+/// An insert that is refused leaves the pool as it was, and the next one is served.
+fn expect_fault<R: Abort>(rt: &R, alloc: Global, fault: GrantFault) -> Result<(), AllocError> {
+    let mut pool = pool_over(alloc, denying(alloc, fault)?, 65536, 24)?;
+    let object = [9u8; 24];
+    assert_eq!(rt; pool.insert(&object), Err(PoolFault::Heap(fault)));
+    assert_eq!(rt; pool.len(), 0);
+    assert_eq!(rt; pool.slabs(), 0);
+    expect_keys(rt, &pool, &[]);
+    assert_eq!(rt; pool.insert(&object), Ok(key(0, 0)));
+    expect_object(rt, &pool, key(0, 0), Some(&object))?;
+    assert_eq!(rt; pool.slabs(), 1);
+    Ok(())
+}
+
+#[test]
+fn each_fault_of_the_heap_is_told(rt: HostRuntime) -> Result<(), Fail> {
+    for fault in [
+        GrantFault::NoSpace,
+        GrantFault::NoFrames,
+        GrantFault::OutOfMemory,
+    ] {
+        expect_fault(&rt, rt.alloc(), fault)?;
+    }
     Ok(())
 }
 
@@ -204,6 +316,19 @@ fn all_are_there<R: Abort>(
     Ok(())
 }
 
+/// Sees that the keys of the pool are those of a plain list, by index.
+fn keys_are_those<R: Abort>(rt: &R, pool: &Pool<FlatSystem>, plain: &Plain) {
+    let mut count = 0usize;
+    let mut least = 0u32;
+    for key in pool.keys() {
+        assert!(rt; least <= key.index);
+        assert!(rt; plain.live.iter().any(|(live, _)| *live == key));
+        least = key.index.saturating_add(1);
+        count = count.saturating_add(1);
+    }
+    assert_eq!(rt; count, plain.live.len());
+}
+
 #[test]
 fn objects_are_those_of_a_plain_list(rt: HostRuntime) -> Result<(), Fail> {
     let mut pool = pool_of(rt.alloc(), 1 << 20, 65536, ODD as u64)?;
@@ -213,6 +338,7 @@ fn objects_are_those_of_a_plain_list(rt: HostRuntime) -> Result<(), Fail> {
     };
     turns(&rt, &mut pool, &mut plain, 3000)?;
     all_are_there(&rt, &pool, &plain)?;
+    keys_are_those(&rt, &pool, &plain);
     assert!(rt; pool.slabs() > 4);
     Ok(())
 }

@@ -3,7 +3,7 @@ use Rattle.dlmalloc_chunks.specs.Request.{limit}
 use Rattle.dlmalloc.specs.Heap.{state_of}
 use Rattle.dlmalloc.specs.Served.{IsRefused}
 use Rattle.object_pool.specs.Pool.{IsLaidOut}
-use Rattle.object_pool.proofs.HeapBlocks.{handed_keeps, handed_fresh, refused_keeps}
+use Rattle.object_pool.proofs.HeapBlocks.{handed_keeps, handed_fresh, handed_only, served_once, refused_keeps}
 use Rattle.object_pool.proofs.SlabPlaces.{added_laid}
 use Rattle.object_pool.proofs.slabs.Slabs.add.Goals as goal
 
@@ -32,6 +32,8 @@ returns-in-Ok-clause-added g c =
       address = c.in-Ok.address;
       is = c.push_reserved.ensures.items;
       fresh = handed_fresh g.A.Links.regions g.A.Links.word g.A.Links.follows s.heap c.take_block.new.heap (64 * s.size) 16 c.in-Ok.address c.take_block.ensures.placed c.in-Ok.ensures.ok;
+      only = handed_only g.A.Links.regions g.A.Links.word g.A.Links.follows s.heap c.take_block.new.heap (64 * s.size) 16 c.in-Ok.address c.take_block.ensures.placed c.in-Ok.ensures.ok;
+      served = served_once g.A.Links.regions g.A.Links.word g.A.Links.follows s.heap c.take_block.new.heap g.A.Allocator.zeros s.size c.in-Ok.address c.in-Ok.ensures.served;
     }
 
 pub returns-in-Err-System-clause-kept : goal.returns-in-Err-System-clause-kept

@@ -1,6 +1,6 @@
 use lib.Count.{ones}
 use Rattle.std.proofs.Common.{refl}
-use Rattle.object_pool.proofs.tests.pool_of.Goals as goal
+use Rattle.bench_pool.proofs.pool_for.Goals as goal
 
 -- 4096 is a power of two
 pub new-requires : goal.new-requires
