@@ -1,0 +1,65 @@
+-- What is kept of walks (AMD64 manual, volume 2, section 5.5; that the oldest entry leaves first is the crate's own).
+use Rattle.std.specs.Prelude.{◌≡◌, ℕ, ◌*◌, ◌<◌, Bool, not, ◌==◌, IsTrue, IsFalse, List, [], ◌∷◌, ◌++◌, length, map, filter, slice_index, Option, Some, None, option_map}
+use Rattle.std.specs.List.{list_any, AllByRecursion, AllByRecursion-prop}
+use Rattle.std.proofs.Props.{props}
+use Rattle.paging_core.specs.Address.{is_canonical}
+use Rattle.paging_core.specs.Memory.{frame_count}
+use Rattle.paging_core.specs.declared.page_walk.Mapped.{Mapped}
+use Rattle.paging_core.specs.Walk.{walk_of, place_of}
+use Rattle.circular_buffer.specs.Buffer.{keep_last}
+use Rattle.x86_instructions.specs.declared.tlb.FlushCommand.{FlushCommand}
+use Rattle.tlb_cache.specs.Covered.{covers}
+use Rattle.tlb_cache.specs.declared.entry.TlbEntry.{TlbEntry}
+
+-- the translations that are kept, the oldest first, and how many there may be
+pub record Cache : Type 0 where
+  pub entries : List TlbEntry
+  pub capacity : ℕ
+
+-- the pages of entries
+abbrev pub pages_of : List TlbEntry → List ℕ
+pages_of entries = map (λ (entry : TlbEntry). entry.page) entries
+
+-- whether a page has an entry
+abbrev pub has_page : List TlbEntry → ℕ → Bool
+has_page entries page = list_any (λ (entry : TlbEntry). entry.page == page) entries
+
+-- the entry with an age is of a page
+pub record IsAgeOf (entries : List TlbEntry) (page age : ℕ) : Type 0 where
+  pub there : age < length entries
+  pub of_page : slice_index (pages_of entries) age ≡ page
+
+-- no two entries are of one page
+abbrev pub AreDistinct : List TlbEntry → Type 0
+AreDistinct [] = Unit {0}
+AreDistinct (entry ∷ rest) = IsFalse (has_page rest entry.page) × AreDistinct rest
+
+-- An entry is what the walk finds of its page, at a frame that exists.
+pub record IsFound (words : List ℕ) (root : ℕ) (entry : TlbEntry) : Type 0 where
+  pub canonical : IsTrue (is_canonical (entry.page * 4096))
+  pub walked : walk_of words root entry.page ≡ Some (place_of entry.mapped)
+  pub frame : entry.mapped.frame < frame_count words
+
+-- each entry is
+abbrev pub Agrees : List ℕ → ℕ → List TlbEntry → Type 0
+Agrees words root entries = AllByRecursion (IsFound words root) entries
+
+pub Agrees-prop : (words : List ℕ) (root : ℕ) (entries : List TlbEntry) → IsProp (Agrees words root entries)
+Agrees-prop words root entries = AllByRecursion-prop (IsFound words root) (IsFound-prop words root) entries where
+  IsFound-prop : (words : List ℕ) (root : ℕ) (entry : TlbEntry) → IsProp (IsFound words root entry)
+  IsFound-prop words root entry = hlevel props
+
+-- the entries after a look-up that missed: what the walk found of the page is the newest, and the oldest leaves where there
+-- were as many as there may be
+abbrev pub kept : Cache → ℕ → Option Mapped → Cache
+kept cache page None = cache
+kept cache page (Some mapped) = record cache { entries = keep_last cache.capacity (cache.entries ++ record { page = page; mapped = mapped } ∷ []) }
+
+-- The cache after a page was looked up: as it was where the page had an entry, and else with what the walk found.
+pub record IsLookedUp (words : List ℕ) (root page : ℕ) (old new : Cache) : Type 0 where
+  pub hit : IsTrue (has_page old.entries page) → new ≡ old
+  pub missed : IsFalse (has_page old.entries page) → (found : Option Mapped) × (option_map place_of found ≡ walk_of words root page) × (new ≡ kept old page found)
+
+-- those that a command leaves, in order
+abbrev pub left_by : FlushCommand → List TlbEntry → List TlbEntry
+left_by command entries = filter (λ (entry : TlbEntry). not (covers command entry.page)) entries

@@ -1,0 +1,5 @@
+pub mod Cache
+pub mod Covered
+pub mod Pages
+pub mod Chains
+pub mod PageIndex
