@@ -14,11 +14,9 @@ use Rattle.paging_core.proofs.Made.{reach_below, large_below}
 use Rattle.paging_core.proofs.Reach.{reach_zero, reach_suc, large_is, large_none, either_way}
 use Rattle.page_ranges.specs.RangeUnmapping.{is_cut}
 use Rattle.page_ranges.proofs.Unmapped.{cut_or_not}
-use Rattle.mapped_regions.specs.declared.met_slots.SlotMap.{SlotMap}
-use Rattle.mapped_regions.specs.declared.met_slots.SlotMap.TheVariants as Map
 use Rattle.mapped_regions.specs.declared.met_slots.MetSlot.{MetSlot}
 use Rattle.mapped_regions.specs.declared.met_slots.MetSlots.{MetSlots}
-use Rattle.mapped_regions.specs.MetSlots.{IsTable, IsLargePage, IsMapOf, AreMet, IsTableMap, KeepsNoLargePage, IsFrameOf}
+use Rattle.mapped_regions.specs.MetSlots.{IsTable, IsLargePage, AreTablesMet, AreLargePagesMet, AreMet, IsFrameOf}
 
 -- the frame of a place that is found
 found_frame : (o : Option Place) (to : Place) → o ≡ Some to → unwrap_or (option_map (λ (place : Place). place.frame) o) 0 ≡ to.frame
@@ -245,41 +243,33 @@ by_large words root page first w is = elim w.way [
 
 -- ---- what is kept of slots
 
--- a slot in its place, and the others
-pub placed : (slots : List MetSlot) (place : ℕ) (new : MetSlot) (P : MetSlot → Type 0) (k : ℕ) (d : MetSlot) → place < length slots → P new → ((k ≡ place → ⊥) → P (get_or slots k d)) → P (get_or (set slots place new) k d)
-placed slots place new P k d less here other = elim (cases_eq k place) [
-  | inl e ↦ subst (λ i. P (get_or (set slots place new) i d)) (sym e) (subst P (sym (get_or-set_same slots place new d less)) here)
-  | inr ne ↦ subst P (sym (get_or-set_other slots place k new d ne)) (other ne)
-]
-
 some_stays : (old new : Option Place) (frame : ℕ) → ((place : Place) → old ≡ Some place → new ≡ Some place) → option_map (λ (place : Place). place.frame) old ≡ Some frame →
     option_map (λ (place : Place). place.frame) new ≡ Some frame
 some_stays None new frame stay is = absurd (let no : None ≡ Some frame = is in cc)
 some_stays (Some place) new frame stay is = ap (option_map (λ (place : Place). place.frame)) (stay place refl) ∙ is
 
+-- tables stay kept where tables stay
+pub tables_stay : (old new : List ℕ) (root : ℕ) (slots : List MetSlot) →
+    ((number : ℕ) (met : Place) → reach old root 3 number ≡ Some met → reach new root 3 number ≡ Some met) → AreTablesMet old root slots → AreTablesMet new root slots
+tables_stay old new root slots tables are = λ k d less some.
+    let met = get_or slots k d in
+    some_stays (reach old root 3 met.number) (reach new root 3 met.number) met.frame (tables met.number) (are k d less some)
+
+-- and what is kept of large pages too, where these stay
 pub met_stay : (old new : List ℕ) (root : ℕ) (slots : MetSlots) →
     ((number : ℕ) (met : Place) → reach old root 3 number ≡ Some met → reach new root 3 number ≡ Some met) →
     ((number : ℕ) (large : Place) → large_of old root number ≡ Some large → large_of new root number ≡ Some large) → AreMet old root slots → AreMet new root slots
-met_stay old new root slots tables larges are = λ k d less some. go (get_or slots.met k d).number (get_or slots.met k d).map (are k d less some)
+met_stay old new root slots tables larges are = (tables_stay old new root slots.tables tables are.0, larges_stay)
   where
-    go : (number : ℕ) (map : SlotMap) → IsMapOf old root number map → IsMapOf new root number map
-    go number (Map.Table table) is = some_stays (reach old root 3 number) (reach new root 3 number) table (tables number) is
-    go number (Map.LargePage first) is = some_stays (large_of old root number) (large_of new root number) first (larges number) is
+    larges_stay : AreLargePagesMet new root slots.large_pages
+    larges_stay = λ k d less some.
+        let met = get_or slots.large_pages k d in
+        some_stays (large_of old root met.number) (large_of new root met.number) met.frame (larges met.number) (are.1 k d less some)
 
--- where nothing is kept of large pages, it is enough that tables stay
-pub tables_stay : (old new : List ℕ) (root : ℕ) (slots : MetSlots) →
-    ((number : ℕ) (met : Place) → reach old root 3 number ≡ Some met → reach new root 3 number ≡ Some met) →
-    All KeepsNoLargePage slots.met → AreMet old root slots → AreMet new root slots
-tables_stay old new root slots tables none are = λ k d less some. go (get_or slots.met k d).number (get_or slots.met k d).map (none k d less some) (are k d less some)
-  where
-    go : (number : ℕ) (map : SlotMap) → IsTableMap map → IsMapOf old root number map → IsMapOf new root number map
-    go number (Map.Table table) table_kept is = some_stays (reach old root 3 number) (reach new root 3 number) table (tables number) is
-    go number (Map.LargePage first) none is = absurd none
-
--- so it is where pages are cut: a large page that leaves its slot to a table had none before
-pub cut_stay : (old new : List ℕ) (root first : ℕ) (slots : MetSlots) →
+-- where pages are cut tables stay: a large page that leaves its slot to a table had none before
+pub cut_stay : (old new : List ℕ) (root first : ℕ) (slots : List MetSlot) →
     ((l number : ℕ) → l ≡ 3 → (l ≡ 3 → number ≡ prefix_of first 3 → is_cut old root first ≡ false) → reach new root l number ≡ reach old root l number) →
-    All KeepsNoLargePage slots.met → AreMet old root slots → AreMet new root slots
+    AreTablesMet old root slots → AreTablesMet new root slots
 cut_stay old new root first slots same = tables_stay old new root slots (λ number met is. same 3 number refl (λ e at. not_cut number met is at) ∙ is)
   where
     not_cut : (number : ℕ) (met : Place) → reach old root 3 number ≡ Some met → number ≡ prefix_of first 3 → is_cut old root first ≡ false

@@ -1,6 +1,6 @@
 -- What maps the pages of slots, and of which slots it is kept: a slot goes by the first three indices of its pages, as one
 -- number in base 512 (own).
-use Rattle.std.specs.Prelude.{◌≡◌, ℕ, ◌^◌, ◌<◌, ⊤, List, Some}
+use Rattle.std.specs.Prelude.{◌≡◌, ℕ, ◌^◌, ◌<◌, List, Some}
 use Rattle.std.specs.Option.{option_map}
 use Rattle.std.specs.List.{All}
 use Rattle.std.proofs.Props.{props}
@@ -24,20 +24,15 @@ abbrev pub IsMapOf : List ℕ → ℕ → ℕ → SlotMap → Type 0
 IsMapOf words root number (Map.Table table) = IsTable words root number table
 IsMapOf words root number (Map.LargePage first) = IsLargePage words root number first
 
--- what is kept of a slot maps its pages; 27 bits have the numbers of slots
-abbrev pub IsMet : List ℕ → ℕ → MetSlot → Type 0
-IsMet words root met = met.number < 2 ^ 27 → IsMapOf words root met.number met.map
+-- each slot that is kept has this table, or this large page; 27 bits have the numbers of slots
+abbrev pub AreTablesMet : List ℕ → ℕ → List MetSlot → Type 0
+AreTablesMet words root slots = All (λ (met : MetSlot). met.number < 2 ^ 27 → IsTable words root met.number met.frame) slots
+
+abbrev pub AreLargePagesMet : List ℕ → ℕ → List MetSlot → Type 0
+AreLargePagesMet words root slots = All (λ (met : MetSlot). met.number < 2 ^ 27 → IsLargePage words root met.number met.frame) slots
 
 abbrev pub AreMet : List ℕ → ℕ → MetSlots → Type 0
-AreMet words root slots = All (IsMet words root) slots.met
-
--- of the slot its table is kept, if anything is
-abbrev pub IsTableMap : SlotMap → Type 0
-IsTableMap (Map.Table table) = ⊤
-IsTableMap (Map.LargePage first) = ⊥
-
-abbrev pub KeepsNoLargePage : MetSlot → Type 0
-KeepsNoLargePage met = met.number < 2 ^ 27 → IsTableMap met.map
+AreMet words root slots = AreTablesMet words root slots.tables × AreLargePagesMet words root slots.large_pages
 
 -- the walk to the page arrives at the frame
 pub record IsFrameOf (words : List ℕ) (root page frame : ℕ) : Type 0 where
@@ -48,9 +43,5 @@ pub record IsFrameOf (words : List ℕ) (root page frame : ℕ) : Type 0 where
 
 -- ---- this is kept in one way
 
-IsMapOf-prop : (words : List ℕ) (root number : ℕ) (map : SlotMap) → IsProp (IsMapOf words root number map)
-IsMapOf-prop words root number (Map.Table table) = hlevel props
-IsMapOf-prop words root number (Map.LargePage first) = hlevel props
-
 pub AreMet-prop : (words : List ℕ) (root : ℕ) (slots : MetSlots) → IsProp (AreMet words root slots)
-AreMet-prop words root slots = hlevel (props, IsMapOf-prop words root)
+AreMet-prop words root slots = hlevel props

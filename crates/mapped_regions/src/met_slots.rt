@@ -1,14 +1,13 @@
 // Walks that begin at the table or at the large page of a slot, where an earlier one met it.
 ghost use Rattle.std.specs.Prelude.{◌≡◌, ℕ, ◌+◌, ◌*◌, ◌/◌, ◌%◌, ◌^◌, ◌<◌, IfSome, IsSome, List};
-ghost use Rattle.std.specs.List.{All};
 ghost use Rattle.paging_core.specs.Memory.{frame_count, word_at};
 ghost use Rattle.paging_core.specs.Entry.{frame_of, has_bit};
 ghost use Rattle.paging_core.specs.Prefix.{prefix_of};
 ghost use Rattle.paging_core.specs.Walk.{walk_of};
-ghost use Rattle.mapped_regions.specs.MetSlots.{IsMapOf, IsFrameOf, KeepsNoLargePage};
+ghost use Rattle.mapped_regions.specs.MetSlots.{IsTable, IsLargePage, IsMapOf, IsFrameOf, AreTablesMet, AreLargePagesMet};
 
 use paging_core::{
-    Frames, Page, PageSize, PageTableEntry, PageTableIndex, PhysAddr, PhysFrame, Size4KiB,
+    Frames, Page, PageSize, PageTableEntry, PageTableIndex, PhysAddr, PhysFrame, Size4KiB, walk,
 };
 
 /// A number that no slot has.
@@ -72,49 +71,86 @@ fn slot_map(frames: &Frames, root: PhysFrame, page: Page) -> SlotMap
     }
 }
 
-/// The frame of a page that is mapped, from what maps its slot on.
-fn frame_from(frames: &Frames, root: PhysFrame, map: SlotMap, page: Page) -> PhysFrame
+/// The frame of a page that is mapped, from the table of its slot on.
+fn frame_in_table(frames: &Frames, root: PhysFrame, table: PhysFrame, page: Page) -> PhysFrame
     requires root { root < frame_count frames.now }
-    requires map { IsMapOf frames.now root (prefix_of page 3) map }
+    requires table { IsTable frames.now root (prefix_of page 3) table }
     requires mapped { IsSome (walk_of frames.now root page) }
     ensures { IsFrameOf frames.now root page result }
 {
-    match map {
-        SlotMap::Table(table) => entry_at(frames, table, page.p1_index()).frame(),
-        SlotMap::LargePage(first) => frame_after(first, page.number() % 512),
-    }
+    entry_at(frames, table, page.p1_index()).frame()
 }
 
-/// A slot that a walk met: its number, and what maps its pages.
+/// The frame of a page that is mapped in a large page, from its first frame on.
+fn frame_in_large_page(frames: &Frames, root: PhysFrame, first: PhysFrame, page: Page) -> PhysFrame
+    requires root { root < frame_count frames.now }
+    requires large_page { IsLargePage frames.now root (prefix_of page 3) first }
+    requires mapped { IsSome (walk_of frames.now root page) }
+    ensures { IsFrameOf frames.now root page result }
+{
+    frame_after(first, page.number() % 512)
+}
+
+/// The frame of a page that is mapped, from the root on.
+fn frame_by_walk(frames: &Frames, root: PhysFrame, page: Page) -> PhysFrame
+    requires root { root < frame_count frames.now }
+    requires mapped { IsSome (walk_of frames.now root page) }
+    ensures { IsFrameOf frames.now root page result }
+{
+    let Some(mapped) = walk(frames, root, page) else {
+        unreachable!()
+    };
+    mapped.frame
+}
+
+/// A slot that a walk met: its number, and the frame of its table, or the first frame of its large page.
 #[derive(Clone, Copy)]
 pub(crate) struct MetSlot {
     number: u64,
-    map: SlotMap,
+    frame: PhysFrame,
 }
 
-impl MetSlot {
-    ghost use Rattle.mapped_regions.specs.MetSlots.{IsMet};
+/// Where no slot is kept.
+fn none_met(frame: PhysFrame) -> [MetSlot; PLACES]
+    ensures tables { (words : List ℕ) (root : ℕ) → AreTablesMet words root result }
+    ensures large_pages { (words : List ℕ) (root : ℕ) → AreLargePagesMet words root result }
+{
+    let none = MetSlot {
+        number: NO_SLOT,
+        frame,
+    };
+    [none; PLACES]
+}
 
-    /// The slot where its table is kept, and else none.
-    fn without_large_page(self) -> MetSlot
-        ensures met { (words : List ℕ) (root : ℕ) → IsMet words root self → IsMet words root result }
-        ensures table { KeepsNoLargePage result }
-    {
-        match self.map {
-            SlotMap::Table(_) => self,
-            SlotMap::LargePage(_) => MetSlot {
-                number: NO_SLOT,
-                ..self
-            },
-        }
+/// The frame that is kept for the slot with a number, if one is.
+fn find(slots: &[MetSlot; PLACES], number: u64) -> Option<PhysFrame>
+    requires { number < 2 ^ 27 }
+    ensures tables { (words : List ℕ) (root : ℕ) → AreTablesMet words root slots.now → IfSome result (IsTable words root number) }
+    ensures large_pages { (words : List ℕ) (root : ℕ) → AreLargePagesMet words root slots.now → IfSome result (IsLargePage words root number) }
+{
+    let met = slots[number as usize % PLACES];
+    if met.number == number {
+        Some(met.frame)
+    } else {
+        None
     }
 }
 
-/// Slots that walks met, at most one for each remainder of their numbers, so that a walk to one of their pages reads
-/// its last entry alone, or none. Tables stay where they are; what is kept of large pages is forgotten when pages leave.
+/// Keeps a frame for the slot with a number, and forgets the one at its place.
+fn put(slots: &mut [MetSlot; PLACES], number: u64, frame: PhysFrame)
+    ensures tables { (words : List ℕ) (root : ℕ) → IsTable words root number frame → AreTablesMet words root slots.old → AreTablesMet words root slots.new }
+    ensures large_pages { (words : List ℕ) (root : ℕ) → IsLargePage words root number frame → AreLargePagesMet words root slots.old → AreLargePagesMet words root slots.new }
+{
+    slots[number as usize % PLACES] = MetSlot { number, frame };
+}
+
+/// Slots that walks met, those with a table apart from those of large pages, and of each at most one for each remainder of
+/// their numbers. So a walk to a page of a slot with a table reads its last entry alone, and one into a large page none.
+/// Tables stay where they are; what is kept of large pages is forgotten when pages leave.
 #[derive(Drop)]
 pub(crate) struct MetSlots {
-    met: [MetSlot; PLACES],
+    tables: [MetSlot; PLACES],
+    large_pages: [MetSlot; PLACES],
 }
 
 impl MetSlots {
@@ -124,43 +160,39 @@ impl MetSlots {
     pub(crate) fn new(root: PhysFrame) -> Self
         ensures { (words : List ℕ) (root : ℕ) → AreMet words root result }
     {
-        let none = MetSlot {
-            number: NO_SLOT,
-            map: SlotMap::Table(root),
-        };
         MetSlots {
-            met: [none; PLACES],
+            tables: none_met(root),
+            large_pages: none_met(root),
         }
     }
 
-    /// What maps the slot with a number, if it is kept.
-    fn find(&self, number: u64) -> Option<SlotMap>
-        requires { number < 2 ^ 27 }
-        ensures { (words : List ℕ) (root : ℕ) → AreMet words root self.now → IfSome result (IsMapOf words root number) }
+    /// Keeps what maps a slot, and forgets the one at its place.
+    fn keep(&mut self, number: u64, map: SlotMap)
+        ensures { (words : List ℕ) (root : ℕ) → IsMapOf words root number map → AreMet words root self.old → AreMet words root self.new }
     {
-        let met = self.met[number as usize % PLACES];
-        if met.number == number {
-            Some(met.map)
-        } else {
-            None
+        match map {
+            SlotMap::Table(table) => put(&mut self.tables, number, table),
+            SlotMap::LargePage(first) => put(&mut self.large_pages, number, first),
         }
-    }
-
-    /// Keeps a slot, and forgets the one at its place.
-    fn keep(&mut self, number: u64, map: &SlotMap)
-        ensures { (words : List ℕ) (root : ℕ) → IsMapOf words root number map.now → AreMet words root self.old → AreMet words root self.new }
-    {
-        let map = *map;
-        self.met[number as usize % PLACES] = MetSlot { number, map };
     }
 
     /// Forgets what is kept of large pages.
-    pub(crate) fn forget_large_pages(&mut self)
-        ensures met { (words : List ℕ) (root : ℕ) → AreMet words root self.old → AreMet words root self.new }
-        ensures tables { All KeepsNoLargePage self.new.met }
+    pub(crate) fn forget_large_pages(&mut self, root: PhysFrame)
+        ensures { (words : List ℕ) (root : ℕ) → AreTablesMet words root self.old.tables → AreMet words root self.new }
     {
-        for place in 0..PLACES {
-            self.met[place] = self.met[place].without_large_page();
+        self.large_pages = none_met(root);
+    }
+
+    /// The frame of a page that is mapped, of whose slot no table is kept.
+    fn frame_elsewhere(&self, frames: &Frames, root: PhysFrame, page: Page) -> PhysFrame
+        requires root { root < frame_count frames.now }
+        requires met { AreMet frames.now root self.now }
+        requires mapped { IsSome (walk_of frames.now root page) }
+        ensures { IsFrameOf frames.now root page result }
+    {
+        match find(&self.large_pages, slot_number(page)) {
+            Some(first) => frame_in_large_page(frames, root, first, page),
+            None => frame_by_walk(frames, root, page),
         }
     }
 
@@ -171,27 +203,49 @@ impl MetSlots {
         requires mapped { IsSome (walk_of frames.now root page) }
         ensures { IsFrameOf frames.now root page result }
     {
-        let map = match self.find(slot_number(page)) {
-            Some(map) => map,
-            None => slot_map(frames, root, page),
-        };
-        frame_from(frames, root, map, page)
+        match find(&self.tables, slot_number(page)) {
+            Some(table) => frame_in_table(frames, root, table, page),
+            None => self.frame_elsewhere(frames, root, page),
+        }
     }
 
-    /// What maps the slot of a page that is mapped, which is kept from now on.
-    fn meet(&mut self, frames: &Frames, root: PhysFrame, page: Page) -> SlotMap
+    /// Keeps what maps the slot of a page that is mapped.
+    fn keep_slot(&mut self, frames: &Frames, root: PhysFrame, page: Page)
         requires root { root < frame_count frames.now }
         requires met { AreMet frames.now root self.old }
         requires mapped { IsSome (walk_of frames.now root page) }
-        ensures map { IsMapOf frames.now root (prefix_of page 3) result }
-        ensures met { AreMet frames.now root self.new }
+        ensures { AreMet frames.now root self.new }
     {
         let map = slot_map(frames, root, page);
-        self.keep(slot_number(page), &map);
-        map
+        self.keep(slot_number(page), map);
+    }
+
+    /// Keeps what maps the slot of a page that is mapped, if nothing is kept of it.
+    fn keep_new_slot(&mut self, frames: &Frames, root: PhysFrame, page: Page)
+        requires root { root < frame_count frames.now }
+        requires met { AreMet frames.now root self.old }
+        requires mapped { IsSome (walk_of frames.now root page) }
+        ensures { AreMet frames.now root self.new }
+    {
+        let number = slot_number(page);
+        if find(&self.tables, number).is_none() && find(&self.large_pages, number).is_none() {
+            self.keep_slot(frames, root, page);
+        }
     }
 
     /// The frame of a page that is mapped, whose slot is kept from now on.
+    pub(crate) fn meet(&mut self, frames: &Frames, root: PhysFrame, page: Page) -> PhysFrame
+        requires root { root < frame_count frames.now }
+        requires met { AreMet frames.now root self.old }
+        requires mapped { IsSome (walk_of frames.now root page) }
+        ensures frame { IsFrameOf frames.now root page result }
+        ensures met { AreMet frames.now root self.new }
+    {
+        self.keep_new_slot(frames, root, page);
+        self.frame(frames, root, page)
+    }
+
+    /// The same as `meet`. It looks for a table first, and is so short that it is compiled into whoever stores a word.
     pub(crate) fn frame_kept(&mut self, frames: &Frames, root: PhysFrame, page: Page) -> PhysFrame
         requires root { root < frame_count frames.now }
         requires met { AreMet frames.now root self.old }
@@ -199,10 +253,9 @@ impl MetSlots {
         ensures frame { IsFrameOf frames.now root page result }
         ensures met { AreMet frames.now root self.new }
     {
-        let map = match self.find(slot_number(page)) {
-            Some(map) => map,
+        match find(&self.tables, slot_number(page)) {
+            Some(table) => frame_in_table(frames, root, table, page),
             None => self.meet(frames, root, page),
-        };
-        frame_from(frames, root, map, page)
+        }
     }
 }

@@ -240,7 +240,7 @@ impl MappedRegions {
             Page::containing_address(VirtAddr::new(region.start)),
             region.pages,
         );
-        self.met_slots.forget_large_pages();
+        self.met_slots.forget_large_pages(self.root);
     }
 
     /// What may be done at an address: the rights of the region that has it, if there is one, by a walk.
@@ -292,7 +292,7 @@ impl MappedRegions {
             pages,
         );
         self.tables += free + pages - self.pool.free_count();
-        self.met_slots.forget_large_pages();
+        self.met_slots.forget_large_pages(self.root);
     }
 
     /// The word at a multiple of 8 in a page that is mapped, by a walk.
@@ -353,7 +353,7 @@ impl MappedRegions {
             reached (shown self.new).words (shown self.old).root other ≡ reached (shown self.old).words (shown self.old).root other }
     {
         let page = Page::containing_address(VirtAddr::new(at));
-        let frame = self.met_slots.frame_kept(&self.frames, self.root, page);
+        let frame = self.met_slots.meet(&self.frames, self.root, page);
         self.frames.write_words(frame, word_index(at), words);
     }
 }

@@ -82,9 +82,9 @@ invariant_of-self c =
     let g = gone c in
     let range = c.requires.range in
     record {
-      met = cut_stay c.args.self.now.frames c.unmap_pages.new.frames c.args.self.now.root (c.args.start / 4096) c.forget_large_pages.new.self
-          (λ l number is apart. g.gone.gone.tables_stay l number (omega (arith, is)) apart) c.forget_large_pages.ensures.tables
-          (c.forget_large_pages.ensures.met c.args.self.now.frames c.args.self.now.root c.args.self.now.met);
+      met = c.forget_large_pages.ensures c.unmap_pages.new.frames c.args.self.now.root
+          (cut_stay c.args.self.now.frames c.unmap_pages.new.frames c.args.self.now.root (c.args.start / 4096) c.args.self.now.met_slots.tables
+          (λ l number is apart. g.gone.gone.tables_stay l number (omega (arith, is)) apart) c.args.self.now.met.0);
       mapped = fewer_mapped (shown c.args.self.now) (after c) c.args.start c.args.pages m range
           (ap (λ rs. total_pages rs + c.args.pages) g.regions
           ∙ cut_count c.args.start c.args.pages range.0 range.1.some (2 ^ 64) (shown c.args.self.now).regions c.count.ensures.laid c.requires.ends c.requires.held)

@@ -71,9 +71,9 @@ invariant_of-self c =
     let m = c.args.self.now.mapped in
     let range = listed_range (shown c.args.self.now) c.args.region.now.start c.args.region.now.pages m c.requires.there in
     record {
-      met = tables_stay c.args.self.now.frames c.unmap_pages.new.frames c.args.self.now.root c.forget_large_pages.new.self
-          (λ number at is. l.gone.gone.tables_stay 3 number (omega arith) (λ e same. l.whole) ∙ is) c.forget_large_pages.ensures.tables
-          (c.forget_large_pages.ensures.met c.args.self.now.frames c.args.self.now.root c.args.self.now.met);
+      met = c.forget_large_pages.ensures c.unmap_pages.new.frames c.args.self.now.root
+          (tables_stay c.args.self.now.frames c.unmap_pages.new.frames c.args.self.now.root c.args.self.now.met_slots.tables
+          (λ number at is. l.gone.gone.tables_stay 3 number (omega arith) (λ e same. l.whole) ∙ is) c.args.self.now.met.0);
       mapped = fewer_mapped (shown c.args.self.now) (after c) c.args.region.now.start c.args.region.now.pages m range
           (ap (λ rs. total_pages rs + c.args.region.now.pages) l.regions ∙ pages_without c.args.region.now.start c.args.region.now.pages (shown c.args.self.now).regions c.requires.there)
           (subst (AllByRecursion (IsRegion (shown c.args.self.now).base (shown c.args.self.now).pages)) (sym l.regions)

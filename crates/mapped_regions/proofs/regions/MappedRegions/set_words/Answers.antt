@@ -10,37 +10,37 @@ pub invariant_of-self : goal.invariant_of-self
 invariant_of-self c =
     let free = c.args.self.now.pool in
     let tree = c.args.self.now.mapped.tree in
-    let f = frame_at c.args.self.now.frames c.args.self.now.root c.args.at c.new.result c.containing_address-page.result c.frame_kept-frame.result c.containing_address-page.ensures c.new.ensures c.frame_kept-frame.ensures.frame in
-    let put = put_at c.args.self.now.frames c.write_words.new.self c.args.self.now.root c.args.at c.word_index.result c.frame_kept-frame.result c.args.words.now f c.word_index.ensures.index c.write_words.ensures in
+    let f = frame_at c.args.self.now.frames c.args.self.now.root c.args.at c.new.result c.containing_address-page.result c.meet-frame.result c.containing_address-page.ensures c.new.ensures c.meet-frame.ensures.frame in
+    let put = put_at c.args.self.now.frames c.write_words.new.self c.args.self.now.root c.args.at c.word_index.result c.meet-frame.result c.args.words.now f c.word_index.ensures.index c.write_words.ensures in
     let walks = written_walks c.args.self.now.frames c.write_words.new.self c.args.self.now.root (c.args.at / 4096) f.place free f.found put.size (run_elsewhere c.args.self.now.frames c.write_words.new.self c.args.self.now.root (c.args.at / 4096) (c.args.at % 4096 / 8) c.args.words.now f.place free f.found c.requires.fits put tree) tree in
     let larges = written_larges c.args.self.now.frames c.write_words.new.self c.args.self.now.root (c.args.at / 4096) f.place free f.found put.size (run_elsewhere c.args.self.now.frames c.write_words.new.self c.args.self.now.root (c.args.at / 4096) (c.args.at % 4096 / 8) c.args.words.now f.place free f.found c.requires.fits put tree) tree in
     record {
-      met = met_stay c.args.self.now.frames c.write_words.new.self c.args.self.now.root c.frame_kept-frame.new.self (λ number met is. walks 3 number (omega arith) ∙ is) (λ number large is. larges number ∙ is) c.frame_kept-frame.ensures.met;
+      met = met_stay c.args.self.now.frames c.write_words.new.self c.args.self.now.root c.meet-frame.new.self (λ number met is. walks 3 number (omega arith) ∙ is) (λ number large is. larges number ∙ is) c.meet-frame.ensures.met;
       mapped = stored_mapped (shown c.args.self.now) c.write_words.new.self c.args.self.now.mapped put.size (written_tree c.args.self.now.frames c.write_words.new.self c.args.self.now.root (c.args.at / 4096) f.place free f.found put.size (run_elsewhere c.args.self.now.frames c.write_words.new.self c.args.self.now.root (c.args.at / 4096) (c.args.at % 4096 / 8) c.args.words.now f.place free f.found c.requires.fits put tree) tree) walks larges;
     }
 
 pub returns-clause-walks : goal.returns-clause-walks
 returns-clause-walks c = λ free tree.
-    let f = frame_at c.args.self.now.frames c.args.self.now.root c.args.at c.new.result c.containing_address-page.result c.frame_kept-frame.result c.containing_address-page.ensures c.new.ensures c.frame_kept-frame.ensures.frame in
-    let put = put_at c.args.self.now.frames c.write_words.new.self c.args.self.now.root c.args.at c.word_index.result c.frame_kept-frame.result c.args.words.now f c.word_index.ensures.index c.write_words.ensures in
+    let f = frame_at c.args.self.now.frames c.args.self.now.root c.args.at c.new.result c.containing_address-page.result c.meet-frame.result c.containing_address-page.ensures c.new.ensures c.meet-frame.ensures.frame in
+    let put = put_at c.args.self.now.frames c.write_words.new.self c.args.self.now.root c.args.at c.word_index.result c.meet-frame.result c.args.words.now f c.word_index.ensures.index c.write_words.ensures in
     written_walks c.args.self.now.frames c.write_words.new.self c.args.self.now.root (c.args.at / 4096) f.place free f.found put.size (run_elsewhere c.args.self.now.frames c.write_words.new.self c.args.self.now.root (c.args.at / 4096) (c.args.at % 4096 / 8) c.args.words.now f.place free f.found c.requires.fits put tree) tree
 
 pub returns-clause-larges : goal.returns-clause-larges
 returns-clause-larges c = λ free tree.
-    let f = frame_at c.args.self.now.frames c.args.self.now.root c.args.at c.new.result c.containing_address-page.result c.frame_kept-frame.result c.containing_address-page.ensures c.new.ensures c.frame_kept-frame.ensures.frame in
-    let put = put_at c.args.self.now.frames c.write_words.new.self c.args.self.now.root c.args.at c.word_index.result c.frame_kept-frame.result c.args.words.now f c.word_index.ensures.index c.write_words.ensures in
+    let f = frame_at c.args.self.now.frames c.args.self.now.root c.args.at c.new.result c.containing_address-page.result c.meet-frame.result c.containing_address-page.ensures c.new.ensures c.meet-frame.ensures.frame in
+    let put = put_at c.args.self.now.frames c.write_words.new.self c.args.self.now.root c.args.at c.word_index.result c.meet-frame.result c.args.words.now f c.word_index.ensures.index c.write_words.ensures in
     written_larges c.args.self.now.frames c.write_words.new.self c.args.self.now.root (c.args.at / 4096) f.place free f.found put.size (run_elsewhere c.args.self.now.frames c.write_words.new.self c.args.self.now.root (c.args.at / 4096) (c.args.at % 4096 / 8) c.args.words.now f.place free f.found c.requires.fits put tree) tree
 
 pub returns-clause-tree : goal.returns-clause-tree
 returns-clause-tree c = λ free tree.
-    let f = frame_at c.args.self.now.frames c.args.self.now.root c.args.at c.new.result c.containing_address-page.result c.frame_kept-frame.result c.containing_address-page.ensures c.new.ensures c.frame_kept-frame.ensures.frame in
-    let put = put_at c.args.self.now.frames c.write_words.new.self c.args.self.now.root c.args.at c.word_index.result c.frame_kept-frame.result c.args.words.now f c.word_index.ensures.index c.write_words.ensures in
+    let f = frame_at c.args.self.now.frames c.args.self.now.root c.args.at c.new.result c.containing_address-page.result c.meet-frame.result c.containing_address-page.ensures c.new.ensures c.meet-frame.ensures.frame in
+    let put = put_at c.args.self.now.frames c.write_words.new.self c.args.self.now.root c.args.at c.word_index.result c.meet-frame.result c.args.words.now f c.word_index.ensures.index c.write_words.ensures in
     written_tree c.args.self.now.frames c.write_words.new.self c.args.self.now.root (c.args.at / 4096) f.place free f.found put.size (run_elsewhere c.args.self.now.frames c.write_words.new.self c.args.self.now.root (c.args.at / 4096) (c.args.at % 4096 / 8) c.args.words.now f.place free f.found c.requires.fits put tree) tree
 
 pub returns-clause-bytes : goal.returns-clause-bytes
 returns-clause-bytes c = λ free tree k less.
-    let f = frame_at c.args.self.now.frames c.args.self.now.root c.args.at c.new.result c.containing_address-page.result c.frame_kept-frame.result c.containing_address-page.ensures c.new.ensures c.frame_kept-frame.ensures.frame in
-    let put = put_at c.args.self.now.frames c.write_words.new.self c.args.self.now.root c.args.at c.word_index.result c.frame_kept-frame.result c.args.words.now f c.word_index.ensures.index c.write_words.ensures in
+    let f = frame_at c.args.self.now.frames c.args.self.now.root c.args.at c.new.result c.containing_address-page.result c.meet-frame.result c.containing_address-page.ensures c.new.ensures c.meet-frame.ensures.frame in
+    let put = put_at c.args.self.now.frames c.write_words.new.self c.args.self.now.root c.args.at c.word_index.result c.meet-frame.result c.args.words.now f c.word_index.ensures.index c.write_words.ensures in
     let aligned = c.requires.word.aligned in
     let fits = c.requires.fits in
     let page : (c.args.at + k) / 4096 ≡ c.args.at / 4096 = omega arith in
@@ -51,8 +51,8 @@ returns-clause-bytes c = λ free tree k less.
 
 pub returns-clause-other_bytes : goal.returns-clause-other_bytes
 returns-clause-other_bytes c = λ free tree other canonical beside.
-    let f = frame_at c.args.self.now.frames c.args.self.now.root c.args.at c.new.result c.containing_address-page.result c.frame_kept-frame.result c.containing_address-page.ensures c.new.ensures c.frame_kept-frame.ensures.frame in
-    let put = put_at c.args.self.now.frames c.write_words.new.self c.args.self.now.root c.args.at c.word_index.result c.frame_kept-frame.result c.args.words.now f c.word_index.ensures.index c.write_words.ensures in
+    let f = frame_at c.args.self.now.frames c.args.self.now.root c.args.at c.new.result c.containing_address-page.result c.meet-frame.result c.containing_address-page.ensures c.new.ensures c.meet-frame.ensures.frame in
+    let put = put_at c.args.self.now.frames c.write_words.new.self c.args.self.now.root c.args.at c.word_index.result c.meet-frame.result c.args.words.now f c.word_index.ensures.index c.write_words.ensures in
     let aligned = c.requires.word.aligned in
     run_others c.args.self.now.frames c.write_words.new.self c.args.self.now.root (c.args.at / 4096) (c.args.at % 4096 / 8) c.args.words.now f.place free f.found c.requires.fits put tree (page_canonical c.args.at c.requires.word.canonical) other canonical
     (λ page from to. elim beside [ inl before ↦ absurd (omega arith) | inr behind ↦ absurd (omega arith) ])
