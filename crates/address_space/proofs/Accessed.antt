@@ -37,6 +37,7 @@ stored_none t at bytes empty = record {
   runs = refl;
   size = refl;
   met = λ level number le. refl;
+  words = record { kept = λ f i less apart. refl };
 } where
   out : (address : ℕ) → ((at ≤ address) × (address < at + length bytes)) ⊎ ((address < at) ⊎ (at + length bytes ≤ address)) → (address < at) ⊎ (at + length bytes ≤ address)
   out address (inl h) = absurd (omega (arith, h.0, h.1, empty))

@@ -4,7 +4,7 @@ use Rattle.std.proofs.lemmas.Bool.{cases_lt}
 use Rattle.std.proofs.lemmas.Bool.Decides.{nat_tests}
 use Rattle.std.specs.Prelude.{nat_lt, IsTrue, IsSome, IfSome, is_some}
 use Rattle.paging_core.specs.Address.{IsCanonicalRange, is_canonical}
-use Rattle.paging_core.specs.Memory.{frame_count}
+use Rattle.paging_core.specs.Memory.{frame_count, IsFrameCopied}
 use Rattle.paging_core.specs.Mapping.{IsRangeAdded}
 use Rattle.paging_core.specs.PageChanges.{ArePagesChanged, regrant, among, only}
 use Rattle.paging_core.specs.Pool.{FreeBelow}
@@ -17,13 +17,14 @@ use Rattle.address_space.specs.Runs.{rights_in, is_among}
 use Rattle.address_space.specs.RunChanges.{AreCopied}
 use Rattle.address_space.specs.PageMap.{IsMap, duplicated}
 use Rattle.address_space.specs.PageCopies.{ArePagesCopied}
-use Rattle.address_space.specs.Changing.{IsDuplicated}
+use Rattle.address_space.specs.Changing.{IsDuplicated, AreWordsCopied}
 use Rattle.address_space.specs.Space.{Tables, IsKept, map_of, rights_of}
 use Rattle.address_space.proofs.Mapped.{canonical_in, is_some_of}
 use Rattle.address_space.proofs.Cutting.{side_of, then_in, else_out}
 use Rattle.address_space.proofs.Unmapped.{among_parts, not_among}
 use Rattle.address_space.proofs.Protected.{mapped_walks, byte_out}
 use Rattle.address_space.proofs.Written.{walk_same}
+use Rattle.address_space.proofs.CopiedWords.{one_words, one_entries, one_others, more_words, more_entries, more_others}
 
 -- ---- one page
 
@@ -58,6 +59,12 @@ pub record IsOneCopied (old one new : List ℕ) (root source target : ℕ) (plac
   pub gave : IfSome (walk_of one root target) (λ met. walk_of new root target ≡ Some (granted met.frame (rights_of place)))
   pub elsewhere : (other : ℕ) → IsTrue (is_canonical (other * 4096)) → (other ≡ target → ⊥) → walk_of new root other ≡ walk_of one root other
   pub bytes : (address : ℕ) → reached new root address ≡ reached one root address
+  pub free : List Bool
+  pub was : IsTree old root free
+  pub at_source : walk_of old root source ≡ Some place
+  pub to : Place
+  pub at_target : walk_of old root target ≡ Some to
+  pub frames : IfSome (walk_of old root source) (λ s. IfSome (walk_of old root target) (λ t. IsFrameCopied old one s.frame t.frame))
 
 pub one_copied : (old one new : List ℕ) (root source target : ℕ) (place : Place) → IsOneCopied old one new root source target place → ArePagesCopied old new root source 1 target
 one_copied old one new root source target place c = record {
@@ -71,6 +78,9 @@ one_copied old one new root source target place c = record {
   rights = λ k less. first_rights k (omega (arith, less));
   copied = λ k offset less small. first_byte k offset (omega (arith, less)) small;
   bytes = λ address canonical out. c.bytes address ∙ c.others address canonical (λ is. out 0 (omega arith) (omega (arith, is)));
+  words = one_words old one new root source target (rights_of place) c.free (c.tree c.free c.was) c.walks c.frames place c.at_source c.to c.at_target c.changed;
+  entries = one_entries old one new root source target (rights_of place) c.free (c.tree c.free c.was) c.walks c.frames place c.at_source c.to c.at_target c.changed;
+  others = one_others old one new root source target (rights_of place) c.free (c.tree c.free c.was) c.walks c.frames place c.at_source c.to c.at_target c.changed;
 } where
   by_only : (number : ℕ) (met : Place) → reach one root 4 number ≡ Some met → (t : Bool) → only target number ≡ t → (now : Place) × (reach new root 4 number ≡ Some now) × (now.frame ≡ met.frame)
   by_only number met at true is = (granted met.frame (rights_of place), c.changed.changed number met is at, refl)
@@ -103,11 +113,16 @@ none_copied words root from to = record {
   rights = λ k less. absurd (omega (arith, less));
   copied = λ k offset less small. absurd (omega (arith, less));
   bytes = λ address canonical out. refl;
-}
+  words = λ k i source target less small at at'. absurd (omega (arith, less));
+  entries = λ n i f place small g table at. absurd (no_page n i g);
+  others = λ f i small away apart. refl;
+} where
+  no_page : (n i : ℕ) → among to 0 (512 * n + i) ≡ true → ⊥
+  no_page n i g = (let none : among to 0 (512 * n + i) ≡ false = grind (arith, nat_tests) in absurd (cc))
 
-pub more_copied : (old one new : List ℕ) (root from pages to source target : ℕ) → IsCanonicalRange to (pages + 1) → IsTrue (is_canonical ((from + pages) * 4096)) → ((k : ℕ) → k < pages → from + pages ≡ to + k → ⊥) →
+pub more_copied : (old one new : List ℕ) (root from pages to source target : ℕ) (free : List Bool) → IsTree old root free → IsCanonicalRange to (pages + 1) → IsTrue (is_canonical ((from + pages) * 4096)) → ((k : ℕ) → k < pages → from + pages ≡ to + k → ⊥) →
     source ≡ from + pages → target ≡ to + pages → ArePagesCopied old one root from pages to → ArePagesCopied one new root source 1 target → ArePagesCopied old new root from (pages + 1) to
-more_copied old one new root from pages to source target range canonical_source apart s t c d = record {
+more_copied old one new root from pages to source target free was range canonical_source apart s t c d = record {
   size = d.size ∙ c.size;
   tree = λ free tr. d.tree free (c.tree free tr);
   tables = λ level number less. d.tables level number less ∙ c.tables level number less;
@@ -118,6 +133,9 @@ more_copied old one new root from pages to source target range canonical_source 
   rights = λ k less. by_rights k (cases_lt k pages) less;
   copied = λ k offset less small. by_byte k offset (cases_lt k pages) less small;
   bytes = λ address canonical out. d.bytes address canonical (λ k less is. out pages (omega arith) (omega (arith, less, is, t))) ∙ c.bytes address canonical (λ k less is. out k (omega (arith, less)) is);
+  words = more_words old one new root from pages to source target free was range canonical_source apart s t c d;
+  entries = more_entries old one new root from pages to source target free was range canonical_source apart s t c d;
+  others = more_others old one new root from pages to source target free was range canonical_source apart s t c d;
 } where
   later : (number : ℕ) (place : Place) → (now : Place) × (reach one root 4 number ≡ Some now) × (now.frame ≡ place.frame) → (now : Place) × (reach new root 4 number ≡ Some now) × (now.frame ≡ place.frame)
   later number place met = (let next = d.frames number met.0 met.1 in (next.0, next.1, next.2 ∙ met.2))
@@ -302,15 +320,23 @@ not_in_range to pages n one away = go (nat_lt n (prefix_of to 4)) (nat_lt n (pre
       let high = below_of n (prefix_of to 4 + pages) h2 in
       absurd (away (n - prefix_of to 4) (omega (arith, low, high)) (at low high))
 
+-- the page that has its prefix in a range
+pub page_of_number : (to pages n : ℕ) → (to + pages - 1) / 2 ^ 35 ≡ to / 2 ^ 35 → among to pages n ≡ true → (k : ℕ) × (k < pages) × (n ≡ prefix_of (to + k) 4)
+page_of_number to pages n one h =
+    let low : prefix_of to 4 ≤ n = grind (arith, nat_tests, h) in
+    let high : n < prefix_of to 4 + pages = grind (arith, nat_tests, h) in
+    (n - prefix_of to 4, omega (arith, low, high), omega (arith, one, low, high))
+
 pub duplicated_is : (old new : Tables) (one : List ℕ) (from pages to : ℕ) (rights : Rights) → AreDuplicated old one new.words new.free new.runs from pages to rights → new.root ≡ old.root →
-    IsMap (map_of new) (duplicated from pages to (map_of old)) → IsDuplicated old new from pages to
-duplicated_is old new one from pages to rights m root map = record {
+    IsMap (map_of new) (duplicated from pages to (map_of old)) → AreWordsCopied old new from pages to → IsDuplicated old new from pages to
+duplicated_is old new one from pages to rights m root map words = record {
   map = map;
   count = m.added.count;
   root = root;
   size = m.copied.size ∙ m.added.size;
   others = λ l n le out. by_level l n le out (cases_lt l 4);
   stayed = λ l n place le at. by_met l n place le at (cases_lt l 4);
+  words = words;
 } where
   not_in : (n : ℕ) → ((k : ℕ) → k < pages → n ≡ prefix_of (to + k) 4 → ⊥) → among to pages n ≡ false
   not_in n away = not_in_range to pages n m.target.one_half away

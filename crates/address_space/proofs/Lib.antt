@@ -20,7 +20,9 @@ mod Read
 mod WordBytes
 mod Written
 mod Accessed
+mod CopiedWords
 mod Duplicated
+mod DuplicatedWords
 mod Listing
 mod NewSpace
 mod Examples

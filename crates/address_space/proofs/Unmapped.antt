@@ -1,10 +1,13 @@
 -- A space after pages left.
-use Rattle.std.proofs.Common.{◌≡◌, ◌∙◌, ap, sym, refl, ℕ, ◌+◌, ◌-◌, ◌*◌, ◌/◌, ◌^◌, ◌<◌, ◌≤◌, ◌==◌, ◌&&◌, not, Bool, true, false, cond, Option, Some, None, option_map, List, subst, arith, ◌⊎◌, inl, inr}
+use Rattle.std.proofs.Common.{◌≡◌, ◌∙◌, ap, sym, refl, ℕ, zero, suc, ◌+◌, ◌-◌, ◌*◌, ◌/◌, ◌^◌, ◌<◌, ◌≤◌, ◌==◌, ◌&&◌, ◌||◌, not, Bool, true, false, cond, Option, Some, None, option_map, List, subst, arith, ◌⊎◌, inl, inr}
+use Rattle.std.proofs.lemmas.Bool.{cases_lt}
 use Rattle.std.proofs.lemmas.Bool.Decides.{nat_tests}
 use Rattle.std.specs.Prelude.{nat_lt, IsTrue, IsSome, is_some}
 use Rattle.paging_core.specs.Address.{IsCanonicalRange, is_canonical}
 use Rattle.paging_core.specs.Memory.{frame_count}
-use Rattle.paging_core.specs.PageChanges.{ArePagesFreed, among}
+use Rattle.paging_core.specs.PageChanges.{ArePagesChanged, ArePagesFreed, removal, among}
+use Rattle.paging_core.proofs.PageChanged.{changed_more, none_changed}
+use Rattle.paging_core.proofs.Prefixes.{walk_reach}
 use Rattle.paging_core.specs.Pool.{is_free, FreeBelow, free_count}
 use Rattle.paging_core.specs.Prefix.{prefix_of}
 use Rattle.paging_core.specs.Tree.{IsTree}
@@ -14,7 +17,7 @@ use Rattle.meminterval.specs.declared.interval.Interval.{Interval}
 use Rattle.address_space.specs.Runs.{rights_in, is_among}
 use Rattle.address_space.specs.RunChanges.{AreTaken, AreFree}
 use Rattle.address_space.specs.PageMap.{IsMap, unmapped, mapped_count}
-use Rattle.address_space.specs.Changing.{IsUnmapped}
+use Rattle.address_space.specs.Changing.{IsUnmapped, is_mapped_in}
 use Rattle.address_space.specs.Space.{Tables, IsKept, map_of, rights_of}
 use Rattle.address_space.proofs.Mapped.{canonical_in, walks}
 use Rattle.address_space.proofs.Cutting.{side_of, then_in, else_out}
@@ -142,9 +145,62 @@ among_more first pages more n le h = go (not (nat_lt n (prefix_of first 4))) (na
       let t : nat_lt n (prefix_of first 4 + more) ≡ true = grind (arith, nat_tests, less) in
       let no : true ≡ false = rw t at (rw h1 at h) in absurd (cc)
 
-pub unmapped_part : (old new : Tables) (first pages more : ℕ) → AreUnmapped old new.words new.free new.runs first pages → new.root ≡ old.root → pages ≤ more → AreFree old.runs (first + pages) (first + more) →
+-- a page of a range that is in no run is met by no walk
+not_met : (t : Tables) (first pages n : ℕ) → IsKept t → IsCanonicalRange first pages → among first pages n ≡ true → rights_in t.runs (first + (n - prefix_of first 4)) ≡ None → is_some (reach t.words t.root 4 n) ≡ false
+not_met t first pages n kept range h none =
+    let low : prefix_of first 4 ≤ n = grind (arith, nat_tests, h) in
+    let high : n < prefix_of first 4 + pages = grind (arith, nat_tests, h) in
+    let one = range.one_half in
+    let page = first + (n - prefix_of first 4) in
+    let number : prefix_of page 4 ≡ n = omega (arith, one, low, high) in
+    let met : reach t.words t.root 4 n ≡ walk_of t.words t.root page = ap (reach t.words t.root 4) (sym number) ∙ sym (walk_reach t.words t.root page) in
+    let found = kept.found page (canonical_in first pages page range (omega arith) (omega (arith, low, high))) ∙ none in
+    ap is_some met ∙ unfound (walk_of t.words t.root page) found where
+      unfound : (o : Option Place) → option_map rights_of o ≡ None → is_some o ≡ false
+      unfound None h = refl
+      unfound (Some place) h = let no : Some (rights_of place) ≡ None = h in absurd (cc)
+
+pub none_mapped : (t : Tables) (first pages n : ℕ) → IsKept t → IsCanonicalRange first pages → AreFree t.runs first (first + pages) → is_mapped_in t first pages n ≡ false
+none_mapped t first pages n kept range free = go (among first pages n) refl where
+  go : (b : Bool) → among first pages n ≡ b → (b && is_some (reach t.words t.root 4 n)) ≡ false
+  go false h = refl
+  go true h =
+      let high : n < prefix_of first 4 + pages = grind (arith, nat_tests, h) in
+      let low : prefix_of first 4 ≤ n = grind (arith, nat_tests, h) in
+      not_met t first pages n kept range h (free (first + (n - prefix_of first 4)) (omega arith) (omega (arith, low, high)))
+
+pub none_of_none : (t : Tables) (first pages n : ℕ) → pages ≡ 0 → is_mapped_in t first pages n ≡ false
+none_of_none t first pages n none = (let no : among first pages n ≡ false = grind (arith, nat_tests, none) in ap (λ (b : Bool). b && is_some (reach t.words t.root 4 n)) no)
+
+-- the pages that leave are those of the wider range that are mapped
+module _ (old : Tables) (words : List ℕ) (free : List Bool) (runs : List (Interval ℕ × Rights)) (first pages more : ℕ)
+    (m : AreUnmapped old words free runs first pages)
+    (wide : IsCanonicalRange first more)
+    (le : pages ≤ more)
+    (gone : AreFree old.runs (first + pages) (first + more)) where
+  same_pages : (n : ℕ) → is_mapped_in old first more n ≡ (among first pages n || false)
+  same_pages n = go (among first pages n) refl (among first more n) refl where
+    met : (place : Place) → reach old.words old.root 4 n ≡ Some place → is_some (reach old.words old.root 4 n) ≡ true
+    met place at = ap is_some at
+
+    go : (a : Bool) → among first pages n ≡ a → (b : Bool) → among first more n ≡ b → (b && is_some (reach old.words old.root 4 n)) ≡ (a || false)
+    go true h true k = let p = m.freed.removed.mapped n h in met p.0 p.1
+    go true h false k = (let no : among first pages n ≡ false = among_more first pages more n le k in absurd (cc))
+    go false h false k = refl
+    go false h true k =
+        let low : prefix_of first 4 ≤ n = grind (arith, nat_tests, k) in
+        let high : n < prefix_of first 4 + more = grind (arith, nat_tests, k) in
+        let past : prefix_of first 4 + pages ≤ n = grind (arith, nat_tests, h, low) in
+        not_met old first more n m.kept wide k (gone (first + (n - prefix_of first 4)) (omega (arith, past)) (omega (arith, low, high)))
+
+  pub left_pages : ArePagesChanged old.words words old.root removal (is_mapped_in old first more)
+  left_pages =
+      changed_more old.words words words old.root removal (among first pages) (λ n. false) (is_mapped_in old first more) m.freed.removed
+      (none_changed words old.root removal (λ n. false) (λ n. refl)) same_pages old.free m.kept.tree (λ n h. refl)
+
+pub unmapped_part : (old new : Tables) (first pages more : ℕ) → AreUnmapped old new.words new.free new.runs first pages → new.root ≡ old.root → IsCanonicalRange first more → pages ≤ more → AreFree old.runs (first + pages) (first + more) →
     ((page : ℕ) → first ≤ page → page < first + pages → IsSome (rights_in old.runs page)) → IsUnmapped old new first more pages
-unmapped_part old new first pages more m root le free full = record {
+unmapped_part old new first pages more m root wide le free full = record {
   map = record {
     rights = λ page. m.taken.pages page ∙ wider page (rights_in old.runs page) (λ h k. free page h k);
     bytes = λ address. ap (λ (r : ℕ). cond (is_some (rights_in new.runs (address / 4096))) (reached new.words r address) None) root
@@ -155,8 +211,7 @@ unmapped_part old new first pages more m root le free full = record {
   count_is = counted;
   free = m.count;
   root = root;
-  size = m.freed.removed.size;
-  met = λ level number l out. m.freed.removed.stayed level number l (λ four. among_more first pages more number le (out four));
+  entries = left_pages old new.words new.free new.runs first pages more m wide le free;
 } where
   wider : {A : Type 0} (page : ℕ) (o : Option A) → (first + pages ≤ page → page < first + more → o ≡ None) → cond (is_among first pages page) None o ≡ cond (is_among first more page) None o
   wider {A} page o none = go (side_of first (first + pages) page) (side_of first (first + more) page) where
@@ -175,8 +230,8 @@ unmapped_part old new first pages more m root le free full = record {
       let none = count_free (rights_in old.runs) (first + pages) (more - pages) (λ page h k. free page h (omega (arith, k, le))) in
       omega (arith, both, same, all, none)
 
-pub unmapped_none : (t : Tables) (first pages : ℕ) → AreFree t.runs first (first + pages) → IsUnmapped t t first pages 0
-unmapped_none t first pages free = record {
+pub unmapped_none : (t : Tables) (first pages : ℕ) → ((n : ℕ) → is_mapped_in t first pages n ≡ false) → AreFree t.runs first (first + pages) → IsUnmapped t t first pages 0
+unmapped_none t first pages none free = record {
   map = record {
     rights = λ page. nothing page (rights_in t.runs page) (λ h k. free page h k);
     bytes = λ address. nothing (address / 4096) (cond (is_some (rights_in t.runs (address / 4096))) (reached t.words t.root address) None)
@@ -185,8 +240,7 @@ unmapped_none t first pages free = record {
   count_is = sym (count_free (rights_in t.runs) first pages free);
   free = omega arith;
   root = refl;
-  size = refl;
-  met = λ level number l out. refl;
+  entries = none_changed t.words t.root removal (is_mapped_in t first pages) none;
 } where
   nothing : {A : Type 0} (page : ℕ) (o : Option A) → (first ≤ page → page < first + pages → o ≡ None) → o ≡ cond (is_among first pages page) None o
   nothing {A} page o none = go (side_of first (first + pages) page) where
@@ -213,9 +267,72 @@ among_parts first half pages more n range is h =
             moved : (first + (pages + more) - 1) / 2 ^ 35 ≡ first / 2 ^ 35 → 0 < more → prefix_of half 4 ≡ prefix_of first 4 + pages
             moved one some = omega (arith, one, some, is)
 
-pub unmapped_on : (old one new : Tables) (first half pages more count counted : ℕ) → IsCanonicalRange first (pages + more) → half ≡ first + pages → IsUnmapped old one half more count → IsUnmapped one new first pages counted →
+-- the pages of both ranges
+module _ (old one new : Tables) (first half pages more count : ℕ)
+    (tree : IsTree old.words old.root old.free)
+    (range : IsCanonicalRange first (pages + more))
+    (is : half ≡ first + pages)
+    (u : IsUnmapped old one half more count) where
+  next_half : 0 < more → prefix_of half 4 ≡ prefix_of first 4 + pages
+  next_half some = (let one = range.one_half in omega (arith, one, some, is))
+
+  is_after : (n : ℕ) → among half more n ≡ true → (among first pages n ≡ false) × (among first (pages + more) n ≡ true)
+  is_after n h = (
+      let low : prefix_of half 4 ≤ n = grind (arith, nat_tests, h) in
+      let high : n < prefix_of half 4 + more = grind (arith, nat_tests, h) in
+      let next : prefix_of half 4 ≡ prefix_of first 4 + pages = next_half (omega (arith, low, high)) in
+      (grind (arith, nat_tests, low, next), grind (arith, nat_tests, low, high, next))
+      )
+
+  is_before : (n : ℕ) → among half more n ≡ false → among first (pages + more) n ≡ among first pages n
+  is_before n h = go (cases_lt 0 more) where
+    go : (0 < more) ⊎ (more ≤ 0) → among first (pages + more) n ≡ among first pages n
+    go (inr none) = let z : pages + more ≡ pages = omega (arith, none) in ap (λ (p : ℕ). among first p n) z
+    go (inl some) = by_pages (among first pages n) refl where
+      next : prefix_of half 4 ≡ prefix_of first 4 + pages
+      next = next_half some
+
+      by_pages : (b : Bool) → among first pages n ≡ b → among first (pages + more) n ≡ b
+      by_pages true k = grind (arith, nat_tests, k)
+      by_pages false k = grind (arith, nat_tests, h, k, next)
+
+  left_then : ℕ → Bool
+  left_then n = among first pages n && is_some (reach one.words old.root 4 n)
+
+  left_both : (n : ℕ) → is_mapped_in old first (pages + more) n ≡ (is_mapped_in old half more n || left_then n)
+  unfolding left_then
+  left_both n = go (among half more n) refl where
+    or_not : (a : Bool) → a ≡ (a || false)
+    or_not true = refl
+    or_not false = refl
+
+    go : (b : Bool) → among half more n ≡ b → is_mapped_in old first (pages + more) n ≡ ((b && is_some (reach old.words old.root 4 n)) || left_then n)
+    go true h =
+        let k = is_after n h in
+        ap (λ (b : Bool). b && is_some (reach old.words old.root 4 n)) k.1
+        ∙ (or_not (is_some (reach old.words old.root 4 n))
+        ∙ ap (λ (b : Bool). is_some (reach old.words old.root 4 n) || (b && is_some (reach one.words old.root 4 n))) (sym k.0))
+    go false h =
+        let same : reach one.words old.root 4 n ≡ reach old.words old.root 4 n = u.entries.stayed 4 n (omega arith) (λ four. ap (λ (b : Bool). b && is_some (reach old.words old.root 4 n)) h) in
+        ap (λ (b : Bool). b && is_some (reach old.words old.root 4 n)) (is_before n h) ∙ ap (λ (o : Option Place). among first pages n && is_some o) (sym same)
+
+  left_apart : (n : ℕ) → is_mapped_in old half more n ≡ true → left_then n ≡ false
+  unfolding left_then
+  left_apart n h = go (among half more n) refl h where
+    go : (b : Bool) → among half more n ≡ b → (b && is_some (reach old.words old.root 4 n)) ≡ true → left_then n ≡ false
+    go true k h = ap (λ (b : Bool). b && is_some (reach one.words old.root 4 n)) (is_after n k).0
+    go false k h = absurd (cc)
+
+  pub left_more : (counted : ℕ) → IsUnmapped one new first pages counted → ArePagesChanged old.words new.words old.root removal (is_mapped_in old first (pages + more))
+  unfolding left_then
+  left_more counted v =
+      let then : ArePagesChanged one.words new.words old.root removal left_then =
+      subst (λ (r : ℕ). ArePagesChanged one.words new.words r removal (λ n. among first pages n && is_some (reach one.words r 4 n))) u.root v.entries in
+      changed_more old.words one.words new.words old.root removal (is_mapped_in old half more) left_then (is_mapped_in old first (pages + more)) u.entries then left_both old.free tree left_apart
+
+pub unmapped_on : (old one new : Tables) (first half pages more count counted : ℕ) → IsTree old.words old.root old.free → IsCanonicalRange first (pages + more) → half ≡ first + pages → IsUnmapped old one half more count → IsUnmapped one new first pages counted →
     IsUnmapped old new first (pages + more) (count + counted)
-unmapped_on old one new first half pages more count counted range is u v = record {
+unmapped_on old one new first half pages more count counted tree range is u v = record {
   map = record {
     rights = λ page. v.map.rights page ∙ joined page (rights_in old.runs page) (rights_in one.runs page) (u.map.rights page);
     bytes = λ address. v.map.bytes address ∙ joined (address / 4096) ((map_of old).byte address) ((map_of one).byte address) (u.map.bytes address);
@@ -228,11 +345,7 @@ unmapped_on old one new first half pages more count counted range is u v = recor
       omega (arith, split, later, same, a, b));
   free = (let a = u.free in let b = v.free in omega (arith, a, b));
   root = v.root ∙ u.root;
-  size = v.size ∙ u.size;
-  met = λ level number l out.
-      subst (λ (r : ℕ). reach new.words r level number ≡ reach one.words r level number) u.root
-      (v.met level number l (λ four. (among_parts first half pages more number range is (out four)).0))
-      ∙ u.met level number l (λ four. (among_parts first half pages more number range is (out four)).1);
+  entries = left_more old one new first half pages more count tree range is u counted v;
 } where
   joined : {A : Type 0} (page : ℕ) (o p : Option A) → p ≡ cond (is_among half more page) None o → cond (is_among first pages page) None p ≡ cond (is_among first (pages + more) page) None o
   joined {A} page o p h = go (side_of first (first + pages) page) (side_of half (half + more) page) where
@@ -262,13 +375,13 @@ unmapped_init t first top order = record {
   from = order;
   to = omega arith;
   few = omega arith;
-  gone = unmapped_none t top (top - top) (λ page h k. absurd (omega (arith, h, k)));
+  gone = unmapped_none t top (top - top) (λ n. none_of_none t top (top - top) n (omega arith)) (λ page h k. absurd (omega (arith, h, k)));
   next = inl (refl, refl);
 }
 
-pub unmapped_step : (old one new : Tables) (first top at count from more : ℕ) → IsCanonicalRange first (top - first) → AreUnmappedTo old one first top at count → IsUnmapped one new from (at - from) more → first ≤ from → from < at → from + more ≤ at →
+pub unmapped_step : (old one new : Tables) (first top at count from more : ℕ) → IsTree old.words old.root old.free → IsCanonicalRange first (top - first) → AreUnmappedTo old one first top at count → IsUnmapped one new from (at - from) more → first ≤ from → from < at → from + more ≤ at →
     AreUnmappedTo old new first top from (count + more)
-unmapped_step old one new first top at count from more range u v low less few =
+unmapped_step old one new first top at count from more tree range u v low less few =
     let to = u.to in
     let most = u.few in
     let sum : at - from + (top - at) ≡ top - from = omega (arith, less, to) in
@@ -277,7 +390,7 @@ unmapped_step old one new first top at count from more range u v low less few =
       from = low;
       to = omega (arith, less, to);
       few = omega (arith, most, few);
-      gone = subst (λ (n : ℕ). IsUnmapped old new from n (count + more)) sum (unmapped_on old one new from at (at - from) (top - at) count more part (omega (arith, less)) u.gone v);
+      gone = subst (λ (n : ℕ). IsUnmapped old new from n (count + more)) sum (unmapped_on old one new from at (at - from) (top - at) count more tree part (omega (arith, less)) u.gone v);
       next = inr (v.map.rights from ∙ then_in from (from + (at - from)) from None (rights_in one.runs from) (omega arith) (omega (arith, less)));
     }
 

@@ -1,17 +1,17 @@
 -- Bytes that are written to mapped pages.
-use Rattle.std.proofs.Common.{◌≡◌, ◌∙◌, ap, sym, refl, ℕ, ◌+◌, ◌-◌, ◌*◌, ◌/◌, ◌%◌, ◌^◌, ◌<◌, ◌≤◌, ◌==◌, ◌||◌, ◌&&◌, Bool, true, false, cond, Option, Some, None, option_map, List, length, take, drop, slice_index, subst, arith, ◌⊎◌, inl, inr}
-use Rattle.std.proofs.lemmas.Bool.Decides.{nat_tests}
+use Rattle.std.proofs.Common.{◌≡◌, ◌∙◌, ap, sym, refl, ℕ, ◌+◌, ◌-◌, ◌*◌, ◌/◌, ◌%◌, ◌^◌, ◌<◌, ◌≤◌, ◌==◌, ◌||◌, ◌&&◌, Bool, cond, Option, Some, None, option_map, List, length, take, drop, slice_index, subst, arith, ◌⊎◌, inl, inr}
+use Rattle.std.proofs.lemmas.Bool.{cases_lt, cases_eq}
 use Rattle.std.proofs.lemmas.List.{length-drop, length-take-le, get_or-take, get_or-drop}
 use Rattle.std.specs.Prelude.{nat_le, nat_lt, IsTrue, IsSome, IfSome, is_some}
 use Rattle.paging_core.specs.Address.{is_canonical}
-use Rattle.paging_core.specs.Memory.{frame_count, word_at, byte_of, AreWordsOf}
+use Rattle.paging_core.specs.Memory.{frame_count, word_at, byte_of, AreWordsOf, AreWordsWritten}
 use Rattle.paging_core.specs.Pool.{FreeBelow}
 use Rattle.paging_core.specs.Tree.{IsTree}
 use Rattle.paging_core.specs.Walk.{Place, reach, large_of, walk_of, reached}
 use Rattle.paging_core.specs.declared.page_table.Rights.{Rights}
 use Rattle.address_space.specs.Runs.{rights_in}
 use Rattle.address_space.specs.PageMap.{IsMap, stored}
-use Rattle.address_space.specs.Access.{IsGoodSpan, byte_at, AreBytesPut, AreWritten}
+use Rattle.address_space.specs.Access.{IsGoodSpan, byte_at, AreBytesPut, AreWritten, LiesIn, AreOtherWordsKept}
 use Rattle.address_space.specs.Space.{Tables, IsKept, map_of, rights_of}
 use Rattle.address_space.proofs.Cutting.{side_of, then_in, else_out}
 
@@ -26,79 +26,137 @@ pub walk_same : (old new : List ℕ) (root page : ℕ) → ((level number : ℕ)
 unfolding walk_of
 walk_same old new root page same = same 4 (page % 2 ^ 36) (omega arith)
 
-zero_and : (i : ℕ) → 0 + i ≡ i
-zero_and i = omega arith
+-- the byte of a run at an address, by its place in the run
+byte_from : (run : List ℕ) (address index : ℕ) → index ≤ address % 4096 / 8 → byte_of (slice_index run (address % 4096 / 8 - index)) (address % 8) ≡ byte_at run (address % 4096 - 8 * index)
+byte_from run address index low =
+    let word : address % 4096 / 8 - index ≡ (address % 4096 - 8 * index) / 8 = omega (arith, low) in
+    let rest : address % 8 ≡ (address % 4096 - 8 * index) % 8 = omega (arith, low) in
+    ap (λ (i : ℕ). byte_of (slice_index run i) (address % 8)) word ∙ ap (byte_of (slice_index run ((address % 4096 - 8 * index) / 8))) rest
 
--- a byte of a mapped page
-pub reached_in : (words : List ℕ) (root address : ℕ) (o : Option Place) → walk_of words root (address / 4096) ≡ o → (run : List ℕ) → IfSome o (λ place. AreWordsOf words place.frame 0 run) → IsSome o → length run ≡ 512 →
-    reached words root address ≡ Some (byte_at run (address % 4096))
-reached_in words root address None is run of_frame some size = absurd (cc)
-reached_in words root address (Some place) is run of_frame some size =
-    let word : slice_index run (address % 4096 / 8) ≡ word_at words place.frame (address % 4096 / 8) = of_frame.read (address % 4096 / 8) (omega (arith, size)) ∙ ap (λ (i : ℕ). word_at words place.frame i) (zero_and (address % 4096 / 8)) in
-    let rest : address % 8 ≡ address % 4096 % 8 = omega arith in
+-- a byte of a mapped page, of which words were read from `index` on
+pub reached_in : (words : List ℕ) (root address index : ℕ) (o : Option Place) → walk_of words root (address / 4096) ≡ o → (run : List ℕ) → IfSome o (λ place. AreWordsOf words place.frame index run) → IsSome o →
+    index ≤ address % 4096 / 8 → address % 4096 / 8 < index + length run → reached words root address ≡ Some (byte_at run (address % 4096 - 8 * index))
+reached_in words root address index None is run of_frame some low high = absurd (cc)
+reached_in words root address index (Some place) is run of_frame some low high =
+    let k : index + (address % 4096 / 8 - index) ≡ address % 4096 / 8 = omega (arith, low) in
+    let word : slice_index run (address % 4096 / 8 - index) ≡ word_at words place.frame (address % 4096 / 8) =
+    of_frame.read (address % 4096 / 8 - index) (omega (arith, low, high)) ∙ ap (λ (i : ℕ). word_at words place.frame i) k in
     ap (option_map (λ (p : Place). byte_of (word_at words p.frame (address % 4096 / 8)) (address % 8))) is
-    ∙ ap (λ (b : ℕ). Some b) (ap (λ (w : ℕ). byte_of w (address % 8)) (sym word) ∙ ap (byte_of (slice_index run (address % 4096 / 8))) rest)
+    ∙ ap (λ (b : ℕ). Some b) (ap (λ (w : ℕ). byte_of w (address % 8)) (sym word) ∙ byte_from run address index low)
 
--- ---- one page
+-- ---- words of one page
 
-pub page_written : (old new words put bytes : List ℕ) (root page offset : ℕ) → offset + length bytes ≤ 4096 → IsSome (walk_of old root page) → IfSome (walk_of old root page) (λ place. AreWordsOf old place.frame 0 words) → length words ≡ 512 →
-    AreBytesPut words put offset (length bytes) bytes →
-    ((address : ℕ) → address / 4096 ≡ page → 0 ≤ address % 4096 / 8 → address % 4096 / 8 < 0 + length put → reached new root address ≡ Some (byte_of (slice_index put (address % 4096 / 8 - 0)) (address % 8))) →
-    ((address : ℕ) → IsTrue (is_canonical address) → (address / 4096 ≡ page → 0 ≤ address % 4096 / 8 → address % 4096 / 8 < 0 + length put → ⊥) → reached new root address ≡ reached old root address) →
-    AreWritten (reached old root) (reached new root) (4096 * page + offset) (length bytes) bytes
-page_written old new words put bytes root page offset fits some of_frame size p inside outside = record {
-  each = λ address canonical. by_page address canonical (cases_eq (address / 4096) page);
-} where
-  cases_eq : (a b : ℕ) → (a ≡ b) ⊎ (a ≡ b → ⊥)
-  cases_eq a b = go (a == b) refl where
-    go : (t : Bool) → (a == b) ≡ t → (a ≡ b) ⊎ (a ≡ b → ⊥)
-    go true t = inl (grind (arith, nat_tests, t))
-    go false t = inr (λ h. grind (arith, nat_tests, t, h))
+-- the words in which bytes lie were read, changed and written
+pub record IsPartWritten (old new words put bytes : List ℕ) (root at page first : ℕ) (place : Place) : Type 0 where
+  pub there : walk_of old root page ≡ Some place
+  pub page_is : page ≡ at / 4096
+  pub first_is : first ≡ at % 4096 / 8
+  pub some : 0 < length bytes
+  pub fits : at % 4096 + length bytes ≤ 4096
+  pub size : length words ≡ (at % 8 + length bytes + 7) / 8
+  pub of_frame : AreWordsOf old place.frame first words
+  pub bytes_put : AreBytesPut words put (at % 8) (length bytes) bytes
+  pub words_put : AreWordsWritten old new place.frame first put
 
-  at : ℕ
-  at = 4096 * page + offset
+module _ (old new words put bytes : List ℕ) (root at page first : ℕ) (place : Place)
+    (m : IsPartWritten old new words put bytes root at page first place) where
+  put_size : length put ≡ (at % 8 + length bytes + 7) / 8
+  put_size = m.bytes_put.size ∙ m.size
 
-  put_size : length put ≡ 512
-  put_size = p.size ∙ size
+  pub part_fits : first + length put ≤ 512
+  part_fits = let f = m.first_is in let few = m.fits in let s = put_size in omega (arith, f, few, s)
 
-  byte : (address : ℕ) → address / 4096 ≡ page → reached new root address ≡ Some (byte_at put (address % 4096))
-  byte address h =
-      let rest : address % 8 ≡ address % 4096 % 8 = omega arith in
-      let index : address % 4096 / 8 - 0 ≡ address % 4096 / 8 = omega arith in
-      inside address h (omega arith) (omega (arith, put_size))
-      ∙ (ap (λ (i : ℕ). Some (byte_of (slice_index put i) (address % 8))) index ∙ ap (λ (i : ℕ). Some (byte_of (slice_index put (address % 4096 / 8)) i)) rest)
+  -- a word of the part has a byte that is written
+  pub part_words : AreOtherWordsKept old new root at (length bytes)
+  part_words = record { kept = λ f i less apart. m.words_put.others f i less (λ same low high. inside f i less same low high (cases_lt i (first + 1)) apart) } where
+    inside : (f i : ℕ) → i < 512 → f ≡ place.frame → first ≤ i → i < first + length put → (i < first + 1) ⊎ (first + 1 ≤ i) → ((address : ℕ) → at ≤ address → address < at + length bytes → LiesIn old root address f i → ⊥) → ⊥
+    inside f i less same low high (inl h) apart =
+        let f_is = m.first_is in
+        let some = m.some in
+        apart at (omega arith) (omega (arith, some)) (record {
+          place = place;
+          found = ap (walk_of old root) (sym m.page_is) ∙ m.there;
+          in_frame = sym same;
+          at_index = omega (arith, f_is, low, h);
+        })
+    inside f i less same low high (inr h) apart =
+        let f_is = m.first_is in
+        let p_is = m.page_is in
+        let s = put_size in
+        let page_of : (4096 * page + 8 * i) / 4096 ≡ page = omega (arith, less) in
+        apart (4096 * page + 8 * i) (omega (arith, h, f_is, p_is)) (omega (arith, high, f_is, p_is, s)) (record {
+          place = place;
+          found = ap (walk_of old root) page_of ∙ m.there;
+          in_frame = sym same;
+          at_index = omega (arith, less);
+        })
 
-  was : (address : ℕ) → address / 4096 ≡ page → reached old root address ≡ Some (byte_at words (address % 4096))
-  was address h =
-      reached_in old root address (walk_of old root page) (ap (walk_of old root) h) words of_frame some size
+  pub part_written :
+      ((address : ℕ) → address / 4096 ≡ page → first ≤ address % 4096 / 8 → address % 4096 / 8 < first + length put → reached new root address ≡ Some (byte_of (slice_index put (address % 4096 / 8 - first)) (address % 8))) →
+      ((address : ℕ) → IsTrue (is_canonical address) → (address / 4096 ≡ page → first ≤ address % 4096 / 8 → address % 4096 / 8 < first + length put → ⊥) → reached new root address ≡ reached old root address) →
+      AreWritten (reached old root) (reached new root) at (length bytes) bytes
+  part_written inside outside = record { each = λ address canonical. by_page address canonical (cases_eq (address / 4096) page) } where
+    -- a byte of the words
+    in_words : (address : ℕ) → address / 4096 ≡ page → first ≤ address % 4096 / 8 → address % 4096 / 8 < first + length put → ((at ≤ address) × (address < at + length bytes)) ⊎ ((address < at) ⊎ (at + length bytes ≤ address)) →
+        reached new root address ≡ cond (nat_le at address && nat_lt address (at + length bytes)) (Some (slice_index bytes (address - at))) (reached old root address)
+    in_words address h low high side = go side where
+      f_is : first ≡ at % 4096 / 8
+      f_is = m.first_is
 
-  by_side : (address : ℕ) → address / 4096 ≡ page → ((at ≤ address) × (address < at + length bytes)) ⊎ ((address < at) ⊎ (at + length bytes ≤ address)) →
-      reached new root address ≡ cond (nat_le at address && nat_lt address (at + length bytes)) (Some (slice_index bytes (address - at))) (reached old root address)
-  by_side address h (inl k) =
-      let place : address % 4096 - offset ≡ address - at = omega (arith, h, k.0) in
-      byte address h
-      ∙ (ap (λ (b : ℕ). Some b) (p.each (address % 4096) (omega (arith, size))
-      ∙ (then_in offset (offset + length bytes) (address % 4096) (slice_index bytes (address % 4096 - offset)) (byte_at words (address % 4096)) (omega (arith, h, k.0)) (omega (arith, h, k.1)) ∙ ap (slice_index bytes) place))
-      ∙ sym (then_in at (at + length bytes) address (Some (slice_index bytes (address - at))) (reached old root address) k.0 k.1))
-  by_side address h (inr k) =
-      byte address h
-      ∙ (ap (λ (b : ℕ). Some b) (p.each (address % 4096) (omega (arith, size)) ∙ else_out offset (offset + length bytes) (address % 4096) (slice_index bytes (address % 4096 - offset)) (byte_at words (address % 4096)) (out k))
-      ∙ (sym (was address h) ∙ sym (else_out at (at + length bytes) address (Some (slice_index bytes (address - at))) (reached old root address) k))) where
-        out : (address < at) ⊎ (at + length bytes ≤ address) → (address % 4096 < offset) ⊎ (offset + length bytes ≤ address % 4096)
-        out (inl l) = inl (omega (arith, l, h))
-        out (inr l) = inr (omega (arith, l, h))
+      p_is : page ≡ at / 4096
+      p_is = m.page_is
 
-  by_page : (address : ℕ) → IsTrue (is_canonical address) → (address / 4096 ≡ page) ⊎ (address / 4096 ≡ page → ⊥) →
-      reached new root address ≡ cond (nat_le at address && nat_lt address (at + length bytes)) (Some (slice_index bytes (address - at))) (reached old root address)
-  by_page address canonical (inl h) = by_side address h (side_of at (at + length bytes) address)
-  by_page address canonical (inr h) =
-      outside address canonical (λ same low high. h same)
-      ∙ sym (else_out at (at + length bytes) address (Some (slice_index bytes (address - at))) (reached old root address) (out (side_of at (at + length bytes) address))) where
-        out : ((at ≤ address) × (address < at + length bytes)) ⊎ ((address < at) ⊎ (at + length bytes ≤ address)) → (address < at) ⊎ (at + length bytes ≤ address)
-        out (inl k) = absurd (h (omega (arith, k.0, k.1, fits)))
-        out (inr k) = k
+      small : address % 4096 - 8 * first < 8 * length words
+      small = let s = m.bytes_put.size in omega (arith, low, high, s)
 
--- ---- page by page
+      now : reached new root address ≡ Some (byte_at put (address % 4096 - 8 * first))
+      now = inside address h low high ∙ ap (λ (b : ℕ). Some b) (byte_from put address first low)
+
+      was : reached old root address ≡ Some (byte_at words (address % 4096 - 8 * first))
+      was = reached_in old root address first (Some place) (ap (walk_of old root) h ∙ m.there) words m.of_frame refl low (let s = m.bytes_put.size in omega (arith, high, s))
+
+      go : ((at ≤ address) × (address < at + length bytes)) ⊎ ((address < at) ⊎ (at + length bytes ≤ address)) →
+          reached new root address ≡ cond (nat_le at address && nat_lt address (at + length bytes)) (Some (slice_index bytes (address - at))) (reached old root address)
+      go (inl k) =
+          let from : at % 8 ≤ address % 4096 - 8 * first = omega (arith, f_is, p_is, h, low, k.0) in
+          let to : address % 4096 - 8 * first < at % 8 + length bytes = omega (arith, f_is, p_is, h, low, k.1) in
+          let place : address % 4096 - 8 * first - at % 8 ≡ address - at = omega (arith, f_is, p_is, h, low, k.0) in
+          now
+          ∙ (ap (λ (b : ℕ). Some b) (m.bytes_put.each (address % 4096 - 8 * first) small
+          ∙ (then_in (at % 8) (at % 8 + length bytes) (address % 4096 - 8 * first) (slice_index bytes (address % 4096 - 8 * first - at % 8)) (byte_at words (address % 4096 - 8 * first)) from to ∙ ap (slice_index bytes) place))
+          ∙ sym (then_in at (at + length bytes) address (Some (slice_index bytes (address - at))) (reached old root address) k.0 k.1))
+      go (inr k) =
+          now
+          ∙ (ap (λ (b : ℕ). Some b) (m.bytes_put.each (address % 4096 - 8 * first) small
+          ∙ else_out (at % 8) (at % 8 + length bytes) (address % 4096 - 8 * first) (slice_index bytes (address % 4096 - 8 * first - at % 8)) (byte_at words (address % 4096 - 8 * first)) (out k))
+          ∙ (sym was ∙ sym (else_out at (at + length bytes) address (Some (slice_index bytes (address - at))) (reached old root address) k))) where
+            out : (address < at) ⊎ (at + length bytes ≤ address) → (address % 4096 - 8 * first < at % 8) ⊎ (at % 8 + length bytes ≤ address % 4096 - 8 * first)
+            out (inl l) = inl (omega (arith, l, f_is, p_is, h, low))
+            out (inr l) = inr (omega (arith, l, f_is, p_is, h, low))
+
+    -- one of no such word
+    out_of_words : (address : ℕ) → IsTrue (is_canonical address) → (address / 4096 ≡ page → first ≤ address % 4096 / 8 → address % 4096 / 8 < first + length put → ⊥) →
+        ((at ≤ address) × (address < at + length bytes)) ⊎ ((address < at) ⊎ (at + length bytes ≤ address)) →
+        reached new root address ≡ cond (nat_le at address && nat_lt address (at + length bytes)) (Some (slice_index bytes (address - at))) (reached old root address)
+    out_of_words address canonical apart (inl k) =
+        let f_is = m.first_is in
+        let p_is = m.page_is in
+        let few = m.fits in
+        let s = put_size in
+        absurd (apart (omega (arith, p_is, few, k.0, k.1)) (omega (arith, f_is, few, k.0, k.1)) (omega (arith, f_is, few, s, k.0, k.1)))
+    out_of_words address canonical apart (inr k) = outside address canonical apart ∙ sym (else_out at (at + length bytes) address (Some (slice_index bytes (address - at))) (reached old root address) k)
+
+    by_page : (address : ℕ) → IsTrue (is_canonical address) → (address / 4096 ≡ page) ⊎ (address / 4096 ≡ page → ⊥) →
+        reached new root address ≡ cond (nat_le at address && nat_lt address (at + length bytes)) (Some (slice_index bytes (address - at))) (reached old root address)
+    by_page address canonical (inr h) = out_of_words address canonical (λ same low high. h same) (side_of at (at + length bytes) address)
+    by_page address canonical (inl h) = by_words (side_of first (first + length put) (address % 4096 / 8)) where
+      by_words : ((first ≤ address % 4096 / 8) × (address % 4096 / 8 < first + length put)) ⊎ ((address % 4096 / 8 < first) ⊎ (first + length put ≤ address % 4096 / 8)) →
+          reached new root address ≡ cond (nat_le at address && nat_lt address (at + length bytes)) (Some (slice_index bytes (address - at))) (reached old root address)
+      by_words (inl k) = in_words address h k.0 k.1 (side_of at (at + length bytes) address)
+      by_words (inr (inl k)) = out_of_words address canonical (λ same low high. omega (arith, low, k)) (side_of at (at + length bytes) address)
+      by_words (inr (inr k)) = out_of_words address canonical (λ same low high. omega (arith, high, k)) (side_of at (at + length bytes) address)
+
+-- ---- part by part
 
 pub record AreWrittenTo (old new : List ℕ) (root at done : ℕ) (bytes : List ℕ) : Type 0 where
   pub written : AreWritten (reached old root) (reached new root) at done bytes
@@ -106,6 +164,7 @@ pub record AreWrittenTo (old new : List ℕ) (root at done : ℕ) (bytes : List 
   pub tree : (free : List Bool) → IsTree old root free → IsTree new root free
   pub walks : (level number : ℕ) → level ≤ 4 → reach new root level number ≡ reach old root level number
   pub larges : (slot : ℕ) → large_of new root slot ≡ large_of old root slot
+  pub words : AreOtherWordsKept old new root at done
   pub within : done ≤ length bytes
 
 pub none_written : (words : List ℕ) (root at : ℕ) (bytes : List ℕ) → AreWrittenTo words words root at 0 bytes
@@ -115,6 +174,7 @@ none_written words root at bytes = record {
   tree = λ free t. t;
   walks = λ level number le. refl;
   larges = λ slot. refl;
+  words = record { kept = λ f i less apart. refl };
   within = omega arith;
 } where
   out : (address : ℕ) → ((at ≤ address) × (address < at + 0)) ⊎ ((address < at) ⊎ (at + 0 ≤ address)) → (address < at) ⊎ (at + 0 ≤ address)
@@ -124,15 +184,28 @@ none_written words root at bytes = record {
 pub written_on : (old one new : List ℕ) (root at done count from : ℕ) (bytes part : List ℕ) → AreWrittenTo old one root at done bytes → from ≡ at + done → count ≡ length part → done + count ≤ length bytes →
     ((k : ℕ) → k < count → slice_index part k ≡ slice_index bytes (done + k)) → AreWritten (reached one root) (reached new root) from (length part) part → length new ≡ length one →
     ((free : List Bool) → IsTree one root free → IsTree new root free) → ((level number : ℕ) → level ≤ 4 → reach new root level number ≡ reach one root level number) →
-    ((slot : ℕ) → large_of new root slot ≡ large_of one root slot) → AreWrittenTo old new root at (done + count) bytes
-written_on old one new root at done count from bytes part w is counted few same more size tree walks larges = record {
+    ((slot : ℕ) → large_of new root slot ≡ large_of one root slot) → AreOtherWordsKept one new root from (length part) → AreWrittenTo old new root at (done + count) bytes
+written_on old one new root at done count from bytes part w is counted few same more size tree walks larges words = record {
   written = record { each = λ address canonical. more.each address canonical ∙ by_side address canonical (side_of from (from + length part) address) (side_of at (at + done) address) };
   size = size ∙ w.size;
   tree = λ free t. tree free (w.tree free t);
   walks = λ level number le. walks level number le ∙ w.walks level number le;
   larges = λ slot. larges slot ∙ w.larges slot;
+  words = record {
+    kept = λ f i less apart.
+        words.kept f i less (λ address h k lies. apart address (omega (arith, h, is)) (omega (arith, k, is, counted)) (lies_before address f i lies))
+        ∙ w.words.kept f i less (λ address h k lies. apart address h (omega (arith, k)) lies);
+  };
   within = few;
 } where
+  lies_before : (address f i : ℕ) → LiesIn one root address f i → LiesIn old root address f i
+  lies_before address f i lies = record {
+    place = lies.place;
+    found = sym (walk_same old one root (address / 4096) w.walks) ∙ lies.found;
+    in_frame = lies.in_frame;
+    at_index = lies.at_index;
+  }
+
   by_side : (address : ℕ) → IsTrue (is_canonical address) → ((from ≤ address) × (address < from + length part)) ⊎ ((address < from) ⊎ (from + length part ≤ address)) → ((at ≤ address) × (address < at + done)) ⊎ ((address < at) ⊎ (at + done ≤ address)) →
       cond (nat_le from address && nat_lt address (from + length part)) (Some (slice_index part (address - from))) (reached one root address)
       ≡ cond (nat_le at address && nat_lt address (at + (done + count))) (Some (slice_index bytes (address - at))) (reached old root address)

@@ -1,7 +1,8 @@
 -- Accesses to bytes: when one is denied, and what is read.
 use Rattle.std.specs.Prelude.{◌≡◌, ℕ, ◌+◌, ◌-◌, ◌*◌, ◌/◌, ◌^◌, ◌<◌, ◌≤◌, ◌%◌, ◌&&◌, ◌||◌, nat_le, nat_lt, not, Bool, true, false, IsTrue, is_some, if◌then◌else◌, List, length, slice_index, Option, Some, None, Result, Ok, Err}
 use Rattle.paging_core.specs.Address.{is_canonical}
-use Rattle.paging_core.specs.Memory.{byte_of}
+use Rattle.paging_core.specs.Memory.{word_at, byte_of}
+use Rattle.paging_core.specs.Walk.{Place, walk_of}
 use Rattle.paging_core.specs.declared.page_table.Rights.{Rights}
 use Rattle.x86_tables.specs.PageFaultErrorCode.{page_fault_bits}
 use Rattle.address_space.specs.PageMap.{PageMap}
@@ -55,6 +56,19 @@ pub record AreWritten (old new : ℕ → Option ℕ) (at count : ℕ) (bytes : L
   pub each :
       (address : ℕ) → IsTrue (is_canonical address) →
       new address ≡ (if nat_le at address && nat_lt address (at + count) then Some (slice_index bytes (address - at)) else old address)
+
+-- the byte at an address lies in a word of a frame: the walk arrives at the frame
+pub record LiesIn (words : List ℕ) (root address frame index : ℕ) : Type 0 where
+  pub place : Place
+  pub found : walk_of words root (address / 4096) ≡ Some place
+  pub in_frame : place.frame ≡ frame
+  pub at_index : address % 4096 / 8 ≡ index
+
+-- a word of memory is as it was where none of so many bytes from an address on lies in it
+pub record AreOtherWordsKept (old new : List ℕ) (root at count : ℕ) : Type 0 where
+  pub kept :
+      (frame index : ℕ) → index < 512 → ((address : ℕ) → at ≤ address → address < at + count → LiesIn old root address frame index → ⊥) →
+      word_at new frame index ≡ word_at old frame index
 
 -- When each answer comes of an access to so many bytes. One to no bytes is always served.
 abbrev pub IsAccessAnswer : {A : Type 0} → PageMap → Bool → Bool → ℕ → ℕ → Result A SpaceFault → Type 0

@@ -1,30 +1,32 @@
 -- Pages that leave, get other rights, are copied or written. `old` are the tables before, `new` after.
-use Rattle.std.specs.Prelude.{◌≡◌, ℕ, ◌+◌, ◌*◌, ◌/◌, ◌<◌, ◌≤◌, false, List, length, Some, Result, Ok, Err}
+use Rattle.std.specs.Prelude.{◌≡◌, ℕ, ◌+◌, ◌*◌, ◌/◌, ◌<◌, ◌≤◌, ◌&&◌, Bool, false, is_some, List, length, Some, None, Result, Ok, Err}
+use Rattle.paging_core.specs.Memory.{word_at}
+use Rattle.paging_core.specs.Entry.{table_entry, page_entry}
 use Rattle.paging_core.specs.Missing.{missing_of}
-use Rattle.paging_core.specs.PageChanges.{ArePagesChanged, regrant, among}
-use Rattle.paging_core.specs.Pool.{free_count}
+use Rattle.paging_core.specs.PageChanges.{ArePagesChanged, removal, regrant, among}
+use Rattle.paging_core.specs.Pool.{is_free, free_count}
 use Rattle.paging_core.specs.Prefix.{prefix_of}
-use Rattle.paging_core.specs.Walk.{Place, reach}
+use Rattle.paging_core.specs.Walk.{Place, reach, walk_of, top}
 use Rattle.paging_core.specs.declared.page_table.Rights.{Rights}
 use Rattle.address_space.specs.declared.space_fault.SpaceFault.{SpaceFault}
 use Rattle.address_space.specs.declared.space_fault.SpaceFault.TheVariants.{BadRange, Overlap, Hole, NoFrames, OutOfMemory}
 use Rattle.address_space.specs.PageMap.{IsMap, unmapped, protected, duplicated, stored, mapped_count, IsGoodRange, IsClear, IsFull, IsHole}
-use Rattle.address_space.specs.Space.{Tables, map_of}
+use Rattle.address_space.specs.Space.{Tables, map_of, rights_of}
+use Rattle.address_space.specs.Access.{AreOtherWordsKept}
 use Rattle.address_space.specs.Mapping.{HasFrames}
 
--- The walk meets each table as before, and so it does each page outside of the range: its frame and its rights.
-abbrev pub IsMetOutside : Tables → Tables → ℕ → ℕ → Type 0
-IsMetOutside old new first pages =
-    (level number : ℕ) → level ≤ 4 → (level ≡ 4 → among first pages number ≡ false) → reach new.words old.root level number ≡ reach old.words old.root level number
+-- whether a page of the range is mapped, by its four indices as one number
+abbrev pub is_mapped_in : Tables → ℕ → ℕ → ℕ → Bool
+is_mapped_in t first pages number = among first pages number && is_some (reach t.words t.root 4 number)
 
--- The mapped pages of a range leave the map, and nothing else is changed. Their frames are free again; no table leaves.
+-- The mapped pages of a range leave the map, and nothing else is changed: the entry of each is 0, and every other word
+-- is as it was. Their frames are free again; no table leaves.
 pub record IsUnmapped (old new : Tables) (first pages count : ℕ) : Type 0 where
   pub map : IsMap (map_of new) (unmapped first pages (map_of old))
   pub count_is : count ≡ mapped_count (map_of old).rights first pages
   pub free : free_count new.free ≡ free_count old.free + count
   pub root : new.root ≡ old.root
-  pub size : length new.words ≡ length old.words
-  pub met : IsMetOutside old new first pages
+  pub entries : ArePagesChanged old.words new.words old.root removal (is_mapped_in old first pages)
 
 -- The pages of a range get the rights, and nothing else is changed: the entries of these pages are written, and no
 -- other word. No frame is taken or given back.
@@ -33,6 +35,32 @@ pub record IsProtected (old new : Tables) (first pages : ℕ) (rights : Rights) 
   pub free : new.free ≡ old.free
   pub root : new.root ≡ old.root
   pub entries : ArePagesChanged old.words new.words old.root (regrant rights) (among first pages)
+
+-- The words of memory after pages were copied. Entry `i` of the table that is met at the prefix (l, n) leads on to the
+-- prefix (l + 1, 512 * n + i). Nothing is said of frames that were free and that the walk does not meet.
+pub record AreWordsCopied (old new : Tables) (from pages to : ℕ) : Type 0 where
+  -- the frame of each page has the words of its source
+  pub copied :
+      (k i : ℕ) (source target : Place) → k < pages → i < 512 → walk_of old.words old.root (from + k) ≡ Some source →
+      walk_of new.words old.root (to + k) ≡ Some target → word_at new.words target.frame i ≡ word_at old.words source.frame i
+  -- a word of a table that was there is changed only where it leads elsewhere now, and a new table is 0 where it leads nowhere
+  pub old_words :
+      (l n f i : ℕ) → l < 4 → i < 512 → reach old.words old.root l n ≡ Some (top f) →
+      reach new.words old.root (l + 1) (512 * n + i) ≡ reach old.words old.root (l + 1) (512 * n + i) → word_at new.words f i ≡ word_at old.words f i
+  pub blank :
+      (l n f i : ℕ) → l < 4 → i < 512 → reach old.words old.root l n ≡ None → reach new.words old.root l n ≡ Some (top f) →
+      reach new.words old.root (l + 1) (512 * n + i) ≡ None → word_at new.words f i ≡ 0
+  -- the entry of a new table, and that of a new page: its rights, and no other bit
+  pub table_words :
+      (l n f i made : ℕ) → l < 3 → i < 512 → reach new.words old.root l n ≡ Some (top f) → reach old.words old.root (l + 1) (512 * n + i) ≡ None →
+      reach new.words old.root (l + 1) (512 * n + i) ≡ Some (top made) → word_at new.words f i ≡ table_entry made
+  pub page_words :
+      (n f i : ℕ) (place : Place) → i < 512 → reach new.words old.root 3 n ≡ Some (top f) → reach old.words old.root 4 (512 * n + i) ≡ None →
+      reach new.words old.root 4 (512 * n + i) ≡ Some place → word_at new.words f i ≡ page_entry place.frame (rights_of place)
+  -- a page that was mapped keeps its words
+  pub others :
+      (f i : ℕ) → i < 512 → is_free old.free f ≡ false → ((l n : ℕ) → l < 4 → reach old.words old.root l n ≡ Some (top f) → ⊥) →
+      word_at new.words f i ≡ word_at old.words f i
 
 -- The target pages get the rights and bytes of the source, and nothing else is changed. They and the tables that they
 -- missed took frames, and nothing else did.
@@ -45,8 +73,10 @@ pub record IsDuplicated (old new : Tables) (from pages to : ℕ) : Type 0 where
   pub others :
       (l n : ℕ) → l ≤ 4 → ((k : ℕ) → k < pages → n ≡ prefix_of (to + k) l → ⊥) → reach new.words old.root l n ≡ reach old.words old.root l n
   pub stayed : (l n : ℕ) (met : Place) → l ≤ 4 → reach old.words old.root l n ≡ Some met → reach new.words old.root l n ≡ Some met
+  pub words : AreWordsCopied old new from pages to
 
--- The bytes are those of the range, and nothing else is changed. The walk meets every table and every page as before.
+-- The bytes are those of the range, and nothing else is changed: the walk meets every table and every page as before,
+-- and every word in which none of the bytes lies is as it was.
 pub record IsStored (old new : Tables) (at : ℕ) (bytes : List ℕ) : Type 0 where
   pub map : IsMap (map_of new) (stored at bytes (map_of old))
   pub free : new.free ≡ old.free
@@ -54,6 +84,7 @@ pub record IsStored (old new : Tables) (at : ℕ) (bytes : List ℕ) : Type 0 wh
   pub runs : new.runs ≡ old.runs
   pub size : length new.words ≡ length old.words
   pub met : (level number : ℕ) → level ≤ 4 → reach new.words old.root level number ≡ reach old.words old.root level number
+  pub words : AreOtherWordsKept old.words new.words old.root at (length bytes)
 
 -- ---- when each answer comes; want of memory is free where no other cause is
 

@@ -1,10 +1,12 @@
 -- Pages that are mapped and get the rights and the bytes of others. `old` are the words before, `new` after.
-use Rattle.std.specs.Prelude.{◌≡◌, ℕ, ◌+◌, ◌*◌, ◌/◌, ◌<◌, Bool, false, IsTrue, List, length, Some}
+use Rattle.std.specs.Prelude.{◌≡◌, ℕ, ◌+◌, ◌*◌, ◌/◌, ◌<◌, Bool, true, false, IsTrue, List, length, Some}
 use Rattle.std.specs.Option.{option_map}
 use Rattle.paging_core.specs.Address.{is_canonical}
+use Rattle.paging_core.specs.Entry.{page_entry}
+use Rattle.paging_core.specs.Memory.{word_at}
 use Rattle.paging_core.specs.PageChanges.{among}
 use Rattle.paging_core.specs.Tree.{IsTree}
-use Rattle.paging_core.specs.Walk.{Place, reach, large_of, walk_of, reached}
+use Rattle.paging_core.specs.Walk.{Place, reach, large_of, walk_of, reached, top}
 use Rattle.address_space.specs.Space.{rights_of}
 
 -- so many pages from `to` on got the rights and the bytes of those from `from` on, each in its own frame
@@ -22,3 +24,13 @@ pub record ArePagesCopied (old new : List ℕ) (root from pages to : ℕ) : Type
   pub copied : (k offset : ℕ) → k < pages → offset < 4096 → reached new root (4096 * (to + k) + offset) ≡ reached old root (4096 * (from + k) + offset)
   pub bytes :
       (address : ℕ) → IsTrue (is_canonical address) → ((k : ℕ) → k < pages → address / 4096 ≡ to + k → ⊥) → reached new root address ≡ reached old root address
+  -- their frames have the words of the source, their entries name these frames with the rights, and no other word is changed
+  pub words :
+      (k i : ℕ) (source target : Place) → k < pages → i < 512 → walk_of old root (from + k) ≡ Some source → walk_of old root (to + k) ≡ Some target →
+      word_at new target.frame i ≡ word_at old source.frame i
+  pub entries :
+      (n i f : ℕ) (place : Place) → i < 512 → among to pages (512 * n + i) ≡ true → reach old root 3 n ≡ Some (top f) →
+      reach new root 4 (512 * n + i) ≡ Some place → word_at new f i ≡ page_entry place.frame (rights_of place)
+  pub others :
+      (f i : ℕ) → i < 512 → ((k : ℕ) (target : Place) → k < pages → walk_of old root (to + k) ≡ Some target → target.frame ≡ f → ⊥) →
+      ((n : ℕ) → reach old root 3 n ≡ Some (top f) → among to pages (512 * n + i) ≡ false) → word_at new f i ≡ word_at old f i

@@ -1,12 +1,12 @@
 //! The bytes of words and of mapped pages.
-ghost use Rattle.std.specs.Prelude.{◌≡◌, ℕ, ◌+◌, ◌*◌, ◌/◌, ◌^◌, ◌<◌, ◌≤◌, IsTrue, IsSome, IfOk, OnOk, Bool, List, length};
+ghost use Rattle.std.specs.Prelude.{◌≡◌, ℕ, ◌+◌, ◌*◌, ◌/◌, ◌%◌, ◌^◌, ◌<◌, ◌≤◌, IsTrue, IsSome, IfOk, OnOk, Bool, List, length};
 ghost use Rattle.paging_core.specs.Address.{is_canonical};
 ghost use Rattle.paging_core.specs.Memory.{frame_count, byte_of as byte_in};
 ghost use Rattle.paging_core.specs.Tree.{IsTree, HasTree};
 ghost use Rattle.paging_core.specs.Walk.{reach, large_of, walk_of, reached};
-ghost use Rattle.address_space.specs.Access.{IsGoodSpan, byte_at, AreBytesAt, AreBytesPut, AreWritten};
+ghost use Rattle.address_space.specs.Access.{IsGoodSpan, byte_at, AreBytesAt, AreBytesPut, AreWritten, AreOtherWordsKept};
 
-use paging_core::{Frames, Page, PhysFrame, VirtAddr, get_bits, load_words, set_bits, store_words};
+use paging_core::{Frames, Page, PhysFrame, VirtAddr, get_bits, load_words, set_bits, walk};
 use std::alloc::{AllocError, Global};
 
 /// One of the eight bytes of a word, the lowest first.
@@ -100,26 +100,39 @@ fn put_bytes(words: &mut [u64], offset: usize, bytes: &[u8])
     }
 }
 
-/// Writes bytes to a page that is mapped, from an offset on: its words are read, changed and written. It takes no
-/// memory.
-fn write_page(frames: &mut Frames, root: PhysFrame, page: Page, offset: usize, bytes: &[u8])
+/// Writes bytes to a page that is mapped, from an address on, by one walk: the words in which they lie are read,
+/// changed and written. It takes no memory; `words` are as many words, of any value.
+fn write_part(frames: &mut Frames, root: PhysFrame, at: u64, bytes: &[u8], words: &mut [u64])
     requires root { root < frame_count frames.old }
     requires tree { HasTree frames.old root }
-    requires mapped { IsSome (walk_of frames.old root page) }
-    requires fits { offset + length bytes.now ≤ 4096 }
+    requires canonical { IsTrue (is_canonical at) }
+    requires mapped { IsSome (walk_of frames.old root (at / 4096)) }
+    requires some { 0 < length bytes.now }
+    requires fits { at % 4096 + length bytes.now ≤ 4096 }
+    requires words { length words.old ≡ (at % 8 + length bytes.now + 7) / 8 }
     ensures size { length frames.new ≡ length frames.old }
     ensures tree { (free : List Bool) → IsTree frames.old root free → IsTree frames.new root free }
     ensures walks { (level number : ℕ) → level ≤ 4 → reach frames.new root level number ≡ reach frames.old root level number }
     ensures larges { (slot : ℕ) → large_of frames.new root slot ≡ large_of frames.old root slot }
-    ensures bytes { AreWritten (reached frames.old root) (reached frames.new root) (4096 * page + offset) (length bytes.now) bytes.now }
+    ensures bytes { AreWritten (reached frames.old root) (reached frames.new root) at (length bytes.now) bytes.now }
+    ensures words { AreOtherWordsKept frames.old frames.new root at (length bytes.now) }
 {
-    let mut words = [0; 512];
-    load_words(frames, root, page, 0, &mut words);
-    put_bytes(&mut words, offset, bytes);
-    store_words(frames, root, page, 0, &words);
+    let page = Page::containing_address(VirtAddr::new(at));
+    let Some(place) = walk(frames, root, page) else {
+        unreachable!()
+    };
+    let first = (at % 4096 / 8) as u16;
+    frames.read_words(place.frame, first, words);
+    put_bytes(words, (at % 8) as usize, bytes);
+    frames.write_words(place.frame, first, words);
 }
 
-/// Writes bytes from an address on, page by page: each page is mapped. It takes no memory.
+/// How many words are written at once at most, and how many bytes they have. They lie in one page.
+const PART_WORDS: usize = 64;
+
+const PART: usize = 8 * PART_WORDS;
+
+/// Writes bytes from an address on, part by part: the page of each is mapped. It takes no memory.
 pub(crate) fn write_bytes(frames: &mut Frames, root: PhysFrame, at: u64, bytes: &[u8])
     requires root { root < frame_count frames.old }
     requires tree { HasTree frames.old root }
@@ -131,14 +144,21 @@ pub(crate) fn write_bytes(frames: &mut Frames, root: PhysFrame, at: u64, bytes: 
     ensures walks { (level number : ℕ) → level ≤ 4 → reach frames.new root level number ≡ reach frames.old root level number }
     ensures larges { (slot : ℕ) → large_of frames.new root slot ≡ large_of frames.old root slot }
     ensures bytes { AreWritten (reached frames.old root) (reached frames.new root) at (length bytes.now) bytes.now }
+    ensures words { AreOtherWordsKept frames.old frames.new root at (length bytes.now) }
 {
+    let mut words = [0; PART_WORDS];
     let mut done = 0;
     while done < bytes.len() {
         let from = at + done as u64;
-        let offset = (from % 4096) as usize;
-        let count = (4096 - offset).min(bytes.len() - done);
-        let page = Page::containing_address(VirtAddr::new(from));
-        write_page(frames, root, page, offset, &bytes[done..done + count]);
+        let count = (PART - from as usize % PART).min(bytes.len() - done);
+        let size = ((from % 8) as usize + count + 7) / 8;
+        write_part(
+            frames,
+            root,
+            from,
+            &bytes[done..done + count],
+            &mut words[..size],
+        );
         done += count;
     }
 }

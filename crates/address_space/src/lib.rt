@@ -13,7 +13,11 @@ mod changing;
 #[cfg(test)]
 mod copy_tests;
 mod copying;
+#[cfg(test)]
+mod half_tests;
 mod mapping;
+#[cfg(test)]
+mod memory_tests;
 #[cfg(test)]
 mod plain_tests;
 mod range;

@@ -40,7 +40,8 @@ copy_to-requires-clause-target c =
 pub loop-step-preserved : goal.loop-step-preserved
 loop-step-preserved c =
     let step = c.loop-step.step in
-    more_copied c.args.frames.now c.loop-step.frames c.copy_to.new.frames c.args.root c.args.from step c.args.to c.page_at.result c.page_at-in-loop-step.result
+    let t = c.requires.tree in
+    more_copied c.args.frames.now c.loop-step.frames c.copy_to.new.frames c.args.root c.args.from step c.args.to c.page_at.result c.page_at-in-loop-step.result t.0 t.1
     (part_of_range c.args.to c.args.pages c.args.to (step + 1) c.requires.target (omega arith) (omega arith) (omega arith))
     (canonical_in c.args.from c.args.pages (c.args.from + step) c.requires.source (omega arith) (omega arith))
     (λ k less is. c.requires.apart step k (omega arith) (omega (arith, less)) is) c.page_at.ensures c.page_at-in-loop-step.ensures c.loop-step.invariant c.copy_to.ensures

@@ -1,6 +1,7 @@
 use Rattle.std.proofs.Common.{◌∙◌, ap, option_map, sym, subst}
 use Rattle.std.specs.Prelude.{IsSome}
 use Rattle.paging_core.specs.Walk.{walk_of, place_of}
+use Rattle.paging_core.proofs.PageChanged.{some_place}
 use Rattle.address_space.proofs.Mapped.{by_table}
 use Rattle.address_space.proofs.Unmapped.{not_there}
 use Rattle.address_space.proofs.Written.{walk_same}
@@ -30,6 +31,7 @@ returns c =
     let t = c.requires.tree in
     let tree = c.copy_page.ensures.tree t.0 t.1 in
     let walks = c.copy_page.ensures.walks t.0 t.1 in
+    let target = some_place (walk_of c.args.frames.now c.args.root c.args.target) c.requires.target in
     one_copied c.args.frames.now c.copy_page.new.frames c.protect_page.new.frames c.args.root c.args.source c.args.target (place_of c.in-Some.place)
     (record {
       there = sym c.in-Some.ensures.found;
@@ -45,4 +47,10 @@ returns c =
       gave = c.protect_page.ensures.granted t.0 tree;
       elsewhere = c.protect_page.ensures.elsewhere t.0 tree;
       bytes = c.protect_page.ensures.bytes t.0 tree;
+      free = t.0;
+      was = t.1;
+      at_source = sym (walk_same c.args.frames.now c.copy_page.new.frames c.args.root c.args.source walks) ∙ sym c.in-Some.ensures.found;
+      to = target.0;
+      at_target = target.1;
+      frames = c.copy_page.ensures.words;
     })

@@ -6,6 +6,7 @@ use Rattle.address_space.specs.RunChanges.{AreCopied}
 use Rattle.address_space.specs.PageCopies.{ArePagesCopied}
 use Rattle.address_space.specs.Seen.{tables_of}
 use Rattle.address_space.proofs.Duplicated.{AreDuplicated, duplicated_kept, duplicated_map, duplicated_is, ranges_apart, source_mapped, target_mapped}
+use Rattle.address_space.proofs.DuplicatedWords.{duplicated_words}
 use Rattle.address_space.proofs.space.Space.copy_clear.Goals as goal
 
 pub copy_pages-requires-clause-tree : goal.copy_pages-requires-clause-tree
@@ -78,3 +79,4 @@ returns-clause-ok c =
     } in
     duplicated_is t (record { words = words; root = t.root; free = c.map_range.new.pool; runs = runs }) one c.args.source c.args.pages c.args.target (record { write = false; user = false; fetch = false }) m refl
     (duplicated_map t one words c.map_range.new.pool runs c.args.source c.args.pages c.args.target (record { write = false; user = false; fetch = false }) m)
+    (duplicated_words t (record { words = words; root = t.root; free = c.map_range.new.pool; runs = runs }) one c.args.source c.args.pages c.args.target (record { write = false; user = false; fetch = false }) m)

@@ -24,4 +24,5 @@ returns-clause-ok c =
       runs = refl;
       size = c.write_bytes.ensures.size;
       met = c.write_bytes.ensures.walks;
+      words = c.write_bytes.ensures.words;
     }

@@ -22,7 +22,7 @@ loop-end-preserved c =
     let some = c.in-Some.ensures.good.canonical.some in
     let range = part_of_range (c.args.start / 4096) c.args.pages c.number-first.result (c.number-first.result + c.args.pages - c.number-first.result) c.in-Some.ensures.good.canonical (omega (arith, first, page)) (omega (arith, first, page)) (omega (arith, some)) in
     unmapped_step (tables_of c.args.self.now) (tables_of c.loop-end.self) (tables_of c.unmap_last.new.self) c.number-first.result (c.number-first.result + c.args.pages) c.loop-end.end c.loop-end.count c.in-Ok.part.first c.in-Ok.part.count
-    range c.loop-end.invariant c.in-Ok.ensures.ok c.in-Ok.ensures.from c.in-Ok.ensures.less c.in-Ok.ensures.to
+    c.args.self.now.kept.tree range c.loop-end.invariant c.in-Ok.ensures.ok c.in-Ok.ensures.from c.in-Ok.ensures.less c.in-Ok.ensures.to
 
 pub returns-in-Err-clause-err : goal.returns-in-Err-clause-err
 returns-in-Err-clause-err c =

@@ -10,19 +10,24 @@ use Rattle.address_space.specs.Seen.{tables_of}
 use Rattle.address_space.proofs.Mapped.{canonical_in, is_some_of, by_table}
 use Rattle.address_space.proofs.OneRun.{run_rights}
 use Rattle.address_space.proofs.Protected.{mapped_walks}
-use Rattle.address_space.proofs.Unmapped.{AreUnmapped, part_of_range, not_there, unmapped_kept, unmapped_part, unmapped_none}
+use Rattle.address_space.proofs.Unmapped.{AreUnmapped, part_of_range, not_there, unmapped_kept, unmapped_part, unmapped_none, none_mapped}
 use Rattle.address_space.proofs.space.Space.unmap_last.Goals as goal
 
 pub returns-in_default-clause-ok : goal.returns-in_default-clause-ok
 returns-in_default-clause-ok c =
     let some = c.requires.some in
-    unmapped_none (tables_of c.args.self.now) c.args.first (c.args.end - c.args.first) (λ any h k. c.in_default.ensures.none any (omega arith) (omega (arith, k, some)))
+    unmapped_none (tables_of c.args.self.now) c.args.first (c.args.end - c.args.first)
+    (λ n. none_mapped (tables_of c.args.self.now) c.args.first (c.args.end - c.args.first) n c.args.self.now.kept c.requires.range (λ any h k. c.in_default.ensures.none any (omega arith) (omega (arith, k, some))))
+    (λ any h k. c.in_default.ensures.none any (omega arith) (omega (arith, k, some)))
 
 pub returns-then-run-first-clause-ok : goal.returns-then-run-first-clause-ok
 returns-then-run-first-clause-ok c =
     let some = c.requires.some in
     let before = c.if-run-first.true in
-    unmapped_none (tables_of c.args.self.now) c.args.first (c.args.end - c.args.first) (λ any h k. c.in-Some.ensures.last any (omega (arith, h, before)) (omega (arith, k, some)))
+    unmapped_none (tables_of c.args.self.now) c.args.first (c.args.end - c.args.first)
+    (λ n. none_mapped (tables_of c.args.self.now) c.args.first (c.args.end - c.args.first) n c.args.self.now.kept c.requires.range
+    (λ any h k. c.in-Some.ensures.last any (omega (arith, h, before)) (omega (arith, k, some))))
+    (λ any h k. c.in-Some.ensures.last any (omega (arith, h, before)) (omega (arith, k, some)))
 
 always_err : {A E : Type 0} (r : Result A E) (X : Type 0) → X → IfErr r (λ error. X)
 always_err {A} {E} (Ok a) X x = tt
@@ -130,6 +135,8 @@ returns-clause-ok c =
       taken = subst (λ (n : ℕ). AreTaken (entries c.args.self.now.runs) (entries c.take.new.runs) n (n + count)) (sym at) c.in_ok-take.ensures.ok;
     } in
     subst (λ (n : ℕ). IsUnmapped t new n more count) at
-    (unmapped_part t new c.page_at.result count more m refl (omega (arith, from_is, to_is))
+    (unmapped_part t new c.page_at.result count more m refl
+    (part_of_range c.args.first (c.args.end - c.args.first) c.page_at.result more c.requires.range (omega (arith, at, from_is)) (omega (arith, at, from_is, starts, least)) (omega (arith, from_is, starts, least)))
+    (omega (arith, from_is, to_is))
     (λ any h k. c.in-Some.ensures.last any (omega (arith, h, k, at, from_is, to_is, starts)) (omega (arith, k, at, from_is, starts, least)))
     (λ page h k. is_some_of (rights_in es page) run.rights (run_rights es run.start run.end run.rights page c.in-Some.ensures.run (omega (arith, h, at, from_is)) (omega (arith, k, at, from_is, to_is, starts, some, over, least)))))
