@@ -2,3 +2,8 @@ pub mod Places
 pub mod Chains
 pub mod Index
 pub mod Entries
+pub mod Left
+pub mod Flushed
+pub mod System
+pub mod Ranges
+pub mod Reached

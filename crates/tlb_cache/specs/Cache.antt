@@ -63,3 +63,7 @@ pub record IsLookedUp (words : List ℕ) (root page : ℕ) (old new : Cache) : T
 -- those that a command leaves, in order
 abbrev pub left_by : FlushCommand → List TlbEntry → List TlbEntry
 left_by command entries = filter (λ (entry : TlbEntry). not (covers command entry.page)) entries
+
+-- the entries that commands leave, in order
+abbrev pub left_by_all : List FlushCommand → List TlbEntry → List TlbEntry
+left_by_all list entries = filter (λ (entry : TlbEntry). not (list_any (λ (command : FlushCommand). covers command entry.page) list)) entries

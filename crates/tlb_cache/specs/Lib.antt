@@ -3,3 +3,4 @@ pub mod Covered
 pub mod Pages
 pub mod Chains
 pub mod PageIndex
+pub mod Cached

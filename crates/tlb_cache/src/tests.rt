@@ -1,10 +1,9 @@
-ghost use Rattle.std.specs.Prelude.{◌<◌, IfOk};
-ghost use Rattle.paging_core.specs.Memory.{frame_count};
+ghost use Rattle.std.specs.Prelude.{◌<◌};
 
-use crate::Tlb;
-use paging_core::{
-    FramePool, Frames, Page, PhysFrame, Rights, VirtAddr, make_root, map_range, missing_tables,
-};
+use crate::{CachedFault, CachedSystem, Probed, Tlb};
+use bitflags::Flags;
+use kernel_heap::{Access, PageFaultErrorCode, PagedSystem, Rights, UnmapFault};
+use paging_core::{Page, VirtAddr};
 use std::alloc::{AllocError, Global};
 use std::process::Abort;
 use std::test::Fail;
@@ -21,32 +20,24 @@ fn page(address: u64) -> Page {
     Page::containing_address(VirtAddr::new_truncate(address))
 }
 
-/// Page tables.
-#[derive(Drop)]
-struct Tables {
-    frames: Frames,
-    root: PhysFrame,
-    ghost root_in: { root < frame_count frames },
+/// A system with so many frames, whose window is at 0x400000.
+fn system(alloc: Global, frames: u32) -> Result<PagedSystem, AllocError>
+    requires { 0 < frames }
+{
+    PagedSystem::new(alloc, 0x40_0000, 16, frames)
 }
 
-/// Tables in which 12 pages from 0x5000 on are mapped.
-fn make_tables(alloc: Global) -> Result<Tables, AllocError> {
-    let mut frames = Frames::new(alloc, 64)?;
-    let mut pool = FramePool::new(alloc, 64)?;
-    let Some(root) = make_root(&mut frames, &mut pool) else {
-        return Err(AllocError);
-    };
-    if missing_tables(&frames, root, 5, 12) + 12 > pool.free_count() {
-        return Err(AllocError);
-    }
-    let first = Page::containing_address(VirtAddr::new(0x5000));
-    map_range(&mut frames, &mut pool, root, first, 12, READ);
-    Ok(Tables { frames, root })
+/// A system with a cache of so many translations, and `INVLPGB` of at most 7 pages.
+fn cached(alloc: Global, frames: u32, capacity: u64) -> Result<CachedSystem, AllocError>
+    requires frames { 0 < frames }
+    requires capacity { 0 < capacity }
+{
+    CachedSystem::new(alloc, 0x40_0000, 16, frames, capacity, 7)
 }
 
 /// Looks a page up, and answers whether it had an entry.
-fn look(tlb: &mut Tlb, tables: &Tables, address: u64) -> bool {
-    let translated = tlb.translate(&tables.frames, tables.root, page(address));
+fn look(tlb: &mut Tlb, system: &PagedSystem, address: u64) -> bool {
+    let translated = tlb.translate(system.frames(), system.root(), page(address));
     translated.hit
 }
 
@@ -60,33 +51,56 @@ fn expect_pages<R: Abort>(rt: &R, tlb: &Tlb, pages: &[u64]) {
 
 #[test]
 fn the_oldest_leaves_first(rt: HostRuntime) -> Result<(), Fail> {
-    let tables = make_tables(rt.alloc())?;
-    let mut tlb = Tlb::new(rt.alloc(), 2)?;
-    for address in [0x5000, 0x6000, 0x7000] {
-        assert!(rt; !look(&mut tlb, &tables, address));
+    let mut cached = cached(rt.alloc(), 64, 2)?;
+    assert_eq!(rt; cached.map(0x1_0000, 3, READ), Ok(()));
+    for address in [0x1_0000, 0x1_1000, 0x1_2000] {
+        assert_eq!(rt; cached.probe(address, Access::Read, false), Probed::Byte(0));
     }
-    expect_pages(&rt, &tlb, &[0x6000, 0x7000]);
+    expect_pages(&rt, cached.tlb(), &[0x1_1000, 0x1_2000]);
     // A hit leaves the order, so that its entry is the next to leave.
-    assert!(rt; look(&mut tlb, &tables, 0x6000));
-    assert!(rt; !look(&mut tlb, &tables, 0x5000));
-    expect_pages(&rt, &tlb, &[0x7000, 0x5000]);
-    // A page that is not mapped has no entry.
-    assert!(rt; !look(&mut tlb, &tables, 0x20_0000));
-    expect_pages(&rt, &tlb, &[0x7000, 0x5000]);
+    assert_eq!(rt;
+        cached.probe(0x1_1000, Access::Read, false),
+        Probed::Byte(0)
+    );
+    assert_eq!(rt;
+        cached.probe(0x1_0000, Access::Read, false),
+        Probed::Byte(0)
+    );
+    expect_pages(&rt, cached.tlb(), &[0x1_2000, 0x1_0000]);
+    match cached.unmap(0x1_0000, 3) {
+        Ok(list) => {
+            let flush = FlushCommand::Invlpgb {
+                rax: 0x1_0001,
+                ecx: 3,
+                edx: 0,
+            };
+            assert_eq!(rt; list.as_slice(), [flush].as_slice());
+        }
+        Err(_) => panic!(&rt; "the region is there"),
+    }
+    assert_eq!(rt; cached.tlb().len(), 0);
+    let fault = Probed::Fault(PageFaultErrorCode::from_bits_retain(0));
+    assert_eq!(rt; cached.probe(0x1_1000, Access::Read, false), fault);
+    assert_eq!(rt; cached.tlb().len(), 0);
     Ok(())
 }
 
 #[test]
 fn commands_cover_their_pages(rt: HostRuntime) -> Result<(), Fail> {
-    let tables = make_tables(rt.alloc())?;
+    let mut system = system(rt.alloc(), 64)?;
+    assert_eq!(rt; system.map(0x5000, 3, READ), Ok(()));
     let mut tlb = Tlb::new(rt.alloc(), 8)?;
     for address in [0x5000, 0x6000, 0x7000] {
-        assert!(rt; !look(&mut tlb, &tables, address));
+        assert!(rt; !look(&mut tlb, &system, address));
     }
     expect_pages(&rt, &tlb, &[0x5000, 0x6000, 0x7000]);
     tlb.apply(&FlushCommand::Invlpg(VirtAddr::new_truncate(0x6000)));
     expect_pages(&rt, &tlb, &[0x5000, 0x7000]);
-    tlb.apply(&invlpgb(0x5001, 0));
+    tlb.apply(&FlushCommand::Invlpgb {
+        rax: 0x5001,
+        ecx: 0,
+        edx: 0,
+    });
     expect_pages(&rt, &tlb, &[0x7000]);
     tlb.apply(&FlushCommand::ReloadCr3);
     expect_pages(&rt, &tlb, &[]);
@@ -115,10 +129,10 @@ fn invpcid(kind: u64, address: u64) -> FlushCommand {
 }
 
 /// Sees what each command leaves of three entries.
-fn expect_left<R: Abort>(rt: &R, tables: &Tables, tlb: &mut Tlb, rows: &[Row]) {
+fn expect_left<R: Abort>(rt: &R, system: &PagedSystem, tlb: &mut Tlb, rows: &[Row]) {
     for row in rows {
         for address in [0x5000, 0x6000, 0x7000] {
-            look(tlb, tables, address);
+            look(tlb, system, address);
         }
         tlb.apply(&row.command);
         expect_pages(rt, tlb, row.left);
@@ -127,7 +141,8 @@ fn expect_left<R: Abort>(rt: &R, tables: &Tables, tlb: &mut Tlb, rows: &[Row]) {
 
 #[test]
 fn each_kind_of_command(rt: HostRuntime) -> Result<(), Fail> {
-    let tables = make_tables(rt.alloc())?;
+    let mut system = system(rt.alloc(), 64)?;
+    assert_eq!(rt; system.map(0x5000, 3, READ), Ok(()));
     let mut tlb = Tlb::new(rt.alloc(), 8)?;
     let all = [0x5000, 0x6000, 0x7000];
     let rows = [
@@ -190,6 +205,61 @@ fn each_kind_of_command(rt: HostRuntime) -> Result<(), Fail> {
             left: &all,
         },
     ];
-    expect_left(&rt, &tables, &mut tlb, &rows);
+    expect_left(&rt, &system, &mut tlb, &rows);
+    Ok(())
+}
+
+#[test]
+fn pages_of_a_large_page_have_entries_of_their_own(rt: HostRuntime) -> Result<(), Fail> {
+    let mut cached = cached(rt.alloc(), 1200, 4)?;
+    assert_eq!(rt; cached.map(0x20_0000, 512, READ), Ok(()));
+    for address in [0x20_0000, 0x20_1000, 0x3f_f000] {
+        assert_eq!(rt; cached.probe(address, Access::Read, false), Probed::Byte(0));
+    }
+    expect_pages(&rt, cached.tlb(), &[0x20_0000, 0x20_1000, 0x3f_f000]);
+    Ok(())
+}
+
+#[test]
+fn the_last_page_is_flushed_with_all_others(rt: HostRuntime) -> Result<(), Fail> {
+    let mut cached = cached(rt.alloc(), 64, 4)?;
+    let last = 0xffff_ffff_ffff_f000;
+    assert_eq!(rt; cached.map(last, 1, READ), Ok(()));
+    assert_eq!(rt; cached.map(0x1000, 1, READ), Ok(()));
+    assert_eq!(rt; cached.probe(last, Access::Read, false), Probed::Byte(0));
+    assert_eq!(rt; cached.probe(0x1000, Access::Read, false), Probed::Byte(0));
+    match cached.unmap(last, 1) {
+        Ok(list) => assert_eq!(rt; list.as_slice(), [invlpgb(0, 0)].as_slice()),
+        Err(_) => panic!(&rt; "the region is there"),
+    }
+    assert_eq!(rt; cached.tlb().len(), 0);
+    Ok(())
+}
+
+#[test]
+fn refusals_leave_the_entries(rt: HostRuntime) -> Result<(), Fail> {
+    let mut cached = cached(rt.alloc(), 64, 4)?;
+    assert_eq!(rt; cached.map(0x1000, 2, READ), Ok(()));
+    assert_eq!(rt; cached.probe(0x1000, Access::Read, false), Probed::Byte(0));
+    for (start, pages, fault) in [
+        (0x1000, 1, UnmapFault::UnknownRegion),
+        (0x1000, 1 << 40, UnmapFault::BadRange),
+        (0x1000, 1 << 30, UnmapFault::UnknownRegion),
+        (0x1001, 2, UnmapFault::BadRange),
+        (0x8000_0000_0000, 2, UnmapFault::BadRange),
+        (0x7fff_ffff_f000, 2, UnmapFault::BadRange),
+    ] {
+        assert_eq!(rt;
+            cached.unmap(start, pages).err(),
+            Some(CachedFault::Unmap(fault))
+        );
+    }
+    assert_eq!(rt;
+        cached.probe(0x8000_0000_0000, Access::Read, false),
+        Probed::NotCanonical
+    );
+    let write = Probed::Fault(PageFaultErrorCode::from_bits_retain(3));
+    assert_eq!(rt; cached.probe(0x1000, Access::Write, false), write);
+    expect_pages(&rt, cached.tlb(), &[0x1000]);
     Ok(())
 }
