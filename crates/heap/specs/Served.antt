@@ -1,6 +1,5 @@
 -- What the program does with its words, and the status at which it ends.
-use Rattle.std.specs.Prelude.{◌≡◌, ◌<◌, ◌≤◌, ◌+◌, ◌^◌, ◌⊎◌, ◌↔◌, ℕ, List, [], ◌++◌, length, codes, unwrap_or, Option, Some, None, IfSome, String}
-use Rattle.std.specs.Io.KnownBytes.{Appends}
+use Rattle.std.specs.Prelude.{◌≡◌, ◌<◌, ◌≤◌, ◌+◌, ◌^◌, ◌⊎◌, ◌↔◌, ℕ, List, [], length, unwrap_or, Option, Some, None, IfSome, String}
 use Rattle.std.specs.declared.alloc.Global.{Global}
 use Rattle.heap_model.specs.declared.answer.Answer.{Answer}
 use Rattle.heap_model.specs.declared.config.Config.{Config}
@@ -11,19 +10,12 @@ use Rattle.heap_program.specs.declared.arguments.Command.{Command}
 use Rattle.heap_program.specs.declared.arguments.Command.TheVariants.{Run, Generate}
 use Rattle.heap_program.specs.Command.{command_of, machine_config}
 use Rattle.heap_program.specs.Faults.{HasRisen}
-use Rattle.heap_program.specs.Flushed.{IsAllFlushed}
 use Rattle.heap_program.specs.Generated.{IsGenerated}
 use Rattle.heap_program.specs.Headline.{IsAnswered}
-use Rattle.heap_program.specs.Status.{TellsRefusal, status_text_of}
+use Rattle.heap_program.specs.Process.{IsShown}
+use Rattle.heap_program.specs.Status.{TellsRefusal}
 use Rattle.heap.specs.declared.pages.Page.{Page}
 use Rattle.heap.specs.Pages.{page_of, text_of}
-
--- A text was to be written: at status 0 it is, and flushed; at 7 the sink failed; and at 5 it had too little memory.
-pub record IsShown (text : List ℕ) (before after : Option (List ℕ)) (flushed : Option ℕ) (faults faults' status : ℕ) : Type 0 where
-  pub which : (status ≡ 0) ⊎ (status ≡ 5) ⊎ (status ≡ 7)
-  pub shown : status ≡ 0 → Appends before after text
-  pub flushed_all : status ≡ 0 → IsAllFlushed after flushed
-  pub fault : status ≡ 7 → HasRisen faults faults'
 
 -- The words were served. The source had the input, and `left` after it; the sink had taken `before`, and then `after`. The
 -- counts are those of the faults, of the source and of the sink, before and after.
@@ -49,7 +41,3 @@ pub record IsServed (words : List (String Global)) (had left before after : Opti
   pub complete :
       (command : Command) → page_of words ≡ None → command_of words ≡ Some command → IsGoodConfig (machine_config command) →
       ¬ (HasRisen reads reads') → ¬ (HasRisen writes writes') → (status ≡ 0) ⊎ (status ≡ 5) ⊎ (status ≡ 8)
-
--- the line that tells what a status means
-abbrev pub status_line : ℕ → List ℕ
-status_line status = status_text_of status ++ codes "\n"

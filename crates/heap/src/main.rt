@@ -6,10 +6,10 @@ mod served;
 #[cfg(test)]
 mod tests;
 
-use heap_program::{ReaderSource, WriterSink};
+use heap_program::{ReaderSource, WriterSink, program_arguments};
 use served::program;
+use std::io;
 use std::process::ExitCode;
-use std::{env, io};
 
 const VERSION: &str = "\
 heap 0.1.0
@@ -91,12 +91,6 @@ At the end each region has a line, `region ADDRESS+PAGES heap`, or if the user's
 `region ADDRESS+PAGES user RIGHTS`. The last is `frames FREE tables TABLES`.
 ";
 
-/// The program's arguments, its own name first.
-fn arguments(rt: &HostRuntime) -> io::Result<Vec<String>> {
-    let all = env::args(rt)?.collect(rt.alloc())?;
-    Ok(all)
-}
-
 fn main(rt: HostRuntime) -> ExitCode {
     let stderr = rt.stderr();
     let mut source = ReaderSource::new(rt.reader());
@@ -104,7 +98,7 @@ fn main(rt: HostRuntime) -> ExitCode {
     let mut errors = WriterSink::new(io::writer(&stderr));
     program(
         rt.alloc(),
-        arguments(&rt),
+        program_arguments(&rt),
         &mut source,
         &mut sink,
         &mut errors,

@@ -1,5 +1,5 @@
 // The words of the program, and the texts that it prints of itself.
-ghost use Rattle.std.specs.Prelude.{◌≡◌, drop};
+ghost use Rattle.std.specs.Prelude.{◌≡◌};
 ghost use Rattle.heap.specs.Pages.{page_of, text_of};
 
 use crate::{HELP, LINES, VERSION};
@@ -10,16 +10,6 @@ pub enum Page {
     Help,
     Lines,
     Version,
-}
-
-/// The words after the first argument, which is the program's own name.
-pub fn words_of(arguments: &[String]) -> &[String]
-    ensures { result.now ≡ drop 1 arguments.now }
-{
-    match arguments {
-        [] => arguments,
-        [_, words @ ..] => words,
-    }
 }
 
 /// The page that these words ask for, if they do.

@@ -1,28 +1,17 @@
 // What the program does with its words, and how it ends.
-ghost use Rattle.std.specs.Prelude.{◌≡◌, ◌≢◌, ◌<◌, ◌≤◌, IfOk, IfErr, OnOk, IsErrOf, drop};
+ghost use Rattle.std.specs.Prelude.{◌≡◌, ◌≢◌, ◌<◌, ◌≤◌, IfOk, IfErr, drop};
 ghost use Rattle.std.specs.Io.KnownBytes.{Appends};
 ghost use Rattle.std.specs.IoError.{error_kind};
 ghost use Rattle.std.specs.Process.{exit_status};
 ghost use Rattle.heap_program.specs.Faults.{HasRisen};
-ghost use Rattle.heap.specs.Served.{IsShown, IsServed, status_line};
+ghost use Rattle.heap_program.specs.Process.{status_line};
+ghost use Rattle.heap.specs.Served.{IsServed};
 
-use crate::pages::{page_of, text_of, words_of};
-use heap_program::{Sink, SinkFault, Source, heap_main, status_text, write_text};
+use crate::pages::{page_of, text_of};
+use heap_program::{Sink, Source, exit_with, heap_main, show, words_of, words_status};
 use std::alloc::Global;
 use std::io::{self, ErrorKind};
 use std::process::ExitCode;
-
-/// Shows a text, and answers the status.
-fn show<K: Sink>(sink: &mut K, text: &str) -> u8
-    ensures shown { IsShown text.now (K.taken sink.old) (K.taken sink.new) (K.flushed sink.new) (K.faults sink.old) (K.faults sink.new) result }
-    ensures memory { ((k : K) → K.needs_memory k → ⊥) → result ≢ 5 }
-{
-    match write_text(sink, text) {
-        Ok(()) => 0,
-        Err(SinkFault::OutOfMemory) => 5,
-        Err(SinkFault::Failed) => 7,
-    }
-}
 
 /// Shows the page that the words ask for, or runs the command that they are, and answers the status.
 fn serve<S: Source, K: Sink>(alloc: Global, words: &[String], source: &mut S, sink: &mut K) -> u8
@@ -33,43 +22,6 @@ fn serve<S: Source, K: Sink>(alloc: Global, words: &[String], source: &mut S, si
         Some(page) => show(sink, text_of(page)),
         None => heap_main(alloc, words, source, sink).status,
     }
-}
-
-/// The status after arguments that could not be read.
-fn status_of(error: &io::Error) -> u8
-    ensures memory { error_kind error.now ≡ ErrorKind.OutOfMemory → result ≡ 5 }
-    ensures others { error_kind error.now ≢ ErrorKind.OutOfMemory → result ≡ 1 }
-{
-    if error.kind() == ErrorKind::OutOfMemory {
-        5
-    } else {
-        1
-    }
-}
-
-/// Writes the line that tells what a status means.
-fn tell<E: Sink>(errors: &mut E, status: u8) -> Result<(), SinkFault>
-    requires few { status ≤ 8 }
-    ensures told { OnOk result (Appends (E.taken errors.old) (E.taken errors.new) (status_line status)) }
-    ensures cause { IsErrOf result SinkFault.Failed → HasRisen (E.faults errors.old) (E.faults errors.new) }
-    ensures memory { ((e : E) → E.needs_memory e → ⊥) → ¬ (IsErrOf result SinkFault.OutOfMemory) }
-{
-    write_text(errors, status_text(status))?;
-    write_text(errors, "\n")
-}
-
-/// Ends with a status, and tells what it means if it is not 0. A text that cannot be written changes nothing.
-fn end<E: Sink>(errors: &mut E, status: u8) -> ExitCode
-    requires few { status ≤ 8 }
-    ensures status { exit_status result ≡ status }
-    ensures silent { status ≡ 0 → errors.new ≡ errors.old }
-    ensures told { 0 < status → ((e : E) → E.needs_memory e → ⊥) → ¬ (HasRisen (E.faults errors.old) (E.faults errors.new)) →
-        Appends (E.taken errors.old) (E.taken errors.new) (status_line status) }
-{
-    if status != 0 {
-        let _ = tell(errors, status);
-    }
-    ExitCode::from(status)
 }
 
 /// The program, but for where its arguments come from and its bytes go. Of the arguments the first is the program's own name,
@@ -96,7 +48,7 @@ pub fn program<S: Source, K: Sink, E: Sink>(
 {
     let status = match &arguments {
         Ok(all) => serve(alloc, words_of(all), source, sink),
-        Err(error) => status_of(error),
+        Err(error) => words_status(error),
     };
-    end(errors, status)
+    exit_with(errors, status)
 }

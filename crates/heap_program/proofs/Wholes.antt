@@ -12,38 +12,160 @@ use Rattle.heap_program.specs.declared.session.Session.{Session}
 use Rattle.heap_program.specs.declared.run.Stop.{Stop}
 use Rattle.heap_program.specs.declared.run.Stop.TheVariants.{Memory, ReadFault, WriteFault, TooLong}
 use Rattle.heap_program.specs.Advanced.{Advanced}
+use Rattle.heap_program.specs.Answering.{IsAnswering}
 use Rattle.heap_program.specs.Flushed.{IsAllFlushed}
-use Rattle.heap_program.specs.Headline.{ending_of, IsCaughtUp, IsFront, IsInterrupted, IsReadWhole, IsAnswered, IsStopped}
+use Rattle.heap_program.specs.Headline.{ending_of, IsFront, IsInterrupted, IsReadWhole, IsAnswered, IsStopped}
 use Rattle.heap_program.specs.Grammar.{item_of}
 use Rattle.heap_program.specs.Lines.{items_of, IsOneLine}
 use Rattle.heap_model.specs.Run.{RunsTo}
-use Rattle.heap_program.specs.Progress.{texts_of, Answered, IsAt, IsEnd}
+use Rattle.heap_program.specs.Progress.{texts_of, IsAt, IsEnd}
+use Rattle.heap_program.specs.Responses.{Responded, IsFrontOf, HasCaughtUp, HasHeld}
 use Rattle.heap_program.specs.Stop.{IsFresh, HasRead, HasClosed, HasPart, HasStopped}
 use Rattle.heap_program.specs.Text.{line_text, end_text_of}
 use Rattle.heap_program.proofs.Fits.{run_fits, length-items}
 use Rattle.heap_program.proofs.Known.{appends_nothing, appends_more, consumes_nothing, consumes_more, consumes_keeps}
 use Rattle.heap_program.proofs.LineLemmas.{items-whole, items-none}
 use Rattle.heap_model.proofs.Runs.{runs_none, run_on}
-use Rattle.heap_program.proofs.Runs.{answered_none, answered_more}
+use Rattle.heap_program.proofs.Runs.{responded_more}
+
+module _ {R : Type 0} (responds : R → List (Option Call) → List ℕ → R → Type 0) where
+  -- nothing went out
+  pub front_of_none : (x : R) (bytes : List ℕ) → responds x [] [] x → IsFrontOf responds x bytes []
+  front_of_none x bytes none = record { items = []; others = items_of bytes; split = refl; whole = []; new = x; responses = none; more = []; front = refl }
+
+  -- a front of a response to some bytes
+  pub front_of_part : (x y : R) (before bytes told after front more : List ℕ) → Responded responds x before bytes told after y → front ++ more ≡ told → IsFrontOf responds x (before ++ bytes) front
+  front_of_part x y before bytes told after front more a split = record {
+    items = a.items;
+    others = items_of (after ++ []);
+    split = ap (λ (l : List ℕ). items_of (before ++ l)) (sym (append-nil bytes)) ∙ a.read [];
+    whole = told;
+    new = y;
+    responses = a.responses;
+    more = more;
+    front = split;
+  }
+
+  -- all lines that ended in the bytes that came are responded to
+  pub caught_up : (x y : R) (line : List ℕ) (l l1 t t1 : Option (List ℕ)) (n : ℕ) (h : HasRead responds x y line l l1 t t1 n) → IsOneLine line → HasCaughtUp responds x h.bytes h.told
+  caught_up x y line l l1 t t1 n h one =
+      let a = h.responded in
+      record {
+        items = a.items;
+        item = item_of line;
+        ended = a.read (10 ∷ []) ∙ ap (λ (l : List (Option Call)). a.items ++ l) (items-whole line [] one ∙ ap (λ (l : List (Option Call)). item_of line ∷ l) items-none);
+        new = y;
+        responses = a.responses;
+      }
+
+  -- a stop at a read that brought this piece
+  pub held : (x y : R) (line : List ℕ) (l l1 l2 t t1 : Option (List ℕ)) (n most : ℕ) (piece : List ℕ) (h : HasRead responds x y line l l1 t t1 n) → IsOneLine line → Consumes l1 l2 piece → length piece ≤ most → HasHeld responds x most l l2 t t1
+  held x y line l l1 l2 t t1 n most piece h one consumed short = record {
+    input = h.bytes;
+    piece = piece;
+    read = consumes_more l l1 l2 h.bytes piece h.consumed consumed;
+    short = short;
+    text = h.told;
+    written = h.appended;
+    caught_up = caught_up x y line l l1 t t1 n h one;
+  }
+
+  -- before the first piece
+  pub read_none : (session : Session R) (left taken : Option (List ℕ)) → IsFresh session → responds session.responder [] [] session.responder → HasRead responds session.responder session.responder session.line left left taken taken 0
+  read_none session left taken fresh none = record {
+    bytes = [];
+    told = [];
+    consumed = consumes_nothing left;
+    counted = refl;
+    appended = appends_nothing taken;
+    responded = subst (λ (l : List ℕ). Responded responds session.responder [] [] [] l session.responder) (sym fresh.line) (record { items = []; read = λ rest. refl; responses = none });
+  }
+
+  -- the end of the input
+  pub read_end : (x y : R) (line : List ℕ) (l l1 l2 t t1 : Option (List ℕ)) (n : ℕ) (h : HasRead responds x y line l l1 t t1 n) → Consumes l1 l2 [] → HasRead responds x y line l l2 t t1 n
+  read_end x y line l l1 l2 t t1 n h none = record {
+    bytes = h.bytes;
+    told = h.told;
+    consumed = subst (Consumes l l2) (append-nil h.bytes) (consumes_more l l1 l2 h.bytes [] h.consumed none);
+    counted = h.counted;
+    appended = h.appended;
+    responded = h.responded;
+  }
+
+  -- a stop that wrote nothing more
+  pub stopped_dry : (x y : R) (line : List ℕ) (stop : Stop) (l l1 l2 t t1 : Option (List ℕ)) (n : ℕ) (piece : List ℕ) (h : HasRead responds x y line l l1 t t1 n) → Consumes l1 l2 piece → n + length piece ≤ 2 ^ 30 + 4096
+      → (stop ≡ TooLong → 2 ^ 30 < n + length piece) → (2 ^ 30 < n + length piece → stop ≡ TooLong) → (stop ≡ ReadFault → HasHeld responds x 0 l l2 t t1) → (stop ≡ TooLong → HasHeld responds x 4096 l l2 t t1) → HasStopped responds x stop l l2 t t1
+  stopped_dry x y line stop l l1 l2 t t1 n piece h consumed most there back at_fault at_length =
+      let count : length (h.bytes ++ piece) ≡ n + length piece = length-append h.bytes piece ∙ ap (λ (k : ℕ). k + length piece) h.counted in
+      let a = h.responded in
+      record {
+        bytes = h.bytes ++ piece;
+        told = h.told;
+        consumed = consumes_more l l1 l2 h.bytes piece h.consumed consumed;
+        short = omega (arith, count, most);
+        appended = h.appended;
+        front = record { items = a.items; others = items_of (line ++ piece); split = a.read piece; whole = h.told; new = y; responses = a.responses; more = []; front = append-nil h.told };
+        too_long = (λ is. subst (λ (k : ℕ). 2 ^ 30 < k) (sym count) (there is), λ long. back (subst (λ (k : ℕ). 2 ^ 30 < k) count long));
+        at_fault = at_fault;
+        at_length = at_length;
+      }
+
+  -- a stop before a piece
+  pub stopped_before : (x y : R) (line : List ℕ) (stop : Stop) (l l1 l2 t t1 : Option (List ℕ)) (n : ℕ) (h : HasRead responds x y line l l1 t t1 n) → IsOneLine line → Keeps l1 l2 → n ≤ 2 ^ 30 → (stop ≡ TooLong → ⊥) → HasStopped responds x stop l l2 t t1
+  stopped_before x y line stop l l1 l2 t t1 n h one kept short isnt =
+      let none : Consumes l1 l2 [] = consumes_keeps l1 l1 l2 [] (consumes_nothing l1) kept in
+      stopped_dry x y line stop l l1 l2 t t1 n [] h none (omega (arith, short)) (λ is. absurd (isnt is)) (λ long. absurd (omega (arith, long, short)))
+      (λ is. held x y line l l1 l2 t t1 n 0 [] h one none (omega arith)) (λ is. absurd (isnt is))
+
+  -- a stop after a piece, of which nothing was written
+  pub stopped_after : (x y : R) (line : List ℕ) (stop : Stop) (l l1 l2 t t1 : Option (List ℕ)) (n k : ℕ) (piece : List ℕ) (h : HasRead responds x y line l l1 t t1 n) → IsOneLine line → Consumes l1 l2 piece → length piece ≡ k → n ≤ 2 ^ 30 → k ≤ 4096
+      → (stop ≡ ReadFault → ⊥) → (stop ≡ TooLong → 2 ^ 30 < n + k) → (2 ^ 30 < n + k → stop ≡ TooLong) → HasStopped responds x stop l l2 t t1
+  stopped_after x y line stop l l1 l2 t t1 n k piece h one consumed len before most unread there back =
+      stopped_dry x y line stop l l1 l2 t t1 n piece h consumed (omega (arith, len, before, most))
+      (λ is. subst (λ (k : ℕ). 2 ^ 30 < n + k) (sym len) (there is))
+      (λ long. back (subst (λ (k : ℕ). 2 ^ 30 < n + k) len long))
+      (λ is. absurd (unread is))
+      (λ is. held x y line l l1 l2 t t1 n 4096 piece h one consumed (omega (arith, len, most)))
+
+  module _ (on : (x y z : R) (a b : List (Option Call)) (t u : List ℕ) → responds x a t y → responds y b u z → responds x (a ++ b) (t ++ u) z) where
+    -- one piece more
+    pub read_more : (x : R) (old fed : Session R) (l l1 l2 t t1 t2 : Option (List ℕ)) (n : ℕ) (piece : List ℕ) (h : HasRead responds x old.responder old.line l l1 t t1 n) → string_bytes old.output ≡ [] → Consumes l1 l2 piece → Advanced responds old fed piece
+        → Appends t1 t2 (string_bytes fed.output) → HasRead responds x fed.responder fed.line l l2 t t2 (n + length piece)
+    read_more x old fed l l1 l2 t t1 t2 n piece h empty consumed a appended =
+        let output : string_bytes fed.output ≡ a.told = a.output ∙ ap (λ (o : List ℕ). o ++ a.told) empty in
+        record {
+          bytes = h.bytes ++ piece;
+          told = h.told ++ a.told;
+          consumed = consumes_more l l1 l2 h.bytes piece h.consumed consumed;
+          counted = length-append h.bytes piece ∙ ap (λ (k : ℕ). k + length piece) h.counted;
+          appended = appends_more t t1 t2 h.told a.told h.appended (subst (Appends t1 t2) output appended);
+          responded = responded_more responds on x old.responder fed.responder [] old.line fed.line h.bytes piece h.told a.told h.responded a.responded;
+        }
+
+    -- a stop while the response to a piece went out, of which a front did
+    pub stopped_writing : (x : R) (old fed : Session R) (stop : Stop) (l l1 l2 t t1 t2 : Option (List ℕ)) (n k : ℕ) (piece : List ℕ) (h : HasRead responds x old.responder old.line l l1 t t1 n) → string_bytes old.output ≡ [] → Consumes l1 l2 piece → Advanced responds old fed piece
+        → Appends t1 t2 (take k (string_bytes fed.output)) → n + length piece ≤ 2 ^ 30 → (stop ≡ TooLong → ⊥) → (stop ≡ ReadFault → ⊥) → HasStopped responds x stop l l2 t t2
+    stopped_writing x old fed stop l l1 l2 t t1 t2 n k piece h empty consumed a appended most isnt unread =
+        let output : string_bytes fed.output ≡ a.told = a.output ∙ ap (λ (o : List ℕ). o ++ a.told) empty in
+        let count : length (h.bytes ++ piece) ≡ n + length piece = length-append h.bytes piece ∙ ap (λ (k : ℕ). k + length piece) h.counted in
+        let part = take k (string_bytes fed.output) in
+        let both = responded_more responds on x old.responder fed.responder [] old.line fed.line h.bytes piece h.told a.told h.responded a.responded in
+        record {
+          bytes = h.bytes ++ piece;
+          told = h.told ++ part;
+          consumed = consumes_more l l1 l2 h.bytes piece h.consumed consumed;
+          short = omega (arith, count, most);
+          appended = appends_more t t1 t2 h.told part h.appended appended;
+          front = front_of_part x fed.responder [] (h.bytes ++ piece) (h.told ++ a.told) fed.line (h.told ++ part) (drop k (string_bytes fed.output)) both
+              (append_assoc h.told part (drop k (string_bytes fed.output)) ∙ ap (λ (l : List ℕ). h.told ++ l) (take-append-drop k (string_bytes fed.output) ∙ output));
+          too_long = (λ is. absurd (isnt is), λ long. absurd (omega (arith, long, count, most)));
+          at_fault = λ is. absurd (unread is);
+          at_length = λ is. absurd (isnt is);
+        }
 
 -- nothing went out
 pub front_none : (s : State) (bytes : List ℕ) → IsFront s bytes []
 front_none s bytes = record { items = []; others = items_of bytes; split = refl; answers = []; state = s; run = runs_none s; more = ending_of (items_of bytes) s; front = refl }
-
--- a front of the texts of the answers
-pub front_texts : (s e : State) (before bytes told after front more : List ℕ) → Answered s before bytes told after e → front ++ more ≡ told → IsFront s (before ++ bytes) front
-front_texts s e before bytes told after front more a split =
-    let ending = ending_of (items_of (after ++ [])) e in
-    record {
-      items = a.items;
-      others = items_of (after ++ []);
-      split = ap (λ (l : List ℕ). items_of (before ++ l)) (sym (append-nil bytes)) ∙ a.read [];
-      answers = a.answers;
-      state = e;
-      run = a.run;
-      more = more ++ ending;
-      front = sym (append_assoc front more ending) ∙ ap (λ (l : List ℕ). l ++ ending) (split ∙ a.text);
-    }
 
 -- a front of the texts and the end text
 pub front_end : (s : State) (bytes whole : List ℕ) (machine : Machine) (front more : List ℕ) → IsEnd s bytes whole machine → front ++ more ≡ whole → IsFront s bytes front
@@ -58,125 +180,71 @@ front_end s bytes whole machine front more k split = record {
   front = split ∙ k.text;
 }
 
+-- a front of the answers of a machine
+pub front_of_answers : (s : State) (machine : Machine) (bytes text : List ℕ) → IsAt machine s → IsFrontOf IsAnswering machine bytes text → IsFront s bytes text
+front_of_answers s machine bytes text at k =
+    let a = k.responses s at in
+    let ending = ending_of k.others a.state in
+    record {
+      items = k.items;
+      others = k.others;
+      split = k.split;
+      answers = a.answers;
+      state = a.state;
+      run = a.run;
+      more = k.more ++ ending;
+      front = sym (append_assoc text k.more ending) ∙ ap (λ (l : List ℕ). l ++ ending) (k.front ∙ a.text);
+    }
+
+-- a machine that stopped at a read
+pub interrupted : (s : State) (machine : Machine) (most : ℕ) (l l1 t t1 : Option (List ℕ)) → IsAt machine s → HasHeld IsAnswering machine most l l1 t t1 → IsInterrupted s most l l1 t t1
+interrupted s machine most l l1 t t1 at h =
+    let k = h.caught_up in
+    let a = k.responses s at in
+    record {
+      input = h.input;
+      piece = h.piece;
+      read = h.read;
+      short = h.short;
+      text = h.text;
+      written = h.written;
+      caught_up = record { items = k.items; item = k.item; ended = k.ended; answers = a.answers; state = a.state; run = a.run; told = a.text };
+    }
+
 texts_more : (xs ys : List (Option Answer)) (t u last : List ℕ) → t ≡ texts_of xs → u ≡ texts_of ys ++ last → t ++ u ≡ texts_of (xs ++ ys) ++ last
 texts_more xs ys t u last p q =
     (λ i. p i ++ q i)
     ∙ sym (append_assoc (texts_of xs) (texts_of ys) last)
     ∙ ap (λ (l : List ℕ). l ++ last) (sym (flat_map-append line_text xs ys))
 
--- some bytes are answered, and then a front
-pub front_after : (s m : State) (bytes told line extra part : List ℕ) → Answered s [] bytes told line m → IsFront m (line ++ extra) part → IsFront s (bytes ++ extra) (told ++ part)
-front_after s m bytes told line extra part a k = record {
-  items = a.items ++ k.items;
-  others = k.others;
-  split = a.read extra ∙ ap (λ (l : List (Option Call)). a.items ++ l) k.split ∙ sym (append_assoc a.items k.items k.others);
-  answers = a.answers ++ k.answers;
-  state = k.state;
-  run = run_on s m k.state a.items k.items a.answers k.answers a.run k.run;
-  more = k.more;
-  front = append_assoc told part k.more ∙ texts_more a.answers k.answers told (part ++ k.more) (ending_of k.others k.state) a.text k.front;
-}
-
--- the same, where nothing comes after the line
-front_last : (s m : State) (bytes told line part : List ℕ) → Answered s [] bytes told line m → IsFront m line part → IsFront s bytes (told ++ part)
-front_last s m bytes told line part a k =
-    subst (λ (b : List ℕ). IsFront s b (told ++ part)) (append-nil bytes)
-    (front_after s m bytes told line [] part a (subst (λ (b : List ℕ). IsFront m b part) (sym (append-nil line)) k))
+-- some bytes are answered, and then a front of the rest
+front_last : (s : State) (machine last : Machine) (bytes told line part : List ℕ) (at : IsAt machine s) (a : Responded IsAnswering machine [] bytes told line last) → IsFront (a.responses s at).state line part → IsFront s bytes (told ++ part)
+front_last s machine last bytes told line part at a k =
+    let b = a.responses s at in
+    record {
+      items = a.items ++ k.items;
+      others = k.others;
+      split = ap items_of (sym (append-nil bytes)) ∙ a.read [] ∙ ap (λ (l : List ℕ). a.items ++ items_of l) (append-nil line)
+          ∙ ap (λ (l : List (Option Call)). a.items ++ l) k.split ∙ sym (append_assoc a.items k.items k.others);
+      answers = b.answers ++ k.answers;
+      state = k.state;
+      run = run_on s b.state k.state a.items k.items b.answers k.answers b.run k.run;
+      more = k.more;
+      front = append_assoc told part k.more ∙ texts_more b.answers k.answers told (part ++ k.more) (ending_of k.others k.state) b.text k.front;
+    }
 
 -- some bytes are answered, and then the rest
-end_after : (s m : State) (bytes told line last : List ℕ) (machine : Machine) → Answered s [] bytes told line m → IsEnd m line last machine → IsEnd s bytes (told ++ last) machine
-end_after s m bytes told line last machine a k =
+end_after : (s : State) (machine last end : Machine) (bytes told line text : List ℕ) (at : IsAt machine s) (a : Responded IsAnswering machine [] bytes told line last) → IsEnd (a.responses s at).state line text end → IsEnd s bytes (told ++ text) end
+end_after s machine last end bytes told line text at a k =
+    let b = a.responses s at in
     let items : items_of bytes ≡ a.items ++ items_of line =
     ap items_of (sym (append-nil bytes)) ∙ a.read [] ∙ ap (λ (l : List ℕ). a.items ++ items_of l) (append-nil line) in
     record {
-      answers = a.answers ++ k.answers;
+      answers = b.answers ++ k.answers;
       state = k.state;
-      run = subst (λ (l : List (Option Call)). RunsTo s l (a.answers ++ k.answers) k.state) (sym items) (run_on s m k.state a.items (items_of line) a.answers k.answers a.run k.run);
+      run = subst (λ (l : List (Option Call)). RunsTo s l (b.answers ++ k.answers) k.state) (sym items) (run_on s b.state k.state a.items (items_of line) b.answers k.answers b.run k.run);
       at = k.at;
-      text = texts_more a.answers k.answers told last (end_text_of k.state) a.text k.text;
-    }
-
--- before the first piece
-pub read_none : (s : State) (session : Session) (left taken : Option (List ℕ)) → IsFresh session → IsAt session.machine s → HasRead s session.machine session.line left left taken taken 0
-read_none s session left taken fresh at = record {
-  bytes = [];
-  told = [];
-  state = s;
-  consumed = consumes_nothing left;
-  counted = refl;
-  appended = appends_nothing taken;
-  at = at;
-  answered = subst (λ (l : List ℕ). Answered s [] [] [] l s) (sym fresh.line) (answered_none s []);
-}
-
--- one piece more
-pub read_more : (s : State) (old fed : Session) (l l1 l2 t t1 t2 : Option (List ℕ)) (n : ℕ) (piece : List ℕ) (h : HasRead s old.machine old.line l l1 t t1 n) → string_bytes old.output ≡ [] → Consumes l1 l2 piece → Advanced h.state old fed piece → Appends t1 t2 (string_bytes fed.output) → HasRead s fed.machine fed.line l l2 t t2 (n + length piece)
-read_more s old fed l l1 l2 t t1 t2 n piece h empty consumed a appended =
-    let output : string_bytes fed.output ≡ a.told = a.output ∙ ap (λ (o : List ℕ). o ++ a.told) empty in
-    record {
-      bytes = h.bytes ++ piece;
-      told = h.told ++ a.told;
-      state = a.state;
-      consumed = consumes_more l l1 l2 h.bytes piece h.consumed consumed;
-      counted = length-append h.bytes piece ∙ ap (λ (k : ℕ). k + length piece) h.counted;
-      appended = appends_more t t1 t2 h.told a.told h.appended (subst (Appends t1 t2) output appended);
-      at = a.at;
-      answered = answered_more s h.state a.state [] old.line fed.line h.bytes piece h.told a.told h.answered a.answered;
-    }
-
--- the end of the input
-pub read_end : (s : State) (machine : Machine) (line : List ℕ) (l l1 l2 t t1 : Option (List ℕ)) (n : ℕ) (h : HasRead s machine line l l1 t t1 n) → Consumes l1 l2 [] → HasRead s machine line l l2 t t1 n
-read_end s machine line l l1 l2 t t1 n h none = record {
-  bytes = h.bytes;
-  told = h.told;
-  state = h.state;
-  consumed = subst (Consumes l l2) (append-nil h.bytes) (consumes_more l l1 l2 h.bytes [] h.consumed none);
-  counted = h.counted;
-  appended = h.appended;
-  at = h.at;
-  answered = h.answered;
-}
-
--- all lines that ended in the bytes that came are answered
-caught_up : (s : State) (machine : Machine) (line : List ℕ) (l l1 t t1 : Option (List ℕ)) (n : ℕ) (h : HasRead s machine line l l1 t t1 n) → IsOneLine line → IsCaughtUp s h.bytes h.told
-caught_up s machine line l l1 t t1 n h one =
-    let a = h.answered in
-    record {
-      items = a.items;
-      item = item_of line;
-      ended = a.read (10 ∷ []) ∙ ap (λ (l : List (Option Call)). a.items ++ l) (items-whole line [] one ∙ ap (λ (l : List (Option Call)). item_of line ∷ l) items-none);
-      answers = a.answers;
-      state = h.state;
-      run = a.run;
-      told = a.text;
-    }
-
--- a stop at a read that brought this piece
-interrupted : (s : State) (machine : Machine) (line : List ℕ) (l l1 l2 t t1 : Option (List ℕ)) (n most : ℕ) (piece : List ℕ) (h : HasRead s machine line l l1 t t1 n) → IsOneLine line → Consumes l1 l2 piece → length piece ≤ most → IsInterrupted s most l l2 t t1
-interrupted s machine line l l1 l2 t t1 n most piece h one consumed short = record {
-  input = h.bytes;
-  piece = piece;
-  read = consumes_more l l1 l2 h.bytes piece h.consumed consumed;
-  short = short;
-  text = h.told;
-  written = h.appended;
-  caught_up = caught_up s machine line l l1 t t1 n h one;
-}
-
--- a stop after these bytes, with part of the text that they call for
-pub stopped : (s : State) (machine : Machine) (line : List ℕ) (stop : Stop) (l l1 l2 t t1 t2 : Option (List ℕ)) (n : ℕ) (piece part : List ℕ) (h : HasRead s machine line l l1 t t1 n) → Consumes l1 l2 piece → Appends t1 t2 part → IsFront h.state (line ++ piece) part → n + length piece ≤ 2 ^ 30 + 4096 → (stop ≡ TooLong → 2 ^ 30 < n + length piece) → (2 ^ 30 < n + length piece → stop ≡ TooLong) → (stop ≡ ReadFault → ⊥) → (stop ≡ TooLong → IsInterrupted s 4096 l l2 t t2) → HasStopped s stop l l2 t t2
-stopped s machine line stop l l1 l2 t t1 t2 n piece part h consumed appended front most there back unread at_length =
-    let count : length (h.bytes ++ piece) ≡ n + length piece = length-append h.bytes piece ∙ ap (λ (k : ℕ). k + length piece) h.counted in
-    record {
-      bytes = h.bytes ++ piece;
-      told = h.told ++ part;
-      consumed = consumes_more l l1 l2 h.bytes piece h.consumed consumed;
-      short = omega (arith, count, most);
-      appended = appends_more t t1 t2 h.told part h.appended appended;
-      front = front_after s h.state h.bytes h.told line piece part h.answered front;
-      too_long = (λ is. subst (λ (k : ℕ). 2 ^ 30 < k) (sym count) (there is), λ long. back (subst (λ (k : ℕ). 2 ^ 30 < k) count long));
-      at_fault = λ is. absurd (unread is);
-      at_length = at_length;
+      text = texts_more b.answers k.answers told text (end_text_of k.state) b.text k.text;
     }
 
 -- a front of the last texts went out
@@ -190,35 +258,6 @@ part_written s line whole out machine t t1 n same end appended = record {
 -- all of them did
 pub closed : (s : State) (line whole out : List ℕ) (machine : Machine) (t t1 : Option (List ℕ)) → out ≡ whole → IsEnd s line whole machine → Appends t t1 out → HasClosed s machine line t t1
 closed s line whole out machine t t1 same end appended = record { told = whole; appended = subst (Appends t t1) same appended; end = end }
-
--- a front of the texts of a piece
-pub piece_front : (s : State) (old fed : Session) (piece : List ℕ) (n : ℕ) (a : Advanced s old fed piece) → string_bytes old.output ≡ [] → IsFront s (old.line ++ piece) (take n (string_bytes fed.output))
-piece_front s old fed piece n a empty =
-    let output : string_bytes fed.output ≡ a.told = a.output ∙ ap (λ (o : List ℕ). o ++ a.told) empty in
-    front_texts s a.state old.line piece a.told fed.line (take n (string_bytes fed.output)) (drop n (string_bytes fed.output)) a.answered (take-append-drop n (string_bytes fed.output) ∙ output)
-
--- a stop before a piece
-pub stopped_before : (s : State) (machine : Machine) (line : List ℕ) (stop : Stop) (l l1 l2 t t1 : Option (List ℕ)) (n : ℕ) (h : HasRead s machine line l l1 t t1 n) → IsOneLine line → Keeps l1 l2 → n ≤ 2 ^ 30 → (stop ≡ TooLong → ⊥) → HasStopped s stop l l2 t t1
-stopped_before s machine line stop l l1 l2 t t1 n h one kept short isnt = record {
-  bytes = h.bytes;
-  told = h.told ++ [];
-  consumed = consumes_keeps l l1 l2 h.bytes h.consumed kept;
-  short = omega (arith, h.counted, short);
-  appended = appends_more t t1 t1 h.told [] h.appended (appends_nothing t1);
-  front = front_last s h.state h.bytes h.told line [] h.answered (front_none h.state line);
-  too_long = (λ is. absurd (isnt is), λ long. absurd (omega (arith, long, h.counted, short)));
-  at_fault = λ is. interrupted s machine line l l1 l2 t t1 n 0 [] h one (consumes_keeps l1 l1 l2 [] (consumes_nothing l1) kept) (omega arith);
-  at_length = λ is. absurd (isnt is);
-}
-
--- a stop after a piece, of which nothing was written
-pub stopped_after : (s : State) (machine : Machine) (line : List ℕ) (stop : Stop) (l l1 l2 t t1 : Option (List ℕ)) (n k : ℕ) (piece : List ℕ) (h : HasRead s machine line l l1 t t1 n) → IsOneLine line → Consumes l1 l2 piece → length piece ≡ k → n ≤ 2 ^ 30 → k ≤ 4096 → (stop ≡ ReadFault → ⊥) → (stop ≡ TooLong → 2 ^ 30 < n + k) → (2 ^ 30 < n + k → stop ≡ TooLong) → HasStopped s stop l l2 t t1
-stopped_after s machine line stop l l1 l2 t t1 n k piece h one consumed len before most unread there back =
-    stopped s machine line stop l l1 l2 t t1 t1 n piece [] h consumed (appends_nothing t1) (front_none h.state (line ++ piece)) (omega (arith, len, before, most))
-    (λ is. subst (λ (k : ℕ). 2 ^ 30 < n + k) (sym len) (there is))
-    (λ long. back (subst (λ (k : ℕ). 2 ^ 30 < n + k) len long))
-    unread
-    (λ is. interrupted s machine line l l1 l2 t t1 n 4096 piece h one consumed (omega (arith, len, most)))
 
 -- a stop that is not for a long input
 pub of_sink : (stop : Stop) → (stop ≡ Memory) ⊎ (stop ≡ WriteFault) → stop ≡ TooLong → ⊥
@@ -239,12 +278,13 @@ read_whole (Some xs) (Some ys) bytes consumed end =
     (sym (consumed ∙ ap (λ (l : List ℕ). bytes ++ l) end ∙ append-nil bytes), ap (λ (l : List ℕ). Some l) end)
 
 -- the last line and the end text close the run
-pub answered : (s : State) (machine last : Machine) (line : List ℕ) (l l1 t t1 t2 : Option (List ℕ)) (flushed : Option ℕ) (n : ℕ) (h : HasRead s machine line l l1 t t1 n) → length s.blocks ≡ 0 → n ≤ 2 ^ 30 → IsAtEnd l1 → HasClosed h.state last line t1 t2 → IsAllFlushed t2 flushed → IsAnswered s l l1 t t2 flushed last
-answered s machine last line l l1 t t1 t2 flushed n h first short end k all =
-    let e = end_after s h.state h.bytes h.told line k.told last h.answered k.end in
+pub answered : (s : State) (machine last end : Machine) (line : List ℕ) (l l1 t t1 t2 : Option (List ℕ)) (flushed : Option ℕ) (n : ℕ) (at : IsAt machine s) (h : HasRead IsAnswering machine last line l l1 t t1 n) → length s.blocks ≡ 0 → n ≤ 2 ^ 30 → IsAtEnd l1
+    → HasClosed (h.responded.responses s at).state end line t1 t2 → IsAllFlushed t2 flushed → IsAnswered s l l1 t t2 flushed end
+answered s machine last end line l l1 t t1 t2 flushed n at h first short done k all =
+    let e = end_after s machine last end h.bytes h.told line k.told at h.responded k.end in
     record {
       input = h.bytes;
-      read = read_whole l l1 h.bytes h.consumed end;
+      read = read_whole l l1 h.bytes h.consumed done;
       answers = e.answers;
       state = e.state;
       run = e.run;
@@ -256,21 +296,22 @@ answered s machine last line l l1 t t1 t2 flushed n h first short end k all =
     }
 
 -- what is seen of a stop
-pub seen_stopped : (s : State) (stop : Stop) (l l1 t t1 : Option (List ℕ)) → HasStopped s stop l l1 t t1 → IsStopped s l l1 t t1
-seen_stopped s stop l l1 t t1 h = record { input = h.bytes; read = h.consumed; short = h.short; text = h.told; written = h.appended; front = h.front }
+pub seen_stopped : (s : State) (machine : Machine) (stop : Stop) (l l1 t t1 : Option (List ℕ)) → IsAt machine s → HasStopped IsAnswering machine stop l l1 t t1 → IsStopped s l l1 t t1
+seen_stopped s machine stop l l1 t t1 at h =
+    record { input = h.bytes; read = h.consumed; short = h.short; text = h.told; written = h.appended; front = front_of_answers s machine h.bytes h.told at h.front }
 
 -- nothing was read or written
 pub seen_first : (s : State) (left taken : Option (List ℕ)) → IsStopped s left left taken taken
 seen_first s left taken = record { input = []; read = consumes_nothing left; short = omega arith; text = []; written = appends_nothing taken; front = front_none s [] }
 
-pub seen_last : (s : State) (machine : Machine) (line : List ℕ) (l l1 t t1 t2 : Option (List ℕ)) (n : ℕ) (h : HasRead s machine line l l1 t t1 n) → n ≤ 2 ^ 30 → HasPart h.state line t1 t2 → IsStopped s l l1 t t2
-seen_last s machine line l l1 t t1 t2 n h short k = record {
+pub seen_last : (s : State) (machine last : Machine) (line : List ℕ) (l l1 t t1 t2 : Option (List ℕ)) (n : ℕ) (at : IsAt machine s) (h : HasRead IsAnswering machine last line l l1 t t1 n) → n ≤ 2 ^ 30 → HasPart (h.responded.responses s at).state line t1 t2 → IsStopped s l l1 t t2
+seen_last s machine last line l l1 t t1 t2 n at h short k = record {
   input = h.bytes;
   read = h.consumed;
   short = omega (arith, h.counted, short);
   text = h.told ++ k.told;
   written = appends_more t t1 t2 h.told k.told h.appended k.appended;
-  front = front_last s h.state h.bytes h.told line k.told h.answered k.front;
+  front = front_last s machine last h.bytes h.told line k.told at h.responded k.front;
 }
 
 -- the length of what came, by what was left
@@ -292,14 +333,14 @@ err_long l l1 bytes stop consumed k = where_long l l1 bytes (IsErrOf {T = Machin
     inside is = cc
 
 -- of a stop after the last piece
-pub late_long : (s : State) (machine : Machine) (line : List ℕ) (l l1 t t1 : Option (List ℕ)) (n : ℕ) (h : HasRead s machine line l l1 t t1 n) → n ≤ 2 ^ 30 → (stop : Stop) → (stop ≡ Memory) ⊎ (stop ≡ WriteFault) → IsLong l l1 (IsErrOf {T = Machine} (Err stop) TooLong)
-late_long s machine line l l1 t t1 n h short stop which =
-    err_long l l1 h.bytes stop h.consumed (λ is. absurd (of_sink stop which is), λ long. absurd (omega (arith, long, h.counted, short)))
+pub late_long : (l l1 : Option (List ℕ)) (bytes : List ℕ) (n : ℕ) → Consumes l l1 bytes → length bytes ≡ n → n ≤ 2 ^ 30 → (stop : Stop) → (stop ≡ Memory) ⊎ (stop ≡ WriteFault) → IsLong l l1 (IsErrOf {T = Machine} (Err stop) TooLong)
+late_long l l1 bytes n consumed counted short stop which =
+    err_long l l1 bytes stop consumed (λ is. absurd (of_sink stop which is), λ long. absurd (omega (arith, long, counted, short)))
 
 -- of a run that ended
-pub ok_long : (s : State) (machine last : Machine) (line : List ℕ) (l l1 t t1 : Option (List ℕ)) (n : ℕ) (h : HasRead s machine line l l1 t t1 n) → n ≤ 2 ^ 30 → IsLong l l1 (IsErrOf {E = Stop} (Ok last) TooLong)
-ok_long s machine last line l l1 t t1 n h short =
-    where_long l l1 h.bytes (IsErrOf {E = Stop} (Ok last) TooLong) h.consumed (λ is. cc, λ long. absurd (omega (arith, long, h.counted, short)))
+pub ok_long : (last : Machine) (l l1 : Option (List ℕ)) (bytes : List ℕ) (n : ℕ) → Consumes l l1 bytes → length bytes ≡ n → n ≤ 2 ^ 30 → IsLong l l1 (IsErrOf {E = Stop} (Ok last) TooLong)
+ok_long last l l1 bytes n consumed counted short =
+    where_long l l1 bytes (IsErrOf {E = Stop} (Ok last) TooLong) consumed (λ is. cc, λ long. absurd (omega (arith, long, counted, short)))
 
 -- which stop a result is
 pub stop_is : (r : Result Machine Stop) (stop other : Stop) → IsErrAnd r (λ e. e ≡ stop) → IsErrOf r other → stop ≡ other

@@ -1,19 +1,20 @@
 -- How a session goes on.
-use Rattle.std.specs.Prelude.{◌≡◌, ℕ, List, ◌++◌, string_bytes}
+use Rattle.std.specs.Prelude.{◌≡◌, ℕ, List, ◌++◌, Option, string_bytes}
+use Rattle.heap_model.specs.declared.call.Call.{Call}
 use Rattle.heap_model.specs.State.{State}
+use Rattle.kernel_heap.specs.declared.machine.Machine.{Machine}
 use Rattle.heap_program.specs.declared.session.Session.{Session}
-use Rattle.heap_program.specs.Progress.{Answered, IsAt, IsEnd}
+use Rattle.heap_program.specs.Progress.{IsEnd}
+use Rattle.heap_program.specs.Responses.{Responded}
 
--- From the state s the session took these bytes.
-pub record Advanced (s : State) (old new : Session) (bytes : List ℕ) : Type 0 where
-  pub state : State
+-- The session took these bytes.
+pub record Advanced {R : Type 0} (responds : R → List (Option Call) → List ℕ → R → Type 0) (old new : Session R) (bytes : List ℕ) : Type 0 where
   pub told : List ℕ
-  pub at : IsAt new.machine state
   pub output : string_bytes new.output ≡ string_bytes old.output ++ told
-  pub answered : Answered s old.line bytes told new.line state
+  pub responded : Responded responds old.responder old.line bytes told new.line new.responder
 
 -- From the state s the session answered the line that had begun, and put the end text behind it.
-pub record IsFinished (s : State) (old new : Session) : Type 0 where
+pub record IsFinished (s : State) (old new : Session Machine) : Type 0 where
   pub told : List ℕ
   pub output : string_bytes new.output ≡ string_bytes old.output ++ told
-  pub end : IsEnd s old.line told new.machine
+  pub end : IsEnd s old.line told new.responder

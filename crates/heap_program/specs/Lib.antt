@@ -1,4 +1,6 @@
 pub mod Advanced
+pub mod Answering
+pub mod AnsweringLaws
 pub mod Command
 pub mod Drawing
 pub mod Faults
@@ -11,7 +13,9 @@ pub mod Lines
 pub mod LiveBlocks
 pub mod Number
 pub mod Planned
+pub mod Process
 pub mod Progress
+pub mod Responses
 pub mod Spelling
 pub mod Status
 pub mod Stop

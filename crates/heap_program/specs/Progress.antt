@@ -2,7 +2,6 @@
 use Rattle.std.specs.Prelude.{◌≡◌, ℕ, List, ◌++◌, Option}
 use Rattle.std.specs.List.{flat_map}
 use Rattle.heap_model.specs.declared.answer.Answer.{Answer}
-use Rattle.heap_model.specs.declared.call.Call.{Call}
 use Rattle.heap_model.specs.State.{State}
 use Rattle.heap_model.specs.Run.{IsGood, RunsTo}
 use Rattle.heap_model.specs.Machine.{Stands}
@@ -19,23 +18,6 @@ texts_of answers = flat_map line_text answers
 pub record IsAt (machine : Machine) (s : State) : Type 0 where
   pub good : IsGood s
   pub stands : Stands (seen machine) s
-
--- From the state s, where the line `before` had begun, the bytes are answered by the text `told`. That leaves the
--- state e, and the line `after` that has begun.
-pub record Answered (s : State) (before bytes told after : List ℕ) (e : State) : Type 0 where
-  pub items : List (Option Call)
-  pub answers : List (Option Answer)
-  pub read : (rest : List ℕ) → items_of (before ++ (bytes ++ rest)) ≡ items ++ items_of (after ++ rest)
-  pub run : RunsTo s items answers e
-  pub text : told ≡ texts_of answers
-
--- From the state s the items are answered at the end of the output.
-pub record AreAnswered (s : State) (items : List (Option Call)) (machine : Machine) (before after : List ℕ) : Type 0 where
-  pub answers : List (Option Answer)
-  pub state : State
-  pub run : RunsTo s items answers state
-  pub at : IsAt machine state
-  pub output : after ≡ before ++ texts_of answers
 
 -- From the state s all the bytes are answered: the texts of the answers, and then the end text of the last state.
 pub record IsEnd (s : State) (bytes told : List ℕ) (machine : Machine) : Type 0 where

@@ -1,6 +1,7 @@
 -- Why a run stops before its end, and what it has read and written by then.
 use Rattle.std.specs.Prelude.{◌≡◌, ◌+◌, ◌<◌, ◌≤◌, ◌^◌, ◌↔◌, ℕ, List, [], length, Option, string_bytes}
 use Rattle.std.specs.Io.KnownBytes.{Appends, Consumes}
+use Rattle.heap_model.specs.declared.call.Call.{Call}
 use Rattle.heap_model.specs.State.{State}
 use Rattle.kernel_heap.specs.declared.machine.Machine.{Machine}
 use Rattle.heap_program.specs.declared.run.Stop.{Stop}
@@ -8,8 +9,9 @@ use Rattle.heap_program.specs.declared.run.Stop.TheVariants.{Memory, ReadFault, 
 use Rattle.heap_program.specs.declared.session.Session.{Session}
 use Rattle.heap_program.specs.declared.sink.SinkFault.{SinkFault}
 use Rattle.heap_program.specs.declared.sink.SinkFault.TheVariants.{Failed, OutOfMemory}
-use Rattle.heap_program.specs.Headline.{IsFront, IsInterrupted}
-use Rattle.heap_program.specs.Progress.{Answered, IsAt, IsEnd}
+use Rattle.heap_program.specs.Headline.{IsFront}
+use Rattle.heap_program.specs.Progress.{IsEnd}
+use Rattle.heap_program.specs.Responses.{Responded, IsFrontOf, HasHeld}
 
 -- what a fault of the sink stops a run for
 abbrev pub stop_of : SinkFault → Stop
@@ -24,20 +26,18 @@ status_of WriteFault = 7
 status_of TooLong = 8
 
 -- nothing came yet
-pub record IsFresh (session : Session) : Type 0 where
+pub record IsFresh {R : Type 0} (session : Session R) : Type 0 where
   pub line : session.line ≡ []
   pub output : string_bytes session.output ≡ []
 
--- From the state s, `count` bytes came from the source, and the texts of the answers to their lines went to the sink.
-pub record HasRead (s : State) (machine : Machine) (line : List ℕ) (had left before after : Option (List ℕ)) (count : ℕ) : Type 0 where
+-- `count` bytes came from the source, and the response to their lines went to the sink. The line `line` has begun.
+pub record HasRead {R : Type 0} (responds : R → List (Option Call) → List ℕ → R → Type 0) (old new : R) (line : List ℕ) (had left before after : Option (List ℕ)) (count : ℕ) : Type 0 where
   pub bytes : List ℕ
   pub told : List ℕ
-  pub state : State
   pub consumed : Consumes had left bytes
   pub counted : length bytes ≡ count
   pub appended : Appends before after told
-  pub at : IsAt machine state
-  pub answered : Answered s [] bytes told line state
+  pub responded : Responded responds old [] bytes told line new
 
 -- From the state s the line that had begun is answered, and the end text went to the sink too.
 pub record HasClosed (s : State) (machine : Machine) (line : List ℕ) (before after : Option (List ℕ)) : Type 0 where
@@ -52,13 +52,13 @@ pub record HasPart (s : State) (line : List ℕ) (before after : Option (List �
   pub front : IsFront s line told
 
 -- What came and went before a stop.
-pub record HasStopped (s : State) (stop : Stop) (had left before after : Option (List ℕ)) : Type 0 where
+pub record HasStopped {R : Type 0} (responds : R → List (Option Call) → List ℕ → R → Type 0) (old : R) (stop : Stop) (had left before after : Option (List ℕ)) : Type 0 where
   pub bytes : List ℕ
   pub told : List ℕ
   pub consumed : Consumes had left bytes
   pub short : length bytes ≤ 2 ^ 30 + 4096
   pub appended : Appends before after told
-  pub front : IsFront s bytes told
+  pub front : IsFrontOf responds old bytes told
   pub too_long : stop ≡ TooLong ↔ 2 ^ 30 < length bytes
-  pub at_fault : stop ≡ ReadFault → IsInterrupted s 0 had left before after
-  pub at_length : stop ≡ TooLong → IsInterrupted s 4096 had left before after
+  pub at_fault : stop ≡ ReadFault → HasHeld responds old 0 had left before after
+  pub at_length : stop ≡ TooLong → HasHeld responds old 4096 had left before after

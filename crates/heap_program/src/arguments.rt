@@ -57,7 +57,8 @@ fn config_from(
     })
 }
 
-fn config_of(words: &[String]) -> Option<Config>
+/// The configuration that these words are: `BASE PAGES GRANULARITY FRAMES RATE`, or the default one if there are none.
+pub fn config_of(words: &[String]) -> Option<Config>
     ensures { result ≡ config_of (map string_bytes words.now) }
 {
     match words {

@@ -1,6 +1,7 @@
 //! Lines in, text out: the program over the machine.
 #![tactic(auto)]
 
+mod answering;
 mod arguments;
 mod command;
 mod ended;
@@ -11,6 +12,8 @@ mod laws;
 mod line;
 mod memory;
 mod number;
+mod process;
+mod respond;
 mod run;
 mod session;
 mod sink;
@@ -18,13 +21,17 @@ mod source;
 mod text;
 mod words;
 
+pub use arguments::config_of;
 pub use command::heap_main;
-pub use ended::{Ended, status_text};
+pub use ended::{Ended, refusal_status, status_of, status_text};
 pub use generator::next_call;
 pub use grammar::parse_call;
 pub use laws::{live_blocks, one_spelling};
 pub use memory::{MemorySink, MemorySource};
-pub use run::write_text;
+pub use process::{exit_with, program_arguments, show, words_of, words_status};
+pub use respond::Respond;
+pub use run::{Stop, read_all, write_out, write_text};
+pub use session::Session;
 pub use sink::{Sink, SinkFault, SureSink, WriterSink};
 pub use source::{Failed, ReaderSource, Source, SureSource};
-pub use text::{end_text, text_of};
+pub use text::{end_text, push_extent, push_owner, push_pages, text_of};

@@ -9,6 +9,7 @@ ghost use Rattle.heap_program.specs.Stop.{stop_of, IsFresh, HasRead, HasClosed, 
 ghost use Rattle.heap_program.specs.Headline.{IsAnswered, IsInterrupted, IsStopped};
 ghost use Rattle.heap_program.specs.declared.run.Stop.TheVariants.{Memory, ReadFault, WriteFault, TooLong};
 
+use crate::respond::Respond;
 use crate::session::Session;
 use crate::sink::{Sink, SinkFault};
 use crate::source::{Failed, Source};
@@ -89,7 +90,7 @@ pub fn write_text<K: Sink>(sink: &mut K, text: &str) -> Result<(), SinkFault>
     sink.flush()
 }
 
-// Writes the text that waits, and flushes it, so that whoever waits for it sees it.
+/// Writes the text that waits, and flushes it, so that whoever waits for it sees it.
 pub fn write_out<K: Sink>(output: &mut String, sink: &mut K) -> Result<(), Stop>
     ensures ok { OnOk result (Appends (K.taken sink.old) (K.taken sink.new) (string_bytes output.old)) }
     ensures emptied { OnOk result (string_bytes output.new ≡ []) }
@@ -105,21 +106,21 @@ pub fn write_out<K: Sink>(output: &mut String, sink: &mut K) -> Result<(), Stop>
     Ok(())
 }
 
-// Answers all of the input but a last line that has no line feed, and counts its bytes. The answers to a piece are
-// written before the next one is asked for.
-fn read_all<S: Source, K: Sink>(
-    session: &mut Session,
+/// Responds to all of the input but a last line that has no line feed, and counts its bytes, of which there are 2^30 at
+/// most. The response to a piece is written before the next one is asked for.
+pub fn read_all<R: Respond + Drop, S: Source, K: Sink>(
+    session: &mut Session<R>,
     source: &mut S,
     sink: &mut K,
 ) -> Result<u64, Stop>
     requires { IsFresh session.old }
-    ensures ok { IfOk result (λ count. (s : State) → IsAt session.old.machine s →
-        HasRead s session.new.machine session.new.line (S.left source.old) (S.left source.new) (K.taken sink.old) (K.taken sink.new) count) }
+    ensures ok { IfOk result (λ count.
+        HasRead R.responds session.old.responder session.new.responder session.new.line (S.left source.old) (S.left source.new) (K.taken sink.old) (K.taken sink.new) count) }
     ensures short { IfOk result (λ count. count ≤ 2 ^ 30) }
     ensures end { OnOk result (IsAtEnd (S.left source.new)) }
     ensures empty { OnOk result (string_bytes session.new.output ≡ []) }
-    ensures err { IfErr result (λ stop. (s : State) → IsAt session.old.machine s →
-        HasStopped s stop (S.left source.old) (S.left source.new) (K.taken sink.old) (K.taken sink.new)) }
+    ensures err { IfErr result (λ stop.
+        HasStopped R.responds session.old.responder stop (S.left source.old) (S.left source.new) (K.taken sink.old) (K.taken sink.new)) }
     ensures read_later { S.faults source.old ≤ S.faults source.new }
     ensures write_later { K.faults sink.old ≤ K.faults sink.new }
     ensures read_cause { IsErrOf result ReadFault → HasRisen (S.faults source.old) (S.faults source.new) }
@@ -144,12 +145,12 @@ fn read_all<S: Source, K: Sink>(
 }
 
 // Answers a last line that has no line feed, and writes the end text.
-fn close<K: Sink>(session: &mut Session, sink: &mut K) -> Result<(), Stop>
+fn close<K: Sink>(session: &mut Session<Machine>, sink: &mut K) -> Result<(), Stop>
     requires { string_bytes session.old.output ≡ [] }
-    ensures ok { OnOk result ((s : State) → IsAt session.old.machine s →
-        HasClosed s session.new.machine session.old.line (K.taken sink.old) (K.taken sink.new)) }
+    ensures ok { OnOk result ((s : State) → IsAt session.old.responder s →
+        HasClosed s session.new.responder session.old.line (K.taken sink.old) (K.taken sink.new)) }
     ensures flushed { OnOk result (IsAllFlushed (K.taken sink.new) (K.flushed sink.new)) }
-    ensures err { OnErr result ((s : State) → IsAt session.old.machine s →
+    ensures err { OnErr result ((s : State) → IsAt session.old.responder s →
         HasPart s session.old.line (K.taken sink.old) (K.taken sink.new)) }
     ensures which { IfErr result (λ stop. (stop ≡ Memory) ⊎ (stop ≡ WriteFault)) }
     ensures later { K.faults sink.old ≤ K.faults sink.new }
@@ -170,7 +171,7 @@ pub fn run<S: Source, K: Sink>(
         IsAnswered s (S.left source.old) (S.left source.new) (K.taken sink.old) (K.taken sink.new) (K.flushed sink.new) last) }
     ensures stopped { OnErr result ((s : State) → IsAt machine s →
         IsStopped s (S.left source.old) (S.left source.new) (K.taken sink.old) (K.taken sink.new)) }
-    ensures too_long { (s : State) → IsAt machine s → IfSome (S.left source.old) (λ input.
+    ensures too_long { IfSome (S.left source.old) (λ input.
         IsErrOf result TooLong ↔ (2 ^ 30 + length (unwrap_or (S.left source.new) []) < length input)) }
     ensures read_cause { IsErrOf result ReadFault → HasRisen (S.faults source.old) (S.faults source.new) }
     ensures write_cause { IsErrOf result WriteFault → HasRisen (K.faults sink.old) (K.faults sink.new) }
@@ -184,6 +185,6 @@ pub fn run<S: Source, K: Sink>(
     let mut session = Session::new(alloc, machine);
     read_all(&mut session, source, sink)?;
     close(&mut session, sink)?;
-    let Session { machine, .. } = session;
-    Ok(machine)
+    let Session { responder, .. } = session;
+    Ok(responder)
 }

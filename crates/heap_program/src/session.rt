@@ -1,22 +1,25 @@
-// The machine, the line that has begun and the text that is not yet written.
+// What responds to the lines, the line that has begun and the text that is not yet written.
 ghost use Rattle.std.specs.Prelude.{◌≡◌, ◌∷◌, [], ◌<◌, ◌≤◌, IfOk, OnOk, length, slice_index, take, string_bytes};
 ghost use Rattle.heap_model.specs.State.{State};
 ghost use Rattle.heap_program.specs.Grammar.{item_of};
 ghost use Rattle.heap_program.specs.Lines.{items_of, IsOneLine};
-ghost use Rattle.heap_program.specs.Progress.{IsAt, AreAnswered};
+ghost use Rattle.heap_program.specs.Progress.{IsAt};
 ghost use Rattle.heap_program.specs.Advanced.{Advanced, IsFinished};
+ghost use Rattle.heap_program.specs.Responses.{HasResponded};
 
 use crate::grammar::parse_call;
 use crate::line::Line;
-use crate::text::{push_answer, push_end};
+use crate::respond::Respond;
+use crate::text::push_end;
 use kernel_heap::Machine;
 use std::alloc::{AllocError, Global};
 
 /// A run that goes on.
 #[derive(Drop)]
-pub struct Session {
+pub struct Session<R> {
     pub alloc: Global,
-    pub machine: Machine,
+    /// What responds to the lines: the machine itself, or what keeps more of its answers.
+    pub responder: R,
     /// The line that has begun.
     pub line: Line,
     /// The text that is not yet written.
@@ -37,50 +40,36 @@ fn line_length(bytes: &[u8]) -> usize
     bytes.len()
 }
 
-// Answers a line at the end of the output.
-fn answer_line(
-    alloc: Global,
-    machine: &mut Machine,
-    line: &[u8],
-    output: &mut String,
-) -> Result<(), AllocError>
-    ensures { OnOk result ((s : State) → IsAt machine.old s →
-        AreAnswered s (item_of line.now ∷ []) machine.new (string_bytes output.old) (string_bytes output.new)) }
-{
-    match parse_call(alloc, line)? {
-        Some(call) => {
-            let answer = machine.step(&call)?;
-            push_answer(output, &answer)
-        }
-        None => output.push_str("bad line\n"),
-    }
-}
-
-impl Session {
+impl<R: Respond + Drop> Session<R> {
     /// A session of which nothing came yet.
-    pub fn new(alloc: Global, machine: Machine) -> Session
-        ensures machine { result.machine ≡ machine }
+    pub fn new(alloc: Global, responder: R) -> Session<R>
+        ensures responder { result.responder ≡ responder }
         ensures line { result.line ≡ [] }
         ensures output { string_bytes result.output ≡ [] }
     {
         Session {
             alloc,
-            machine,
+            responder,
             line: Line::new(alloc),
             output: String::new(alloc),
         }
     }
 
-    // Answers the line that has begun at its line feed.
-    fn end_line(&mut self) -> Result<(), AllocError>
-        ensures { OnOk result ((s : State) → IsAt self.old.machine s → Advanced s self.old self.new (10 ∷ [])) }
+    // Responds to the line that has begun, which is then no other.
+    fn respond_to_line(&mut self) -> Result<(), AllocError>
+        ensures line { OnOk result (self.new.line ≡ self.old.line) }
+        ensures one_line { IsOneLine self.old.line }
+        ensures responded { OnOk result (HasResponded R.responds self.old.responder (item_of self.old.line ∷ []) (string_bytes self.old.output) (string_bytes self.new.output) self.new.responder) }
     {
-        answer_line(
-            self.alloc,
-            &mut self.machine,
-            self.line.bytes(),
-            &mut self.output,
-        )?;
+        let item = parse_call(self.alloc, self.line.bytes())?;
+        self.responder.respond(item, &mut self.output)
+    }
+
+    // Responds to the line that has begun, at its line feed.
+    fn end_line(&mut self) -> Result<(), AllocError>
+        ensures { OnOk result (Advanced R.responds self.old self.new (10 ∷ [])) }
+    {
+        self.respond_to_line()?;
         self.line.clear();
         Ok(())
     }
@@ -88,7 +77,7 @@ impl Session {
     // Takes bytes of the line that has begun.
     fn go_on(&mut self, bytes: &[u8]) -> Result<(), AllocError>
         requires { IsOneLine bytes.now }
-        ensures { OnOk result ((s : State) → IsAt self.old.machine s → Advanced s self.old self.new bytes.now) }
+        ensures { OnOk result (Advanced R.responds self.old self.new bytes.now) }
     {
         self.line.extend(bytes)
     }
@@ -98,7 +87,7 @@ impl Session {
         requires some { 0 < length bytes.now }
         ensures few { IfOk result (λ count. count ≤ length bytes.now) }
         ensures more { IfOk result (λ count. 0 < count) }
-        ensures fed { IfOk result (λ count. (s : State) → IsAt self.old.machine s → Advanced s self.old self.new (take count bytes.now)) }
+        ensures fed { IfOk result (λ count. Advanced R.responds self.old self.new (take count bytes.now)) }
     {
         let length = line_length(bytes);
         self.go_on(&bytes[..length])?;
@@ -109,10 +98,10 @@ impl Session {
         Ok(length + 1)
     }
 
-    /// Answers the lines that end in the piece.
+    /// Responds to the lines that end in the piece.
     pub fn feed(&mut self, piece: &[u8]) -> Result<(), AllocError>
         ensures one_line { OnOk result (IsOneLine self.new.line) }
-        ensures fed { OnOk result ((s : State) → IsAt self.old.machine s → Advanced s self.old self.new piece.now) }
+        ensures fed { OnOk result (Advanced R.responds self.old self.new piece.now) }
     {
         let mut done = 0;
         while done < piece.len() {
@@ -123,27 +112,23 @@ impl Session {
         Ok(())
     }
 
-    // Answers a last line that has no line feed.
-    fn answer_rest(&mut self) -> Result<(), AllocError>
-        ensures { OnOk result ((s : State) → IsAt self.old.machine s →
-            AreAnswered s (items_of self.old.line) self.new.machine (string_bytes self.old.output) (string_bytes self.new.output)) }
+    /// Responds to a last line that has no line feed.
+    pub fn end(&mut self) -> Result<(), AllocError>
+        ensures { OnOk result (HasResponded R.responds self.old.responder (items_of self.old.line) (string_bytes self.old.output) (string_bytes self.new.output) self.new.responder) }
     {
         if self.line.bytes().is_empty() {
             return Ok(());
         }
-        answer_line(
-            self.alloc,
-            &mut self.machine,
-            self.line.bytes(),
-            &mut self.output,
-        )
+        self.respond_to_line()
     }
+}
 
+impl Session<Machine> {
     /// Answers a last line that has no line feed, and puts the end text behind it.
     pub fn finish(&mut self) -> Result<(), AllocError>
-        ensures { OnOk result ((s : State) → IsAt self.old.machine s → IsFinished s self.old self.new) }
+        ensures { OnOk result ((s : State) → IsAt self.old.responder s → IsFinished s self.old self.new) }
     {
-        self.answer_rest()?;
-        push_end(self.alloc, &mut self.output, &self.machine)
+        self.end()?;
+        push_end(self.alloc, &mut self.output, &self.responder)
     }
 }

@@ -98,7 +98,8 @@ fn push_bytes(out: &mut String, bytes: &[u8]) -> Result<(), AllocError>
     push_digits(out, bytes)
 }
 
-fn push_extent(out: &mut String, extent: Extent) -> Result<(), AllocError>
+/// Puts an extent at the end: its kind, the address of its chunk, and its bytes.
+pub fn push_extent(out: &mut String, extent: Extent) -> Result<(), AllocError>
     ensures { OnOk result (string_bytes out.new ≡ string_bytes out.old ++ extent_text extent) }
 {
     let kind = kind_word(extent.kind);
@@ -164,7 +165,8 @@ fn push_reply(out: &mut String, reply: &Reply) -> Result<(), AllocError>
     }
 }
 
-fn push_pages(out: &mut String, region: Region) -> Result<(), AllocError>
+/// Puts the first address of a region and its pages at the end.
+pub fn push_pages(out: &mut String, region: Region) -> Result<(), AllocError>
     ensures { OnOk result (string_bytes out.new ≡ string_bytes out.old ++ pages_text region) }
 {
     push_span(out, region.start, region.pages)
@@ -248,7 +250,8 @@ fn right(granted: bool, letter: &'static str) -> &'static str
     if granted { letter } else { "-" }
 }
 
-fn push_owner(out: &mut String, region: Region) -> Result<(), AllocError>
+/// Puts whose a region is at the end, and of the user's the rights.
+pub fn push_owner(out: &mut String, region: Region) -> Result<(), AllocError>
     ensures { OnOk result (string_bytes out.new ≡ string_bytes out.old ++ owner_text region) }
 {
     if region.heap {

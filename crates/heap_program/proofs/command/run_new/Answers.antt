@@ -12,13 +12,13 @@ pub returns-in-Ok-run-clause-too_long : goal.returns-in-Ok-run-clause-too_long
 returns-in-Ok-run-clause-too_long g c =
     let left = g.S.Source.left in
     ok_status (left c.args.source.now) c.in-Ok-run.machine (λ (input : List ℕ). 2 ^ 30 + length (unwrap_or (left c.run.new.source) []) < length input)
-    (c.in-Ok-run.ensures.too_long (start c.args.config.now) (record { good = c.in-Ok.ensures.good; stands = c.in-Ok.ensures.stands }))
+    c.in-Ok-run.ensures.too_long
 
 pub returns-in-Err-run-clause-too_long : goal.returns-in-Err-run-clause-too_long
 returns-in-Err-run-clause-too_long g c =
     let left = g.S.Source.left in
     stop_status (left c.args.source.now) c.in-Err-run.stop c.ended_early-in-Err-run.result.status (λ (input : List ℕ). 2 ^ 30 + length (unwrap_or (left c.run.new.source) []) < length input) (c.ended_early-in-Err-run.ensures.status ∙ c.status_of.ensures)
-    (c.in-Err-run.ensures.too_long (start c.args.config.now) (record { good = c.in-Ok.ensures.good; stands = c.in-Ok.ensures.stands }))
+    c.in-Err-run.ensures.too_long
 
 pub returns-in-Ok-run-clause-answered : goal.returns-in-Ok-run-clause-answered
 returns-in-Ok-run-clause-answered g c =

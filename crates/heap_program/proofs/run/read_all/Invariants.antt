@@ -1,8 +1,6 @@
 use Rattle.std.proofs.Common.{◌≡◌, ◌≤◌, ◌-◌, ◌^◌, [], string_bytes}
-use Rattle.heap_model.specs.State.{State}
 use Rattle.heap_program.specs.Flushed.{IsUpToDate}
 use Rattle.heap_program.specs.Lines.{IsOneLine}
-use Rattle.heap_program.specs.Progress.{IsAt}
 use Rattle.heap_program.specs.Stop.{HasRead}
 use Rattle.heap_program.proofs.run.read_all.Given as goal
 
@@ -11,7 +9,7 @@ invariant-pieces g l =
     let left = g.S.Source.left in
     let taken = g.K.Sink.taken in
     record {
-      read : (s : State) → IsAt l.fn.session.machine s → HasRead s l.session.machine l.session.line (left l.fn.source) (left l.source) (taken l.fn.sink) (taken l.sink) l.count;
+      read : HasRead g.R.Respond.responds l.fn.session.responder l.session.responder l.session.line (left l.fn.source) (left l.source) (taken l.fn.sink) (taken l.sink) l.count;
       short : l.count ≤ 2 ^ 30;
       empty : string_bytes l.session.output ≡ [];
       one_line : IsOneLine l.session.line;

@@ -5,13 +5,11 @@ use Rattle.heap_program.proofs.Sessions.{advanced_more}
 use Rattle.heap_program.proofs.session.Session.feed_line.Goals as goal
 
 pub returns-clause-fed : goal.returns-clause-fed
-returns-clause-fed c s at =
+returns-clause-fed g c =
     let bytes = c.args.bytes.now in
     let n = c.line_length-length.result in
     let few = c.line_length-length.ensures.few in
     let less : n < length bytes = grind (arith, few, c.if-length-bytes.false) in
-    let a = c.in_ok-go_on.ensures s at in
-    let b = c.in_ok-end_line.ensures a.state a.at in
     let feed = c.line_length-length.ensures.feed less in
-    subst (Advanced s c.args.self.now c.end_line.new.self) (ap (λ byte. take n bytes ++ byte ∷ []) (sym feed) ∙ sym (take_more bytes n 0 less))
-    (advanced_more s c.args.self.now c.go_on.new.self c.end_line.new.self (take n bytes) (10 ∷ []) a b)
+    subst (Advanced g.R.Respond.responds c.args.self.now c.end_line.new.self) (ap (λ byte. take n bytes ++ byte ∷ []) (sym feed) ∙ sym (take_more bytes n 0 less))
+    (advanced_more g.R.Respond.responds g.met.R.Respond.responds_on c.args.self.now c.go_on.new.self c.end_line.new.self (take n bytes) (10 ∷ []) c.in_ok-go_on.ensures c.in_ok-end_line.ensures)

@@ -1,0 +1,20 @@
+-- How a machine responds: it answers each call, and says that a bad line is one.
+use Rattle.std.specs.Prelude.{◌≡◌, ℕ, List, Option}
+use Rattle.heap_model.specs.declared.answer.Answer.{Answer}
+use Rattle.heap_model.specs.declared.call.Call.{Call}
+use Rattle.heap_model.specs.State.{State}
+use Rattle.heap_model.specs.Run.{RunsTo}
+use Rattle.kernel_heap.specs.declared.machine.Machine.{Machine}
+use Rattle.heap_program.specs.Progress.{IsAt, texts_of}
+
+-- From the state s the items are answered by a text, and the machine stands for the state after them.
+pub record AreAnswered (s : State) (items : List (Option Call)) (told : List ℕ) (machine : Machine) : Type 0 where
+  pub answers : List (Option Answer)
+  pub state : State
+  pub run : RunsTo s items answers state
+  pub at : IsAt machine state
+  pub text : told ≡ texts_of answers
+
+-- so it is from each state for which the machine stood
+abbrev pub IsAnswering : Machine → List (Option Call) → List ℕ → Machine → Type 0
+IsAnswering old items told new = (s : State) → IsAt old s → AreAnswered s items told new
