@@ -1,0 +1,9 @@
+pub mod Calls
+pub mod Listed
+pub mod Live
+pub mod Replaying
+pub mod ReplayingLaws
+pub mod Report
+pub mod Reported
+pub mod Served
+pub mod Sizes

@@ -1,0 +1,36 @@
+-- The end of a replay, with the extents.
+use Rattle.std.specs.Prelude.{◌≡◌, ◌≤◌, max, List, [], ◌∷◌, ◌++◌, Some}
+use Rattle.dlmalloc_chunks.specs.declared.extent.Extent.{Extent}
+use Rattle.heap_model.specs.declared.answer.Answer.{Answer}
+use Rattle.heap_model.specs.declared.answer.Reply.TheVariants.{Extents as Listing}
+use Rattle.heap_model.specs.declared.call.Call.TheVariants.{Extents}
+use Rattle.heap_model.specs.Extents.{IsTiling}
+use Rattle.heap_model.specs.State.{State}
+use Rattle.heap_model.specs.Run.{RunsTo}
+use Rattle.heap_program.specs.Progress.{IsAt}
+use Rattle.heap_report.specs.declared.listed.Listed.{Listed}
+use Rattle.heap_report.specs.declared.replay.Replay.{Replay}
+use Rattle.heap_report.specs.Live.{live, peak}
+use Rattle.heap_report.specs.Replaying.{Follows}
+
+-- the last answer is the list of these extents
+pub record EndsWith (answers : List Answer) (extents : List Extent) : Type 0 where
+  pub earlier : List Answer
+  pub last : Answer
+  pub split : answers ≡ earlier ++ last ∷ []
+  pub listed : last.reply ≡ Listing extents
+
+-- From the state s the extents were asked for: they tile the heap, the answer is kept, and so are the sums.
+pub record IsListedFrom (s : State) (replay : Replay) (listed : Listed) : Type 0 where
+  pub answer : Answer
+  pub state : State
+  pub run : RunsTo s (Some Extents ∷ []) (Some answer ∷ []) state
+  pub kept : listed.answers ≡ replay.answers ++ answer ∷ []
+  pub lists : answer.reply ≡ Listing listed.extents
+  pub tiles : IsTiling state listed.extents
+  pub at : IsAt listed.machine state
+  pub live_is : listed.live ≡ live state
+  pub peak_is : listed.peak ≡ max replay.peak (peak s (Extents ∷ []) (answer ∷ []))
+
+abbrev pub IsListed : Replay → Listed → Type 0
+IsListed replay listed = (s : State) → Follows s replay → live s ≤ replay.peak → IsListedFrom s replay listed

@@ -1,0 +1,9 @@
+-- The report of a run.
+use Rattle.std.specs.Prelude.{ℕ, List, [], codes}
+use Rattle.dlmalloc_chunks.specs.declared.extent.Extent.{Extent}
+use Rattle.heap_model.specs.State.{State}
+use Rattle.heap_figures.specs.Text.{figures_text}
+
+-- the figures, each a line
+abbrev pub report_of : State → ℕ → ℕ → List Extent → List ℕ
+report_of state live peak extents = figures_text [] (codes "\n") live peak extents

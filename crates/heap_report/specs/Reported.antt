@@ -1,0 +1,64 @@
+-- What a run that is replayed and told of has done.
+use Rattle.std.specs.Prelude.{◌≡◌, ◌≤◌, ◌^◌, ◌+◌, ◌⊎◌, ℕ, List, [], ◌++◌, length, map, Option, Some}
+use Rattle.std.specs.Io.KnownBytes.{Appends, Consumes}
+use Rattle.dlmalloc_chunks.specs.declared.extent.Extent.{Extent}
+use Rattle.heap_model.specs.declared.answer.Answer.{Answer}
+use Rattle.heap_model.specs.Extents.{IsTiling}
+use Rattle.heap_model.specs.State.{State}
+use Rattle.heap_model.specs.Run.{IsGood, RunsTo}
+use Rattle.heap_model.specs.Machine.{Stands}
+use Rattle.kernel_heap.specs.declared.machine.Machine.{Machine}
+use Rattle.kernel_heap.specs.Machine.{seen}
+use Rattle.heap_program.specs.Flushed.{IsAllFlushed}
+use Rattle.heap_program.specs.Headline.{IsReadWhole}
+use Rattle.heap_report.specs.Calls.{calls_of}
+use Rattle.heap_report.specs.Listed.{EndsWith}
+use Rattle.heap_report.specs.Live.{live, peak}
+
+-- From the state s the calls of the input were answered, and the last of them by these extents, which tile the heap of the
+-- state at the end.
+pub record IsReplayOf (s : State) (input : List ℕ) (answers : List Answer) (state : State) (extents : List Extent) : Type 0 where
+  pub run : RunsTo s (map Some (calls_of input)) (map Some answers) state
+  pub last : EndsWith answers extents
+  pub tiles : IsTiling state extents
+  pub good : IsGood state
+
+-- the text of such a run: of the state at its end, the bytes that are live there and were at most, and the extents
+abbrev pub text_of_run : (State → ℕ → ℕ → List Extent → List ℕ) → State → List ℕ → List Answer → State → List Extent → List ℕ
+text_of_run text s input answers state extents = text state (live state) (peak s (calls_of input) answers) extents
+
+-- A run that ended well. The source had the input and, after it, has `left`; the sink had taken `before`, and then `after`, of
+-- which `flushed` is flushed.
+pub record IsTold (text : State → ℕ → ℕ → List Extent → List ℕ) (s : State) (had left before after : Option (List ℕ)) (flushed : Option ℕ) (machine : Machine) (answers : List Answer) (extents : List Extent) : Type 0 where
+  -- the source is read to its end
+  pub input : List ℕ
+  pub read : IsReadWhole had left input
+  -- its calls are answered, each as is allowed in the state that the answers before it determine
+  pub state : State
+  pub replay : IsReplayOf s input answers state extents
+  -- the text is written, and flushed
+  pub written : Appends before after (text_of_run text s input answers state extents)
+  pub flushed_all : IsAllFlushed after flushed
+  -- the machine stands for the last state
+  pub stands : Stands (seen machine) state
+
+-- a front of the text of a run over an input that was read whole
+pub record IsFrontOfText (text : State → ℕ → ℕ → List Extent → List ℕ) (s : State) (had left : Option (List ℕ)) (front : List ℕ) : Type 0 where
+  pub input : List ℕ
+  pub read : IsReadWhole had left input
+  pub answers : List Answer
+  pub state : State
+  pub extents : List Extent
+  pub replay : IsReplayOf s input answers state extents
+  pub more : List ℕ
+  pub is : front ++ more ≡ text_of_run text s input answers state extents
+
+-- A run that stopped before its end: nothing is written, or a front of its text. It took at most one piece of 4096 bytes more than
+-- 2 ^ 30 bytes.
+pub record IsToldInPart (text : State → ℕ → ℕ → List Extent → List ℕ) (s : State) (had left before after : Option (List ℕ)) : Type 0 where
+  pub taken : List ℕ
+  pub read : Consumes had left taken
+  pub short : length taken ≤ 2 ^ 30 + 4096
+  pub front : List ℕ
+  pub written : Appends before after front
+  pub is : (front ≡ []) ⊎ IsFrontOfText text s had left front

@@ -1,0 +1,25 @@
+//! A recorded run of a heap, replayed, and what can be told of it then: how many bytes were live, and what the extents of
+//! its last state say.
+//!
+//! `report_main` is the command: it takes calls as lines, as `heap run` does, and writes its report at the end of the
+//! input. What it tells is a text of the last state, of the bytes that are live in it and were at most, and of its extents;
+//! `tell_main` is the same for any such text (`Tell`).
+#![tactic(auto)]
+
+mod command_line;
+mod listed;
+mod note;
+mod replay;
+mod report;
+mod reported;
+mod tell;
+
+pub use command_line::program;
+pub use listed::Listed;
+pub use replay::Replay;
+pub use report::{Figures, report_main};
+pub use reported::Reported;
+pub use tell::{Tell, tell_main};
+
+#[cfg(test)]
+mod tests;

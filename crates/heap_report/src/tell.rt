@@ -1,0 +1,180 @@
+// A whole run that is replayed and told of.
+ghost use Rattle.std.specs.Prelude.{◌≡◌, ◌≢◌, ◌≤◌, ◌<◌, ◌+◌, ◌^◌, ◌⊎◌, ◌↔◌, ◌++◌, ℕ, List, [], Some, None, length, unwrap_or, map, string_bytes, IsSome, IfSome, IfOk, OnErr, IsErrOf, OnOk};
+ghost use Rattle.std.specs.Io.KnownBytes.{Appends};
+ghost use Rattle.dlmalloc_chunks.specs.declared.extent.Extent.{Extent};
+ghost use Rattle.dlmalloc_chunks.specs.Tiling.{AreInSegments};
+ghost use Rattle.heap_model.specs.State.{State, start};
+ghost use Rattle.heap_model.specs.declared.config.Config.{Config};
+ghost use Rattle.kernel_heap.specs.Config.{IsGoodConfig};
+ghost use Rattle.heap_program.specs.Command.{config_of};
+ghost use Rattle.heap_program.specs.Faults.{HasRisen};
+ghost use Rattle.heap_program.specs.Progress.{IsAt};
+ghost use Rattle.heap_program.specs.Status.{TellsRefusal};
+ghost use Rattle.heap_program.specs.declared.run.Stop.TheVariants.{ReadFault, WriteFault, TooLong};
+ghost use Rattle.heap_report.specs.Reported.{IsTold, IsToldInPart};
+
+use crate::listed::{Listed, list_extents};
+use crate::replay::Replay;
+use crate::reported::{Reported, ended_early};
+use heap_program::{
+    Session, Sink, Source, Stop, config_of, read_all, refusal_status, status_of, write_out,
+};
+use kernel_heap::{Config, Extent, Machine};
+use std::alloc::{AllocError, Global};
+
+/// A text of the end of a run.
+pub trait Tell {
+    /// The text of the last state, of the bytes that are live in it and were at most, and of its extents.
+    ghost text: { State → ℕ → ℕ → List Extent → List ℕ };
+
+    /// Puts the text at the end of the output.
+    fn push(
+        alloc: Global,
+        output: &mut String,
+        machine: &Machine,
+        live: u128,
+        peak: u128,
+        extents: &[Extent],
+    ) -> Result<(), AllocError>
+        requires { AreInSegments extents.now }
+        ensures { OnOk result ((s : State) → IsAt machine.now s → string_bytes output.new ≡ string_bytes output.old ++ text s live peak extents.now) };
+}
+
+// Replays the source on a machine to which no call came yet, and tells of it.
+fn tell_run<T: Tell, S: Source, K: Sink>(
+    alloc: Global,
+    machine: Machine,
+    source: &mut S,
+    sink: &mut K,
+) -> Result<Listed, Stop>
+    requires { (s : State) × IsAt machine s × (s.blocks ≡ []) }
+    ensures told { IfOk result (λ listed. (s : State) → IsAt machine s → s.blocks ≡ [] →
+        IsTold T.text s (S.left source.old) (S.left source.new) (K.taken sink.old) (K.taken sink.new) (K.flushed sink.new) listed.machine listed.answers listed.extents) }
+    ensures part { OnErr result ((s : State) → IsAt machine s → s.blocks ≡ [] →
+        IsToldInPart T.text s (S.left source.old) (S.left source.new) (K.taken sink.old) (K.taken sink.new)) }
+    ensures silent { (IsErrOf result ReadFault) ⊎ (IsErrOf result TooLong) → Appends (K.taken sink.old) (K.taken sink.new) [] }
+    ensures too_long { IfSome (S.left source.old) (λ input.
+        IsErrOf result TooLong ↔ (2 ^ 30 + length (unwrap_or (S.left source.new) []) < length input)) }
+    ensures read_cause { IsErrOf result ReadFault → HasRisen (S.faults source.old) (S.faults source.new) }
+    ensures write_cause { IsErrOf result WriteFault → HasRisen (K.faults sink.old) (K.faults sink.new) }
+{
+    let mut session = Session::new(alloc, Replay::new(alloc, machine));
+    read_all(&mut session, source, sink)?;
+    session.end()?;
+    let Session { responder, .. } = session;
+    let listed = list_extents(alloc, responder)?;
+    let mut output = String::new(alloc);
+    T::push(
+        alloc,
+        &mut output,
+        &listed.machine,
+        listed.live,
+        listed.peak,
+        listed.extents.as_slice(),
+    )?;
+    write_out(&mut output, sink)?;
+    Ok(listed)
+}
+
+// Replays the source on a new machine of the configuration, and tells of it.
+fn tell_new<T: Tell, S: Source, K: Sink>(
+    alloc: Global,
+    config: &Config,
+    source: &mut S,
+    sink: &mut K,
+) -> Reported
+    ensures machine { IsSome result.machine ↔ (result.status ≡ 0) }
+    ensures answers { IsSome result.answers ↔ (result.status ≡ 0) }
+    ensures extents { IsSome result.extents ↔ (result.status ≡ 0) }
+    ensures told { IfSome result.machine (λ machine. IfSome result.answers (λ answers. IfSome result.extents (λ extents.
+        IsTold T.text (start config.now) (S.left source.old) (S.left source.new) (K.taken sink.old) (K.taken sink.new) (K.flushed sink.new) machine answers extents))) }
+    ensures part { 5 ≤ result.status →
+        IsToldInPart T.text (start config.now) (S.left source.old) (S.left source.new) (K.taken sink.old) (K.taken sink.new) }
+    ensures silent { (result.status ≡ 6) ⊎ (result.status ≡ 8) → Appends (K.taken sink.old) (K.taken sink.new) [] }
+    ensures statuses { (result.status ≢ 1) × (result.status ≤ 8) }
+    ensures refused { TellsRefusal config.now result.status }
+    ensures untouched { 1 ≤ result.status → result.status ≤ 4 → (source.new ≡ source.old) × (sink.new ≡ sink.old) }
+    ensures read_fault { result.status ≡ 6 → HasRisen (S.faults source.old) (S.faults source.new) }
+    ensures write_fault { result.status ≡ 7 → HasRisen (K.faults sink.old) (K.faults sink.new) }
+    ensures too_long { IfSome (S.left source.old) (λ input.
+        (result.status ≡ 8) ↔ (2 ^ 30 + length (unwrap_or (S.left source.new) []) < length input)) }
+{
+    let machine = match Machine::new(alloc, config) {
+        Ok(machine) => machine,
+        Err(error) => {
+            return ended_early(refusal_status(error));
+        }
+    };
+    match tell_run::<T, S, K>(alloc, machine, source, sink) {
+        Ok(listed) => {
+            let Listed {
+                machine,
+                answers,
+                extents,
+                ..
+            } = listed;
+            Reported {
+                status: 0,
+                machine: Some(machine),
+                answers: Some(answers),
+                extents: Some(extents),
+            }
+        }
+        Err(stop) => ended_early(status_of(stop)),
+    }
+}
+
+/// Replays the calls of the source, asks for the extents, and writes a text of the end of that run. The words are a
+/// configuration, `BASE PAGES GRANULARITY FRAMES RATE`, or none for the default one. The lines are those of `heap run`; a
+/// line that is no call is passed over. Nothing is written before the input is read to its end.
+///
+/// | status | comes |
+/// |---|---|
+/// | 0 | the input was read to its end, and the text was written and flushed |
+/// | 1 | exactly if the words are no configuration, or FRAMES is 2^32 or more |
+/// | 2 | exactly if the window is empty, begins off a page, does not lie wholly in one canonical half, or holds the first or the last page of the address space |
+/// | 3 | exactly if it is not that, and the granularity is no power of two of at least 16 |
+/// | 4 | exactly if it is neither, and there are 0 frames |
+/// | 5 | the host had too little memory, here or in the sink |
+/// | 6 | only if the source counted a fault |
+/// | 7 | only if the sink counted a fault |
+/// | 8 | exactly if more than 2^30 bytes were taken |
+///
+/// Statuses 1 to 4 come before any memory is taken, and before anything is read or written.
+pub fn tell_main<T: Tell, S: Source, K: Sink>(
+    alloc: Global,
+    words: &[String],
+    source: &mut S,
+    sink: &mut K,
+) -> Reported
+    // At status 0 the source is read to its end, and the text of its run is written.
+    ensures machine { IsSome result.machine ↔ (result.status ≡ 0) }
+    ensures answers { IsSome result.answers ↔ (result.status ≡ 0) }
+    ensures extents { IsSome result.extents ↔ (result.status ≡ 0) }
+    ensures told { (config : Config) → config_of (map string_bytes words.now) ≡ Some config →
+        IfSome result.machine (λ machine. IfSome result.answers (λ answers. IfSome result.extents (λ extents.
+        IsTold T.text (start config) (S.left source.old) (S.left source.new) (K.taken sink.old) (K.taken sink.new) (K.flushed sink.new) machine answers extents))) }
+
+    // At a status from 5 on a front of such a text is written, or nothing: at 6 and 8 nothing.
+    ensures part { (config : Config) → config_of (map string_bytes words.now) ≡ Some config → 5 ≤ result.status →
+        IsToldInPart T.text (start config) (S.left source.old) (S.left source.new) (K.taken sink.old) (K.taken sink.new) }
+    ensures silent { (result.status ≡ 6) ⊎ (result.status ≡ 8) → Appends (K.taken sink.old) (K.taken sink.new) [] }
+
+    // When each status comes. Those from 1 to 4 are decided in this order, before anything is read or written.
+    ensures statuses { result.status ≤ 8 }
+    ensures usage { (result.status ≡ 1) ↔ (config_of (map string_bytes words.now) ≡ None) }
+    ensures refused { (config : Config) → config_of (map string_bytes words.now) ≡ Some config → TellsRefusal config result.status }
+    ensures untouched { 1 ≤ result.status → result.status ≤ 4 → (source.new ≡ source.old) × (sink.new ≡ sink.old) }
+    ensures read_fault { result.status ≡ 6 → HasRisen (S.faults source.old) (S.faults source.new) }
+    ensures write_fault { result.status ≡ 7 → HasRisen (K.faults sink.old) (K.faults sink.new) }
+    ensures too_long { IfSome (S.left source.old) (λ input.
+        (result.status ≡ 8) ↔ (2 ^ 30 + length (unwrap_or (S.left source.new) []) < length input)) }
+    ensures complete { (config : Config) → config_of (map string_bytes words.now) ≡ Some config → IsGoodConfig config →
+        ¬ (HasRisen (S.faults source.old) (S.faults source.new)) → ¬ (HasRisen (K.faults sink.old) (K.faults sink.new)) →
+        (result.status ≡ 0) ⊎ (result.status ≡ 5) ⊎ (result.status ≡ 8) }
+{
+    match config_of(words) {
+        Some(config) => tell_new::<T, S, K>(alloc, &config, source, sink),
+        None => ended_early(1),
+    }
+}
