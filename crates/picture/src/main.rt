@@ -1,0 +1,40 @@
+//! The program `heap_picture`: a picture of the heap that a recorded run leaves.
+#![tactic(auto)]
+
+use heap_picture::Picture;
+use heap_report::program;
+use std::process::ExitCode;
+
+const VERSION: &str = "\
+heap_picture 0.1.0
+";
+
+const HELP: &str = "\
+heap_picture 0.1.0: a picture of the heap that a recorded run leaves
+
+Usage: heap_picture [BASE PAGES GRANULARITY FRAMES RATE]
+
+Replays the calls of standard input, which are lines as `heap --help lines` has
+them, and then prints a picture of the heap, as an SVG document.
+
+The heap's segments are rows of 1024 columns in address order, to scale: a
+column stands for as many bytes as it takes for all segments to need about 8192
+columns, and for 16 at least. Each extent is drawn once; neighbours that end in
+the column in which the first of them begins are drawn as one, and its colour
+says how much of it is used. Below are the regions with their large pages, and
+the lines of `heap_report`. A browser shows at each rectangle what it is.
+
+A line that is no call is passed over, and a refused call changes nothing. The
+words are those of `heap run`; the default is 0x400000 1024 65536 1024 4095.
+
+  --help      prints this text
+  --version   prints the name and the version
+
+Exit status: 0 ok, 1 usage, 2 bad window, 3 bad granularity, 4 too few frames,
+5 out of memory, 6 read fault, 7 write fault, 8 input too long (more than 2^30
+bytes). Nothing is printed at 6 and 8.
+";
+
+fn main(rt: HostRuntime) -> ExitCode {
+    program::<Picture>(&rt, HELP, VERSION)
+}
