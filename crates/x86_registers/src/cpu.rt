@@ -94,7 +94,7 @@ pub struct Cpu {
     pub gs: u16,
     /// The selector of the task state segment.
     pub tr: u16,
-    /// How many pages one `INVLPGB` can flush beyond the first.
+    /// The greatest count that `INVLPGB` takes in ECX: bits 0 to 15 of EDX of CPUID 8000_0008.
     pub invlpgb_count_max: u16,
     /// Where the global descriptor table lies.
     pub gdtr: DescriptorTablePointer,
