@@ -182,6 +182,12 @@ module _ (old mid : List ℕ) (free free1 : List Bool) (root frame : ℕ)
             let m = made_of l (prefix_of page l) (top f) lt none now in
             let h = mid_fewer f held in cc
 
+    -- a frame that is still free is neither the page's nor a table's
+    free_words : (f i : ℕ) → i < 512 → is_free free' f ≡ true → word_at new f i ≡ word_at old f i
+    free_words f i li still =
+        added.words f i li (λ l lt now. let u : is_free free' f ≡ false = tree'.used l (prefix_of page l) (top f) (omega arith) now in absurd (cc))
+        ∙ mid_other f i li (λ e. let u = added.fewer frame mid_used in let x = ap (is_free free') e in absurd (cc))
+
     apart : (l n f : ℕ) → l < 4 → reach old root l n ≡ Some (top f) → f ≡ frame → ⊥
     apart l n f lt is e = mid_unmet l n (top f) (omega arith) is e
 
@@ -232,5 +238,6 @@ module _ (old mid : List ℕ) (free free1 : List Bool) (root frame : ℕ)
       pages_stay = other_page;
       bytes_stay = other_bytes;
       words = words_of;
+      free_words = free_words;
       entries = entries;
     }

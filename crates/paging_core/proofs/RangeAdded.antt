@@ -40,6 +40,7 @@ range_start words free root first rights tree = record {
   pages_stay = λ other place is. is;
   bytes_stay = λ other place i is li. refl;
   words = λ f i li held untabled. refl;
+  free_words = λ f i li still. refl;
   entries = record {
     old_words = λ l n f i lt li was keeps. refl;
     blank = λ l n f i lt li none now gone. absurd (cc);
@@ -312,6 +313,7 @@ module _ (old mid : List ℕ) (free free1 : List Bool) (root first pages k : ℕ
       pages_stay = λ other place is. next.pages_stay other place (added.pages_stay other place is);
       bytes_stay = λ other place i is li. next.bytes_stay other place i (added.pages_stay other place is) li ∙ added.bytes_stay other place i is li;
       words = words_of;
+      free_words = λ f i li still. next.free_words f i li still ∙ added.free_words f i li (free_before free1 free' next.fewer f still);
       entries = record { old_words = old_words; blank = blank; table_words = table_words; page_words = page_words };
     }
 

@@ -98,8 +98,9 @@ pub record IsRangeAdded (old new : List ℕ) (free free' : List Bool) (root firs
   pub pages_stay : (other : ℕ) (place : Place) → walk_of old root other ≡ Some place → walk_of new root other ≡ Some place
   pub bytes_stay :
       (other : ℕ) (place : Place) (i : ℕ) → walk_of old root other ≡ Some place → i < 512 → word_at new place.frame i ≡ word_at old place.frame i
-  -- words are changed in frames that were free and in tables alone, and there no more than the new entries need
+  -- words are changed in frames that were taken and in tables alone, and there no more than the new entries need
   pub words :
       (f i : ℕ) → i < 512 → is_free free f ≡ false → ((l n : ℕ) → l < 4 → reach old root l n ≡ Some (top f) → ⊥) →
       word_at new f i ≡ word_at old f i
+  pub free_words : (f i : ℕ) → i < 512 → is_free free' f ≡ true → word_at new f i ≡ word_at old f i
   pub entries : HasExactEntries old new root rights
