@@ -1,9 +1,12 @@
 -- What a system does beside loads and stores.
 use Rattle.std.specs.Prelude.{ℕ}
 use Rattle.heap_memory.specs.declared.grant.Grant.{Grant}
+use Rattle.heap_memory.specs.declared.grant.GrantFault.{GrantFault}
 
 pub data Event : Type 0 where
   -- a request of this size was granted
   Granted : ℕ → Grant → Event
+  -- a request of this size was refused with a fault
+  Refused : ℕ → GrantFault → Event
   -- of a run of bytes from a place on, of the old size, those behind the new size were given back
   Released : ℕ → ℕ → ℕ → Event

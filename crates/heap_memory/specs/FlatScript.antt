@@ -1,11 +1,13 @@
 -- The script of a flat system: what each step of it grants or denies (own).
-use Rattle.std.specs.Prelude.{ℕ, ◌+◌, ◌%◌, ◌^◌, Bool, false, not, ◌&&◌, ◌||◌, ◌==◌, nat_le, nat_lt, if◌then◌else◌, List, [], ◌∷◌, ◌++◌, Result, Ok, Err}
+use Rattle.std.specs.Prelude.{◌≡◌, ℕ, ◌+◌, ◌%◌, ◌^◌, Bool, false, not, ◌&&◌, ◌||◌, ◌==◌, nat_le, nat_lt, if◌then◌else◌, List, [], ◌∷◌, ◌++◌, take, drop, Result, Ok, Err, refl}
 use Rattle.std.specs.List.{list_any}
+use Rattle.std.proofs.Common.{subst}
 use Rattle.heap_memory.specs.declared.grant.Grant.{Grant}
 use Rattle.heap_memory.specs.declared.grant.GrantFault.{GrantFault}
 use Rattle.heap_memory.specs.declared.grant.GrantFault.TheVariants.{NoSpace}
 use Rattle.heap_memory.specs.declared.flat_script.FlatStep.{FlatStep}
 use Rattle.heap_memory.specs.declared.flat_script.FlatStep.TheVariants.{Give, Refuse}
+use Rattle.heap_memory.specs.Events.{Event, Granted, Refused, Released}
 
 -- whether a step gives the byte at an address
 abbrev pub gives : ℕ → FlatStep → Bool
@@ -49,3 +51,25 @@ promises before (Give base size flags) at =
 abbrev pub is_promised : List FlatStep → List FlatStep → ℕ → Bool
 is_promised before [] at = false
 is_promised before (step ∷ left) at = promises before step at || is_promised (before ++ step ∷ []) left at
+
+-- The steps that were taken and those that are left, before and after some events: each request takes the next step and gets
+-- its answer, and what is given back takes none.
+abbrev pub IsAnswered : List FlatStep → List FlatStep → List Event → List FlatStep → List FlatStep → Type 0
+IsAnswered before left [] before' left' = (before' ≡ before) × (left' ≡ left)
+IsAnswered before left (Granted asked grant ∷ events) before' left' =
+    (next_answer before left asked ≡ Ok grant) × IsAnswered (before ++ take 1 left) (drop 1 left) events before' left'
+IsAnswered before left (Refused asked fault ∷ events) before' left' =
+    (next_answer before left asked ≡ Err fault) × IsAnswered (before ++ take 1 left) (drop 1 left) events before' left'
+IsAnswered before left (Released at size new_size ∷ events) before' left' = IsAnswered before left events before' left'
+
+pub answered_on : (b l b' l' end rest : List FlatStep) (first second events : List Event) → IsAnswered b l first b' l' → IsAnswered b' l' second end rest →
+    first ++ second ≡ events → IsAnswered b l events end rest
+answered_on b l b' l' end rest [] second events one two is =
+    let at_left : IsAnswered b' l second end rest = subst (λ (s : List FlatStep). IsAnswered b' s second end rest) one.1 two in
+    subst (λ (es : List Event). IsAnswered b l es end rest) is (subst (λ (s : List FlatStep). IsAnswered s l second end rest) one.0 at_left)
+answered_on b l b' l' end rest (Granted asked grant ∷ first) second events one two is =
+    subst (λ (es : List Event). IsAnswered b l es end rest) is (one.0, answered_on (b ++ take 1 l) (drop 1 l) b' l' end rest first second (first ++ second) one.1 two refl)
+answered_on b l b' l' end rest (Refused asked fault ∷ first) second events one two is =
+    subst (λ (es : List Event). IsAnswered b l es end rest) is (one.0, answered_on (b ++ take 1 l) (drop 1 l) b' l' end rest first second (first ++ second) one.1 two refl)
+answered_on b l b' l' end rest (Released at size new_size ∷ first) second events one two is =
+    subst (λ (es : List Event). IsAnswered b l es end rest) is (answered_on b l b' l' end rest first second (first ++ second) one two refl)

@@ -1,12 +1,13 @@
--- What a flat system shows beside its script: its regions, its words, and what it denies (own).
-use Rattle.std.specs.Prelude.{◌≡◌, ℕ, Bool, true, if◌then◌else◌, List, Err, refl}
+-- What a flat system shows: its regions, its words, what it denies, and the steps of its script that requests took (own).
+use Rattle.std.specs.Prelude.{◌≡◌, ℕ, Bool, true, if◌then◌else◌, List, [], ◌++◌, Err, refl}
 use Rattle.std.proofs.Common.{◌∙◌, ap}
 use Rattle.heap_memory.specs.declared.grant.Grant.{Grant}
 use Rattle.heap_memory.specs.declared.flat_system.FlatSystem.{FlatSystem}
 use Rattle.heap_memory.specs.declared.grant.GrantFault.{GrantFault}
 use Rattle.heap_memory.specs.Allocator.{IsFixed}
+use Rattle.heap_memory.specs.Events.{Event}
 use Rattle.heap_memory.specs.Script.{taken_of, left_of}
-use Rattle.heap_memory.specs.FlatScript.{next_answer}
+use Rattle.heap_memory.specs.FlatScript.{next_answer, IsAnswered, answered_on}
 use Rattle.heap_memory.specs.FlatWords.{word_in}
 
 abbrev pub regions_of : FlatSystem → List Grant
@@ -55,3 +56,17 @@ refused_none system = record { regions = refl; words = λ at. refl; kind = same_
 -- a request for so many bytes is denied with the fault that the next step answers
 abbrev pub DeniesNext : FlatSystem → ℕ → GrantFault → Type 0
 DeniesNext system asked fault = next_answer (taken_of system.script) (left_of system.script) asked ≡ Err fault
+
+-- what the events of a time left: each request, granted or refused, took the next step of the script, and nothing else did
+pub record IsAfter (old : FlatSystem) (events : List Event) (new : FlatSystem) : Type 0 where
+  pub kind : IsSameKind old new
+  pub script : IsAnswered (taken_of old.script) (left_of old.script) events (taken_of new.script) (left_of new.script)
+
+pub after_none : (system : FlatSystem) → IsAfter system [] system
+after_none system = record { kind = same_none system; script = (refl, refl) }
+
+pub after_on : (x y z : FlatSystem) (a b c : List Event) → IsAfter x a y → IsAfter y b z → a ++ b ≡ c → IsAfter x c z
+after_on x y z a b c first second is = record {
+  kind = same_on x y z first.kind second.kind;
+  script = answered_on (taken_of x.script) (left_of x.script) (taken_of y.script) (left_of y.script) (taken_of z.script) (left_of z.script) a b c first.script second.script is;
+}

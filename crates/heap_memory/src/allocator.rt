@@ -1,7 +1,7 @@
 ghost use Rattle.std.specs.Prelude.{◌≡◌, ◌≢◌, ℕ, ◌+◌, ◌%◌, ◌<◌, ◌≤◌, Bool, true, false, List, [], ◌∷◌, IsTrue, IfOk, IfErr, OnErr};
 ghost use Rattle.std.specs.List.{AllByRecursion};
 ghost use Rattle.std.specs.Int.{is_power_of_two};
-ghost use Rattle.heap_memory.specs.Events.{Granted, Released};
+ghost use Rattle.heap_memory.specs.Events.{Granted, Refused, Released};
 ghost use Rattle.heap_memory.specs.Regions.{IsWordOf, IsApart, IsGoodGrant, with_grant};
 ghost use Rattle.heap_memory.specs.Runs.{IsRun, without, is_in_units};
 ghost use Rattle.heap_memory.specs.Allocator.{IsFixed};
@@ -45,7 +45,7 @@ pub trait Allocator: Links {
         ensures follows { IfOk result (λ grant. Self.follows self.old (Granted size grant ∷ []) self.new) }
         ensures words { (at : ℕ) → IsWordOf (Self.regions self.old) at → Self.word self.new at ≡ Self.word self.old at }
         ensures err { OnErr result (Self.regions self.new ≡ Self.regions self.old) }
-        ensures err_follows { OnErr result (Self.follows self.old [] self.new) }
+        ensures err_follows { IfErr result (λ fault. Self.follows self.old (Refused size fault ∷ []) self.new) }
         ensures err_refuses { OnErr result (refuses self.old self.new) }
         ensures denied { IfErr result (λ fault. fault ≢ GrantFault.OutOfMemory → denies self.old size fault) };
 

@@ -1,5 +1,5 @@
 // A system over plain words.
-ghost use Rattle.std.specs.Prelude.{◌≡◌, ℕ, ◌+◌, ◌-◌, ◌%◌, ◌<◌, ◌≤◌, Bool, true, false, ◌&&◌, nat_lt, [], ◌++◌, IsTrue, IfOk, OnErr, refl, length, take, drop, position, vec_len, vec_capacity};
+ghost use Rattle.std.specs.Prelude.{◌≡◌, ℕ, ◌+◌, ◌-◌, ◌%◌, ◌<◌, ◌≤◌, Bool, true, false, ◌&&◌, nat_lt, [], ◌∷◌, ◌++◌, IsTrue, IfOk, IfErr, OnErr, refl, length, take, drop, position, vec_len, vec_capacity};
 ghost use Rattle.std.specs.List.{AllByRecursion, list_any, list_all};
 ghost use Rattle.std.specs.Int.{is_power_of_two};
 ghost use Rattle.heap_memory.specs.Regions.{is_granted, with_grant, are_ordered, are_whole};
@@ -164,7 +164,7 @@ fn add_region(regions: &mut Vec<Grant>, grant: Grant)
 }
 
 impl Links for FlatSystem {
-    ghost use Rattle.heap_memory.specs.FlatSystem.{IsSameKind, same_none, same_on, regions_of, word_of};
+    ghost use Rattle.heap_memory.specs.FlatSystem.{IsAfter, after_none, after_on, regions_of, word_of};
     ghost use Rattle.heap_memory.specs.Regions.{IsWordOf};
     ghost use Rattle.heap_memory.specs.Words.{IsStored};
 
@@ -174,11 +174,11 @@ impl Links for FlatSystem {
 
     ghost whole = { λ system. system.whole };
 
-    ghost follows = { λ old events new. IsSameKind old new };
+    ghost follows = { λ old events new. IsAfter old events new };
 
-    ghost follows_none = { λ x. same_none x };
+    ghost follows_none = { λ x. after_none x };
 
-    ghost follows_on = { λ x y z a b c first second is. same_on x y z first second };
+    ghost follows_on = { λ x y z a b c first second is. after_on x y z a b c first second is };
 
     fn load_counted<L: Ledger>(&self, at: u64, steps: &mut Steps<L>) -> u64 {
         steps.tick();
@@ -190,7 +190,7 @@ impl Links for FlatSystem {
         requires { IsWordOf (regions_of self.old) at }
         ensures stored { IsStored (regions_of self.old) (word_of self.old) at value (word_of self.new) }
         ensures regions { self.new.regions ≡ self.old.regions }
-        ensures follows { IsSameKind self.old self.new }
+        ensures follows { IsAfter self.old [] self.new }
         ensures counted { steps.new ≡ steps.old + 1 }
         ensures script { self.new.script ≡ self.old.script }
     {
@@ -200,7 +200,7 @@ impl Links for FlatSystem {
 }
 
 impl Memory for FlatSystem {
-    ghost use Rattle.heap_memory.specs.FlatSystem.{IsSameKind, regions_of, word_of};
+    ghost use Rattle.heap_memory.specs.FlatSystem.{IsAfter, regions_of, word_of};
     ghost use Rattle.heap_memory.specs.Regions.{IsWordOf};
     ghost use Rattle.heap_memory.specs.Words.{IsStored};
 
@@ -213,7 +213,7 @@ impl Memory for FlatSystem {
         requires { IsWordOf (regions_of self.old) at }
         ensures stored { IsStored (regions_of self.old) (word_of self.old) at value (word_of self.new) }
         ensures regions { self.new.regions ≡ self.old.regions }
-        ensures follows { IsSameKind self.old self.new }
+        ensures follows { IsAfter self.old [] self.new }
         ensures script { self.new.script ≡ self.old.script }
     {
         self.words.set_word(at, value)
@@ -222,9 +222,10 @@ impl Memory for FlatSystem {
 
 impl Allocator for FlatSystem {
     ghost use Rattle.heap_memory.specs.FlatSystem.{DeniesNext, regions_of, word_of};
+    ghost use Rattle.heap_memory.specs.Events.{Granted, Refused};
     ghost use Rattle.heap_memory.specs.FlatScript.{next_answer};
     ghost use Rattle.heap_memory.specs.Regions.{IsWordOf, IsApart, IsGoodGrant};
-    ghost use Rattle.heap_memory.specs.FlatSystem.{IsSameKind, IsRefused, refused_none, unit_of, same_fixed};
+    ghost use Rattle.heap_memory.specs.FlatSystem.{IsSameKind, IsAfter, IsRefused, refused_none, unit_of, same_fixed};
     ghost use Rattle.heap_memory.specs.Runs.{IsRun, is_in_units};
 
     ghost denies = { λ system size fault. DeniesNext system size fault };
@@ -243,7 +244,7 @@ impl Allocator for FlatSystem {
 
     ghost ordered = { λ system. system.ordered };
 
-    ghost fixed = { λ x y events follows. same_fixed x y follows };
+    ghost fixed = { λ x y events follows. same_fixed x y follows.kind };
 
     /// What the next step of the script answers, as it stands.
     fn alloc(&mut self, size: u64) -> Result<Grant, GrantFault>
@@ -258,6 +259,8 @@ impl Allocator for FlatSystem {
         ensures zeros { IfOk result (λ grant. (at : ℕ) → grant.base ≤ at → at < grant.base + grant.size → at % 8 ≡ 0 → word_of self.new at ≡ 0) }
         ensures words { (at : ℕ) → word_of self.new at ≡ word_of self.old at }
         ensures err { OnErr result (regions_of self.new ≡ regions_of self.old) }
+        ensures follows { IfOk result (λ grant. IsAfter self.old (Granted size grant ∷ []) self.new) }
+        ensures err_follows { IfErr result (λ fault. IsAfter self.old (Refused size fault ∷ []) self.new) }
         ensures same { IsSameKind self.old self.new }
     {
         let answer = self.answer(size);
