@@ -16,6 +16,7 @@ use Rattle.dlmalloc.specs.Aligned.{aligned_place, lead_freed, aligned, HasOneMov
 use Rattle.dlmalloc.specs.Heap.{state_of, IsSound}
 use Rattle.dlmalloc.specs.Served.{IsServed}
 use Rattle.dlmalloc.specs.Requested.{IsPassedOver, IsServedAligned}
+use Rattle.dlmalloc.specs.Order.{KeepsOrderThrough}
 use Rattle.dlmalloc.specs.declared.heap.Dlmalloc.{Dlmalloc}
 use Rattle.dlmalloc.proofs.Places.{extent, found, the_extent}
 use Rattle.dlmalloc.proofs.Laws.{used_inside}
@@ -109,6 +110,7 @@ pub record IsAligned {A : Type 0} (regions : A → List Grant) (word : A → ℕ
   pub sound : IsSound regions word new
   pub regions_same : regions new.system ≡ regions old.system
   pub followed : follows old.system [] new.system
+  pub order : KeepsOrderThrough regions word (lead_freed (state_of word old) (ptr - 16) result) old new
 
 pub served_aligned : {A : Type 0} (regions : A → List Grant) (word : A → ℕ → ℕ) (zeros : A → Bool) (follows : A → List Event → A → Type 0) (old middle new : Dlmalloc A) (size align n greater result : ℕ) →
     n ≡ padded size → size + 8 ≤ n → n ≤ size + 32 → IsServed regions word zeros follows old (n + align + 24) greater middle → IsAligned regions word follows middle greater align n result new →
@@ -148,4 +150,5 @@ served_aligned regions word zeros follows old middle new size align n greater re
       sound = left.sound;
       regions_same = left.regions_same;
       followed = left.followed;
+      order = subst (λ (p : ℕ). KeepsOrderThrough regions word (lead_freed (state_of word middle) (greater - 16) p) middle new) back left.order;
     }

@@ -16,6 +16,8 @@ use Rattle.dlmalloc.specs.AfterFree.{is_above_check, after_free, free_releases, 
 use Rattle.dlmalloc.specs.Served.{IsDisposed}
 use Rattle.dlmalloc.specs.Requested.{IsFound}
 use Rattle.dlmalloc.specs.Heap.{segments_of, state_of, IsSound}
+use Rattle.dlmalloc.specs.Binned.{HoldsBinned}
+use Rattle.dlmalloc.specs.AfterFree.{index_after}
 use Rattle.dlmalloc.specs.declared.heap.Dlmalloc.{Dlmalloc}
 use Rattle.dlmalloc.proofs.Growing.{some_segment, ends}
 use Rattle.dlmalloc.proofs.GivenBack.{still_granted}
@@ -148,6 +150,14 @@ module _ {A : Type 0} (regions : A → List Grant) (word : A → ℕ → ℕ) (f
     regions_are = settled.regions_are ∙ (λ i. regions_after frees parts unit (disposed.state i) (address - 16) (disposed.regions_same i));
     followed = subst (λ (heap : HeapState). follows old.system (free_releases frees parts unit heap (address - 16)) new.system) disposed.state
         (on old.system middle.system new.system [] (free_releases frees parts unit (state_of word middle) (address - 16)) (free_releases frees parts unit (state_of word middle) (address - 16)) disposed.followed settled.followed refl);
+    order = λ b.
+        let first = disposed.order b in
+        let last = settled.index first.0 in (
+          first.0.index,
+          subst (λ (heap : HeapState). HoldsBinned heap first.0.index) disposed.state first.0.holds,
+          first.1,
+          (last.0, λ n. last.1 n ∙ ap (λ (heap : HeapState). index_after frees parts heap (address - 16) first.0.index n) disposed.state),
+        );
   }
 
 -- ---- the rules of a system stay

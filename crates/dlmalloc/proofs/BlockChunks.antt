@@ -13,6 +13,7 @@ use Rattle.dlmalloc.specs.Freed.{freed}
 use Rattle.dlmalloc.specs.Segments.{IsSegment}
 use Rattle.dlmalloc.specs.Heap.{segments_of, state_of, IsSound}
 use Rattle.dlmalloc.specs.Served.{IsTurned, IsDisposed}
+use Rattle.dlmalloc.specs.Order.{KeepsOrder}
 use Rattle.dlmalloc.specs.declared.heap.Dlmalloc.{Dlmalloc}
 use Rattle.dlmalloc.proofs.Places.{extent, same_extent, found}
 use Rattle.dlmalloc.proofs.Moving.{standing}
@@ -55,8 +56,8 @@ module _ {A : Type 0} (regions : A → List Grant) (word : A → ℕ → ℕ) (h
 
 -- a block was freed
 pub freed_block : {A : Type 0} (regions : A → List Grant) (word : A → ℕ → ℕ) (follows : A → List Event → A → Type 0) (old new : Dlmalloc A) (ptr : ℕ) → IsSound regions word old → state_of word new ≡ freed (state_of word old) (ptr - 16) →
-    HasOneMore (state_of word new) (state_of word old) (ptr - 16) → IsTurned regions word follows old new → IsDisposed regions word follows old ptr new
-freed_block regions word follows old new ptr sound state less moved = record {
+    HasOneMore (state_of word new) (state_of word old) (ptr - 16) → IsTurned regions word follows old new → KeepsOrder regions word old new → IsDisposed regions word follows old ptr new
+freed_block regions word follows old new ptr sound state less moved order = record {
   state = state;
   less = less;
   kept = blocks_law regions word old new sound moved.sound moved.words (extents_in (state_of word new)) (λ block there used. (less.kept block used there, there));
@@ -64,6 +65,7 @@ freed_block regions word follows old new ptr sound state less moved = record {
   sound = moved.sound;
   regions_same = moved.regions_same;
   followed = moved.followed;
+  order = order;
 }
 
 -- two blocks are apart, and from each other's head

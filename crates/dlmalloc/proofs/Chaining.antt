@@ -14,7 +14,7 @@ use Rattle.dlmalloc.specs.Released.{may_leave}
 use Rattle.dlmalloc.specs.Segments.{IsSegment, AreSegments, record_of, AreRecords}
 use Rattle.dlmalloc.specs.Prepended.{payload_behind}
 use Rattle.dlmalloc.specs.Heap.{segments_of, state_of, AreTold, IsSound}
-use Rattle.dlmalloc.specs.Binned.{IsFreeAt, IsBinnedBut, IsBinned, OnlyFreeChange, IsRebinned, FreeMoves}
+use Rattle.dlmalloc.specs.Binned.{IsFreeAt, IsBinnedBut, OnlyFreeChange, IsRebinned, FreeMoves}
 use Rattle.dlmalloc.specs.Chained.{IsLinked, IsChained, HaveLeft, IsVisited}
 use Rattle.dlmalloc.specs.declared.heap.Dlmalloc.{Dlmalloc}
 use Rattle.dlmalloc.specs.declared.record.SegmentRecord.{SegmentRecord}
@@ -233,7 +233,7 @@ module _ {A : Type 0} (regions : A → List Grant) (word : A → ℕ → ℕ) (f
       go false test = λ is. (let yes : (told.base == old.victim) ≡ true = ap (λ (b : ℕ). b == old.victim) (is ∙ victim false test) ∙ nat_same old.victim in let no = sym test ∙ yes in cc)
 
   -- the victim was that, or stays
-  was_base : (k : ℕ) → k ≡ old.victim → k ≢ new.victim → k ≡ told.base
+  pub was_base : (k : ℕ) → k ≡ old.victim → k ≢ new.victim → k ≡ told.base
   was_base k is other = go (told.base == old.victim) refl
     where
       go : (b : Bool) → (told.base == old.victim) ≡ b → k ≡ told.base
@@ -241,7 +241,7 @@ module _ {A : Type 0} (regions : A → List Grant) (word : A → ℕ → ℕ) (f
       go false test = absurd (other (is ∙ sym (victim false test)))
 
   -- and no other is the victim then
-  was_victim : (k n : ℕ) → k ≡ new.victim → IsFreeAt (state_of word old) k n → k ≢ old.victim → ⊥
+  pub was_victim : (k n : ℕ) → k ≡ new.victim → IsFreeAt (state_of word old) k n → k ≢ old.victim → ⊥
   was_victim k n is free other = go (told.base == old.victim) refl
     where
       go : (b : Bool) → (told.base == old.victim) ≡ b → ⊥
@@ -252,7 +252,7 @@ module _ (index_stays : IndexStays) {A : Type 0} (regions : A → List Grant) (w
     (leaves : Bool) (visited : IsVisited regions word follows true leaves old before told c new)
     (words : (k : ℕ) → IsWordOf (regions new.system) k → (IsInRecord (state_of word old) k → ⊥) → word new.system k ≡ word old.system k) (bins : new.bins ≡ old.bins) where
   -- it stays, and is in no bin
-  pub loose_still : FreeMoves (state_of word old) (state_of word new) [] [] → IsBinnedBut (told.base ∷ []) regions word old → IsBinnedBut (told.base ∷ []) regions word new
+  abbrev pub loose_still : FreeMoves (state_of word old) (state_of word new) [] [] → IsBinnedBut (told.base ∷ []) regions word old → IsBinnedBut (told.base ∷ []) regions word new
   loose_still moves = binned_moved index_stays regions word old new sound visited.left.sound (λ k was is boundary tag tag'. words k is tag) bins (told.base ∷ []) (told.base ∷ []) [] [] moves (record {
     gone = λ k none n free other. absurd none;
     come = λ k none n free other. absurd none;
@@ -261,17 +261,10 @@ module _ (index_stays : IndexStays) {A : Type 0} (regions : A → List Grant) (w
   })
 
   -- it leaves, and the bins have all the others
-  pub binned_without : FreeMoves (state_of word old) (state_of word new) (told.base ∷ []) [] → IsBinnedBut (told.base ∷ []) regions word old → IsBinnedBut [] regions word new
+  abbrev pub binned_without : FreeMoves (state_of word old) (state_of word new) (told.base ∷ []) [] → IsBinnedBut (told.base ∷ []) regions word old → IsBinnedBut [] regions word new
   binned_without moves = binned_moved index_stays regions word old new sound visited.left.sound (λ k was is boundary tag tag'. words k is tag) bins (told.base ∷ []) [] (told.base ∷ []) [] moves (record {
     gone = λ k is n free other. is;
     come = λ k none n free other. none;
     still = λ k out which n free other. elim which [ inl is ↦ out (inl (was_base regions word follows old new sound before told c leaves visited k is other)) | inr is ↦ out is ];
     from = λ k out which n free other. elim which [ inl is ↦ absurd (was_victim regions word follows old new sound before told c leaves visited k n is free other) | inr none ↦ absurd none ];
   })
-
--- the countdown and the trim check do not matter
-pub same_bins : {A : Type 0} (regions : A → List Grant) (word : A → ℕ → ℕ) (heap : Dlmalloc A) (countdown : ℕ) → IsBinned regions word heap → IsBinned regions word (record heap { countdown = countdown })
-same_bins regions word heap countdown b = record { index = b.index; linked = b.linked; holds = record { all = b.holds.all; free = b.holds.free; no_victim = b.holds.no_victim; not_loose = b.holds.not_loose } }
-
-pub same_check : {A : Type 0} (regions : A → List Grant) (word : A → ℕ → ℕ) (heap : Dlmalloc A) (check : ℕ) → IsBinned regions word heap → IsBinned regions word (record heap { trim_check = check })
-same_check regions word heap check b = record { index = b.index; linked = b.linked; holds = record { all = b.holds.all; free = b.holds.free; no_victim = b.holds.no_victim; not_loose = b.holds.not_loose } }

@@ -16,6 +16,8 @@ use Rattle.dlmalloc.specs.Freed.{has}
 use Rattle.dlmalloc.specs.Blocks.{KeepsBlocks}
 use Rattle.dlmalloc.specs.Released.{handed_out, taken_back, releases, regions_without, passed, is_large_binned, is_counted, left_by_count, IsFreeAround}
 use Rattle.dlmalloc.specs.GivenBack.{IsPassed, IsCounted}
+use Rattle.dlmalloc.specs.Order.{after_pass}
+use Rattle.dlmalloc.proofs.Rebinned.{same_bins}
 use Rattle.dlmalloc.specs.Segments.{IsSegment}
 use Rattle.dlmalloc.specs.Heap.{segments_of, state_of, IsSound}
 use Rattle.dlmalloc.specs.declared.heap.Dlmalloc.{Dlmalloc}
@@ -179,6 +181,7 @@ module _ {A : Type 0} (regions : A → List Grant) (word : A → ℕ → ℕ) (f
         used = record { still = λ used is there. there; before = λ used is there. there };
         kept = same_words (extents_in (state_of word old)) (word old.system);
         words = λ k inside was out. refl;
+        index = λ b. (b, λ n. sym (ap (λ (c : Bool). (if c && nat_le old.countdown 1 then after_pass frees parts (segments_of word old) b.index else b.index) n) none));
         regions_are = sym (ap (λ (segments : List Segment). regions_without segments (regions old.system)) gone);
         followed = subst (λ (segments : List Segment). follows old.system (releases segments) old.system) (sym gone) (follows_none old.system);
       }
@@ -193,6 +196,7 @@ module _ {A : Type 0} (regions : A → List Grant) (word : A → ℕ → ℕ) (f
         used = record { still = λ used is there. there; before = λ used is there. there };
         kept = same_words (extents_in (state_of word old)) (word old.system);
         words = λ k inside was out. refl;
+        index = λ b. (same_bins regions word old (old.countdown - 1) b, λ n. sym (λ i. (if is i && more i then after_pass frees parts (segments_of word old) b.index else b.index) n));
         regions_are = sym (ap (λ (segments : List Segment). regions_without segments (regions old.system)) gone);
         followed = subst (λ (segments : List Segment). follows old.system (releases segments) old.system) (sym gone) (follows_none old.system);
       }
@@ -208,6 +212,7 @@ module _ {A : Type 0} (regions : A → List Grant) (word : A → ℕ → ℕ) (f
         used = p.used;
         kept = p.kept;
         words = p.words;
+        index = λ b. (let a = p.index b in (a.0, λ n. a.1 n ∙ sym (λ i. (if is i && ends i then after_pass frees parts (segments_of word old) b.index else b.index) n)));
         regions_are = p.regions_are ∙ sym (ap (λ (segments : List Segment). regions_without segments (regions old.system)) gone);
         followed = subst (λ (segments : List Segment). follows old.system (releases segments) new.system) (sym gone) p.followed;
       }

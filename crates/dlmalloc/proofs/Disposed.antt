@@ -1,5 +1,6 @@
 -- A chunk is freed, and the bins with it.
-use Rattle.std.proofs.Common.{◌≡◌, ℕ, ◌+◌, ◌-◌, ◌<◌, ◌≤◌, inl, inr, ◌==◌, if◌then◌else◌, List, [], ◌∷◌, Some, sym, ◌∙◌, ap, arith}
+use Rattle.std.proofs.Common.{◌≡◌, ℕ, ◌+◌, ◌-◌, ◌<◌, ◌≤◌, inl, inr, Bool, true, false, ◌==◌, if◌then◌else◌, List, [], ◌∷◌, Some, sym, ◌∙◌, ap, subst, arith}
+use native.Mathlib.Decide.{dec_lt}
 use Rattle.heap_memory.specs.declared.grant.Grant.{Grant}
 use Rattle.heap_memory.specs.Regions.{IsWordOf}
 use Rattle.heap_memory.specs.Events.{Event}
@@ -10,13 +11,14 @@ use Rattle.bins.specs.Laws.{IndexStays}
 use Rattle.dlmalloc.specs.Extents.{extent_at}
 use Rattle.dlmalloc.specs.State.{HeapState, extents_in}
 use Rattle.dlmalloc.specs.Heap.{segments_of, state_of, IsSound}
-use Rattle.dlmalloc.specs.Binned.{IsBinnedBut, IsRebinned, IsVictimAfter, FreeMoves}
+use Rattle.dlmalloc.specs.Binned.{IsFreeAt, IsBinnedBut, IsRebinned, IsVictimAfter, FreeMoves}
 use Rattle.dlmalloc.specs.Served.{IsMoved}
 use Rattle.dlmalloc.specs.declared.heap.Dlmalloc.{Dlmalloc}
 use Rattle.dlmalloc.proofs.Places.{extent}
 use Rattle.dlmalloc.proofs.Apart.{stands_there}
 use Rattle.dlmalloc.proofs.Answering.{head_there, foot_there, behind_there, from_at}
-use Rattle.dlmalloc.proofs.Unbinning.{some_size, told_stays, accounted}
+use Rattle.dlmalloc.proofs.Binned.{one_size}
+use Rattle.dlmalloc.proofs.Unbinning.{some_size, told_stays, left_none, left_free, accounted}
 use Rattle.dlmalloc.proofs.Rebinned.{binned_moved}
 
 -- where the free chunks beside a chunk begin and end, as words tell it
@@ -40,6 +42,28 @@ module _ {A : Type 0} (regions : A → List Grant) (word : A → ℕ → ℕ) (f
     where
       used_long : 0 < size
       used_long = (let s = (stands_there (regions heap.system) (word heap.system) (segments_of word heap) sound.segments (extent at size Used) there).1.size.1 in omega arith)
+
+  -- and what they are joined to was no free chunk
+  pub joined_other : IsFreeAt (state_of word heap) from (to - from) → ⊥
+  joined_other free = elim (dec_lt from at) [
+    | yes before ↦
+        let same = one_size (state_of word heap) from (to - from) (at - from) free (left_free regions word heap sound at size there from from_is before) in
+        let long = used_long in
+        let end = to_above in
+        omega (arith, before)
+    | no here ↦ left_none regions word heap sound at size there from from_is (omega (arith, here)) (to - from) free
+  ]
+    where
+      used_long : 0 < size
+      used_long = (let s = (stands_there (regions heap.system) (word heap.system) (segments_of word heap) sound.segments (extent at size Used) there).1.size.1 in omega arith)
+
+      above : (b c : Bool) (more : ℕ) → at + size ≤ (if b then at + size else if c then at + size + more else at + size)
+      above true c more = omega arith
+      above false true more = omega arith
+      above false false more = omega arith
+
+      to_above : at + size ≤ to
+      to_above = subst (λ (t : ℕ). at + size ≤ t) (sym to_is) (above (at + size == heap.top) (free_of (word heap.system (at + size + 8))) (size_of (word heap.system (at + size + 8))))
 
   -- the chunks beside it left their bins
   module _ (middle : Dlmalloc A) (left : IsRebinned regions word follows heap middle) where
@@ -70,7 +94,7 @@ module _ {A : Type 0} (regions : A → List Grant) (word : A → ℕ → ℕ) (f
     -- they were joined to it
     module _ (stays : IndexStays) (loose : IsBinnedBut ((at + size) ∷ from ∷ []) regions word middle) (joined : Dlmalloc A) (moved : IsMoved regions word follows middle joined)
         (moves : FreeMoves (state_of word middle) (state_of word joined) (from ∷ (at + size) ∷ []) (from ∷ [])) (victim : IsVictimAfter from to middle.victim joined.victim) (bins : joined.bins ≡ middle.bins) where
-      pub joined_loose : IsBinnedBut (from ∷ []) regions word joined
+      abbrev pub joined_loose : IsBinnedBut (from ∷ []) regions word joined
       joined_loose = binned_moved stays regions word middle joined left.sound moved.sound (λ k was is boundary tag tag'. moved.words k was boundary) bins
           ((at + size) ∷ from ∷ []) (from ∷ []) (from ∷ (at + size) ∷ []) (from ∷ []) moves
           (accounted regions word middle left.sound at size still_there from from_still to to_still (some_size regions word middle left.sound at (extent at size Used) still_there) joined moves victim) loose

@@ -20,6 +20,7 @@ use Rattle.dlmalloc.specs.AfterFree.{IsFreed}
 use Rattle.dlmalloc.specs.Requested.{IsServedAt}
 use Rattle.dlmalloc.specs.Written.{words_in, IsSameHeap}
 use Rattle.dlmalloc.specs.Moved.{others_at, IsInPlace}
+use Rattle.dlmalloc.specs.Order.{KeepsOrder}
 use Rattle.dlmalloc.specs.declared.heap.Dlmalloc.{Dlmalloc}
 use Rattle.dlmalloc.proofs.Places.{extent, the_extent, found, nat_is, nat_same}
 use Rattle.dlmalloc.proofs.Splitting.{differ}
@@ -84,8 +85,9 @@ other_there at (first ∷ extents) k one there = go (first.at == at) (first.at =
 pub stays_there : {A : Type 0} (regions : A → List Grant) (word : A → ℕ → ℕ) (follows : A → List Event → A → Type 0) (old new : Dlmalloc A) (ptr n held size whole : ℕ) → IsSound regions word old → (block : IsBlock (state_of word old) ptr n) → held + 8 ≤ block.extent.size → size < limit old.granularity →
     size + 8 ≤ padded size → padded size ≤ size + 32 → padded size ≤ whole → whole < padded size + 32 →
     in_place (state_of word old) (ptr - 16) (padded size) ≡ Some (state_of word new) → extent_at (ptr - 16) (extents_in (state_of word new)) ≡ Some (extent (ptr - 16) whole Used) →
-    HasSameOthers (state_of word old) (state_of word new) (ptr - 16) (ptr - 16) → IsTurned regions word follows old new → IsInPlace regions word follows old ptr held size new
-stays_there regions word follows old new ptr n held size whole sound block kept_bytes small holds near fits little state there others moved = record {
+    HasSameOthers (state_of word old) (state_of word new) (ptr - 16) (ptr - 16) → IsTurned regions word follows old new → KeepsOrder regions word old new → IsInPlace regions word follows old ptr held size new
+stays_there regions word follows old new ptr n held size whole sound block kept_bytes small holds near fits little state there others moved order = record {
+  order = order;
   small = small;
   state = state;
   block = record { extent = chunk; there = there; low = block.low; used = refl; holds = omega (arith, holds, fits); little = omega (arith, near, little) };
@@ -123,7 +125,7 @@ module _ {A : Type 0} (regions : A → List Grant) (word : A → ℕ → ℕ) (z
   first_kept : KeepsBlocks (extents_in (state_of word old)) (word old.system) (word middle.system)
   first_kept = elim served [ inl few ↦ few.1.kept | inr many ↦ many.1.kept ]
 
-  new_block : IsSound regions word middle × IsBlock (state_of word middle) address size
+  pub new_block : IsSound regions word middle × IsBlock (state_of word middle) address size
   new_block = served_block regions word zeros follows old size align address middle served
 
   place : block.extent.at ≡ ptr - 16
@@ -146,7 +148,7 @@ module _ {A : Type 0} (regions : A → List Grant) (word : A → ℕ → ℕ) (z
   few_from : min held size ≤ block.extent.size - 8
   few_from = omega (arith, fits, size_at (state_of word old) (ptr - 16) block.extent block.there)
 
-  few_to : min held size ≤ size
+  pub few_to : min held size ≤ size
   few_to = omega arith
 
   pub from_words : AreWordsOf (regions middle.system) ptr (words_in (min held size))
@@ -171,7 +173,7 @@ module _ {A : Type 0} (regions : A → List Grant) (word : A → ℕ → ℕ) (z
     pub copied_heap : IsSameHeap regions word follows middle filled
     copied_heap = same_heap regions word middle new_block.0 address size new_block.1 follows (min held size) few_to system same followed copied.elsewhere
 
-    pub copied_binned : IndexStays → IsBinned regions word middle → IsBinned regions word filled
+    abbrev pub copied_binned : IndexStays → IsBinned regions word middle → IsBinned regions word filled
     copied_binned stays = same_binned regions word middle new_block.0 address size new_block.1 stays (min held size) few_to system same copied.elsewhere
 
     pub copied_block : IsBlock (state_of word filled) ptr (block.extent.size - 8)

@@ -49,7 +49,7 @@ module _ {A : Type 0} (regions : A → List Grant) (word : A → ℕ → ℕ) (h
         go segments parts.1,
       )
 
-  keeps : KeepsRegions (segments_of word heap) (regions heap.system) (regions system)
+  pub keeps : KeepsRegions (segments_of word heap) (regions heap.system) (regions system)
   keeps = go (segments_of word heap) segments_apart
     where
       go : (segments : List Segment) → AllByRecursion (λ (segment : Segment). IsApartFrom segment (opened grant)) segments → KeepsRegions segments (regions heap.system) (regions system)
@@ -63,7 +63,7 @@ module _ {A : Type 0} (regions : A → List Grant) (word : A → ℕ → ℕ) (h
   pub granted_same : state_of word (record heap { system = system }) ≡ state_of word heap
   granted_same = still_state regions word heap sound system keeps (λ k inside there outside. words k inside)
 
-  pub granted_binned : IndexStays → IsBinned regions word heap → IsBinned regions word (record heap { system = system })
+  abbrev pub granted_binned : IndexStays → IsBinned regions word heap → IsBinned regions word (record heap { system = system })
   granted_binned = still_binned regions word heap sound system keeps (λ k inside there outside. words k inside)
 
   -- and the grant can become part of it

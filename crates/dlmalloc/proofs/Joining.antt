@@ -42,15 +42,19 @@ module _ {A : Type 0} (regions : A → List Grant) (word : A → ℕ → ℕ) (f
   }
 
 -- the bins stay, where no free extent but the top changes
-pub admitted_binned : IndexStays → {A : Type 0} (regions : A → List Grant) (word : A → ℕ → ℕ) (follows : A → List Event → A → Type 0) (heap : Dlmalloc A) (grant : Grant) (new : Dlmalloc A) → IsSound regions word heap → IsAdmitted regions word follows heap grant new →
+abbrev pub admitted_binned : IndexStays → {A : Type 0} (regions : A → List Grant) (word : A → ℕ → ℕ) (follows : A → List Event → A → Type 0) (heap : Dlmalloc A) (grant : Grant) (new : Dlmalloc A) → IsSound regions word heap → IsAdmitted regions word follows heap grant new →
     FreeMoves (state_of word heap) (state_of word new) [] [] → IsSameBins heap new → IsBinned regions word heap → IsBinned regions word new
 admitted_binned stays regions word follows heap grant new sound j free same = binned_same stays regions word heap new sound j.sound (λ k was is boundary tag tag'. j.words k was boundary tag') same.bins free same.victim
 
 -- ---- what was the top is in no bin yet
 
+-- the top is no other free extent
+pub top_not_free : {A : Type 0} (regions : A → List Grant) (word : A → ℕ → ℕ) (heap : Dlmalloc A) → IsSound regions word heap → 0 < heap.size → (size : ℕ) → IsFreeAt (state_of word heap) heap.top size → ⊥
+top_not_free regions word heap sound some size free = (let no : Free ≡ Top = ap (λ (e : Extent). e.kind) (the_extent (sym free ∙ top_among regions word heap sound some)) in cc)
+
 module _ (stays : IndexStays) {A : Type 0} (regions : A → List Grant) (word : A → ℕ → ℕ) (follows : A → List Event → A → Type 0) (heap : Dlmalloc A) (grant : Grant) (new : Dlmalloc A) (sound : IsSound regions word heap) (some : 0 < heap.size) (j : IsAdmitted regions word follows heap grant new)
     (moves : FreeMoves (state_of word heap) (state_of word new) [] (if nat_le 32 heap.top_size then heap.top ∷ [] else [])) (same : IsSameBins heap new) (b : IsBinned regions word heap) where
-  pub little_left : heap.top_size < 32 → IsBinned regions word new
+  abbrev pub little_left : heap.top_size < 32 → IsBinned regions word new
   little_left few =
       let test : nat_le 32 heap.top_size ≡ false = grind (arith, nat_tests) in
       admitted_binned stays regions word follows heap grant new sound j (subst (λ (b : Bool). FreeMoves (state_of word heap) (state_of word new) [] (if b then heap.top ∷ [] else [])) test moves) same b
@@ -72,7 +76,7 @@ module _ (stays : IndexStays) {A : Type 0} (regions : A → List Grant) (word : 
           let here : extent_at heap.victim (extents_in (state_of word heap)) ≡ Some (extent heap.top heap.top_size Top) = subst (λ (a : ℕ). extent_at a (extents_in (state_of word heap)) ≡ Some (extent heap.top heap.top_size Top)) victim top in
           (let no : Free ≡ Top = ap (λ (e : Extent). e.kind) (the_extent (sym found ∙ here)) in cc)
 
-  pub top_left : 32 ≤ heap.top_size → IsBinnedBut (heap.top ∷ []) regions word new
+  abbrev pub top_left : 32 ≤ heap.top_size → IsBinnedBut (heap.top ∷ []) regions word new
   top_left many =
       let test : nat_le 32 heap.top_size ≡ true = grind (arith, nat_tests) in
       binned_moved stays regions word heap new sound j.sound (λ k was is boundary tag tag'. j.words k was boundary tag') same.bins [] (heap.top ∷ []) [] (heap.top ∷ [])

@@ -1,5 +1,5 @@
 -- Laws of a sound heap, for the layers above it.
-use Rattle.std.proofs.Common.{◌≡◌, ◌≢◌, ℕ, ◌+◌, ◌≤◌, ◌⊎◌, List, [], ◌∷◌, Some, ap, arith}
+use Rattle.std.proofs.Common.{◌≡◌, ◌≢◌, ℕ, ◌+◌, ◌≤◌, ◌⊎◌, List, [], ◌∷◌, Some, ap, arith, refl}
 use Rattle.std.specs.List.{AllByRecursion}
 use Rattle.heap_memory.specs.declared.grant.Grant.{Grant}
 use Rattle.heap_memory.specs.Events.{Event}
@@ -51,16 +51,17 @@ module _ {A : Type 0} (regions : A → List Grant) (word : A → ℕ → ℕ) (h
       go (segment ∷ segments) = (ap (regions_in segment) same, go segments)
 
   -- a refusal leaves all as it was
-  pub as_it_was : (follows : A → List Event → A → Type 0) (refuses : A → A → Type 0) (system : A) → regions system ≡ regions heap.system → ((k : ℕ) → IsWordOf (regions heap.system) k → word system k ≡ word heap.system k) →
+  pub as_it_was : IndexStays → (follows : A → List Event → A → Type 0) (refuses : A → A → Type 0) (system : A) → regions system ≡ regions heap.system → ((k : ℕ) → IsWordOf (regions heap.system) k → word system k ≡ word heap.system k) →
       follows heap.system [] system → refuses heap.system system → IsAsItWas regions word follows refuses heap (record heap { system = system })
-  as_it_was follows refuses system same words followed denied = record {
+  as_it_was stays follows refuses system same words followed denied = record {
     followed = followed;
     refused = denied;
     state = still_state regions word heap sound system (same_regions system same) (λ k inside there apart. words k inside);
     sound = still_sound regions word heap sound system (same_regions system same) (λ k inside there apart. words k inside);
     regions_same = same;
     words = words;
+    index = λ b. (still_binned regions word heap sound system (same_regions system same) (λ k inside there apart. words k inside) stays b, λ n. refl);
   }
 
-  pub as_binned : IndexStays → (system : A) → regions system ≡ regions heap.system → ((k : ℕ) → IsWordOf (regions heap.system) k → word system k ≡ word heap.system k) → IsBinned regions word heap → IsBinned regions word (record heap { system = system })
+  abbrev pub as_binned : IndexStays → (system : A) → regions system ≡ regions heap.system → ((k : ℕ) → IsWordOf (regions heap.system) k → word system k ≡ word heap.system k) → IsBinned regions word heap → IsBinned regions word (record heap { system = system })
   as_binned stays system same words = still_binned regions word heap sound system (same_regions system same) (λ k inside there apart. words k inside) stays

@@ -103,10 +103,10 @@ module _ {A : Type 0} (regions : A → List Grant) (word : A → ℕ → ℕ) (h
   sized : 0 < c.segment.size
   sized = omega (arith, part.long)
 
-  base_is : told.base ≡ c.segment.base
+  pub base_is : told.base ≡ c.segment.base
   base_is = ap (λ (t : SegmentRecord). t.base) c.read ∙ c.records.1
 
-  size_is : told.size ≡ c.segment.size
+  pub size_is : told.size ≡ c.segment.size
   size_is = ap (λ (t : SegmentRecord). t.size) c.read ∙ c.records.2
 
   next_is : told.next ≡ words (c.payload + 16)

@@ -1,4 +1,6 @@
 mod Examples
+mod OrderExamples
+mod OneOrder
 mod ResizedExamples
 mod GrantExamples
 mod TrimExamples
@@ -72,6 +74,8 @@ pub mod Walking
 pub mod Apart
 pub mod Telling
 pub mod LinkWords
+pub mod Ordering
+pub mod PassOrder
 pub mod Rebinned
 pub mod Unbinning
 pub mod Fitting

@@ -109,7 +109,7 @@ module _ {A : Type 0} (regions : A → List Grant) (word : A → ℕ → ℕ) (h
   -- ---- and so its bins
 
   -- the words of a free chunk stay
-  chunk_stays : (size chunk k : ℕ) → IsFreeAt (state_of word heap) chunk size → chunk + 8 ≤ k → k < chunk + size → IsWordOf (regions heap.system) k → word system k ≡ word heap.system k
+  pub chunk_stays : (size chunk k : ℕ) → IsFreeAt (state_of word heap) chunk size → chunk + 8 ≤ k → k < chunk + size → IsWordOf (regions heap.system) k → word system k ≡ word heap.system k
   chunk_stays size chunk k free low high granted =
       let l = located chunk (record { at = chunk; size = size; kind = Free }) (segments_of word heap) free in
       let p = of_located (IsSegment (regions heap.system) (word heap.system)) chunk (record { at = chunk; size = size; kind = Free }) (segments_of word heap) l sound.segments in
@@ -121,7 +121,7 @@ module _ {A : Type 0} (regions : A → List Grant) (word : A → ℕ → ℕ) (h
         | inr beside ↦ elim beside [ inl before ↦ inr (omega arith) | inr behind ↦ inl (omega arith) ]
       ])
 
-  pub still_binned : IndexStays → IsBinned regions word heap → IsBinned regions word (record heap { system = system })
+  abbrev pub still_binned : IndexStays → IsBinned regions word heap → IsBinned regions word (record heap { system = system })
   still_binned stays b = record {
     index = b.index;
     linked = stays (regions heap.system) (regions system) (word heap.system) (word system) heap.bins b.index b.linked (record {

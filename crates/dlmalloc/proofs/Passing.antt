@@ -19,6 +19,9 @@ use Rattle.dlmalloc.specs.Segments.{IsSegment, AreSegments, AreRecords}
 use Rattle.dlmalloc.specs.Heap.{segments_of, state_of, AreTold, IsSound}
 use Rattle.dlmalloc.specs.Chained.{IsLinked, IsChained, HaveLeft, IsVisited}
 use Rattle.dlmalloc.specs.GivenBack.{IsPassed}
+use Rattle.dlmalloc.specs.Order.{IsReindexed, after_visit, after_visits, after_pass}
+use Rattle.dlmalloc.proofs.PassOrder.{visit_same, visits_on}
+use Rattle.dlmalloc.proofs.Rebinned.{same_bins}
 use Rattle.dlmalloc.specs.declared.heap.Dlmalloc.{Dlmalloc}
 use Rattle.dlmalloc.specs.declared.record.SegmentRecord.{SegmentRecord}
 use Rattle.dlmalloc.proofs.Moving.{standing}
@@ -138,6 +141,7 @@ pub record Passing {A : Type 0} (regions : A → List Grant) (word : A → ℕ �
   pub left : HaveLeft regions word follows (leaving frees parts done) old new
   pub bytes_are : released ≡ bytes_of (leaving frees parts done)
   pub counted : count ≡ length done
+  pub index : IsReindexed regions word (after_visits frees parts done) old new
   pub some : 0 < new.size
   pub granularity_same : new.granularity ≡ old.granularity
   pub rate_same : new.rate ≡ old.rate
@@ -167,6 +171,7 @@ module _ {A : Type 0} (regions : A → List Grant) (word : A → ℕ → ℕ) (f
           regions_are = refl;
           followed = follows_none old.system;
         };
+        index = λ b. (b, λ n. refl);
         bytes_are = refl;
         counted = refl;
         some = some;
@@ -231,7 +236,7 @@ module _ {A : Type 0} (regions : A → List Grant) (word : A → ℕ → ℕ) (f
         sum_fits = omega (arith, few_released, bounded, told_size)
 
         module _ (follows_on : (x y z : A) (a b c : List Event) → follows x a y → follows y b z → a ++ b ≡ c → follows x c z)
-            (b : Bool) (b_is : b ≡ (frees && may_leave parts ahead.segment)) (new : Dlmalloc A) (v : IsVisited regions word follows (may_leave parts ahead.segment) b now before told chained new) where
+            (b : Bool) (b_is : b ≡ (frees && may_leave parts ahead.segment)) (new : Dlmalloc A) (v : IsVisited regions word follows (may_leave parts ahead.segment) b now before told chained new) (next : IsReindexed regions word (after_visit frees parts ahead.segment) now new) where
           stay_is : remaining frees parts (p.done ++ ahead.segment ∷ []) ≡ remaining frees parts p.done ++ (if not b then ahead.segment ∷ [] else [])
           stay_is = filter-append (λ (segment : Segment). not (frees && may_leave parts segment)) p.done (ahead.segment ∷ [])
               ∙ ap (λ (t : Bool). remaining frees parts p.done ++ cond (not t) (ahead.segment ∷ []) []) (sym b_is)
@@ -283,6 +288,10 @@ module _ {A : Type 0} (regions : A → List Grant) (word : A → ℕ → ℕ) (f
                 ∙ list_any-append (λ (segment : Segment). segment.base == old.victim) (filter (may_leave parts) p.done) (filter (may_leave parts) (ahead.segment ∷ []))))));
             left = subst (λ (gone : List Segment). HaveLeft regions word follows gone old new) (sym gone_is)
                 (left_on regions word follows follows_on (leaving frees parts p.done) (if b then ahead.segment ∷ [] else []) old now new p.left v.left);
+            index = λ b.
+                let was = p.index b in
+                let is = next was.0 in
+                (is.0, λ n. is.1 n ∙ (visit_same frees parts ahead.segment was.0.index (after_visits frees parts p.done b.index) n (was.1 n) ∙ visits_on frees parts p.done ahead.segment b.index n));
             bytes_are = bytes_now b ∙ ap bytes_of (sym gone_is);
             counted = omega (arith, p.counted, length-append p.done (ahead.segment ∷ []));
             some = omega (arith, p.some, v.size_same);
@@ -327,6 +336,9 @@ module _ {A : Type 0} (regions : A → List Grant) (word : A → ℕ → ℕ) (f
         sound = countdown_sound regions word now p.left.sound countdown;
         used = record { still = p.left.used.still; before = p.left.used.before };
         kept = blocks_left regions word follows (leaving frees parts p.done) old now sound p.left;
+        index = λ b.
+            let was = p.index b in
+            (same_bins regions word now countdown was.0, λ n. was.1 n ∙ sym (ap (λ (segments : List Segment). after_pass frees parts segments b.index n) was_all));
         words = p.left.words;
         regions_are = p.left.regions_are ∙ ap (λ (gone : List Segment). regions_without gone (regions old.system)) gone_are;
         followed = subst (λ (gone : List Segment). follows old.system (releases gone) now.system) gone_are p.left.followed;

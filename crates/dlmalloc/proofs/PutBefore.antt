@@ -104,7 +104,7 @@ module _ {A : Type 0} (regions : A → List Grant) (word : A → ℕ → ℕ) (f
     was = λ at size free out. (was_free at size free, λ none. none);
   }
 
-  prepended_tags : OnlyTagsChange (regions old.system) (state_of word middle) (word old.system) (word middle.system)
+  pub prepended_tags : OnlyTagsChange (regions old.system) (state_of word middle) (word old.system) (word middle.system)
   prepended_tags k inside boundary tag = elim (dec_lt k grant.base) [
     | yes below ↦ first.words k inside (inl below) tag
     | no low ↦ elim (dec_lt k (grant.base + grant.size)) [
@@ -116,7 +116,7 @@ module _ {A : Type 0} (regions : A → List Grant) (word : A → ℕ → ℕ) (f
   ]
 
   -- the bins stay
-  pub prepended_binned : IndexStays → IsSound regions word old → IsSameBins old middle → IsBinned regions word old → IsBinned regions word middle
+  abbrev pub prepended_binned : IndexStays → IsSound regions word old → IsSameBins old middle → IsBinned regions word old → IsBinned regions word middle
   prepended_binned stays sound same = binned_same stays regions word old middle sound first.sound (λ k was is boundary tag tag'. prepended_tags k was boundary tag') same.bins prepended_free same.victim
 
 module _ {A : Type 0} (regions : A → List Grant) (word : A → ℕ → ℕ) (follows : A → List Event → A → Type 0) (old middle new : Dlmalloc A) (grant : Grant) (n : ℕ) (least : 32 ≤ n) (first : IsPrepended regions word follows old grant n middle)

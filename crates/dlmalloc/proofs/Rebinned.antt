@@ -66,7 +66,7 @@ module _ {A : Type 0} (regions : A → List Grant) (word : A → ℕ → ℕ) (h
     }
 
     -- it went into its bin
-    pub now_binned : (system : A) (bins : Bins) → IsLinked (regions system) (word system) bins (with_chunk size at b.index) → state_of word (record heap { system = system; bins = bins }) ≡ state_of word heap →
+    abbrev pub now_binned : (system : A) (bins : Bins) → IsLinked (regions system) (word system) bins (with_chunk size at b.index) → state_of word (record heap { system = system; bins = bins }) ≡ state_of word heap →
         at ≢ heap.victim → (IsIn at loose → ⊥) → IsBinnedBut loose regions word (record heap { system = system; bins = bins })
     now_binned system bins linked same other apart = record {
       index = with_chunk size at b.index;
@@ -83,7 +83,7 @@ module _ {A : Type 0} (regions : A → List Grant) (word : A → ℕ → ℕ) (h
     is_binned other apart = b.holds.all at size free other apart
 
     -- it left it
-    pub now_loose : (system : A) (bins : Bins) → IsLinked (regions system) (word system) bins (without_chunk size at b.index) → state_of word (record heap { system = system; bins = bins }) ≡ state_of word heap →
+    abbrev pub now_loose : (system : A) (bins : Bins) → IsLinked (regions system) (word system) bins (without_chunk size at b.index) → state_of word (record heap { system = system; bins = bins }) ≡ state_of word heap →
         IsBinnedBut (at ∷ loose) regions word (record heap { system = system; bins = bins })
     now_loose system bins linked same = record {
       index = without_chunk size at b.index;
@@ -95,15 +95,19 @@ module _ {A : Type 0} (regions : A → List Grant) (word : A → ℕ → ℕ) (h
     links_unlink new links = only_free (regions heap.system) (word heap.system) (state_of word heap) b.index size at (word heap.system) new b.linked.chunks b.holds.free free (is_chunk regions word heap sound at size free).long links
 
     -- the victim is in none
-    pub victim_loose : at ≡ heap.victim → IsBinnedBut (at ∷ loose) regions word heap
+    abbrev pub victim_loose : at ≡ heap.victim → IsBinnedBut (at ∷ loose) regions word heap
     victim_loose is = record { index = b.index; linked = b.linked; holds = looser loose (state_of word heap) b.index at b.holds (λ n there. b.holds.no_victim at n there is) }
 
 -- an address where no chunk is free needs be in no bin, and may be named so
-pub none_loose : {A : Type 0} (regions : A → List Grant) (word : A → ℕ → ℕ) (heap : Dlmalloc A) (at : ℕ) (loose : List ℕ) → IsBinnedBut loose regions word heap → ((n : ℕ) → IsFreeAt (state_of word heap) at n → ⊥) → IsBinnedBut (at ∷ loose) regions word heap
+abbrev pub none_loose : {A : Type 0} (regions : A → List Grant) (word : A → ℕ → ℕ) (heap : Dlmalloc A) (at : ℕ) (loose : List ℕ) → IsBinnedBut loose regions word heap → ((n : ℕ) → IsFreeAt (state_of word heap) at n → ⊥) → IsBinnedBut (at ∷ loose) regions word heap
 none_loose regions word heap at loose b none = record { index = b.index; linked = b.linked; holds = looser loose (state_of word heap) b.index at b.holds (λ n is. none n (b.holds.free at n is)) }
 
-pub none_binned : {A : Type 0} (regions : A → List Grant) (word : A → ℕ → ℕ) (heap : Dlmalloc A) (at : ℕ) (loose : List ℕ) → IsBinnedBut (at ∷ loose) regions word heap → ((n : ℕ) → IsFreeAt (state_of word heap) at n → at ≡ heap.victim) → IsBinnedBut loose regions word heap
+abbrev pub none_binned : {A : Type 0} (regions : A → List Grant) (word : A → ℕ → ℕ) (heap : Dlmalloc A) (at : ℕ) (loose : List ℕ) → IsBinnedBut (at ∷ loose) regions word heap → ((n : ℕ) → IsFreeAt (state_of word heap) at n → at ≡ heap.victim) → IsBinnedBut loose regions word heap
 none_binned regions word heap at loose b none = record { index = b.index; linked = b.linked; holds = tighter loose (state_of word heap) b.index at b.holds none }
+
+-- the address that is in no bin has another name
+abbrev pub renamed : {A : Type 0} (regions : A → List Grant) (word : A → ℕ → ℕ) (heap : Dlmalloc A) (at other : ℕ) → at ≡ other → IsBinnedBut (at ∷ []) regions word heap → IsBinnedBut (other ∷ []) regions word heap
+renamed regions word heap at other same b = record { index = b.index; linked = b.linked; holds = subst (λ (k : ℕ). HoldsBut (k ∷ []) (state_of word heap) b.index) same b.holds }
 
 -- nothing is done
 pub not_rebinned : {A : Type 0} (regions : A → List Grant) (word : A → ℕ → ℕ) (follows : A → List Event → A → Type 0) (heap : Dlmalloc A) → IsSound regions word heap → follows heap.system [] heap.system → IsRebinned regions word follows heap heap
@@ -111,7 +115,7 @@ not_rebinned regions word follows heap sound followed = record { sound = sound; 
 
 -- ---- the heap moves
 
-pub binned_moved : IndexStays → {A : Type 0} (regions : A → List Grant) (word : A → ℕ → ℕ) (old new : Dlmalloc A) → IsSound regions word old → IsSound regions word new → OthersStay regions word old new → new.bins ≡ old.bins →
+abbrev pub binned_moved : IndexStays → {A : Type 0} (regions : A → List Grant) (word : A → ℕ → ℕ) (old new : Dlmalloc A) → IsSound regions word old → IsSound regions word new → OthersStay regions word old new → new.bins ≡ old.bins →
     (loose loose' less more : List ℕ) → FreeMoves (state_of word old) (state_of word new) less more → AreAccounted (state_of word old) (state_of word new) loose loose' less more →
     IsBinnedBut loose regions word old → IsBinnedBut loose' regions word new
 binned_moved stays regions word old new sound sound' others same loose loose' less more moves are b = record {
@@ -123,7 +127,7 @@ binned_moved stays regions word old new sound sound' others same loose loose' le
 }
 
 -- the bins stay, where no free extent but the top changes, and the victim stays
-pub binned_same : IndexStays → {A : Type 0} (regions : A → List Grant) (word : A → ℕ → ℕ) (old new : Dlmalloc A) → IsSound regions word old → IsSound regions word new → OthersStay regions word old new → new.bins ≡ old.bins →
+abbrev pub binned_same : IndexStays → {A : Type 0} (regions : A → List Grant) (word : A → ℕ → ℕ) (old new : Dlmalloc A) → IsSound regions word old → IsSound regions word new → OthersStay regions word old new → new.bins ≡ old.bins →
     FreeMoves (state_of word old) (state_of word new) [] [] → new.victim ≡ old.victim → IsBinned regions word old → IsBinned regions word new
 binned_same stays regions word old new sound sound' others same moves victim b = binned_moved stays regions word old new sound sound' others same [] [] [] [] moves (record {
   gone = λ k none n free other. none;
@@ -133,6 +137,13 @@ binned_same stays regions word old new sound sound' others same moves victim b =
 }) b
 
 -- so they do where the heap moved with no region more
-pub binned_beside : IndexStays → {A : Type 0} (regions : A → List Grant) (word : A → ℕ → ℕ) (follows : A → List Event → A → Type 0) (old new : Dlmalloc A) → IsSound regions word old → IsMoved regions word follows old new → new.bins ≡ old.bins →
+abbrev pub binned_beside : IndexStays → {A : Type 0} (regions : A → List Grant) (word : A → ℕ → ℕ) (follows : A → List Event → A → Type 0) (old new : Dlmalloc A) → IsSound regions word old → IsMoved regions word follows old new → new.bins ≡ old.bins →
     FreeMoves (state_of word old) (state_of word new) [] [] → new.victim ≡ old.victim → IsBinned regions word old → IsBinned regions word new
 binned_beside stays regions word follows old new sound moved = binned_same stays regions word old new sound moved.sound (λ k was is boundary tag tag'. moved.words k was boundary)
+
+-- the countdown and the trim check do not matter
+abbrev pub same_bins : {A : Type 0} (regions : A → List Grant) (word : A → ℕ → ℕ) (heap : Dlmalloc A) (countdown : ℕ) → IsBinned regions word heap → IsBinned regions word (record heap { countdown = countdown })
+same_bins regions word heap countdown b = record { index = b.index; linked = b.linked; holds = record { all = b.holds.all; free = b.holds.free; no_victim = b.holds.no_victim; not_loose = b.holds.not_loose } }
+
+abbrev pub same_check : {A : Type 0} (regions : A → List Grant) (word : A → ℕ → ℕ) (heap : Dlmalloc A) (check : ℕ) → IsBinned regions word heap → IsBinned regions word (record heap { trim_check = check })
+same_check regions word heap check b = record { index = b.index; linked = b.linked; holds = record { all = b.holds.all; free = b.holds.free; no_victim = b.holds.no_victim; not_loose = b.holds.not_loose } }

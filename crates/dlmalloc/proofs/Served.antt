@@ -16,6 +16,7 @@ use Rattle.dlmalloc.specs.Taken.{taken}
 use Rattle.dlmalloc.specs.Heap.{state_of, IsSound}
 use Rattle.dlmalloc.specs.Grown.{IsGrown}
 use Rattle.dlmalloc.specs.Served.{IsBehindTop, IsObtained, IsMoved, IsCutOut, IsServed, IsTurned}
+use Rattle.dlmalloc.specs.Order.{KeepsOrder}
 use Rattle.dlmalloc.specs.declared.heap.Dlmalloc.{Dlmalloc}
 use Rattle.dlmalloc.proofs.Places.{extent, nat_is, the_extent}
 use Rattle.dlmalloc.proofs.BlocksLaw.{blocks_law, blocks_law_tags}
@@ -141,8 +142,8 @@ module _ {A : Type 0} (regions : A → List Grant) (word : A → ℕ → ℕ) (z
 
 -- so a block is handed out
 pub served : {A : Type 0} (regions : A → List Grant) (word : A → ℕ → ℕ) (zeros : A → Bool) (follows : A → List Event → A → Type 0) (old new : Dlmalloc A) (size n at : ℕ) → n ≡ padded size → size + 8 ≤ n → n ≤ size + 32 → size < limit old.granularity →
-    IsCutOut regions word zeros follows old n at new → IsServed regions word zeros follows old size (at + 16) new
-served regions word zeros follows old new size n at is holds near small cut =
+    IsCutOut regions word zeros follows old n at new → KeepsOrder regions word old new → IsServed regions word zeros follows old size (at + 16) new
+served regions word zeros follows old new size n at is holds near small cut order =
     let back : at ≡ at + 16 - 16 = omega arith in
     let placed = block_placed regions word new cut.sound (at + 16) size (cut.holds size holds near) in
     record {
@@ -159,4 +160,5 @@ served regions word zeros follows old new size n at is holds near small cut =
       own = cut.own;
       new_words = cut.new_words;
       sound = cut.sound;
+      order = order;
     }

@@ -12,6 +12,7 @@ use Rattle.dlmalloc.specs.Extents.{extent_at}
 use Rattle.dlmalloc.specs.State.{is_top as is_the_top}
 use Rattle.dlmalloc.specs.Released.{IsFreeAround, counted, left_by_count, releases, regions_without}
 use Rattle.dlmalloc.specs.GivenBack.{IsCounted}
+use Rattle.dlmalloc.specs.Order.{after_count, after_trim}
 use Rattle.dlmalloc.specs.Trimmed.{trimmed, trim_releases, regions_trimmed}
 use Rattle.dlmalloc.specs.Shortened.{IsTrimmed}
 use Rattle.dlmalloc.specs.AfterFree.{is_top_with, is_above_check, IsSettled}
@@ -140,6 +141,7 @@ module _ {A : Type 0} (regions : A → List Grant) (word : A → ℕ → ℕ) (f
     used = c.used;
     kept = c.kept;
     words = λ k inside free own out. c.words k inside free out;
+    index = λ b. (let a = c.index b in (a.0, λ n. a.1 n ∙ sym (ap (λ (t : Bool). (if t then after_trim frees parts 0 (state_of word old) b.index else after_count frees parts (state_of word old) at b.index) n) none)));
     regions_are = c.regions_are ∙ sym (ap (λ (b : Bool). if b then regions_trimmed frees parts unit 0 (state_of word old) (regions old.system) else regions_without (left_by_count frees parts (state_of word old) at) (regions old.system)) none);
     followed = subst (λ (events : List Event). follows old.system events new.system)
         (sym (ap (λ (b : Bool). if b then trim_releases frees parts unit 0 (state_of word old) else releases (left_by_count frees parts (state_of word old) at)) none)) c.followed;
@@ -152,6 +154,7 @@ module _ {A : Type 0} (regions : A → List Grant) (word : A → ℕ → ℕ) (f
     used = t.used;
     kept = t.kept;
     words = t.words;
+    index = λ b. (let a = t.index b in (a.0, λ n. a.1 n ∙ sym (ap (λ (t : Bool). (if t then after_trim frees parts 0 (state_of word old) b.index else after_count frees parts (state_of word old) at b.index) n) above)));
     regions_are = t.regions_are ∙ sym (ap (λ (b : Bool). if b then regions_trimmed frees parts unit 0 (state_of word old) (regions old.system) else regions_without (left_by_count frees parts (state_of word old) at) (regions old.system)) above);
     followed = subst (λ (events : List Event). follows old.system events new.system)
         (sym (ap (λ (b : Bool). if b then trim_releases frees parts unit 0 (state_of word old) else releases (left_by_count frees parts (state_of word old) at)) above)) t.followed;

@@ -16,7 +16,9 @@ use Rattle.dlmalloc.specs.declared.heap.Dlmalloc.{Dlmalloc}
 use Rattle.dlmalloc.proofs.Places.{extent, nat_is}
 use Rattle.dlmalloc.proofs.Choosing.{free_low}
 use Rattle.dlmalloc.proofs.Binned.{AreAccounted}
+use Rattle.dlmalloc.specs.Order.{KeepsOrder, AreInOrder}
 use Rattle.dlmalloc.proofs.Rebinned.{binned_moved}
+use Rattle.dlmalloc.proofs.Ordering.{order_same}
 
 -- The chunk at an address gave way, and left `more` free, or nothing.
 module _ {A : Type 0} (regions : A → List Grant) (word : A → ℕ → ℕ) (old new : Dlmalloc A) (sound : IsSound regions word old) (at : ℕ) (more : List ℕ) (moves : FreeMoves (state_of word old) (state_of word new) (at ∷ []) more) where
@@ -78,21 +80,21 @@ none_free_at_zero regions word heap sound n free = (let low = free_low regions w
 -- The free chunk at an address gave way. A rest at another address stays free, if there is one.
 module _ (stays : IndexStays) {A : Type 0} (regions : A → List Grant) (word : A → ℕ → ℕ) (follows : A → List Event → A → Type 0) (old new : Dlmalloc A) (sound : IsSound regions word old) (moved : IsMoved regions word follows old new) (bins : new.bins ≡ old.bins)
     (at rest : ℕ) where
-  on : (loose loose' less more : List ℕ) → FreeMoves (state_of word old) (state_of word new) less more → AreAccounted (state_of word old) (state_of word new) loose loose' less more → IsBinnedBut loose regions word old → IsBinnedBut loose' regions word new
+  abbrev on : (loose loose' less more : List ℕ) → FreeMoves (state_of word old) (state_of word new) less more → AreAccounted (state_of word old) (state_of word new) loose loose' less more → IsBinnedBut loose regions word old → IsBinnedBut loose' regions word new
   on = binned_moved stays regions word old new sound moved.sound (λ k was is boundary tag tag'. moved.words k was boundary) bins
 
   -- the rest is the victim
-  pub victim_rest : FreeMoves (state_of word old) (state_of word new) (at ∷ []) (rest ∷ []) → at ≡ old.victim → new.victim ≡ rest → IsBinned regions word old → IsBinned regions word new
+  abbrev pub victim_rest : FreeMoves (state_of word old) (state_of word new) (at ∷ []) (rest ∷ []) → at ≡ old.victim → new.victim ≡ rest → IsBinned regions word old → IsBinned regions word new
   victim_rest moves was now = on [] [] (at ∷ []) (rest ∷ []) moves (victim_cut regions word old new sound at (rest ∷ []) moves was (inl (inl now)) (λ k there. elim there [ inl same ↦ same ∙ sym now | inr none ↦ absurd none ]))
 
-  pub victim_gone : FreeMoves (state_of word old) (state_of word new) (at ∷ []) [] → at ≡ old.victim → new.victim ≡ 0 → IsBinned regions word old → IsBinned regions word new
+  abbrev pub victim_gone : FreeMoves (state_of word old) (state_of word new) (at ∷ []) [] → at ≡ old.victim → new.victim ≡ 0 → IsBinned regions word old → IsBinned regions word new
   victim_gone moves was now = on [] [] (at ∷ []) [] moves (victim_cut regions word old new sound at [] moves was (inr now) (λ k none. absurd none))
 
   -- the victim stays
-  pub binned_gone : FreeMoves (state_of word old) (state_of word new) (at ∷ []) [] → new.victim ≡ old.victim → IsBinnedBut (at ∷ []) regions word old → IsBinned regions word new
+  abbrev pub binned_gone : FreeMoves (state_of word old) (state_of word new) (at ∷ []) [] → new.victim ≡ old.victim → IsBinnedBut (at ∷ []) regions word old → IsBinned regions word new
   binned_gone moves same = on (at ∷ []) [] (at ∷ []) [] moves (victim_stays regions word old new sound at [] moves same)
 
-  pub binned_rest : FreeMoves (state_of word old) (state_of word new) (at ∷ []) (rest ∷ []) → new.victim ≡ old.victim → IsBinnedBut (at ∷ []) regions word old → IsBinnedBut (rest ∷ []) regions word new
+  abbrev pub binned_rest : FreeMoves (state_of word old) (state_of word new) (at ∷ []) (rest ∷ []) → new.victim ≡ old.victim → IsBinnedBut (at ∷ []) regions word old → IsBinnedBut (rest ∷ []) regions word new
   binned_rest moves same = on (at ∷ []) (rest ∷ []) (at ∷ []) (rest ∷ []) moves (victim_stays regions word old new sound at (rest ∷ []) moves same)
 
   pub rest_no_victim : FreeMoves (state_of word old) (state_of word new) (at ∷ []) (rest ∷ []) → at ≢ old.victim → new.victim ≡ old.victim → 0 < rest → rest ≢ new.victim
@@ -104,7 +106,7 @@ module _ (stays : IndexStays) {A : Type 0} (regions : A → List Grant) (word : 
           (sound.victim (λ none. (let t : (old.victim_size == 0) ≡ true = (let e = none in grind (arith, nat_tests)) in cc))) other (is ∙ same)
 
   -- the rest became the victim
-  pub small_rest : FreeMoves (state_of word old) (state_of word new) (at ∷ []) (rest ∷ []) → new.victim ≡ rest → IsBinnedBut (at ∷ []) regions word old → IsBinnedBut (old.victim ∷ []) regions word new
+  abbrev pub small_rest : FreeMoves (state_of word old) (state_of word new) (at ∷ []) (rest ∷ []) → new.victim ≡ rest → IsBinnedBut (at ∷ []) regions word old → IsBinnedBut (old.victim ∷ []) regions word new
   small_rest moves now = on (at ∷ []) (old.victim ∷ []) (at ∷ []) (rest ∷ []) moves (rest_victim regions word old new sound at (rest ∷ []) moves rest refl now)
 
   pub old_victim_other : FreeMoves (state_of word old) (state_of word new) (at ∷ []) (rest ∷ []) → at ≢ old.victim → new.victim ≡ rest → old.victim_size ≢ 0 → old.victim ≢ new.victim
@@ -156,22 +158,28 @@ module _ (heap : HeapState) (at size n : ℕ) where
 module _ (stays : IndexStays) {A : Type 0} (regions : A → List Grant) (word : A → ℕ → ℕ) (follows : A → List Event → A → Type 0) (old new : Dlmalloc A) (sound : IsSound regions word old) (at size n : ℕ)
     (moved : IsMoved regions word follows old new) (state : state_of word new ≡ taken (state_of word old) (extent at size Free) n)
     (moves : FreeMoves (state_of word old) (state_of word new) (at ∷ []) (if nat_le (n + 32) size then (at + n) ∷ [] else [])) (bins : new.bins ≡ old.bins) where
-  victim_is : new.victim ≡ victim_after (state_of word old) n (extent at size Free)
+  pub victim_is : new.victim ≡ victim_after (state_of word old) n (extent at size Free)
   victim_is = ap (λ (s : HeapState). s.victim) state
 
   -- of the victim
-  pub victim_taken : at ≡ old.victim → IsBinned regions word old → IsBinned regions word new
+  pub victim_taken : at ≡ old.victim → KeepsOrder regions word old new
   victim_taken is b = go (nat_le (n + 32) size) refl
     where
-      go : (t : Bool) → nat_le (n + 32) size ≡ t → IsBinned regions word new
-      go true test = victim_rest stays regions word follows old new sound moved bins at (at + n) (moves_rest (state_of word old) (state_of word new) at (at + n) n size moves (grind (arith, nat_tests))) is
-          (victim_is ∙ (victim_of_victim (state_of word old) at size n is ∙ rw test refl)) b
-      go false test = victim_gone stays regions word follows old new sound moved bins at (at + n) (moves_whole (state_of word old) (state_of word new) at (at + n) n size moves (grind (arith, nat_tests))) is
-          (victim_is ∙ (victim_of_victim (state_of word old) at size n is ∙ rw test refl)) b
+      go : (t : Bool) → nat_le (n + 32) size ≡ t → (after : IsBinned regions word new) × AreInOrder b.index after.index
+      go true test = (
+        victim_rest stays regions word follows old new sound moved bins at (at + n) (moves_rest (state_of word old) (state_of word new) at (at + n) n size moves (grind (arith, nat_tests))) is
+            (victim_is ∙ (victim_of_victim (state_of word old) at size n is ∙ rw test refl)) b,
+        order_same b.index,
+      )
+      go false test = (
+        victim_gone stays regions word follows old new sound moved bins at (at + n) (moves_whole (state_of word old) (state_of word new) at (at + n) n size moves (grind (arith, nat_tests))) is
+            (victim_is ∙ (victim_of_victim (state_of word old) at size n is ∙ rw test refl)) b,
+        order_same b.index,
+      )
 
   module _ (other : at ≢ old.victim) where
     -- of another, with no rest
-    pub whole_taken : IsBinnedBut (at ∷ []) regions word old → size < n + 32 → IsBinned regions word new
+    abbrev pub whole_taken : IsBinnedBut (at ∷ []) regions word old → size < n + 32 → IsBinned regions word new
     whole_taken loose little = binned_gone stays regions word follows old new sound moved bins at (at + n) (moves_whole (state_of word old) (state_of word new) at (at + n) n size moves little)
         (victim_is ∙ victim_of_whole (state_of word old) at size n other little) loose
 
@@ -179,15 +187,19 @@ module _ (stays : IndexStays) {A : Type 0} (regions : A → List Grant) (word : 
       abbrev parts : FreeMoves (state_of word old) (state_of word new) (at ∷ []) ((at + n) ∷ [])
       parts = moves_rest (state_of word old) (state_of word new) at (at + n) n size moves room
 
+      -- what came was no free chunk
+      pub rest_came : (m : ℕ) → IsFreeAt (state_of word old) (at + n) m → 0 < n → ⊥
+      rest_came m free some = (parts.stays (at + n) m free (λ is. elim is [ inl same ↦ (let e = same in omega arith) | inr none ↦ none ])).1 (inl refl)
+
       -- with a rest that is the victim
-      pub small_taken : n < 256 → IsBinnedBut (at ∷ []) regions word old → IsBinnedBut (old.victim ∷ []) regions word new
+      abbrev pub small_taken : n < 256 → IsBinnedBut (at ∷ []) regions word old → IsBinnedBut (old.victim ∷ []) regions word new
       small_taken small = small_rest stays regions word follows old new sound moved bins at (at + n) parts (victim_is ∙ victim_of_small (state_of word old) at size n other room small)
 
       pub small_other : n < 256 → old.victim_size ≢ 0 → old.victim ≢ new.victim
       small_other small = old_victim_other stays regions word follows old new sound moved bins at (at + n) parts other (victim_is ∙ victim_of_small (state_of word old) at size n other room small)
 
       -- with a rest that is not
-      pub large_taken : 256 ≤ n → IsBinnedBut (at ∷ []) regions word old → IsBinnedBut ((at + n) ∷ []) regions word new
+      abbrev pub large_taken : 256 ≤ n → IsBinnedBut (at ∷ []) regions word old → IsBinnedBut ((at + n) ∷ []) regions word new
       large_taken many = binned_rest stays regions word follows old new sound moved bins at (at + n) parts (victim_is ∙ victim_of_large (state_of word old) at size n other room many)
 
       pub large_other : 256 ≤ n → at + n ≢ new.victim
@@ -202,25 +214,29 @@ module _ (stays : IndexStays) {A : Type 0} (regions : A → List Grant) (word : 
   victim_grown = ap (λ (s : HeapState). s.victim) state
 
   -- of the victim
-  pub into_victim : at + size ≡ old.victim → IsBinned regions word old → IsBinned regions word new
+  pub into_victim : at + size ≡ old.victim → (b : IsBinned regions word old) → (after : IsBinned regions word new) × ((k : ℕ) → after.index k ≡ b.index k)
   into_victim is b = go (nat_le (n + 32) (size + free)) refl
     where
       mine : (at + size == old.victim) ≡ true
       mine = (let e = is in grind (arith, nat_tests))
 
-      go : (t : Bool) → nat_le (n + 32) (size + free) ≡ t → IsBinned regions word new
-      go true test = victim_rest stays regions word follows old new sound moved bins (at + size) (at + n) (moves_rest (state_of word old) (state_of word new) (at + size) (at + n) n (size + free) moves (grind (arith, nat_tests))) is (victim_grown ∙ rw (mine, test) refl) b
-      go false test = victim_gone stays regions word follows old new sound moved bins (at + size) (at + n) (moves_whole (state_of word old) (state_of word new) (at + size) (at + n) n (size + free) moves (grind (arith, nat_tests))) is (victim_grown ∙ rw (mine, test) refl) b
+      go : (t : Bool) → nat_le (n + 32) (size + free) ≡ t → (after : IsBinned regions word new) × ((k : ℕ) → after.index k ≡ b.index k)
+      go true test = (victim_rest stays regions word follows old new sound moved bins (at + size) (at + n) (moves_rest (state_of word old) (state_of word new) (at + size) (at + n) n (size + free) moves (grind (arith, nat_tests))) is (victim_grown ∙ rw (mine, test) refl) b, λ k. refl)
+      go false test = (victim_gone stays regions word follows old new sound moved bins (at + size) (at + n) (moves_whole (state_of word old) (state_of word new) (at + size) (at + n) n (size + free) moves (grind (arith, nat_tests))) is (victim_grown ∙ rw (mine, test) refl) b, λ k. refl)
 
   module _ (other : at + size ≢ old.victim) where
-    same_victim : new.victim ≡ old.victim
+    pub same_victim : new.victim ≡ old.victim
     same_victim = (let test : (at + size == old.victim) ≡ false = (let o = other in grind (arith, nat_tests)) in victim_grown ∙ rw test refl)
 
-    pub into_whole : IsBinnedBut ((at + size) ∷ []) regions word old → size + free < n + 32 → IsBinned regions word new
+    abbrev pub into_whole : IsBinnedBut ((at + size) ∷ []) regions word old → size + free < n + 32 → IsBinned regions word new
     into_whole loose little = binned_gone stays regions word follows old new sound moved bins (at + size) (at + n) (moves_whole (state_of word old) (state_of word new) (at + size) (at + n) n (size + free) moves little) same_victim loose
 
-    pub into_part : IsBinnedBut ((at + size) ∷ []) regions word old → n + 32 ≤ size + free → IsBinnedBut ((at + n) ∷ []) regions word new
+    abbrev pub into_part : IsBinnedBut ((at + size) ∷ []) regions word old → n + 32 ≤ size + free → IsBinnedBut ((at + n) ∷ []) regions word new
     into_part loose room = binned_rest stays regions word follows old new sound moved bins (at + size) (at + n) (moves_rest (state_of word old) (state_of word new) (at + size) (at + n) n (size + free) moves room) same_victim loose
 
     pub part_other : n + 32 ≤ size + free → 0 < n → at + n ≢ new.victim
     part_other room some = rest_no_victim stays regions word follows old new sound moved bins (at + size) (at + n) (moves_rest (state_of word old) (state_of word new) (at + size) (at + n) n (size + free) moves room) other same_victim (omega arith)
+
+    -- what came was no free chunk
+    pub part_came : n + 32 ≤ size + free → size < n → (m : ℕ) → IsFreeAt (state_of word old) (at + n) m → ⊥
+    part_came room more m is_free = ((moves_rest (state_of word old) (state_of word new) (at + size) (at + n) n (size + free) moves room).stays (at + n) m is_free (λ is. elim is [ inl same ↦ (let e = same in omega arith) | inr none ↦ none ])).1 (inl refl)

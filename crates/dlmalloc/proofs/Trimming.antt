@@ -63,7 +63,7 @@ all_kept regions word heap sound = record {
 }
 
 -- and its bins
-pub binned_but_top : IndexStays → {A : Type 0} (regions : A → List Grant) (word : A → ℕ → ℕ) (old new : Dlmalloc A) → IsSound regions word old → KeepsAllButTop regions word old new → 0 < new.size → IsBinned regions word old → IsBinned regions word new
+abbrev pub binned_but_top : IndexStays → {A : Type 0} (regions : A → List Grant) (word : A → ℕ → ℕ) (old new : Dlmalloc A) → IsSound regions word old → KeepsAllButTop regions word old new → 0 < new.size → IsBinned regions word old → IsBinned regions word new
 binned_but_top stays regions word old new sound keeps some = binned_same stays regions word old new sound keeps.sound
     (λ k was is boundary tag tag'. (let tags = head_tags regions word new keeps.sound some k boundary in keeps.words k is tags.0 tags.1)) keeps.bins_same keeps.free keeps.victim_same
 

@@ -15,6 +15,9 @@ use Rattle.dlmalloc.specs.State.{HeapState, Segment, extents_in}
 use Rattle.dlmalloc.specs.Blocks.{KeepsBlocks}
 use Rattle.dlmalloc.specs.Released.{handed_out, staying, may_leave, taken_back, releases, regions_without, bytes_of, passed}
 use Rattle.dlmalloc.specs.GivenBack.{IsPassed}
+use Rattle.dlmalloc.specs.Order.{after_pass, after_trim, IsReindexed}
+use Rattle.dlmalloc.proofs.PassOrder.{pass_same}
+use Rattle.dlmalloc.proofs.Rebinned.{same_check}
 use Rattle.dlmalloc.specs.Trimmed.{is_cut, cut_of, cut_top, after_cut, given_up, is_trimmed, gives_back, cut_off, regions_cut}
 use Rattle.dlmalloc.specs.Shortened.{IsCutBack, IsTrimmed}
 use Rattle.dlmalloc.specs.Segments.{IsSegment, AreSegments}
@@ -89,12 +92,27 @@ module _ {A : Type 0} (word : A → ℕ → ℕ) (heap : Dlmalloc A) (pad : ℕ)
     used = record { still = λ used is there. there; before = λ used is there. there };
     kept = record { words = λ block there used k low high m. refl; heads = λ block there used. refl };
     words = λ k inside was own recorded. refl;
+    index = λ b. (b, λ n. sym (ap (λ (t : Bool). (if t then after_pass frees parts (segments_of word heap) b.index else b.index) n) isnt));
     regions_are = sym (ap (λ (b : Bool). if b then regions_without (taken_back frees (handed_out parts (segments_of word heap))) (regions_cut parts unit pad (state_of word heap) (regions heap.system)) else regions heap.system) isnt);
     followed = subst (λ (es : List Event). follows heap.system es heap.system)
         (sym (ap (λ (b : Bool). if b then cut_off parts unit pad (state_of word heap) ++ releases (taken_back frees (handed_out parts (segments_of word heap))) else []) isnt)) none;
   }
 
--- a cut changes the head segment alone, which is not handed out
+-- a cut changes the head segment alone, which a pass does not visit
+pass_cut : {A : Type 0} (word : A → ℕ → ℕ) (heap : Dlmalloc A) (frees parts : Bool) (unit pad : ℕ) (index : ℕ → List ℕ) (n : ℕ) →
+    after_pass frees parts (after_cut parts unit pad (state_of word heap)).segments index n ≡ after_pass frees parts (segments_of word heap) index n
+pass_cut word heap frees parts unit pad index n = go (is_cut parts unit pad (state_of word heap))
+  where
+    cut : (less : ℕ) (segments : List Segment) →
+        after_pass frees parts (cut_top less (record { segments = segments; victim = heap.victim; granularity = heap.granularity; rate = heap.rate; countdown = heap.countdown; trim_check = heap.trim_check })).segments index n ≡ after_pass frees parts segments index n
+    cut less [] = refl
+    cut less (head ∷ rest) = refl
+
+    go : (b : Bool) → after_pass frees parts (if b then cut_top (cut_of (state_of word heap) pad) (state_of word heap) else state_of word heap).segments index n ≡ after_pass frees parts (segments_of word heap) index n
+    go true = cut (cut_of (state_of word heap) pad) (segments_of word heap)
+    go false = refl
+
+-- nor hands it out
 module _ {A : Type 0} (word : A → ℕ → ℕ) (heap : Dlmalloc A) (parts : Bool) (unit pad : ℕ) where
   handed_cut : handed_out parts (after_cut parts unit pad (state_of word heap)).segments ≡ handed_out parts (segments_of word heap)
   handed_cut = go (is_cut parts unit pad (state_of word heap))
@@ -141,7 +159,8 @@ module _ {A : Type 0} (regions : A → List Grant) (word : A → ℕ → ℕ) (f
 
   module _ (check : ℕ) (gives : Bool) (answer_is : gives ≡ gives_back frees parts unit pad (state_of word old)) (sound : IsSound regions word (record after { trim_check = check }))
       (state : state_of word (record after { trim_check = check }) ≡ (if gives then state_of word after else given_up (state_of word after)))
-      (followed : follows old.system (cut_off parts unit pad (state_of word old) ++ releases (taken_back frees (handed_out parts (segments_of word middle)))) after.system) where
+      (followed : follows old.system (cut_off parts unit pad (state_of word old) ++ releases (taken_back frees (handed_out parts (segments_of word middle)))) after.system)
+      (index : IsReindexed regions word (after_trim frees parts pad (state_of word old)) old (record after { trim_check = check })) where
     pub is_done : IsTrimmed regions word follows frees parts unit old pad gives (record after { trim_check = check })
     is_done = record {
       answer_is = answer_is ∙ sym (ap (λ (b : Bool). b && gives_back frees parts unit pad (state_of word old)) made);
@@ -159,6 +178,7 @@ module _ {A : Type 0} (regions : A → List Grant) (word : A → ℕ → ℕ) (f
           ∙ cut.stays.words k (inside_middle k inside)
           (λ is. own (inl (record { extent = extent middle.top middle.top_size Top; there = top_found; is = inl is })))
           (λ is. own (inl (record { extent = extent (middle.top + middle.top_size) 80 Foot; there = foot_found; is = inl is })));
+      index = index;
       regions_are = pass.regions_are ∙ ((λ i. regions_without (taken_back frees (handed_same i)) (cut.regions_are i))
           ∙ sym (ap (λ (b : Bool). if b then regions_without (taken_back frees (handed_out parts (segments_of word old))) (regions_cut parts unit pad (state_of word old) (regions old.system)) else regions old.system) made));
       followed = subst (λ (es : List Event). follows old.system es after.system)
@@ -206,7 +226,7 @@ module _ {A : Type 0} (regions : A → List Grant) (word : A → ℕ → ℕ) (f
     (pad : ℕ) (old middle after : Dlmalloc A) (some_old : 0 < old.size) (small : pad < limit old.granularity)
     (cut : IsCutBack regions word follows (parts old.system) (unit old.system) old pad middle) (some : 0 < middle.size) (bytes : ℕ)
     (given : IsPassed regions word follows (frees middle.system) (parts middle.system) middle bytes after)
-    (is_cut_off : Bool) (is : is_cut_off ≡ is_cut (parts old.system) (unit old.system) pad (state_of word old)) where
+    (is_cut_off : Bool) (is : is_cut_off ≡ is_cut (parts old.system) (unit old.system) pad (state_of word old)) (kept : IsReindexed regions word (λ index. index) old middle) where
   same : IsFixed zeros frees parts unit old.system middle.system
   same = fixed old.system middle.system (cut_off (parts old.system) (unit old.system) pad (state_of word old)) cut.followed
 
@@ -223,9 +243,22 @@ module _ {A : Type 0} (regions : A → List Grant) (word : A → ℕ → ℕ) (f
   given_back : (is_cut_off || nat_lt 0 bytes) ≡ gives_back (frees old.system) (parts old.system) (unit old.system) pad (state_of word old)
   given_back = answer regions word follows (frees old.system) (parts old.system) (unit old.system) pad old middle after (is_made word old pad small some_old) cut some bytes pass is_cut_off is
 
+  -- what the pass makes of the index
+  index_now : IsReindexed regions word (after_trim (frees old.system) (parts old.system) pad (state_of word old)) old after
+  index_now b =
+      let was = kept b in
+      let a = pass.index was.0 in (
+        a.0,
+        λ n. a.1 n
+            ∙ (ap (λ (segments : List Segment). after_pass (frees old.system) (parts old.system) segments was.0.index n) (ap (λ (s : HeapState). s.segments) cut.state)
+            ∙ (pass_cut word old (frees old.system) (parts old.system) (unit old.system) pad was.0.index n
+            ∙ (pass_same (frees old.system) (parts old.system) (segments_of word old) was.0.index b.index was.1 n
+            ∙ sym (ap (λ (t : Bool). (if t then after_pass (frees old.system) (parts old.system) (segments_of word old) b.index else b.index) n) (is_made word old pad small some_old))))),
+      )
+
   pub trim_gave : (is_cut_off || nat_lt 0 bytes) ≡ true → IsTrimmed regions word follows (frees old.system) (parts old.system) (unit old.system) old pad true after
   trim_gave was = is_done regions word follows (frees old.system) (parts old.system) (unit old.system) pad old middle after (is_made word old pad small some_old) cut some bytes pass
-      after.trim_check true (sym was ∙ given_back) pass.sound refl joined
+      after.trim_check true (sym was ∙ given_back) pass.sound refl joined index_now
 
   after_some : 0 < after.size
   after_some = go (after.size == 0) refl
@@ -242,3 +275,4 @@ module _ {A : Type 0} (regions : A → List Grant) (word : A → ℕ → ℕ) (f
   trim_gave_up isnt = is_done regions word follows (frees old.system) (parts old.system) (unit old.system) pad old middle after (is_made word old pad small some_old) cut some bytes pass
       (if nat_lt after.trim_check after.top_size then 2 ^ 64 - 1 else after.trim_check) false (sym isnt ∙ given_back)
       (checked_sound regions word after pass.sound (if nat_lt after.trim_check after.top_size then 2 ^ 64 - 1 else after.trim_check)) (gave_up regions word after pass.sound after_some) joined
+      (λ b. (let a = index_now b in (same_check regions word after (if nat_lt after.trim_check after.top_size then 2 ^ 64 - 1 else after.trim_check) a.0, a.1)))

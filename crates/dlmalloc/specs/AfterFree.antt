@@ -13,6 +13,8 @@ use Rattle.dlmalloc.specs.Freed.{freed}
 use Rattle.dlmalloc.specs.Released.{releases, regions_without, counted, left_by_count}
 use Rattle.dlmalloc.specs.Trimmed.{trimmed, trim_releases, regions_trimmed}
 use Rattle.dlmalloc.specs.Grown.{HasSameUsed}
+use Rattle.dlmalloc.specs.Binned.{HoldsBinned, IsBinned}
+use Rattle.dlmalloc.specs.Order.{AreInOrder, after_count, after_trim, IsReindexed}
 use Rattle.dlmalloc.specs.Heap.{state_of, IsSound}
 use Rattle.dlmalloc.specs.declared.heap.Dlmalloc.{Dlmalloc}
 
@@ -36,6 +38,16 @@ abbrev pub regions_after : Bool → Bool → ℕ → HeapState → ℕ → List 
 regions_after frees parts unit heap at regions =
     if is_above_check heap at then regions_trimmed frees parts unit 0 heap regions else regions_without (left_by_count frees parts heap at) regions
 
+-- and the index after it
+abbrev pub index_after : Bool → Bool → HeapState → ℕ → (ℕ → List ℕ) → ℕ → List ℕ
+index_after frees parts heap at index = if is_above_check heap at then after_trim frees parts 0 heap index else after_count frees parts heap at index
+
+-- The bins keep their order as a block's chunk is freed, and then what a free does further is done of them.
+abbrev pub FreesInOrder : {A : Type 0} → (A → List Grant) → (A → ℕ → ℕ) → Bool → Bool → Dlmalloc A → ℕ → Dlmalloc A → Type 0
+FreesInOrder regions word frees parts old address new = (before : IsBinned regions word old) →
+    (middle : ℕ → List ℕ) × HoldsBinned (freed (state_of word old) (address - 16)) middle × AreInOrder before.index middle
+    × ((after : IsBinned regions word new) × ((n : ℕ) → after.index n ≡ index_after frees parts (freed (state_of word old) (address - 16)) (address - 16) middle n))
+
 -- A free did what it does further, of the chunk at an address. The extents in use are the same, and blocks have their bytes.
 pub record IsSettled {A : Type 0} (regions : A → List Grant) (word : A → ℕ → ℕ) (follows : A → List Event → A → Type 0) (frees parts : Bool) (unit : ℕ) (old : Dlmalloc A) (at : ℕ) (new : Dlmalloc A) : Type 0 where
   pub state : state_of word new ≡ after_free frees parts unit (state_of word old) at
@@ -45,6 +57,7 @@ pub record IsSettled {A : Type 0} (regions : A → List Grant) (word : A → ℕ
   pub words : (k : ℕ) → IsWordOf (regions new.system) k → (IsInFree (state_of word old) k → ⊥) → (IsOwn (state_of word new) k → ⊥) → (IsInRecord (state_of word old) k → ⊥) → word new.system k ≡ word old.system k
   pub regions_are : regions new.system ≡ regions_after frees parts unit (state_of word old) at (regions old.system)
   pub followed : follows old.system (free_releases frees parts unit (state_of word old) at) new.system
+  pub index : IsReindexed regions word (index_after frees parts (state_of word old) at) old new
 
 -- An address is in the head segment, and of the extents that are in use there none is behind it.
 pub record IsBehindUsed {A : Type 0} (heap : Dlmalloc A) (left : HeapState) (at : ℕ) : Type 0 where
@@ -66,3 +79,4 @@ pub record IsFreed {A : Type 0} (regions : A → List Grant) (word : A → ℕ �
   pub head : ((new.base ≡ old.base) × (new.size ≡ old.size)) ⊎ IsBehindUsed old (state_of word new) (address - 16)
   pub regions_are : regions new.system ≡ regions_after frees parts unit (freed (state_of word old) (address - 16)) (address - 16) (regions old.system)
   pub followed : follows old.system (free_releases frees parts unit (freed (state_of word old) (address - 16)) (address - 16)) new.system
+  pub order : FreesInOrder regions word frees parts old address new

@@ -8,6 +8,7 @@ use Rattle.dlmalloc.specs.Blocks.{KeepsBlocks}
 use Rattle.dlmalloc.specs.Boundaries.{IsInFree, IsInRecord}
 use Rattle.dlmalloc.specs.Released.{handed_out, taken_back, releases, regions_without, bytes_of, passed, counted, left_by_count}
 use Rattle.dlmalloc.specs.Grown.{HasSameUsed}
+use Rattle.dlmalloc.specs.Order.{after_pass, after_count, IsReindexed}
 use Rattle.dlmalloc.specs.Heap.{segments_of, state_of, IsSound}
 use Rattle.dlmalloc.specs.declared.heap.Dlmalloc.{Dlmalloc}
 use Rattle.dlmalloc.specs.declared.record.SegmentRecord.{SegmentRecord}
@@ -23,6 +24,7 @@ pub record IsPassed {A : Type 0} (regions : A → List Grant) (word : A → ℕ 
   pub words : (k : ℕ) → IsWordOf (regions new.system) k → (IsInFree (state_of word old) k → ⊥) → (IsInRecord (state_of word old) k → ⊥) → word new.system k ≡ word old.system k
   pub regions_are : regions new.system ≡ regions_without (taken_back frees (handed_out parts (segments_of word old))) (regions old.system)
   pub followed : follows old.system (releases (taken_back frees (handed_out parts (segments_of word old)))) new.system
+  pub index : IsReindexed regions word (after_pass frees parts (segments_of word old)) old new
 
 -- A freed chunk was counted, and where the countdown ended, a release pass was made.
 pub record IsCounted {A : Type 0} (regions : A → List Grant) (word : A → ℕ → ℕ) (follows : A → List Event → A → Type 0) (frees parts : Bool) (old : Dlmalloc A) (at : ℕ) (new : Dlmalloc A) : Type 0 where
@@ -33,6 +35,7 @@ pub record IsCounted {A : Type 0} (regions : A → List Grant) (word : A → ℕ
   pub words : (k : ℕ) → IsWordOf (regions new.system) k → (IsInFree (state_of word old) k → ⊥) → (IsInRecord (state_of word old) k → ⊥) → word new.system k ≡ word old.system k
   pub regions_are : regions new.system ≡ regions_without (left_by_count frees parts (state_of word old) at) (regions old.system)
   pub followed : follows old.system (releases (left_by_count frees parts (state_of word old) at)) new.system
+  pub index : IsReindexed regions word (after_count frees parts (state_of word old) at) old new
 
 -- Segments went back to the system, so many bytes in all. All words that are granted still are as they were.
 pub record AreGivenBack {A : Type 0} (regions : A → List Grant) (word : A → ℕ → ℕ) (follows : A → List Event → A → Type 0) (segments : List Segment) (old : A) (bytes : ℕ) (new : A) : Type 0 where

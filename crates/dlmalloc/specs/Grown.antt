@@ -15,6 +15,7 @@ use Rattle.dlmalloc.specs.Freed.{freed}
 use Rattle.dlmalloc.specs.Blocks.{HasOneMore}
 use Rattle.dlmalloc.specs.Segments.{IsRun, IsApartFrom}
 use Rattle.dlmalloc.specs.Heap.{state_of, IsSound}
+use Rattle.dlmalloc.specs.Order.{KeepsIndex}
 use Rattle.dlmalloc.specs.declared.heap.Dlmalloc.{Dlmalloc}
 
 -- A grant is a region that no segment has.
@@ -117,3 +118,4 @@ pub record IsAsItWas {A : Type 0} (regions : A → List Grant) (word : A → ℕ
   pub sound : IsSound regions word new
   pub regions_same : regions new.system ≡ regions old.system
   pub words : (k : ℕ) → IsWordOf (regions old.system) k → word new.system k ≡ word old.system k
+  pub index : KeepsIndex regions word old new

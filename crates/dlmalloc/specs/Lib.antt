@@ -13,6 +13,7 @@ pub mod Moves
 pub mod Walk
 pub mod Heap
 pub mod Binned
+pub mod Order
 pub mod Blocks
 pub mod Boundaries
 pub mod Prepended

@@ -15,6 +15,7 @@ use Rattle.dlmalloc.specs.Served.{IsTurned}
 use Rattle.dlmalloc.specs.AfterFree.{IsFreed}
 use Rattle.dlmalloc.specs.Requested.{asked, IsFound, IsServedAt}
 use Rattle.dlmalloc.specs.Written.{words_in, IsSameHeap}
+use Rattle.dlmalloc.specs.Order.{KeepsIndex, KeepsOrder}
 use Rattle.dlmalloc.specs.declared.heap.Dlmalloc.{Dlmalloc}
 
 -- the extents but for those at an address
@@ -31,6 +32,7 @@ pub record IsInPlace {A : Type 0} (regions : A → List Grant) (word : A → ℕ
   pub contents : (k : ℕ) → k < min old_size size → k % 8 ≡ 0 → word new.system (address + k) ≡ word old.system (address + k)
   pub kept : KeepsBlocks (others_at (address - 16) (extents_in (state_of word old))) (word old.system) (word new.system)
   pub moved : IsTurned regions word follows old new
+  pub order : KeepsOrder regions word old new
 
 -- A block was handed out elsewhere, the first `held` bytes of the old one or the size asked for, whichever is less, were
 -- copied by whole words, and the old one was freed. So it has those bytes, and every other block keeps its own.
@@ -40,6 +42,7 @@ pub record IsElsewhere {A : Type 0} (regions : A → List Grant) (word : A → �
   pub filled : Dlmalloc A
   pub copied : AreCopied (regions middle.system) (word middle.system) from address (words_in (min held size)) (word filled.system)
   pub same : IsSameHeap regions word follows middle filled
+  pub index : KeepsIndex regions word middle filled
   pub freed : IsFreed regions word follows frees parts unit filled from new
   pub block : IsBlock (state_of word new) address size
   pub contents : (k : ℕ) → k < min held size → k % 8 ≡ 0 → word new.system (address + k) ≡ word old.system (from + k)

@@ -13,6 +13,7 @@ use Rattle.dlmalloc.specs.Boundaries.{IsOwn}
 use Rattle.dlmalloc.specs.Binned.{IsMember}
 use Rattle.dlmalloc.specs.Heap.{state_of, IsSound}
 use Rattle.dlmalloc.specs.Served.{IsServed}
+use Rattle.dlmalloc.specs.Order.{KeepsOrderThrough}
 use Rattle.dlmalloc.specs.declared.heap.Dlmalloc.{Dlmalloc}
 
 -- what is asked of the heap for n bytes at an alignment: above 16 the enlarged form
@@ -44,6 +45,7 @@ pub record IsServedAligned {A : Type 0} (regions : A → List Grant) (word : A �
   pub sound : IsSound regions word new
   pub regions_same : regions new.system ≡ regions middle.system
   pub followed : follows middle.system [] new.system
+  pub order : KeepsOrderThrough regions word (lead_freed (state_of word middle) (greater - 16) (address - 16)) middle new
 
 -- A block of so many bytes at a multiple of an alignment was handed out at an address.
 abbrev pub IsServedAt : {A : Type 0} → (A → List Grant) → (A → ℕ → ℕ) → (A → Bool) → (A → List Event → A → Type 0) → Dlmalloc A → ℕ → ℕ → ℕ → Dlmalloc A → Type 0

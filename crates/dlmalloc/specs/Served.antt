@@ -21,6 +21,7 @@ use Rattle.dlmalloc.specs.Freed.{freed}
 use Rattle.dlmalloc.specs.Blocks.{IsBlock, HasOneMore, IsFull, KeepsBlocks}
 use Rattle.dlmalloc.specs.Boundaries.{OnlyBoundariesChange, OnlyOwnChange, OnlyOwnOrTagsChange, NewWordsAreZero}
 use Rattle.dlmalloc.specs.Binned.{IsBinned}
+use Rattle.dlmalloc.specs.Order.{KeepsOrder, KeepsIndex}
 use Rattle.dlmalloc.specs.Heap.{state_of, IsSound}
 use Rattle.dlmalloc.specs.Grown.{IsAsItWas}
 use Rattle.dlmalloc.specs.declared.heap.Dlmalloc.{Dlmalloc}
@@ -120,6 +121,7 @@ pub record IsServed {A : Type 0} (regions : A → List Grant) (word : A → ℕ 
   pub own : regions new.system ≡ regions old.system → OnlyOwnChange (regions old.system) (state_of word old) (state_of word new) (word old.system) (word new.system)
   pub new_words : zeros old.system ≡ true → NewWordsAreZero (regions old.system) (regions new.system) (state_of word new) (word new.system)
   pub sound : IsSound regions word new
+  pub order : KeepsOrder regions word old new
 
 -- A block of so many bytes was refused, and all is as it was.
 pub record IsRefusedWith {A : Type 0} (regions : A → List Grant) (word : A → ℕ → ℕ) (follows : A → List Event → A → Type 0) (refuses : A → A → Type 0) (denies : A → ℕ → GrantFault → Type 0) (old : Dlmalloc A) (size : ℕ) (error : MallocError) (new : Dlmalloc A) : Type 0 where
@@ -135,6 +137,7 @@ pub record IsDisposed {A : Type 0} (regions : A → List Grant) (word : A → �
   pub sound : IsSound regions word new
   pub regions_same : regions new.system ≡ regions old.system
   pub followed : follows old.system [] new.system
+  pub order : KeepsOrder regions word old new
 
 -- Of some extents, one segment's behind another's, the first of each segment begins where a segment does, and the last ends
 -- where one does. `begins` says whether the first of them is the first of a segment.
@@ -177,3 +180,9 @@ RestsOutside {A} regions word heap = IsSound regions word heap → (system : A) 
     OnlyBlocksChange (regions heap.system) (state_of word heap) (word heap.system) (word system) →
     IsSound regions word (record heap { system = system }) × (state_of word (record heap { system = system }) ≡ state_of word heap)
     × (IsBinned regions word heap → IsBinned regions word (record heap { system = system }))
+
+-- And so does the order of the bins: with such a system they have the chunks that they had, each size in its order.
+abbrev pub OrderRestsOutside : {A : Type 0} → (A → List Grant) → (A → ℕ → ℕ) → Dlmalloc A → Type 0
+OrderRestsOutside {A} regions word heap = IsSound regions word heap → (system : A) → KeepsRegions (state_of word heap).segments (regions heap.system) (regions system) →
+    OnlyBlocksChange (regions heap.system) (state_of word heap) (word heap.system) (word system) →
+    KeepsIndex regions word heap (record heap { system = system })

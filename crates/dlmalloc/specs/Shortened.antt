@@ -12,6 +12,7 @@ use Rattle.dlmalloc.specs.Blocks.{KeepsBlocks}
 use Rattle.dlmalloc.specs.Boundaries.{IsInFree, IsOwn, IsInRecord}
 use Rattle.dlmalloc.specs.Trimmed.{cut_top, after_cut, cut_off, regions_cut, is_trimmed, gives_back, trimmed, trim_releases, regions_trimmed}
 use Rattle.dlmalloc.specs.Grown.{HasSameUsed}
+use Rattle.dlmalloc.specs.Order.{after_trim, IsReindexed}
 use Rattle.dlmalloc.specs.Binned.{FreeMoves}
 use Rattle.dlmalloc.specs.Heap.{state_of, IsSound}
 use Rattle.dlmalloc.specs.declared.heap.Dlmalloc.{Dlmalloc}
@@ -53,3 +54,4 @@ pub record IsTrimmed {A : Type 0} (regions : A → List Grant) (word : A → ℕ
   pub words : (k : ℕ) → IsWordOf (regions new.system) k → (IsInFree (state_of word old) k → ⊥) → (IsOwn (state_of word new) k → ⊥) → (IsInRecord (state_of word old) k → ⊥) → word new.system k ≡ word old.system k
   pub regions_are : regions new.system ≡ regions_trimmed frees parts unit pad (state_of word old) (regions old.system)
   pub followed : follows old.system (trim_releases frees parts unit pad (state_of word old)) new.system
+  pub index : IsReindexed regions word (after_trim frees parts pad (state_of word old)) old new

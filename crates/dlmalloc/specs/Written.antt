@@ -6,6 +6,7 @@ use Rattle.heap_memory.specs.Words.{AreFilled}
 use Rattle.dlmalloc_chunks.specs.Request.{round_up}
 use Rattle.dlmalloc.specs.Heap.{state_of, IsSound}
 use Rattle.dlmalloc.specs.Requested.{IsServedAt, IsHandedOut}
+use Rattle.dlmalloc.specs.Order.{KeepsIndex}
 use Rattle.dlmalloc.specs.declared.heap.Dlmalloc.{Dlmalloc}
 
 -- the words that hold n bytes
@@ -26,3 +27,4 @@ pub record IsServedCleared {A : Type 0} (regions : A â†’ List Grant) (word : A â
   pub handed : IsHandedOut regions word follows old size align address middle
   pub cleared : AreFilled (regions middle.system) (word middle.system) address (words_in size) 0 (word new.system)
   pub same : IsSameHeap regions word follows middle new
+  pub index : KeepsIndex regions word middle new

@@ -1,7 +1,8 @@
 // Free chunks in bins.
 ghost use Rattle.std.specs.Prelude.{◌≡◌, ◌≢◌, ℕ, ◌+◌, ◌-◌, ◌<◌, ◌≤◌, List, ◌∷◌};
-ghost use Rattle.bins.specs.Index.{IsIn};
+ghost use Rattle.bins.specs.Index.{IsIn, with_chunk, without_chunk};
 ghost use Rattle.dlmalloc.specs.Binned.{IsFreeAt, IsBinnedBut, IsRebinned};
+ghost use Rattle.dlmalloc.specs.Order.{IsLessened, IsAdded};
 ghost use Rattle.dlmalloc.specs.Heap.{state_of, IsSound};
 
 use crate::heap::Dlmalloc;
@@ -16,7 +17,7 @@ impl<A: Allocator> Dlmalloc<A> {
         requires free { IsFreeAt (state_of A.word self.old) at size }
         requires other { at ≢ self.old.victim }
         requires loose { (loose : List ℕ) × IsBinnedBut (at ∷ loose) A.regions A.word self.old }
-        ensures binned { (loose : List ℕ) → IsBinnedBut (at ∷ loose) A.regions A.word self.old → (IsIn at loose → ⊥) → IsBinnedBut loose A.regions A.word self.new }
+        ensures binned { (loose : List ℕ) → (before : IsBinnedBut (at ∷ loose) A.regions A.word self.old) → (IsIn at loose → ⊥) → (after : IsBinnedBut loose A.regions A.word self.new) × ((n : ℕ) → after.index n ≡ with_chunk size at before.index n) }
         ensures same { IsRebinned A.regions A.word A.follows self.old self.new }
         ensures counted { steps.new ≤ steps.old + 129 }
     {
@@ -28,7 +29,7 @@ impl<A: Allocator> Dlmalloc<A> {
         requires sound { IsSound A.regions A.word self.old }
         requires free { IsFreeAt (state_of A.word self.old) at size }
         requires binned { (loose : List ℕ) × IsBinnedBut loose A.regions A.word self.old × (IsIn at loose → ⊥) }
-        ensures loose { (loose : List ℕ) → IsBinnedBut loose A.regions A.word self.old → (IsIn at loose → ⊥) → IsBinnedBut (at ∷ loose) A.regions A.word self.new }
+        ensures loose { (loose : List ℕ) → (before : IsBinnedBut loose A.regions A.word self.old) → (IsIn at loose → ⊥) → (after : IsBinnedBut (at ∷ loose) A.regions A.word self.new) × ((n : ℕ) → after.index n ≡ without_chunk size at before.index n) }
         ensures same { IsRebinned A.regions A.word A.follows self.old self.new }
         ensures counted { steps.new ≤ steps.old + 196 }
     {
@@ -44,7 +45,7 @@ impl<A: Allocator> Dlmalloc<A> {
         requires free { from < to → IsFreeAt (state_of A.word self.old) from (to - from) }
         requires none { to ≤ from → (size : ℕ) → IsFreeAt (state_of A.word self.old) from size → ⊥ }
         requires binned { (loose : List ℕ) × IsBinnedBut loose A.regions A.word self.old × (IsIn from loose → ⊥) }
-        ensures loose { (loose : List ℕ) → IsBinnedBut loose A.regions A.word self.old → (IsIn from loose → ⊥) → IsBinnedBut (from ∷ loose) A.regions A.word self.new }
+        ensures loose { (loose : List ℕ) → (before : IsBinnedBut loose A.regions A.word self.old) → (IsIn from loose → ⊥) → (after : IsBinnedBut (from ∷ loose) A.regions A.word self.new) × IsLessened before.index after.index }
         ensures same { IsRebinned A.regions A.word A.follows self.old self.new }
         ensures counted { steps.new ≤ steps.old + 196 }
     {
@@ -60,7 +61,7 @@ impl<A: Allocator> Dlmalloc<A> {
         requires none { size ≡ 0 → (n : ℕ) → IsFreeAt (state_of A.word self.old) at n → ⊥ }
         requires other { size ≢ 0 → at ≢ self.old.victim }
         requires loose { (loose : List ℕ) × IsBinnedBut (at ∷ loose) A.regions A.word self.old }
-        ensures binned { (loose : List ℕ) → IsBinnedBut (at ∷ loose) A.regions A.word self.old → (IsIn at loose → ⊥) → IsBinnedBut loose A.regions A.word self.new }
+        ensures binned { (loose : List ℕ) → (before : IsBinnedBut (at ∷ loose) A.regions A.word self.old) → (IsIn at loose → ⊥) → (after : IsBinnedBut loose A.regions A.word self.new) × IsAdded size at before.index after.index }
         ensures same { IsRebinned A.regions A.word A.follows self.old self.new }
         ensures counted { steps.new ≤ steps.old + 129 }
     {

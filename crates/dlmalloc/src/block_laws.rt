@@ -3,7 +3,7 @@ ghost use Rattle.std.specs.List.{AllByRecursion};
 ghost use Rattle.dlmalloc.specs.Blocks.{ArePlaced, BlocksAreApart};
 ghost use Rattle.dlmalloc.specs.FreeExtents.{AreParted, IsUnused, EachHasOneFree};
 ghost use Rattle.dlmalloc.specs.Heap.{state_of, IsSound};
-ghost use Rattle.dlmalloc.specs.Served.{RestsOutside};
+ghost use Rattle.dlmalloc.specs.Served.{RestsOutside, OrderRestsOutside};
 
 use crate::heap::Dlmalloc;
 use bins::laws::index_stays;
@@ -27,6 +27,14 @@ impl<A: Allocator> Dlmalloc<A> {
     /// `allocator_mut` leaves it sound, in its state and with its bins linked where it leaves these (own).
     pub fn rests_outside(&self)
         ensures { RestsOutside A.regions A.word self.now }
+    {
+        index_stays();
+    }
+
+    /// So the order of the bins rests on them: what leaves these leaves the chunks of each size as they are, in their
+    /// order (own).
+    pub fn order_rests_outside(&self)
+        ensures { OrderRestsOutside A.regions A.word self.now }
     {
         index_stays();
     }

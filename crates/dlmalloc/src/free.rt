@@ -13,6 +13,7 @@ ghost use Rattle.dlmalloc.specs.Heap.{state_of, IsSound};
 ghost use Rattle.dlmalloc.specs.Served.{IsMoved, IsTurned, IsDisposed};
 ghost use Rattle.dlmalloc.specs.Binned.{IsBinned, IsBinnedBut, IsRebinned, IsJoint, IsVictimAfter, FreeMoves};
 ghost use Rattle.dlmalloc.specs.AfterFree.{IsFreed};
+ghost use Rattle.dlmalloc.specs.Order.{KeepsOrder, IsAdded};
 
 use crate::heap::Dlmalloc;
 use crate::layout::{BLOCK, HEAD, PINUSE};
@@ -84,6 +85,7 @@ impl<A: Allocator> Dlmalloc<A> {
         ensures around { IsFreeAround (state_of A.word self.new) at result }
         ensures moved { IsTurned A.regions A.word A.follows self.old self.new }
         ensures linked { IsBinned A.regions A.word self.new }
+        ensures order { KeepsOrder A.regions A.word self.old self.new }
         ensures counted { steps.new ≤ steps.old + 529 }
     {
         let from = self.free_begin(at, steps);
@@ -139,7 +141,7 @@ impl<A: Allocator> Dlmalloc<A> {
         requires ordered { from ≤ to }
         requires joined { IsJoint (state_of A.word self.old) self.old.top from (to - from) }
         requires loose { IsBinnedBut (from ∷ []) A.regions A.word self.old }
-        ensures linked { IsBinned A.regions A.word self.new }
+        ensures binned { (before : IsBinnedBut (from ∷ []) A.regions A.word self.old) → (after : IsBinned A.regions A.word self.new) × IsAdded (to - from) from before.index after.index }
         ensures same { IsRebinned A.regions A.word A.follows self.old self.new }
         ensures counted { steps.new ≤ steps.old + 129 }
     {

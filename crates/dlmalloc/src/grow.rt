@@ -10,6 +10,7 @@ ghost use Rattle.dlmalloc.specs.Choice.{chosen};
 ghost use Rattle.dlmalloc.specs.Served.{IsCutOut};
 ghost use Rattle.dlmalloc.specs.Heap.{state_of, segments_of, IsSound, IsGranularity};
 ghost use Rattle.dlmalloc.specs.Grown.{IsFresh, IsJoined, IsAdmitted, IsGrown, IsAsItWas};
+ghost use Rattle.dlmalloc.specs.Order.{KeepsOrder};
 ghost use Rattle.dlmalloc.specs.Binned.{IsFreeAt, IsBinned, IsSameBins, FreeMoves};
 
 use crate::heap::{Dlmalloc, countdown_from};
@@ -53,6 +54,7 @@ impl<A: Allocator> Dlmalloc<A> {
         ensures err { OnErr result (IsAsItWas A.regions A.word A.follows A.refuses self.old self.new) }
         ensures denied { IfErr result (λ fault. fault ≢ GrantFault.OutOfMemory → A.denies self.old.system (round_up (n + 96) self.old.granularity) fault) }
         ensures linked { IsBinned A.regions A.word self.new }
+        ensures order { KeepsOrder A.regions A.word self.old self.new }
     {
         let asked = self.asked(n);
         index_stays();
@@ -77,6 +79,7 @@ impl<A: Allocator> Dlmalloc<A> {
         requires apart { is_put_before grant.now (segments_of A.word self.old) ≡ false }
         ensures joined { IsJoined A.regions A.word A.follows self.old grant.now self.new }
         ensures linked { IsBinned A.regions A.word self.new }
+        ensures order { KeepsOrder A.regions A.word self.old self.new }
     {
         index_stays();
         if self.size == 0 {
@@ -137,6 +140,7 @@ impl<A: Allocator> Dlmalloc<A> {
         requires beside { is_behind grant.now (record { base = self.old.base; size = self.old.size; flags = self.old.flags; extents = [] }) ≡ false }
         ensures joined { IsJoined A.regions A.word A.follows self.old grant.now self.new }
         ensures linked { IsBinned A.regions A.word self.new }
+        ensures order { KeepsOrder A.regions A.word self.old self.new }
     {
         let top = self.top;
         let top_size = self.top_size;

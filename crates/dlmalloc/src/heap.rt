@@ -1,6 +1,7 @@
 ghost use Rattle.std.specs.Prelude.{◌≡◌, ◌↔◌, ◌≢◌, ℕ, ◌+◌, ◌≤◌, if◌then◌else◌, IsTrue};
 ghost use Rattle.dlmalloc.specs.State.{new_heap, countdown_from};
 ghost use Rattle.dlmalloc.specs.Heap.{state_of, IsSound, IsGranularity};
+ghost use Rattle.dlmalloc.specs.Order.{KeepsIndex};
 ghost use Rattle.dlmalloc.specs.Binned.{IsBinned};
 
 use bins::Bins;
@@ -87,6 +88,7 @@ impl<A: Allocator> Dlmalloc<A> {
         ensures system { self.new.system ≡ self.old.system }
         ensures sound { IsSound A.regions A.word self.old → IsSound A.regions A.word self.new }
         ensures linked { IsBinned A.regions A.word self.old → IsBinned A.regions A.word self.new }
+        ensures index { KeepsIndex A.regions A.word self.old self.new }
     {
         self.rate = rate;
         self.countdown = countdown_from(rate);
@@ -114,6 +116,7 @@ impl<A: Allocator> Dlmalloc<A> {
         ensures system { self.new.system ≡ self.old.system }
         ensures sound { IsSound A.regions A.word self.old → IsSound A.regions A.word self.new }
         ensures linked { IsBinned A.regions A.word self.old → IsBinned A.regions A.word self.new }
+        ensures index { KeepsIndex A.regions A.word self.old self.new }
     {
         let accepted = is_granularity(granularity);
         if accepted {

@@ -15,6 +15,7 @@ mod listing;
 mod malloc;
 mod malloc_error;
 mod memalign;
+pub mod order_laws;
 mod prepend;
 mod realloc;
 mod record;

@@ -5,6 +5,7 @@ ghost use Rattle.dlmalloc.specs.Choice.{chosen};
 ghost use Rattle.dlmalloc.specs.Heap.{state_of, IsSound};
 ghost use Rattle.dlmalloc.specs.Grown.{IsAsItWas};
 ghost use Rattle.dlmalloc.specs.Requested.{asked, IsServedAt, IsHandedOut, IsMemberServed};
+ghost use Rattle.dlmalloc.specs.Order.{KeepsOrder};
 ghost use Rattle.dlmalloc.specs.Binned.{IsBinned, IsMemberChosen};
 ghost use Rattle.dlmalloc_chunks.specs.Request.{padded};
 ghost use Rattle.dlmalloc.specs.Served.{IsDenied, IsCutOut, IsServed, IsRefusedWith};
@@ -81,6 +82,7 @@ impl<A: Allocator> Dlmalloc<A> {
         ensures refused { IfErr result (λ error. IsRefusedWith A.regions A.word A.follows A.refuses A.denies self.old size error self.new) }
         ensures sound { IsSound A.regions A.word self.new }
         ensures linked { IsBinned A.regions A.word self.new }
+        ensures order { KeepsOrder A.regions A.word self.old self.new }
         ensures member { IfOk result (λ address. IsMemberChosen A.regions A.word self.old (padded size) (address - 16)) }
         ensures counted { chosen (state_of A.word self.old) (padded size) ≢ None → steps.new ≤ steps.old + 1024 }
     {
@@ -104,6 +106,7 @@ impl<A: Allocator> Dlmalloc<A> {
         ensures denied { IfErr result (λ fault. IsDenied A.denies self.old.system (state_of A.word self.old) n fault) }
         ensures err { OnErr result (IsAsItWas A.regions A.word A.follows A.refuses self.old self.new) }
         ensures linked { IsBinned A.regions A.word self.new }
+        ensures order { KeepsOrder A.regions A.word self.old self.new }
         ensures member { IfOk result (λ at. IsMemberChosen A.regions A.word self.old n at) }
         ensures counted { chosen (state_of A.word self.old) n ≢ None → steps.new ≤ steps.old + 1024 }
     {
@@ -135,6 +138,7 @@ impl<A: Allocator> Dlmalloc<A> {
         ensures denied { IfErr result (λ fault. IsDenied A.denies self.old.system (state_of A.word self.old) n fault) }
         ensures err { OnErr result (IsAsItWas A.regions A.word A.follows A.refuses self.old self.new) }
         ensures linked { IsBinned A.regions A.word self.new }
+        ensures order { KeepsOrder A.regions A.word self.old self.new }
     {
         match self.grow(n, steps)? {
             Some(chunk) => Ok(chunk),

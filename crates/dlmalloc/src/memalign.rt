@@ -12,6 +12,7 @@ ghost use Rattle.dlmalloc.specs.Resized.{HasSameOthers};
 ghost use Rattle.dlmalloc.specs.Aligned.{aligned_place, lead_freed, tail_cut, aligned, HasOneMoved, KeepsOthers};
 ghost use Rattle.dlmalloc.specs.Heap.{state_of, IsSound};
 ghost use Rattle.dlmalloc.specs.Served.{IsTurned, IsRefusedWith};
+ghost use Rattle.dlmalloc.specs.Order.{KeepsOrder, KeepsOrderThrough};
 ghost use Rattle.dlmalloc.specs.Binned.{IsBinned};
 ghost use Rattle.dlmalloc.specs.Requested.{IsPassedOver, IsServedAligned, IsMemberServed};
 ghost use Rattle.dlmalloc.specs.Choice.{chosen};
@@ -97,6 +98,7 @@ impl<A: Allocator> Dlmalloc<A> {
         ensures words { (k : ℕ) → IsWordOf (A.regions self.old.system) k → IsPassedOver (state_of A.word self.old) (lead_freed (state_of A.word self.old) (ptr - 16) result) (state_of A.word self.new) k → A.word self.new.system k ≡ A.word self.old.system k }
         ensures sound { IsSound A.regions A.word self.new }
         ensures linked { IsBinned A.regions A.word self.new }
+        ensures order { KeepsOrderThrough A.regions A.word (lead_freed (state_of A.word self.old) (ptr - 16) result) self.old self.new }
         ensures regions { A.regions self.new.system ≡ A.regions self.old.system }
         ensures follows { A.follows self.old.system [] self.new.system }
         ensures counted { steps.new ≤ steps.old + 1069 }
@@ -124,6 +126,7 @@ impl<A: Allocator> Dlmalloc<A> {
         ensures words { (k : ℕ) → IsWordOf (A.regions self.old.system) k → (IsOwn (state_of A.word self.old) k → ⊥) → (IsOwn (state_of A.word self.new) k → ⊥) → A.word self.new.system k ≡ A.word self.old.system k }
         ensures sound { IsSound A.regions A.word self.new }
         ensures linked { IsBinned A.regions A.word self.new }
+        ensures order { KeepsOrder A.regions A.word self.old self.new }
         ensures regions { A.regions self.new.system ≡ A.regions self.old.system }
         ensures follows { A.follows self.old.system [] self.new.system }
         ensures counted { steps.new ≤ steps.old + 534 }
@@ -147,6 +150,7 @@ impl<A: Allocator> Dlmalloc<A> {
         ensures others { HasSameOthers (state_of A.word self.old) (state_of A.word self.new) at at }
         ensures moved { IsTurned A.regions A.word A.follows self.old self.new }
         ensures linked { IsBinned A.regions A.word self.new }
+        ensures order { KeepsOrder A.regions A.word self.old self.new }
         ensures counted { steps.new ≤ steps.old + 534 }
     {
         if size - n <= LEAST_CHUNK {

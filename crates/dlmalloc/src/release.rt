@@ -10,6 +10,7 @@ ghost use Rattle.dlmalloc.specs.Released.{is_own, may_leave, taken_back, IsFreeA
 ghost use Rattle.dlmalloc.specs.Chained.{IsChained, IsVisited};
 ghost use Rattle.dlmalloc.specs.Binned.{IsBinned, FreeMoves};
 ghost use Rattle.dlmalloc.specs.Boundaries.{IsInRecord};
+ghost use Rattle.dlmalloc.specs.Order.{after_visit, IsReindexed};
 ghost use Rattle.dlmalloc.specs.GivenBack.{IsPassed, IsCounted, AreGivenBack, told_of};
 
 use crate::heap::{Dlmalloc, countdown_from};
@@ -159,6 +160,7 @@ impl<A: Allocator> Dlmalloc<A> {
         ensures answer { (c : IsChained A.word self.old before told.now) → result ≡ (A.frees self.old.system && may_leave (A.parts self.old.system) c.segment) }
         ensures visited { (c : IsChained A.word self.old before told.now) → IsVisited A.regions A.word A.follows (may_leave (A.parts self.old.system) c.segment) result self.old before told.now c self.new }
         ensures linked { IsBinned A.regions A.word self.new }
+        ensures index { (c : IsChained A.word self.old before told.now) → IsReindexed A.regions A.word (after_visit (A.frees self.old.system) (A.parts self.old.system) c.segment) self.old self.new }
     {
         if !self.may_leave(told, steps) {
             return false;

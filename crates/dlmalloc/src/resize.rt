@@ -6,6 +6,7 @@ ghost use Rattle.dlmalloc.specs.State.{extents_in};
 ghost use Rattle.dlmalloc.specs.Resized.{grown_into, in_place, HasSameOthers};
 ghost use Rattle.dlmalloc.specs.Heap.{state_of, IsSound};
 ghost use Rattle.dlmalloc.specs.Served.{IsMoved, IsTurned};
+ghost use Rattle.dlmalloc.specs.Order.{KeepsOrder};
 ghost use Rattle.dlmalloc.specs.Binned.{IsFreeAt, IsBinned, FreeMoves};
 
 use crate::heap::Dlmalloc;
@@ -31,6 +32,7 @@ impl<A: Allocator> Dlmalloc<A> {
         ensures others { HasSameOthers (state_of A.word self.old) (state_of A.word self.new) at at }
         ensures moved { IsTurned A.regions A.word A.follows self.old self.new }
         ensures linked { IsBinned A.regions A.word self.new }
+        ensures order { KeepsOrder A.regions A.word self.old self.new }
         ensures none { result ≡ false → in_place (state_of A.word self.old) at n ≡ None }
         ensures same { result ≡ false → self.new ≡ self.old }
     {
@@ -106,6 +108,7 @@ impl<A: Allocator> Dlmalloc<A> {
         ensures others { HasSameOthers (state_of A.word self.old) (state_of A.word self.new) at at }
         ensures moved { IsTurned A.regions A.word A.follows self.old self.new }
         ensures linked { IsBinned A.regions A.word self.new }
+        ensures order { KeepsOrder A.regions A.word self.old self.new }
         ensures counted { steps.new ≤ steps.old + 331 }
     {
         let was_victim = at + size == self.victim;

@@ -10,6 +10,7 @@ ghost use Rattle.dlmalloc.specs.Resized.{exchanged, halves, tail_freed, HasSameO
 ghost use Rattle.dlmalloc.specs.Aligned.{HasOneMoved, KeepsOthers};
 ghost use Rattle.dlmalloc.specs.Heap.{state_of, IsSound};
 ghost use Rattle.dlmalloc.specs.Served.{IsMoved, IsTurned};
+ghost use Rattle.dlmalloc.specs.Order.{KeepsOrder};
 ghost use Rattle.dlmalloc.specs.Binned.{IsBinned, FreeMoves};
 
 use crate::heap::Dlmalloc;
@@ -54,6 +55,7 @@ impl<A: Allocator> Dlmalloc<A> {
         ensures others { HasSameOthers (state_of A.word self.old) (state_of A.word self.new) at at }
         ensures moved { IsTurned A.regions A.word A.follows self.old self.new }
         ensures linked { IsBinned A.regions A.word self.new }
+        ensures order { KeepsOrder A.regions A.word self.old self.new }
         ensures counted { steps.new ≤ steps.old + 534 }
     {
         index_stays();
@@ -78,6 +80,7 @@ impl<A: Allocator> Dlmalloc<A> {
         ensures regions { A.regions self.new.system ≡ A.regions self.old.system }
         ensures follows { A.follows self.old.system [] self.new.system }
         ensures linked { IsBinned A.regions A.word self.new }
+        ensures order { KeepsOrder A.regions A.word self.old self.new }
         ensures counted { steps.new ≤ steps.old + 534 }
     {
         index_stays();

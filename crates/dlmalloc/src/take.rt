@@ -8,6 +8,7 @@ ghost use Rattle.dlmalloc.specs.Taken.{taken};
 ghost use Rattle.dlmalloc.specs.Heap.{state_of, IsSound};
 ghost use Rattle.dlmalloc.specs.Served.{IsMoved, IsTurned};
 ghost use Rattle.dlmalloc.specs.Binned.{IsFreeAt, IsBinned, FreeMoves};
+ghost use Rattle.dlmalloc.specs.Order.{KeepsOrder};
 
 use crate::heap::Dlmalloc;
 use crate::layout::{LEAST_CHUNK, LEAST_LARGE};
@@ -32,6 +33,7 @@ impl<A: Allocator> Dlmalloc<A> {
         ensures more { HasOneMore (state_of A.word self.old) (state_of A.word self.new) at }
         ensures moved { IsTurned A.regions A.word A.follows self.old self.new }
         ensures linked { IsBinned A.regions A.word self.new }
+        ensures order { KeepsOrder A.regions A.word self.old self.new }
         ensures counted { steps.new ≤ steps.old + 328 }
     {
         if at == self.victim {
@@ -55,6 +57,7 @@ impl<A: Allocator> Dlmalloc<A> {
         ensures more { HasOneMore (state_of A.word self.old) (state_of A.word self.new) at }
         ensures moved { IsTurned A.regions A.word A.follows self.old self.new }
         ensures linked { IsBinned A.regions A.word self.new }
+        ensures order { KeepsOrder A.regions A.word self.old self.new }
         ensures counted { steps.new ≤ steps.old + 328 }
     {
         let victim = self.victim;

@@ -1,5 +1,7 @@
 use Rattle.std.proofs.Common.{[]}
-use Rattle.dlmalloc.proofs.Joining.{as_joined, little_left, top_no_victim, top_left, joined_binned, none_in_grant}
+use Rattle.dlmalloc.proofs.Joining.{as_joined, top_not_free, little_left, top_no_victim, top_left, joined_binned, none_in_grant}
+use Rattle.dlmalloc.specs.Order.{KeepsOrder}
+use Rattle.dlmalloc.proofs.Ordering.{order_same, lessened_same, added_as, in_order}
 use Rattle.dlmalloc.proofs.heap.Dlmalloc.add_segment.Goals as goal
 
 pub returns-then-top_size-lt-LEAST_CHUNK : goal.returns-then-top_size-lt-LEAST_CHUNK
@@ -8,6 +10,7 @@ returns-then-top_size-lt-LEAST_CHUNK g c =
     record {
       joined = as_joined g.A.Links.regions g.A.Links.word g.A.Links.follows c.args.self.now c.args.grant.now c.change_head.new.self e.joined;
       linked = little_left c.index_stays.ensures g.A.Links.regions g.A.Links.word g.A.Links.follows c.args.self.now c.args.grant.now c.change_head.new.self c.requires.sound c.requires.there e.joined e.free e.same c.requires.linked c.if-top_size-lt-LEAST_CHUNK.true;
+      order = λ b. (little_left c.index_stays.ensures g.A.Links.regions g.A.Links.word g.A.Links.follows c.args.self.now c.args.grant.now c.change_head.new.self c.requires.sound c.requires.there e.joined e.free e.same b c.if-top_size-lt-LEAST_CHUNK.true, order_same b.index);
     }
 
 pub bin-requires-clause-sound : goal.bin-requires-clause-sound
@@ -32,8 +35,14 @@ returns g c =
     let many = c.if-top_size-lt-LEAST_CHUNK.false in
     let last = c.bin.ensures in
     let middle = c.change_head.new.self in
+    let top = c.args.self.now.top in
+    let size = c.args.self.now.top_size in
+    let order : KeepsOrder g.A.Links.regions g.A.Links.word c.args.self.now c.bin.new.self = λ b.
+    let after = last.binned [] (top_left c.index_stays.ensures g.A.Links.regions g.A.Links.word g.A.Links.follows c.args.self.now c.args.grant.now middle c.requires.sound c.requires.there e.joined e.free e.same b many) (λ none. none) in
+    (after.0, in_order size top b.index b.index after.0.index (lessened_same b.index) (added_as size top b.index after.0.index after.1) (λ is. top_not_free g.A.Links.regions g.A.Links.word c.args.self.now c.requires.sound c.requires.there size (b.holds.free top size is))) in
     record {
       joined = joined_binned c.index_stays.ensures g.A.Links.regions g.A.Links.word g.A.Links.follows c.args.self.now c.args.grant.now middle c.requires.sound c.requires.there e.joined e.free e.same c.requires.linked c.bin.new.self last.same last.same.fields g.A.Links.follows_on
           (none_in_grant g.A.Links.regions g.A.Links.word c.args.self.now middle c.requires.sound c.requires.there c.args.grant.now c.requires.fresh e.free many (e.rest many));
-      linked = last.binned [] (top_left c.index_stays.ensures g.A.Links.regions g.A.Links.word g.A.Links.follows c.args.self.now c.args.grant.now middle c.requires.sound c.requires.there e.joined e.free e.same c.requires.linked many) (λ none. none);
+      linked = (order c.requires.linked).0;
+      order = order;
     }

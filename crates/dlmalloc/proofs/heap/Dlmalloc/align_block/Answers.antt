@@ -8,6 +8,7 @@ use Rattle.dlmalloc.specs.Heap.{state_of}
 use Rattle.dlmalloc.proofs.BlockChunks.{block_chunk, block_head}
 use Rattle.dlmalloc.proofs.AlignedBlocks.{moved_on, kept_on}
 use Rattle.dlmalloc.proofs.AlignedRequests.{chunk_whole, chunk_small, place_here}
+use Rattle.dlmalloc.specs.Binned.{HoldsBinned}
 use Rattle.dlmalloc.proofs.heap.Dlmalloc.align_block.Goals as goal
 
 pub size-size-requires : goal.size-size-requires
@@ -64,3 +65,9 @@ returns-clause-words g c = λ k inside passed.
     let lead = λ (own : IsOwn (state_of g.A.Links.word c.free_before.new.self) k). passed.1 (subst (λ (s : HeapState). IsOwn s k) c.free_before.ensures.state own) in
     c.free_behind.ensures.moved.words k (subst (λ (rs : List Grant). IsWordOf rs k) (sym c.free_before.ensures.regions) inside) (λ free. lead (inr free)) passed.2
     ∙ c.free_before.ensures.words k inside passed.0 lead
+
+pub returns-clause-order : goal.returns-clause-order
+returns-clause-order g c = λ b.
+    let lead = c.free_before.ensures.order b in
+    let tail = c.free_behind.ensures.order lead.0 in
+    (lead.0.index, subst (λ (s : HeapState). HoldsBinned s lead.0.index) c.free_before.ensures.state lead.0.holds, lead.1, tail)

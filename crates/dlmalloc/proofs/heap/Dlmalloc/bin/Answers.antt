@@ -1,4 +1,5 @@
 use Rattle.dlmalloc.proofs.Rebinned.{fresh, rebinned, now_binned, links_insert}
+use Rattle.std.proofs.Common.{refl}
 use Rattle.dlmalloc.proofs.heap.Dlmalloc.bin.Goals as goal
 
 pub insert-requires : goal.insert-requires
@@ -12,7 +13,7 @@ returns-clause-binned g c = λ loose b apart.
     let e = c.insert.ensures in
     let links = links_insert g.A.Links.regions g.A.Links.word c.args.self.now c.requires.sound c.args.at c.args.size c.requires.free loose b (g.A.Links.word c.insert.new.memory) (e.words b.index b.linked linked) in
     let same = rebinned g.A.Links.regions g.A.Links.word g.A.Links.follows c.args.self.now c.requires.sound c.insert.new.memory c.insert.new.self e.regions links e.follows in
-    now_binned g.A.Links.regions g.A.Links.word c.args.self.now c.requires.sound c.args.at c.args.size c.requires.free loose b c.insert.new.memory c.insert.new.self (e.linked b.index b.linked linked) same.state c.requires.other apart
+    (now_binned g.A.Links.regions g.A.Links.word c.args.self.now c.requires.sound c.args.at c.args.size c.requires.free loose b c.insert.new.memory c.insert.new.self (e.linked b.index b.linked linked) same.state c.requires.other apart, λ n. refl)
 
 pub returns-clause-same : goal.returns-clause-same
 returns-clause-same g c =

@@ -1,18 +1,22 @@
-use Rattle.std.proofs.Common.{inl, inr, []}
+use Rattle.std.proofs.Common.{inl, inr, [], ◌-◌}
 use Rattle.dlmalloc.proofs.Rebinned.{not_rebinned, none_binned}
+use Rattle.dlmalloc.proofs.Ordering.{added_none, added_as}
 use Rattle.dlmalloc.proofs.heap.Dlmalloc.bin_joined.Goals as goal
 
 -- it became the top
-pub returns-then-from-self-clause-linked : goal.returns-then-from-self-clause-linked
-returns-then-from-self-clause-linked g c = none_binned g.A.Links.regions g.A.Links.word c.args.self.now c.args.from [] c.requires.loose
-    (λ n free. absurd (elim (c.requires.joined) [ inl top ↦ top.1 n free | inr beside ↦ beside.0 c.if-from-self.true ]))
+pub returns-then-from-self-clause-binned : goal.returns-then-from-self-clause-binned
+returns-then-from-self-clause-binned g c = λ b. (
+  none_binned g.A.Links.regions g.A.Links.word c.args.self.now c.args.from [] b (λ n free. absurd (elim (c.requires.joined) [ inl top ↦ top.1 n free | inr beside ↦ beside.0 c.if-from-self.true ])),
+  added_none (c.args.to - c.args.from) c.args.from b.index,
+)
 
 pub returns-then-from-self-clause-same : goal.returns-then-from-self-clause-same
 returns-then-from-self-clause-same g c = not_rebinned g.A.Links.regions g.A.Links.word g.A.Links.follows c.args.self.now c.requires.sound (g.A.Links.follows_none c.args.self.now.system)
 
 -- it is the victim
-pub returns-then-from-self-2-clause-linked : goal.returns-then-from-self-2-clause-linked
-returns-then-from-self-2-clause-linked g c = none_binned g.A.Links.regions g.A.Links.word c.args.self.now c.args.from [] c.requires.loose (λ n free. c.if-from-self-2.true)
+pub returns-then-from-self-2-clause-binned : goal.returns-then-from-self-2-clause-binned
+returns-then-from-self-2-clause-binned g c = λ b.
+    (none_binned g.A.Links.regions g.A.Links.word c.args.self.now c.args.from [] b (λ n free. c.if-from-self-2.true), added_none (c.args.to - c.args.from) c.args.from b.index)
 
 pub returns-then-from-self-2-clause-same : goal.returns-then-from-self-2-clause-same
 returns-then-from-self-2-clause-same g c = not_rebinned g.A.Links.regions g.A.Links.word g.A.Links.follows c.args.self.now c.requires.sound (g.A.Links.follows_none c.args.self.now.system)
@@ -24,5 +28,7 @@ bin-requires-clause-free g c = elim (c.requires.joined) [ inl top ↦ absurd (c.
 pub bin-requires-clause-loose : goal.bin-requires-clause-loose
 bin-requires-clause-loose g c = ([], c.requires.loose)
 
-pub returns-clause-linked : goal.returns-clause-linked
-returns-clause-linked g c = c.bin.ensures.binned [] c.requires.loose (λ none. none)
+pub returns-clause-binned : goal.returns-clause-binned
+returns-clause-binned g c = λ b.
+    let after = c.bin.ensures.binned [] b (λ none. none) in
+    (after.0, added_as (c.args.to - c.args.from) c.args.from b.index after.0.index after.1)

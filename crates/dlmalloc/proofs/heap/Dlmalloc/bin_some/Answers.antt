@@ -1,5 +1,6 @@
 use Rattle.std.proofs.Common.{arith}
 use Rattle.dlmalloc.proofs.Rebinned.{not_rebinned, none_binned}
+use Rattle.dlmalloc.proofs.Ordering.{added_none, added_as}
 use Rattle.dlmalloc.proofs.heap.Dlmalloc.bin_some.Goals as goal
 
 pub bin-requires-clause-free : goal.bin-requires-clause-free
@@ -9,7 +10,12 @@ pub bin-requires-clause-other : goal.bin-requires-clause-other
 bin-requires-clause-other g c = c.requires.other (λ none. (let some = c.if-size-gt0.true in omega arith))
 
 pub returns-else-size-gt0-clause-binned : goal.returns-else-size-gt0-clause-binned
-returns-else-size-gt0-clause-binned g c = λ loose b apart. none_binned g.A.Links.regions g.A.Links.word c.args.self.now c.args.at loose b (λ n free. absurd (c.requires.none (let none = c.if-size-gt0.false in omega arith) n free))
+returns-else-size-gt0-clause-binned g c = λ loose b apart. (none_binned g.A.Links.regions g.A.Links.word c.args.self.now c.args.at loose b (λ n free. absurd (c.requires.none (let none = c.if-size-gt0.false in omega arith) n free)), added_none c.args.size c.args.at b.index)
 
 pub returns-else-size-gt0-clause-same : goal.returns-else-size-gt0-clause-same
 returns-else-size-gt0-clause-same g c = not_rebinned g.A.Links.regions g.A.Links.word g.A.Links.follows c.args.self.now c.requires.sound (g.A.Links.follows_none c.args.self.now.system)
+
+pub returns-then-size-gt0-clause-binned : goal.returns-then-size-gt0-clause-binned
+returns-then-size-gt0-clause-binned g c = λ loose b apart.
+    let after = c.bin.ensures.binned loose b apart in
+    (after.0, added_as c.args.size c.args.at b.index after.0.index after.1)

@@ -1,10 +1,11 @@
-use Rattle.std.proofs.Common.{◌≡◌, ℕ, ◌<◌, None, subst, arith}
+use Rattle.std.proofs.Common.{◌≡◌, ℕ, ◌<◌, None, refl, subst, arith, rules}
 use Rattle.dlmalloc.specs.Choice.{chosen}
 use Rattle.dlmalloc.specs.Heap.{state_of}
 use Rattle.dlmalloc.proofs.Members.{member_behind}
 use Rattle.dlmalloc_chunks.specs.Request.{limit}
 use Rattle.dlmalloc.proofs.Requests.{request_small}
 use Rattle.dlmalloc.proofs.Served.{served}
+use Rattle.dlmalloc.proofs.Ordering.{order_same}
 use Rattle.dlmalloc.proofs.heap.Dlmalloc.c_malloc.Goals as goal
 
 pub cut-requires-clause-small : goal.cut-requires-clause-small
@@ -21,7 +22,7 @@ pub returns-in-Ok-clause-served : goal.returns-in-Ok-clause-served
 returns-in-Ok-clause-served g c =
     let e = c.request2size.ensures in
     let less : c.args.size < limit c.args.self.now.granularity = (let not = c.if-size-max_request.false in let is = c.max_request.ensures.is in omega arith) in
-    served g.A.Links.regions g.A.Links.word g.A.Allocator.zeros g.A.Links.follows c.args.self.now c.cut.new.self c.args.size c.request2size.result c.in-Ok.chunk e.is (omega arith) (omega arith) less c.in-Ok.ensures.cut
+    served g.A.Links.regions g.A.Links.word g.A.Allocator.zeros g.A.Links.follows c.args.self.now c.cut.new.self c.args.size c.request2size.result c.in-Ok.chunk e.is (omega arith) (omega arith) less c.in-Ok.ensures.cut c.cut.ensures.order
 
 pub returns-in-Ok-clause-member : goal.returns-in-Ok-clause-member
 returns-in-Ok-clause-member g c = member_behind g.A.Links.regions g.A.Links.word c.args.self.now c.request2size.result c.args.size c.in-Ok.chunk c.request2size.ensures.is c.in-Ok.ensures.member
@@ -31,3 +32,12 @@ returns-in-Ok-clause-counted g c = λ some. c.cut.ensures.counted (λ none. some
 
 pub returns-in-Err-clause-counted : goal.returns-in-Err-clause-counted
 returns-in-Err-clause-counted g c = λ some. c.cut.ensures.counted (λ none. some (subst (λ (n : ℕ). chosen (state_of g.A.Links.word c.args.self.now) n ≡ None) c.request2size.ensures.is none))
+
+pub returns-then-size-max_request-clause-order : goal.returns-then-size-max_request-clause-order
+returns-then-size-max_request-clause-order g c = λ b. (b, order_same b.index)
+
+pub returns-then-size-max_request-clause-refused : goal.returns-then-size-max_request-clause-refused
+returns-then-size-max_request-clause-refused g c = record {
+  refused = (let is = c.max_request.ensures.is in let more = c.if-size-max_request.true in omega arith);
+  same = record { followed = search rules; refused = search rules; state = refl; sound = c.requires.sound; regions_same = refl; words = λ k is. refl; index = λ b. (b, λ n. refl) };
+}

@@ -1,4 +1,4 @@
-use Rattle.std.proofs.Common.{ℕ, sym, subst, arith}
+use Rattle.std.proofs.Common.{ℕ, refl, sym, subst, arith}
 use Rattle.heap_memory.specs.Words.{AreWordsOf, AreFilled}
 use Rattle.dlmalloc.proofs.BlockWords.{block_words, same_heap, same_binned, served_block}
 use Rattle.dlmalloc.proofs.GivenSize.{handed_written}
@@ -24,6 +24,7 @@ returns-in-Ok-clause-served g c =
       handed = c.in-Ok.ensures.handed;
       cleared = cleared;
       same = same_heap g.A.Links.regions g.A.Links.word middle served.0 c.in-Ok.address c.args.size served.1 g.A.Links.follows c.args.size (omega arith) system filled.regions filled.follows cleared.elsewhere;
+      index = λ b. (same_binned g.A.Links.regions g.A.Links.word middle served.0 c.in-Ok.address c.args.size served.1 c.index_stays.ensures c.args.size (omega arith) system filled.regions cleared.elsewhere b, λ n. refl);
     }
 
 pub returns-in-Ok-clause-sound : goal.returns-in-Ok-clause-sound

@@ -10,6 +10,7 @@ use Rattle.dlmalloc_chunks.specs.declared.extent.Kind.TheVariants.{Free, Top}
 use Rattle.dlmalloc.proofs.Requests.{none_chosen_empty}
 use Rattle.dlmalloc.proofs.Served.{as_turned, cut_here}
 use Rattle.dlmalloc.proofs.heap.Dlmalloc.cut.Goals.{then-self-gt0+in-None, else-self-gt0}
+use Rattle.dlmalloc.proofs.Ordering.{order_same}
 use Rattle.dlmalloc.proofs.heap.Dlmalloc.cut.Goals as goal
 
 pub returns-in-Some-Chunk-clause-cut : goal.returns-in-Some-Chunk-clause-cut
@@ -66,3 +67,8 @@ returns-clause-counted g c = λ some. absurd (some (elim c.if-self-gt0.branch [
   | then-self-gt0+in-None w ↦ w.in-None.ensures.none refl
   | else-self-gt0 w ↦ none_chosen_empty g.A.Links.regions g.A.Links.word c.args.self.now (let none = w.if-self-gt0.false in omega arith) c.args.n c.requires.least
 ]))
+
+pub returns-in-Some-Top-clause-order : goal.returns-in-Some-Top-clause-order
+returns-in-Some-Top-clause-order g c = λ b.
+    let e = c.take_top.ensures in
+    (binned_beside c.index_stays.ensures g.A.Links.regions g.A.Links.word g.A.Links.follows c.args.self.now c.take_top.new.self c.requires.sound e.moved e.bins e.free (ap (λ (s : HeapState). s.victim) e.state) b, order_same b.index)

@@ -38,3 +38,10 @@ returns-in-None-clause-linked g c =
     let grown = c.in_ok-chunk.ensures.top c.in-None.is in
     let e = c.take_top.ensures in
     binned_beside c.index_stays.ensures g.A.Links.regions g.A.Links.word g.A.Links.follows c.grow.new.self c.take_top.new.self grown.sound e.moved e.bins e.free (ap (λ (s : HeapState). s.victim) e.state) c.grow.ensures.linked
+
+pub returns-in-None-clause-order : goal.returns-in-None-clause-order
+returns-in-None-clause-order g c = λ b.
+    let grown = c.in_ok-chunk.ensures.top c.in-None.is in
+    let e = c.take_top.ensures in
+    let after = c.grow.ensures.order b in
+    (binned_beside c.index_stays.ensures g.A.Links.regions g.A.Links.word g.A.Links.follows c.grow.new.self c.take_top.new.self grown.sound e.moved e.bins e.free (ap (λ (s : HeapState). s.victim) e.state) after.0, after.1)

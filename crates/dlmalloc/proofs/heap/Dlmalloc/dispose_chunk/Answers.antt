@@ -6,9 +6,11 @@ use Rattle.dlmalloc.specs.Released.{IsFreeAround}
 use Rattle.dlmalloc.specs.Blocks.{HasOneMore}
 use Rattle.dlmalloc.specs.Heap.{state_of}
 use Rattle.dlmalloc.specs.Binned.{IsFreeAt}
+use Rattle.dlmalloc.specs.Order.{KeepsOrder}
 use Rattle.dlmalloc.proofs.Answering.{head_there, foot_there, behind_there, behind_small, end_below, foot_fits}
 use Rattle.dlmalloc.proofs.Unbinning.{left_free, left_none, right_free, right_none}
-use Rattle.dlmalloc.proofs.Disposed.{some, two, still_there, from_still, to_still, joined_loose}
+use Rattle.dlmalloc.proofs.Disposed.{some, two, joined_other, still_there, from_still, to_still, joined_loose}
+use Rattle.dlmalloc.proofs.Ordering.{lessened_on, in_order}
 use Rattle.dlmalloc.proofs.Turning.{rebinned_on, turned}
 use Rattle.dlmalloc.proofs.heap.Dlmalloc.dispose_chunk.Goals as goal
 
@@ -59,7 +61,7 @@ unbin_between-requires-2-clause-none g c = λ less n free.
 pub unbin_between-requires-2-clause-binned : goal.unbin_between-requires-2-clause-binned
 unbin_between-requires-2-clause-binned g c = (
   c.free_begin-from.result ∷ [],
-  c.unbin_between.ensures.loose [] c.requires.linked (λ none. none),
+  (c.unbin_between.ensures.loose [] c.requires.linked (λ none. none)).0,
   two g.A.Links.regions g.A.Links.word g.A.Links.follows c.args.self.now c.requires.sound c.args.at c.args.size c.requires.chunk c.free_begin-from.result c.free_end-to.result c.free_begin-from.ensures.value c.free_end-to.ensures.value,
 )
 
@@ -99,8 +101,8 @@ bin_joined-requires-clause-loose g c =
     joined_loose g.A.Links.regions g.A.Links.word g.A.Links.follows c.args.self.now c.requires.sound c.args.at c.args.size c.requires.chunk from c.free_end-to.result c.free_begin-from.ensures.value c.free_end-to.ensures.value c.unbin_between-2.new.self
     (rebinned_on g.A.Links.regions g.A.Links.word g.A.Links.follows g.A.Links.follows_on c.args.self.now c.unbin_between.new.self c.unbin_between-2.new.self first.same second.same)
     c.index_stays.ensures
-    (second.loose (from ∷ []) (first.loose [] c.requires.linked (λ none. none))
-    (two g.A.Links.regions g.A.Links.word g.A.Links.follows c.args.self.now c.requires.sound c.args.at c.args.size c.requires.chunk from c.free_end-to.result c.free_begin-from.ensures.value c.free_end-to.ensures.value))
+    (second.loose (from ∷ []) (first.loose [] c.requires.linked (λ none. none)).0
+    (two g.A.Links.regions g.A.Links.word g.A.Links.follows c.args.self.now c.requires.sound c.args.at c.args.size c.requires.chunk from c.free_end-to.result c.free_begin-from.ensures.value c.free_end-to.ensures.value)).0
     c.join_free.new.self c.join_free.ensures.moved c.join_free.ensures.free c.join_free.ensures.victim c.join_free.ensures.bins
 
 pub returns : goal.returns
@@ -111,12 +113,26 @@ returns g c =
     let left = rebinned_on g.A.Links.regions word g.A.Links.follows g.A.Links.follows_on old c.unbin_between.new.self c.unbin_between-2.new.self c.unbin_between.ensures.same c.unbin_between-2.ensures.same in
     let e = c.join_free.ensures in
     let last = c.bin_joined.ensures.same in
+    let from = c.free_begin-from.result in
+    let to = c.free_end-to.result in
+    let begin = c.free_begin-from.ensures.value in
+    let end = c.free_end-to.ensures.value in
+    let order : KeepsOrder g.A.Links.regions word old new = λ b.
+    let one = c.unbin_between.ensures.loose [] b (λ none. none) in
+    let second = c.unbin_between-2.ensures.loose (from ∷ []) one.0 (two g.A.Links.regions word g.A.Links.follows old c.requires.sound c.args.at c.args.size c.requires.chunk from to begin end) in
+    let joined = joined_loose g.A.Links.regions word g.A.Links.follows old c.requires.sound c.args.at c.args.size c.requires.chunk from to begin end c.unbin_between-2.new.self left c.index_stays.ensures second.0 c.join_free.new.self e.moved e.free e.victim e.bins in
+    let after = c.bin_joined.ensures.binned joined in (
+      after.0,
+      in_order (to - from) from b.index second.0.index after.0.index (lessened_on b.index one.0.index second.0.index one.1 second.1) after.1
+          (λ is. joined_other g.A.Links.regions word g.A.Links.follows old c.requires.sound c.args.at c.args.size c.requires.chunk from to begin end (b.holds.free from (to - from) is)),
+    ) in
     record {
       state = last.state ∙ (e.state ∙ ap (λ (s : HeapState). freed s c.args.at) left.state);
       less = subst (λ (s : HeapState). HasOneMore s (state_of word old) c.args.at) (sym last.state) (subst (λ (s : HeapState). HasOneMore (state_of word c.join_free.new.self) s c.args.at) left.state e.less);
       records = λ one is there. ap (λ (s : HeapState). extent_at one.at (extents_in s)) last.state ∙ e.records one is (ap (λ (s : HeapState). extent_at one.at (extents_in s)) left.state ∙ there);
       around = subst (λ (s : HeapState). IsFreeAround s c.args.at c.free_begin-from.result) (sym last.state) e.around;
       moved = turned g.A.Links.regions word g.A.Links.follows g.A.Links.follows_on old c.unbin_between-2.new.self c.join_free.new.self new left e.moved last;
-      linked = c.bin_joined.ensures.linked;
+      linked = (order c.requires.linked).0;
+      order = order;
       counted = omega arith;
     }

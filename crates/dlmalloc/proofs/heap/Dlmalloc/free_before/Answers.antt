@@ -3,6 +3,7 @@ use Rattle.dlmalloc_chunks.specs.declared.extent.Kind.TheVariants.{Used}
 use Rattle.dlmalloc.specs.Boundaries.{IsBoundary}
 use Rattle.dlmalloc.specs.Heap.{state_of}
 use Rattle.dlmalloc.proofs.Places.{extent}
+use Rattle.dlmalloc.proofs.Ordering.{order_same}
 use Rattle.dlmalloc.proofs.heap.Dlmalloc.free_before.Goals as goal
 
 -- the chunk's own head is at a boundary
@@ -10,3 +11,6 @@ pub returns-clause-words : goal.returns-clause-words
 returns-clause-words g c k is was now =
     c.free_lead.ensures.words k is
     (λ same. was (inl (subst (IsBoundary (state_of g.A.Links.word c.args.self.now)) (sym same) (record { extent = extent c.args.at c.args.size Used; there = c.requires.chunk; is = inl refl })))) (λ free. was (inr free)) now
+
+pub returns-then-place-at-clause-order : goal.returns-then-place-at-clause-order
+returns-then-place-at-clause-order g c = λ b. (b, order_same b.index)

@@ -38,3 +38,8 @@ pub dispose_chunk-requires-clause-linked : goal.dispose_chunk-requires-clause-li
 dispose_chunk-requires-clause-linked g c =
     let e = c.split.ensures in
     binned_beside c.index_stays.ensures g.A.Links.regions g.A.Links.word g.A.Links.follows c.args.self.now c.split.new.self c.requires.sound e.moved e.bins e.free (ap (λ (s : HeapState). s.victim) e.state) c.requires.linked
+
+pub returns-clause-order : goal.returns-clause-order
+returns-clause-order g c = λ b.
+    let e = c.split.ensures in
+    c.dispose_chunk.ensures.order (binned_beside c.index_stays.ensures g.A.Links.regions g.A.Links.word g.A.Links.follows c.args.self.now c.split.new.self c.requires.sound e.moved e.bins e.free (ap (λ (s : HeapState). s.victim) e.state) b)

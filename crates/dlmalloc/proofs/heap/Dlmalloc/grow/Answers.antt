@@ -12,12 +12,13 @@ use Rattle.dlmalloc.proofs.PutBefore.{cut_before}
 use Rattle.dlmalloc.specs.Boundaries.{IsInFree}
 use Rattle.dlmalloc.proofs.Laws.{as_it_was, as_binned}
 use Rattle.dlmalloc.proofs.Requests.{on_err}
+use Rattle.dlmalloc.proofs.Ordering.{order_same}
 use Rattle.dlmalloc.proofs.heap.Dlmalloc.grow.Goals as goal
 
 pub returns-in_err-grant-clause-err : goal.returns-in_err-grant-clause-err
 returns-in_err-grant-clause-err g c =
     let denied = c.in_err-grant.ensures in
-    on_err c.from_residual.result (as_it_was g.A.Links.regions g.A.Links.word c.args.self.now c.requires.sound g.A.Links.follows g.A.Allocator.refuses c.alloc.new.self denied.err denied.words denied.err_follows denied.err_refuses)
+    on_err c.from_residual.result (as_it_was g.A.Links.regions g.A.Links.word c.args.self.now c.requires.sound c.index_stays.ensures g.A.Links.follows g.A.Allocator.refuses c.alloc.new.self denied.err denied.words denied.err_follows denied.err_refuses)
 
 pub segment_behind-requires-clause-sound : goal.segment_behind-requires-clause-sound
 segment_behind-requires-clause-sound g c = granted_sound g.A.Links.regions g.A.Links.word c.args.self.now c.requires.sound c.alloc.new.self c.asked-asked.result (let e = c.asked-asked.ensures.enough in let l = c.requires.least in omega arith) c.in_ok-grant.grant c.in_ok-grant.ensures.good c.in_ok-grant.ensures.apart c.in_ok-grant.ensures.regions c.in_ok-grant.ensures.words
@@ -112,3 +113,14 @@ put_before-requires-clause-linked g c = granted_binned g.A.Links.regions g.A.Lin
 
 pub join-requires-clause-linked : goal.join-requires-clause-linked
 join-requires-clause-linked g c = granted_binned g.A.Links.regions g.A.Links.word c.args.self.now c.requires.sound c.alloc.new.self c.asked-asked.result (let e = c.asked-asked.ensures.enough in let l = c.requires.least in omega arith) c.in_ok-grant.grant c.in_ok-grant.ensures.good c.in_ok-grant.ensures.apart c.in_ok-grant.ensures.regions c.in_ok-grant.ensures.words c.index_stays.ensures c.requires.linked
+
+pub returns-in_err-grant-clause-order : goal.returns-in_err-grant-clause-order
+returns-in_err-grant-clause-order g c = λ b.
+    let denied = c.in_err-grant.ensures in
+    (as_binned g.A.Links.regions g.A.Links.word c.args.self.now c.requires.sound c.index_stays.ensures c.alloc.new.self denied.err denied.words b, order_same b.index)
+
+pub returns-in-Some-clause-order : goal.returns-in-Some-clause-order
+returns-in-Some-clause-order g c = λ b. c.put_before.ensures.order (granted_binned g.A.Links.regions g.A.Links.word c.args.self.now c.requires.sound c.alloc.new.self c.asked-asked.result (let e = c.asked-asked.ensures.enough in let l = c.requires.least in omega arith) c.in_ok-grant.grant c.in_ok-grant.ensures.good c.in_ok-grant.ensures.apart c.in_ok-grant.ensures.regions c.in_ok-grant.ensures.words c.index_stays.ensures b)
+
+pub returns-in-None-clause-order : goal.returns-in-None-clause-order
+returns-in-None-clause-order g c = λ b. c.join.ensures.order (granted_binned g.A.Links.regions g.A.Links.word c.args.self.now c.requires.sound c.alloc.new.self c.asked-asked.result (let e = c.asked-asked.ensures.enough in let l = c.requires.least in omega arith) c.in_ok-grant.grant c.in_ok-grant.ensures.good c.in_ok-grant.ensures.apart c.in_ok-grant.ensures.regions c.in_ok-grant.ensures.words c.index_stays.ensures b)

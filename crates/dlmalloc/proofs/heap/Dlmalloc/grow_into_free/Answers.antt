@@ -1,4 +1,4 @@
-use Rattle.std.proofs.Common.{◌+◌, [], sym, ◌∙◌, ap, subst, arith}
+use Rattle.std.proofs.Common.{◌+◌, ◌-◌, ◌≢◌, [], sym, ◌∙◌, ap, subst, arith}
 use Rattle.dlmalloc_chunks.specs.declared.extent.Kind.TheVariants.{Used, Free}
 use Rattle.dlmalloc.specs.State.{HeapState, extents_in}
 use Rattle.dlmalloc.specs.Extents.{extent_at}
@@ -8,7 +8,10 @@ use Rattle.dlmalloc.proofs.Places.{extent}
 use Rattle.dlmalloc.proofs.IntoFree.{free_end_small}
 use Rattle.dlmalloc.proofs.Turning.{turned}
 use Rattle.dlmalloc.proofs.Rebinned.{not_rebinned, none_binned}
-use Rattle.dlmalloc.proofs.TakingBins.{into_victim, into_whole, into_part, part_other}
+use Rattle.dlmalloc.proofs.TakingBins.{into_victim, into_whole, into_part, part_other, part_came}
+use Rattle.dlmalloc.specs.Binned.{IsFreeAt}
+use Rattle.dlmalloc.specs.Order.{KeepsOrder}
+use Rattle.dlmalloc.proofs.Ordering.{lessened_as, added_as, order_less, order_left, in_order}
 use Rattle.dlmalloc.proofs.heap.Dlmalloc.grow_into_free.Goals as goal
 
 pub overflow_add-was_victim : goal.overflow_add-was_victim
@@ -44,13 +47,17 @@ returns-then-was_victim g c =
     let one = c.unbin.ensures in
     let e = c.join_part.ensures in
     let mine = c.if-was_victim.true ∙ sym (ap (λ h. h.victim) one.same.fields) in
+    let order : KeepsOrder regions word c.args.self.now new = λ b.
+    let left = one.loose [] b (λ none. none) in
+    let after = into_victim c.index_stays.ensures regions word g.A.Links.follows middle new one.same.sound c.args.at c.args.size c.args.free c.args.n e.moved e.state e.free e.bins mine (none_binned regions word middle (c.args.at + c.args.size) [] left.0 (λ n free. mine)) in
+    (after.0, order_left b.index left.0.index after.0.index (lessened_as c.args.free (c.args.at + c.args.size) b.index left.0.index left.1) after.1) in
     record {
       state = e.state ∙ ap (λ (s : HeapState). grown_into s (extent c.args.at c.args.size Used) (extent (c.args.at + c.args.size) c.args.free Free) c.args.n) one.same.state;
       held = e.held;
       others = subst (λ (s : HeapState). HasSameOthers s (state_of word new) c.args.at c.args.at) one.same.state e.others;
       moved = turned regions word g.A.Links.follows g.A.Links.follows_on c.args.self.now middle new new one.same e.moved (not_rebinned regions word g.A.Links.follows new e.moved.sound (g.A.Links.follows_none new.system));
-      linked = into_victim c.index_stays.ensures regions word g.A.Links.follows middle new one.same.sound c.args.at c.args.size c.args.free c.args.n e.moved e.state e.free e.bins mine
-          (none_binned regions word middle (c.args.at + c.args.size) [] (one.loose [] c.requires.linked (λ none. none)) (λ n free. mine));
+      linked = (order c.requires.linked).0;
+      order = order;
       counted = omega arith;
     }
 
@@ -64,13 +71,19 @@ returns-then-rest-lt-LEAST_CHUNK g c =
     let e = c.join_part.ensures in
     let little = c.if-rest-lt-LEAST_CHUNK.true in
     let room = c.requires.room in
+    let order : KeepsOrder regions word c.args.self.now new = λ b.
+    let left = one.loose [] b (λ none. none) in (
+      into_whole c.index_stays.ensures regions word g.A.Links.follows middle new one.same.sound c.args.at c.args.size c.args.free c.args.n e.moved e.state e.free e.bins
+          (λ is. c.if-was_victim.false (is ∙ ap (λ h. h.victim) one.same.fields)) left.0 (omega arith),
+      order_less b.index left.0.index (lessened_as c.args.free (c.args.at + c.args.size) b.index left.0.index left.1),
+    ) in
     record {
       state = e.state ∙ ap (λ (s : HeapState). grown_into s (extent c.args.at c.args.size Used) (extent (c.args.at + c.args.size) c.args.free Free) c.args.n) one.same.state;
       held = e.held;
       others = subst (λ (s : HeapState). HasSameOthers s (state_of word new) c.args.at c.args.at) one.same.state e.others;
       moved = turned regions word g.A.Links.follows g.A.Links.follows_on c.args.self.now middle new new one.same e.moved (not_rebinned regions word g.A.Links.follows new e.moved.sound (g.A.Links.follows_none new.system));
-      linked = into_whole c.index_stays.ensures regions word g.A.Links.follows middle new one.same.sound c.args.at c.args.size c.args.free c.args.n e.moved e.state e.free e.bins
-          (λ is. c.if-was_victim.false (is ∙ ap (λ h. h.victim) one.same.fields)) (one.loose [] c.requires.linked (λ none. none)) (omega arith);
+      linked = (order c.requires.linked).0;
+      order = order;
       counted = omega arith;
     }
 
@@ -98,7 +111,7 @@ bin-requires-clause-loose g c =
     let room = c.requires.room in (
       [],
       into_part c.index_stays.ensures g.A.Links.regions g.A.Links.word g.A.Links.follows c.unbin.new.self c.join_part.new.self one.same.sound c.args.at c.args.size c.args.free c.args.n e.moved e.state e.free e.bins
-          (λ is. c.if-was_victim.false (is ∙ ap (λ h. h.victim) one.same.fields)) (one.loose [] c.requires.linked (λ none. none)) (omega arith),
+          (λ is. c.if-was_victim.false (is ∙ ap (λ h. h.victim) one.same.fields)) (one.loose [] c.requires.linked (λ none. none)).0 (omega arith),
     )
 
 pub returns : goal.returns
@@ -113,12 +126,23 @@ returns g c =
     let last = c.bin.ensures in
     let many = c.if-rest-lt-LEAST_CHUNK.false in
     let room = c.requires.room in
+    let rest = c.args.at + c.args.n in
+    let rest_size = c.args.size + c.args.free - c.args.n in
+    let other : c.args.at + c.args.size ≢ middle.victim = λ is. c.if-was_victim.false (is ∙ ap (λ h. h.victim) one.same.fields) in
+    let order : KeepsOrder regions word c.args.self.now new = λ b.
+    let left = one.loose [] b (λ none. none) in
+    let after = last.binned [] (into_part c.index_stays.ensures regions word g.A.Links.follows middle joined one.same.sound c.args.at c.args.size c.args.free c.args.n e.moved e.state e.free e.bins other left.0 (omega arith)) (λ none. none) in (
+      after.0,
+      in_order rest_size rest b.index left.0.index after.0.index (lessened_as c.args.free (c.args.at + c.args.size) b.index left.0.index left.1) (added_as rest_size rest left.0.index after.0.index after.1)
+          (λ is. part_came c.index_stays.ensures regions word g.A.Links.follows middle joined one.same.sound c.args.at c.args.size c.args.free c.args.n e.moved e.state e.free e.bins other (omega arith) (let m = c.requires.more in omega arith) rest_size
+          (subst (λ (s : HeapState). IsFreeAt s rest rest_size) (sym one.same.state) (b.holds.free rest rest_size is))),
+    ) in
     record {
       state = last.same.state ∙ (e.state ∙ ap (λ (s : HeapState). grown_into s (extent c.args.at c.args.size Used) (extent (c.args.at + c.args.size) c.args.free Free) c.args.n) one.same.state);
       held = (e.held.0, ap (λ (s : HeapState). extent_at c.args.at (extents_in s)) last.same.state ∙ e.held.1, e.held.2, e.held.3);
       others = subst (λ (s : HeapState). HasSameOthers (state_of word c.args.self.now) s c.args.at c.args.at) (sym last.same.state) (subst (λ (s : HeapState). HasSameOthers s (state_of word joined) c.args.at c.args.at) one.same.state e.others);
       moved = turned regions word g.A.Links.follows g.A.Links.follows_on c.args.self.now middle joined new one.same e.moved last.same;
-      linked = last.binned [] (into_part c.index_stays.ensures regions word g.A.Links.follows middle joined one.same.sound c.args.at c.args.size c.args.free c.args.n e.moved e.state e.free e.bins
-          (λ is. c.if-was_victim.false (is ∙ ap (λ h. h.victim) one.same.fields)) (one.loose [] c.requires.linked (λ none. none)) (omega arith)) (λ none. none);
+      linked = (order c.requires.linked).0;
+      order = order;
       counted = omega arith;
     }

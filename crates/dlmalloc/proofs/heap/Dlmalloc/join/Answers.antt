@@ -1,4 +1,5 @@
 use Rattle.dlmalloc.proofs.Joining.{as_joined, admitted_binned}
+use Rattle.dlmalloc.proofs.Ordering.{order_same}
 use Rattle.dlmalloc.proofs.heap.Dlmalloc.join.Goals as goal
 
 pub returns-then-self-eq0 : goal.returns-then-self-eq0
@@ -7,6 +8,7 @@ returns-then-self-eq0 g c =
     record {
       joined = as_joined g.A.Links.regions g.A.Links.word g.A.Links.follows c.args.self.now c.args.grant.now c.open.new.self e.joined;
       linked = admitted_binned c.index_stays.ensures g.A.Links.regions g.A.Links.word g.A.Links.follows c.args.self.now c.args.grant.now c.open.new.self c.requires.sound e.joined e.free e.same c.requires.linked;
+      order = λ b. (admitted_binned c.index_stays.ensures g.A.Links.regions g.A.Links.word g.A.Links.follows c.args.self.now c.args.grant.now c.open.new.self c.requires.sound e.joined e.free e.same b, order_same b.index);
     }
 
 pub returns-then-is_behind : goal.returns-then-is_behind
@@ -15,4 +17,5 @@ returns-then-is_behind g c =
     record {
       joined = as_joined g.A.Links.regions g.A.Links.word g.A.Links.follows c.args.self.now c.args.grant.now c.extend.new.self e.joined;
       linked = admitted_binned c.index_stays.ensures g.A.Links.regions g.A.Links.word g.A.Links.follows c.args.self.now c.args.grant.now c.extend.new.self c.requires.sound e.joined e.free e.same c.requires.linked;
+      order = λ b. (admitted_binned c.index_stays.ensures g.A.Links.regions g.A.Links.word g.A.Links.follows c.args.self.now c.args.grant.now c.extend.new.self c.requires.sound e.joined e.free e.same b, order_same b.index);
     }

@@ -17,7 +17,7 @@ returns-then-size-limit-clause-refused g c =
     ] in
     record {
       refused = too_large (limit c.args.self.now.granularity) c.args.size c.args.align (subst (λ (bound : ℕ). bound ≤ c.args.size + c.args.align) c.max_request-limit.ensures.is more);
-      same = record { followed = search rules; refused = search rules; state = refl; sound = c.requires.sound; regions_same = refl; words = λ k is. refl };
+      same = record { followed = search rules; refused = search rules; state = refl; sound = c.requires.sound; regions_same = refl; words = λ k is. refl; index = λ b. (b, λ n. refl) };
     }
 
 pub overflow_add-n-2 : goal.overflow_add-n-2
@@ -32,7 +32,7 @@ returns-in-Ok-clause-served g c =
     let e = c.align_block.ensures in
     let n = c.request2size-n.ensures in
     let left : IsAligned g.A.Links.regions g.A.Links.word g.A.Links.follows c.c_malloc.new.self c.in-Ok.block c.args.align c.request2size-n.result c.align_block.result c.align_block.new.self =
-    record { place = e.place; multiple = e.multiple; state = e.state; held = e.held; others = e.others; kept = e.kept; words = e.words; sound = e.sound; regions_same = e.regions; followed = e.follows } in
+    record { place = e.place; multiple = e.multiple; state = e.state; held = e.held; others = e.others; kept = e.kept; words = e.words; sound = e.sound; regions_same = e.regions; followed = e.follows; order = e.order } in
     served_aligned g.A.Links.regions g.A.Links.word g.A.Allocator.zeros g.A.Links.follows c.args.self.now c.c_malloc.new.self c.align_block.new.self c.args.size c.args.align c.request2size-n.result c.in-Ok.block c.align_block.result
     n.is n.holds n.near c.in-Ok.ensures.served left
 

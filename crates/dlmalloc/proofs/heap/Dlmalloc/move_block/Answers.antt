@@ -1,4 +1,4 @@
-use Rattle.std.proofs.Common.{ℕ, ◌+◌, ◌-◌, ◌*◌, ◌≤◌, ◌⊎◌, sym, subst, ◌∙◌, ap}
+use Rattle.std.proofs.Common.{ℕ, ◌+◌, ◌-◌, ◌*◌, ◌≤◌, ◌⊎◌, refl, sym, subst, ◌∙◌, ap}
 use Rattle.heap_memory.specs.Words.{AreWordsOf, AreCopied}
 use Rattle.dlmalloc_chunks.specs.Request.{padded}
 use Rattle.dlmalloc.specs.AfterFree.{IsFreed}
@@ -70,6 +70,7 @@ returns-in-Ok-clause-elsewhere g c =
       filled = filled;
       copied = copied;
       same = copied_heap g.A.Links.regions g.A.Links.word g.A.Allocator.zeros g.A.Links.follows c.args.self.now c.args.ptr c.args.held c.args.align c.args.size c.in-Ok.address c.requires.block.0 c.requires.sound c.requires.block.1 c.requires.held c.malloc.new.self c.in-Ok.ensures.served system c.copy_counted.ensures.regions c.copy_counted.ensures.follows copied;
+      index = λ b. (copied_binned g.A.Links.regions g.A.Links.word g.A.Allocator.zeros g.A.Links.follows c.args.self.now c.args.ptr c.args.held c.args.align c.args.size c.in-Ok.address c.requires.block.0 c.requires.sound c.requires.block.1 c.requires.held c.malloc.new.self c.in-Ok.ensures.served system c.copy_counted.ensures.regions c.copy_counted.ensures.follows copied c.index_stays.ensures b, λ n. refl);
       freed = freed;
       block = moved_block g.A.Links.regions g.A.Links.word g.A.Allocator.zeros g.A.Links.follows c.args.self.now c.args.ptr c.args.held c.args.align c.args.size c.in-Ok.address c.requires.block.0 c.requires.sound c.requires.block.1 c.requires.held c.malloc.new.self c.in-Ok.ensures.served system c.copy_counted.ensures.regions c.copy_counted.ensures.follows copied frees parts unit new freed;
       contents = moved_contents g.A.Links.regions g.A.Links.word g.A.Allocator.zeros g.A.Links.follows c.args.self.now c.args.ptr c.args.held c.args.align c.args.size c.in-Ok.address c.requires.block.0 c.requires.sound c.requires.block.1 c.requires.held c.malloc.new.self c.in-Ok.ensures.served system c.copy_counted.ensures.regions c.copy_counted.ensures.follows copied frees parts unit new freed;

@@ -23,4 +23,5 @@ returns g c =
       put = put_before_is g.A.Links.regions g.A.Links.word g.A.Links.follows heap middle new c.args.grant.now c.args.n c.requires.least first last.state last.less last.moved last.records
           (g.A.Links.follows_on heap.system middle.system new.system [] [] [] first.followed last.moved.followed refl);
       linked = last.linked;
+      order = λ b. last.order (prepended_binned g.A.Links.regions g.A.Links.word g.A.Links.follows heap middle c.args.grant.now c.args.n first c.index_stays.ensures c.requires.sound c.prepend.ensures.same b);
     }

@@ -1,12 +1,14 @@
-use Rattle.std.proofs.Common.{◌-◌, ◌<◌, Bool, true, false, ◌&&◌, if◌then◌else◌, [], ◌∷◌, sym, ◌∙◌, ap, subst, arith}
+use Rattle.std.proofs.Common.{ℕ, ◌-◌, ◌<◌, Bool, true, false, ◌&&◌, if◌then◌else◌, [], ◌∷◌, sym, ◌∙◌, ap, subst, arith}
 use Rattle.dlmalloc.specs.Released.{is_own, is_unused, may_leave}
 use Rattle.dlmalloc.specs.State.{HeapState}
 use Rattle.dlmalloc.specs.Heap.{state_of}
 use Rattle.dlmalloc.specs.Binned.{IsFreeAt, FreeMoves}
 use Rattle.dlmalloc.specs.Chained.{IsVisited}
 use Rattle.dlmalloc.specs.declared.heap.Dlmalloc.{Dlmalloc}
-use Rattle.dlmalloc.proofs.Leaving.{never, last_test, first_there, long_told, test_is, first_is_free, stays}
+use Rattle.dlmalloc.proofs.Leaving.{base_is, size_is, never, last_test, first_there, long_told, test_is, first_is_free, stays}
 use Rattle.dlmalloc.proofs.Chaining.{chained_then, may_still, visited_then, visited_binned, loose_still, not_victim, binned_without}
+use Rattle.bins.specs.Index.{without_chunk}
+use Rattle.dlmalloc.proofs.PassOrder.{with_same, visit_none, visit_left, visit_kept}
 use Rattle.dlmalloc.proofs.heap.Dlmalloc.release_segment.Goals as goal
 
 pub may_leave-requires-clause-head : goal.may_leave-requires-clause-head
@@ -90,7 +92,7 @@ returns-then-hand_out-clause-linked g c =
     let visited = e.visited chain in
     binned_without c.index_stays.ensures g.A.Links.regions g.A.Links.word g.A.Links.follows middle new c.unbin.ensures.same.sound c.args.before told chain c.hand_out.result visited e.words e.bins
     (subst (λ (left : Bool). FreeMoves (state_of g.A.Links.word middle) (state_of g.A.Links.word new) (if left then told.base ∷ [] else []) []) c.if-hand_out.true e.free)
-    (c.unbin.ensures.loose [] c.requires.linked (λ none. none))
+    (c.unbin.ensures.loose [] c.requires.linked (λ none. none)).0
 
 -- ---- the system kept it
 
@@ -129,7 +131,7 @@ bin-requires-clause-loose g c =
       [],
       loose_still c.index_stays.ensures g.A.Links.regions g.A.Links.word g.A.Links.follows middle new c.unbin.ensures.same.sound c.args.before told chain c.hand_out.result (e.visited chain) e.words e.bins
           (subst (λ (left : Bool). FreeMoves (state_of g.A.Links.word middle) (state_of g.A.Links.word new) (if left then told.base ∷ [] else []) []) c.if-hand_out.false e.free)
-          (c.unbin.ensures.loose [] c.requires.linked (λ none. none)),
+          (c.unbin.ensures.loose [] c.requires.linked (λ none. none)).0,
     )
 
 pub returns-clause-answer : goal.returns-clause-answer
@@ -161,8 +163,58 @@ returns-clause-linked g c =
     let new = c.hand_out.new.self in
     let e = c.hand_out.ensures in
     let chain = chained_then g.A.Links.regions g.A.Links.word g.A.Links.follows heap middle c.requires.sound c.unbin.ensures.same c.args.before told c.requires.chained in
-    c.bin.ensures.binned []
+    (c.bin.ensures.binned []
     (loose_still c.index_stays.ensures g.A.Links.regions g.A.Links.word g.A.Links.follows middle new c.unbin.ensures.same.sound c.args.before told chain c.hand_out.result (e.visited chain) e.words e.bins
     (subst (λ (left : Bool). FreeMoves (state_of g.A.Links.word middle) (state_of g.A.Links.word new) (if left then told.base ∷ [] else []) []) c.if-hand_out.false e.free)
-    (c.unbin.ensures.loose [] c.requires.linked (λ none. none)))
-    (λ none. none)
+    (c.unbin.ensures.loose [] c.requires.linked (λ none. none)).0)
+    (λ none. none)).0
+
+-- ---- the index
+
+pub returns-then-not-may_leave-clause-index : goal.returns-then-not-may_leave-clause-index
+returns-then-not-may_leave-clause-index g c = λ chained b.
+    let heap = c.args.self.now in
+    let told = c.args.told.now in
+    let may = sym c.if-not-may_leave.true ∙ (c.may_leave.ensures ∙ test_is g.A.Links.regions g.A.Links.word heap c.requires.sound c.requires.there c.args.before told chained (g.A.Allocator.parts heap.system)) in
+    (b, λ n. visit_none (g.A.Allocator.frees heap.system) (g.A.Allocator.parts heap.system) chained.segment b.index n may)
+
+pub returns-then-hand_out-clause-index : goal.returns-then-hand_out-clause-index
+returns-then-hand_out-clause-index g c = λ chained b.
+    let heap = c.args.self.now in
+    let middle = c.unbin.new.self in
+    let told = c.args.told.now in
+    let new = c.hand_out.new.self in
+    let frees = g.A.Allocator.frees heap.system in
+    let parts = g.A.Allocator.parts heap.system in
+    let fixed = g.met.A.Allocator.fixed heap.system middle.system _ c.unbin.ensures.same.followed in
+    let may = sym c.if-not-may_leave.false ∙ (c.may_leave.ensures ∙ test_is g.A.Links.regions g.A.Links.word heap c.requires.sound c.requires.there c.args.before told chained (g.A.Allocator.parts heap.system)) in
+    let base = base_is g.A.Links.regions g.A.Links.word heap c.requires.sound c.requires.there c.args.before told chained in
+    let size = ap (λ (n : ℕ). n - 80) (size_is g.A.Links.regions g.A.Links.word heap c.requires.sound c.requires.there c.args.before told chained) in
+    let e = c.hand_out.ensures in
+    let chain = chained_then g.A.Links.regions g.A.Links.word g.A.Links.follows heap middle c.requires.sound c.unbin.ensures.same c.args.before told chained in
+    let left = c.unbin.ensures.loose [] b (λ none. none) in
+    let takes = sym c.if-hand_out.true ∙ (e.answer ∙ fixed.frees_same) in
+    let after = binned_without c.index_stays.ensures g.A.Links.regions g.A.Links.word g.A.Links.follows middle new c.unbin.ensures.same.sound c.args.before told chain c.hand_out.result (e.visited chain) e.words e.bins
+    (subst (λ (left : Bool). FreeMoves (state_of g.A.Links.word middle) (state_of g.A.Links.word new) (if left then told.base ∷ [] else []) []) c.if-hand_out.true e.free) left.0 in
+    (after, λ n. left.1 n ∙ visit_left frees parts chained.segment b.index n told.base (told.size - 80) base size may takes)
+
+pub returns-clause-index : goal.returns-clause-index
+returns-clause-index g c = λ chained b.
+    let heap = c.args.self.now in
+    let middle = c.unbin.new.self in
+    let told = c.args.told.now in
+    let new = c.hand_out.new.self in
+    let frees = g.A.Allocator.frees heap.system in
+    let parts = g.A.Allocator.parts heap.system in
+    let fixed = g.met.A.Allocator.fixed heap.system middle.system _ c.unbin.ensures.same.followed in
+    let may = sym c.if-not-may_leave.false ∙ (c.may_leave.ensures ∙ test_is g.A.Links.regions g.A.Links.word heap c.requires.sound c.requires.there c.args.before told chained (g.A.Allocator.parts heap.system)) in
+    let base = base_is g.A.Links.regions g.A.Links.word heap c.requires.sound c.requires.there c.args.before told chained in
+    let size = ap (λ (n : ℕ). n - 80) (size_is g.A.Links.regions g.A.Links.word heap c.requires.sound c.requires.there c.args.before told chained) in
+    let e = c.hand_out.ensures in
+    let chain = chained_then g.A.Links.regions g.A.Links.word g.A.Links.follows heap middle c.requires.sound c.unbin.ensures.same c.args.before told chained in
+    let left = c.unbin.ensures.loose [] b (λ none. none) in
+    let takes = sym c.if-hand_out.false ∙ (e.answer ∙ fixed.frees_same) in
+    let loose = loose_still c.index_stays.ensures g.A.Links.regions g.A.Links.word g.A.Links.follows middle new c.unbin.ensures.same.sound c.args.before told chain c.hand_out.result (e.visited chain) e.words e.bins
+    (subst (λ (left : Bool). FreeMoves (state_of g.A.Links.word middle) (state_of g.A.Links.word new) (if left then told.base ∷ [] else []) []) c.if-hand_out.false e.free) left.0 in
+    let after = c.bin.ensures.binned [] loose (λ none. none) in
+    (after.0, λ n. after.1 n ∙ (with_same (told.size - 80) told.base left.0.index (without_chunk (told.size - 80) told.base b.index) n (left.1 n) ∙ visit_kept frees parts chained.segment b.index n told.base (told.size - 80) base size may takes))

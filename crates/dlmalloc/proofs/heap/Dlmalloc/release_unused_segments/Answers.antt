@@ -5,9 +5,10 @@ use Rattle.dlmalloc.specs.State.{countdown_from}
 use Rattle.dlmalloc.specs.Binned.{IsBinned}
 use Rattle.dlmalloc.specs.Chained.{IsVisited}
 use Rattle.dlmalloc.specs.GivenBack.{IsPassed}
+use Rattle.dlmalloc.specs.Order.{after_visit, IsReindexed}
 use Rattle.dlmalloc.specs.declared.heap.Dlmalloc.{Dlmalloc}
 use Rattle.dlmalloc.proofs.Passing.{Passing, begun_passing, read_high, read_word, ahead, chained, sum_fits, count_fits, more_left, on_passing, passed_all}
-use Rattle.dlmalloc.proofs.Chaining.{same_bins}
+use Rattle.dlmalloc.proofs.Rebinned.{same_bins}
 use Rattle.dlmalloc.proofs.heap.Dlmalloc.release_unused_segments.Goals.{then-release_segment, else-release_segment}
 use Rattle.dlmalloc.proofs.heap.Dlmalloc.release_unused_segments.Goals as goal
 
@@ -59,18 +60,21 @@ loop-payload-preserved g c =
     let chain = chained g.A.Links.regions g.A.Links.word g.A.Links.follows (g.A.Allocator.frees c.args.self.now.system) (g.A.Allocator.parts c.args.self.now.system) c.args.self.now c.requires.sound c.loop-payload.before c.loop-payload.payload c.loop-payload.visited c.loop-payload.released c.loop-payload.self c.loop-payload.invariant.0 c.loop-payload-test.true c.record_at-told.result c.record_at-told.ensures in
     let answer : c.release_segment.result ≡ (g.A.Allocator.frees old.system && may_leave (g.A.Allocator.parts old.system) one.segment) =
     c.release_segment.ensures.answer chain ∙ (λ i. fixed.frees_same i && may_leave (fixed.parts_same i) one.segment) in
+    let index : IsReindexed g.A.Links.regions g.A.Links.word (after_visit (g.A.Allocator.frees old.system) (g.A.Allocator.parts old.system) one.segment) now c.release_segment.new.self =
+    subst (λ (frees : Bool). IsReindexed g.A.Links.regions g.A.Links.word (after_visit frees (g.A.Allocator.parts old.system) one.segment) now c.release_segment.new.self) fixed.frees_same
+    (subst (λ (parts : Bool). IsReindexed g.A.Links.regions g.A.Links.word (after_visit (g.A.Allocator.frees now.system) parts one.segment) now c.release_segment.new.self) fixed.parts_same (c.release_segment.ensures.index chain)) in
     let visited = subst (λ (parts : Bool). IsVisited g.A.Links.regions g.A.Links.word g.A.Links.follows (may_leave parts one.segment) c.release_segment.result now c.loop-payload.before c.record_at-told.result chain c.release_segment.new.self) fixed.parts_same (c.release_segment.ensures.visited chain) in (
       elim c.if-release_segment.branch [
         | then-release_segment w ↦
             subst (λ (b : ℕ). Passing g.A.Links.regions g.A.Links.word g.A.Links.follows (g.A.Allocator.frees old.system) (g.A.Allocator.parts old.system) old b c.record_at-told.result.next (c.loop-payload.visited + 1) c.if-release_segment.released c.release_segment.new.self) (sym w.before-is)
             (subst (λ (r : ℕ). Passing g.A.Links.regions g.A.Links.word g.A.Links.follows (g.A.Allocator.frees old.system) (g.A.Allocator.parts old.system) old c.loop-payload.before c.record_at-told.result.next (c.loop-payload.visited + 1) r c.release_segment.new.self) (sym w.released-is)
             (on_passing g.A.Links.regions g.A.Links.word g.A.Links.follows (g.A.Allocator.frees c.args.self.now.system) (g.A.Allocator.parts c.args.self.now.system) c.args.self.now c.requires.sound c.loop-payload.before c.loop-payload.payload c.loop-payload.visited c.loop-payload.released c.loop-payload.self c.loop-payload.invariant.0 c.loop-payload-test.true c.record_at-told.result c.record_at-told.ensures g.A.Links.follows_on true (sym w.if-release_segment.true ∙ answer) c.release_segment.new.self
-            (subst (λ (b : Bool). IsVisited g.A.Links.regions g.A.Links.word g.A.Links.follows (may_leave (g.A.Allocator.parts old.system) one.segment) b now c.loop-payload.before c.record_at-told.result chain c.release_segment.new.self) w.if-release_segment.true visited)))
+            (subst (λ (b : Bool). IsVisited g.A.Links.regions g.A.Links.word g.A.Links.follows (may_leave (g.A.Allocator.parts old.system) one.segment) b now c.loop-payload.before c.record_at-told.result chain c.release_segment.new.self) w.if-release_segment.true visited) index))
         | else-release_segment w ↦
             subst (λ (b : ℕ). Passing g.A.Links.regions g.A.Links.word g.A.Links.follows (g.A.Allocator.frees old.system) (g.A.Allocator.parts old.system) old b c.record_at-told.result.next (c.loop-payload.visited + 1) c.if-release_segment.released c.release_segment.new.self) (sym w.before-is)
             (subst (λ (r : ℕ). Passing g.A.Links.regions g.A.Links.word g.A.Links.follows (g.A.Allocator.frees old.system) (g.A.Allocator.parts old.system) old c.loop-payload.payload c.record_at-told.result.next (c.loop-payload.visited + 1) r c.release_segment.new.self) (sym w.released-is)
             (on_passing g.A.Links.regions g.A.Links.word g.A.Links.follows (g.A.Allocator.frees c.args.self.now.system) (g.A.Allocator.parts c.args.self.now.system) c.args.self.now c.requires.sound c.loop-payload.before c.loop-payload.payload c.loop-payload.visited c.loop-payload.released c.loop-payload.self c.loop-payload.invariant.0 c.loop-payload-test.true c.record_at-told.result c.record_at-told.ensures g.A.Links.follows_on false (sym w.if-release_segment.false ∙ answer) c.release_segment.new.self
-            (subst (λ (b : Bool). IsVisited g.A.Links.regions g.A.Links.word g.A.Links.follows (may_leave (g.A.Allocator.parts old.system) one.segment) b now c.loop-payload.before c.record_at-told.result chain c.release_segment.new.self) w.if-release_segment.false visited)))
+            (subst (λ (b : Bool). IsVisited g.A.Links.regions g.A.Links.word g.A.Links.follows (may_leave (g.A.Allocator.parts old.system) one.segment) b now c.loop-payload.before c.record_at-told.result chain c.release_segment.new.self) w.if-release_segment.false visited) index))
       ],
       c.release_segment.ensures.linked,
     )

@@ -8,6 +8,7 @@ use Rattle.dlmalloc.proofs.Served.{as_turned}
 use Rattle.dlmalloc.proofs.Rebinned.{binned_beside}
 use Rattle.dlmalloc.proofs.Answering.{head_there, behind_there, behind_small}
 use Rattle.dlmalloc.proofs.Resizing.{shrinks, stays, grows, has_no_room, not_free, is_free_told, chunk_told, top_behind, free_behind, used_behind}
+use Rattle.dlmalloc.proofs.Ordering.{order_same}
 use Rattle.dlmalloc.proofs.heap.Dlmalloc.resize_chunk.Goals as goal
 
 pub size-size-requires : goal.size-size-requires
@@ -116,3 +117,20 @@ pub returns-then-next-self-clause-linked : goal.returns-then-next-self-clause-li
 returns-then-next-self-clause-linked g c =
     let e = c.grow_into_top.ensures in
     binned_beside c.index_stays.ensures g.A.Links.regions g.A.Links.word g.A.Links.follows c.args.self.now c.grow_into_top.new.self c.requires.sound e.moved e.bins e.free (ap (λ (s : HeapState). s.victim) e.state) c.requires.linked
+
+pub returns-then-next-self-clause-order : goal.returns-then-next-self-clause-order
+returns-then-next-self-clause-order g c = λ b.
+    let e = c.grow_into_top.ensures in
+    (binned_beside c.index_stays.ensures g.A.Links.regions g.A.Links.word g.A.Links.follows c.args.self.now c.grow_into_top.new.self c.requires.sound e.moved e.bins e.free (ap (λ (s : HeapState). s.victim) e.state) b, order_same b.index)
+
+pub returns-else-size-n-ge-LEAST_CHUNK-clause-order : goal.returns-else-size-n-ge-LEAST_CHUNK-clause-order
+returns-else-size-n-ge-LEAST_CHUNK-clause-order g c = λ b. (b, order_same b.index)
+
+pub returns-then-more-self-clause-order : goal.returns-then-more-self-clause-order
+returns-then-more-self-clause-order g c = λ b. (b, order_same b.index)
+
+pub returns-then-inuse-clause-order : goal.returns-then-inuse-clause-order
+returns-then-inuse-clause-order g c = λ b. (b, order_same b.index)
+
+pub returns-then-free-more-clause-order : goal.returns-then-free-more-clause-order
+returns-then-free-more-clause-order g c = λ b. (b, order_same b.index)

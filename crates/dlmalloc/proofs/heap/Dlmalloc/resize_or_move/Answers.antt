@@ -1,4 +1,6 @@
-use Rattle.std.proofs.Common.{◌≡◌, ℕ, ◌+◌, ◌-◌, ◌<◌, ◌≤◌, inl, Some, refl, subst, arith}
+use Rattle.std.proofs.Common.{◌≡◌, ℕ, ◌+◌, ◌-◌, ◌<◌, ◌≤◌, inl, Some, true, refl, subst, arith, rules}
+use Rattle.std.specs.Prelude.{nat_le}
+use Rattle.std.proofs.lemmas.Bool.Decides.{nat_tests}
 use Rattle.dlmalloc_chunks.specs.Request.{limit}
 use Rattle.dlmalloc.specs.Resized.{in_place}
 use Rattle.dlmalloc.specs.Heap.{state_of}
@@ -29,5 +31,15 @@ returns-then-resize_chunk-clause-resized g c =
           (subst (λ (n : ℕ). in_place (state_of g.A.Links.word old) (c.args.ptr - 16) n ≡ Some (state_of g.A.Links.word new)) request.is (done.resized c.if-resize_chunk.true))
           held.1
           done.others
-          done.moved,
+          done.moved
+          done.order,
     )
+
+pub returns-then-size-max_request-clause-refused : goal.returns-then-size-max_request-clause-refused
+returns-then-size-max_request-clause-refused g c =
+    let least = c.requires.least in
+    let test : nat_le c.args.align 16 ≡ true = grind (arith, nat_tests) in
+    record {
+      refused = rw test (let is = c.max_request.ensures.is in let more = c.if-size-max_request.true in omega arith);
+      same = record { followed = search rules; refused = search rules; state = refl; sound = c.requires.sound; regions_same = refl; words = λ k is. refl; index = λ b. (b, λ n. refl) };
+    }

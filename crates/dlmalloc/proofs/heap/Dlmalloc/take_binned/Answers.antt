@@ -1,16 +1,18 @@
-use Rattle.std.proofs.Common.{ℕ, ◌+◌, ◌≡◌, [], ◌∷◌, Some, sym, ◌∙◌, ap, subst, arith}
+use Rattle.std.proofs.Common.{ℕ, ◌+◌, ◌-◌, ◌≡◌, ◌≢◌, [], Some, refl, sym, ◌∙◌, ap, subst, arith}
 use Rattle.dlmalloc_chunks.specs.declared.extent.Kind.TheVariants.{Free}
 use Rattle.dlmalloc.specs.State.{HeapState, extents_in}
 use Rattle.dlmalloc.specs.Extents.{extent_at}
 use Rattle.dlmalloc.specs.Taken.{taken}
 use Rattle.dlmalloc.specs.Blocks.{HasOneMore}
 use Rattle.dlmalloc.specs.Heap.{state_of}
-use Rattle.dlmalloc.specs.Binned.{IsBinnedBut}
+use Rattle.dlmalloc.specs.Binned.{IsFreeAt}
+use Rattle.dlmalloc.specs.Order.{KeepsOrder}
 use Rattle.dlmalloc.proofs.Places.{extent}
 use Rattle.dlmalloc.proofs.Taking.{end_small}
 use Rattle.dlmalloc.proofs.Turning.{turned}
-use Rattle.dlmalloc.proofs.Rebinned.{not_rebinned}
-use Rattle.dlmalloc.proofs.TakingBins.{whole_taken, small_taken, small_other, large_taken, large_other, old_victim_free, old_victim_none}
+use Rattle.dlmalloc.proofs.Rebinned.{not_rebinned, renamed}
+use Rattle.dlmalloc.proofs.Ordering.{lessened_as, added_as, order_less, in_order}
+use Rattle.dlmalloc.proofs.TakingBins.{whole_taken, rest_came, small_taken, small_other, large_taken, large_other, old_victim_free, old_victim_none}
 use Rattle.dlmalloc.proofs.heap.Dlmalloc.take_binned.Goals as goal
 
 pub unbin-requires-clause-binned : goal.unbin-requires-clause-binned
@@ -35,11 +37,15 @@ returns-then-rest-lt-LEAST_CHUNK g c =
     let e = c.cut_chunk.ensures in
     let less = c.if-rest-lt-LEAST_CHUNK.true in
     let fits = c.requires.fits in
+    let order : KeepsOrder regions word old new = λ b.
+    let left = one.loose [] b (λ none. none) in
+    (whole_taken c.index_stays.ensures regions word g.A.Links.follows middle new one.same.sound c.args.at c.args.size c.args.n e.moved e.state e.free e.bins (λ is. c.requires.other (is ∙ ap (λ h. h.victim) one.same.fields)) left.0 (omega arith), order_less b.index left.0.index (lessened_as c.args.size c.args.at b.index left.0.index left.1)) in
     record {
       state = e.state ∙ ap (λ (s : HeapState). taken s (extent c.args.at c.args.size Free) c.args.n) one.same.state;
       more = subst (λ (s : HeapState). HasOneMore s (state_of word new) c.args.at) one.same.state e.more;
       moved = turned regions word g.A.Links.follows g.A.Links.follows_on old middle new new one.same e.moved (not_rebinned regions word g.A.Links.follows new e.moved.sound (g.A.Links.follows_none new.system));
-      linked = whole_taken c.index_stays.ensures regions word g.A.Links.follows middle new one.same.sound c.args.at c.args.size c.args.n e.moved e.state e.free e.bins (λ is. c.requires.other (is ∙ ap (λ h. h.victim) one.same.fields)) (one.loose [] c.requires.linked (λ none. none)) (omega arith);
+      linked = (order c.requires.linked).0;
+      order = order;
       counted = omega arith;
     }
 
@@ -86,9 +92,9 @@ bin_some-requires-clause-loose g c =
     let more = c.if-rest-lt-LEAST_CHUNK.false in
     let fits = c.requires.fits in (
       [],
-      subst (λ (v : ℕ). IsBinnedBut (v ∷ []) g.A.Links.regions g.A.Links.word c.cut_chunk.new.self) at
+      renamed g.A.Links.regions g.A.Links.word c.cut_chunk.new.self c.unbin.new.self.victim c.args.self.now.victim at
           (small_taken c.index_stays.ensures g.A.Links.regions g.A.Links.word g.A.Links.follows c.unbin.new.self c.cut_chunk.new.self one.same.sound c.args.at c.args.size c.args.n e.moved e.state e.free e.bins (λ is. c.requires.other (is ∙ at)) (omega arith) c.if-n-lt-LEAST_LARGE.true
-          (one.loose [] c.requires.linked (λ none. none))),
+          (one.loose [] c.requires.linked (λ none. none)).0),
     )
 
 pub returns-then-n-lt-LEAST_LARGE : goal.returns-then-n-lt-LEAST_LARGE
@@ -104,12 +110,18 @@ returns-then-n-lt-LEAST_LARGE g c =
     let at = ap (λ h. h.victim) one.same.fields in
     let more = c.if-rest-lt-LEAST_CHUNK.false in
     let fits = c.requires.fits in
+    let order : KeepsOrder regions word c.args.self.now new = λ b.
+    let left = one.loose [] b (λ none. none) in
+    let loose = renamed regions word cut middle.victim c.args.self.now.victim at
+    (small_taken c.index_stays.ensures regions word g.A.Links.follows middle cut one.same.sound c.args.at c.args.size c.args.n e.moved e.state e.free e.bins (λ is. c.requires.other (is ∙ at)) (omega arith) c.if-n-lt-LEAST_LARGE.true left.0) in
+    let after = last.binned [] loose (λ none. none) in
+    (after.0, in_order c.args.self.now.victim_size c.args.self.now.victim b.index left.0.index after.0.index (lessened_as c.args.size c.args.at b.index left.0.index left.1) after.1 (λ is. b.holds.no_victim c.args.self.now.victim c.args.self.now.victim_size is refl)) in
     record {
       state = last.same.state ∙ (e.state ∙ ap (λ (s : HeapState). taken s (extent c.args.at c.args.size Free) c.args.n) one.same.state);
       more = subst (λ (s : HeapState). HasOneMore (state_of word c.args.self.now) s c.args.at) (sym last.same.state) (subst (λ (s : HeapState). HasOneMore s (state_of word cut) c.args.at) one.same.state e.more);
       moved = turned regions word g.A.Links.follows g.A.Links.follows_on c.args.self.now middle cut new one.same e.moved last.same;
-      linked = last.binned [] (subst (λ (v : ℕ). IsBinnedBut (v ∷ []) regions word cut) at
-          (small_taken c.index_stays.ensures regions word g.A.Links.follows middle cut one.same.sound c.args.at c.args.size c.args.n e.moved e.state e.free e.bins (λ is. c.requires.other (is ∙ at)) (omega arith) c.if-n-lt-LEAST_LARGE.true (one.loose [] c.requires.linked (λ none. none)))) (λ none. none);
+      linked = (order c.requires.linked).0;
+      order = order;
       counted = omega arith;
     }
 
@@ -143,7 +155,7 @@ bin-requires-clause-loose g c =
     let fits = c.requires.fits in (
       [],
       large_taken c.index_stays.ensures g.A.Links.regions g.A.Links.word g.A.Links.follows c.unbin.new.self c.cut_chunk.new.self one.same.sound c.args.at c.args.size c.args.n e.moved e.state e.free e.bins
-          (λ is. c.requires.other (is ∙ ap (λ h. h.victim) one.same.fields)) (omega arith) c.if-n-lt-LEAST_LARGE.false (one.loose [] c.requires.linked (λ none. none)),
+          (λ is. c.requires.other (is ∙ ap (λ h. h.victim) one.same.fields)) (omega arith) c.if-n-lt-LEAST_LARGE.false (one.loose [] c.requires.linked (λ none. none)).0,
     )
 
 pub returns : goal.returns
@@ -158,11 +170,22 @@ returns g c =
     let last = c.bin.ensures in
     let more = c.if-rest-lt-LEAST_CHUNK.false in
     let fits = c.requires.fits in
+    let rest = c.args.at + c.args.n in
+    let other : c.args.at ≢ middle.victim = λ is. c.requires.other (is ∙ ap (λ h. h.victim) one.same.fields) in
+    let order : KeepsOrder regions word c.args.self.now new = λ b.
+    let left = one.loose [] b (λ none. none) in
+    let loose = large_taken c.index_stays.ensures regions word g.A.Links.follows middle cut one.same.sound c.args.at c.args.size c.args.n e.moved e.state e.free e.bins other (omega arith) c.if-n-lt-LEAST_LARGE.false left.0 in
+    let after = last.binned [] loose (λ none. none) in
+    let new_one = rest_came c.index_stays.ensures regions word g.A.Links.follows middle cut one.same.sound c.args.at c.args.size c.args.n e.moved e.state e.free e.bins other (omega arith) in (
+      after.0,
+      in_order (c.args.size - c.args.n) rest b.index left.0.index after.0.index (lessened_as c.args.size c.args.at b.index left.0.index left.1) (added_as (c.args.size - c.args.n) rest left.0.index after.0.index after.1)
+          (λ is. new_one (c.args.size - c.args.n) (subst (λ (s : HeapState). IsFreeAt s rest (c.args.size - c.args.n)) (sym one.same.state) (b.holds.free rest (c.args.size - c.args.n) is)) (let least = c.requires.least in omega arith)),
+    ) in
     record {
       state = last.same.state ∙ (e.state ∙ ap (λ (s : HeapState). taken s (extent c.args.at c.args.size Free) c.args.n) one.same.state);
       more = subst (λ (s : HeapState). HasOneMore (state_of word c.args.self.now) s c.args.at) (sym last.same.state) (subst (λ (s : HeapState). HasOneMore s (state_of word cut) c.args.at) one.same.state e.more);
       moved = turned regions word g.A.Links.follows g.A.Links.follows_on c.args.self.now middle cut new one.same e.moved last.same;
-      linked = last.binned [] (large_taken c.index_stays.ensures regions word g.A.Links.follows middle cut one.same.sound c.args.at c.args.size c.args.n e.moved e.state e.free e.bins
-          (λ is. c.requires.other (is ∙ ap (λ h. h.victim) one.same.fields)) (omega arith) c.if-n-lt-LEAST_LARGE.false (one.loose [] c.requires.linked (λ none. none))) (λ none. none);
+      linked = (order c.requires.linked).0;
+      order = order;
       counted = omega arith;
     }

@@ -1,8 +1,10 @@
 use Rattle.dlmalloc.proofs.Rebinned.{rebinned, not_rebinned, is_binned, now_loose, links_unlink, victim_loose}
+use Rattle.dlmalloc.proofs.Ordering.{none_left}
+use Rattle.std.proofs.Common.{refl}
 use Rattle.dlmalloc.proofs.heap.Dlmalloc.unbin.Goals as goal
 
 pub returns-then-at-self-clause-loose : goal.returns-then-at-self-clause-loose
-returns-then-at-self-clause-loose g c = λ loose b apart. victim_loose g.A.Links.regions g.A.Links.word c.args.self.now c.requires.sound c.args.at c.args.size c.requires.free loose b c.if-at-self.true
+returns-then-at-self-clause-loose g c = λ loose b apart. (victim_loose g.A.Links.regions g.A.Links.word c.args.self.now c.requires.sound c.args.at c.args.size c.requires.free loose b c.if-at-self.true, λ n. none_left c.args.size c.args.at b.index n (λ is. b.holds.no_victim c.args.at n is c.if-at-self.true))
 
 pub returns-then-at-self-clause-same : goal.returns-then-at-self-clause-same
 returns-then-at-self-clause-same g c = not_rebinned g.A.Links.regions g.A.Links.word g.A.Links.follows c.args.self.now c.requires.sound (g.A.Links.follows_none c.args.self.now.system)
@@ -18,7 +20,7 @@ returns-clause-loose g c = λ loose b apart.
     let e = c.unlink.ensures in
     let links = links_unlink g.A.Links.regions g.A.Links.word c.args.self.now c.requires.sound c.args.at c.args.size c.requires.free loose b (g.A.Links.word c.unlink.new.memory) (e.words b.index b.linked is) in
     let same = rebinned g.A.Links.regions g.A.Links.word g.A.Links.follows c.args.self.now c.requires.sound c.unlink.new.memory c.unlink.new.self e.regions links e.follows in
-    now_loose g.A.Links.regions g.A.Links.word c.args.self.now c.requires.sound c.args.at c.args.size c.requires.free loose b c.unlink.new.memory c.unlink.new.self (e.linked b.index b.linked is) same.state
+    (now_loose g.A.Links.regions g.A.Links.word c.args.self.now c.requires.sound c.args.at c.args.size c.requires.free loose b c.unlink.new.memory c.unlink.new.self (e.linked b.index b.linked is) same.state, λ n. refl)
 
 pub returns-clause-same : goal.returns-clause-same
 returns-clause-same g c =

@@ -1,0 +1,9 @@
+use Rattle.std.proofs.Common.{refl}
+use Rattle.dlmalloc.proofs.Outside.{still_binned}
+use Rattle.dlmalloc.proofs.heap.Dlmalloc.order_rests_outside.Goals as goal
+
+pub returns : goal.returns
+returns g c = λ sound system stay outside before. (
+  still_binned g.A.Links.regions g.A.Links.word c.args.self.now sound system stay outside c.index_stays.ensures before,
+  λ n. refl,
+)
