@@ -95,14 +95,14 @@ all_parted regions words (segment ∷ segments) parts = (parted words Used segme
 
 module _ (regions : List Grant) (words : ℕ → ℕ) (segment : Segment) (part : IsSegment regions words segment) (unused : (one : Extent) → extent_at one.at segment.extents ≡ Some one → one.kind ≢ Used) where
   -- a free extent, and what ends the segment
-  record IsBare : Type 0 where
+  pub record IsBare : Type 0 where
     pub one : Extent
     pub last : Extent
     pub is : segment.extents ≡ one ∷ last ∷ []
     pub free : (one.kind ≡ Free) ⊎ (one.kind ≡ Top)
     pub ends : ends_segment last.kind ≡ true
 
-  bare : IsBare
+  pub bare : IsBare
   bare = go segment.extents refl part.extents part.tail
     where
       go : (extents : List Extent) → segment.extents ≡ extents → Tiles words Used segment.base extents (segment.base + segment.size) → ends_segment (last_kind Used extents) ≡ true → IsBare
@@ -156,7 +156,7 @@ module _ (regions : List Grant) (words : ℕ → ℕ) (segment : Segment) (part 
           go Foot ends = refl
 
   -- what is found is one of the two
-  either : (k : ℕ) (other : Extent) → extent_at k segment.extents ≡ Some other → (bare.one ≡ other) ⊎ (bare.last ≡ other)
+  pub either : (k : ℕ) (other : Extent) → extent_at k segment.extents ≡ Some other → (bare.one ≡ other) ⊎ (bare.last ≡ other)
   either k other there = elim (found_either k (bare.one ∷ []) (bare.last ∷ []) other (ap (extent_at k) (sym bare.is) ∙ there)) [
     | inl here ↦ inl (at_one k bare.one other here).0
     | inr later ↦ inr (at_one k bare.last other later.1).0

@@ -99,4 +99,5 @@ pub mod AllTiled
 pub mod SpanList
 pub mod Full
 pub mod FreeExtents
+pub mod Idle
 mod TwoSegments

@@ -1,10 +1,11 @@
 -- Segments that are not in use go back to the system (dlmalloc: `release_unused_segments`, `destroy`).
-use Rattle.std.specs.Prelude.{◌≡◌, ℕ, ◌+◌, ◌-◌, ◌%◌, ◌<◌, ◌≤◌, Bool, false, not, ◌&&◌, ◌==◌, nat_le, max, if◌then◌else◌, List, [], ◌∷◌, map, filter, find, length, Option, Some, None, IsTrue}
-use Rattle.std.specs.List.{list_any}
+use Rattle.std.specs.Prelude.{◌≡◌, ◌≢◌, ◌↔◌, ⊤, ℕ, ◌+◌, ◌-◌, ◌%◌, ◌<◌, ◌≤◌, Bool, false, not, ◌&&◌, ◌==◌, nat_le, max, if◌then◌else◌, List, [], ◌∷◌, map, filter, find, length, Option, Some, None, IsTrue}
+use Rattle.std.specs.List.{list_any, AllByRecursion}
 use Rattle.heap_memory.specs.declared.grant.Grant.{Grant}
 use Rattle.heap_memory.specs.Events.{Event, Released}
 use Rattle.heap_memory.specs.Runs.{without}
 use Rattle.dlmalloc_chunks.specs.declared.extent.Extent.{Extent}
+use Rattle.dlmalloc_chunks.specs.declared.extent.Kind.TheVariants.{Used, Record}
 use Rattle.dlmalloc.specs.Extents.{is_free, extent_at}
 use Rattle.dlmalloc.specs.State.{HeapState, Segment, extents_in, is_free_below_top, is_binned, countdown_from}
 use Rattle.dlmalloc.specs.Freed.{has}
@@ -26,6 +27,17 @@ is_own segment = segment.flags % 2 == 0
 -- whether a pass hands it to a system, which takes parts or takes none
 abbrev pub may_leave : Bool → Segment → Bool
 may_leave parts segment = is_own segment && (parts && is_unused segment)
+
+-- In words: no extent of a segment is in use, and its record has 80 bytes. (Behind a rest of 16 bytes a record has 96.)
+pub record IsIdle (segment : Segment) : Type 0 where
+  pub unused : (extent : Extent) → extent_at extent.at segment.extents ≡ Some extent → extent.kind ≢ Used
+  pub record_at : ℕ
+  pub short : extent_at record_at segment.extents ≡ Some (record { at = record_at; size = 80; kind = Record })
+
+-- Of the segments behind the head a pass hands out those that are idle and the heap's to give back, where the system takes parts.
+abbrev pub IdleAreHandedOut : Bool → List Segment → Type 0
+IdleAreHandedOut parts [] = ⊤
+IdleAreHandedOut parts (head ∷ segments) = AllByRecursion (λ segment. IsTrue (may_leave parts segment) ↔ (IsTrue parts × IsTrue (is_own segment) × IsIdle segment)) segments
 
 -- those that a pass hands out: the head stays
 abbrev pub handed_out : Bool → List Segment → List Segment

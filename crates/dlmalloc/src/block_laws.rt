@@ -3,6 +3,7 @@ ghost use Rattle.std.specs.List.{AllByRecursion};
 ghost use Rattle.dlmalloc.specs.Blocks.{ArePlaced, BlocksAreApart};
 ghost use Rattle.dlmalloc.specs.FreeExtents.{AreParted, IsUnused, EachHasOneFree};
 ghost use Rattle.dlmalloc.specs.Heap.{state_of, IsSound};
+ghost use Rattle.dlmalloc.specs.Released.{IdleAreHandedOut};
 ghost use Rattle.dlmalloc.specs.Served.{RestsOutside, OrderRestsOutside};
 
 use crate::heap::Dlmalloc;
@@ -50,5 +51,12 @@ impl<A: Allocator> Dlmalloc<A> {
         requires sound { IsSound A.regions A.word self.now }
         requires unused { IsUnused (state_of A.word self.now) }
         ensures { EachHasOneFree (state_of A.word self.now).segments }
+    {}
+
+    /// A release pass hands out a segment behind the head exactly where it is idle, is the heap's to give back, and the
+    /// system takes parts: no extent of it is in use, and its record has 80 bytes (own).
+    pub fn idle_segments_are_handed_out(&self)
+        requires { IsSound A.regions A.word self.now }
+        ensures { IdleAreHandedOut (A.parts self.now.system) (state_of A.word self.now).segments }
     {}
 }

@@ -4,7 +4,7 @@ ghost use Rattle.std.specs.Int.{IsPowerOfTwo};
 ghost use Rattle.dlmalloc.specs.Binned.{IsBinned};
 ghost use Rattle.dlmalloc.specs.Heap.{IsSound};
 ghost use Rattle.dlmalloc.specs.Served.{IsRefusedWith};
-ghost use Rattle.dlmalloc.specs.Requested.{asked, IsHandedOut};
+ghost use Rattle.dlmalloc.specs.Requested.{asked, IsHandedOut, IsMemberServed};
 ghost use Rattle.dlmalloc.specs.Written.{words_in, IsServedCleared};
 
 use crate::heap::Dlmalloc;
@@ -36,8 +36,10 @@ impl<A: Allocator> Dlmalloc<A> {
         ensures handed { IfOk result (λ address. IsHandedOut A.regions A.word A.follows self.old size align address self.new) }
         ensures served { IfOk result (λ address. IsServedCleared A.regions A.word A.zeros A.follows self.old size align address self.new) }
         ensures refused { IfErr result (λ error. IsRefusedWith A.regions A.word A.follows A.refuses A.denies self.old (asked size align) error self.new) }
+        ensures untouched { IfErr result (λ error. error ≡ MallocError.TooLarge → self.new ≡ self.old) }
         ensures sound { IsSound A.regions A.word self.new }
         ensures linked { IsBinned A.regions A.word self.new }
+        ensures member { IfOk result (λ address. IsMemberServed A.regions A.word self.old size align address) }
     {
         match self.malloc(size, align, steps) {
             Ok(address) => {

@@ -23,7 +23,8 @@ use step_count::Steps;
 impl<A: Allocator> Dlmalloc<A> {
     /// Asks for a block of `size` bytes at a multiple of `align`, and answers its address (dlmalloc:
     /// `Dlmalloc::malloc`). It writes words at boundaries of extents and in free ones alone, and so no byte of another block.
-    /// Where an extent is chosen, at most 8192 words are loaded or stored, however many extents there are.
+    /// Where an extent is chosen, at most 8192 words are loaded or stored, however many extents there are. A request that is
+    /// too large leaves the heap as it was.
     pub fn malloc<L: Ledger>(
         &mut self,
         size: u64,
@@ -36,6 +37,7 @@ impl<A: Allocator> Dlmalloc<A> {
         ensures served { IfOk result (λ address. IsServedAt A.regions A.word A.zeros A.follows self.old size align address self.new) }
         ensures handed { IfOk result (λ address. IsHandedOut A.regions A.word A.follows self.old size align address self.new) }
         ensures refused { IfErr result (λ error. IsRefusedWith A.regions A.word A.follows A.refuses A.denies self.old (asked size align) error self.new) }
+        ensures untouched { IfErr result (λ error. error ≡ MallocError.TooLarge → self.new ≡ self.old) }
         ensures sound { IsSound A.regions A.word self.new }
         ensures linked { IsBinned A.regions A.word self.new }
         ensures member { IfOk result (λ address. IsMemberServed A.regions A.word self.old size align address) }
@@ -61,6 +63,7 @@ impl<A: Allocator> Dlmalloc<A> {
         ensures served { IfOk result (λ address. IsServedAt A.regions A.word A.zeros A.follows self.old size align address self.new) }
         ensures handed { IfOk result (λ address. IsHandedOut A.regions A.word A.follows self.old size align address self.new) }
         ensures refused { IfErr result (λ error. IsRefusedWith A.regions A.word A.follows A.refuses A.denies self.old (asked size align) error self.new) }
+        ensures untouched { IfErr result (λ error. error ≡ MallocError.TooLarge → self.new ≡ self.old) }
         ensures sound { IsSound A.regions A.word self.new }
         ensures linked { IsBinned A.regions A.word self.new }
         ensures member { IfOk result (λ address. IsMemberServed A.regions A.word self.old size align address) }
@@ -80,6 +83,7 @@ impl<A: Allocator> Dlmalloc<A> {
         requires linked { IsBinned A.regions A.word self.old }
         ensures served { IfOk result (λ address. IsServed A.regions A.word A.zeros A.follows self.old size address self.new) }
         ensures refused { IfErr result (λ error. IsRefusedWith A.regions A.word A.follows A.refuses A.denies self.old size error self.new) }
+        ensures untouched { IfErr result (λ error. error ≡ MallocError.TooLarge → self.new ≡ self.old) }
         ensures sound { IsSound A.regions A.word self.new }
         ensures linked { IsBinned A.regions A.word self.new }
         ensures order { KeepsOrder A.regions A.word self.old self.new }

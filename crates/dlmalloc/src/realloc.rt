@@ -9,7 +9,7 @@ ghost use Rattle.dlmalloc.specs.Resized.{in_place};
 ghost use Rattle.dlmalloc.specs.Binned.{IsBinned};
 ghost use Rattle.dlmalloc.specs.Heap.{state_of, IsSound};
 ghost use Rattle.dlmalloc.specs.Served.{IsServed, IsRefusedWith};
-ghost use Rattle.dlmalloc.specs.Requested.{asked, IsServedAt};
+ghost use Rattle.dlmalloc.specs.Requested.{asked, IsServedAt, IsMemberServed};
 ghost use Rattle.dlmalloc.specs.Moved.{IsElsewhere, IsResized, IsGivenSize};
 
 use crate::contents::words_in;
@@ -24,8 +24,8 @@ use step_count::Steps;
 
 impl<A: Allocator> Dlmalloc<A> {
     /// Gives a block another size, and answers where it is then. It keeps its alignment, and as many of its bytes as both
-    /// sizes have. Up to alignment 16 it stays where it is, where that can be; else it is handed out anew, its words are
-    /// copied, and the old one is freed (dlmalloc: `Dlmalloc::realloc`).
+    /// sizes have. Up to alignment 16 it stays where it is, where that can be; else it is handed out anew as by `malloc`, its
+    /// words are copied, and the old one is freed (dlmalloc: `Dlmalloc::realloc`).
     pub fn realloc<L: Ledger>(
         &mut self,
         ptr: u64,
@@ -41,9 +41,11 @@ impl<A: Allocator> Dlmalloc<A> {
         ensures resized { IfOk result (λ address. IsResized A.regions A.word A.zeros A.follows (A.frees self.old.system) (A.parts self.old.system) (A.unit self.old.system) self.old ptr old_size old_align new_size address self.new) }
         ensures given { IfOk result (λ address. IsGivenSize A.regions A.word A.follows (A.frees self.old.system) (A.parts self.old.system) (A.unit self.old.system) self.old ptr old_size old_align new_size address self.new) }
         ensures refused { IfErr result (λ error. IsRefusedWith A.regions A.word A.follows A.refuses A.denies self.old (asked new_size old_align) error self.new) }
+        ensures untouched { IfErr result (λ error. error ≡ MallocError.TooLarge → self.new ≡ self.old) }
         ensures tried { IfErr result (λ error. error ≢ MallocError.TooLarge → old_align ≤ 16 → in_place (state_of A.word self.old) (ptr - 16) (padded new_size) ≡ None) }
         ensures sound { IsSound A.regions A.word self.new }
         ensures linked { IsBinned A.regions A.word self.new }
+        ensures member { IfOk result (λ address. address ≢ ptr → IsMemberServed A.regions A.word self.old new_size old_align address) }
     {
         if old_align <= LEAST_ALIGN {
             self.resize_or_move(ptr, old_size, old_align, new_size, steps)
@@ -70,9 +72,11 @@ impl<A: Allocator> Dlmalloc<A> {
             IsGivenSize A.regions A.word A.follows (A.frees self.old.system) (A.parts self.old.system) (A.unit self.old.system) self.old from (size_where (λ extent. extent.at == from - 16) (extents_in (state_of A.word self.old)) - 8) 16 new_size address self.new)) }
         ensures served { IfOk result (λ address. IfNone ptr (IsServed A.regions A.word A.zeros A.follows self.old new_size address self.new)) }
         ensures refused { IfErr result (λ error. IsRefusedWith A.regions A.word A.follows A.refuses A.denies self.old new_size error self.new) }
+        ensures untouched { IfErr result (λ error. error ≡ MallocError.TooLarge → self.new ≡ self.old) }
         ensures tried { IfErr result (λ error. error ≢ MallocError.TooLarge → IfSome ptr (λ from. in_place (state_of A.word self.old) (from - 16) (padded new_size) ≡ None)) }
         ensures sound { IsSound A.regions A.word self.new }
         ensures linked { IsBinned A.regions A.word self.new }
+        ensures member { IfOk result (λ address. ptr ≢ Some address → IsMemberServed A.regions A.word self.old new_size 16 address) }
     {
         match ptr {
             None => self.c_malloc(new_size, steps),
@@ -100,9 +104,11 @@ impl<A: Allocator> Dlmalloc<A> {
         requires held { held + 8 ≤ size_where (λ extent. extent.at == ptr - 16) (extents_in (state_of A.word self.old)) }
         ensures resized { IfOk result (λ address. IsResized A.regions A.word A.zeros A.follows (A.frees self.old.system) (A.parts self.old.system) (A.unit self.old.system) self.old ptr held align size address self.new) }
         ensures refused { IfErr result (λ error. IsRefusedWith A.regions A.word A.follows A.refuses A.denies self.old (asked size align) error self.new) }
+        ensures untouched { IfErr result (λ error. error ≡ MallocError.TooLarge → self.new ≡ self.old) }
         ensures tried { IfErr result (λ error. error ≢ MallocError.TooLarge → in_place (state_of A.word self.old) (ptr - 16) (padded size) ≡ None) }
         ensures sound { IsSound A.regions A.word self.new }
         ensures linked { IsBinned A.regions A.word self.new }
+        ensures member { IfOk result (λ address. address ≢ ptr → IsMemberServed A.regions A.word self.old size align address) }
     {
         if size >= max_request(self.granularity) {
             return Err(MallocError::TooLarge);
@@ -130,8 +136,10 @@ impl<A: Allocator> Dlmalloc<A> {
         requires held { held + 8 ≤ size_where (λ extent. extent.at == ptr - 16) (extents_in (state_of A.word self.old)) }
         ensures elsewhere { IfOk result (λ address. IsElsewhere A.regions A.word A.zeros A.follows (A.frees self.old.system) (A.parts self.old.system) (A.unit self.old.system) self.old ptr held align size address self.new) }
         ensures refused { IfErr result (λ error. IsRefusedWith A.regions A.word A.follows A.refuses A.denies self.old (asked size align) error self.new) }
+        ensures untouched { IfErr result (λ error. error ≡ MallocError.TooLarge → self.new ≡ self.old) }
         ensures sound { IsSound A.regions A.word self.new }
         ensures linked { IsBinned A.regions A.word self.new }
+        ensures member { IfOk result (λ address. IsMemberServed A.regions A.word self.old size align address) }
     {
         match self.malloc(size, align, steps) {
             Ok(address) => {

@@ -18,8 +18,8 @@ use step_count::Steps;
 impl<A: Allocator> Dlmalloc<A> {
     /// Gives memory back to the system that no block needs (dlmalloc: `Dlmalloc::trim`). As many granularities are cut off the
     /// top as leave it more than `pad` bytes beside its foot, if the system takes them, and each other segment goes back that
-    /// is not in use. True exactly where bytes went back. Where `pad` is too large for a request, and where there is no
-    /// segment, nothing is done.
+    /// is not in use. A segment whose record has 96 bytes stays. True exactly where bytes went back. Where `pad` is too large
+    /// for a request, and where there is no segment, nothing is done.
     pub fn trim<L: Ledger>(&mut self, pad: u64, steps: &mut Steps<L>) -> bool
         requires sound { IsSound A.regions A.word self.old }
         requires linked { IsBinned A.regions A.word self.old }

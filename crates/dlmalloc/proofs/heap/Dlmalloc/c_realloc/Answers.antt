@@ -1,4 +1,4 @@
-use Rattle.std.proofs.Common.{ℕ, ◌-◌, ◌==◌, Option, IfOk, IfSome, refl, sym, subst, arith}
+use Rattle.std.proofs.Common.{◌≢◌, ℕ, ◌-◌, ◌==◌, Option, Some, IfOk, IfSome, refl, sym, ◌∙◌, ap, subst, arith}
 use Rattle.std.proofs.lemmas.Result.{IfOk-weaker}
 use Rattle.dlmalloc_chunks.specs.declared.extent.Kind.TheVariants.{Used}
 use Rattle.dlmalloc.specs.State.{extents_in, size_where}
@@ -8,6 +8,9 @@ use Rattle.dlmalloc.proofs.Places.{extent}
 use Rattle.dlmalloc.proofs.BlockChunks.{block_chunk, block_head}
 use Rattle.dlmalloc.proofs.Elsewhere.{size_at, block_told}
 use Rattle.dlmalloc.proofs.GivenSize.{given_size}
+use Rattle.dlmalloc.specs.Requested.{IsMemberServed}
+use Rattle.dlmalloc.proofs.Members.{on_both, member_low}
+use Rattle.dlmalloc.proofs.HandedOut.{handed_low}
 use Rattle.dlmalloc.proofs.heap.Dlmalloc.c_realloc.Goals as goal
 
 pub size-size-requires : goal.size-size-requires
@@ -71,3 +74,19 @@ returns-in-Some-clause-given g c =
     (λ at. IsGivenSize g.A.Links.regions g.A.Links.word g.A.Links.follows (g.A.Allocator.frees old.system) (g.A.Allocator.parts old.system) (g.A.Allocator.unit old.system) old address (c.size-size.result - 8) 16 c.args.new_size at new)
     (λ at resized. given_size g.A.Links.regions g.A.Links.word g.A.Allocator.zeros g.A.Links.follows g.A.Links.follows_on (g.A.Allocator.frees old.system) (g.A.Allocator.parts old.system) (g.A.Allocator.unit old.system) old new address (c.size-size.result - 8) 16 c.args.new_size at block.0 c.requires.sound (4, refl) block.1 resized)
     c.resize_or_move.ensures.resized))
+
+pub returns-in-None-clause-member : goal.returns-in-None-clause-member
+returns-in-None-clause-member g c =
+    on_both c.c_malloc.result
+    (λ address served member other.
+    let handed = handed_low g.A.Links.regions g.A.Links.word g.A.Allocator.zeros g.A.Links.follows c.args.self.now c.c_malloc.new.self c.args.new_size 16 address (4, refl) (omega arith) served in
+    member_low g.A.Links.regions g.A.Links.word c.args.self.now c.args.new_size 16 address (omega arith) handed.low handed.multiple member)
+    c.c_malloc.ensures.served c.c_malloc.ensures.member
+
+pub returns-in-Some-clause-member : goal.returns-in-Some-clause-member
+returns-in-Some-clause-member g c =
+    IfOk-weaker c.resize_or_move.result
+    (λ address. address ≢ c.in-Some.address → IsMemberServed g.A.Links.regions g.A.Links.word c.args.self.now c.args.new_size 16 address)
+    (λ address. c.args.ptr ≢ Some address → IsMemberServed g.A.Links.regions g.A.Links.word c.args.self.now c.args.new_size 16 address)
+    (λ address member other. member (λ same. other (c.in-Some.is ∙ ap Some (sym same))))
+    c.resize_or_move.ensures.member

@@ -1,10 +1,13 @@
-use Rattle.std.proofs.Common.{◌≡◌, ℕ, ◌+◌, ◌-◌, ◌<◌, ◌≤◌, inl, Some, true, refl, subst, arith, rules}
+use Rattle.std.proofs.Common.{◌≡◌, ◌≢◌, ℕ, ◌+◌, ◌-◌, ◌<◌, ◌≤◌, inl, Some, true, refl, subst, arith, rules}
 use Rattle.std.specs.Prelude.{nat_le}
 use Rattle.std.proofs.lemmas.Bool.Decides.{nat_tests}
 use Rattle.dlmalloc_chunks.specs.Request.{limit}
 use Rattle.dlmalloc.specs.Resized.{in_place}
 use Rattle.dlmalloc.specs.Heap.{state_of}
 use Rattle.dlmalloc.proofs.Elsewhere.{chunk_there, held_there, stays_there}
+use Rattle.std.proofs.lemmas.Result.{IfOk-weaker}
+use Rattle.dlmalloc.specs.Requested.{IsMemberServed}
+use Rattle.dlmalloc.specs.declared.heap.Dlmalloc.{Dlmalloc}
 use Rattle.dlmalloc.proofs.heap.Dlmalloc.resize_or_move.Goals as goal
 
 pub resize_chunk-requires-clause-chunk : goal.resize_chunk-requires-clause-chunk
@@ -43,3 +46,13 @@ returns-then-size-max_request-clause-refused g c =
       refused = rw test (let is = c.max_request.ensures.is in let more = c.if-size-max_request.true in omega arith);
       same = record { followed = search rules; refused = search rules; state = refl; sound = c.requires.sound; regions_same = refl; words = λ k is. refl; index = λ b. (b, λ n. refl) };
     }
+
+pub returns-clause-member : goal.returns-clause-member
+returns-clause-member g c =
+    let old = c.args.self.now in
+    let same : c.resize_chunk.new.self ≡ old = c.resize_chunk.ensures.same c.if-resize_chunk.false in
+    IfOk-weaker c.move_block.result
+    (λ address. IsMemberServed g.A.Links.regions g.A.Links.word c.resize_chunk.new.self c.args.size c.args.align address)
+    (λ address. address ≢ c.args.ptr → IsMemberServed g.A.Links.regions g.A.Links.word old c.args.size c.args.align address)
+    (λ address member other. subst (λ (heap : Dlmalloc g.row.A.Denot). IsMemberServed g.A.Links.regions g.A.Links.word heap c.args.size c.args.align address) same member)
+    c.move_block.ensures.member
