@@ -41,7 +41,7 @@ fn found(
 }
 
 /// Writes an entry of a table.
-fn write(frames: &mut Frames, table: u64, index: u16, word: u64)
+pub(crate) fn write(frames: &mut Frames, table: u64, index: u16, word: u64)
     requires small { table < 4 }
     requires inside { 3 < frame_count frames.old }
     requires index { index < 512 }

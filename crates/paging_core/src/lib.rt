@@ -30,6 +30,8 @@ mod tables;
 #[cfg(test)]
 mod tests;
 pub mod unmapping;
+#[cfg(test)]
+mod word_tests;
 
 pub use access::{copy_page, load_word, load_words, store_word, store_words};
 pub use addr::{PhysAddr, PhysAddrNotValid, VirtAddr, VirtAddrNotValid, align_down, align_up};

@@ -127,7 +127,7 @@ impl PageTableEntry {
     }
 
     /// Whether the entry has bit 7: at the third step of a walk it maps a large page.
-    pub(crate) fn is_huge(&self) -> bool
+    pub fn is_huge(&self) -> bool
         ensures { result ≡ has_bit self.now 7 }
     {
         self.has(PageTableFlags::HUGE_PAGE)

@@ -62,7 +62,7 @@ impl<S: PageSize> PhysFrame<S> {
 
 impl PhysFrame {
     /// The frame so many frames on.
-    pub(crate) fn after(self, frames: u64) -> Self
+    pub fn after(self, frames: u64) -> Self
         requires { self + frames < 2 ^ 40 }
         ensures { result ≡ self + frames }
     {
