@@ -45,7 +45,7 @@ impl<'a> Allocator for Arena<'a> {
         ensures all_words { self.new.words.now ≡ self.old.words.now }
         ensures same { OnErr result (self.new ≡ self.old) }
         ensures err { OnErr result (regions_of self.new ≡ regions_of self.old) }
-        ensures err_follows { OnErr result (IsSameArena self.old self.new) }
+        ensures err_follows { IfErr result (λ fault. IsSameArena self.old self.new) }
         ensures refused { IfErr result (λ fault. IsDenied self.old size fault) }
         ensures denied { IfErr result (λ fault. fault ≢ GrantFault.OutOfMemory → IsDenied self.old size fault) }
     {
