@@ -1,9 +1,10 @@
 -- Requests: their sizes, and the blocks that they are given.
-use Rattle.std.proofs.Common.{◌≡◌, ℕ, ◌+◌, ◌-◌, ◌*◌, ◌/◌, ◌%◌, ◌^◌, ◌<◌, ◌≤◌, Bool, true, false, ◌==◌, ◌||◌, if◌then◌else◌, List, [], ◌∷◌, ◌++◌, Option, Some, None, Result, Ok, Err, OnErr, refl, sym, ◌∙◌, ap, subst, arith, nat_lt, nat_le, pow_mono}
+use Rattle.std.proofs.Common.{◌≡◌, ℕ, ◌+◌, ◌-◌, ◌*◌, ◌/◌, ◌%◌, ◌^◌, ◌<◌, ◌≤◌, Bool, true, false, ◌==◌, ◌||◌, if◌then◌else◌, List, [], ◌∷◌, ◌++◌, Option, Some, None, Result, Ok, Err, IfErr, refl, sym, ◌∙◌, ap, subst, arith, nat_lt, nat_le, pow_mono}
 use native.Mathlib.Decide.{dec_lt}
 use Rattle.std.specs.Prelude.{unwrap_or}
 use Rattle.std.specs.Int.{IsPowerOfTwo}
 use Rattle.std.specs.List.{flat_map}
+use Rattle.std.specs.Result.{IsErrAnd}
 use Rattle.std.proofs.lemmas.Grind.{flat_map-append}
 use Rattle.std.proofs.lemmas.Bool.Decides.{nat_tests}
 use Rattle.heap_memory.specs.declared.grant.Grant.{Grant}
@@ -101,9 +102,10 @@ taken_block old extent n size there fits holds near = go (leaves_rest n extent) 
           little = omega arith;
         }
 
-pub on_err : {T E : Type 0} (r : Result T E) {P : Type 0} → P → OnErr r P
-on_err (Ok x) holds = tt
-on_err (Err e) holds = holds
+-- what holds of a fault holds of the one that an answer passes on
+pub if_err : {T E : Type 0} (r : Result T E) (P : E → Type 0) {one : E} → IsErrAnd r (λ fault. fault ≡ one) → P one → IfErr r P
+if_err (Ok x) P is holds = tt
+if_err (Err fault) P is holds = subst P (sym is) holds
 
 -- nothing is chosen in a heap with no segment
 pub none_chosen_empty : {A : Type 0} (regions : A → List Grant) (word : A → ℕ → ℕ) (heap : Dlmalloc A) → heap.size ≡ 0 → (n : ℕ) → 32 ≤ n → chosen (state_of word heap) n ≡ None

@@ -110,9 +110,9 @@ pub record IsGrown {A : Type 0} (regions : A → List Grant) (word : A → ℕ �
   -- of the grant the heads of the top and of its foot alone are written
   pub new_words : zeros old.system ≡ true → (k : ℕ) → grant.base ≤ k → k < grant.base + grant.size → k % 8 ≡ 0 → k ≢ new.top + 8 → k ≢ new.top + new.top_size + 8 → word new.system k ≡ 0
 
--- Nothing was granted, and all is as it was.
-pub record IsAsItWas {A : Type 0} (regions : A → List Grant) (word : A → ℕ → ℕ) (follows : A → List Event → A → Type 0) (refuses : A → A → Type 0) (old new : Dlmalloc A) : Type 0 where
-  pub followed : follows old.system [] new.system
+-- After some events nothing was granted, and all is as it was.
+pub record IsAsItWas {A : Type 0} (regions : A → List Grant) (word : A → ℕ → ℕ) (follows : A → List Event → A → Type 0) (refuses : A → A → Type 0) (events : List Event) (old new : Dlmalloc A) : Type 0 where
+  pub followed : follows old.system events new.system
   pub refused : refuses old.system new.system
   pub state : state_of word new ≡ state_of word old
   pub sound : IsSound regions word new

@@ -4,7 +4,7 @@ use Rattle.std.specs.List.{list_any, AllByRecursion}
 use Rattle.heap_memory.specs.declared.grant.Grant.{Grant}
 use Rattle.heap_memory.specs.declared.grant.GrantFault.{GrantFault}
 use Rattle.heap_memory.specs.declared.grant.GrantFault.TheVariants.{OutOfMemory}
-use Rattle.heap_memory.specs.Events.{Event, Granted}
+use Rattle.heap_memory.specs.Events.{Event, Granted, Refused}
 use Rattle.heap_memory.specs.Regions.{with_grant, is_granted, IsWordOf, IsApart}
 use Rattle.dlmalloc_chunks.specs.Request.{padded, limit, round_up}
 use Rattle.dlmalloc_chunks.specs.declared.extent.Extent.{Extent}
@@ -123,10 +123,15 @@ pub record IsServed {A : Type 0} (regions : A → List Grant) (word : A → ℕ 
   pub sound : IsSound regions word new
   pub order : KeepsOrder regions word old new
 
+-- what a refusal asked of the system: nothing where the size is too large, and else one region, which was refused
+abbrev pub refused_events : HeapState → ℕ → MallocError → List Event
+refused_events heap size TooLarge = []
+refused_events heap size (System fault) = Refused (round_up (padded size + 96) heap.granularity) fault ∷ []
+
 -- A block of so many bytes was refused, and all is as it was.
 pub record IsRefusedWith {A : Type 0} (regions : A → List Grant) (word : A → ℕ → ℕ) (follows : A → List Event → A → Type 0) (refuses : A → A → Type 0) (denies : A → ℕ → GrantFault → Type 0) (old : Dlmalloc A) (size : ℕ) (error : MallocError) (new : Dlmalloc A) : Type 0 where
   pub refused : IsRefused denies old.system (state_of word old) size error
-  pub same : IsAsItWas regions word follows refuses old new
+  pub same : IsAsItWas regions word follows refuses (refused_events (state_of word old) size error) old new
 
 -- The block at an address was given back: its chunk is free, and one with the free ones beside it.
 pub record IsDisposed {A : Type 0} (regions : A → List Grant) (word : A → ℕ → ℕ) (follows : A → List Event → A → Type 0) (old : Dlmalloc A) (address : ℕ) (new : Dlmalloc A) : Type 0 where

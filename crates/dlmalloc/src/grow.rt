@@ -1,7 +1,8 @@
 // Asking the system for a region, and what becomes of it.
-ghost use Rattle.std.specs.Prelude.{◌≡◌, ◌≢◌, ℕ, ◌+◌, ◌-◌, ◌%◌, ◌^◌, ◌<◌, ◌≤◌, ◌⊎◌, true, false, ◌&&◌, ◌==◌, nat_le, nat_lt, if◌then◌else◌, [], ◌∷◌, None, Some, IfOk, OnErr, IfErr};
+ghost use Rattle.std.specs.Prelude.{◌≡◌, ◌≢◌, ℕ, ◌+◌, ◌-◌, ◌%◌, ◌^◌, ◌<◌, ◌≤◌, ◌⊎◌, true, false, ◌&&◌, ◌==◌, nat_le, nat_lt, if◌then◌else◌, [], ◌∷◌, None, Some, IfOk, IfErr};
 ghost use Rattle.std.specs.List.{AllByRecursion};
 ghost use Rattle.dlmalloc_chunks.specs.Request.{round_up};
+ghost use Rattle.heap_memory.specs.Events.{Refused};
 ghost use Rattle.heap_memory.specs.Regions.{IsWordOf};
 ghost use Rattle.dlmalloc_chunks.specs.Chunk.{HasFoot};
 ghost use Rattle.dlmalloc.specs.State.{trim_threshold};
@@ -51,7 +52,7 @@ impl<A: Allocator> Dlmalloc<A> {
         requires small { n + 96 + self.old.granularity ≤ 2 ^ 64 }
         ensures cut { IfOk result (λ chunk. (at : ℕ) → chunk ≡ Some at → IsCutOut A.regions A.word A.zeros A.follows self.old n at self.new) }
         ensures top { IfOk result (λ chunk. chunk ≡ None → IsGrown A.regions A.word A.zeros A.follows self.old n self.new) }
-        ensures err { OnErr result (IsAsItWas A.regions A.word A.follows A.refuses self.old self.new) }
+        ensures err { IfErr result (λ fault. IsAsItWas A.regions A.word A.follows A.refuses (Refused (round_up (n + 96) self.old.granularity) fault ∷ []) self.old self.new) }
         ensures denied { IfErr result (λ fault. fault ≢ GrantFault.OutOfMemory → A.denies self.old.system (round_up (n + 96) self.old.granularity) fault) }
         ensures linked { IsBinned A.regions A.word self.new }
         ensures order { KeepsOrder A.regions A.word self.old self.new }

@@ -1,6 +1,8 @@
 use Rattle.std.proofs.Common.{◌≡◌, ℕ, ◌+◌, ◌≤◌, ◌∙◌, true, false, List, [], ◌∷◌, refl, ap, subst, arith}
 use Rattle.std.specs.Prelude.{Option, unwrap_or}
-use Rattle.heap_memory.specs.Events.{Granted}
+use Rattle.heap_memory.specs.Events.{Event, Granted, Refused}
+use Rattle.heap_memory.specs.declared.grant.GrantFault.{GrantFault}
+use Rattle.dlmalloc_chunks.specs.Request.{round_up}
 use Rattle.dlmalloc.specs.State.{Segment}
 use Rattle.dlmalloc.specs.Granted.{is_put_before, granted}
 use Rattle.dlmalloc.specs.Grown.{HasSameUsed}
@@ -11,14 +13,18 @@ use Rattle.dlmalloc.proofs.Fresh.{granted_sound, granted_same, granted_binned, f
 use Rattle.dlmalloc.proofs.PutBefore.{cut_before}
 use Rattle.dlmalloc.specs.Boundaries.{IsInFree}
 use Rattle.dlmalloc.proofs.Laws.{as_it_was, as_binned}
-use Rattle.dlmalloc.proofs.Requests.{on_err}
+use Rattle.dlmalloc.proofs.Requests.{if_err}
 use Rattle.dlmalloc.proofs.Ordering.{order_same}
 use Rattle.dlmalloc.proofs.heap.Dlmalloc.grow.Goals as goal
 
 pub returns-in_err-grant-clause-err : goal.returns-in_err-grant-clause-err
 returns-in_err-grant-clause-err g c =
+    let heap = c.args.self.now in
     let denied = c.in_err-grant.ensures in
-    on_err c.from_residual.result (as_it_was g.A.Links.regions g.A.Links.word c.args.self.now c.requires.sound c.index_stays.ensures g.A.Links.follows g.A.Allocator.refuses c.alloc.new.self denied.err denied.words denied.err_follows denied.err_refuses)
+    let events : ℕ → GrantFault → List Event = λ bytes fault. Refused bytes fault ∷ [] in
+    let followed = subst (λ (bytes : ℕ). g.A.Links.follows heap.system (events bytes c.in_err-grant.field-0.0) c.alloc.new.self) c.asked-asked.ensures.asked denied.err_follows in
+    if_err c.from_residual.result _ c.from_residual.ensures.1
+    (as_it_was g.A.Links.regions g.A.Links.word heap c.requires.sound c.index_stays.ensures g.A.Links.follows g.A.Allocator.refuses (events (round_up (c.args.n + 96) heap.granularity) c.in_err-grant.field-0.0) c.alloc.new.self denied.err denied.words followed denied.err_refuses)
 
 pub segment_behind-requires-clause-sound : goal.segment_behind-requires-clause-sound
 segment_behind-requires-clause-sound g c = granted_sound g.A.Links.regions g.A.Links.word c.args.self.now c.requires.sound c.alloc.new.self c.asked-asked.result (let e = c.asked-asked.ensures.enough in let l = c.requires.least in omega arith) c.in_ok-grant.grant c.in_ok-grant.ensures.good c.in_ok-grant.ensures.apart c.in_ok-grant.ensures.regions c.in_ok-grant.ensures.words
