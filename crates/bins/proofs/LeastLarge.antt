@@ -1,5 +1,5 @@
 -- The least fit among the large chunks.
-use Rattle.std.proofs.Common.{◌≡◌, ◌≢◌, ℕ, zero, suc, ◌+◌, ◌-◌, ◌^◌, ◌<◌, ◌≤◌, ◌⊎◌, inl, inr, List, ◌∷◌, refl, sym, ap, subst, ◌∙◌, arith}
+use Rattle.std.proofs.Common.{◌≡◌, ◌≢◌, ℕ, zero, suc, ◌+◌, ◌-◌, ◌^◌, ◌<◌, ◌≤◌, ◌⊎◌, inl, inr, List, [], ◌∷◌, refl, sym, ap, subst, ◌∙◌, arith}
 use Rattle.std.specs.Prelude.{slice_index, Option, None, Some, MatchOption}
 use Rattle.std.specs.Int.{bit_at}
 use Rattle.std.proofs.lemmas.Bool.{cases_lt}
@@ -10,10 +10,10 @@ use Rattle.bins.specs.declared.fit.Fit.{Fit}
 use Rattle.bins.specs.Index.{IsIn, first_or, from, IsNone, IsLeastFit}
 use Rattle.bins.specs.Tries.{width}
 use Rattle.bins.specs.Linked.{IsLinked, low_of, levels_of}
-use Rattle.bins.specs.Fits.{IsReadable, IsFit}
+use Rattle.bins.specs.Fits.{IsReadable, IsFit, IsLesser, IsSearched}
 use Rattle.bins.proofs.Chunks.{same_or_not}
 use Rattle.bins.proofs.SmallBins.{in_from, least_large}
-use Rattle.bins.proofs.Opened.{none_in}
+use Rattle.bins.proofs.Opened.{none_in, empty}
 use Rattle.bins.proofs.Placed.{root_in}
 use Rattle.bins.proofs.Searching.{none_both}
 use Rattle.bins.proofs.TreeRanges.{end_normal, end_last, low_normal, from_same}
@@ -87,6 +87,30 @@ module _ (regions : List Grant) (words : ℕ → ℕ) (bins : Bins) (index : ℕ
         oldest = λ large. sym (ap (λ (cs : List ℕ). first_or 0 cs) listed);
       }
 
+  -- the lesser of a chunk of a bin and of none is that of the bin
+  lesser_is : (bin low high chunk : ℕ) (l : IsLesser (from (least_size bin) index) low high (2 ^ 64 - 1) 0 chunk) → (chunk ≡ l.fit.chunk) × (0 < chunk)
+  lesser_is bin low high chunk l =
+      let head : IsIn l.fit.chunk (from (least_size bin) index l.fit.size) = subst (λ (cs : List ℕ). IsIn l.fit.chunk cs) (sym l.is.oldest) (inl refl) in
+      let there = in_from (least_size bin) index l.fit.size l.fit.chunk head in
+      let c = linked.chunks.each l.fit.size l.fit.chunk there.0 in
+      let e = l.found (omega (arith, c.high)) in
+      (e, omega (arith, e, c.low))
+
+  pub lesser_fit : (bin n low high chunk : ℕ) → IsNone index n (least_size bin) ⊎ (least_size bin ≤ n) → IsLesser (from (least_size bin) index) low high (2 ^ 64 - 1) 0 chunk → (low ≤ n) ⊎ (low ≤ least_size bin) → (n ≤ least_size bin) ⊎ (n ≤ low) → IsLeastFit index n chunk
+  lesser_fit bin n low high chunk before l lower upper = subst (λ x. IsLeastFit index n x) (sym (lesser_is bin low high chunk l).0) (fit_up bin n low high l.fit before l.is lower upper)
+
+  -- what a search of one trie alone gives
+  pub alone_some : (bin n high other high' chunk : ℕ) → chunk ≢ 0 →
+      (IsNone (from (least_size bin) index) n high × IsSearched (λ m. []) other high' (2 ^ 64 - 1) 0 chunk) ⊎ IsLesser (from (least_size bin) index) n high (2 ^ 64 - 1) 0 chunk → IsLesser (from (least_size bin) index) n high (2 ^ 64 - 1) 0 chunk
+  alone_some bin n high other high' chunk real (inr l) = l
+  alone_some bin n high other high' chunk real (inl (none, inl (nothing, is))) = absurd (real is)
+  alone_some bin n high other high' chunk real (inl (none, inr l)) = absurd (let e = l.is.oldest in cc)
+
+  pub alone_none : (bin n high other high' chunk : ℕ) → chunk ≡ 0 →
+      (IsNone (from (least_size bin) index) n high × IsSearched (λ m. []) other high' (2 ^ 64 - 1) 0 chunk) ⊎ IsLesser (from (least_size bin) index) n high (2 ^ 64 - 1) 0 chunk → IsNone (from (least_size bin) index) n high
+  alone_none bin n high other high' chunk is (inr l) = absurd (let h = (lesser_is bin n high chunk l).1 in omega arith)
+  alone_none bin n high other high' chunk is (inl (none, h)) = none
+
   -- a bin whose bit is set has a chunk
   pub some_there : (bin root low levels : ℕ) → bin < 32 → bit_at bins.tree_map bin ≡ 1 → root ≡ slice_index bins.roots bin → low ≡ low_of bin → levels ≡ levels_of bin → IsNone (from (least_size bin) index) low (low + width levels) → ⊥
   some_there bin root low levels within set root_is low_is levels_is none =
@@ -95,6 +119,16 @@ module _ (regions : List Grant) (words : ℕ → ℕ) (bins : Bins) (index : ℕ
       let r = root_in words (from (least_size bin) index) bin (128 + bin) (low_of bin) (levels_of bin) (slice_index bins.roots bin) real t.trie in
       let none' = rw (low_is, levels_is) at none in
       subst (λ (cs : List ℕ). IsIn (slice_index bins.roots bin) cs) (none' r.size r.above r.below) r.is
+
+-- the empty trie may be read
+pub nothing_read : (regions : List Grant) (words : ℕ → ℕ) (low levels : ℕ) → IsReadable regions words (λ m. []) low levels 0
+nothing_read regions words low levels = record {
+  bin = 0;
+  parent = 0;
+  chunks = record { each = λ n c is. absurd is; apart = λ n c m d is. absurd is; once = λ n. tt };
+  large = λ n c is. absurd is;
+  trie = empty words (λ m. []) 0 0 low levels (λ m a b. refl);
+}
 
 -- a fit from a size on is one from a lesser size on, where nothing lies between
 pub fit_further : (index : ℕ → List ℕ) (n m chunk : ℕ) → n ≤ m → IsNone index n m → IsLeastFit index m chunk → IsLeastFit index n chunk

@@ -16,7 +16,7 @@ use Rattle.bins.proofs.Chunks.{same_or_not, one_size}
 use Rattle.bins.proofs.Pulled.{in_minus}
 use Rattle.bins.proofs.Opened.{Opened, closed, none_in, slot_at, halves_apart, turned}
 use Rattle.bins.proofs.Searching.{s_head, high_fits}
-use Rattle.bins.proofs.Taking.{o, t_levels, reads, sub_held}
+use Rattle.bins.proofs.Taking.{o, t_levels, t_slot, reads, sub_held}
 
 minus_commute : (s size chunk : ℕ) (index : ℕ → List ℕ) (m : ℕ) → s ≢ size → without s (without_chunk size chunk index) m ≡ without_chunk size chunk (without s index) m
 minus_commute s size chunk index m apart = elim (same_or_not m s) [
@@ -74,6 +74,29 @@ module _ (regions : List Grant) (old : ℕ → ℕ) (index : ℕ → List ℕ) (
     b_held = subst (λ h. IsHeld regions old (without q.node.size index) bin at (low_at side low h) (levels - 1) child) (sym half_is)
         (sub_held regions old index bin parent low levels at some held side child child_at b_real)
 
+    of_child : (m c d : ℕ) → IsIn c (without q.node.size index m) → IsIn d (index q.node.size) → c ≢ d
+    of_child m c d c_in d_in same = elim (same_or_not m q.node.size) [
+      | inl here ↦ subst (λ (cs : List ℕ). IsIn c cs) (ap (without q.node.size index) here ∙ without_same q.node.size index) c_in
+      | inr far ↦ far (one_size regions old old index m q.node.size c held.chunks (in_without q.node.size index m c c_in) (subst (λ x. IsIn x (index q.node.size)) (sym same) d_in))
+    ]
+
+    -- the word that names the child stays where nothing above the child is stored
+    pub b_kept : (mid : ℕ → ℕ) (low' : ℕ) → low' ≡ low_at side low half →
+        ((index' : ℕ → List ℕ) → IsHeld regions old index' bin at low' (levels - 1) child → IsIn chunk (index' size) → OnlyHeldChanges regions index' low' (low' + width (levels - 1)) old mid) → IsStored regions mid place child mid
+    b_kept mid low' low_is words =
+        let s = slot_at side in
+        let there = subst (λ l. IsHeld regions old (without q.node.size index) bin at l (levels - 1) child) (sym low_is) b_held in
+        let word = subst (λ p. IsWordOf regions p) (sym place_is) (t_slot regions old index bin parent low levels at some held side).word in record {
+          here = words (without q.node.size index) there b_in place word (λ n c a b c_in.
+              let is_in = in_without q.node.size index n c c_in in
+              let ln = held.large n c is_in in let la = held.large q.node.size at at_in in
+              elim (held.chunks.apart n c q.node.size at is_in at_in (of_child n c at c_in at_in)) [
+                | inl before ↦ inr (inl (omega (arith, place_is, s.1.1.1, s.1.1.0)))
+                | inr behind ↦ inl (omega (arith, place_is, s.1.1.1, s.1.1.0))
+              ]) ∙ sym child_is;
+          elsewhere = λ p is far. refl;
+        }
+
     module _ (mid new : ℕ → ℕ) (low' left : ℕ) (low_is : low' ≡ low_at side low half)
         (trie : (index' : ℕ → List ℕ) → IsHeld regions old index' bin at low' (levels - 1) child → IsIn chunk (index' size) → IsTrie mid (without_chunk size chunk index') bin at low' (levels - 1) left)
         (words : (index' : ℕ → List ℕ) → IsHeld regions old index' bin at low' (levels - 1) child → IsIn chunk (index' size) → OnlyHeldChanges regions index' low' (low' + width (levels - 1)) old mid)
@@ -104,12 +127,6 @@ module _ (regions : List Grant) (old : ℕ → ℕ) (index : ℕ → List ℕ) (
             | inl before ↦ (λ e. omega (arith, p.1.1.1, p.1.1.0))
             | inr behind ↦ (λ e. omega (arith, p.1.1.1, p.1.1.0))
           ]
-
-      of_child : (m c d : ℕ) → IsIn c (without q.node.size index m) → IsIn d (index q.node.size) → c ≢ d
-      of_child m c d c_in d_in same = elim (same_or_not m q.node.size) [
-        | inl here ↦ subst (λ (cs : List ℕ). IsIn c cs) (ap (without q.node.size index) here ∙ without_same q.node.size index) c_in
-        | inr far ↦ far (one_size regions old old index m q.node.size c held.chunks (in_without q.node.size index m c c_in) (subst (λ x. IsIn x (index q.node.size)) (sym same) d_in))
-      ]
 
       once : AreDistinct (at ∷ q.node.others)
       once = subst (λ (cs : List ℕ). AreDistinct cs) q.node.chunks (held.chunks.once q.node.size)

@@ -17,6 +17,7 @@ pub mod TrieInsert
 pub mod LeafStores
 pub mod TrieEntry
 pub mod Searching
+pub mod Lesser
 mod Examples
 pub mod Taking
 pub mod Adopted

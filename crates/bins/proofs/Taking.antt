@@ -93,7 +93,7 @@ module _ (regions : List Grant) (old : ℕ → ℕ) (index : ℕ → List ℕ) (
       leaf_chunks : index sub.size ≡ leaf ∷ sub.others
       leaf_chunks = sym (without_other o.node.size index sub.size apart) ∙ sub.chunks
 
-      leaf_not_at : leaf ≢ at
+      pub leaf_not_at : leaf ≢ at
       leaf_not_at e = apart (one_size regions old old index sub.size o.node.size at held.chunks (subst (λ (cs : List ℕ). IsIn at cs) (sym leaf_chunks) (inl (sym e))) at_in)
 
       word_in : (m c k : ℕ) → IsIn c (index m) → 0 < k → 8 * k < 64 → IsWordOf regions (c + 8 * k)

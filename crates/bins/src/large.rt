@@ -142,10 +142,7 @@ impl Bins {
             Some(next) => {
                 let root = self.roots[next];
                 let levels = bin_levels(next);
-                match least_of(memory, root, levels, steps) {
-                    None => None,
-                    Some(fit) => Some(fit.chunk),
-                }
+                Some(least_of(memory, root, levels, u64::MAX, 0, steps))
             }
         }
     }
@@ -167,14 +164,24 @@ impl Bins {
         let root = self.roots[bin];
         let low = bin_low(bin);
         let levels = bin_levels(bin);
-        match fit_below(memory, root, low, levels, size, steps) {
-            Some(fit) => Some(fit.chunk),
-            None => {
-                if bin == 31 {
-                    return None;
-                }
-                self.least_behind(memory, bin, steps)
-            }
+        let fit = fit_below(
+            memory,
+            root,
+            low,
+            levels,
+            size,
+            u64::MAX,
+            0,
+            0,
+            levels,
+            steps,
+        );
+        if fit != 0 {
+            return Some(fit);
         }
+        if bin == 31 {
+            return None;
+        }
+        self.least_behind(memory, bin, steps)
     }
 }

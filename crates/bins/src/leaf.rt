@@ -4,7 +4,7 @@ ghost use Rattle.heap_memory.specs.Regions.{IsWordOf};
 ghost use Rattle.bins.specs.Tries.{slot, both};
 ghost use Rattle.bins.specs.Stores.{IsPlace, HasPlaced};
 ghost use Rattle.bins.specs.Below.{IsHeld};
-ghost use Rattle.bins.specs.Fits.{IsTakenOut, IsClearedIf};
+ghost use Rattle.bins.specs.Fits.{IsTakenOut};
 
 use crate::trie::{set_node, slot_of};
 use crate::words::{CHILD0, CHILD1, PARENT};
@@ -19,11 +19,13 @@ pub(crate) struct Child {
     pub(crate) is_upper: bool,
 }
 
-/// A child of a node, where there is one.
+/// The left child of a node, or its right child where it has no left one.
 pub(crate) fn first_child<M: Links, L: Ledger>(memory: &M, at: u64, steps: &mut Steps<L>) -> Child
     requires left { IsPlace (M.regions memory.now) (at + 32) }
     requires right { IsPlace (M.regions memory.now) (at + 40) }
     ensures is { result.at ≡ M.word memory.now (at + slot result.is_upper) }
+    ensures lower { result.is_upper ≡ false → 0 < result.at }
+    ensures upper { result.is_upper ≡ true → M.word memory.now (at + 32) ≡ 0 }
     ensures left { result.at ≡ 0 → M.word memory.now (at + 32) ≡ 0 }
     ensures right { result.at ≡ 0 → M.word memory.now (at + 40) ≡ 0 }
     ensures counted { steps.new ≤ steps.old + 2 }
@@ -38,19 +40,6 @@ pub(crate) fn first_child<M: Links, L: Ledger>(memory: &M, at: u64, steps: &mut 
     Child {
         at: memory.load_counted(at + CHILD1, steps),
         is_upper: true,
-    }
-}
-
-/// Clears a word where that is asked.
-fn clear_if<M: Links, L: Ledger>(memory: &mut M, place: u64, is: bool, steps: &mut Steps<L>)
-    requires { IsPlace (M.regions memory.old) place }
-    ensures cleared { IsClearedIf (M.regions memory.old) (M.word memory.old) place is (M.word memory.new) }
-    ensures regions { M.regions memory.new ≡ M.regions memory.old }
-    ensures follows { M.follows memory.old [] memory.new }
-    ensures counted { steps.new ≤ steps.old + 1 }
-{
-    if is {
-        memory.store_counted(place, 0, steps);
     }
 }
 
@@ -92,6 +81,36 @@ pub(crate) fn place_node<M: Links, L: Ledger>(
     adopt(memory, child1, chunk, steps);
 }
 
+/// Takes a leaf out from below a node, on the way that begins with this child of it.
+///
+/// Nothing is done on the way back, so the walk is a loop.
+fn take_under<M: Links, L: Ledger>(
+    memory: &mut M,
+    at: u64,
+    is_upper: bool,
+    child: u64,
+    levels: u32,
+    steps: &mut Steps<L>,
+) -> u64
+    requires some { 0 < at }
+    requires real { 0 < child }
+    requires child { child ≡ M.word memory.old (at + slot is_upper) }
+    requires held { (index : ℕ → List ℕ) × ((bin : ℕ) × ((parent : ℕ) × ((low : ℕ) × IsHeld (M.regions memory.old) (M.word memory.old) index bin parent low levels at))) }
+    ensures taken { (index : ℕ → List ℕ) (bin parent low : ℕ) → IsHeld (M.regions memory.old) (M.word memory.old) index bin parent low levels at →
+        IsTakenOut (M.regions memory.old) (M.word memory.old) (M.word memory.new) index bin parent low levels at result }
+    ensures other { result ≢ at }
+    ensures regions { M.regions memory.new ≡ M.regions memory.old }
+    ensures follows { M.follows memory.old [] memory.new }
+    ensures counted { steps.new + 2 ≤ steps.old + 3 * levels }
+{
+    let next = first_child(memory, child, steps);
+    if next.at == 0 {
+        memory.store_counted(slot_of(at, is_upper), 0, steps);
+        return child;
+    }
+    take_under(memory, child, next.is_upper, next.at, levels - 1, steps)
+}
+
 /// Takes a leaf out of a trie that is not empty.
 pub(crate) fn take_leaf<M: Links, L: Ledger>(
     memory: &mut M,
@@ -111,8 +130,5 @@ pub(crate) fn take_leaf<M: Links, L: Ledger>(
     if child.at == 0 {
         return at;
     }
-    let place = slot_of(at, child.is_upper);
-    let leaf = take_leaf(memory, child.at, levels - 1, steps);
-    clear_if(memory, place, leaf == child.at, steps);
-    leaf
+    take_under(memory, at, child.is_upper, child.at, levels, steps)
 }

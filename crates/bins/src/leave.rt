@@ -1,5 +1,6 @@
 // A chunk leaves a trie.
 ghost use Rattle.std.specs.Prelude.{◌≡◌, ◌≢◌, ℕ, ◌+◌, ◌*◌, ◌^◌, ◌<◌, ◌≤◌, ◌⊎◌, Bool, List, [], ◌∷◌};
+ghost use Rattle.dlmalloc_chunks.specs.Head.{size_of};
 ghost use Rattle.bins.specs.Index.{IsIn, without, without_chunk};
 ghost use Rattle.bins.specs.Tries.{both, width, IsTrie};
 ghost use Rattle.bins.specs.Below.{IsHeld, OnlyHeldChanges};
@@ -153,6 +154,57 @@ fn unlink_here<M: Links, L: Ledger>(
     heir
 }
 
+/// Takes a chunk out of the trie under a node of another size, which stays.
+///
+/// Nothing is done on the way back, so the walk is a loop.
+fn unlink_under<M: Links, L: Ledger>(
+    memory: &mut M,
+    at: u64,
+    low: u64,
+    levels: u32,
+    bin: u64,
+    chunk: u64,
+    size: u64,
+    steps: &mut Steps<L>,
+)
+    requires some { 0 < at }
+    requires few { levels ≤ 61 }
+    requires above { low ≤ size }
+    requires below { size < low + width levels }
+    requires fits { low + width levels ≤ 2 ^ 64 }
+    requires other { size_of (M.word memory.old (at + 8)) ≢ size }
+    requires held { (index : ℕ → List ℕ) × ((parent : ℕ) × (IsHeld (M.regions memory.old) (M.word memory.old) index bin parent low levels at × IsIn chunk (index size))) }
+    ensures trie { (index : ℕ → List ℕ) (parent : ℕ) → IsHeld (M.regions memory.old) (M.word memory.old) index bin parent low levels at → IsIn chunk (index size) →
+        IsTrie (M.word memory.new) (without_chunk size chunk index) bin parent low levels at }
+    ensures words { (index : ℕ → List ℕ) (parent : ℕ) → IsHeld (M.regions memory.old) (M.word memory.old) index bin parent low levels at → IsIn chunk (index size) →
+        OnlyHeldChanges (M.regions memory.old) index low (low + width levels) (M.word memory.old) (M.word memory.new) }
+    ensures regions { M.regions memory.new ≡ M.regions memory.old }
+    ensures follows { M.follows memory.old [] memory.new }
+    ensures counted { steps.new ≤ steps.old + 3 * levels + 12 }
+{
+    let half = half_width(levels);
+    let is_upper = is_in_upper(low, half, size);
+    let place = slot_of(at, is_upper);
+    let child = memory.load_counted(place, steps);
+    let child_low = low_of(low, half, is_upper);
+    let below = chunk::size(memory, child, steps);
+    if below != size {
+        unlink_under(
+            memory,
+            child,
+            child_low,
+            levels - 1,
+            bin,
+            chunk,
+            size,
+            steps,
+        );
+    } else {
+        let left = unlink_here(memory, child, levels - 1, at, bin, chunk, steps);
+        memory.store_counted(place, left, steps);
+    }
+}
+
 /// Takes a chunk out of the trie at a node. Answers the node that stands there then, or 0.
 pub(crate) fn unlink_below<M: Links, L: Ledger>(
     memory: &mut M,
@@ -183,21 +235,6 @@ pub(crate) fn unlink_below<M: Links, L: Ledger>(
     if here == size {
         return unlink_here(memory, at, levels, parent, bin, chunk, steps);
     }
-    let half = half_width(levels);
-    let is_upper = is_in_upper(low, half, size);
-    let place = slot_of(at, is_upper);
-    let child = memory.load_counted(place, steps);
-    let left = unlink_below(
-        memory,
-        child,
-        low_of(low, half, is_upper),
-        levels - 1,
-        at,
-        bin,
-        chunk,
-        size,
-        steps,
-    );
-    memory.store_counted(place, left, steps);
+    unlink_under(memory, at, low, levels, bin, chunk, size, steps);
     at
 }

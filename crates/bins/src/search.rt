@@ -1,100 +1,141 @@
 // The least fit in a trie.
-ghost use Rattle.std.specs.Prelude.{◌≡◌, ◌≢◌, ℕ, ◌+◌, ◌-◌, ◌*◌, ◌^◌, ◌<◌, ◌≤◌, List, None, MatchOption};
+ghost use Rattle.std.specs.Prelude.{◌≡◌, ℕ, ◌+◌, ◌*◌, ◌^◌, ◌<◌, ◌≤◌, ◌⊎◌, List, true, false};
 ghost use Rattle.bins.specs.Index.{IsNone};
 ghost use Rattle.bins.specs.Tries.{width};
-ghost use Rattle.bins.specs.Fits.{IsReadable, IsFit};
+ghost use Rattle.bins.specs.Fits.{IsReadable, IsLesser, IsSearched};
 
 use crate::fit::Fit;
+use crate::leaf::first_child;
 use crate::trie::{half_width, is_in_upper, low_of, slot_of};
-use crate::words::{CHILD0, CHILD1};
+use crate::words::CHILD1;
 use dlmalloc_chunks::chunk;
 use heap_memory::Links;
 use std::sync::ledger::Ledger;
 use step_count::Steps;
 
-/// The least chunk of a trie: down its leftmost path.
+/// The lesser of a known chunk and the least chunk of a trie: down its leftmost path.
+///
+/// What is known goes down with the search, which so is a loop.
 pub(crate) fn least_of<M: Links, L: Ledger>(
     memory: &M,
     at: u64,
     levels: u32,
+    known_size: u64,
+    known: u64,
     steps: &mut Steps<L>,
-) -> Option<Fit>
+) -> u64
     requires readable { (index : ℕ → List ℕ) × ((low : ℕ) × IsReadable (M.regions memory.now) (M.word memory.now) index low levels at) }
     ensures fit { (index : ℕ → List ℕ) → (low : ℕ) → IsReadable (M.regions memory.now) (M.word memory.now) index low levels at →
-        MatchOption result (IsNone index low (low + width levels)) (λ fit. IsFit index low (low + width levels) fit) }
+        IsSearched index low (low + width levels) known_size known result }
     ensures counted { steps.new ≤ steps.old + 3 * levels }
-    ensures none { result ≡ None → steps.new ≡ steps.old }
 {
     if at == 0 {
-        return None;
+        return known;
     }
     let own = Fit {
         size: chunk::size(memory, at, steps),
         chunk: at,
     };
-    let left = memory.load_counted(at + CHILD0, steps);
-    match least_of(memory, left, levels - 1, steps) {
-        Some(fit) => Some(fit.or_less(own, 0)),
-        None => {
-            let right = memory.load_counted(at + CHILD1, steps);
-            match least_of(memory, right, levels - 1, steps) {
-                Some(fit) => Some(fit.or_less(own, 0)),
-                None => Some(own),
-            }
-        }
+    let child = first_child(memory, at, steps);
+    let lesser = Fit {
+        size: known_size,
+        chunk: known,
+    }
+    .or_less(own, 0);
+    least_of(
+        memory,
+        child.at,
+        levels - 1,
+        lesser.size,
+        lesser.chunk,
+        steps,
+    )
+}
+
+/// A trie of so many levels, by its root.
+#[derive(Clone, Copy)]
+pub(crate) struct Subtrie {
+    at: u64,
+    levels: u32,
+}
+
+/// The trie behind a path that goes on to a side of a node: its right child where the path leaves that aside, or else the
+/// one behind the path so far.
+fn behind(is_upper: bool, right: Subtrie, so_far: Subtrie) -> Subtrie
+    ensures right { is_upper ≡ false → 0 < right.at → result ≡ right }
+    ensures so_far { (is_upper ≡ true) ⊎ (right.at ≡ 0) → result ≡ so_far }
+{
+    if !is_upper && right.at != 0 {
+        right
+    } else {
+        so_far
     }
 }
 
-/// The least chunk of at least a size in a trie: down the path of the size, then the leftmost path of one subtree.
+/// The lesser of a known chunk and the least chunk of at least a size in a trie: down the path of the size, then the
+/// leftmost path of the last trie that the path left aside on its right. That is `beside` where the path leaves none.
 pub(crate) fn fit_below<M: Links, L: Ledger>(
     memory: &M,
     at: u64,
     low: u64,
     levels: u32,
     size: u64,
+    known_size: u64,
+    known: u64,
+    beside: u64,
+    beside_levels: u32,
     steps: &mut Steps<L>,
-) -> Option<Fit>
+) -> u64
     requires few { levels ≤ 61 }
     requires above { low ≤ size }
     requires below { size < low + width levels }
     requires fits { low + width levels ≤ 2 ^ 64 }
+    requires known { size ≤ known_size }
+    requires deep { levels ≤ beside_levels }
     requires readable { (index : ℕ → List ℕ) × IsReadable (M.regions memory.now) (M.word memory.now) index low levels at }
+    requires beside { (index : ℕ → List ℕ) × ((beside_low : ℕ) × IsReadable (M.regions memory.now) (M.word memory.now) index beside_low beside_levels beside) }
     ensures fit { (index : ℕ → List ℕ) → IsReadable (M.regions memory.now) (M.word memory.now) index low levels at →
-        MatchOption result (IsNone index size (low + width levels)) (λ fit. IsFit index size (low + width levels) fit) }
-    ensures counted { steps.new ≤ steps.old + 6 * levels }
-    ensures none { result ≡ None → steps.new ≤ steps.old + 3 * levels }
+        (other : ℕ → List ℕ) → (beside_low : ℕ) → IsReadable (M.regions memory.now) (M.word memory.now) other beside_low beside_levels beside → low + width levels ≤ beside_low →
+        (IsNone index size (low + width levels) × IsSearched other beside_low (beside_low + width beside_levels) known_size known result) ⊎ IsLesser index size (low + width levels) known_size known result }
+    ensures counted { steps.new ≤ steps.old + 3 * levels + 3 * beside_levels }
 {
     if at == 0 {
-        return None;
+        return least_of(memory, beside, beside_levels, known_size, known, steps);
     }
     let own = Fit {
         size: chunk::size(memory, at, steps),
         chunk: at,
     };
     if own.size == size {
-        return Some(own);
+        return at;
     }
     let half = half_width(levels);
     let is_upper = is_in_upper(low, half, size);
     let child = memory.load_counted(slot_of(at, is_upper), steps);
-    match fit_below(
+    let right = Subtrie {
+        at: memory.load_counted(at + CHILD1, steps),
+        levels: levels - 1,
+    };
+    let so_far = Subtrie {
+        at: beside,
+        levels: beside_levels,
+    };
+    let next = behind(is_upper, right, so_far);
+    let lesser = Fit {
+        size: known_size,
+        chunk: known,
+    }
+    .or_less(own, size);
+    fit_below(
         memory,
         child,
         low_of(low, half, is_upper),
         levels - 1,
         size,
+        lesser.size,
+        lesser.chunk,
+        next.at,
+        next.levels,
         steps,
-    ) {
-        Some(fit) => Some(fit.or_less(own, size)),
-        None => {
-            if is_upper {
-                return own.if_at_least(size);
-            }
-            let beside = memory.load_counted(at + CHILD1, steps);
-            match least_of(memory, beside, levels - 1, steps) {
-                Some(fit) => Some(fit.or_less(own, size)),
-                None => own.if_at_least(size),
-            }
-        }
-    }
+    )
 }
