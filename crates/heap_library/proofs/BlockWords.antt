@@ -3,9 +3,9 @@ use Rattle.std.proofs.Common.{◌≡◌, ℕ, ◌+◌, ◌-◌, ◌%◌, ◌^◌
 use Rattle.heap_memory.specs.declared.grant.Grant.{Grant}
 use Rattle.heap_memory.specs.Regions.{IsWordOf}
 use Rattle.heap_memory.specs.Words.{IsStored}
-use Rattle.dlmalloc.specs.State.{extents_in}
+use Rattle.dlmalloc.specs.State.{HeapState, extents_in}
 use Rattle.dlmalloc.specs.Extents.{extent_at}
-use Rattle.dlmalloc.specs.Blocks.{IsInside}
+use Rattle.dlmalloc.specs.Blocks.{IsBlock, IsInside}
 use Rattle.dlmalloc.specs.Heap.{state_of, IsSound}
 use Rattle.dlmalloc.specs.Binned.{IsBinned}
 use Rattle.dlmalloc.specs.Served.{OnlyBlocksChange, RestsOutside}
@@ -14,6 +14,10 @@ use Rattle.dlmalloc.proofs.Places.{found}
 use Rattle.dlmalloc.proofs.Laws.{used_inside, same_regions}
 use Rattle.dlmalloc.proofs.Elsewhere.{size_at}
 use Rattle.heap_library.specs.Library.{HasBlock, usable, IsIntact}
+
+-- a block has the bytes that were asked for
+pub enough : (heap : HeapState) (address size : ℕ) → IsBlock heap address size → size ≤ usable heap address
+enough heap address size block = omega (arith, size_at heap (address - 16) block.extent block.there, block.holds)
 
 module _ {A : Type 0} (regions : A → List Grant) (word : A → ℕ → ℕ) (heap : Dlmalloc A) (sound : IsSound regions word heap) (address : ℕ) (block : HasBlock (state_of word heap) address) where
   place : block.1.extent.at ≡ address - 16

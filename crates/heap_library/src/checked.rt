@@ -194,6 +194,7 @@ impl<'a> CheckedHeap<'a> {
     pub fn malloc(&mut self, size: u64, align: u64) -> Result<u64, HeapError>
         ensures ok { IfOk result (λ address. IsHandedOut regions_of word_of follows self.old size align address self.new) }
         ensures served { IfOk result (λ address. IsServedAt regions_of word_of zeros follows self.old size align address self.new) }
+        ensures enough { IfOk result (λ address. size ≤ usable (heap_state self.new) address) }
         ensures power { IfOk result (λ address. IsPowerOfTwo align) }
         ensures err { IfErr result (λ error. IsRequestRefused regions_of word_of follows refuses denies self.old size align error self.new) }
         ensures apart { BlocksAreApart (heap_state self.new) }
@@ -212,6 +213,7 @@ impl<'a> CheckedHeap<'a> {
         ensures ok { IfOk result (λ address. IsHandedOut regions_of word_of follows self.old size align address self.new) }
         ensures served { IfOk result (λ address. IsServedCleared regions_of word_of zeros follows self.old size align address self.new) }
         ensures zeros { IfOk result (λ address. AreZero (word_of self.new.system) address size) }
+        ensures enough { IfOk result (λ address. size ≤ usable (heap_state self.new) address) }
         ensures power { IfOk result (λ address. IsPowerOfTwo align) }
         ensures err { IfErr result (λ error. IsRequestRefused regions_of word_of follows refuses denies self.old size align error self.new) }
         ensures apart { BlocksAreApart (heap_state self.new) }
@@ -231,6 +233,7 @@ impl<'a> CheckedHeap<'a> {
         ensures block { IfOk result (λ to. HasBlock (heap_state self.old) from) }
         ensures resized { IfOk result (λ to. IsResized regions_of word_of zeros follows true true 1 self.old from (usable (heap_state self.old) from) 16 size to self.new) }
         ensures ok { IfOk result (λ to. IsGivenSize regions_of word_of follows true true 1 self.old from (usable (heap_state self.old) from) 16 size to self.new) }
+        ensures enough { IfOk result (λ to. size ≤ usable (heap_state self.new) to) }
         ensures err { IfErr result (λ error. IsResizeRefused regions_of word_of follows refuses denies self.old from size error self.new) }
         ensures apart { BlocksAreApart (heap_state self.new) }
     {

@@ -25,7 +25,7 @@ impl<A: Allocator> Model for Heap<A> {
 }
 
 impl<A: Allocator> Heap<A> {
-    ghost use Rattle.std.specs.Prelude.{◌≡◌, ◌↔◌, true, false, if◌then◌else◌, IfOk, IfErr, IsTrue};
+    ghost use Rattle.std.specs.Prelude.{◌≡◌, ◌↔◌, ◌≤◌, true, false, if◌then◌else◌, IfOk, IfErr, IsTrue};
     ghost use Rattle.std.specs.Int.{IsPowerOfTwo};
     ghost use Rattle.dlmalloc.specs.State.{new_heap};
     ghost use Rattle.dlmalloc.specs.Heap.{state_of, IsGranularity};
@@ -62,6 +62,7 @@ impl<A: Allocator> Heap<A> {
     pub fn malloc(&mut self, size: u64, align: u64) -> Result<u64, HeapError>
         ensures ok { IfOk result (λ address. IsHandedOut A.regions A.word A.follows self.old size align address self.new) }
         ensures served { IfOk result (λ address. IsServedAt A.regions A.word A.zeros A.follows self.old size align address self.new) }
+        ensures enough { IfOk result (λ address. size ≤ usable (state_of A.word self.new) address) }
         ensures power { IfOk result (λ address. IsPowerOfTwo align) }
         ensures err { IfErr result (λ error. IsRequestRefused A.regions A.word A.follows A.refuses A.denies self.old size align error self.new) }
         ensures apart { BlocksAreApart (state_of A.word self.new) }
@@ -74,6 +75,7 @@ impl<A: Allocator> Heap<A> {
         ensures ok { IfOk result (λ address. IsHandedOut A.regions A.word A.follows self.old size align address self.new) }
         ensures served { IfOk result (λ address. IsServedCleared A.regions A.word A.zeros A.follows self.old size align address self.new) }
         ensures zeros { IfOk result (λ address. AreZero (A.word self.new.system) address size) }
+        ensures enough { IfOk result (λ address. size ≤ usable (state_of A.word self.new) address) }
         ensures power { IfOk result (λ address. IsPowerOfTwo align) }
         ensures err { IfErr result (λ error. IsRequestRefused A.regions A.word A.follows A.refuses A.denies self.old size align error self.new) }
         ensures apart { BlocksAreApart (state_of A.word self.new) }
@@ -87,6 +89,7 @@ impl<A: Allocator> Heap<A> {
         ensures served { cleared ≡ false → IfOk result (λ address. IsServedAt A.regions A.word A.zeros A.follows self.old size align address self.new) }
         ensures served_cleared { cleared ≡ true → IfOk result (λ address. IsServedCleared A.regions A.word A.zeros A.follows self.old size align address self.new) }
         ensures zeros { cleared ≡ true → IfOk result (λ address. AreZero (A.word self.new.system) address size) }
+        ensures enough { IfOk result (λ address. size ≤ usable (state_of A.word self.new) address) }
         ensures power { IfOk result (λ address. IsPowerOfTwo align) }
         ensures err { IfErr result (λ error. IsRequestRefused A.regions A.word A.follows A.refuses A.denies self.old size align error self.new) }
         ensures apart { BlocksAreApart (state_of A.word self.new) }
@@ -107,6 +110,7 @@ impl<A: Allocator> Heap<A> {
         requires block { HasBlock (state_of A.word self.old) address }
         ensures resized { IfOk result (λ to. IsResized A.regions A.word A.zeros A.follows (A.frees self.old.system) (A.parts self.old.system) (A.unit self.old.system) self.old address (usable (state_of A.word self.old) address) 16 size to self.new) }
         ensures ok { IfOk result (λ to. IsGivenSize A.regions A.word A.follows (A.frees self.old.system) (A.parts self.old.system) (A.unit self.old.system) self.old address (usable (state_of A.word self.old) address) 16 size to self.new) }
+        ensures enough { IfOk result (λ to. size ≤ usable (state_of A.word self.new) to) }
         ensures err { IfErr result (λ error. IsResizeRefused A.regions A.word A.follows A.refuses A.denies self.old address size error self.new) }
         ensures apart { BlocksAreApart (state_of A.word self.new) }
     {

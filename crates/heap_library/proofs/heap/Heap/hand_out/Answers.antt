@@ -1,5 +1,7 @@
 use Rattle.std.proofs.Common.{refl, subst}
+use Rattle.dlmalloc.specs.Heap.{state_of}
 use Rattle.dlmalloc.specs.Requested.{IsServedAt}
+use Rattle.heap_library.proofs.BlockWords.{enough}
 use Rattle.heap_library.proofs.heap.Heap.hand_out.Goals as goal
 use Rattle.heap_library.proofs.heap.Heap.hand_out.Goals.{in-Ok, in-Err}
 
@@ -10,4 +12,10 @@ pub returns-clause-served : goal.returns-clause-served
 returns-clause-served g c = elim c.match-hand_out.branch [
   | in-Ok w ↦ λ is. rw w.result-is (subst (λ heap. IsServedAt g.A.Links.regions g.A.Links.word g.A.Allocator.zeros g.A.Links.follows heap c.args.size c.args.align w.in-Ok.address c.hand_out.new.heap) c.self.view_is (w.in-Ok.ensures.served is))
   | in-Err w ↦ λ is. rw w.result-is tt
+]
+
+pub returns-clause-enough : goal.returns-clause-enough
+returns-clause-enough g c = elim c.match-hand_out.branch [
+  | in-Ok w ↦ rw w.result-is (enough (state_of g.A.Links.word c.hand_out.new.heap) w.in-Ok.address c.args.size w.in-Ok.ensures.ok.block)
+  | in-Err w ↦ rw w.result-is tt
 ]
