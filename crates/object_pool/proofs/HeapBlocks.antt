@@ -119,7 +119,7 @@ module _ {A : Type 0} (regions : A → List Grant) (word : A → ℕ → ℕ) (f
 
   -- ---- nothing was granted
 
-  module _ (refuses : A → A → Type 0) (placed : ArePlaced (regions old.system) (state_of word old)) (same : IsAsItWas regions word follows refuses old new) where
+  module _ (refuses : A → A → Type 0) (placed : ArePlaced (regions old.system) (state_of word old)) {events : List Event} (same : IsAsItWas regions word follows refuses events old new) where
     pub refused_keeps : KeepsAll word old new
     refused_keeps at n block = record {
       block = subst (λ (h : HeapState). IsBlock h at n) (sym same.state) block;

@@ -9,7 +9,8 @@ use Rattle.dlmalloc.specs.Heap.{state_of, IsSound}
 use Rattle.dlmalloc.specs.Binned.{IsBinned}
 use Rattle.dlmalloc.specs.Blocks.{IsBlock}
 use Rattle.dlmalloc.specs.Grown.{IsAsItWas}
-use Rattle.dlmalloc.specs.Served.{IsDenied, IsObtained}
+use Rattle.dlmalloc.specs.declared.malloc_error.MallocError.TheVariants.{System}
+use Rattle.dlmalloc.specs.Served.{IsDenied, IsObtained, refused_events}
 use Rattle.object_pool.specs.declared.pool_fault.PoolFault.{PoolFault}
 use Rattle.object_pool.specs.declared.pool_fault.PoolFault.TheVariants.{Full, Heap, OutOfMemory}
 use Rattle.object_pool.specs.declared.slots.Slot.{Slot}
@@ -160,8 +161,10 @@ IsRefusedBy word denies pool Full = length pool.slots ≡ 2 ^ 32 - 64
 IsRefusedBy word denies pool (Heap fault) = (length pool.slots < 2 ^ 32 - 64) × IsDenied denies pool.heap.system (state_of word pool.heap) (padded (64 * pool.size)) fault
 IsRefusedBy word denies pool OutOfMemory = length pool.slots < 2 ^ 32 - 64
 
--- A refused insert leaves all as it was. Where the heap's system denied a region, what it denies next may be other.
+-- A refused insert leaves all as it was. Where the heap's system denied a region, it was asked for that one alone, and what it
+-- denies next may be other.
 abbrev pub IsUnchanged : {A : Type 0} → (A → List Grant) → (A → ℕ → ℕ) → (A → List Event → A → Type 0) → (A → A → Type 0) → Pooled A → PoolFault → Pooled A → Type 0
 IsUnchanged regions word follows refuses old Full new = new ≡ old
-IsUnchanged regions word follows refuses old (Heap fault) new = IsAsItWas regions word follows refuses old.heap new.heap × (new ≡ record old { heap = new.heap })
+IsUnchanged regions word follows refuses old (Heap fault) new =
+    IsAsItWas regions word follows refuses (refused_events (state_of word old.heap) (64 * old.size) (System fault)) old.heap new.heap × (new ≡ record old { heap = new.heap })
 IsUnchanged regions word follows refuses old OutOfMemory new = new ≡ old

@@ -7,7 +7,7 @@ ghost use Rattle.dlmalloc.specs.Blocks.{IsBlock, ArePlaced};
 ghost use Rattle.dlmalloc.specs.Grown.{IsAsItWas};
 ghost use Rattle.dlmalloc.specs.Heap.{state_of, IsGranularity, IsSound};
 ghost use Rattle.dlmalloc.specs.Requested.{IsHandedOut, IsServedAt};
-ghost use Rattle.dlmalloc.specs.Served.{IsDenied, IsRefusedWith};
+ghost use Rattle.dlmalloc.specs.Served.{IsDenied, IsRefusedWith, refused_events};
 ghost use Rattle.object_pool.specs.Bytes.{AreGranted};
 ghost use Rattle.object_pool.specs.Pool.{bytes_of, place_of, IsAdded, IsEmptied, IsLaidOut, KeepsAll, KeepsOthers, StaysInState};
 
@@ -146,7 +146,7 @@ impl<A: Allocator + Memory> Slabs<A> {
         ensures kept { KeepsAll A.word self.old.heap self.new.heap }
         ensures added { IfOk result (λ done. IsAdded A.regions A.word A.follows self.old.heap self.old.size self.old.places.items self.new.heap self.new.places.items) }
         ensures places { IfErr result (λ fault. self.new.places ≡ self.old.places) }
-        ensures err { IfErr result (λ fault. IsAsItWas A.regions A.word A.follows A.refuses self.old.heap self.new.heap) }
+        ensures err { IfErr result (λ fault. IsAsItWas A.regions A.word A.follows A.refuses (refused_events (state_of A.word self.old.heap) (64 * self.old.size) (MallocError.System fault)) self.old.heap self.new.heap) }
         ensures denied { IfErr result (λ fault. IsDenied A.denies self.old.heap.system (state_of A.word self.old.heap) (padded (64 * self.old.size)) fault) }
     {
         slabs_are_small(self.heap.granularity(), SLOTS * self.size);
