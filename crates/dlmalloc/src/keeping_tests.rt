@@ -205,6 +205,32 @@ fn a_system_may_keep_segments(rt: HostRuntime) -> Result<(), Fail> {
             ],
             destroyed: 0,
         },
+        Given {
+            rule: "their chunks go into their bin anew, the first segment's as the newest",
+            granularity: 16,
+            gives: &[(0x1_0000, 192, 0), (0x2_0000, 192, 0), (0x3_0000, 208, 0)],
+            frees: false,
+            parts: true,
+            calls: &[
+                Call::Malloc(24, Ok(0x1_0010)),
+                Call::Malloc(72, Ok(0x2_0010)),
+                Call::Malloc(100, Ok(0x3_0010)),
+                Call::Free(0x1_0010),
+                Call::Free(0x2_0010),
+                Call::Trim(0, false),
+                Call::Malloc(100, Ok(0x1_0010)),
+            ],
+            extents: &[
+                (Kind::Used, 0x1_0000, 112),
+                (Kind::Record, 0x1_0070, 80),
+                (Kind::Free, 0x2_0000, 112),
+                (Kind::Record, 0x2_0070, 80),
+                (Kind::Used, 0x3_0000, 112),
+                (Kind::Top, 0x3_0070, 16),
+                (Kind::Foot, 0x3_0080, 80),
+            ],
+            destroyed: 0,
+        },
     ];
     for row in &rows {
         serve_given::<Brand, HostRuntime>(&rt, rt.alloc(), row, Blank::new(1))?;

@@ -41,6 +41,8 @@ mod grant_tests;
 #[cfg(test)]
 mod keeping_tests;
 #[cfg(test)]
+mod order_tests;
+#[cfg(test)]
 mod release_tests;
 #[cfg(test)]
 mod resize_tests;

@@ -16,7 +16,7 @@ use std::test::Fail;
 use step_count::Steps;
 
 /// A heap whose system gives one region, of 65536 bytes at 0x400000.
-fn flat_heap(alloc: Global) -> Result<Dlmalloc<FlatSystem>, AllocError>
+pub(crate) fn flat_heap(alloc: Global) -> Result<Dlmalloc<FlatSystem>, AllocError>
     ensures sound { IfOk result (λ heap. IsSound ⟦<FlatSystem as Links>⟧.regions ⟦<FlatSystem as Links>⟧.word heap) }
     ensures linked { IfOk result (λ heap. IsBinned ⟦<FlatSystem as Links>⟧.regions ⟦<FlatSystem as Links>⟧.word heap) }
 {
