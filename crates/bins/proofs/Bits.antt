@@ -15,6 +15,7 @@ use Rattle.bins.specs.Laws.{sides_of, node_at, shift_of}
 use Rattle.bins.proofs.Chunks.{same_or_not}
 use Rattle.bins.proofs.Lists.{without_other}
 use Rattle.bins.proofs.Widths.{width_is}
+use Rattle.bins.proofs.Scaled.{scaled_below}
 use Rattle.bins.proofs.TreeRanges.{low_normal, low_last, levels_normal, levels_last, bin_low, bin_end, from_same}
 
 -- The half of a range that has a number, and the number in it. The range is scaled to that of 64-bit words: then the top
@@ -26,15 +27,6 @@ record IsHalf (offset half scale : ℕ) : Type 0 where
   within : less < half
   bit : nat_le (2 ^ 63) (offset * scale) ≡ side
   rest : 2 * (offset * scale) % 2 ^ 64 ≡ less * (2 * scale)
-
-scaled_below : (less half scale : ℕ) → less < half → half * scale ≡ 2 ^ 63 → less * scale < 2 ^ 63
-scaled_below less half scale within scaled =
-    let s : less + 1 ≤ half = omega arith in
-    let p = mul-le-mul_right scale s in
-    elim (same_or_not scale 0) [
-      | inl none ↦ absurd (let e : half * scale ≡ half * 0 = ap (λ x. half * x) none in omega arith)
-      | inr some ↦ omega arith
-    ]
 
 half_of : (offset half scale : ℕ) → offset < 2 * half → half * scale ≡ 2 ^ 63 → IsHalf offset half scale
 half_of offset half scale within scaled = elim (cases_lt offset half) [

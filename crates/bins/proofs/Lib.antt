@@ -12,6 +12,7 @@ pub mod SmallBins
 pub mod Pulled
 pub mod LeastSmall
 pub mod Widths
+pub mod Scaled
 pub mod Opened
 pub mod TrieInsert
 pub mod LeafStores

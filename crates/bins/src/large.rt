@@ -9,7 +9,7 @@ use crate::bins::Bins;
 use crate::leave::unlink_below;
 use crate::map;
 use crate::search::{fit_below, least_of};
-use crate::trie::plant;
+use crate::trie::{path_bits, plant};
 use crate::words::TREE_TAG;
 use dlmalloc_chunks::compute_tree_index;
 use heap_memory::Links;
@@ -164,12 +164,14 @@ impl Bins {
         let root = self.roots[bin];
         let low = bin_low(bin);
         let levels = bin_levels(bin);
+        let bits = path_bits(low, levels, size);
         let fit = fit_below(
             memory,
             root,
             low,
             levels,
             size,
+            bits,
             u64::MAX,
             0,
             0,

@@ -1,5 +1,5 @@
 // A chunk leaves a trie.
-ghost use Rattle.std.specs.Prelude.{◌≡◌, ◌≢◌, ℕ, ◌+◌, ◌*◌, ◌^◌, ◌<◌, ◌≤◌, ◌⊎◌, Bool, List, [], ◌∷◌};
+ghost use Rattle.std.specs.Prelude.{◌≡◌, ◌≢◌, ℕ, ◌+◌, ◌-◌, ◌*◌, ◌^◌, ◌<◌, ◌≤◌, ◌⊎◌, Bool, List, [], ◌∷◌};
 ghost use Rattle.dlmalloc_chunks.specs.Head.{size_of};
 ghost use Rattle.bins.specs.Index.{IsIn, without, without_chunk};
 ghost use Rattle.bins.specs.Tries.{both, width, IsTrie};
@@ -8,7 +8,7 @@ ghost use Rattle.bins.specs.Stores.{IsPlace, HasPulled, HasHeirLinks, HasPlaced}
 
 use crate::leaf::{first_child, place_node, take_leaf};
 use crate::small::pull;
-use crate::trie::{half_width, is_in_upper, low_of, slot_of};
+use crate::trie::{half_width, is_in_upper, low_of, next_bits, path_bits, slot_of};
 use crate::words::{CHILD0, CHILD1, NEXT, PREV};
 use dlmalloc_chunks::chunk;
 use heap_memory::Links;
@@ -165,12 +165,14 @@ fn unlink_under<M: Links, L: Ledger>(
     bin: u64,
     chunk: u64,
     size: u64,
+    bits: u64,
     steps: &mut Steps<L>,
 )
     requires some { 0 < at }
     requires few { levels ≤ 61 }
     requires above { low ≤ size }
     requires below { size < low + width levels }
+    requires bits { bits ≡ (size - low) * 2 ^ (61 - levels) }
     requires fits { low + width levels ≤ 2 ^ 64 }
     requires other { size_of (M.word memory.old (at + 8)) ≢ size }
     requires held { (index : ℕ → List ℕ) × ((parent : ℕ) × (IsHeld (M.regions memory.old) (M.word memory.old) index bin parent low levels at × IsIn chunk (index size))) }
@@ -183,7 +185,7 @@ fn unlink_under<M: Links, L: Ledger>(
     ensures counted { steps.new ≤ steps.old + 3 * levels + 12 }
 {
     let half = half_width(levels);
-    let is_upper = is_in_upper(low, half, size);
+    let is_upper = is_in_upper(low, half, size, bits);
     let place = slot_of(at, is_upper);
     let child = memory.load_counted(place, steps);
     let child_low = low_of(low, half, is_upper);
@@ -197,6 +199,7 @@ fn unlink_under<M: Links, L: Ledger>(
             bin,
             chunk,
             size,
+            next_bits(bits),
             steps,
         );
     } else {
@@ -235,6 +238,7 @@ pub(crate) fn unlink_below<M: Links, L: Ledger>(
     if here == size {
         return unlink_here(memory, at, levels, parent, bin, chunk, steps);
     }
-    unlink_under(memory, at, low, levels, bin, chunk, size, steps);
+    let bits = path_bits(low, levels, size);
+    unlink_under(memory, at, low, levels, bin, chunk, size, bits, steps);
     at
 }

@@ -1,12 +1,12 @@
 // The least fit in a trie.
-ghost use Rattle.std.specs.Prelude.{◌≡◌, ℕ, ◌+◌, ◌*◌, ◌^◌, ◌<◌, ◌≤◌, ◌⊎◌, List, true, false};
+ghost use Rattle.std.specs.Prelude.{◌≡◌, ℕ, ◌+◌, ◌-◌, ◌*◌, ◌^◌, ◌<◌, ◌≤◌, ◌⊎◌, List, true, false};
 ghost use Rattle.bins.specs.Index.{IsNone};
 ghost use Rattle.bins.specs.Tries.{width};
 ghost use Rattle.bins.specs.Fits.{IsReadable, IsLesser, IsSearched};
 
 use crate::fit::Fit;
 use crate::leaf::first_child;
-use crate::trie::{half_width, is_in_upper, low_of, slot_of};
+use crate::trie::{half_width, is_in_upper, low_of, next_bits, slot_of};
 use crate::words::CHILD1;
 use dlmalloc_chunks::chunk;
 use heap_memory::Links;
@@ -80,6 +80,7 @@ pub(crate) fn fit_below<M: Links, L: Ledger>(
     low: u64,
     levels: u32,
     size: u64,
+    bits: u64,
     known_size: u64,
     known: u64,
     beside: u64,
@@ -89,6 +90,7 @@ pub(crate) fn fit_below<M: Links, L: Ledger>(
     requires few { levels ≤ 61 }
     requires above { low ≤ size }
     requires below { size < low + width levels }
+    requires bits { bits ≡ (size - low) * 2 ^ (61 - levels) }
     requires fits { low + width levels ≤ 2 ^ 64 }
     requires known { size ≤ known_size }
     requires deep { levels ≤ beside_levels }
@@ -110,7 +112,7 @@ pub(crate) fn fit_below<M: Links, L: Ledger>(
         return at;
     }
     let half = half_width(levels);
-    let is_upper = is_in_upper(low, half, size);
+    let is_upper = is_in_upper(low, half, size, bits);
     let child = memory.load_counted(slot_of(at, is_upper), steps);
     let right = Subtrie {
         at: memory.load_counted(at + CHILD1, steps),
@@ -132,6 +134,7 @@ pub(crate) fn fit_below<M: Links, L: Ledger>(
         low_of(low, half, is_upper),
         levels - 1,
         size,
+        next_bits(bits),
         lesser.size,
         lesser.chunk,
         next.at,

@@ -21,14 +21,36 @@ pub(crate) fn half_width(levels: u32) -> u64
     8 << (levels - 1)
 }
 
-/// Whether a size is in the upper half of a range.
-pub(crate) fn is_in_upper(low: u64, half: u64, size: u64) -> bool
+/// Where a size lies in the range of a trie, scaled so that the whole range is that of 64-bit words. The top bit then tells
+/// in which half it lies (dlmalloc: `leftshift_for_tree_index`).
+pub(crate) fn path_bits(low: u64, levels: u32, size: u64) -> u64
+    requires few { levels ≤ 61 }
+    requires above { low ≤ size }
+    requires below { size < low + width levels }
+    ensures { result ≡ (size - low) * 2 ^ (61 - levels) }
+{
+    (size - low) << (61 - levels)
+}
+
+/// The same for the half in which it lies, as the range of a child.
+pub(crate) fn next_bits(bits: u64) -> u64
+    ensures { result ≡ 2 * bits % 2 ^ 64 }
+{
+    bits << 1
+}
+
+/// Whether a size is in the upper half of a range, by its top bit where it is scaled.
+pub(crate) fn is_in_upper(low: u64, half: u64, size: u64, bits: u64) -> bool
     requires above { low ≤ size }
     requires below { size < low + 2 * half }
+    requires bits { (scale : ℕ) × ((half * scale ≡ 2 ^ 63) × (bits ≡ (size - low) * scale)) }
     ensures above { low_at result low half ≤ size }
     ensures below { size < low_at result low half + half }
 {
-    size - low >= half
+    if bits < 1 << 63 {
+        return false;
+    }
+    true
 }
 
 /// The place of a child's word.
@@ -137,12 +159,14 @@ pub(crate) fn insert_below<M: Links, L: Ledger>(
     bin: u64,
     chunk: u64,
     size: u64,
+    bits: u64,
     steps: &mut Steps<L>,
 )
     requires some { 0 < at }
     requires few { levels ≤ 61 }
     requires above { low ≤ size }
     requires below { size < low + width levels }
+    requires bits { bits ≡ (size - low) * 2 ^ (61 - levels) }
     requires fits { low + width levels ≤ 2 ^ 64 }
     requires large { 256 ≤ size }
     requires held { (index : ℕ → List ℕ) × ((parent : ℕ) × (IsHeld (M.regions memory.old) (M.word memory.old) index bin parent low levels at × IsFresh (M.regions memory.old) (M.word memory.old) index size chunk)) }
@@ -160,7 +184,7 @@ pub(crate) fn insert_below<M: Links, L: Ledger>(
         return;
     }
     let half = half_width(levels);
-    let is_upper = is_in_upper(low, half, size);
+    let is_upper = is_in_upper(low, half, size, bits);
     let place = slot_of(at, is_upper);
     let child = memory.load_counted(place, steps);
     if child == 0 {
@@ -174,6 +198,7 @@ pub(crate) fn insert_below<M: Links, L: Ledger>(
             bin,
             chunk,
             size,
+            next_bits(bits),
             steps,
         );
     }
@@ -211,6 +236,7 @@ pub(crate) fn plant<M: Links, L: Ledger>(
         set_node(memory, chunk, 0, 0, parent, bin, steps);
         return chunk;
     }
-    insert_below(memory, root, low, levels, bin, chunk, size, steps);
+    let bits = path_bits(low, levels, size);
+    insert_below(memory, root, low, levels, bin, chunk, size, bits, steps);
     root
 }

@@ -1,7 +1,8 @@
-use Rattle.std.proofs.Common.{◌<◌, ◌∙◌, inl, inr, true, refl, sym, ap, rules, arith}
+use Rattle.std.proofs.Common.{◌-◌, ◌^◌, ◌<◌, ◌∙◌, inl, inr, true, refl, sym, ap, rules, arith}
 use Rattle.bins.specs.Index.{without}
 use Rattle.bins.proofs.Opened.{none_in}
 use Rattle.bins.proofs.Searching.{s_levels, q, s_head, s_slot, s_child, s_high, high_fits}
+use Rattle.bins.proofs.Scaled.{half_scaled, next_is}
 use Rattle.bins.proofs.Lesser.{fit_search, exact_search, next_read}
 use Rattle.bins.proofs.search.+fit_below.Goals as goal
 
@@ -39,6 +40,7 @@ fit_below-requires g t c κs within = let r = c.requires.readable in let real : 
     let below = c.is_in_upper-is_upper.ensures.below in
     let low = c.low_of.ensures in
     let half = c.half_width-half.ensures in
+    let bits = next_is c.args.low c.half_width-half.result c.args.size c.args.bits c.args.levels c.low_of.result c.next_bits.result c.is_in_upper-is_upper.result levels c.requires.few c.half_width-half.ensures c.requires.above c.requires.below c.requires.bits c.low_of.ensures c.is_in_upper-is_upper.ensures.above c.is_in_upper-is_upper.ensures.below c.next_bits.ensures in
     let next = next_read (g.M.Links.regions c.args.memory.now) (g.M.Links.word c.args.memory.now) r.0 c.args.low c.args.levels c.args.at real r.1 c.is_in_upper-is_upper.result c.load_counted.result c.load_counted.ensures.value c.args.beside c.args.beside_levels c.behind-next.result c.behind-next.ensures.right c.behind-next.ensures.so_far c.requires.deep c.requires.beside in (
       omega (arith, c.decreases, levels),
       (
@@ -52,8 +54,11 @@ fit_below-requires g t c κs within = let r = c.requires.readable in let real : 
               (
                 omega (arith, low, below, half),
                 (
-                  omega (arith, low, half, high, high_fits c.is_in_upper-is_upper.result c.args.low c.half_width-half.result, c.requires.fits),
-                  (c.or_less-lesser.ensures.enough c.requires.known, (next.0, ((without (q (g.M.Links.regions c.args.memory.now) (g.M.Links.word c.args.memory.now) r.0 c.args.low c.args.levels c.args.at real r.1).node.size r.0, rw low (s_child (g.M.Links.regions c.args.memory.now) (g.M.Links.word c.args.memory.now) r.0 c.args.low c.args.levels c.args.at real r.1 c.is_in_upper-is_upper.result _ c.half_width-half.result (c.load_counted-child.ensures.value ∙ ap (g.M.Links.word c.args.memory.now) c.slot_of.ensures) c.half_width-half.ensures)), next.1.1))),
+                  bits,
+                  (
+                    omega (arith, low, half, high, high_fits c.is_in_upper-is_upper.result c.args.low c.half_width-half.result, c.requires.fits),
+                    (c.or_less-lesser.ensures.enough c.requires.known, (next.0, ((without (q (g.M.Links.regions c.args.memory.now) (g.M.Links.word c.args.memory.now) r.0 c.args.low c.args.levels c.args.at real r.1).node.size r.0, rw low (s_child (g.M.Links.regions c.args.memory.now) (g.M.Links.word c.args.memory.now) r.0 c.args.low c.args.levels c.args.at real r.1 c.is_in_upper-is_upper.result _ c.half_width-half.result (c.load_counted-child.ensures.value ∙ ap (g.M.Links.word c.args.memory.now) c.slot_of.ensures) c.half_width-half.ensures)), next.1.1))),
+                  ),
                 ),
               ),
             ),
@@ -75,3 +80,6 @@ returns-clause-counted g t c = let r = c.requires.readable in let real : 0 < c.a
     let next = next_read (g.M.Links.regions c.args.memory.now) (g.M.Links.word c.args.memory.now) r.0 c.args.low c.args.levels c.args.at real r.1 c.is_in_upper-is_upper.result c.load_counted.result c.load_counted.ensures.value c.args.beside c.args.beside_levels c.behind-next.result c.behind-next.ensures.right c.behind-next.ensures.so_far c.requires.deep c.requires.beside in
     let deep = next.1.0 in
     omega (arith, levels, deep, c.size.ensures.counted, c.load_counted-child.ensures.counted, c.load_counted.ensures.counted, c.fit_below.ensures.counted)
+
+pub is_in_upper-is_upper-requires-clause-bits : goal.is_in_upper-is_upper-requires-clause-bits
+is_in_upper-is_upper-requires-clause-bits g t c = let r = c.requires.readable in let real : 0 < c.args.at = omega arith in let levels = s_levels (g.M.Links.regions c.args.memory.now) (g.M.Links.word c.args.memory.now) r.0 c.args.low c.args.levels c.args.at real r.1 in (2 ^ (61 - c.args.levels), (half_scaled c.args.levels c.half_width-half.result levels c.requires.few c.half_width-half.ensures, c.requires.bits))

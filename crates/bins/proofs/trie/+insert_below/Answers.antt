@@ -1,7 +1,8 @@
-use Rattle.std.proofs.Common.{◌<◌, ◌∙◌, sym, subst, rules, arith}
+use Rattle.std.proofs.Common.{◌-◌, ◌^◌, ◌<◌, ◌∙◌, sym, subst, rules, arith}
 use Rattle.bins.specs.Index.{without}
 use Rattle.bins.specs.Stores.{IsPlace}
 use Rattle.bins.proofs.TrieEntry.{o, has_levels, e_head, e_at, e_slots, e_last, e_apart, e_slot, e_slot_own, e_joined, e_joined_words, e_leaf, e_leaf_words, e_fits, e_held, e_fresh, e_child, e_child_words}
+use Rattle.bins.proofs.Scaled.{half_scaled, next_is}
 use Rattle.bins.proofs.trie.+insert_below.Goals as goal
 
 pub size-here-requires : goal.size-here-requires
@@ -52,6 +53,7 @@ insert_below-requires g t c κs within =
     let r = c.requires.held in
     let real : 0 < c.load_counted-child.result = omega arith in
     let levels : 0 < c.args.levels = has_levels (g.M.Links.regions c.args.memory.now) (g.M.Links.word c.args.memory.now) r.0 _ _ _ _ _ _ _ c.requires.some r.1.1.0 r.1.1.1 c.requires.large in
+    let bits = next_is c.args.low c.half_width-half.result c.args.size c.args.bits c.args.levels c.low_of.result c.next_bits.result c.is_in_upper-is_upper.result levels c.requires.few c.half_width-half.ensures c.requires.above c.requires.below c.requires.bits c.low_of.ensures c.is_in_upper-is_upper.ensures.above c.is_in_upper-is_upper.ensures.below c.next_bits.ensures in
     let fits = e_fits (g.M.Links.regions c.args.memory.now) (g.M.Links.word c.args.memory.now) r.0 _ _ _ _ _ _ _ c.requires.some r.1.1.0 r.1.1.1 c.requires.large (λ e. c.if-here-size.false (c.size-here.ensures.value ∙ e)) c.is_in_upper-is_upper.result _ _ _ c.half_width-half.ensures c.slot_of-place.ensures (c.load_counted-child.ensures.value) c.is_in_upper-is_upper.ensures.above c.is_in_upper-is_upper.ensures.below in
     let held = e_held (g.M.Links.regions c.args.memory.now) (g.M.Links.word c.args.memory.now) r.0 _ _ _ _ _ _ _ c.requires.some r.1.1.0 r.1.1.1 c.requires.large (λ e. c.if-here-size.false (c.size-here.ensures.value ∙ e)) c.is_in_upper-is_upper.result _ _ _ c.half_width-half.ensures c.slot_of-place.ensures (c.load_counted-child.ensures.value) c.is_in_upper-is_upper.ensures.above c.is_in_upper-is_upper.ensures.below real in
     let fresh = e_fresh (g.M.Links.regions c.args.memory.now) (g.M.Links.word c.args.memory.now) r.0 _ _ _ _ _ _ _ c.requires.some r.1.1.0 r.1.1.1 c.requires.large (λ e. c.if-here-size.false (c.size-here.ensures.value ∙ e)) c.is_in_upper-is_upper.result _ _ _ c.half_width-half.ensures c.slot_of-place.ensures (c.load_counted-child.ensures.value) c.is_in_upper-is_upper.ensures.above c.is_in_upper-is_upper.ensures.below in
@@ -74,10 +76,13 @@ insert_below-requires g t c κs within =
                 (
                   omega (arith, low, below, half),
                   (
-                    omega (arith, low, fits, c.requires.fits),
+                    bits,
                     (
-                      c.requires.large,
-                      (without node.size r.0, (c.args.at, (rw low held, fresh))),
+                      omega (arith, low, fits, c.requires.fits),
+                      (
+                        c.requires.large,
+                        (without node.size r.0, (c.args.at, (rw low held, fresh))),
+                      ),
                     ),
                   ),
                 ),
@@ -103,3 +108,6 @@ returns-else-child-eq0-clause-trie g t c = λ index parent held fresh.
 pub returns-else-child-eq0-clause-words : goal.returns-else-child-eq0-clause-words
 returns-else-child-eq0-clause-words g t c = λ index parent held fresh.
     e_child_words (g.M.Links.regions c.args.memory.now) (g.M.Links.word c.args.memory.now) index _ parent _ _ _ _ _ c.requires.some held fresh c.requires.large (λ e. c.if-here-size.false (c.size-here.ensures.value ∙ e)) c.is_in_upper-is_upper.result _ _ _ c.half_width-half.ensures c.slot_of-place.ensures (c.load_counted-child.ensures.value) c.is_in_upper-is_upper.ensures.above c.is_in_upper-is_upper.ensures.below (g.M.Links.word c.insert_below.new.memory) _ c.low_of.ensures (omega arith) c.insert_below.ensures.trie c.insert_below.ensures.words
+
+pub is_in_upper-is_upper-requires-clause-bits : goal.is_in_upper-is_upper-requires-clause-bits
+is_in_upper-is_upper-requires-clause-bits g t c = let r = c.requires.held in let levels : 0 < c.args.levels = has_levels (g.M.Links.regions c.args.memory.now) (g.M.Links.word c.args.memory.now) r.0 _ _ _ _ _ _ _ c.requires.some r.1.1.0 r.1.1.1 c.requires.large in (2 ^ (61 - c.args.levels), (half_scaled c.args.levels c.half_width-half.result levels c.requires.few c.half_width-half.ensures, c.requires.bits))

@@ -1,0 +1,64 @@
+-- Where a size lies in a range, scaled to the range of 64-bit words.
+use Rattle.std.proofs.Common.{◌≡◌, ℕ, ◌+◌, ◌-◌, ◌*◌, ◌%◌, ◌^◌, ◌<◌, ◌≤◌, inl, inr, Bool, true, false, sym, ap, ◌∙◌, arith}
+use Rattle.std.proofs.lemmas.Nat.{pow-add, pow_pos}
+use Rattle.std.proofs.Math.Nat.{mul-le-mul_right, add-mul}
+use Rattle.bins.specs.Tries.{low_at, width}
+use Rattle.bins.proofs.Chunks.{same_or_not}
+use Rattle.bins.proofs.Widths.{width_is, wide}
+
+pub scaled_below : (less half scale : ℕ) → less < half → half * scale ≡ 2 ^ 63 → less * scale < 2 ^ 63
+scaled_below less half scale within scaled =
+    let s : less + 1 ≤ half = omega arith in
+    let p = mul-le-mul_right scale s in
+    elim (same_or_not scale 0) [
+      | inl none ↦ absurd (let e : half * scale ≡ half * 0 = ap (λ x. half * x) none in omega arith)
+      | inr some ↦ omega arith
+    ]
+
+-- a half of a range of so many levels
+pub half_scaled : (levels half : ℕ) → 0 < levels → levels ≤ 61 → half ≡ width (levels - 1) → half * 2 ^ (61 - levels) ≡ 2 ^ 63
+half_scaled levels half some few is =
+    let w = width_is (levels - 1) in
+    let p = pow-add 2 (levels - 1) (61 - levels) in
+    let sum : levels - 1 + (61 - levels) ≡ 60 = omega arith in
+    let q : 2 ^ (levels - 1) * 2 ^ (61 - levels) ≡ 2 ^ 60 = sym p ∙ ap (λ n. 2 ^ n) sum in
+    ap (λ h. h * 2 ^ (61 - levels)) (is ∙ w) ∙ omega (arith, q)
+
+-- a place in a range of so many levels fits a word
+pub place_fits : (levels offset : ℕ) → levels ≤ 61 → offset < width levels → offset * 2 ^ (61 - levels) < 2 ^ 64
+place_fits levels offset few within =
+    let w = width_is levels in
+    let p = pow-add 2 levels (61 - levels) in
+    let sum : levels + (61 - levels) ≡ 61 = omega arith in
+    let q : 2 ^ levels * 2 ^ (61 - levels) ≡ 2 ^ 61 = sym p ∙ ap (λ n. 2 ^ n) sum in
+    let some : 0 < 2 ^ (61 - levels) = pow_pos (61 - levels) in
+    let less : offset + 1 ≤ 8 * 2 ^ levels = omega (arith, w) in
+    let m = mul-le-mul_right (2 ^ (61 - levels)) less in
+    let d : (offset + 1) * 2 ^ (61 - levels) ≡ offset * 2 ^ (61 - levels) + 2 ^ (61 - levels) = omega arith in
+    let e : 8 * 2 ^ levels * 2 ^ (61 - levels) ≡ 2 ^ 64 = omega (arith, q) in
+    omega (arith, m, d, e, some)
+
+-- the place in the half
+next_scaled : (side : Bool) (low half size bits scale : ℕ) → low ≤ size → size < low + 2 * half → half * scale ≡ 2 ^ 63 → bits ≡ (size - low) * scale →
+    low_at side low half ≤ size → size < low_at side low half + half → 2 * bits % 2 ^ 64 ≡ (size - low_at side low half) * (2 * scale)
+next_scaled false low half size bits scale above below scaled is in_low in_high =
+    let less = scaled_below (size - low) half scale (omega arith) scaled in
+    let e : (size - low) * (2 * scale) ≡ 2 * ((size - low) * scale) = omega arith in
+    omega (arith, less, e, is)
+next_scaled true low half size bits scale above below scaled is in_low in_high =
+    let less = scaled_below (size - (low + half)) half scale (omega arith) scaled in
+    let p : size - low ≡ half + (size - (low + half)) = omega arith in
+    let e : (size - low) * scale ≡ (half + (size - (low + half))) * scale = ap (λ x. x * scale) p in
+    let d : (half + (size - (low + half))) * scale ≡ half * scale + (size - (low + half)) * scale = add-mul half (size - (low + half)) scale in
+    let twice : (size - (low + half)) * (2 * scale) ≡ 2 * ((size - (low + half)) * scale) = omega arith in
+    omega (arith, less, e, d, twice, is, scaled)
+
+pub next_is : (low half size bits levels low' next : ℕ) (side : Bool) → 0 < levels → levels ≤ 61 → half ≡ width (levels - 1) → low ≤ size → size < low + width levels → bits ≡ (size - low) * 2 ^ (61 - levels) →
+    low' ≡ low_at side low half → low_at side low half ≤ size → size < low_at side low half + half → next ≡ 2 * bits % 2 ^ 64 → next ≡ (size - low') * 2 ^ (61 - (levels - 1))
+next_is low half size bits levels low' next side some few half_is above below bits_is low_is in_low in_high is =
+    let w = wide levels some in
+    let p = pow-add 2 1 (61 - levels) in
+    let sum : 1 + (61 - levels) ≡ 61 - (levels - 1) = omega arith in
+    let q : 2 ^ (61 - (levels - 1)) ≡ 2 * 2 ^ (61 - levels) = ap (λ n. 2 ^ n) (sym sum) ∙ p in
+    let n = next_scaled side low half size bits (2 ^ (61 - levels)) above (omega (arith, w, half_is)) (half_scaled levels half some few half_is) bits_is in_low in_high in
+    is ∙ (n ∙ (ap (λ l. (size - l) * (2 * 2 ^ (61 - levels))) (sym low_is) ∙ ap (λ x. (size - low') * x) (sym q)))
