@@ -164,8 +164,8 @@ impl<T: Ord + Clone, V> IntervalTree<T, V> {
         IntervalTreeIterator::new(alloc, &self.root, interval)
     }
 
-    /// A cursor over the pairs whose intervals overlap `interval`, in the same order, which lends
-    /// their values to be changed. It needs no memory.
+    /// A cursor over the pairs whose intervals overlap `interval`, in the same order, which answers
+    /// them and replaces their values. It needs no memory.
     pub fn query_mut(&mut self, interval: Interval<T>) -> IntervalTreeIteratorMut<'_, T, V>
         ensures same { result.tree.ghost_name ≡ self.entry.ghost_name }
         ensures tree { result.tree.now ≡ self.old }
