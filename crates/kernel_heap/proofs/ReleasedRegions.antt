@@ -11,7 +11,7 @@ use Rattle.paging_core.specs.Walk.{Place, reach, large_of, walk_of, reached, top
 use Rattle.paging_core.proofs.Ranges.{page_in}
 use Rattle.page_ranges.specs.RangeUnmapping.{AreUnmapped, is_cut}
 use Rattle.page_ranges.proofs.Unmapped.{among_is, slot_in, cut_or_not, cut_one, cut_none, cut_is as cut_page_is}
-use Rattle.heap_memory.specs.Events.{Event, Granted, Released}
+use Rattle.heap_memory.specs.Events.{Event, Granted, Refused, Released}
 use Rattle.heap_memory.specs.Regions.{IsApart}
 use Rattle.heap_memory.specs.Runs.{IsRun, IsWithin}
 use Rattle.heap_model.specs.declared.region.Region.{Region}
@@ -491,6 +491,7 @@ whole_shortened old new at size kept is = subst (AreShortened old new) (none (ca
 -- only runs were given back, whole but perhaps the first
 abbrev IsWholeRelease : Event → Type 0
 IsWholeRelease (Granted asked grant) = ⊥
+IsWholeRelease (Refused asked fault) = ⊥
 IsWholeRelease (Released at size left) = left ≡ 0
 
 abbrev pub AreWholeReleases : List Event → Type 0
@@ -499,6 +500,7 @@ AreWholeReleases events = AllByRecursion IsWholeRelease events
 abbrev pub AreReleases : List Event → Type 0
 AreReleases [] = ⊤
 AreReleases (Granted asked grant ∷ events) = ⊥
+AreReleases (Refused asked fault ∷ events) = ⊥
 AreReleases (Released at size left ∷ events) = AreWholeReleases events
 
 -- what a system keeps, it keeps where a run was given back
@@ -514,6 +516,7 @@ kept_released old new at size left kept is = elim (cases_lt left size) [
 pub follows_whole : (old new : Paged) (events : List Event) → IsKept old → AreWholeReleases events → Follows old events new → AreShortened old new None
 follows_whole old new [] kept all still = shortened_still old new kept.laid still
 follows_whole old new (Granted asked grant ∷ events) kept all follows = absurd all.0
+follows_whole old new (Refused asked fault ∷ events) kept all follows = absurd all.0
 follows_whole old new (Released at size left ∷ events) kept all follows =
     let before : Paged = follows.0 in
     let later : Paged = follows.1 in
@@ -531,6 +534,7 @@ pub record IsShortenedBy (old new : Paged) (events : List Event) : Type 0 where
 pub follows_shortened : (old new : Paged) (events : List Event) → IsKept old → AreReleases events → Follows old events new → IsShortenedBy old new events
 follows_shortened old new [] kept all still = record { slot = None; short = shortened_still old new kept.laid still; cut = λ one is. absurd (cc) }
 follows_shortened old new (Granted asked grant ∷ events) kept all follows = absurd all
+follows_shortened old new (Refused asked fault ∷ events) kept all follows = absurd all
 follows_shortened old new (Released at size left ∷ events) kept all follows =
     let before : Paged = follows.0 in
     let later : Paged = follows.1 in

@@ -1,17 +1,20 @@
 -- What is said of a paged system over a time.
-use Rattle.std.specs.Prelude.{◌≡◌, List, [], ◌∷◌, ◌++◌, refl}
+use Rattle.std.specs.Prelude.{◌≡◌, ◌≢◌, List, [], ◌∷◌, ◌++◌, refl}
 use Rattle.std.proofs.Common.{ap, ◌∙◌, subst, sym, arith}
-use Rattle.heap_memory.specs.Events.{Event, Granted, Released}
+use Rattle.heap_memory.specs.Events.{Event, Granted, Refused, Released}
+use Rattle.heap_memory.specs.declared.grant.GrantFault.TheVariants.{OutOfMemory}
 use Rattle.paging_core.specs.Walk.{reach, large_of, reached}
 use Rattle.heap_model.specs.Machine.{Paged, OnlyHeapBytesChange}
-use Rattle.kernel_heap.specs.Layout.{IsGrantedFor}
+use Rattle.heap_model.specs.Request.{pages_in}
+use Rattle.kernel_heap.specs.Layout.{IsGrantedFor, LacksPlaceOrFrames}
 use Rattle.kernel_heap.specs.Released.{IsReleasedFor}
 
--- With no event all but the bytes of the heap's pages stays. A request is granted, and a run given back, as the system
--- stands at its moment.
+-- With no event all but the bytes of the heap's pages stays. A request is granted or refused, and a run given back, as the
+-- system stands at its moment. A refusal changes nothing; one for want of memory is free.
 abbrev pub Follows : Paged → List Event → Paged → Type 0
 Follows old [] new = OnlyHeapBytesChange old new
 Follows old (Granted asked grant ∷ events) new = (at : Paged) × (later : Paged) × OnlyHeapBytesChange old at × IsGrantedFor at later asked grant × Follows later events new
+Follows old (Refused asked fault ∷ events) new = (at : Paged) × OnlyHeapBytesChange old at × (fault ≢ OutOfMemory → LacksPlaceOrFrames at (pages_in asked) fault) × Follows at events new
 Follows old (Released at size left ∷ events) new = (before : Paged) × (later : Paged) × OnlyHeapBytesChange old before × IsReleasedFor before later at size left × Follows later events new
 
 pub still_none : (p : Paged) → OnlyHeapBytesChange p p
@@ -38,9 +41,13 @@ pub follows_on : (x y z : Paged) (a b c : List Event) → Follows x a y → Foll
 follows_on x y z [] [] c first second is = subst (λ events. Follows x events z) is (still_on x y z first second)
 follows_on x y z [] (Granted asked grant ∷ b) c first second is =
     subst (λ events. Follows x events z) is (second.0, second.1, still_on x y second.0 first second.2, second.3, second.4)
+follows_on x y z [] (Refused asked fault ∷ b) c first second is =
+    subst (λ events. Follows x events z) is (second.0, still_on x y second.0 first second.1, second.2, second.3)
 follows_on x y z [] (Released at size left ∷ b) c first second is =
     subst (λ events. Follows x events z) is (second.0, second.1, still_on x y second.0 first second.2, second.3, second.4)
 follows_on x y z (Granted asked grant ∷ a) b c first second is =
     subst (λ events. Follows x events z) is (first.0, first.1, first.2, first.3, follows_on first.1 y z a b (a ++ b) first.4 second refl)
+follows_on x y z (Refused asked fault ∷ a) b c first second is =
+    subst (λ events. Follows x events z) is (first.0, first.1, first.2, follows_on first.0 y z a b (a ++ b) first.3 second refl)
 follows_on x y z (Released at size left ∷ a) b c first second is =
     subst (λ events. Follows x events z) is (first.0, first.1, first.2, first.3, follows_on first.1 y z a b (a ++ b) first.4 second refl)

@@ -9,7 +9,7 @@ use heap_memory::{Allocator, Grant, GrantFault};
 use paging_core::{PageSize, Size4KiB};
 
 impl Allocator for PagedSystem {
-    ghost use Rattle.heap_memory.specs.Events.{Granted};
+    ghost use Rattle.heap_memory.specs.Events.{Granted, Refused};
     ghost use Rattle.heap_memory.specs.Regions.{IsWordOf, IsApart, IsGoodGrant, with_grant};
     ghost use Rattle.heap_memory.specs.declared.grant.GrantFault.TheVariants.{OutOfMemory};
     ghost use Rattle.heap_model.specs.Request.{pages_in};
@@ -49,6 +49,7 @@ impl Allocator for PagedSystem {
         ensures zeros { IfOk result (λ grant.
             (at : ℕ) → grant.base ≤ at → at < grant.base + grant.size → at % 8 ≡ 0 → word_reached (paged self.new) at ≡ 0) }
         ensures follows { IfOk result (λ grant. Follows (paged self.old) (Granted size grant ∷ []) (paged self.new)) }
+        ensures err_follows { IfErr result (λ fault. Follows (paged self.old) (Refused size fault ∷ []) (paged self.new)) }
         ensures words { (at : ℕ) → IsWordOf (grants_of (paged self.old)) at → word_reached (paged self.new) at ≡ word_reached (paged self.old) at }
         ensures err { OnErr result (paged self.new ≡ paged self.old) }
         ensures denied { IfErr result (λ fault. fault ≢ OutOfMemory → LacksPlaceOrFrames (paged self.old) (pages_in size) fault) }

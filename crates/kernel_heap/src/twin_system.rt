@@ -246,7 +246,7 @@ impl Memory for TwinSystem {
 }
 
 impl Allocator for TwinSystem {
-    ghost use Rattle.heap_memory.specs.Events.{Granted};
+    ghost use Rattle.heap_memory.specs.Events.{Granted, Refused};
     ghost use Rattle.heap_memory.specs.Regions.{IsWordOf, IsApart, IsGoodGrant, with_grant};
     ghost use Rattle.heap_memory.specs.declared.grant.GrantFault.TheVariants.{OutOfMemory};
     ghost use Rattle.heap_model.specs.Request.{pages_in};
@@ -287,6 +287,7 @@ impl Allocator for TwinSystem {
             (at : ℕ) → grant.base ≤ at → at < grant.base + grant.size → at % 8 ≡ 0 → word_reached (paged_of self.new) at ≡ 0) }
         ensures flat { IfOk result (λ grant. IsFlatCleared self.new grant) }
         ensures follows { IfOk result (λ grant. Follows (paged_of self.old) (Granted size grant ∷ []) (paged_of self.new)) }
+        ensures err_follows { IfErr result (λ fault. Follows (paged_of self.old) (Refused size fault ∷ []) (paged_of self.new)) }
         ensures words { (at : ℕ) → IsWordOf (grants_of (paged_of self.old)) at → word_reached (paged_of self.new) at ≡ word_reached (paged_of self.old) at }
         ensures err { OnErr result (paged_of self.new ≡ paged_of self.old) }
         ensures denied { IfErr result (λ fault. fault ≢ OutOfMemory → LacksPlaceOrFrames (paged_of self.old) (pages_in size) fault) }

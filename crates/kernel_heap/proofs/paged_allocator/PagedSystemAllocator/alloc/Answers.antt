@@ -8,7 +8,7 @@ use Rattle.kernel_heap.specs.Layout.{IsKept, IsGrantedFor}
 use Rattle.kernel_heap.specs.System.{paged}
 use Rattle.kernel_heap.specs.Words.{grants_of}
 use Rattle.mapped_regions.specs.Mapped.{word_reached}
-use Rattle.kernel_heap.proofs.Allocated.{good, apart, regions, zeros, words}
+use Rattle.kernel_heap.proofs.Allocated.{good, apart, regions, zeros, words, follows_refused}
 use Rattle.kernel_heap.proofs.paged_allocator.PagedSystemAllocator.alloc.Goals as goal
 
 pub returns-clause-good : goal.returns-clause-good
@@ -31,3 +31,6 @@ words_stay old new size (Err fault) kept ok err at word = ap (λ p. word_reached
 
 pub returns-clause-words : goal.returns-clause-words
 returns-clause-words c = words_stay (paged c.args.self.now) (paged c.grant_bytes.new.self) c.args.size c.grant_bytes.result c.args.self.now.kept c.grant_bytes.ensures.ok c.grant_bytes.ensures.err
+
+pub returns-clause-err_follows : goal.returns-clause-err_follows
+returns-clause-err_follows c = follows_refused (paged c.args.self.now) (paged c.grant_bytes.new.self) c.args.size c.grant_bytes.result c.grant_bytes.ensures.err c.grant_bytes.ensures.lacks

@@ -8,7 +8,7 @@ use Rattle.kernel_heap.specs.Layout.{IsKept, IsGrantedFor}
 use Rattle.kernel_heap.specs.TwinSystem.{paged_of}
 use Rattle.kernel_heap.specs.Words.{grants_of}
 use Rattle.mapped_regions.specs.Mapped.{word_reached}
-use Rattle.kernel_heap.proofs.Allocated.{good, apart, regions, zeros, words}
+use Rattle.kernel_heap.proofs.Allocated.{good, apart, regions, zeros, words, follows_refused}
 use Rattle.kernel_heap.proofs.twin_system.TwinSystemAllocator.alloc.Goals as goal
 
 pub returns-clause-good : goal.returns-clause-good
@@ -31,3 +31,6 @@ words_stay old new size (Err fault) kept ok err at word = ap (λ p. word_reached
 
 pub returns-clause-words : goal.returns-clause-words
 returns-clause-words c = words_stay (paged_of c.args.self.now) (paged_of c.grant_bytes.new.self) c.args.size c.grant_bytes.result c.args.self.now.mapped.kept c.grant_bytes.ensures.ok c.grant_bytes.ensures.err
+
+pub returns-clause-err_follows : goal.returns-clause-err_follows
+returns-clause-err_follows c = follows_refused (paged_of c.args.self.now) (paged_of c.grant_bytes.new.self) c.args.size c.grant_bytes.result c.grant_bytes.ensures.err c.grant_bytes.ensures.lacks
