@@ -1,14 +1,11 @@
 // Walks that begin at the table or at the large page of a slot, where an earlier one met it.
 ghost use Rattle.std.specs.Prelude.{◌≡◌, ℕ, ◌+◌, ◌*◌, ◌/◌, ◌%◌, ◌^◌, ◌<◌, IfSome, IsSome, List};
 ghost use Rattle.paging_core.specs.Memory.{frame_count, word_at};
-ghost use Rattle.paging_core.specs.Entry.{frame_of, has_bit};
 ghost use Rattle.paging_core.specs.Prefix.{prefix_of};
 ghost use Rattle.paging_core.specs.Walk.{walk_of};
 ghost use Rattle.mapped_regions.specs.MetSlots.{IsTable, IsLargePage, IsMapOf, IsFrameOf, AreTablesMet, AreLargePagesMet};
 
-use paging_core::{
-    Frames, Page, PageSize, PageTableEntry, PageTableIndex, PhysAddr, PhysFrame, Size4KiB, walk,
-};
+use paging_core::{Frames, Page, PageTableEntry, PageTableIndex, PhysFrame, walk};
 
 /// A number that no slot has.
 const NO_SLOT: u64 = 1 << 27;
@@ -32,22 +29,6 @@ fn entry_at(frames: &Frames, table: PhysFrame, index: PageTableIndex) -> PageTab
     PageTableEntry::from_bits(frames.word(table, index.value()))
 }
 
-/// Whether an entry of the third step maps a large page: it has bit 7.
-fn maps_large_page(entry: PageTableEntry) -> bool
-    ensures { result ≡ has_bit entry 7 }
-{
-    entry.bits() / (1 << 7) % 2 == 1
-}
-
-/// The frame so many frames on.
-fn frame_after(first: PhysFrame, frames: u64) -> PhysFrame
-    requires { first + frames < 2 ^ 40 }
-    ensures { result ≡ first + frames }
-{
-    let address = first.start_address().as_u64() + frames * Size4KiB::SIZE;
-    PhysFrame::containing_address(PhysAddr::new(address))
-}
-
 /// What maps the pages of a slot: the entries of its table, or one entry, as a large page with this first frame.
 #[derive(Clone, Copy)]
 pub(crate) enum SlotMap {
@@ -64,7 +45,7 @@ fn slot_map(frames: &Frames, root: PhysFrame, page: Page) -> SlotMap
     let third = entry_at(frames, root, page.p4_index()).frame();
     let second = entry_at(frames, third, page.p3_index()).frame();
     let entry = entry_at(frames, second, page.p2_index());
-    if maps_large_page(entry) {
+    if entry.is_huge() {
         SlotMap::LargePage(entry.frame())
     } else {
         SlotMap::Table(entry.frame())
@@ -88,7 +69,7 @@ fn frame_in_large_page(frames: &Frames, root: PhysFrame, first: PhysFrame, page:
     requires mapped { IsSome (walk_of frames.now root page) }
     ensures { IsFrameOf frames.now root page result }
 {
-    frame_after(first, page.number() % 512)
+    first.after(page.number() % 512)
 }
 
 /// The frame of a page that is mapped, from the root on.

@@ -16,18 +16,18 @@ entry_at-entry-requires c =
     let second = second_named c.args.frames.now c.args.root c.args.page c.frame-third.result c.p3_index.result c.entry_at-2.result c.frame-second.result w third c.p3_index.ensures c.entry_at-2.ensures c.frame-second.ensures in
     subst (λ f. f < frame_count c.args.frames.now) second w.second_below
 
-pub returns-then-maps_large_page : goal.returns-then-maps_large_page
-returns-then-maps_large_page c =
+pub returns-then-is_huge : goal.returns-then-is_huge
+returns-then-is_huge c =
     let w = passed c.args.frames.now c.args.root c.args.page c.requires.root c.requires.mapped in
     let third = third_named c.args.frames.now c.args.root c.args.page c.p4_index.result c.entry_at.result c.frame-third.result w c.p4_index.ensures c.entry_at.ensures c.frame-third.ensures in
     let second = second_named c.args.frames.now c.args.root c.args.page c.frame-third.result c.p3_index.result c.entry_at-2.result c.frame-second.result w third c.p3_index.ensures c.entry_at-2.ensures c.frame-second.ensures in
     names_large c.args.frames.now c.args.root c.args.page c.frame-second.result c.p2_index.result c.entry_at-entry.result c.frame.result w second c.p2_index.ensures c.entry_at-entry.ensures
-    (sym c.maps_large_page.ensures ∙ c.if-maps_large_page.true) c.frame.ensures
+    (sym c.is_huge.ensures ∙ c.if-is_huge.true) c.frame.ensures
 
-pub returns-else-maps_large_page : goal.returns-else-maps_large_page
-returns-else-maps_large_page c =
+pub returns-else-is_huge : goal.returns-else-is_huge
+returns-else-is_huge c =
     let w = passed c.args.frames.now c.args.root c.args.page c.requires.root c.requires.mapped in
     let third = third_named c.args.frames.now c.args.root c.args.page c.p4_index.result c.entry_at.result c.frame-third.result w c.p4_index.ensures c.entry_at.ensures c.frame-third.ensures in
     let second = second_named c.args.frames.now c.args.root c.args.page c.frame-third.result c.p3_index.result c.entry_at-2.result c.frame-second.result w third c.p3_index.ensures c.entry_at-2.ensures c.frame-second.ensures in
-    names_table c.args.frames.now c.args.root c.args.page c.frame-second.result c.p2_index.result c.entry_at-entry.result c.frame-else-maps_large_page.result w second c.p2_index.ensures c.entry_at-entry.ensures
-    (sym c.maps_large_page.ensures ∙ c.if-maps_large_page.false) c.frame-else-maps_large_page.ensures
+    names_table c.args.frames.now c.args.root c.args.page c.frame-second.result c.p2_index.result c.entry_at-entry.result c.frame-else-is_huge.result w second c.p2_index.ensures c.entry_at-entry.ensures
+    (sym c.is_huge.ensures ∙ c.if-is_huge.false) c.frame-else-is_huge.ensures
