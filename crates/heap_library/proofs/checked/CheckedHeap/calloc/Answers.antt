@@ -2,7 +2,8 @@ use Rattle.std.proofs.Common.{subst, arith}
 use Rattle.dlmalloc.specs.Requested.{IsHandedOut}
 use Rattle.dlmalloc.specs.Written.{IsServedCleared}
 use Rattle.heap_arena.specs.Arena.{regions_of, word_of}
-use Rattle.heap_library.specs.Checked.{zeros, follows}
+use Rattle.heap_library.specs.Library.{IsRequestRefused}
+use Rattle.heap_library.specs.Checked.{zeros, follows, refuses, denies}
 use Rattle.heap_library.proofs.Marking.{made_unmarked, made_marked, unserved_marked}
 use Rattle.heap_library.proofs.checked.CheckedHeap.calloc.Goals as goal
 
@@ -28,3 +29,6 @@ returns-in-Ok-clause-ok c = subst (λ heap. IsHandedOut regions_of word_of follo
 
 pub returns-in-Ok-clause-served : goal.returns-in-Ok-clause-served
 returns-in-Ok-clause-served c = subst (λ heap. IsServedCleared regions_of word_of zeros follows heap c.args.size c.args.align c.in-Ok.address c.calloc.new.self) c.self.view_is c.in-Ok.ensures.served
+
+pub returns-in-Err-clause-err : goal.returns-in-Err-clause-err
+returns-in-Err-clause-err c = subst (λ heap. IsRequestRefused regions_of word_of follows refuses denies heap c.args.size c.args.align c.in-Err.error c.calloc.new.self) c.self.view_is c.in-Err.ensures.err

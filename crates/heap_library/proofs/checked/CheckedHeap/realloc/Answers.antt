@@ -2,8 +2,8 @@ use Rattle.std.proofs.Common.{◌∙◌, subst, sym, true, arith}
 use Rattle.dlmalloc.specs.Blocks.{BlocksAreApart}
 use Rattle.dlmalloc.specs.Moved.{IsGivenSize, IsResized}
 use Rattle.heap_arena.specs.Arena.{regions_of, word_of}
-use Rattle.heap_library.specs.Library.{HasBlock, usable}
-use Rattle.heap_library.specs.Checked.{zeros, follows, heap_state}
+use Rattle.heap_library.specs.Library.{HasBlock, usable, IsResizeRefused}
+use Rattle.heap_library.specs.Checked.{zeros, follows, refuses, denies, heap_state}
 use Rattle.heap_library.proofs.MarkLemmas.{place_of_mark}
 use Rattle.heap_library.proofs.Marking.{resized_same, moved_unmarked, moved_marked, unresized_marked}
 use Rattle.heap_library.proofs.checked.CheckedHeap.realloc.Goals as goal
@@ -67,3 +67,6 @@ returns-in-Ok-clause-ok c =
 pub returns-in-Ok-clause-resized : goal.returns-in-Ok-clause-resized
 returns-in-Ok-clause-resized c =
     subst (λ heap. IsResized regions_of word_of zeros follows true true 1 heap c.args.from (usable (heap_state heap) c.args.from) 16 c.args.size c.in-Ok.to c.realloc.new.self) c.self.view_is c.in-Ok.ensures.resized
+
+pub returns-in-Err-clause-err : goal.returns-in-Err-clause-err
+returns-in-Err-clause-err c = subst (λ heap. IsResizeRefused regions_of word_of follows refuses denies heap c.args.from c.args.size c.in-Err.refusal c.realloc.new.self) c.self.view_is c.in-Err.ensures.err
