@@ -137,6 +137,17 @@ module _ (old new : Tables) (one : List ℕ) (from pages to : ℕ) (rights : Rig
           let is = same_place (reach one old.root 3 n) met (top f) (m.added.stayed 3 n met (omega arith) at) table in
           unmet 3 n (omega arith) (at ∙ ap (λ (p : Place). Some p) is)
 
+  still_free : (f i : ℕ) → i < 512 → is_free new.free f ≡ true → word_at new.words f i ≡ word_at old.words f i
+  still_free f i small free = m.copied.others f i small (λ k p few at same. no_page k p few at same) (λ n table. absurd (not_a_table n table)) ∙ m.added.free_words f i small free where
+    no_page : (k : ℕ) (p : Place) → k < pages → walk_of one old.root (to + k) ≡ Some p → p.frame ≡ f → ⊥
+    no_page k p few at same =
+        let page = m.added.mapped k few in
+        let is = same_place (walk_of one old.root (to + k)) (granted page.frame rights) p page.found at in
+        let no : true ≡ false = sym free ∙ (ap (is_free new.free) (sym same) ∙ (ap (λ (x : Place). is_free new.free x.frame) (sym is) ∙ page.taken)) in absurd (cc)
+
+    not_a_table : (n : ℕ) → reach one old.root 3 n ≡ Some (top f) → ⊥
+    not_a_table n table = let used = m.added.tree.used 3 n (top f) (omega arith) table in let no : true ≡ false = sym free ∙ used in absurd (cc)
+
   copied : (k i : ℕ) (source target : Place) → k < pages → i < 512 → walk_of old.words old.root (from + k) ≡ Some source → walk_of new.words old.root (to + k) ≡ Some target →
       word_at new.words target.frame i ≡ word_at old.words source.frame i
   copied k i source target less small at_s at_t =
@@ -150,4 +161,4 @@ module _ (old new : Tables) (one : List ℕ) (from pages to : ℕ) (rights : Rig
       ∙ m.added.bytes_stay (from + k) source i at_s small)
 
   pub duplicated_words : AreWordsCopied old new from pages to
-  duplicated_words = record { copied = copied; old_words = old_words; blank = blank; table_words = table_words; page_words = page_words; others = others }
+  duplicated_words = record { copied = copied; old_words = old_words; blank = blank; table_words = table_words; page_words = page_words; others = others; still_free = still_free }

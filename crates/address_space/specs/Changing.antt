@@ -1,5 +1,5 @@
 -- Pages that leave, get other rights, are copied or written. `old` are the tables before, `new` after.
-use Rattle.std.specs.Prelude.{◌≡◌, ℕ, ◌+◌, ◌*◌, ◌/◌, ◌<◌, ◌≤◌, ◌&&◌, Bool, false, is_some, List, length, Some, None, Result, Ok, Err}
+use Rattle.std.specs.Prelude.{◌≡◌, ℕ, ◌+◌, ◌*◌, ◌/◌, ◌<◌, ◌≤◌, ◌&&◌, Bool, true, false, is_some, List, length, Some, None, Result, Ok, Err}
 use Rattle.paging_core.specs.Memory.{word_at}
 use Rattle.paging_core.specs.Entry.{table_entry, page_entry}
 use Rattle.paging_core.specs.Missing.{missing_of}
@@ -37,7 +37,7 @@ pub record IsProtected (old new : Tables) (first pages : ℕ) (rights : Rights) 
   pub entries : ArePagesChanged old.words new.words old.root (regrant rights) (among first pages)
 
 -- The words of memory after pages were copied. Entry `i` of the table that is met at the prefix (l, n) leads on to the
--- prefix (l + 1, 512 * n + i). Nothing is said of frames that were free and that the walk does not meet.
+-- prefix (l + 1, 512 * n + i).
 pub record AreWordsCopied (old new : Tables) (from pages to : ℕ) : Type 0 where
   -- the frame of each page has the words of its source
   pub copied :
@@ -61,6 +61,8 @@ pub record AreWordsCopied (old new : Tables) (from pages to : ℕ) : Type 0 wher
   pub others :
       (f i : ℕ) → i < 512 → is_free old.free f ≡ false → ((l n : ℕ) → l < 4 → reach old.words old.root l n ≡ Some (top f) → ⊥) →
       word_at new.words f i ≡ word_at old.words f i
+  -- and so does a frame that is still free
+  pub still_free : (f i : ℕ) → i < 512 → is_free new.free f ≡ true → word_at new.words f i ≡ word_at old.words f i
 
 -- The target pages get the rights and bytes of the source, and nothing else is changed. They and the tables that they
 -- missed took frames, and nothing else did.
