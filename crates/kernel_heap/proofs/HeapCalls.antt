@@ -1,51 +1,23 @@
--- What the heap says of the blocks that it hands out and resizes, as a machine's moves.
-use Rattle.std.proofs.Common.{◌≡◌, ℕ, ◌-◌, ◌≤◌, ◌==◌, true, inl, inr, [], Option, sym, ap, subst, arith}
+-- What follows from what the heap says of the blocks that it hands out and resizes.
+use Rattle.std.proofs.Common.{◌≡◌, ℕ, ◌-◌, ◌≤◌, ◌==◌, true, Option, ap, arith}
 use Rattle.std.specs.Prelude.{unwrap_or, option_map}
 use Rattle.dlmalloc_chunks.specs.declared.extent.Extent.{Extent}
 use Rattle.dlmalloc.specs.State.{HeapState, extents_in, size_where}
 use Rattle.dlmalloc.specs.Blocks.{IsBlock}
-use Rattle.dlmalloc.specs.Requested.{IsServedAt}
 use Rattle.dlmalloc.specs.Written.{IsServedCleared}
-use Rattle.dlmalloc.specs.Moved.{IsResized, IsGivenSize}
+use Rattle.dlmalloc.specs.Moved.{IsGivenSize}
 use Rattle.dlmalloc.specs.declared.heap.Dlmalloc.{Dlmalloc}
-use Rattle.kernel_heap.specs.Heap.{regions, word, zeros, follows, heap_state}
-use Rattle.kernel_heap.specs.Machine.{IsCutAt, AreZero, IsFreedAt, IsResizedTo}
+use Rattle.kernel_heap.specs.Heap.{regions, word, zeros, follows}
+use Rattle.kernel_heap.specs.Machine.{AreZero}
 use Rattle.kernel_heap.specs.declared.paged_system.PagedSystem.{PagedSystem}
-
-module _ (heap new : Dlmalloc PagedSystem) (size align address : ℕ) where
-  pub cut_at : IsServedAt regions word zeros follows heap size align address new → IsCutAt heap.system (heap_state heap) size align address new.system (heap_state new)
-  cut_at (inl (few, out)) = inl (few, out.cut)
-  cut_at (inr (many, out)) = inr (many, (out.middle.system, heap_state out.middle, out.greater - 16, out.served.cut, out.followed, out.place, out.state))
 
 -- a block that was cleared
 module _ (heap new : Dlmalloc PagedSystem) (size align address : ℕ) (out : IsServedCleared regions word zeros follows heap size align address new) where
-  pub cut_cleared : (middle : PagedSystem) × IsCutAt heap.system (heap_state heap) size align address middle (heap_state new) × follows middle [] new.system
-  cut_cleared = (
-    out.middle.system,
-    subst (λ (s : HeapState). IsCutAt heap.system (heap_state heap) size align address out.middle.system s) (sym out.same.state) (cut_at heap out.middle size align address out.served),
-    out.same.followed,
-  )
-
   pub words_zero : AreZero (word new.system) address size
   words_zero k low high m = out.cleared.here k low (omega (arith, high)) m
 
--- a block with another size
+-- of a block with another size fewer bytes that were held are kept too
 module _ (heap new : Dlmalloc PagedSystem) (from held size align address : ℕ) where
-  pub resized_to : IsResized regions word zeros follows true true 4096 heap from held align size address new → IsResizedTo heap.system (heap_state heap) from size align address new.system (heap_state new)
-  resized_to (inl (few, same, out)) = inl (few, same, out.state, out.moved.followed)
-  resized_to (inr (none, out)) = inr (
-    none,
-    (
-      out.middle.system,
-      out.filled.system,
-      heap_state out.middle,
-      cut_at heap out.middle size align address out.served,
-      out.same.followed,
-      subst (λ (s : HeapState). IsFreedAt out.filled.system s from new.system (heap_state new)) out.same.state (out.freed.state, out.freed.followed),
-    ),
-  )
-
-  -- fewer bytes that were held are kept too
   pub given_fewer : (fewer : ℕ) → fewer ≤ held → IsGivenSize regions word follows true true 4096 heap from held align size address new → IsGivenSize regions word follows true true 4096 heap from fewer align size address new
   given_fewer fewer less out = record {
     middle = out.middle;

@@ -296,7 +296,7 @@ step_not_resized {top = top} heap new blocks number size keeps live laid is s go
 
 -- how the heap moves is told by the call
 pub moves_resizing : (keeps : Bool) (old : NumberedHeap) (number size address : ℕ) (live : Live) (new : NumberedHeap) → live_at old.blocks.items number ≡ Some live →
-    (system : PagedSystem) → IsToldFrom system new.heap.system → IsResizedTo old.heap.system (heap_state old.heap) live.address size (align_kept keeps live) address system (heap_state new.heap) →
+    (heap : Dlmalloc PagedSystem) → IsResizedTo keeps old.heap live size address heap → IsToldFrom heap new.heap →
     HeapMoves old (resizing keeps number size) (Placed number address) new
-moves_resizing true old number size address live new is system told moves = rw is (system, told, moves)
-moves_resizing false old number size address live new is system told moves = rw is (system, told, moves)
+moves_resizing true old number size address live new is heap resized told = rw is (heap, resized, told)
+moves_resizing false old number size address live new is heap resized told = rw is (heap, resized, told)

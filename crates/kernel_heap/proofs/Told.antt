@@ -15,7 +15,7 @@ use Rattle.kernel_heap.proofs.Numbers.{same_or_other}
 pub record AreTold (old new : NumberedHeap) (joins : ℕ) : Type 0 where
   pub none : (paged (system_of old)).joins ≡ joins → new ≡ old
   pub taken : ((paged (system_of old)).joins ≡ joins → ⊥) → paged (system_of new) ≡ record (paged (system_of old)) { slots = [] }
-  pub granularity : new.heap.granularity ≡ old.heap.granularity
+  pub rest : new.heap ≡ record old.heap { system = new.heap.system }
   pub blocks : new.blocks ≡ old.blocks
 
 module _ (old new : NumberedHeap) (joins : ℕ) (told : AreTold old new joins) where
@@ -26,7 +26,7 @@ module _ (old new : NumberedHeap) (joins : ℕ) (told : AreTold old new joins) w
   ]
     where
       seen_is : ((paged (system_of old)).joins ≡ joins → ⊥) → seen_with top new ≡ record (seen_with top old) { paged = record (paged (system_of old)) { slots = [] } }
-      seen_is differ = λ i. record { paged = told.taken differ i; granularity = told.granularity i; blocks = (told.blocks i).items; top = top }
+      seen_is differ = λ i. record { paged = told.taken differ i; granularity = (told.rest i).granularity; blocks = (told.blocks i).items; top = top }
 
   pub runs_told : (p : Paged) (pages : Option NewPages) → AreRunsUsedFor p (paged (system_of old)) pages → AreRunsUsedFor p (paged (system_of new)) pages
   runs_told p pages used = elim (same_or_other (paged (system_of old)).joins joins) [
@@ -38,8 +38,11 @@ module _ (old new : NumberedHeap) (joins : ℕ) (told : AreTold old new joins) w
       of None used = tt
       of (Some new) used = used
 
-  pub told_from : IsToldFrom (system_of old) (system_of new)
-  told_from = elim (same_or_other (paged (system_of old)).joins joins) [
-    | inl same ↦ subst (λ (n : NumberedHeap). IsToldFrom (system_of old) (system_of n)) (sym (told.none same)) refl
-    | inr differ ↦ told.taken differ ∙ ap (λ (slots : List ℕ). record (paged (system_of old)) { slots = slots }) (sym (ap (λ (p : Paged). p.slots) (told.taken differ)))
-  ]
+  pub told_from : IsToldFrom old.heap new.heap
+  told_from = record { system = system_is; rest = told.rest }
+    where
+      system_is : paged (system_of new) ≡ record (paged (system_of old)) { slots = (paged (system_of new)).slots }
+      system_is = elim (same_or_other (paged (system_of old)).joins joins) [
+        | inl same ↦ subst (λ (n : NumberedHeap). paged (system_of n) ≡ record (paged (system_of old)) { slots = (paged (system_of n)).slots }) (sym (told.none same)) refl
+        | inr differ ↦ told.taken differ ∙ ap (λ (slots : List ℕ). record (paged (system_of old)) { slots = slots }) (sym (ap (λ (p : Paged). p.slots) (told.taken differ)))
+      ]

@@ -5,17 +5,17 @@ use Rattle.heap_memory.specs.declared.grant.GrantFault.TheVariants.{NoSpace, NoF
 use Rattle.dlmalloc_chunks.specs.Request.{padded}
 use Rattle.dlmalloc.specs.Requested.{asked}
 use Rattle.dlmalloc.specs.Resized.{in_place}
-use Rattle.dlmalloc.specs.Served.{IsRefused}
+use Rattle.dlmalloc.specs.Served.{IsRefused, IsRefusedWith}
 use Rattle.dlmalloc.specs.declared.heap.Dlmalloc.{Dlmalloc}
 use Rattle.dlmalloc.specs.declared.malloc_error.MallocError.{MallocError}
 use Rattle.dlmalloc.specs.declared.malloc_error.MallocError.TheVariants.{TooLarge, System}
 use Rattle.heap_model.specs.declared.live.Live.{Live}
 use Rattle.heap_model.specs.declared.answer.Refusal.{Refusal}
-use Rattle.heap_model.specs.declared.answer.Refusal.TheVariants.{TooLarge as IsTooLarge}
+use Rattle.heap_model.specs.declared.answer.Refusal.TheVariants.{TooLarge as IsTooLarge, NoSpace as HasNoSpace, NoFrames as HasNoFrames}
 use Rattle.heap_model.specs.declared.answer.Reply.{Reply}
 use Rattle.heap_model.specs.declared.answer.Reply.TheVariants.{Refused}
-use Rattle.kernel_heap.specs.Heap.{denies, heap_state}
-use Rattle.kernel_heap.specs.Machine.{heap_of, live_at, refusal_of, request, resizing, align_kept, is_for_room, HasNoneFor, HasNoneBeside, leaves_all, IsSeenAsBefore, HeapMoves}
+use Rattle.kernel_heap.specs.Heap.{regions, word, follows, refuses, denies, heap_state}
+use Rattle.kernel_heap.specs.Machine.{heap_of, live_at, refusal_of, error_of, request, resizing, align_kept, is_for_room, HasNoneFor, HasNoneBeside, leaves_all, IsSeenAsBefore, IsLeft, HeapMoves}
 use Rattle.kernel_heap.specs.declared.paged_system.PagedSystem.{PagedSystem}
 use Rattle.kernel_heap.specs.declared.numbered_heap.NumberedHeap.{NumberedHeap}
 
@@ -39,22 +39,33 @@ module _ (heap : Dlmalloc PagedSystem) (size align : ℕ) where
       beside TooLarge is tried room few = (let no = not_for_room refusal is in absurd (cc))
       beside (System fault) is tried room few = tried (λ e. absurd (cc)) few
 
+-- the error is the one that the refusal tells of
+tells : (error : MallocError) (refusal : Refusal) → refusal_of error ≡ Some refusal → error_of refusal ≡ Some error
+tells TooLarge refusal is = (let one : IsTooLarge ≡ refusal = cc in subst (λ (r : Refusal). error_of r ≡ Some TooLarge) one refl)
+tells (System NoSpace) refusal is = (let one : HasNoSpace ≡ refusal = cc in subst (λ (r : Refusal). error_of r ≡ Some (System NoSpace)) one refl)
+tells (System NoFrames) refusal is = (let one : HasNoFrames ≡ refusal = cc in subst (λ (r : Refusal). error_of r ≡ Some (System NoFrames)) one refl)
+tells (System OutOfMemory) refusal is = absurd (cc)
+
+pub left_refused : (old new : Dlmalloc PagedSystem) (size : ℕ) (error : MallocError) (refusal : Refusal) → refusal_of error ≡ Some refusal →
+    IsRefusedWith regions word follows refuses denies old size error new → IsLeft old size refusal new
+left_refused old new size error refusal is out = rw (tells error refusal is) out
+
 -- a request that is refused moves nothing
-pub request_refused_moves : (cleared : Bool) (old : NumberedHeap) (size align : ℕ) (refusal : Refusal) (new : NumberedHeap) → heap_of new ≡ heap_of old → HasNoneFor (heap_of old) size align refusal →
+pub request_refused_moves : (cleared : Bool) (old : NumberedHeap) (size align : ℕ) (refusal : Refusal) (new : NumberedHeap) → IsLeft old.heap (asked size align) refusal new.heap → HasNoneFor (heap_of old) size align refusal →
     HeapMoves old (request cleared size align) (Refused refusal) new
 request_refused_moves false old size align refusal new same none = (same, none)
 request_refused_moves true old size align refusal new same none = (same, none)
 
 -- and so does another size that is refused, of a block or of none
-pub resizing_refused_moves : (keeps : Bool) (old : NumberedHeap) (number size : ℕ) (refusal : Refusal) (new : NumberedHeap) (live : Live) → live_at old.blocks.items number ≡ Some live → heap_of new ≡ heap_of old →
+pub resizing_refused_moves : (keeps : Bool) (old : NumberedHeap) (number size : ℕ) (refusal : Refusal) (new : NumberedHeap) (live : Live) → live_at old.blocks.items number ≡ Some live → IsLeft old.heap (asked size (align_kept keeps live)) refusal new.heap →
     HasNoneBeside (heap_of old) live.address size (align_kept keeps live) refusal → HeapMoves old (resizing keeps number size) (Refused refusal) new
 resizing_refused_moves true old number size refusal new live is same none = rw is (same, none)
 resizing_refused_moves false old number size refusal new live is same none = rw is (same, none)
 
-pub unknown_moves : (keeps : Bool) (old : NumberedHeap) (number size : ℕ) (refusal : Refusal) (new : NumberedHeap) → live_at old.blocks.items number ≡ None → heap_of new ≡ heap_of old →
+pub unknown_moves : (keeps : Bool) (old : NumberedHeap) (number size : ℕ) (refusal : Refusal) (new : NumberedHeap) → live_at old.blocks.items number ≡ None → new.heap ≡ old.heap →
     HeapMoves old (resizing keeps number size) (Refused refusal) new
-unknown_moves true old number size refusal new none same = rw none (same, tt)
-unknown_moves false old number size refusal new none same = rw none (same, tt)
+unknown_moves true old number size refusal new none same = rw none same
+unknown_moves false old number size refusal new none same = rw none same
 
 -- any other reply may tell of a change
 pub other_reply : (reply : Reply) (old new : NumberedHeap) → leaves_all reply ≡ false → IsSeenAsBefore reply old new

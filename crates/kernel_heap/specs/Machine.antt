@@ -1,5 +1,5 @@
 -- What contracts see of a machine and of its numbered heap, and how that lays out its blocks.
-use Rattle.std.specs.Prelude.{◌≡◌, ◌≢◌, ℕ, ⊤, ◌+◌, ◌-◌, ◌%◌, ◌<◌, ◌≤◌, ◌⊎◌, Bool, true, false, List, [], map, slice_index_or, Option, Some, None, MatchOption, not, ◌&&◌, nat_lt, nat_le, if◌then◌else◌, IsTrue}
+use Rattle.std.specs.Prelude.{◌≡◌, ◌≢◌, ℕ, ⊤, ◌+◌, ◌-◌, ◌==◌, ◌%◌, ◌<◌, ◌≤◌, Bool, true, false, List, slice_index_or, Option, Some, None, MatchOption, not, ◌&&◌, nat_lt, nat_le, if◌then◌else◌, IsTrue}
 use Rattle.std.specs.Int.{IsPowerOfTwo}
 use Rattle.std.specs.List.{list_any, AllByRecursion}
 use Rattle.paging_core.specs.Walk.{reached}
@@ -7,16 +7,16 @@ use Rattle.dlmalloc_chunks.specs.declared.extent.Extent.{Extent}
 use Rattle.dlmalloc_chunks.specs.declared.extent.Kind.TheVariants.{Used}
 use Rattle.dlmalloc.specs.Extents.{extent_at}
 use Rattle.dlmalloc.specs.Choice.{chosen}
-use Rattle.dlmalloc.specs.Requested.{asked, IsMemberServed}
-use Rattle.dlmalloc.specs.State.{HeapState, Segment, extents_in, extents_by_address, shown, new_heap, countdown_from}
-use Rattle.dlmalloc_chunks.specs.Request.{padded, enlarged}
+use Rattle.dlmalloc.specs.Requested.{asked, IsServedAt, IsMemberServed}
+use Rattle.dlmalloc.specs.State.{HeapState, Segment, extents_in, size_where, new_heap, countdown_from}
+use Rattle.dlmalloc_chunks.specs.Request.{padded}
 use Rattle.dlmalloc.specs.Blocks.{IsBlock}
-use Rattle.dlmalloc.specs.Freed.{freed}
-use Rattle.dlmalloc.specs.Trimmed.{trimmed}
-use Rattle.dlmalloc.specs.AfterFree.{after_free, free_releases}
-use Rattle.dlmalloc.specs.Aligned.{aligned_place, aligned}
+use Rattle.dlmalloc.specs.AfterFree.{IsFreed}
+use Rattle.dlmalloc.specs.Shortened.{IsTrimmed}
 use Rattle.dlmalloc.specs.Resized.{in_place}
-use Rattle.dlmalloc.specs.Served.{IsObtained}
+use Rattle.dlmalloc.specs.Served.{IsRefusedWith, IsListed}
+use Rattle.dlmalloc.specs.Written.{IsServedCleared}
+use Rattle.dlmalloc.specs.Moved.{IsResized}
 use Rattle.dlmalloc.specs.declared.heap.Dlmalloc.{Dlmalloc}
 use Rattle.dlmalloc.specs.declared.malloc_error.MallocError.{MallocError}
 use Rattle.dlmalloc.specs.declared.malloc_error.MallocError.TheVariants.{TooLarge, System}
@@ -40,7 +40,7 @@ use Rattle.mapped_regions.specs.declared.map_fault.UnmapFault.{UnmapFault}
 use Rattle.mapped_regions.specs.declared.map_fault.UnmapFault.TheVariants as Unmapping
 use Rattle.x86_registers.specs.Cr3.{root_of}
 use Rattle.kernel_heap.specs.System.{paged}
-use Rattle.kernel_heap.specs.Heap.{regions, word, follows, heap_state, IsHeap, HasBins}
+use Rattle.kernel_heap.specs.Heap.{regions, word, follows, zeros, denies, refuses, heap_state, IsHeap, HasBins}
 use Rattle.kernel_heap.specs.declared.paged_system.PagedSystem.{PagedSystem}
 use Rattle.kernel_heap.specs.declared.numbered_heap.NumberedHeap.{NumberedHeap}
 use Rattle.kernel_heap.specs.Parts.{Parts}
@@ -118,18 +118,10 @@ pub record IsLaidOut (heap : Dlmalloc PagedSystem) (blocks : List (Option Live))
 abbrev pub IsSound : NumberedHeap → Type 0
 IsSound numbered = IsLaidOut numbered.heap numbered.blocks.items
 
--- How a block at an alignment comes: a chunk is cut for it; above 16 a greater chunk is cut, and what is in it before the
--- aligned place and behind the block there is freed.
-abbrev pub IsCutAt : PagedSystem → HeapState → ℕ → ℕ → ℕ → PagedSystem → HeapState → Type 0
-IsCutAt system old size align address system' new =
-    ((align ≤ 16) × IsObtained follows regions system old (padded size) (address - 16) system' new)
-    ⊎ ((16 < align) × ((middle : PagedSystem) × (heap : HeapState) × (at : ℕ) × IsObtained follows regions system old (padded (enlarged size align)) at middle heap × follows middle [] system'
-    × (address ≡ aligned_place at align + 16) × (new ≡ aligned heap at align (padded size))))
-
--- so it comes, and is cleared then where that is asked for
-abbrev pub IsCutFor : Bool → PagedSystem → HeapState → ℕ → ℕ → ℕ → PagedSystem → HeapState → Type 0
-IsCutFor false system old size align address system' new = IsCutAt system old size align address system' new
-IsCutFor true system old size align address system' new = (middle : PagedSystem) × IsCutAt system old size align address middle new × follows middle [] system'
+-- a block is handed out, and is cleared then where that is asked for
+abbrev pub IsServedFor : Bool → Dlmalloc PagedSystem → ℕ → ℕ → ℕ → Dlmalloc PagedSystem → Type 0
+IsServedFor false old size align address new = IsServedAt regions word zeros follows old size align address new
+IsServedFor true old size align address new = IsServedCleared regions word zeros follows old size align address new
 
 -- the words that hold so many bytes from an address on are 0
 abbrev pub AreZero : (ℕ → ℕ) → ℕ → ℕ → Type 0
@@ -141,6 +133,13 @@ refusal_of TooLarge = Some IsTooLarge
 refusal_of (System NoSpace) = Some HasNoSpace
 refusal_of (System NoFrames) = Some HasNoFrames
 refusal_of (System OutOfMemory) = None
+
+-- the heap's error that a refusal tells of, if it is one of the heap's
+abbrev pub error_of : Refusal → Option MallocError
+error_of IsTooLarge = Some TooLarge
+error_of HasNoSpace = Some (System NoSpace)
+error_of HasNoFrames = Some (System NoFrames)
+error_of why = None
 
 -- whether a refusal is for want of room: of addresses, or of frames
 abbrev pub is_for_room : Refusal → Bool
@@ -193,19 +192,15 @@ abbrev pub align_kept : Bool → Live → ℕ
 align_kept true live = live.align
 align_kept false live = 16
 
--- How a block is freed: its chunk becomes one with the free ones beside it, and then it is counted, or the heap is trimmed. The
--- system takes back whole runs, and ends of runs in pages.
-abbrev pub IsFreedAt : PagedSystem → HeapState → ℕ → PagedSystem → HeapState → Type 0
-IsFreedAt system old address system' new =
-    (new ≡ after_free true true 4096 (freed old (address - 16)) (address - 16)) × follows system (free_releases true true 4096 (freed old (address - 16)) (address - 16)) system'
+-- how many of its bytes are copied then at most: as many as it has, or as many as its chunk holds
+abbrev pub bytes_kept : Bool → HeapState → Live → ℕ
+bytes_kept true heap live = live.size
+bytes_kept false heap live = size_where (λ extent. extent.at == live.address - 16) (extents_in heap) - 8
 
--- How a block gets another size: where it stands if that can be, and never so above 16; else a block is cut for it, its
--- bytes are copied, and it is freed.
-abbrev pub IsResizedTo : PagedSystem → HeapState → ℕ → ℕ → ℕ → ℕ → PagedSystem → HeapState → Type 0
-IsResizedTo system old from size align address system' new =
-    ((align ≤ 16) × (address ≡ from) × (in_place old (from - 16) (padded size) ≡ Some new) × follows system [] system')
-    ⊎ ((align ≤ 16 → in_place old (from - 16) (padded size) ≡ None)
-    × ((middle : PagedSystem) × (filled : PagedSystem) × (heap : HeapState) × IsCutAt system old size align address middle heap × follows middle [] filled × IsFreedAt filled heap from system' new))
+-- So a live block gets that size. The system takes back whole runs, and ends of runs in pages.
+abbrev pub IsResizedTo : Bool → Dlmalloc PagedSystem → Live → ℕ → ℕ → Dlmalloc PagedSystem → Type 0
+IsResizedTo keeps old live size address new =
+    IsResized regions word zeros follows true true 4096 old live.address (bytes_kept keeps (heap_state old) live) (align_kept keeps live) size address new
 
 -- a byte that a probe shows is the one that the walk reaches
 abbrev pub IsReachedByte : Paged → Call → Reply → Type 0
@@ -224,9 +219,14 @@ abbrev pub AreRunsUsedFor : Paged → Paged → Option NewPages → Type 0
 AreRunsUsedFor old new None = ⊤
 AreRunsUsedFor old new (Some pages) = AreRunsUsed old new pages.start pages.pages
 
--- a system once the slots of the region that joined last are told: they are kept no more, and nothing else is different
-abbrev pub IsToldFrom : PagedSystem → PagedSystem → Type 0
-IsToldFrom before now = paged now ≡ record (paged before) { slots = (paged now).slots }
+-- A heap once the slots of the region that joined last are told: its system keeps them no more, and nothing else is different.
+pub record IsToldFrom (before now : Dlmalloc PagedSystem) : Type 0 where
+  pub system : paged now.system ≡ record (paged before.system) { slots = (paged now.system).slots }
+  pub rest : now ≡ record before { system = now.system }
+
+-- A refused call leaves the heap: the heap refused it so many bytes, or was not asked.
+abbrev pub IsLeft : Dlmalloc PagedSystem → ℕ → Refusal → Dlmalloc PagedSystem → Type 0
+IsLeft old size why new = MatchOption (error_of why) (new ≡ old) (λ error. IsRefusedWith regions word follows refuses denies old size error new)
 
 -- Whether a reply tells that nothing was changed: the call was refused, or looked at bytes, at a byte or at the extents, or met a
 -- fault, or a setting was not accepted.
@@ -243,32 +243,30 @@ leaves_all reply = false
 abbrev pub IsSeenAsBefore : Reply → NumberedHeap → NumberedHeap → Type 0
 IsSeenAsBefore reply old new = IsTrue (leaves_all reply) → (top : ℕ) → seen_with top new ≡ seen_with top old
 
--- How the state of the heap moves in a step: a block is cut, and may be cleared then, a block gets another size or is
--- freed, memory that none needs goes back, a setting is another, the heap is a new one with the settings in force, and nothing
--- else changes it. A binned chunk for a block that is not cleared is the one that the bins' order names. Room is wanting only if the
--- heap itself has none. The extents that are listed are the heap's.
+-- How the heap moves in a step, as the heap itself tells it: a block is handed out, gets another size or is freed, memory that
+-- none needs goes back, a setting is another, the heap is a new one with the settings in force, and nothing else changes its state.
+-- A binned chunk for a block that is not cleared is the one that the bins' order names. Room is wanting only if the heap itself
+-- has none. The extents that are listed are the heap's.
 abbrev pub HeapMoves : NumberedHeap → Call → Reply → NumberedHeap → Type 0
 HeapMoves old (Malloc size align) (Placed number address) new =
-    (system : PagedSystem) × IsToldFrom system (system_of new) × IsCutFor false (system_of old) (heap_of old) size align address system (heap_of new)
-    × IsMemberServed regions word old.heap size align address
+    (heap : Dlmalloc PagedSystem) × IsServedFor false old.heap size align address heap × IsToldFrom heap new.heap × IsMemberServed regions word old.heap size align address
 HeapMoves old (Calloc size align) (Placed number address) new =
-    (system : PagedSystem) × IsToldFrom system (system_of new) × IsCutFor true (system_of old) (heap_of old) size align address system (heap_of new)
+    (heap : Dlmalloc PagedSystem) × IsServedFor true old.heap size align address heap × IsToldFrom heap new.heap
 HeapMoves old (Realloc number size) (Placed given address) new =
-    MatchOption (live_at old.blocks.items number) ⊥
-    (λ live. (system : PagedSystem) × IsToldFrom system (system_of new) × IsResizedTo (system_of old) (heap_of old) live.address size live.align address system (heap_of new))
+    MatchOption (live_at old.blocks.items number) ⊥ (λ live. (heap : Dlmalloc PagedSystem) × IsResizedTo true old.heap live size address heap × IsToldFrom heap new.heap)
 HeapMoves old (CRealloc number size) (Placed given address) new =
-    MatchOption (live_at old.blocks.items number) ⊥
-    (λ live. (system : PagedSystem) × IsToldFrom system (system_of new) × IsResizedTo (system_of old) (heap_of old) live.address size 16 address system (heap_of new))
-HeapMoves old (Malloc size align) (Refused why) new = (heap_of new ≡ heap_of old) × HasNoneFor (heap_of old) size align why
-HeapMoves old (Calloc size align) (Refused why) new = (heap_of new ≡ heap_of old) × HasNoneFor (heap_of old) size align why
+    MatchOption (live_at old.blocks.items number) ⊥ (λ live. (heap : Dlmalloc PagedSystem) × IsResizedTo false old.heap live size address heap × IsToldFrom heap new.heap)
+HeapMoves old (Malloc size align) (Refused why) new = IsLeft old.heap (asked size align) why new.heap × HasNoneFor (heap_of old) size align why
+HeapMoves old (Calloc size align) (Refused why) new = IsLeft old.heap (asked size align) why new.heap × HasNoneFor (heap_of old) size align why
 HeapMoves old (Realloc number size) (Refused why) new =
-    (heap_of new ≡ heap_of old) × MatchOption (live_at old.blocks.items number) ⊤ (λ live. HasNoneBeside (heap_of old) live.address size live.align why)
+    MatchOption (live_at old.blocks.items number) (new.heap ≡ old.heap) (λ live. IsLeft old.heap (asked size live.align) why new.heap × HasNoneBeside (heap_of old) live.address size live.align why)
 HeapMoves old (CRealloc number size) (Refused why) new =
-    (heap_of new ≡ heap_of old) × MatchOption (live_at old.blocks.items number) ⊤ (λ live. HasNoneBeside (heap_of old) live.address size 16 why)
-HeapMoves old (Free number) Done new = MatchOption (live_at old.blocks.items number) ⊥ (λ live. IsFreedAt (system_of old) (heap_of old) live.address (system_of new) (heap_of new))
-HeapMoves old (Trim pad) (Trimmed released) new = heap_of new ≡ trimmed true true 4096 pad (heap_of old)
+    MatchOption (live_at old.blocks.items number) (new.heap ≡ old.heap) (λ live. IsLeft old.heap size why new.heap × HasNoneBeside (heap_of old) live.address size 16 why)
+HeapMoves old (Free number) Done new = MatchOption (live_at old.blocks.items number) ⊥ (λ live. IsFreed regions word follows true true 4096 old.heap live.address new.heap)
+HeapMoves old (Free number) (Refused why) new = new.heap ≡ old.heap
+HeapMoves old (Trim pad) (Trimmed released) new = (gave : Bool) × IsTrimmed regions word follows true true 4096 old.heap pad gave new.heap
 HeapMoves old (SetRate rate) Done new = heap_of new ≡ record (heap_of old) { rate = rate; countdown = countdown_from rate }
 HeapMoves old (SetGranularity granularity) (Accepted accepted) new = heap_of new ≡ record (heap_of old) { granularity = if accepted then granularity else (heap_of old).granularity }
 HeapMoves old Reset (Released bytes) new = heap_of new ≡ fresh_heap (heap_of old).granularity (heap_of old).rate
-HeapMoves old Extents (Listed list) new = (heap_of new ≡ heap_of old) × (list ≡ map (shown (heap_of old)) (extents_by_address (heap_of old)))
+HeapMoves old Extents (Listed list) new = (new.heap ≡ old.heap) × IsListed word old.heap list
 HeapMoves old call reply new = heap_of new ≡ heap_of old

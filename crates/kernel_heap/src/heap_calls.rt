@@ -9,7 +9,7 @@ ghost use Rattle.dlmalloc.specs.Resized.{in_place};
 ghost use Rattle.dlmalloc_chunks.specs.Request.{padded};
 ghost use Rattle.dlmalloc.specs.Moved.{IsGivenSize};
 ghost use Rattle.kernel_heap.specs.Heap.{regions, word, follows, denies, refuses, heap_state, IsHeap, HasBins};
-ghost use Rattle.kernel_heap.specs.Machine.{IsLive, IsCutFor, AreZero, align_kept, IsResizedTo, fresh_heap};
+ghost use Rattle.kernel_heap.specs.Machine.{IsLive, IsServedFor, AreZero, align_kept, IsResizedTo, fresh_heap};
 ghost use Rattle.dlmalloc.specs.Shortened.{IsTrimmed};
 ghost use Rattle.dlmalloc.specs.Released.{is_own};
 ghost use Rattle.dlmalloc.specs.GivenBack.{AreGivenBack};
@@ -38,7 +38,7 @@ pub(crate) fn hand_out<L: Ledger>(
     requires linked { HasBins heap.old }
     requires align { IsPowerOfTwo align }
     ensures ok { IfOk result (λ address. IsHandedOut regions word follows heap.old size align address heap.new) }
-    ensures cut { IfOk result (λ address. IsCutFor cleared heap.old.system (heap_state heap.old) size align address heap.new.system (heap_state heap.new)) }
+    ensures served { IfOk result (λ address. IsServedFor cleared heap.old size align address heap.new) }
     ensures zeros { cleared ≡ true → IfOk result (λ address. AreZero (word heap.new.system) address size) }
     ensures member { cleared ≡ false → IfOk result (λ address. IsMemberServed regions word heap.old size align address) }
     ensures err { IfErr result (λ error. IsRefusedWith regions word follows refuses denies heap.old (asked size align) error heap.new) }
@@ -75,7 +75,7 @@ pub(crate) fn resize<L: Ledger>(
     requires linked { HasBins heap.old }
     requires block { IsLive (heap_state heap.old) live }
     ensures ok { IfOk result (λ address. IsGivenSize regions word follows true true 4096 heap.old live.address live.size (align_kept keeps_alignment live) size address heap.new) }
-    ensures moves { IfOk result (λ address. IsResizedTo heap.old.system (heap_state heap.old) live.address size (align_kept keeps_alignment live) address heap.new.system (heap_state heap.new)) }
+    ensures resized { IfOk result (λ address. IsResizedTo keeps_alignment heap.old live size address heap.new) }
     ensures err { IfErr result (λ error. IsRefusedWith regions word follows refuses denies heap.old (asked size (align_kept keeps_alignment live)) error heap.new) }
     ensures tried { IfErr result (λ error. error ≢ MallocError.TooLarge → align_kept keeps_alignment live ≤ 16 → in_place (heap_state heap.old) (live.address - 16) (padded size) ≡ None) }
     ensures linked { HasBins heap.new }

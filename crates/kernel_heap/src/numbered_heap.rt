@@ -219,7 +219,7 @@ impl NumberedHeap {
         ensures paged { ((paged (system_of self.old)).joins ≡ before.joins → ⊥) → paged (system_of self.new) ≡ record (paged (system_of self.old)) { slots = [] } }
         ensures sound { IsSound self.new }
         ensures heap { heap_of self.new ≡ heap_of self.old }
-        ensures granularity { self.new.heap.granularity ≡ self.old.heap.granularity }
+        ensures rest { self.new.heap ≡ record self.old.heap { system = self.new.heap.system } }
         ensures blocks { self.new.blocks ≡ self.old.blocks }
     {
         if self.marks().joins == before.joins {

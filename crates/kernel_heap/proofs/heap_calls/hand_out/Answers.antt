@@ -1,15 +1,13 @@
 use Rattle.std.proofs.lemmas.Result.{IfOk-weaker}
-use Rattle.kernel_heap.proofs.HeapCalls.{cut_at, cut_cleared, words_zero}
+use Rattle.kernel_heap.proofs.HeapCalls.{words_zero}
 use Rattle.kernel_heap.proofs.heap_calls.hand_out.Goals as goal
 use Rattle.kernel_heap.proofs.heap_calls.hand_out.Goals.{then-cleared, else-cleared}
 
-pub returns-clause-cut : goal.returns-clause-cut
-returns-clause-cut g c =
-    let heap = c.args.heap.now in
-    elim c.if-cleared.branch [
-      | then-cleared w ↦ rw (w.heap-is, w.answer-is, w.if-cleared.true) (IfOk-weaker w.calloc-answer.result _ _ (λ address out. cut_cleared heap w.calloc-answer.new.self c.args.size c.args.align address out) w.calloc-answer.ensures.served)
-      | else-cleared w ↦ rw (w.heap-is, w.answer-is, w.if-cleared.false) (IfOk-weaker w.malloc-answer.result _ _ (λ address out. cut_at heap w.malloc-answer.new.self c.args.size c.args.align address out) w.malloc-answer.ensures.served)
-    ]
+pub returns-clause-served : goal.returns-clause-served
+returns-clause-served g c = elim c.if-cleared.branch [
+  | then-cleared w ↦ rw (w.heap-is, w.answer-is, w.if-cleared.true) w.calloc-answer.ensures.served
+  | else-cleared w ↦ rw (w.heap-is, w.answer-is, w.if-cleared.false) w.malloc-answer.ensures.served
+]
 
 pub returns-clause-zeros : goal.returns-clause-zeros
 returns-clause-zeros g c =

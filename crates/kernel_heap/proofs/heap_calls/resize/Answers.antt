@@ -2,7 +2,7 @@ use Rattle.std.proofs.lemmas.Result.{IfOk-weaker, IfErr-weaker}
 use Rattle.std.proofs.Common.{◌-◌, ◌==◌}
 use Rattle.dlmalloc.specs.State.{extents_in, size_where}
 use Rattle.kernel_heap.specs.Heap.{heap_state}
-use Rattle.kernel_heap.proofs.HeapCalls.{resized_to, given_fewer, bytes_held}
+use Rattle.kernel_heap.proofs.HeapCalls.{given_fewer, bytes_held}
 use Rattle.kernel_heap.proofs.heap_calls.resize.Goals as goal
 use Rattle.kernel_heap.proofs.heap_calls.resize.Goals.{then-keeps_alignment, else-keeps_alignment}
 
@@ -17,17 +17,11 @@ returns-clause-ok g c =
           w.c_realloc-answer.ensures.given)
     ]
 
-pub returns-clause-moves : goal.returns-clause-moves
-returns-clause-moves g c =
-    let heap = c.args.heap.now in
-    let live = c.args.live in
-    elim c.if-keeps_alignment.branch [
-      | then-keeps_alignment w ↦ rw (w.heap-is, w.answer-is, w.if-keeps_alignment.true)
-          (IfOk-weaker w.realloc-answer.result _ _ (λ address out. resized_to heap w.realloc-answer.new.self live.address live.size c.args.size live.align address out) w.realloc-answer.ensures.resized)
-      | else-keeps_alignment w ↦ rw (w.heap-is, w.answer-is, w.if-keeps_alignment.false)
-          (IfOk-weaker w.c_realloc-answer.result _ _ (λ address out. resized_to heap w.c_realloc-answer.new.self live.address (size_where (λ extent. extent.at == live.address - 16) (extents_in (heap_state heap)) - 8) c.args.size 16 address out)
-          w.c_realloc-answer.ensures.resized)
-    ]
+pub returns-clause-resized : goal.returns-clause-resized
+returns-clause-resized g c = elim c.if-keeps_alignment.branch [
+  | then-keeps_alignment w ↦ rw (w.heap-is, w.answer-is, w.if-keeps_alignment.true) w.realloc-answer.ensures.resized
+  | else-keeps_alignment w ↦ rw (w.heap-is, w.answer-is, w.if-keeps_alignment.false) w.c_realloc-answer.ensures.resized
+]
 
 pub returns-clause-tried : goal.returns-clause-tried
 returns-clause-tried g c = elim c.if-keeps_alignment.branch [

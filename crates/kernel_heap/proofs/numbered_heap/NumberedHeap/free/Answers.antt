@@ -37,7 +37,7 @@ returns-clause-ok c = λ top s good stands.
 pub returns-clause-heap : goal.returns-clause-heap
 returns-clause-heap c =
     let is = sym c.live.ensures ∙ c.in-Some.is in
-    rw (is, c.changed_regions.ensures.heap) (c.free.ensures.freed.state, c.free.ensures.freed.followed)
+    rw (is, c.changed_regions.ensures.heap) c.free.ensures.freed
 
 pub returns-in_default-clause-ok : goal.returns-in_default-clause-ok
 returns-in_default-clause-ok c = λ top s good stands.

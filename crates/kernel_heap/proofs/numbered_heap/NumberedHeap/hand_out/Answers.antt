@@ -4,6 +4,7 @@ use Rattle.std.proofs.lemmas.Result.{IfOk-weaker, on_err_weaker}
 use Rattle.dlmalloc_chunks.specs.Request.{padded, wanted}
 use Rattle.dlmalloc_chunks.proofs.PowersOfTwo.{power_from_test}
 use Rattle.dlmalloc.specs.Requested.{asked, IsMemberServed}
+use Rattle.dlmalloc.specs.declared.heap.Dlmalloc.{Dlmalloc}
 use Rattle.heap_model.specs.declared.answer.Answer.{Answer}
 use Rattle.heap_model.specs.declared.answer.Refusal.TheVariants.{BadAlign}
 use Rattle.heap_model.specs.declared.answer.Reply.TheVariants.{Block as Placed}
@@ -12,8 +13,8 @@ use Rattle.heap_model.specs.Slots.{listed_slots}
 use Rattle.heap_model.specs.Machine.{IsStep}
 use Rattle.kernel_heap.specs.System.{paged, pageless_frames}
 use Rattle.kernel_heap.specs.Words.{heap_regions}
-use Rattle.kernel_heap.specs.Heap.{regions, word, heap_state}
-use Rattle.kernel_heap.specs.Machine.{system_of, seen_with, request, lasting_pages, AreRunsUsedFor, IsCutFor, IsToldFrom, leaves_all, HeapMoves}
+use Rattle.kernel_heap.specs.Heap.{regions, word}
+use Rattle.kernel_heap.specs.Machine.{system_of, seen_with, request, lasting_pages, AreRunsUsedFor, IsServedFor, IsToldFrom, leaves_all, HeapMoves}
 use Rattle.kernel_heap.specs.declared.numbered_heap.NumberedHeap.{NumberedHeap}
 use Rattle.kernel_heap.specs.declared.paged_system.PagedSystem.{PagedSystem}
 use Rattle.kernel_heap.proofs.LastingPages.{runs_refused}
@@ -24,18 +25,17 @@ use Rattle.kernel_heap.proofs.Told.{AreTold, step_told, runs_told, told_from}
 use Rattle.kernel_heap.proofs.Refused.{step_denied, refused_large, not_refused, wanted_asked, request_refused, request_wants}
 use Rattle.kernel_heap.proofs.Laid.{seen_denied}
 use Rattle.kernel_heap.proofs.Refused.{step_refused}
-use Rattle.kernel_heap.proofs.WantOfRoom.{none_for, request_refused_moves, other_reply}
+use Rattle.kernel_heap.proofs.WantOfRoom.{none_for, left_refused, request_refused_moves, other_reply}
 use Rattle.kernel_heap.proofs.numbered_heap.NumberedHeap.hand_out.Goals as goal
 
 pub hand_out-requires-clause-align : goal.hand_out-requires-clause-align
 hand_out-requires-clause-align c = let power : is_power_of_two c.args.align ≡ true = search rules in power_from_test c.args.align power
 
 -- how the heap moves is told by the request
-moves_request : (cleared : Bool) (old : NumberedHeap) (size align number address : ℕ) (new : NumberedHeap) (system : PagedSystem) → IsToldFrom system new.heap.system →
-    IsCutFor cleared old.heap.system (heap_state old.heap) size align address system (heap_state new.heap) → (cleared ≡ false → IsMemberServed regions word old.heap size align address) →
-    HeapMoves old (request cleared size align) (Placed number address) new
-moves_request false old size align number address new system told cut member = (system, told, cut, member refl)
-moves_request true old size align number address new system told cut member = (system, told, cut)
+moves_request : (cleared : Bool) (old : NumberedHeap) (size align number address : ℕ) (new : NumberedHeap) (heap : Dlmalloc PagedSystem) → IsServedFor cleared old.heap size align address heap →
+    IsToldFrom heap new.heap → (cleared ≡ false → IsMemberServed regions word old.heap size align address) → HeapMoves old (request cleared size align) (Placed number address) new
+moves_request false old size align number address new heap served told member = (heap, served, told, member refl)
+moves_request true old size align number address new heap served told member = (heap, served, told)
 
 -- the list has a place for one region more
 pub changed_regions-requires-clause-places : goal.changed_regions-requires-clause-places
@@ -76,7 +76,7 @@ returns-in-Ok-clause-ok c = λ top s good stands.
     let told : AreTold c.changed_regions.new.self c.new_slots.new.self c.marks-before.result.joins = record {
       none = λ same. (c.new_slots.ensures.none same).1;
       taken = c.new_slots.ensures.paged;
-      granularity = c.new_slots.ensures.granularity;
+      rest = c.new_slots.ensures.rest;
       blocks = c.new_slots.ensures.blocks;
     } in
     let before : IsStep s (request c.args.cleared c.args.size c.args.align) (record { reply = c.add_block.result; regions = c.changed_regions.result; large = c.new_slots.result }) (seen_with top c.changed_regions.new.self) =
@@ -101,7 +101,7 @@ returns-in-Ok-clause-runs c = λ top s good stands.
     let told : AreTold c.changed_regions.new.self c.new_slots.new.self c.marks-before.result.joins = record {
       none = λ same. (c.new_slots.ensures.none same).1;
       taken = c.new_slots.ensures.paged;
-      granularity = c.new_slots.ensures.granularity;
+      rest = c.new_slots.ensures.rest;
       blocks = c.new_slots.ensures.blocks;
     } in
     let before : AreRunsUsedFor (paged (system_of c.args.self.now)) (paged (system_of c.changed_regions.new.self))
@@ -114,15 +114,13 @@ returns-in-Ok-clause-heap c =
     let told : AreTold c.changed_regions.new.self c.new_slots.new.self c.marks-before.result.joins = record {
       none = λ same. (c.new_slots.ensures.none same).1;
       taken = c.new_slots.ensures.paged;
-      granularity = c.new_slots.ensures.granularity;
+      rest = c.new_slots.ensures.rest;
       blocks = c.new_slots.ensures.blocks;
     } in
     let heap = c.changed_regions.ensures.heap ∙ c.add_block.ensures.heap in
     rw c.add_block.ensures.reply
-    (moves_request c.args.cleared c.args.self.now c.args.size c.args.align _ c.in-Ok.address c.new_slots.new.self c.hand_out.new.heap.system
-    (subst (λ h. IsToldFrom h.system c.new_slots.new.self.heap.system) heap (told_from c.changed_regions.new.self c.new_slots.new.self c.marks-before.result.joins told))
-    (subst (λ h. IsCutFor c.args.cleared c.args.self.now.heap.system (heap_state c.args.self.now.heap) c.args.size c.args.align c.in-Ok.address c.hand_out.new.heap.system h)
-    (sym (c.new_slots.ensures.heap ∙ ap heap_state heap)) c.in-Ok.ensures.cut)
+    (moves_request c.args.cleared c.args.self.now c.args.size c.args.align _ c.in-Ok.address c.new_slots.new.self c.hand_out.new.heap c.in-Ok.ensures.served
+    (subst (λ h. IsToldFrom h c.new_slots.new.self.heap) heap (told_from c.changed_regions.new.self c.new_slots.new.self c.marks-before.result.joins told))
     (λ is. c.in-Ok.ensures.member is))
 
 pub returns-in-Err-clause-sound : goal.returns-in-Err-clause-sound
@@ -169,7 +167,7 @@ returns-in-Err-clause-heap c =
     let new : NumberedHeap = record { alloc = c.args.self.now.alloc; heap = c.hand_out.new.heap; blocks = c.reserve.new.self; list = c.reserve-2.new.self } in
     IfOk-weaker c.refused_by.result _ _
     (λ answer given. subst (λ (a : Answer). HeapMoves c.args.self.now (request c.args.cleared c.args.size c.args.align) a.reply new) (sym given.2)
-    (request_refused_moves c.args.cleared c.args.self.now c.args.size c.args.align given.0 new c.in-Err.ensures.err.same.state
+    (request_refused_moves c.args.cleared c.args.self.now c.args.size c.args.align given.0 new (left_refused c.args.self.now.heap c.hand_out.new.heap (asked c.args.size c.args.align) c.in-Err.error given.0 given.1 c.in-Err.ensures.err)
     (none_for c.args.self.now.heap c.args.size c.args.align c.in-Err.error given.0 given.1 c.in-Err.ensures.err.refused)))
     c.refused_by.ensures.ok
 

@@ -42,7 +42,7 @@ returns-in-Ok-clause-ok c = λ top s good stands.
     let told : AreTold (with_system c.args.self.now c.map.new.self) c.new_slots.new.self c.marks-before.result.joins = record {
       none = λ same. (c.new_slots.ensures.none same).1;
       taken = c.new_slots.ensures.paged;
-      granularity = c.new_slots.ensures.granularity;
+      rest = c.new_slots.ensures.rest;
       blocks = c.new_slots.ensures.blocks;
     } in
     let region = user_region c.args.start c.args.pages c.args.rights in
@@ -60,7 +60,7 @@ returns-in-Ok-clause-runs c = λ top s good stands.
     let told : AreTold (with_system c.args.self.now c.map.new.self) c.new_slots.new.self c.marks-before.result.joins = record {
       none = λ same. (c.new_slots.ensures.none same).1;
       taken = c.new_slots.ensures.paged;
-      granularity = c.new_slots.ensures.granularity;
+      rest = c.new_slots.ensures.rest;
       blocks = c.new_slots.ensures.blocks;
     } in
     runs_told (with_system c.args.self.now c.map.new.self) c.new_slots.new.self c.marks-before.result.joins told (paged (system_of c.args.self.now)) (Some (record { start = c.args.start; pages = c.args.pages })) joined.runs

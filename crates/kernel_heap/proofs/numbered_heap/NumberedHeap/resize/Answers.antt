@@ -7,14 +7,13 @@ use Rattle.heap_model.specs.declared.answer.Reply.TheVariants.{Block as Placed}
 use Rattle.heap_model.specs.Slots.{listed_slots}
 use Rattle.heap_model.specs.Machine.{IsStep}
 use Rattle.kernel_heap.specs.System.{paged}
-use Rattle.kernel_heap.specs.Heap.{heap_state}
-use Rattle.kernel_heap.specs.Machine.{seen_with, live_at, resizing, align_kept, HeapMoves, IsToldFrom, IsResizedTo}
+use Rattle.kernel_heap.specs.Machine.{seen_with, live_at, resizing, align_kept, HeapMoves, IsToldFrom}
 use Rattle.kernel_heap.proofs.Laid.{laid_resized, laid_denied}
 use Rattle.kernel_heap.proofs.Found.{few_regions}
 use Rattle.kernel_heap.proofs.Resized.{step_resized, step_not_resized, step_unknown, kept_power, moves_resizing, moved_shortened}
 use Rattle.kernel_heap.proofs.Told.{AreTold, step_told, told_from}
 use Rattle.kernel_heap.proofs.Laid.{seen_denied}
-use Rattle.kernel_heap.proofs.WantOfRoom.{none_beside, resizing_refused_moves, unknown_moves}
+use Rattle.kernel_heap.proofs.WantOfRoom.{none_beside, left_refused, resizing_refused_moves, unknown_moves}
 use Rattle.kernel_heap.specs.declared.numbered_heap.NumberedHeap.{NumberedHeap}
 use Rattle.heap_model.specs.declared.answer.Answer.{Answer}
 use Rattle.heap_model.specs.declared.answer.Refusal.TheVariants.{UnknownBlock}
@@ -59,7 +58,7 @@ returns-in-Ok-clause-ok c = λ top s good stands.
     let told : AreTold c.changed_regions.new.self c.new_slots.new.self c.marks-before.result.joins = record {
       none = λ same. (c.new_slots.ensures.none same).1;
       taken = c.new_slots.ensures.paged;
-      granularity = c.new_slots.ensures.granularity;
+      rest = c.new_slots.ensures.rest;
       blocks = c.new_slots.ensures.blocks;
     } in
     let before : IsStep s (resizing c.args.keeps_alignment c.args.number c.args.size) (record { reply = Placed c.args.number c.in-Ok.address; regions = c.changed_regions.result; large = c.new_slots.result }) (seen_with top c.changed_regions.new.self) =
@@ -72,13 +71,11 @@ returns-in-Ok-clause-heap c =
     let told : AreTold c.changed_regions.new.self c.new_slots.new.self c.marks-before.result.joins = record {
       none = λ same. (c.new_slots.ensures.none same).1;
       taken = c.new_slots.ensures.paged;
-      granularity = c.new_slots.ensures.granularity;
+      rest = c.new_slots.ensures.rest;
       blocks = c.new_slots.ensures.blocks;
     } in
-    moves_resizing c.args.keeps_alignment c.args.self.now c.args.number c.args.size c.in-Ok.address c.in-Some.live c.new_slots.new.self is c.resize.new.heap.system
-    (subst (λ h. IsToldFrom h.system c.new_slots.new.self.heap.system) c.changed_regions.ensures.heap (told_from c.changed_regions.new.self c.new_slots.new.self c.marks-before.result.joins told))
-    (subst (λ h. IsResizedTo c.args.self.now.heap.system (heap_state c.args.self.now.heap) c.in-Some.live.address c.args.size (align_kept c.args.keeps_alignment c.in-Some.live) c.in-Ok.address c.resize.new.heap.system h)
-    (sym (c.new_slots.ensures.heap ∙ ap heap_state c.changed_regions.ensures.heap)) c.in-Ok.ensures.moves)
+    moves_resizing c.args.keeps_alignment c.args.self.now c.args.number c.args.size c.in-Ok.address c.in-Some.live c.new_slots.new.self is c.resize.new.heap c.in-Ok.ensures.resized
+    (subst (λ h. IsToldFrom h c.new_slots.new.self.heap) c.changed_regions.ensures.heap (told_from c.changed_regions.new.self c.new_slots.new.self c.marks-before.result.joins told))
 
 pub returns-in-Err-clause-sound : goal.returns-in-Err-clause-sound
 returns-in-Err-clause-sound c =
@@ -108,7 +105,7 @@ returns-in-Err-clause-heap c =
     let new : NumberedHeap = record { alloc = c.args.self.now.alloc; heap = c.resize.new.heap; blocks = c.args.self.now.blocks; list = c.reserve.new.self } in
     IfOk-weaker c.refused_by.result _ _
     (λ answer given. subst (λ (a : Answer). HeapMoves c.args.self.now (resizing c.args.keeps_alignment c.args.number c.args.size) a.reply new) (sym given.2)
-    (resizing_refused_moves c.args.keeps_alignment c.args.self.now c.args.number c.args.size given.0 new c.in-Some.live is c.in-Err.ensures.err.same.state
+    (resizing_refused_moves c.args.keeps_alignment c.args.self.now c.args.number c.args.size given.0 new c.in-Some.live is (left_refused c.args.self.now.heap c.resize.new.heap (asked c.args.size (align_kept c.args.keeps_alignment c.in-Some.live)) c.in-Err.error given.0 given.1 c.in-Err.ensures.err)
     (none_beside c.args.self.now.heap c.args.size (align_kept c.args.keeps_alignment c.in-Some.live) c.in-Some.live.address c.in-Err.error given.0 given.1 c.in-Err.ensures.err.refused c.in-Err.ensures.tried)))
     c.refused_by.ensures.ok
 

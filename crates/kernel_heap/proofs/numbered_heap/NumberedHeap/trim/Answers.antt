@@ -25,4 +25,4 @@ returns-clause-ok c = λ top s good stands.
     (λ other. c.changed_regions-regions.ensures.other (λ joins few. other (joins ∙ c.marks-before.ensures.joins) (few ∙ c.marks-before.ensures.pageless))))
 
 pub returns-clause-heap : goal.returns-clause-heap
-returns-clause-heap c = rw c.changed_regions-regions.ensures.heap c.trim.ensures.trimmed.state
+returns-clause-heap c = rw c.changed_regions-regions.ensures.heap (c.trim.result, c.trim.ensures.trimmed)
