@@ -1,5 +1,6 @@
-use Rattle.std.proofs.Common.{◌*◌, ap, arith, sym, subst}
+use Rattle.std.proofs.Common.{◌*◌, ap, arith, sym, subst, slice_index}
 use Rattle.dlmalloc_chunks.specs.Request.{limit}
+use Rattle.dlmalloc.specs.Blocks.{IsBlock}
 use Rattle.dlmalloc.specs.Heap.{state_of}
 use Rattle.dlmalloc.specs.Served.{IsRefused}
 use Rattle.object_pool.specs.Pool.{IsLaidOut}
@@ -40,3 +41,17 @@ pub returns-in-Err-System-clause-kept : goal.returns-in-Err-System-clause-kept
 returns-in-Err-System-clause-kept g c =
     let s = c.args.self.now in
     refused_keeps g.A.Links.regions g.A.Links.word g.A.Links.follows s.heap c.take_block.new.heap g.A.Allocator.refuses c.take_block.ensures.placed c.in-Err-System.ensures.err.same
+
+pub returns-in-Err-System-clause-laid : goal.returns-in-Err-System-clause-laid
+returns-in-Err-System-clause-laid g c =
+    let s = c.args.self.now in
+    let laid = c.requires.laid in
+    let same = c.in-Err-System.ensures.err.same.state in
+    record {
+      sound = c.take_block.ensures.sound;
+      linked = c.take_block.ensures.linked;
+      some = laid.some;
+      small = laid.small;
+      blocks = λ i there. subst (λ heap. IsBlock heap (slice_index s.places.items i) (64 * s.size)) (sym same) (laid.blocks i there);
+      distinct = laid.distinct;
+    }
