@@ -29,6 +29,7 @@ pub use heap_model::{
 pub use machine::Machine;
 pub use mapped_regions::{MapFault, UnmapFault};
 pub use paged_system::PagedSystem;
+pub use probing::{fault_code, is_granted};
 pub use run_error::RunError;
 pub use runs::{Run, run_calls};
 pub use twin_system::TwinSystem;

@@ -24,8 +24,9 @@ fn grants(rights: Rights, access: Access) -> bool
     }
 }
 
-/// Whether an access is granted, by the rights of its page where it is mapped.
-fn is_granted(rights: Option<Rights>, access: Access, user: bool) -> bool
+/// Whether an access to a byte is granted, by the rights of its page, or none where it is not mapped: the rights grant its
+/// kind, and one by the user needs the user's right too (AMD64 manual, volume 2, section 5.6).
+pub fn is_granted(rights: Option<Rights>, access: Access, user: bool) -> bool
     ensures { result ≡ is_granted rights access user }
 {
     match rights {
@@ -45,8 +46,9 @@ fn access_bit(access: Access) -> u64
     }
 }
 
-/// The code of the page fault of an access, to a page that is mapped or not.
-fn fault_code(mapped: bool, access: Access, user: bool) -> PageFaultErrorCode
+/// The code of the page fault of an access to a page that is mapped or not: bit 0 says that it is mapped, bit 1 that the
+/// access is a write, bit 2 that it is by the user, and bit 4 that it is a fetch (AMD64 manual, volume 2, section 8.4.2).
+pub fn fault_code(mapped: bool, access: Access, user: bool) -> PageFaultErrorCode
     ensures { page_fault_bits result ≡ fault_code mapped access user }
 {
     let present = if mapped { 1 } else { 0 };

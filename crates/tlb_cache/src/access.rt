@@ -4,16 +4,13 @@ ghost use Rattle.paging_core.specs.Address.{is_canonical};
 ghost use Rattle.paging_core.specs.Memory.{frame_count, word_at, byte_of};
 ghost use Rattle.paging_core.specs.Walk.{walk_of, place_of};
 ghost use Rattle.heap_model.specs.Machine.{rights_of};
-ghost use Rattle.heap_model.specs.Probe.{grants, is_granted, access_bit, fault_code};
 ghost use Rattle.kernel_heap.specs.System.{paged};
-ghost use Rattle.x86_tables.specs.PageFaultErrorCode.{page_fault_bits};
 ghost use Rattle.tlb_cache.specs.Cache.{Agrees, IsLookedUp};
 ghost use Rattle.tlb_cache.specs.Cached.{IsProbed};
 
 use crate::probed::Probed;
 use crate::tlb::Tlb;
-use bitflags::Flags;
-use kernel_heap::{Access, PageFaultErrorCode, PagedSystem};
+use kernel_heap::{Access, PagedSystem, Rights, fault_code, is_granted};
 use paging_core::{Frames, Mapped, Page, PageSize, PhysFrame, Size4KiB, VirtAddr};
 
 /// What an access to the byte at an address gives. Each entry of the cache is what the walk finds.
@@ -51,52 +48,25 @@ pub(crate) fn answer(
 {
     match found {
         Some(mapped) => {
-            if is_granted(mapped, access, user) {
+            if is_granted(Some(rights(mapped)), access, user) {
                 Probed::Byte(byte_at(system.frames(), mapped.frame, at))
             } else {
-                Probed::Fault(fault(true, access, user))
+                Probed::Fault(fault_code(true, access, user))
             }
         }
-        None => Probed::Fault(fault(false, access, user)),
+        None => Probed::Fault(fault_code(false, access, user)),
     }
 }
 
-/// Whether a page's rights grant a kind of access.
-fn grants(mapped: &Mapped, access: Access) -> bool
-    ensures { result ≡ grants (rights_of (place_of mapped.now)) access }
+/// The rights of a page.
+fn rights(mapped: &Mapped) -> Rights
+    ensures { result ≡ rights_of (place_of mapped.now) }
 {
-    match access {
-        Access::Read => true,
-        Access::Write => mapped.write,
-        Access::Fetch => mapped.fetch,
+    Rights {
+        write: mapped.write,
+        user: mapped.user,
+        fetch: mapped.fetch,
     }
-}
-
-/// Whether a page's rights grant an access.
-fn is_granted(mapped: &Mapped, access: Access, user: bool) -> bool
-    ensures { result ≡ is_granted (Some (rights_of (place_of mapped.now))) access user }
-{
-    grants(mapped, access) && (!user || mapped.user)
-}
-
-/// What a page fault's code says of the kind of access.
-fn access_bit(access: Access) -> u64
-    ensures { result ≡ access_bit access }
-{
-    match access {
-        Access::Read => 0,
-        Access::Write => 2,
-        Access::Fetch => 16,
-    }
-}
-
-/// The code of the page fault of an access, to a page that is mapped or not.
-fn fault(mapped: bool, access: Access, user: bool) -> PageFaultErrorCode
-    ensures { page_fault_bits result ≡ fault_code mapped access user }
-{
-    let present = if mapped { 1 } else { 0 };
-    let from_user = if user { 4 } else { 0 };
-    PageFaultErrorCode::from_bits_retain(present + access_bit(access) + from_user)
 }
 
 /// The byte at an address whose page is in a frame.
