@@ -6,7 +6,7 @@ use Rattle.paging_core.specs.Memory.{word_at, byte_of}
 use Rattle.paging_core.specs.Walk.{Place, walk_of, reached}
 use Rattle.dlmalloc.specs.declared.heap.Dlmalloc.{Dlmalloc}
 use Rattle.dlmalloc.specs.Blocks.{ArePlaced}
-use Rattle.dlmalloc.specs.Served.{OnlyBlocksChange, RestsOutside}
+use Rattle.dlmalloc.specs.Served.{OnlyBlocksChange, RestsOutside, OrderRestsOutside}
 use Rattle.heap_model.specs.declared.live.Live.{Live}
 use Rattle.heap_model.specs.declared.call.Call.TheVariants.{Write, Read}
 use Rattle.heap_model.specs.declared.answer.Reply.TheVariants.{Done, Bytes}
@@ -23,7 +23,7 @@ use Rattle.kernel_heap.specs.Follows.{still_none}
 use Rattle.kernel_heap.specs.Words.{heap_regions, grants_of}
 use Rattle.kernel_heap.specs.System.{paged}
 use Rattle.kernel_heap.specs.Heap.{regions, word, heap_state}
-use Rattle.kernel_heap.specs.Machine.{seen_of, live_at, refuse_live, HasBytes, IsLaidOut}
+use Rattle.kernel_heap.specs.Machine.{seen_of, live_at, refuse_live, HasBytes, IsLaidOut, IsStill}
 use Rattle.kernel_heap.specs.Written.{AreInside, AreRead, IsWritten}
 use Rattle.kernel_heap.specs.declared.paged_system.PagedSystem.{PagedSystem}
 use Rattle.kernel_heap.proofs.BlockPlaces.{bytes_within}
@@ -95,8 +95,11 @@ module _ (heap : Dlmalloc PagedSystem) (blocks : List (Option Live)) (number off
         ])
 
     -- so the heap is as it was, and the blocks stay laid out
-    pub heap_written : heap_state (record heap { system = system }) ≡ heap_state heap
+    heap_written : heap_state (record heap { system = system }) ≡ heap_state heap
     heap_written = (rests laid.heap_sound system (same_regions heap laid.heap_sound system (ap grants_of written.still.others)) outside).1
+
+    pub still_written : OrderRestsOutside regions word heap → IsStill heap (record heap { system = system })
+    still_written order = (heap_written, order laid.heap_sound system (same_regions heap laid.heap_sound system (ap grants_of written.still.others)) outside)
 
     pub laid_written : IsLaidOut (record heap { system = system }) blocks
     laid_written = laid_outside heap blocks system laid (ap grants_of written.still.others) rests outside

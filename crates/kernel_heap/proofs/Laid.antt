@@ -8,6 +8,7 @@ use Rattle.dlmalloc_chunks.specs.declared.extent.Extent.{Extent}
 use Rattle.dlmalloc.specs.Extents.{extent_at}
 use Rattle.dlmalloc.specs.State.{HeapState, Segment, extents_in}
 use Rattle.dlmalloc.specs.Blocks.{IsBlock}
+use Rattle.dlmalloc.specs.Order.{KeepsIndex}
 use Rattle.dlmalloc.specs.Freed.{freed}
 use Rattle.dlmalloc.specs.declared.heap.Dlmalloc.{Dlmalloc}
 use Rattle.dlmalloc.specs.declared.malloc_error.MallocError.{MallocError}
@@ -22,8 +23,8 @@ use Rattle.kernel_heap.specs.Heap.{follows, refuses, denies, regions, word, heap
 use Rattle.dlmalloc.specs.Requested.{asked, IsHandedOut}
 use Rattle.dlmalloc.specs.Moved.{IsGivenSize}
 use Rattle.dlmalloc.specs.AfterFree.{after_free, IsFreed}
-use Rattle.dlmalloc.specs.Served.{IsRefusedWith, regions_in, KeepsRegions, OnlyBlocksChange, RestsOutside}
-use Rattle.kernel_heap.specs.Machine.{seen_of, live_at, HaveRegions, IsLive, IsLaidOut}
+use Rattle.dlmalloc.specs.Served.{IsRefusedWith, regions_in, KeepsRegions, OnlyBlocksChange, RestsOutside, OrderRestsOutside}
+use Rattle.kernel_heap.specs.Machine.{seen_of, live_at, HaveRegions, IsLive, IsLaidOut, IsStill}
 use Rattle.kernel_heap.specs.declared.paged_system.PagedSystem.{PagedSystem}
 use Rattle.kernel_heap.proofs.Numbers.{same_or_other}
 use Rattle.kernel_heap.proofs.SegmentRegions.{have_found}
@@ -285,6 +286,25 @@ laid_outside heap blocks system laid same rests outside =
 pub heap_beside : (heap : Dlmalloc PagedSystem) → IsHeap heap → (system : PagedSystem) → IsBeside (paged heap.system) (paged system) → RestsOutside regions word heap →
     IsHeap (record heap { system = system }) × (heap_state (record heap { system = system }) ≡ heap_state heap) × (HasBins heap → HasBins (record heap { system = system }))
 heap_beside heap sound system beside rests = rests sound system (same_regions heap sound system beside.regions) (λ k granted there outside. beside.words k granted)
+
+-- and the bins keep their order
+pub order_beside : (heap : Dlmalloc PagedSystem) → IsHeap heap → (system : PagedSystem) → IsBeside (paged heap.system) (paged system) → OrderRestsOutside regions word heap →
+    KeepsIndex regions word heap (record heap { system = system })
+order_beside heap sound system beside rests = rests sound system (same_regions heap sound system beside.regions) (λ k granted there outside. beside.words k granted)
+
+pub still_beside : (heap : Dlmalloc PagedSystem) → IsHeap heap → (system : PagedSystem) → IsBeside (paged heap.system) (paged system) → RestsOutside regions word heap → OrderRestsOutside regions word heap →
+    IsStill heap (record heap { system = system })
+still_beside heap sound system beside rests order = ((heap_beside heap sound system beside rests).1, order_beside heap sound system beside order)
+
+-- one stay behind another
+pub still_none : (heap : Dlmalloc PagedSystem) → IsStill heap heap
+still_none heap = (refl, λ before. (before, λ n. refl))
+
+pub still_on : (old middle new : Dlmalloc PagedSystem) → IsStill old middle → IsStill middle new → IsStill old new
+still_on old middle new first second = (
+  second.0 ∙ first.0,
+  λ before. (let one = first.1 before in let two = second.1 one.0 in (two.0, λ n. two.1 n ∙ one.1 n)),
+)
 
 -- ---- no block
 

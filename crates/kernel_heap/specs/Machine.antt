@@ -13,6 +13,7 @@ use Rattle.dlmalloc_chunks.specs.Request.{padded}
 use Rattle.dlmalloc.specs.Blocks.{IsBlock}
 use Rattle.dlmalloc.specs.AfterFree.{IsFreed}
 use Rattle.dlmalloc.specs.Shortened.{IsTrimmed}
+use Rattle.dlmalloc.specs.Order.{KeepsIndex}
 use Rattle.dlmalloc.specs.Resized.{in_place}
 use Rattle.dlmalloc.specs.Served.{IsRefusedWith, IsListed}
 use Rattle.dlmalloc.specs.Written.{IsServedCleared}
@@ -224,6 +225,10 @@ pub record IsToldFrom (before now : Dlmalloc PagedSystem) : Type 0 where
   pub system : paged now.system ≡ record (paged before.system) { slots = (paged now.system).slots }
   pub rest : now ≡ record before { system = now.system }
 
+-- A heap stays in its state, and each size of its bins keeps its chunks, in their order.
+abbrev pub IsStill : Dlmalloc PagedSystem → Dlmalloc PagedSystem → Type 0
+IsStill old new = (heap_state new ≡ heap_state old) × KeepsIndex regions word old new
+
 -- A refused call leaves the heap: the heap refused it so many bytes, or was not asked.
 abbrev pub IsLeft : Dlmalloc PagedSystem → ℕ → Refusal → Dlmalloc PagedSystem → Type 0
 IsLeft old size why new = MatchOption (error_of why) (new ≡ old) (λ error. IsRefusedWith regions word follows refuses denies old size error new)
@@ -265,8 +270,9 @@ HeapMoves old (CRealloc number size) (Refused why) new =
 HeapMoves old (Free number) Done new = MatchOption (live_at old.blocks.items number) ⊥ (λ live. IsFreed regions word follows true true 4096 old.heap live.address new.heap)
 HeapMoves old (Free number) (Refused why) new = new.heap ≡ old.heap
 HeapMoves old (Trim pad) (Trimmed released) new = (gave : Bool) × IsTrimmed regions word follows true true 4096 old.heap pad gave new.heap
-HeapMoves old (SetRate rate) Done new = heap_of new ≡ record (heap_of old) { rate = rate; countdown = countdown_from rate }
-HeapMoves old (SetGranularity granularity) (Accepted accepted) new = heap_of new ≡ record (heap_of old) { granularity = if accepted then granularity else (heap_of old).granularity }
+HeapMoves old (SetRate rate) Done new = (heap_of new ≡ record (heap_of old) { rate = rate; countdown = countdown_from rate }) × KeepsIndex regions word old.heap new.heap
+HeapMoves old (SetGranularity granularity) (Accepted accepted) new =
+    (heap_of new ≡ record (heap_of old) { granularity = if accepted then granularity else (heap_of old).granularity }) × KeepsIndex regions word old.heap new.heap
 HeapMoves old Reset (Released bytes) new = heap_of new ≡ fresh_heap (heap_of old).granularity (heap_of old).rate
 HeapMoves old Extents (Listed list) new = (new.heap ≡ old.heap) × IsListed word old.heap list
-HeapMoves old call reply new = heap_of new ≡ heap_of old
+HeapMoves old call reply new = IsStill old.heap new.heap

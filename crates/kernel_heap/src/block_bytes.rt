@@ -5,7 +5,7 @@ ghost use Rattle.heap_model.specs.State.{State};
 ghost use Rattle.heap_model.specs.Run.{IsGood};
 ghost use Rattle.heap_model.specs.Machine.{Stands, IsStep};
 ghost use Rattle.kernel_heap.specs.Heap.{regions};
-ghost use Rattle.kernel_heap.specs.Machine.{seen_with, system_of, heap_of, live_at, refuse_live, HasBytes, IsSeenAsBefore, IsSound};
+ghost use Rattle.kernel_heap.specs.Machine.{seen_with, system_of, heap_of, live_at, refuse_live, HasBytes, IsStill, IsSeenAsBefore, IsSound};
 
 use crate::numbered_heap::{NumberedHeap, refused};
 use heap_model::{Answer, Call, Refusal, Reply};
@@ -34,12 +34,13 @@ impl NumberedHeap {
         requires sound { IsSound self.old }
         ensures sound { IsSound self.new }
         ensures ok { (top : ℕ) (s : State) → IsGood s → Stands (seen_with top self.old) s → IsStep s (Call.Write number offset bytes.now) result (seen_with top self.new) }
-        ensures heap { heap_of self.new ≡ heap_of self.old }
+        ensures heap { IsStill self.old.heap self.new.heap }
         ensures kept { IsSeenAsBefore result.reply self.old self.new }
     {
         match self.find_bytes(number, offset, bytes.len() as u64) {
             Ok(address) => {
                 self.heap.rests_outside();
+                self.heap.order_rests_outside();
                 self.heap.allocator_mut().write_bytes(address, bytes);
                 Answer {
                     reply: Reply::Done,

@@ -71,7 +71,7 @@ pub(crate) struct NumberedHeap {
 impl NumberedHeap {
     ghost use Rattle.kernel_heap.specs.Words.{heap_regions};
     ghost use Rattle.kernel_heap.specs.System.{paged, pageless_frames};
-    ghost use Rattle.kernel_heap.specs.Machine.{seen_with, system_of, heap_of, live_at, request, resizing, lasting_pages, AreRunsUsedFor, HeapMoves, IsSeenAsBefore, IsSound};
+    ghost use Rattle.kernel_heap.specs.Machine.{seen_with, system_of, heap_of, live_at, request, resizing, lasting_pages, AreRunsUsedFor, HeapMoves, IsStill, IsSeenAsBefore, IsSound};
 
     /// Hands out a block of `size` bytes at a multiple of `align`, of value 0 where that is asked for. The answer and the
     /// block have their places before anything changes.
@@ -218,7 +218,7 @@ impl NumberedHeap {
         ensures slots { ((paged (system_of self.old)).joins ≡ before.joins → ⊥) → result ≡ listed_slots (paged (system_of self.old)).slots }
         ensures paged { ((paged (system_of self.old)).joins ≡ before.joins → ⊥) → paged (system_of self.new) ≡ record (paged (system_of self.old)) { slots = [] } }
         ensures sound { IsSound self.new }
-        ensures heap { heap_of self.new ≡ heap_of self.old }
+        ensures heap { IsStill self.old.heap self.new.heap }
         ensures rest { self.new.heap ≡ record self.old.heap { system = self.new.heap.system } }
         ensures blocks { self.new.blocks ≡ self.old.blocks }
     {
@@ -226,6 +226,7 @@ impl NumberedHeap {
             return None;
         }
         self.heap.rests_outside();
+        self.heap.order_rests_outside();
         self.heap.allocator_mut().take_slots()
     }
 

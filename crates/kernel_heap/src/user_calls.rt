@@ -4,7 +4,7 @@ ghost use Rattle.heap_model.specs.State.{State};
 ghost use Rattle.kernel_heap.specs.System.{paged};
 ghost use Rattle.heap_model.specs.Run.{IsGood};
 ghost use Rattle.heap_model.specs.Machine.{Stands, IsStep};
-ghost use Rattle.kernel_heap.specs.Machine.{seen_with, system_of, heap_of, lasting_pages, AreRunsUsedFor, map_refusal, unmap_refusal, IsRefusal, IsSeenAsBefore, IsSound};
+ghost use Rattle.kernel_heap.specs.Machine.{seen_with, system_of, lasting_pages, AreRunsUsedFor, map_refusal, unmap_refusal, IsRefusal, IsStill, IsSeenAsBefore, IsSound};
 
 use crate::numbered_heap::{NumberedHeap, refused};
 use heap_model::{Answer, Call, Refusal, Reply, Rights};
@@ -49,10 +49,11 @@ impl NumberedHeap {
         ensures ok { (top : ℕ) (s : State) → IsGood s → Stands (seen_with top self.old) s → IfOk result (λ answer. IsStep s (Call.Map start pages rights) answer (seen_with top self.new)) }
         ensures runs { (top : ℕ) (s : State) → IsGood s → Stands (seen_with top self.old) s → IfOk result (λ answer. AreRunsUsedFor (paged (system_of self.old)) (paged (system_of self.new)) (lasting_pages s (Call.Map start pages rights) answer)) }
         ensures err { (top : ℕ) → OnErr result (seen_with top self.new ≡ seen_with top self.old) }
-        ensures heap { heap_of self.new ≡ heap_of self.old }
+        ensures heap { IsStill self.old.heap self.new.heap }
         ensures kept { IfOk result (λ answer. IsSeenAsBefore answer.reply self.old self.new) }
     {
         self.heap.rests_outside();
+        self.heap.order_rests_outside();
         let before = self.marks();
         match self.heap.allocator_mut().map(start, pages, rights) {
             Ok(()) => Ok(Answer {
@@ -69,10 +70,11 @@ impl NumberedHeap {
         requires sound { IsSound self.old }
         ensures sound { IsSound self.new }
         ensures ok { (top : ℕ) (s : State) → IsGood s → Stands (seen_with top self.old) s → IsStep s (Call.Unmap start pages) result (seen_with top self.new) }
-        ensures heap { heap_of self.new ≡ heap_of self.old }
+        ensures heap { IsStill self.old.heap self.new.heap }
         ensures kept { IsSeenAsBefore result.reply self.old self.new }
     {
         self.heap.rests_outside();
+        self.heap.order_rests_outside();
         match self.heap.allocator_mut().unmap(start, pages) {
             Ok(()) => Answer {
                 reply: Reply::Done,

@@ -13,7 +13,7 @@ use Rattle.kernel_heap.specs.Machine.{system_of, seen_with}
 use Rattle.kernel_heap.specs.declared.numbered_heap.NumberedHeap.{NumberedHeap}
 use Rattle.kernel_heap.specs.declared.paged_system.PagedSystem.{PagedSystem}
 use Rattle.kernel_heap.proofs.LastingPages.{runs_refused}
-use Rattle.kernel_heap.proofs.Laid.{heap_beside}
+use Rattle.kernel_heap.proofs.Laid.{still_beside, still_on}
 use Rattle.kernel_heap.proofs.Told.{AreTold, step_told, runs_told}
 use Rattle.kernel_heap.proofs.UserRegions.{step_map, map_denied, laid_beside}
 use Rattle.kernel_heap.proofs.numbered_heap.NumberedHeap.map.Goals as goal
@@ -67,9 +67,10 @@ returns-in-Ok-clause-runs c = λ top s good stands.
 
 pub returns-in-Ok-clause-heap : goal.returns-in-Ok-clause-heap
 returns-in-Ok-clause-heap c =
+    still_on c.args.self.now.heap (record c.args.self.now.heap { system = c.map.new.self }) c.new_slots.new.self.heap
+    (still_beside c.args.self.now.heap c.requires.sound.heap_sound c.map.new.self
+    (subst (λ system. IsBeside (paged system) (paged c.map.new.self)) c.allocator_mut.ensures.value c.map.ensures.beside) c.rests_outside.ensures c.order_rests_outside.ensures)
     c.new_slots.ensures.heap
-    ∙ (heap_beside c.args.self.now.heap c.requires.sound.heap_sound c.map.new.self
-    (subst (λ system. IsBeside (paged system) (paged c.map.new.self)) c.allocator_mut.ensures.value c.map.ensures.beside) c.rests_outside.ensures).1
 
 pub returns-in-Err-clause-sound : goal.returns-in-Err-clause-sound
 returns-in-Err-clause-sound c =
@@ -92,8 +93,8 @@ returns-in-Err-clause-err c = λ top.
 
 pub returns-in-Err-clause-heap : goal.returns-in-Err-clause-heap
 returns-in-Err-clause-heap c =
-    (heap_beside c.args.self.now.heap c.requires.sound.heap_sound c.map.new.self
-    (subst (λ system. IsBeside (paged system) (paged c.map.new.self)) c.allocator_mut.ensures.value c.map.ensures.beside) c.rests_outside.ensures).1
+    still_beside c.args.self.now.heap c.requires.sound.heap_sound c.map.new.self
+    (subst (λ system. IsBeside (paged system) (paged c.map.new.self)) c.allocator_mut.ensures.value c.map.ensures.beside) c.rests_outside.ensures c.order_rests_outside.ensures
 
 pub returns-in-Err-clause-runs : goal.returns-in-Err-clause-runs
 returns-in-Err-clause-runs c = λ top s good stands.

@@ -1,7 +1,9 @@
+use Rattle.std.specs.Prelude.{Result, Ok, Err, IfOk}
 use Rattle.std.proofs.lemmas.Result.{IfOk-weaker}
 use Rattle.heap_model.specs.declared.call.Call.TheVariants as Called
 use Rattle.kernel_heap.specs.System.{paged}
 use Rattle.kernel_heap.specs.Machine.{system_of}
+use Rattle.kernel_heap.proofs.Laid.{still_none}
 use Rattle.kernel_heap.proofs.LastingPages.{runs_none}
 use Rattle.kernel_heap.proofs.numbered_heap.NumberedHeap.serve.Goals as goal
 
@@ -93,3 +95,15 @@ returns-in-Reset-clause-ok c = λ top s good stands. rw c.in-Reset.is (c.reset.e
 
 pub returns-in-Extents-clause-ok : goal.returns-in-Extents-clause-ok
 returns-in-Extents-clause-ok c = λ top s good stands. rw c.in-Extents.is (c.extents.ensures.ok top s good stands)
+
+-- what holds of each value
+always : {T E : Type 0} (r : Result T E) {P : T → Type 0} → ((x : T) → P x) → IfOk r P
+always (Ok x) each = each x
+always (Err e) each = tt
+
+-- a call that only looks
+pub returns-in-Read-clause-heap : goal.returns-in-Read-clause-heap
+returns-in-Read-clause-heap c = rw c.in-Read.is (always c.read.result (λ answer. still_none c.args.self.now.heap))
+
+pub returns-in-Probe-clause-heap : goal.returns-in-Probe-clause-heap
+returns-in-Probe-clause-heap c = rw c.in-Probe.is (still_none c.args.self.now.heap)

@@ -7,7 +7,7 @@ use Rattle.kernel_heap.specs.Beside.{IsBeside}
 use Rattle.kernel_heap.specs.System.{paged}
 use Rattle.kernel_heap.specs.Machine.{seen_with, unmap_refusal}
 use Rattle.kernel_heap.proofs.Refused.{refused_with}
-use Rattle.kernel_heap.proofs.Laid.{heap_beside}
+use Rattle.kernel_heap.proofs.Laid.{still_beside}
 use Rattle.kernel_heap.proofs.UserRegions.{step_unmap, unmap_denied, laid_beside}
 use Rattle.kernel_heap.proofs.numbered_heap.NumberedHeap.unmap.Goals as goal
 
@@ -24,8 +24,8 @@ returns-in-Ok-clause-ok c = λ top s good stands.
 
 pub returns-in-Ok-clause-heap : goal.returns-in-Ok-clause-heap
 returns-in-Ok-clause-heap c =
-    (heap_beside c.args.self.now.heap c.requires.sound.heap_sound c.unmap.new.self
-    (subst (λ system. IsBeside (paged system) (paged c.unmap.new.self)) c.allocator_mut.ensures.value c.unmap.ensures.beside) c.rests_outside.ensures).1
+    still_beside c.args.self.now.heap c.requires.sound.heap_sound c.unmap.new.self
+    (subst (λ system. IsBeside (paged system) (paged c.unmap.new.self)) c.allocator_mut.ensures.value c.unmap.ensures.beside) c.rests_outside.ensures c.order_rests_outside.ensures
 
 pub returns-in-Err-clause-sound : goal.returns-in-Err-clause-sound
 returns-in-Err-clause-sound c =
@@ -42,8 +42,8 @@ returns-in-Err-clause-ok c = λ top s good stands.
 
 pub returns-in-Err-clause-heap : goal.returns-in-Err-clause-heap
 returns-in-Err-clause-heap c =
-    (heap_beside c.args.self.now.heap c.requires.sound.heap_sound c.unmap.new.self
-    (subst (λ system. IsBeside (paged system) (paged c.unmap.new.self)) c.allocator_mut.ensures.value c.unmap.ensures.beside) c.rests_outside.ensures).1
+    still_beside c.args.self.now.heap c.requires.sound.heap_sound c.unmap.new.self
+    (subst (λ system. IsBeside (paged system) (paged c.unmap.new.self)) c.allocator_mut.ensures.value c.unmap.ensures.beside) c.rests_outside.ensures c.order_rests_outside.ensures
 
 pub returns-in-Err-clause-kept : goal.returns-in-Err-clause-kept
 returns-in-Err-clause-kept c = λ told top.
