@@ -18,7 +18,7 @@ svg svg .s0,svg svg .s1,svg svg .s2,svg svg .s3,svg svg .s4{stroke:none}
 <rect class=\"h\" x=\"8\" y=\"34\" width=\"16\" height=\"16\"/><text x=\"30\" y=\"47\">heap region</text><rect class=\"w\" x=\"142\" y=\"34\" width=\"16\" height=\"16\"/><text x=\"164\" y=\"47\">user region</text><rect class=\"l\" x=\"276\" y=\"34\" width=\"16\" height=\"16\"/><text x=\"298\" y=\"47\">large page</text>
 ";
 
-/// The styles, the paper and the legend. The colours differ in brightness and between blue and orange, so that whoever
+/// The styles, the background and the legend. The colours differ in brightness and between blue and orange, so that whoever
 /// does not see red and green tells them apart.
 #[tactic(auto, unfolding(crate::specs::Legend::legend))]
 pub fn legend() -> &'static str

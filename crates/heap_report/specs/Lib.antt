@@ -7,3 +7,4 @@ pub mod Report
 pub mod Reported
 pub mod Served
 pub mod Sizes
+pub mod Telling

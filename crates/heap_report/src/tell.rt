@@ -1,17 +1,14 @@
 // A whole run that is replayed and told of.
-ghost use Rattle.std.specs.Prelude.{◌≡◌, ◌≢◌, ◌≤◌, ◌<◌, ◌+◌, ◌^◌, ◌⊎◌, ◌↔◌, ◌++◌, ℕ, List, [], Some, None, length, unwrap_or, map, string_bytes, IsSome, IfSome, IfOk, OnErr, IsErrOf, OnOk};
+ghost use Rattle.std.specs.Prelude.{◌≡◌, ◌≢◌, ◌≤◌, ◌<◌, ◌+◌, ◌^◌, ◌⊎◌, ◌↔◌, ◌++◌, ℕ, List, [], length, unwrap_or, map, string_bytes, IfSome, IfOk, OnErr, IsErrOf, OnOk};
 ghost use Rattle.std.specs.Io.KnownBytes.{Appends};
 ghost use Rattle.dlmalloc_chunks.specs.declared.extent.Extent.{Extent};
 ghost use Rattle.dlmalloc_chunks.specs.Tiling.{AreInSegments};
-ghost use Rattle.heap_model.specs.State.{State, start};
-ghost use Rattle.heap_model.specs.declared.config.Config.{Config};
-ghost use Rattle.kernel_heap.specs.Config.{IsGoodConfig};
-ghost use Rattle.heap_program.specs.Command.{config_of};
+ghost use Rattle.heap_model.specs.State.{State};
 ghost use Rattle.heap_program.specs.Faults.{HasRisen};
 ghost use Rattle.heap_program.specs.Progress.{IsAt};
-ghost use Rattle.heap_program.specs.Status.{TellsRefusal};
 ghost use Rattle.heap_program.specs.declared.run.Stop.TheVariants.{ReadFault, WriteFault, TooLong};
 ghost use Rattle.heap_report.specs.Reported.{IsTold, IsToldInPart};
+ghost use Rattle.heap_report.specs.Telling.{Tells, TellsOf};
 
 use crate::listed::{Listed, list_extents};
 use crate::replay::Replay;
@@ -83,21 +80,10 @@ fn tell_new<T: Tell, S: Source, K: Sink>(
     source: &mut S,
     sink: &mut K,
 ) -> Reported
-    ensures machine { IsSome result.machine ↔ (result.status ≡ 0) }
-    ensures answers { IsSome result.answers ↔ (result.status ≡ 0) }
-    ensures extents { IsSome result.extents ↔ (result.status ≡ 0) }
-    ensures told { IfSome result.machine (λ machine. IfSome result.answers (λ answers. IfSome result.extents (λ extents.
-        IsTold T.text (start config.now) (S.left source.old) (S.left source.new) (K.taken sink.old) (K.taken sink.new) (K.flushed sink.new) machine answers extents))) }
-    ensures part { 5 ≤ result.status →
-        IsToldInPart T.text (start config.now) (S.left source.old) (S.left source.new) (K.taken sink.old) (K.taken sink.new) }
-    ensures silent { (result.status ≡ 6) ⊎ (result.status ≡ 8) → Appends (K.taken sink.old) (K.taken sink.new) [] }
     ensures statuses { (result.status ≢ 1) × (result.status ≤ 8) }
-    ensures refused { TellsRefusal config.now result.status }
+    ensures tells { TellsOf T.text config.now (S.left source.old) (S.left source.new) (K.taken sink.old) (K.taken sink.new) (K.flushed sink.new)
+        (S.faults source.old) (S.faults source.new) (K.faults sink.old) (K.faults sink.new) result }
     ensures untouched { 1 ≤ result.status → result.status ≤ 4 → (source.new ≡ source.old) × (sink.new ≡ sink.old) }
-    ensures read_fault { result.status ≡ 6 → HasRisen (S.faults source.old) (S.faults source.new) }
-    ensures write_fault { result.status ≡ 7 → HasRisen (K.faults sink.old) (K.faults sink.new) }
-    ensures too_long { IfSome (S.left source.old) (λ input.
-        (result.status ≡ 8) ↔ (2 ^ 30 + length (unwrap_or (S.left source.new) []) < length input)) }
 {
     let machine = match Machine::new(alloc, config) {
         Ok(machine) => machine,
@@ -147,31 +133,10 @@ pub fn tell_main<T: Tell, S: Source, K: Sink>(
     source: &mut S,
     sink: &mut K,
 ) -> Reported
-    // At status 0 the source is read to its end, and the text of its run is written.
-    ensures machine { IsSome result.machine ↔ (result.status ≡ 0) }
-    ensures answers { IsSome result.answers ↔ (result.status ≡ 0) }
-    ensures extents { IsSome result.extents ↔ (result.status ≡ 0) }
-    ensures told { (config : Config) → config_of (map string_bytes words.now) ≡ Some config →
-        IfSome result.machine (λ machine. IfSome result.answers (λ answers. IfSome result.extents (λ extents.
-        IsTold T.text (start config) (S.left source.old) (S.left source.new) (K.taken sink.old) (K.taken sink.new) (K.flushed sink.new) machine answers extents))) }
-
-    // At a status from 5 on a front of such a text is written, or nothing: at 6 and 8 nothing.
-    ensures part { (config : Config) → config_of (map string_bytes words.now) ≡ Some config → 5 ≤ result.status →
-        IsToldInPart T.text (start config) (S.left source.old) (S.left source.new) (K.taken sink.old) (K.taken sink.new) }
-    ensures silent { (result.status ≡ 6) ⊎ (result.status ≡ 8) → Appends (K.taken sink.old) (K.taken sink.new) [] }
-
-    // When each status comes. Those from 1 to 4 are decided in this order, before anything is read or written.
-    ensures statuses { result.status ≤ 8 }
-    ensures usage { (result.status ≡ 1) ↔ (config_of (map string_bytes words.now) ≡ None) }
-    ensures refused { (config : Config) → config_of (map string_bytes words.now) ≡ Some config → TellsRefusal config result.status }
+    ensures tells { Tells T.text (map string_bytes words.now) (S.left source.old) (S.left source.new) (K.taken sink.old) (K.taken sink.new) (K.flushed sink.new)
+        (S.faults source.old) (S.faults source.new) (K.faults sink.old) (K.faults sink.new) result }
+    // Those from 1 to 4 are decided in this order, before anything is read or written.
     ensures untouched { 1 ≤ result.status → result.status ≤ 4 → (source.new ≡ source.old) × (sink.new ≡ sink.old) }
-    ensures read_fault { result.status ≡ 6 → HasRisen (S.faults source.old) (S.faults source.new) }
-    ensures write_fault { result.status ≡ 7 → HasRisen (K.faults sink.old) (K.faults sink.new) }
-    ensures too_long { IfSome (S.left source.old) (λ input.
-        (result.status ≡ 8) ↔ (2 ^ 30 + length (unwrap_or (S.left source.new) []) < length input)) }
-    ensures complete { (config : Config) → config_of (map string_bytes words.now) ≡ Some config → IsGoodConfig config →
-        ¬ (HasRisen (S.faults source.old) (S.faults source.new)) → ¬ (HasRisen (K.faults sink.old) (K.faults sink.new)) →
-        (result.status ≡ 0) ⊎ (result.status ≡ 5) ⊎ (result.status ≡ 8) }
 {
     match config_of(words) {
         Some(config) => tell_new::<T, S, K>(alloc, &config, source, sink),

@@ -1,10 +1,20 @@
-use Rattle.std.proofs.Common.{rules}
-use Rattle.heap_program.specs.Status.{TellsRefusal}
-use Rattle.heap_program.proofs.Commands.{complete_status}
+use Rattle.std.proofs.Common.{rules, sym, subst, ◌∙◌}
+use Rattle.heap_model.specs.declared.config.Config.{Config}
+use Rattle.heap_report.specs.Telling.{TellsOf}
 use Rattle.heap_report.proofs.tell.tell_main.Goals as goal
 
-pub returns-in-Some-clause-complete : goal.returns-in-Some-clause-complete
-returns-in-Some-clause-complete g c config is good unread unwritten =
-    let run = c.tell_new.ensures in
-    let tells : TellsRefusal config c.tell_new.result.status = search rules in
-    complete_status config c.tell_new.result.status run.statuses.1 run.statuses.0 tells good (λ six. unread (run.read_fault six)) (λ seven. unwritten (run.write_fault seven))
+pub returns-in-Some-clause-tells : goal.returns-in-Some-clause-tells
+returns-in-Some-clause-tells g c = record {
+  statuses = c.tell_new.ensures.statuses.1;
+  usage = search rules;
+  nothing = λ one. absurd (c.tell_new.ensures.statuses.0 one);
+  run = λ config is. search rules;
+}
+
+pub returns-in-None-clause-tells : goal.returns-in-None-clause-tells
+returns-in-None-clause-tells g c = record {
+  statuses = search rules;
+  usage = search rules;
+  nothing = search rules;
+  run = search rules;
+}

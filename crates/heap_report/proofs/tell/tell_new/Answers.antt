@@ -1,33 +1,69 @@
-use Rattle.std.proofs.Common.{ℕ, List, [], ◌<◌, ◌+◌, ◌^◌, length, refl, ◌∙◌}
+use Rattle.std.proofs.Common.{rules, arith, ℕ, List, [], ◌<◌, ◌+◌, ◌^◌, length, inl, refl, ◌∙◌}
 use Rattle.std.specs.Prelude.{unwrap_or}
 use Rattle.heap_model.specs.State.{start}
+use Rattle.heap_program.proofs.Commands.{complete_status}
 use Rattle.heap_report.proofs.Lengths.{ok_status, stop_status}
 use Rattle.heap_report.proofs.Whole.{part_first}
 use Rattle.heap_report.proofs.tell.tell_new.Goals as goal
 
 -- no machine was made
-pub returns-in-Err-clause-part : goal.returns-in-Err-clause-part
-returns-in-Err-clause-part g c late = part_first g.T.Tell.text (start c.args.config.now) (g.S.Source.left c.args.source.now) (g.K.Sink.taken c.args.sink.now)
+pub returns-in-Err-clause-tells : goal.returns-in-Err-clause-tells
+returns-in-Err-clause-tells g c = record {
+  machine = search rules;
+  answers = search rules;
+  extents = search rules;
+  told = search rules;
+  refused = search rules;
+  part = λ late. part_first g.T.Tell.text (start c.args.config.now) (g.S.Source.left c.args.source.now) (g.K.Sink.taken c.args.sink.now);
+  silent = search rules;
+  read_fault = search rules;
+  write_fault = search rules;
+  too_long = search rules;
+  complete = λ good unread unwritten. complete_status c.args.config.now c.ended_early.result.status (search rules) (search rules) (search rules) good (search rules) (search rules);
+}
 
 pub tell_run-requires : goal.tell_run-requires
 tell_run-requires g c = (start c.args.config.now, record { good = c.in-Ok.ensures.good; stands = c.in-Ok.ensures.stands }, refl)
 
-pub returns-in-Ok-tell_run-clause-told : goal.returns-in-Ok-tell_run-clause-told
-returns-in-Ok-tell_run-clause-told g c =
-    c.in-Ok-tell_run.ensures.told (start c.args.config.now) (record { good = c.in-Ok.ensures.good; stands = c.in-Ok.ensures.stands }) refl
-
-pub returns-in-Err-tell_run-clause-part : goal.returns-in-Err-tell_run-clause-part
-returns-in-Err-tell_run-clause-part g c late =
-    c.in-Err-tell_run.ensures.part (start c.args.config.now) (record { good = c.in-Ok.ensures.good; stands = c.in-Ok.ensures.stands }) refl
-
-pub returns-in-Ok-tell_run-clause-too_long : goal.returns-in-Ok-tell_run-clause-too_long
-returns-in-Ok-tell_run-clause-too_long g c =
+-- the run was told of
+pub returns-in-Ok-tell_run-clause-tells : goal.returns-in-Ok-tell_run-clause-tells
+returns-in-Ok-tell_run-clause-tells g c =
     let left = g.S.Source.left in
-    ok_status (left c.args.source.now) c.in-Ok-tell_run.listed (λ (input : List ℕ). 2 ^ 30 + length (unwrap_or (left c.tell_run.new.source) []) < length input)
-    c.in-Ok-tell_run.ensures.too_long
+    let good = c.in-Ok.ensures.accepted in
+    record {
+      machine = search rules;
+      answers = search rules;
+      extents = search rules;
+      told = c.in-Ok-tell_run.ensures.told (start c.args.config.now) (record { good = c.in-Ok.ensures.good; stands = c.in-Ok.ensures.stands }) refl;
+      refused = record {
+        window = (λ is. absurd (omega (arith, is)), λ bad. absurd (bad good.window));
+        granularity = (λ is. absurd (omega (arith, is)), λ bad. absurd (bad.1 good.granularity));
+        frames = (λ is. absurd (omega (arith, is)), λ bad. absurd (let none = bad.2 in let some = good.frames in omega (arith, none, some)));
+        good = λ which. good;
+      };
+      part = search rules;
+      silent = search rules;
+      read_fault = search rules;
+      write_fault = search rules;
+      too_long = ok_status (left c.args.source.now) c.in-Ok-tell_run.listed (λ (input : List ℕ). 2 ^ 30 + length (unwrap_or (left c.tell_run.new.source) []) < length input) c.in-Ok-tell_run.ensures.too_long;
+      complete = λ good unread unwritten. inl refl;
+    }
 
-pub returns-in-Err-tell_run-clause-too_long : goal.returns-in-Err-tell_run-clause-too_long
-returns-in-Err-tell_run-clause-too_long g c =
+-- it stopped early
+pub returns-in-Err-tell_run-clause-tells : goal.returns-in-Err-tell_run-clause-tells
+returns-in-Err-tell_run-clause-tells g c =
     let left = g.S.Source.left in
-    stop_status (left c.args.source.now) c.in-Err-tell_run.stop c.ended_early-in-Err-tell_run.result.status (λ (input : List ℕ). 2 ^ 30 + length (unwrap_or (left c.tell_run.new.source) []) < length input) (c.ended_early-in-Err-tell_run.ensures.status ∙ c.status_of.ensures)
-    c.in-Err-tell_run.ensures.too_long
+    record {
+      machine = search rules;
+      answers = search rules;
+      extents = search rules;
+      told = search rules;
+      refused = search rules;
+      part = λ late. c.in-Err-tell_run.ensures.part (start c.args.config.now) (record { good = c.in-Ok.ensures.good; stands = c.in-Ok.ensures.stands }) refl;
+      silent = search rules;
+      read_fault = search rules;
+      write_fault = search rules;
+      too_long = stop_status (left c.args.source.now) c.in-Err-tell_run.stop c.ended_early-in-Err-tell_run.result.status (λ (input : List ℕ). 2 ^ 30 + length (unwrap_or (left c.tell_run.new.source) []) < length input)
+          (c.ended_early-in-Err-tell_run.ensures.status ∙ c.status_of.ensures) c.in-Err-tell_run.ensures.too_long;
+      complete = λ good unread unwritten. search rules;
+    }
