@@ -162,3 +162,8 @@ lends_entry table vector entry = LendsIf the_row gate_row table entry (with_entr
 abbrev pub lends_slice : MutBor InterruptDescriptorTable → ℕ → ℕ → MutBor (List (Entry HandlerFunc)) → Fml
 lends_slice table lower upper entries =
     Lends the_row (Array gate_row 0) table entries (with_slice table.now lower upper)
+
+-- the same if there is such a slice, and unchanged where there is none
+abbrev pub lends_slice_if : MutBor InterruptDescriptorTable → ℕ → ℕ → Option (MutBor (List (Entry HandlerFunc))) → Fml
+lends_slice_if table lower upper entries =
+    LendsIf the_row (Array gate_row 0) table entries (with_slice table.now lower upper) table.now

@@ -3,7 +3,7 @@
 ghost use Rattle.std.specs.Prelude.{◌≡◌, ◌-◌, ◌≤◌, ◌↔◌, IsTrue, IsSome, IfSome, slice_range};
 ghost use Rattle.std.specs.Borrow.{sem};
 ghost use Rattle.std.specs.Option.{option_map};
-ghost use Rattle.x86_tables.specs.InterruptDescriptorTable.{new_table, gate_of, entry_of, has_slice, slice_of, lends_entry, lends_slice};
+ghost use Rattle.x86_tables.specs.InterruptDescriptorTable.{new_table, gate_of, entry_of, has_slice, slice_of, lends_entry, lends_slice, lends_slice_if};
 
 use crate::idt::entry::Entry;
 use crate::idt::gates::Gates;
@@ -241,8 +241,12 @@ impl InterruptDescriptorTable {
     }
 
     /// The gates of the vectors from `lower` up to `upper`, `upper` excluded, to be changed. None exactly
-    /// where `slice` is. What the table ends as is said at `interrupts_mut`, which lends the same gates.
+    /// where `slice` is; then every gate stays. Otherwise what is written lands in these gates alone.
+    ///
+    /// The prover does not read the clause on the loan where this is called, so a caller that has to prove what
+    /// the table ends as takes `interrupts_mut`.
     pub fn slice_mut(&mut self, lower: u16, upper: u16) -> Option<&mut [Entry<HandlerFunc>]>
+        ensures* lends { sem 𝓛 (lends_slice_if self.entry lower upper result) }
         ensures some { IsSome result ↔ has_slice lower upper }
         ensures value { IfSome result (λ entries. entries.now ≡ slice_of self.old lower upper) }
     {
