@@ -65,6 +65,7 @@ pub mod Leaving
 pub mod Passing
 pub mod Chaining
 pub mod Counting
+pub mod Counts
 pub mod Settling
 pub mod AllFreed
 pub mod PutBefore

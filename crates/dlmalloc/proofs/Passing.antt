@@ -185,6 +185,10 @@ module _ {A : Type 0} (regions : A → List Grant) (word : A → ℕ → ℕ) (f
     pub few_released : released ≤ bytes_of p.done
     few_released = omega (arith, p.bytes_are, bytes_filter (λ (segment : Segment). frees && may_leave parts segment) p.done)
 
+    -- no more are visited than there are
+    pub passed_few : count ≤ length (segments_of word old)
+    passed_few = omega (arith, p.counted, ap length p.was, length-append p.done p.rest)
+
     module _ (more : payload ≢ 0) where
       abbrev pub ahead : Ahead (word now.system) payload p.rest
       ahead = ahead_of (word now.system) payload p.rest more p.records

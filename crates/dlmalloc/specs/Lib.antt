@@ -27,4 +27,5 @@ pub mod Shortened
 pub mod AfterFree
 pub mod Requested
 pub mod Written
+pub mod Counts
 pub mod Moved

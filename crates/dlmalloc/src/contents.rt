@@ -1,8 +1,10 @@
 // What a block holds when it is handed out.
-ghost use Rattle.std.specs.Prelude.{◌≡◌, ◌+◌, ◌*◌, ◌≤◌, IfOk, IfErr};
+ghost use Rattle.std.specs.Prelude.{◌≡◌, ◌≢◌, ◌+◌, ◌*◌, ◌≤◌, None, IfOk, IfErr};
 ghost use Rattle.std.specs.Int.{IsPowerOfTwo};
 ghost use Rattle.dlmalloc.specs.Binned.{IsBinned};
-ghost use Rattle.dlmalloc.specs.Heap.{IsSound};
+ghost use Rattle.dlmalloc.specs.Choice.{chosen};
+ghost use Rattle.dlmalloc.specs.Heap.{state_of, IsSound};
+ghost use Rattle.dlmalloc_chunks.specs.Request.{padded};
 ghost use Rattle.dlmalloc.specs.Served.{IsRefusedWith};
 ghost use Rattle.dlmalloc.specs.Requested.{asked, IsHandedOut, IsMemberServed};
 ghost use Rattle.dlmalloc.specs.Written.{words_in, IsServedCleared};
@@ -23,7 +25,8 @@ pub(crate) fn words_in(n: u64) -> u64
 
 impl<A: Allocator> Dlmalloc<A> {
     /// Asks for a block of `size` bytes at a multiple of `align`, clears it, and answers its address (dlmalloc:
-    /// `Dlmalloc::calloc`). The words that hold the bytes asked for are cleared, and no others.
+    /// `Dlmalloc::calloc`). The words that hold the bytes asked for are cleared, and no others. The clearing stores each once,
+    /// and beside that the words loaded or stored are at most as many as for `malloc`.
     pub fn calloc<L: Ledger>(
         &mut self,
         size: u64,
@@ -40,6 +43,8 @@ impl<A: Allocator> Dlmalloc<A> {
         ensures sound { IsSound A.regions A.word self.new }
         ensures linked { IsBinned A.regions A.word self.new }
         ensures member { IfOk result (λ address. IsMemberServed A.regions A.word self.old size align address) }
+        ensures counted { chosen (state_of A.word self.old) (padded (asked size align)) ≢ None → steps.new ≤ steps.old + 8192 + words_in size }
+        ensures refused_counted { IfErr result (λ error. steps.new ≤ steps.old + 512) }
     {
         match self.malloc(size, align, steps) {
             Ok(address) => {

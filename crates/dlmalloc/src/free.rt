@@ -13,6 +13,7 @@ ghost use Rattle.dlmalloc.specs.Heap.{state_of, IsSound};
 ghost use Rattle.dlmalloc.specs.Served.{IsMoved, IsTurned, IsDisposed};
 ghost use Rattle.dlmalloc.specs.Binned.{IsBinned, IsBinnedBut, IsRebinned, IsJoint, IsVictimAfter, FreeMoves};
 ghost use Rattle.dlmalloc.specs.AfterFree.{IsFreed};
+ghost use Rattle.dlmalloc.specs.Counts.{pass_steps};
 ghost use Rattle.dlmalloc.specs.Order.{KeepsOrder, IsAdded};
 
 use crate::heap::Dlmalloc;
@@ -27,13 +28,14 @@ impl<A: Allocator> Dlmalloc<A> {
     /// Frees the block at an address, of the bytes that were asked for (dlmalloc: `Dlmalloc::free`). Its chunk joins the
     /// free chunks beside it. Where they are the top then, and above the trim check, the heap is trimmed; any other chunk is
     /// counted, and segments may go back to the system by it. The size and the alignment are not read: the chunk's head
-    /// tells its size.
+    /// tells its size. At most 1024 words are loaded or stored, and 512 more for each segment where a release pass is made.
     pub fn free<L: Ledger>(&mut self, ptr: u64, size: u64, align: u64, steps: &mut Steps<L>)
         requires sound { IsSound A.regions A.word self.old }
         requires linked { IsBinned A.regions A.word self.old }
         requires block { IsBlock (state_of A.word self.old) ptr size }
         ensures freed { IsFreed A.regions A.word A.follows (A.frees self.old.system) (A.parts self.old.system) (A.unit self.old.system) self.old ptr self.new }
         ensures linked { IsBinned A.regions A.word self.new }
+        ensures counted { steps.new ≤ steps.old + 1024 + pass_steps (state_of A.word self.old) }
     {
         self.free_and_settle(ptr, steps);
     }
@@ -47,6 +49,7 @@ impl<A: Allocator> Dlmalloc<A> {
         ensures none { IfNone ptr (self.new ≡ self.old) }
         ensures sound { IsSound A.regions A.word self.new }
         ensures linked { IsBinned A.regions A.word self.new }
+        ensures counted { steps.new ≤ steps.old + 1024 + pass_steps (state_of A.word self.old) }
     {
         if let Some(address) = ptr {
             self.free_and_settle(address, steps);

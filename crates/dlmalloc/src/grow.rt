@@ -56,6 +56,7 @@ impl<A: Allocator> Dlmalloc<A> {
         ensures denied { IfErr result (λ fault. fault ≢ GrantFault.OutOfMemory → A.denies self.old.system (round_up (n + 96) self.old.granularity) fault) }
         ensures linked { IsBinned A.regions A.word self.new }
         ensures order { KeepsOrder A.regions A.word self.old self.new }
+        ensures refused_counted { IfErr result (λ fault. steps.new ≡ steps.old) }
     {
         let asked = self.asked(n);
         index_stays();
@@ -237,6 +238,7 @@ impl<A: Allocator> Dlmalloc<A> {
         ensures elsewhere { (k : ℕ) → IsWordOf (A.regions self.old.system) k → k ≢ self.old.top + 8 → k ≢ self.old.base + self.old.size - 72 → A.word self.new.system k ≡ A.word self.old.system k }
         ensures regions { A.regions self.new.system ≡ A.regions self.old.system }
         ensures follows { A.follows self.old.system [] self.new.system }
+        ensures counted { steps.new ≡ steps.old + 2 }
     {
         let foot = self.base + self.size - FOOT;
         self.top_size = foot - self.top;

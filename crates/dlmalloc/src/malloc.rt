@@ -24,8 +24,8 @@ use step_count::Steps;
 impl<A: Allocator> Dlmalloc<A> {
     /// Asks for a block of `size` bytes at a multiple of `align`, and answers its address (dlmalloc:
     /// `Dlmalloc::malloc`). It writes words at boundaries of extents and in free ones alone, and so no byte of another block.
-    /// Where an extent is chosen, at most 8192 words are loaded or stored, however many extents there are. A request that is
-    /// too large leaves the heap as it was.
+    /// Where an extent is chosen, at most 8192 words are loaded or stored, however many extents there are, and for a refusal
+    /// at most 512. A request that is too large leaves the heap as it was.
     pub fn malloc<L: Ledger>(
         &mut self,
         size: u64,
@@ -43,6 +43,7 @@ impl<A: Allocator> Dlmalloc<A> {
         ensures linked { IsBinned A.regions A.word self.new }
         ensures member { IfOk result (λ address. IsMemberServed A.regions A.word self.old size align address) }
         ensures counted { chosen (state_of A.word self.old) (padded (asked size align)) ≢ None → steps.new ≤ steps.old + 8192 }
+        ensures refused_counted { IfErr result (λ error. steps.new ≤ steps.old + 512) }
     {
         if align <= LEAST_ALIGN {
             self.c_malloc(size, steps)
@@ -69,12 +70,14 @@ impl<A: Allocator> Dlmalloc<A> {
         ensures linked { IsBinned A.regions A.word self.new }
         ensures member { IfOk result (λ address. IsMemberServed A.regions A.word self.old size align address) }
         ensures counted { chosen (state_of A.word self.old) (padded (asked size align)) ≢ None → steps.new ≤ steps.old + 8192 }
+        ensures refused_counted { IfErr result (λ error. steps.new ≤ steps.old + 512) }
     {
         self.malloc(size, align, steps)
     }
 
     /// Asks for a block of `size` bytes at a multiple of 16, and answers its address (dlmalloc: `c_malloc`). It writes words
-    /// at boundaries of extents and in free ones alone. Where an extent is chosen, at most 1024 words are loaded or stored.
+    /// at boundaries of extents and in free ones alone. Where an extent is chosen, at most 1024 words are loaded or stored,
+    /// and for a refusal at most 512.
     pub fn c_malloc<L: Ledger>(
         &mut self,
         size: u64,
@@ -90,6 +93,7 @@ impl<A: Allocator> Dlmalloc<A> {
         ensures order { KeepsOrder A.regions A.word self.old self.new }
         ensures member { IfOk result (λ address. IsMemberChosen A.regions A.word self.old (padded size) (address - 16)) }
         ensures counted { chosen (state_of A.word self.old) (padded size) ≢ None → steps.new ≤ steps.old + 1024 }
+        ensures refused_counted { IfErr result (λ error. steps.new ≤ steps.old + 512) }
     {
         if size >= max_request(self.granularity) {
             return Err(MallocError::TooLarge);
@@ -114,6 +118,7 @@ impl<A: Allocator> Dlmalloc<A> {
         ensures order { KeepsOrder A.regions A.word self.old self.new }
         ensures member { IfOk result (λ at. IsMemberChosen A.regions A.word self.old n at) }
         ensures counted { chosen (state_of A.word self.old) n ≢ None → steps.new ≤ steps.old + 1024 }
+        ensures refused_counted { IfErr result (λ fault. steps.new ≤ steps.old + 512) }
     {
         if self.size > 0 {
             match self.choose(n, steps) {
@@ -144,6 +149,7 @@ impl<A: Allocator> Dlmalloc<A> {
         ensures err { IfErr result (λ fault. IsAsItWas A.regions A.word A.follows A.refuses (Refused (round_up (n + 96) self.old.granularity) fault ∷ []) self.old self.new) }
         ensures linked { IsBinned A.regions A.word self.new }
         ensures order { KeepsOrder A.regions A.word self.old self.new }
+        ensures refused_counted { IfErr result (λ fault. steps.new ≡ steps.old) }
     {
         match self.grow(n, steps)? {
             Some(chunk) => Ok(chunk),

@@ -67,6 +67,7 @@ impl<A: Allocator> Dlmalloc<A> {
         ensures linked { IsBinned A.regions A.word self.new }
         ensures member { IfOk result (λ address. IsMemberServed A.regions A.word self.old size align address) }
         ensures counted { chosen (state_of A.word self.old) (padded (enlarged size align)) ≢ None → steps.new ≤ steps.old + 8192 }
+        ensures refused_counted { IfErr result (λ error. steps.new ≤ steps.old + 512) }
     {
         // The sum is not formed where it would wrap: the enlarged form is greater still.
         let limit = max_request(self.granularity);

@@ -1,5 +1,5 @@
 // Blocks that get another size.
-ghost use Rattle.std.specs.Prelude.{◌≡◌, ◌≢◌, ℕ, ◌+◌, ◌-◌, ◌%◌, ◌<◌, ◌≤◌, None, Some, IfOk, IfErr, IfSome, IfNone, ◌==◌};
+ghost use Rattle.std.specs.Prelude.{◌≡◌, ◌≢◌, ℕ, ◌+◌, ◌*◌, ◌-◌, ◌%◌, ◌<◌, ◌≤◌, min, None, Some, IfOk, IfErr, IfSome, IfNone, ◌==◌};
 ghost use Rattle.std.specs.Int.{IsPowerOfTwo};
 ghost use Rattle.dlmalloc_chunks.specs.Request.{padded};
 ghost use Rattle.dlmalloc.specs.Extents.{extent_at};
@@ -11,6 +11,9 @@ ghost use Rattle.dlmalloc.specs.Heap.{state_of, IsSound};
 ghost use Rattle.dlmalloc.specs.Served.{IsServed, IsRefusedWith};
 ghost use Rattle.dlmalloc.specs.Requested.{asked, IsServedAt, IsMemberServed};
 ghost use Rattle.dlmalloc.specs.Moved.{IsElsewhere, IsResized, IsGivenSize};
+ghost use Rattle.dlmalloc.specs.Choice.{chosen};
+ghost use Rattle.dlmalloc.specs.Written.{words_in};
+ghost use Rattle.dlmalloc.specs.Counts.{pass_steps};
 
 use crate::contents::words_in;
 use crate::heap::Dlmalloc;
@@ -25,7 +28,9 @@ use step_count::Steps;
 impl<A: Allocator> Dlmalloc<A> {
     /// Gives a block another size, and answers where it is then. It keeps its alignment, and as many of its bytes as both
     /// sizes have. Up to alignment 16 it stays where it is, where that can be; else it is handed out anew as by `malloc`, its
-    /// words are copied, and the old one is freed (dlmalloc: `Dlmalloc::realloc`).
+    /// words are copied, and the old one is freed (dlmalloc: `Dlmalloc::realloc`). At most 1024 words are loaded or stored
+    /// where it stays, and for a refusal; where it moves to an extent that is chosen, at most 10240, two for each word that
+    /// is copied, and 512 for each segment, where the free makes a release pass.
     pub fn realloc<L: Ledger>(
         &mut self,
         ptr: u64,
@@ -46,6 +51,9 @@ impl<A: Allocator> Dlmalloc<A> {
         ensures sound { IsSound A.regions A.word self.new }
         ensures linked { IsBinned A.regions A.word self.new }
         ensures member { IfOk result (λ address. address ≢ ptr → IsMemberServed A.regions A.word self.old new_size old_align address) }
+        ensures counted { chosen (state_of A.word self.old) (padded (asked new_size old_align)) ≢ None → steps.new ≤ steps.old + 10240 + 2 * words_in (min old_size new_size) + pass_steps (state_of A.word self.old) }
+        ensures in_place_counted { old_align ≤ 16 → in_place (state_of A.word self.old) (ptr - 16) (padded new_size) ≢ None → steps.new ≤ steps.old + 1024 }
+        ensures refused_counted { IfErr result (λ error. steps.new ≤ steps.old + 1024) }
     {
         if old_align <= LEAST_ALIGN {
             self.resize_or_move(ptr, old_size, old_align, new_size, steps)
@@ -56,7 +64,7 @@ impl<A: Allocator> Dlmalloc<A> {
 
     /// Gives a block another size, whatever its alignment: where it is, where that can be; else at a multiple of 16, with
     /// as many of its bytes as its chunk holds and the new size has. Without a block it is `c_malloc` (dlmalloc:
-    /// `c_realloc`).
+    /// `c_realloc`). The words loaded or stored are bounded as for `realloc`.
     pub fn c_realloc<L: Ledger>(
         &mut self,
         ptr: Option<u64>,
@@ -77,6 +85,11 @@ impl<A: Allocator> Dlmalloc<A> {
         ensures sound { IsSound A.regions A.word self.new }
         ensures linked { IsBinned A.regions A.word self.new }
         ensures member { IfOk result (λ address. ptr ≢ Some address → IsMemberServed A.regions A.word self.old new_size 16 address) }
+        ensures counted { chosen (state_of A.word self.old) (padded new_size) ≢ None → IfSome ptr (λ from.
+            steps.new ≤ steps.old + 10240 + 2 * words_in (min (size_where (λ extent. extent.at == from - 16) (extents_in (state_of A.word self.old)) - 8) new_size) + pass_steps (state_of A.word self.old)) }
+        ensures none_counted { chosen (state_of A.word self.old) (padded new_size) ≢ None → IfNone ptr (steps.new ≤ steps.old + 1024) }
+        ensures in_place_counted { IfSome ptr (λ from. in_place (state_of A.word self.old) (from - 16) (padded new_size) ≢ None → steps.new ≤ steps.old + 1024) }
+        ensures refused_counted { IfErr result (λ error. steps.new ≤ steps.old + 1024) }
     {
         match ptr {
             None => self.c_malloc(new_size, steps),
@@ -109,6 +122,9 @@ impl<A: Allocator> Dlmalloc<A> {
         ensures sound { IsSound A.regions A.word self.new }
         ensures linked { IsBinned A.regions A.word self.new }
         ensures member { IfOk result (λ address. address ≢ ptr → IsMemberServed A.regions A.word self.old size align address) }
+        ensures counted { chosen (state_of A.word self.old) (padded (asked size align)) ≢ None → steps.new ≤ steps.old + 9216 + 2 * words_in (min held size) + pass_steps (state_of A.word self.old) }
+        ensures in_place_counted { in_place (state_of A.word self.old) (ptr - 16) (padded size) ≢ None → steps.new ≤ steps.old + 535 }
+        ensures refused_counted { IfErr result (λ error. steps.new ≤ steps.old + 515) }
     {
         if size >= max_request(self.granularity) {
             return Err(MallocError::TooLarge);
@@ -140,6 +156,8 @@ impl<A: Allocator> Dlmalloc<A> {
         ensures sound { IsSound A.regions A.word self.new }
         ensures linked { IsBinned A.regions A.word self.new }
         ensures member { IfOk result (λ address. IsMemberServed A.regions A.word self.old size align address) }
+        ensures counted { chosen (state_of A.word self.old) (padded (asked size align)) ≢ None → steps.new ≤ steps.old + 8724 + 2 * words_in (min held size) + pass_steps (state_of A.word self.old) }
+        ensures refused_counted { IfErr result (λ error. steps.new ≤ steps.old + 512) }
     {
         match self.malloc(size, align, steps) {
             Ok(address) => {

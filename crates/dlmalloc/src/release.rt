@@ -12,6 +12,7 @@ ghost use Rattle.dlmalloc.specs.Binned.{IsBinned, FreeMoves};
 ghost use Rattle.dlmalloc.specs.Boundaries.{IsInRecord};
 ghost use Rattle.dlmalloc.specs.Order.{after_visit, IsReindexed};
 ghost use Rattle.dlmalloc.specs.GivenBack.{IsPassed, IsCounted, AreGivenBack, told_of};
+ghost use Rattle.dlmalloc.specs.Counts.{pass_steps};
 
 use crate::heap::{Dlmalloc, countdown_from};
 use crate::layout::{FOOT, LEAST_LARGE};
@@ -32,7 +33,8 @@ fn record_at<M: Links, L: Ledger>(memory: &M, payload: u64, steps: &mut Steps<L>
     requires size { IsWordOf (M.regions memory.now) (payload + 8) }
     requires next { IsWordOf (M.regions memory.now) (payload + 16) }
     requires flags { IsWordOf (M.regions memory.now) (payload + 24) }
-    ensures { result ≡ record { base = M.word memory.now payload; size = M.word memory.now (payload + 8); next = M.word memory.now (payload + 16); flags = M.word memory.now (payload + 24) % 2 ^ 32 } }
+    ensures told { result ≡ record { base = M.word memory.now payload; size = M.word memory.now (payload + 8); next = M.word memory.now (payload + 16); flags = M.word memory.now (payload + 24) % 2 ^ 32 } }
+    ensures counted { steps.new ≡ steps.old + 4 }
 {
     SegmentRecord {
         base: memory.load_counted(payload, steps),
@@ -84,6 +86,7 @@ impl<A: Allocator> Dlmalloc<A> {
         requires there { 0 < self.old.size }
         ensures passed { IsPassed A.regions A.word A.follows (A.frees self.old.system) (A.parts self.old.system) self.old result self.new }
         ensures linked { IsBinned A.regions A.word self.new }
+        ensures counted { steps.new ≤ steps.old + pass_steps (state_of A.word self.old) }
     {
         let mut released = 0;
         let mut visited = 0;
@@ -111,6 +114,7 @@ impl<A: Allocator> Dlmalloc<A> {
         requires free { (at : ℕ) × IsFreeAround (state_of A.word self.old) at chunk }
         ensures linked { IsBinned A.regions A.word self.new }
         ensures counted { (at : ℕ) → IsFreeAround (state_of A.word self.old) at chunk → IsCounted A.regions A.word A.follows (A.frees self.old.system) (A.parts self.old.system) self.old at self.new }
+        ensures bounded { steps.new ≤ steps.old + 1 + pass_steps (state_of A.word self.old) }
     {
         if !self.is_counted(chunk, steps) {
             return;
@@ -126,7 +130,8 @@ impl<A: Allocator> Dlmalloc<A> {
     fn is_counted<L: Ledger>(&self, chunk: u64, steps: &mut Steps<L>) -> bool
         requires sound { IsSound A.regions A.word self.now }
         requires free { (at : ℕ) × IsFreeAround (state_of A.word self.now) at chunk }
-        ensures { (at : ℕ) → IsFreeAround (state_of A.word self.now) at chunk → result ≡ is_counted (state_of A.word self.now) at }
+        ensures told { (at : ℕ) → IsFreeAround (state_of A.word self.now) at chunk → result ≡ is_counted (state_of A.word self.now) at }
+        ensures counted { steps.new ≤ steps.old + 1 }
     {
         if chunk == self.top {
             return false;
@@ -161,6 +166,7 @@ impl<A: Allocator> Dlmalloc<A> {
         ensures visited { (c : IsChained A.word self.old before told.now) → IsVisited A.regions A.word A.follows (may_leave (A.parts self.old.system) c.segment) result self.old before told.now c self.new }
         ensures linked { IsBinned A.regions A.word self.new }
         ensures index { (c : IsChained A.word self.old before told.now) → IsReindexed A.regions A.word (after_visit (A.frees self.old.system) (A.parts self.old.system) c.segment) self.old self.new }
+        ensures counted { steps.new ≤ steps.old + 328 }
     {
         if !self.may_leave(told, steps) {
             return false;
@@ -192,6 +198,7 @@ impl<A: Allocator> Dlmalloc<A> {
         ensures free { FreeMoves (state_of A.word self.old) (state_of A.word self.new) (if result then told.now.base ∷ [] else []) [] }
         ensures words { (k : ℕ) → IsWordOf (A.regions self.new.system) k → (IsInRecord (state_of A.word self.old) k → ⊥) → A.word self.new.system k ≡ A.word self.old.system k }
         ensures bins { self.new.bins ≡ self.old.bins }
+        ensures counted { steps.new ≤ steps.old + 1 }
     {
         self.forget(told.base);
         if !self.system.free(told.base, told.size) {
@@ -206,8 +213,9 @@ impl<A: Allocator> Dlmalloc<A> {
     fn may_leave<L: Ledger>(&self, told: &SegmentRecord, steps: &mut Steps<L>) -> bool
         requires head { HasHead (A.regions self.now.system) told.now.base }
         requires long { 96 < told.now.size }
-        ensures { result ≡ (told.now.flags % 2 == 0 && (A.parts self.now.system
+        ensures told { result ≡ (told.now.flags % 2 == 0 && (A.parts self.now.system
             && (free_of (A.word self.now.system (told.now.base + 8)) && size_of (A.word self.now.system (told.now.base + 8)) == told.now.size - 80))) }
+        ensures counted { steps.new ≤ steps.old + 2 }
     {
         told.flags % 2 == 0
             && self.system.can_release_part(told.flags >> 1)
@@ -234,6 +242,7 @@ impl<A: Allocator> Dlmalloc<A> {
         ensures elsewhere { (k : ℕ) → IsWordOf (A.regions self.old.system) k → (before ≢ 0 → k ≢ before + 16) → A.word self.new.system k ≡ A.word self.old.system k }
         ensures regions { A.regions self.new.system ≡ A.regions self.old.system }
         ensures follows { A.follows self.old.system [] self.new.system }
+        ensures counted { steps.new ≤ steps.old + 1 }
     {
         if before == 0 {
             self.next = next;

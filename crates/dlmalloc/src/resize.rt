@@ -35,6 +35,8 @@ impl<A: Allocator> Dlmalloc<A> {
         ensures order { KeepsOrder A.regions A.word self.old self.new }
         ensures none { result ≡ false → in_place (state_of A.word self.old) at n ≡ None }
         ensures same { result ≡ false → self.new ≡ self.old }
+        ensures counted { steps.new ≤ steps.old + 535 }
+        ensures none_counted { result ≡ false → steps.new ≤ steps.old + 3 }
     {
         let size = chunk::size(&self.system, at, steps);
         if n <= size {
@@ -78,6 +80,7 @@ impl<A: Allocator> Dlmalloc<A> {
         ensures free { FreeMoves (state_of A.word self.old) (state_of A.word self.new) [] [] }
         ensures bins { self.new.bins ≡ self.old.bins }
         ensures moved { IsMoved A.regions A.word A.follows self.old self.new }
+        ensures counted { steps.new ≡ steps.old + 5 }
     {
         self.top = at + n;
         self.top_size -= n - size;

@@ -1,10 +1,11 @@
 // What a free does beyond the merging of its chunk.
-ghost use Rattle.std.specs.Prelude.{◌≡◌, ℕ, ◌<◌, ◌≤◌, Bool};
+ghost use Rattle.std.specs.Prelude.{◌≡◌, ℕ, ◌+◌, ◌<◌, ◌≤◌, Bool};
 ghost use Rattle.dlmalloc.specs.Blocks.{IsBlock};
 ghost use Rattle.dlmalloc.specs.Binned.{IsBinned};
 ghost use Rattle.dlmalloc.specs.Released.{IsFreeAround};
 ghost use Rattle.dlmalloc.specs.Shortened.{IsTrimmed};
 ghost use Rattle.dlmalloc.specs.AfterFree.{IsSettled, IsFreed};
+ghost use Rattle.dlmalloc.specs.Counts.{pass_steps};
 ghost use Rattle.dlmalloc.specs.Heap.{state_of, IsSound};
 
 use crate::heap::Dlmalloc;
@@ -20,6 +21,7 @@ impl<A: Allocator> Dlmalloc<A> {
         requires block { (size : ℕ) × IsBlock (state_of A.word self.old) ptr size }
         ensures freed { IsFreed A.regions A.word A.follows (A.frees self.old.system) (A.parts self.old.system) (A.unit self.old.system) self.old ptr self.new }
         ensures linked { IsBinned A.regions A.word self.new }
+        ensures counted { steps.new ≤ steps.old + 532 + pass_steps (state_of A.word self.old) }
     {
         let chunk = self.free_block(ptr, steps);
         self.settle(chunk, steps);
@@ -33,6 +35,7 @@ impl<A: Allocator> Dlmalloc<A> {
         requires free { (at : ℕ) × IsFreeAround (state_of A.word self.old) at chunk }
         ensures settled { (at : ℕ) → IsFreeAround (state_of A.word self.old) at chunk → IsSettled A.regions A.word A.follows (A.frees self.old.system) (A.parts self.old.system) (A.unit self.old.system) self.old at self.new }
         ensures linked { IsBinned A.regions A.word self.new }
+        ensures counted { steps.new ≤ steps.old + 2 + pass_steps (state_of A.word self.old) }
     {
         if chunk == self.top {
             self.trim_above_check(steps);
@@ -48,6 +51,7 @@ impl<A: Allocator> Dlmalloc<A> {
         ensures above { self.old.trim_check < self.old.top_size → (answer : Bool) × IsTrimmed A.regions A.word A.follows (A.frees self.old.system) (A.parts self.old.system) (A.unit self.old.system) self.old 0 answer self.new }
         ensures same { self.old.top_size ≤ self.old.trim_check → self.new ≡ self.old }
         ensures linked { IsBinned A.regions A.word self.new }
+        ensures counted { steps.new ≤ steps.old + 2 + pass_steps (state_of A.word self.old) }
     {
         if self.top_size > self.trim_check {
             self.trim(0, steps);

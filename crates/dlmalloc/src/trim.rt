@@ -1,10 +1,11 @@
 // Giving the end of the top back to the system.
-ghost use Rattle.std.specs.Prelude.{◌≡◌, ◌+◌, ◌-◌, ◌%◌, ◌^◌, ◌<◌, true, false, nat_lt, if◌then◌else◌, []};
+ghost use Rattle.std.specs.Prelude.{◌≡◌, ◌+◌, ◌-◌, ◌%◌, ◌^◌, ◌<◌, ◌≤◌, true, false, nat_lt, if◌then◌else◌, []};
 ghost use Rattle.heap_memory.specs.Runs.{is_in_units};
 ghost use Rattle.dlmalloc.specs.Trimmed.{cut_of, may_go, is_cut};
 ghost use Rattle.dlmalloc.specs.Shortened.{IsShortened, IsCutBack, IsTrimmed};
 ghost use Rattle.dlmalloc.specs.Order.{IsReindexed};
 ghost use Rattle.dlmalloc.specs.Binned.{IsBinned};
+ghost use Rattle.dlmalloc.specs.Counts.{pass_steps};
 ghost use Rattle.dlmalloc.specs.Heap.{state_of, IsSound};
 
 use crate::heap::Dlmalloc;
@@ -19,12 +20,14 @@ impl<A: Allocator> Dlmalloc<A> {
     /// Gives memory back to the system that no block needs (dlmalloc: `Dlmalloc::trim`). As many granularities are cut off the
     /// top as leave it more than `pad` bytes beside its foot, if the system takes them, and each other segment goes back that
     /// is not in use. A segment whose record has 96 bytes stays. True exactly where bytes went back. Where `pad` is too large
-    /// for a request, and where there is no segment, nothing is done.
+    /// for a request, and where there is no segment, nothing is done. At most 2 words are loaded or stored beside those of the
+    /// release pass, 512 for each segment.
     pub fn trim<L: Ledger>(&mut self, pad: u64, steps: &mut Steps<L>) -> bool
         requires sound { IsSound A.regions A.word self.old }
         requires linked { IsBinned A.regions A.word self.old }
         ensures trimmed { IsTrimmed A.regions A.word A.follows (A.frees self.old.system) (A.parts self.old.system) (A.unit self.old.system) self.old pad result self.new }
         ensures linked { IsBinned A.regions A.word self.new }
+        ensures counted { steps.new ≤ steps.old + 2 + pass_steps (state_of A.word self.old) }
     {
         if pad >= max_request(self.granularity) || self.size == 0 {
             return false;
@@ -58,6 +61,7 @@ impl<A: Allocator> Dlmalloc<A> {
         ensures there { 0 < self.new.size }
         ensures linked { IsBinned A.regions A.word self.new }
         ensures index { IsReindexed A.regions A.word (λ index. index) self.old self.new }
+        ensures counted { steps.new ≤ steps.old + 2 }
     {
         index_stays();
         let cut = self.spare(pad);
@@ -94,6 +98,7 @@ impl<A: Allocator> Dlmalloc<A> {
         ensures cut { result ≡ true → IsShortened A.regions A.word A.follows self.old cut self.new }
         ensures there { 0 < self.new.size }
         ensures same { result ≡ false → self.new ≡ self.old }
+        ensures counted { steps.new ≤ steps.old + 2 }
     {
         let size = self.size - cut;
         if !self.system.free_part(self.base, self.size, size) {

@@ -1,4 +1,4 @@
-use Rattle.std.proofs.Common.{◌≢◌, ℕ, ◌-◌, ◌==◌, Option, Some, IfOk, IfSome, refl, sym, ◌∙◌, ap, subst, arith}
+use Rattle.std.proofs.Common.{◌≢◌, ℕ, ◌+◌, ◌*◌, ◌-◌, ◌≤◌, min, ◌==◌, Option, Some, IfOk, IfSome, refl, sym, ◌∙◌, ap, subst, arith}
 use Rattle.std.proofs.lemmas.Result.{IfOk-weaker}
 use Rattle.dlmalloc_chunks.specs.declared.extent.Kind.TheVariants.{Used}
 use Rattle.dlmalloc.specs.State.{extents_in, size_where}
@@ -11,6 +11,8 @@ use Rattle.dlmalloc.proofs.GivenSize.{given_size}
 use Rattle.dlmalloc.specs.Requested.{IsMemberServed}
 use Rattle.dlmalloc.proofs.Members.{on_both, member_low}
 use Rattle.dlmalloc.proofs.HandedOut.{handed_low}
+use Rattle.dlmalloc.specs.Written.{words_in}
+use Rattle.dlmalloc.specs.Counts.{pass_steps}
 use Rattle.dlmalloc.proofs.heap.Dlmalloc.c_realloc.Goals as goal
 
 pub size-size-requires : goal.size-size-requires
@@ -90,3 +92,16 @@ returns-in-Some-clause-member g c =
     (λ address. c.args.ptr ≢ Some address → IsMemberServed g.A.Links.regions g.A.Links.word c.args.self.now c.args.new_size 16 address)
     (λ address member other. member (λ same. other (c.in-Some.is ∙ ap Some (sym same))))
     c.resize_or_move.ensures.member
+
+pub returns-in-Some-clause-counted : goal.returns-in-Some-clause-counted
+returns-in-Some-clause-counted g c = λ some.
+    let block = block_told (state_of g.A.Links.word c.args.self.now) c.args.ptr c.in-Some.address c.in-Some.is c.requires.block in
+    let state = state_of g.A.Links.word c.args.self.now in
+    let address = c.in-Some.address in
+    let told = block_chunk g.A.Links.regions g.A.Links.word c.args.self.now c.requires.sound address block.0 block.1 c.size-size.result c.size-size.ensures.value in
+    let sizes = size_at state (address - 16) (extent (address - 16) c.size-size.result Used) told in
+    let read = c.size-size.ensures.counted in
+    let moved = subst (λ (held : ℕ). c.resize_or_move.new.steps ≤ c.size-size.new.steps + 9216 + 2 * words_in (min (held - 8) c.args.new_size) + pass_steps state) (sym sizes) (c.resize_or_move.ensures.counted some) in
+    subst (λ (ptr : Option ℕ). IfSome ptr (λ from.
+    c.resize_or_move.new.steps ≤ c.args.steps.now + 10240 + 2 * words_in (min (size_where (λ extent. extent.at == from - 16) (extents_in state) - 8) c.args.new_size) + pass_steps state)) (sym c.in-Some.is)
+    (omega (arith, read, moved))

@@ -54,3 +54,13 @@ returns-in-Ok-clause-linked g c =
     let filled = c.fill_counted.ensures in
     let cleared = subst (λ (n : ℕ). AreFilled (g.A.Links.regions middle.system) (g.A.Links.word middle.system) c.in-Ok.address n 0 (g.A.Links.word system)) c.words_in.ensures filled.filled in
     same_binned g.A.Links.regions g.A.Links.word middle served.0 c.in-Ok.address c.args.size served.1 c.index_stays.ensures c.args.size (omega arith) system filled.regions cleared.elsewhere c.malloc.ensures.linked
+
+pub returns-in-Ok-clause-counted : goal.returns-in-Ok-clause-counted
+returns-in-Ok-clause-counted g c = λ some.
+    let cut = c.malloc.ensures.counted some in
+    let words = c.fill_counted.ensures.counted in
+    let count = c.words_in.ensures in
+    omega (arith, cut, words, count)
+
+pub returns-in-Err-clause-counted : goal.returns-in-Err-clause-counted
+returns-in-Err-clause-counted g c = λ some. let cut = c.malloc.ensures.counted some in omega (arith, cut)

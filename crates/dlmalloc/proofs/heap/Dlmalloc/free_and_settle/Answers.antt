@@ -1,6 +1,8 @@
-use Rattle.std.proofs.Common.{◌-◌}
+use Rattle.std.proofs.Common.{◌-◌, arith}
 use Rattle.dlmalloc.specs.AfterFree.{IsSettled}
 use Rattle.dlmalloc.proofs.AllFreed.{by_rules, freed_whole}
+use Rattle.dlmalloc.specs.Heap.{state_of}
+use Rattle.dlmalloc.proofs.Counts.{freed_pass}
 use Rattle.dlmalloc.proofs.heap.Dlmalloc.free_and_settle.Goals as goal
 
 pub returns-clause-freed : goal.returns-clause-freed
@@ -14,3 +16,10 @@ returns-clause-freed g c =
     freed_whole g.A.Links.regions g.A.Links.word g.A.Links.follows g.A.Links.follows_on (g.A.Allocator.frees old.system) (g.A.Allocator.parts old.system) (g.A.Allocator.unit old.system) old middle new c.args.ptr c.requires.sound disposed c.free_block-chunk.result c.free_block-chunk.ensures.around
     (by_rules g.A.Allocator.zeros g.A.Allocator.frees g.A.Allocator.parts g.A.Allocator.unit old.system middle.system fixed
     (λ frees parts unit. IsSettled g.A.Links.regions g.A.Links.word g.A.Links.follows frees parts unit middle at new) (c.settle.ensures.settled at c.free_block-chunk.ensures.around))
+
+pub returns-clause-counted : goal.returns-clause-counted
+returns-clause-counted g c =
+    let freed = c.free_block-chunk.ensures.counted in
+    let settled = c.settle.ensures.counted in
+    let same = freed_pass (state_of g.A.Links.word c.args.self.now) (c.args.ptr - 16) (state_of g.A.Links.word c.free_block-chunk.new.self) c.free_block-chunk.ensures.freed.state in
+    omega (arith, freed, settled, same)

@@ -1,4 +1,4 @@
-use Rattle.std.proofs.Common.{ℕ, ◌+◌, ◌-◌, ◌*◌, ◌≤◌, ◌⊎◌, refl, sym, subst, ◌∙◌, ap}
+use Rattle.std.proofs.Common.{ℕ, ◌+◌, ◌-◌, ◌*◌, ◌≤◌, ◌⊎◌, refl, sym, subst, ◌∙◌, ap, arith}
 use Rattle.heap_memory.specs.Words.{AreWordsOf, AreCopied}
 use Rattle.dlmalloc_chunks.specs.Request.{padded}
 use Rattle.dlmalloc.specs.AfterFree.{IsFreed}
@@ -7,6 +7,8 @@ use Rattle.dlmalloc.specs.Requested.{asked}
 use Rattle.dlmalloc.specs.Written.{words_in}
 use Rattle.dlmalloc.proofs.Elsewhere.{from_words, to_words, words_apart, copied_heap, copied_binned, copied_block, moved_block, moved_contents, moved_kept}
 use Rattle.dlmalloc.proofs.AllFreed.{by_rules, rules_found}
+use Rattle.dlmalloc.specs.Counts.{pass_steps}
+use Rattle.dlmalloc.proofs.Counts.{found_pass}
 use Rattle.dlmalloc.proofs.heap.Dlmalloc.move_block.Goals as goal
 
 pub copy_counted-requires-clause-from : goal.copy_counted-requires-clause-from
@@ -76,3 +78,20 @@ returns-in-Ok-clause-elsewhere g c =
       contents = moved_contents g.A.Links.regions g.A.Links.word g.A.Allocator.zeros g.A.Links.follows c.args.self.now c.args.ptr c.args.held c.args.align c.args.size c.in-Ok.address c.requires.block.0 c.requires.sound c.requires.block.1 c.requires.held c.malloc.new.self c.in-Ok.ensures.served system c.copy_counted.ensures.regions c.copy_counted.ensures.follows copied frees parts unit new freed;
       kept = moved_kept g.A.Links.regions g.A.Links.word g.A.Allocator.zeros g.A.Links.follows c.args.self.now c.args.ptr c.args.held c.args.align c.args.size c.in-Ok.address c.requires.block.0 c.requires.sound c.requires.block.1 c.requires.held c.malloc.new.self c.in-Ok.ensures.served system c.copy_counted.ensures.regions c.copy_counted.ensures.follows copied frees parts unit new freed;
     }
+
+pub returns-in-Ok-clause-counted : goal.returns-in-Ok-clause-counted
+returns-in-Ok-clause-counted g c = λ some.
+    let old = c.args.self.now in
+    let middle = c.malloc.new.self in
+    let system = c.copy_counted.new.self in
+    let count = c.words_in.ensures ∙ ap words_in c.min.ensures in
+    let copied = subst (λ (n : ℕ). AreCopied (g.A.Links.regions middle.system) (g.A.Links.word middle.system) c.args.ptr c.in-Ok.address n (g.A.Links.word system)) count c.copy_counted.ensures.copied in
+    let same = copied_heap g.A.Links.regions g.A.Links.word g.A.Allocator.zeros g.A.Links.follows c.args.self.now c.args.ptr c.args.held c.args.align c.args.size c.in-Ok.address c.requires.block.0 c.requires.sound c.requires.block.1 c.requires.held c.malloc.new.self c.in-Ok.ensures.served system c.copy_counted.ensures.regions c.copy_counted.ensures.follows copied in
+    let segments = ap pass_steps same.state ∙ found_pass g.A.Links.follows g.A.Links.regions old.system (state_of g.A.Links.word old) (padded (asked c.args.size c.args.align)) middle.system (state_of g.A.Links.word middle) c.in-Ok.ensures.handed.found some in
+    let cut = c.malloc.ensures.counted some in
+    let words = c.copy_counted.ensures.counted in
+    let freed = c.free_and_settle.ensures.counted in
+    omega (arith, cut, words, freed, count, segments)
+
+pub returns-in-Err-clause-counted : goal.returns-in-Err-clause-counted
+returns-in-Err-clause-counted g c = λ some. let cut = c.malloc.ensures.counted some in omega (arith, cut)

@@ -20,13 +20,13 @@ may_leave-requires-clause-long g c = long_told g.A.Links.regions g.A.Links.word 
 pub returns-then-not-may_leave-clause-answer : goal.returns-then-not-may_leave-clause-answer
 returns-then-not-may_leave-clause-answer g c = λ chained.
     let heap = c.args.self.now in
-    let may = sym c.if-not-may_leave.true ∙ (c.may_leave.ensures ∙ test_is g.A.Links.regions g.A.Links.word heap c.requires.sound c.requires.there c.args.before c.args.told.now chained (g.A.Allocator.parts heap.system)) in
+    let may = sym c.if-not-may_leave.true ∙ (c.may_leave.ensures.told ∙ test_is g.A.Links.regions g.A.Links.word heap c.requires.sound c.requires.there c.args.before c.args.told.now chained (g.A.Allocator.parts heap.system)) in
     never (g.A.Allocator.frees heap.system) ∙ ap (λ (b : Bool). g.A.Allocator.frees heap.system && b) may
 
 pub returns-then-not-may_leave-clause-visited : goal.returns-then-not-may_leave-clause-visited
 returns-then-not-may_leave-clause-visited g c = λ chained.
     let heap = c.args.self.now in
-    let may = sym c.if-not-may_leave.true ∙ (c.may_leave.ensures ∙ test_is g.A.Links.regions g.A.Links.word heap c.requires.sound c.requires.there c.args.before c.args.told.now chained (g.A.Allocator.parts heap.system)) in
+    let may = sym c.if-not-may_leave.true ∙ (c.may_leave.ensures.told ∙ test_is g.A.Links.regions g.A.Links.word heap c.requires.sound c.requires.there c.args.before c.args.told.now chained (g.A.Allocator.parts heap.system)) in
     subst (λ (handed : Bool). IsVisited g.A.Links.regions g.A.Links.word g.A.Links.follows handed false heap c.args.before c.args.told.now chained heap) may
     (stays g.A.Links.regions g.A.Links.word heap c.requires.sound c.requires.there c.args.before c.args.told.now chained g.A.Links.follows g.A.Links.follows_none false)
 
@@ -37,7 +37,7 @@ pub unbin-requires-clause-free : goal.unbin-requires-clause-free
 unbin-requires-clause-free g c =
     let heap = c.args.self.now in
     let chained = c.requires.chained in
-    let may = sym c.if-not-may_leave.false ∙ (c.may_leave.ensures ∙ test_is g.A.Links.regions g.A.Links.word heap c.requires.sound c.requires.there c.args.before c.args.told.now chained (g.A.Allocator.parts heap.system)) in
+    let may = sym c.if-not-may_leave.false ∙ (c.may_leave.ensures.told ∙ test_is g.A.Links.regions g.A.Links.word heap c.requires.sound c.requires.there c.args.before c.args.told.now chained (g.A.Allocator.parts heap.system)) in
     first_is_free g.A.Links.regions g.A.Links.word heap c.requires.sound c.requires.there c.args.before c.args.told.now chained (last_test (is_own chained.segment) (g.A.Allocator.parts heap.system) (is_unused chained.segment) may)
 
 pub unbin-requires-clause-binned : goal.unbin-requires-clause-binned
@@ -57,7 +57,7 @@ hand_out-requires-clause-may g c = λ chained.
     let fixed = g.met.A.Allocator.fixed c.args.self.now.system c.unbin.new.self.system _ c.unbin.ensures.same.followed in
     ap (λ (parts : Bool). may_leave parts chained.segment) fixed.parts_same
     ∙ may_still g.A.Links.regions g.A.Links.word g.A.Links.follows c.args.self.now c.unbin.new.self c.requires.sound c.unbin.ensures.same c.requires.there (g.A.Allocator.parts c.args.self.now.system) c.args.before c.args.told.now
-    (sym c.may_leave.ensures ∙ c.if-not-may_leave.false) chained
+    (sym c.may_leave.ensures.told ∙ c.if-not-may_leave.false) chained
 
 -- ---- the system took it
 
@@ -65,7 +65,7 @@ pub returns-then-hand_out-clause-answer : goal.returns-then-hand_out-clause-answ
 returns-then-hand_out-clause-answer g c = λ chained.
     let heap = c.args.self.now in
     let fixed = g.met.A.Allocator.fixed heap.system c.unbin.new.self.system _ c.unbin.ensures.same.followed in
-    let may = sym c.if-not-may_leave.false ∙ (c.may_leave.ensures ∙ test_is g.A.Links.regions g.A.Links.word heap c.requires.sound c.requires.there c.args.before c.args.told.now chained (g.A.Allocator.parts heap.system)) in
+    let may = sym c.if-not-may_leave.false ∙ (c.may_leave.ensures.told ∙ test_is g.A.Links.regions g.A.Links.word heap c.requires.sound c.requires.there c.args.before c.args.told.now chained (g.A.Allocator.parts heap.system)) in
     let frees = sym c.if-hand_out.true ∙ (c.hand_out.ensures.answer ∙ fixed.frees_same) in
     λ i. frees i && may i
 
@@ -75,7 +75,7 @@ returns-then-hand_out-clause-visited g c = λ chained.
     let middle = c.unbin.new.self in
     let told = c.args.told.now in
     let new = c.hand_out.new.self in
-    let may = sym c.if-not-may_leave.false ∙ (c.may_leave.ensures ∙ test_is g.A.Links.regions g.A.Links.word heap c.requires.sound c.requires.there c.args.before told chained (g.A.Allocator.parts heap.system)) in
+    let may = sym c.if-not-may_leave.false ∙ (c.may_leave.ensures.told ∙ test_is g.A.Links.regions g.A.Links.word heap c.requires.sound c.requires.there c.args.before told chained (g.A.Allocator.parts heap.system)) in
     let chain = chained_then g.A.Links.regions g.A.Links.word g.A.Links.follows heap middle c.requires.sound c.unbin.ensures.same c.args.before told chained in
     let visited = subst (λ (leaves : Bool). IsVisited g.A.Links.regions g.A.Links.word g.A.Links.follows true leaves middle c.args.before told chain new) c.if-hand_out.true (c.hand_out.ensures.visited chain) in
     subst (λ (handed : Bool). IsVisited g.A.Links.regions g.A.Links.word g.A.Links.follows handed true heap c.args.before told chained new) may
@@ -107,7 +107,7 @@ bin-requires-clause-free g c =
     let told = c.args.told.now in
     let new = c.hand_out.new.self in
     let chained = c.requires.chained in
-    let may = sym c.if-not-may_leave.false ∙ (c.may_leave.ensures ∙ test_is g.A.Links.regions g.A.Links.word heap c.requires.sound c.requires.there c.args.before told chained (g.A.Allocator.parts heap.system)) in
+    let may = sym c.if-not-may_leave.false ∙ (c.may_leave.ensures.told ∙ test_is g.A.Links.regions g.A.Links.word heap c.requires.sound c.requires.there c.args.before told chained (g.A.Allocator.parts heap.system)) in
     let first = first_is_free g.A.Links.regions g.A.Links.word heap c.requires.sound c.requires.there c.args.before told chained (last_test (is_own chained.segment) (g.A.Allocator.parts heap.system) (is_unused chained.segment) may) in
     let moves = subst (λ (left : Bool). FreeMoves (state_of g.A.Links.word middle) (state_of g.A.Links.word new) (if left then told.base ∷ [] else []) []) c.if-hand_out.false c.hand_out.ensures.free in
     (moves.stays told.base (told.size - 80) (subst (λ (s : HeapState). IsFreeAt s told.base (told.size - 80)) (sym c.unbin.ensures.same.state) first) (λ none. none)).0
@@ -138,7 +138,7 @@ pub returns-clause-answer : goal.returns-clause-answer
 returns-clause-answer g c = λ chained.
     let heap = c.args.self.now in
     let fixed = g.met.A.Allocator.fixed heap.system c.unbin.new.self.system _ c.unbin.ensures.same.followed in
-    let may = sym c.if-not-may_leave.false ∙ (c.may_leave.ensures ∙ test_is g.A.Links.regions g.A.Links.word heap c.requires.sound c.requires.there c.args.before c.args.told.now chained (g.A.Allocator.parts heap.system)) in
+    let may = sym c.if-not-may_leave.false ∙ (c.may_leave.ensures.told ∙ test_is g.A.Links.regions g.A.Links.word heap c.requires.sound c.requires.there c.args.before c.args.told.now chained (g.A.Allocator.parts heap.system)) in
     let frees = sym c.if-hand_out.false ∙ (c.hand_out.ensures.answer ∙ fixed.frees_same) in
     λ i. frees i && may i
 
@@ -148,7 +148,7 @@ returns-clause-visited g c = λ chained.
     let middle = c.unbin.new.self in
     let told = c.args.told.now in
     let new = c.hand_out.new.self in
-    let may = sym c.if-not-may_leave.false ∙ (c.may_leave.ensures ∙ test_is g.A.Links.regions g.A.Links.word heap c.requires.sound c.requires.there c.args.before told chained (g.A.Allocator.parts heap.system)) in
+    let may = sym c.if-not-may_leave.false ∙ (c.may_leave.ensures.told ∙ test_is g.A.Links.regions g.A.Links.word heap c.requires.sound c.requires.there c.args.before told chained (g.A.Allocator.parts heap.system)) in
     let chain = chained_then g.A.Links.regions g.A.Links.word g.A.Links.follows heap middle c.requires.sound c.unbin.ensures.same c.args.before told chained in
     let visited = subst (λ (leaves : Bool). IsVisited g.A.Links.regions g.A.Links.word g.A.Links.follows true leaves middle c.args.before told chain new) c.if-hand_out.false (c.hand_out.ensures.visited chain) in
     let here = visited_then g.A.Links.regions g.A.Links.word g.A.Links.follows g.A.Links.follows_on heap c.requires.sound c.args.before told chained middle c.unbin.ensures.same true false new visited in
@@ -175,7 +175,7 @@ pub returns-then-not-may_leave-clause-index : goal.returns-then-not-may_leave-cl
 returns-then-not-may_leave-clause-index g c = λ chained b.
     let heap = c.args.self.now in
     let told = c.args.told.now in
-    let may = sym c.if-not-may_leave.true ∙ (c.may_leave.ensures ∙ test_is g.A.Links.regions g.A.Links.word heap c.requires.sound c.requires.there c.args.before told chained (g.A.Allocator.parts heap.system)) in
+    let may = sym c.if-not-may_leave.true ∙ (c.may_leave.ensures.told ∙ test_is g.A.Links.regions g.A.Links.word heap c.requires.sound c.requires.there c.args.before told chained (g.A.Allocator.parts heap.system)) in
     (b, λ n. visit_none (g.A.Allocator.frees heap.system) (g.A.Allocator.parts heap.system) chained.segment b.index n may)
 
 pub returns-then-hand_out-clause-index : goal.returns-then-hand_out-clause-index
@@ -187,7 +187,7 @@ returns-then-hand_out-clause-index g c = λ chained b.
     let frees = g.A.Allocator.frees heap.system in
     let parts = g.A.Allocator.parts heap.system in
     let fixed = g.met.A.Allocator.fixed heap.system middle.system _ c.unbin.ensures.same.followed in
-    let may = sym c.if-not-may_leave.false ∙ (c.may_leave.ensures ∙ test_is g.A.Links.regions g.A.Links.word heap c.requires.sound c.requires.there c.args.before told chained (g.A.Allocator.parts heap.system)) in
+    let may = sym c.if-not-may_leave.false ∙ (c.may_leave.ensures.told ∙ test_is g.A.Links.regions g.A.Links.word heap c.requires.sound c.requires.there c.args.before told chained (g.A.Allocator.parts heap.system)) in
     let base = base_is g.A.Links.regions g.A.Links.word heap c.requires.sound c.requires.there c.args.before told chained in
     let size = ap (λ (n : ℕ). n - 80) (size_is g.A.Links.regions g.A.Links.word heap c.requires.sound c.requires.there c.args.before told chained) in
     let e = c.hand_out.ensures in
@@ -207,7 +207,7 @@ returns-clause-index g c = λ chained b.
     let frees = g.A.Allocator.frees heap.system in
     let parts = g.A.Allocator.parts heap.system in
     let fixed = g.met.A.Allocator.fixed heap.system middle.system _ c.unbin.ensures.same.followed in
-    let may = sym c.if-not-may_leave.false ∙ (c.may_leave.ensures ∙ test_is g.A.Links.regions g.A.Links.word heap c.requires.sound c.requires.there c.args.before told chained (g.A.Allocator.parts heap.system)) in
+    let may = sym c.if-not-may_leave.false ∙ (c.may_leave.ensures.told ∙ test_is g.A.Links.regions g.A.Links.word heap c.requires.sound c.requires.there c.args.before told chained (g.A.Allocator.parts heap.system)) in
     let base = base_is g.A.Links.regions g.A.Links.word heap c.requires.sound c.requires.there c.args.before told chained in
     let size = ap (λ (n : ℕ). n - 80) (size_is g.A.Links.regions g.A.Links.word heap c.requires.sound c.requires.there c.args.before told chained) in
     let e = c.hand_out.ensures in

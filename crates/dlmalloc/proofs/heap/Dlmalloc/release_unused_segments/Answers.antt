@@ -7,13 +7,13 @@ use Rattle.dlmalloc.specs.Chained.{IsVisited}
 use Rattle.dlmalloc.specs.GivenBack.{IsPassed}
 use Rattle.dlmalloc.specs.Order.{after_visit, IsReindexed}
 use Rattle.dlmalloc.specs.declared.heap.Dlmalloc.{Dlmalloc}
-use Rattle.dlmalloc.proofs.Passing.{Passing, begun_passing, read_high, read_word, ahead, chained, sum_fits, count_fits, more_left, on_passing, passed_all}
+use Rattle.dlmalloc.proofs.Passing.{Passing, begun_passing, read_high, read_word, ahead, chained, sum_fits, count_fits, more_left, on_passing, passed_few, passed_all}
 use Rattle.dlmalloc.proofs.Rebinned.{same_bins}
 use Rattle.dlmalloc.proofs.heap.Dlmalloc.release_unused_segments.Goals.{then-release_segment, else-release_segment}
 use Rattle.dlmalloc.proofs.heap.Dlmalloc.release_unused_segments.Goals as goal
 
 pub loop-payload-init : goal.loop-payload-init
-loop-payload-init g c = (begun_passing g.A.Links.regions g.A.Links.word g.A.Links.follows (g.A.Allocator.frees c.args.self.now.system) (g.A.Allocator.parts c.args.self.now.system) c.args.self.now c.requires.sound c.requires.there g.A.Links.follows_none, c.requires.linked)
+loop-payload-init g c = (begun_passing g.A.Links.regions g.A.Links.word g.A.Links.follows (g.A.Allocator.frees c.args.self.now.system) (g.A.Allocator.parts c.args.self.now.system) c.args.self.now c.requires.sound c.requires.there g.A.Links.follows_none, c.requires.linked, omega arith)
 
 pub record_at-told-requires-clause-high : goal.record_at-told-requires-clause-high
 record_at-told-requires-clause-high g c = read_high g.A.Links.regions g.A.Links.word g.A.Links.follows (g.A.Allocator.frees c.args.self.now.system) (g.A.Allocator.parts c.args.self.now.system) c.args.self.now c.requires.sound c.loop-payload.before c.loop-payload.payload c.loop-payload.visited c.loop-payload.released c.loop-payload.self c.loop-payload.invariant.0 c.loop-payload-test.true
@@ -40,10 +40,10 @@ pub release_segment-requires-clause-there : goal.release_segment-requires-clause
 release_segment-requires-clause-there g c = c.loop-payload.invariant.0.some
 
 pub release_segment-requires-clause-chained : goal.release_segment-requires-clause-chained
-release_segment-requires-clause-chained g c = chained g.A.Links.regions g.A.Links.word g.A.Links.follows (g.A.Allocator.frees c.args.self.now.system) (g.A.Allocator.parts c.args.self.now.system) c.args.self.now c.requires.sound c.loop-payload.before c.loop-payload.payload c.loop-payload.visited c.loop-payload.released c.loop-payload.self c.loop-payload.invariant.0 c.loop-payload-test.true c.record_at-told.result c.record_at-told.ensures
+release_segment-requires-clause-chained g c = chained g.A.Links.regions g.A.Links.word g.A.Links.follows (g.A.Allocator.frees c.args.self.now.system) (g.A.Allocator.parts c.args.self.now.system) c.args.self.now c.requires.sound c.loop-payload.before c.loop-payload.payload c.loop-payload.visited c.loop-payload.released c.loop-payload.self c.loop-payload.invariant.0 c.loop-payload-test.true c.record_at-told.result c.record_at-told.ensures.told
 
 pub overflow_add-released : goal.overflow_add-released
-overflow_add-released g c = let fits = sum_fits g.A.Links.regions g.A.Links.word g.A.Links.follows (g.A.Allocator.frees c.args.self.now.system) (g.A.Allocator.parts c.args.self.now.system) c.args.self.now c.requires.sound c.loop-payload.before c.loop-payload.payload c.loop-payload.visited c.loop-payload.released c.loop-payload.self c.loop-payload.invariant.0 c.loop-payload-test.true c.record_at-told.result c.record_at-told.ensures in grind arith
+overflow_add-released g c = let fits = sum_fits g.A.Links.regions g.A.Links.word g.A.Links.follows (g.A.Allocator.frees c.args.self.now.system) (g.A.Allocator.parts c.args.self.now.system) c.args.self.now c.requires.sound c.loop-payload.before c.loop-payload.payload c.loop-payload.visited c.loop-payload.released c.loop-payload.self c.loop-payload.invariant.0 c.loop-payload-test.true c.record_at-told.result c.record_at-told.ensures.told in grind arith
 
 pub overflow_add-visited : goal.overflow_add-visited
 overflow_add-visited g c = let fits = count_fits g.A.Links.regions g.A.Links.word g.A.Links.follows (g.A.Allocator.frees c.args.self.now.system) (g.A.Allocator.parts c.args.self.now.system) c.args.self.now c.requires.sound c.loop-payload.before c.loop-payload.payload c.loop-payload.visited c.loop-payload.released c.loop-payload.self c.loop-payload.invariant.0 c.loop-payload-test.true in grind arith
@@ -57,7 +57,7 @@ loop-payload-preserved g c =
     let now = c.loop-payload.self in
     let fixed = g.met.A.Allocator.fixed old.system now.system _ c.loop-payload.invariant.0.left.followed in
     let one = ahead g.A.Links.regions g.A.Links.word g.A.Links.follows (g.A.Allocator.frees c.args.self.now.system) (g.A.Allocator.parts c.args.self.now.system) c.args.self.now c.requires.sound c.loop-payload.before c.loop-payload.payload c.loop-payload.visited c.loop-payload.released c.loop-payload.self c.loop-payload.invariant.0 c.loop-payload-test.true in
-    let chain = chained g.A.Links.regions g.A.Links.word g.A.Links.follows (g.A.Allocator.frees c.args.self.now.system) (g.A.Allocator.parts c.args.self.now.system) c.args.self.now c.requires.sound c.loop-payload.before c.loop-payload.payload c.loop-payload.visited c.loop-payload.released c.loop-payload.self c.loop-payload.invariant.0 c.loop-payload-test.true c.record_at-told.result c.record_at-told.ensures in
+    let chain = chained g.A.Links.regions g.A.Links.word g.A.Links.follows (g.A.Allocator.frees c.args.self.now.system) (g.A.Allocator.parts c.args.self.now.system) c.args.self.now c.requires.sound c.loop-payload.before c.loop-payload.payload c.loop-payload.visited c.loop-payload.released c.loop-payload.self c.loop-payload.invariant.0 c.loop-payload-test.true c.record_at-told.result c.record_at-told.ensures.told in
     let answer : c.release_segment.result ≡ (g.A.Allocator.frees old.system && may_leave (g.A.Allocator.parts old.system) one.segment) =
     c.release_segment.ensures.answer chain ∙ (λ i. fixed.frees_same i && may_leave (fixed.parts_same i) one.segment) in
     let index : IsReindexed g.A.Links.regions g.A.Links.word (after_visit (g.A.Allocator.frees old.system) (g.A.Allocator.parts old.system) one.segment) now c.release_segment.new.self =
@@ -68,15 +68,16 @@ loop-payload-preserved g c =
         | then-release_segment w ↦
             subst (λ (b : ℕ). Passing g.A.Links.regions g.A.Links.word g.A.Links.follows (g.A.Allocator.frees old.system) (g.A.Allocator.parts old.system) old b c.record_at-told.result.next (c.loop-payload.visited + 1) c.if-release_segment.released c.release_segment.new.self) (sym w.before-is)
             (subst (λ (r : ℕ). Passing g.A.Links.regions g.A.Links.word g.A.Links.follows (g.A.Allocator.frees old.system) (g.A.Allocator.parts old.system) old c.loop-payload.before c.record_at-told.result.next (c.loop-payload.visited + 1) r c.release_segment.new.self) (sym w.released-is)
-            (on_passing g.A.Links.regions g.A.Links.word g.A.Links.follows (g.A.Allocator.frees c.args.self.now.system) (g.A.Allocator.parts c.args.self.now.system) c.args.self.now c.requires.sound c.loop-payload.before c.loop-payload.payload c.loop-payload.visited c.loop-payload.released c.loop-payload.self c.loop-payload.invariant.0 c.loop-payload-test.true c.record_at-told.result c.record_at-told.ensures g.A.Links.follows_on true (sym w.if-release_segment.true ∙ answer) c.release_segment.new.self
+            (on_passing g.A.Links.regions g.A.Links.word g.A.Links.follows (g.A.Allocator.frees c.args.self.now.system) (g.A.Allocator.parts c.args.self.now.system) c.args.self.now c.requires.sound c.loop-payload.before c.loop-payload.payload c.loop-payload.visited c.loop-payload.released c.loop-payload.self c.loop-payload.invariant.0 c.loop-payload-test.true c.record_at-told.result c.record_at-told.ensures.told g.A.Links.follows_on true (sym w.if-release_segment.true ∙ answer) c.release_segment.new.self
             (subst (λ (b : Bool). IsVisited g.A.Links.regions g.A.Links.word g.A.Links.follows (may_leave (g.A.Allocator.parts old.system) one.segment) b now c.loop-payload.before c.record_at-told.result chain c.release_segment.new.self) w.if-release_segment.true visited) index))
         | else-release_segment w ↦
             subst (λ (b : ℕ). Passing g.A.Links.regions g.A.Links.word g.A.Links.follows (g.A.Allocator.frees old.system) (g.A.Allocator.parts old.system) old b c.record_at-told.result.next (c.loop-payload.visited + 1) c.if-release_segment.released c.release_segment.new.self) (sym w.before-is)
             (subst (λ (r : ℕ). Passing g.A.Links.regions g.A.Links.word g.A.Links.follows (g.A.Allocator.frees old.system) (g.A.Allocator.parts old.system) old c.loop-payload.payload c.record_at-told.result.next (c.loop-payload.visited + 1) r c.release_segment.new.self) (sym w.released-is)
-            (on_passing g.A.Links.regions g.A.Links.word g.A.Links.follows (g.A.Allocator.frees c.args.self.now.system) (g.A.Allocator.parts c.args.self.now.system) c.args.self.now c.requires.sound c.loop-payload.before c.loop-payload.payload c.loop-payload.visited c.loop-payload.released c.loop-payload.self c.loop-payload.invariant.0 c.loop-payload-test.true c.record_at-told.result c.record_at-told.ensures g.A.Links.follows_on false (sym w.if-release_segment.false ∙ answer) c.release_segment.new.self
+            (on_passing g.A.Links.regions g.A.Links.word g.A.Links.follows (g.A.Allocator.frees c.args.self.now.system) (g.A.Allocator.parts c.args.self.now.system) c.args.self.now c.requires.sound c.loop-payload.before c.loop-payload.payload c.loop-payload.visited c.loop-payload.released c.loop-payload.self c.loop-payload.invariant.0 c.loop-payload-test.true c.record_at-told.result c.record_at-told.ensures.told g.A.Links.follows_on false (sym w.if-release_segment.false ∙ answer) c.release_segment.new.self
             (subst (λ (b : Bool). IsVisited g.A.Links.regions g.A.Links.word g.A.Links.follows (may_leave (g.A.Allocator.parts old.system) one.segment) b now c.loop-payload.before c.record_at-told.result chain c.release_segment.new.self) w.if-release_segment.false visited) index))
       ],
       c.release_segment.ensures.linked,
+      (let read = c.record_at-told.ensures.counted in let gone = c.release_segment.ensures.counted in let before = c.loop-payload.invariant.2 in omega arith),
     )
 
 pub returns-clause-passed : goal.returns-clause-passed
@@ -86,3 +87,9 @@ returns-clause-passed g c = subst (λ (now : Dlmalloc g.row.A.Denot). IsPassed g
 pub returns-clause-linked : goal.returns-clause-linked
 returns-clause-linked g c = subst (λ (now : Dlmalloc g.row.A.Denot). IsBinned g.A.Links.regions g.A.Links.word now) (sym c.begin_countdown.ensures)
     (same_bins g.A.Links.regions g.A.Links.word c.loop-payload.self (max c.loop-payload.visited (countdown_from c.loop-payload.self.rate)) c.loop-payload.invariant.1)
+
+pub returns-clause-counted : goal.returns-clause-counted
+returns-clause-counted g c =
+    let taken = c.loop-payload.invariant.2 in
+    let all = passed_few g.A.Links.regions g.A.Links.word g.A.Links.follows (g.A.Allocator.frees c.args.self.now.system) (g.A.Allocator.parts c.args.self.now.system) c.args.self.now c.requires.sound c.loop-payload.before c.loop-payload.payload c.loop-payload.visited c.loop-payload.released c.loop-payload.self c.loop-payload.invariant.0 in
+    omega (arith, taken, all)

@@ -1,4 +1,4 @@
-use Rattle.std.proofs.Common.{◌≡◌, ◌≢◌, ℕ, ◌+◌, ◌-◌, ◌<◌, ◌≤◌, inl, Some, true, refl, subst, arith, rules}
+use Rattle.std.proofs.Common.{◌≡◌, ◌≢◌, ℕ, ◌+◌, ◌-◌, ◌<◌, ◌≤◌, inl, Some, None, true, refl, sym, ap, subst, arith, rules}
 use Rattle.std.specs.Prelude.{nat_le}
 use Rattle.std.proofs.lemmas.Bool.Decides.{nat_tests}
 use Rattle.dlmalloc_chunks.specs.Request.{limit}
@@ -8,6 +8,10 @@ use Rattle.dlmalloc.proofs.Elsewhere.{chunk_there, held_there, stays_there}
 use Rattle.std.proofs.lemmas.Result.{IfOk-weaker}
 use Rattle.dlmalloc.specs.Requested.{IsMemberServed}
 use Rattle.dlmalloc.specs.declared.heap.Dlmalloc.{Dlmalloc}
+use Rattle.dlmalloc_chunks.specs.Request.{padded}
+use Rattle.dlmalloc.specs.Choice.{chosen}
+use Rattle.dlmalloc.specs.Requested.{asked}
+use Rattle.dlmalloc.specs.Counts.{pass_steps}
 use Rattle.dlmalloc.proofs.heap.Dlmalloc.resize_or_move.Goals as goal
 
 pub resize_chunk-requires-clause-chunk : goal.resize_chunk-requires-clause-chunk
@@ -56,3 +60,16 @@ returns-clause-member g c =
     (λ address. address ≢ c.args.ptr → IsMemberServed g.A.Links.regions g.A.Links.word old c.args.size c.args.align address)
     (λ address member other. subst (λ (heap : Dlmalloc g.row.A.Denot). IsMemberServed g.A.Links.regions g.A.Links.word heap c.args.size c.args.align address) same member)
     c.move_block.ensures.member
+
+pub returns-clause-counted : goal.returns-clause-counted
+returns-clause-counted g c = λ some.
+    let old = c.args.self.now in
+    let same : c.resize_chunk.new.self ≡ old = c.resize_chunk.ensures.same c.if-resize_chunk.false in
+    let few = c.resize_chunk.ensures.none_counted c.if-resize_chunk.false in
+    let segments = ap (λ (heap : Dlmalloc g.row.A.Denot). pass_steps (state_of g.A.Links.word heap)) same in
+    let moved = c.move_block.ensures.counted (subst (λ (heap : Dlmalloc g.row.A.Denot). chosen (state_of g.A.Links.word heap) (padded (asked c.args.size c.args.align)) ≢ None) (sym same) some) in
+    omega (arith, few, segments, moved)
+
+pub returns-clause-in_place_counted : goal.returns-clause-in_place_counted
+returns-clause-in_place_counted g c = λ some.
+    absurd (some (subst (λ (n : ℕ). in_place (state_of g.A.Links.word c.args.self.now) (c.args.ptr - 16) n ≡ None) c.request2size.ensures.is (c.resize_chunk.ensures.none c.if-resize_chunk.false)))

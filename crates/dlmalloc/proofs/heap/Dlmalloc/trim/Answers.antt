@@ -8,6 +8,8 @@ use Rattle.dlmalloc.specs.declared.heap.Dlmalloc.{Dlmalloc}
 use Rattle.dlmalloc.proofs.Rebinned.{same_check}
 use Rattle.dlmalloc.proofs.Trims.{is_not_made, untouched, limit_small, trim_gave, trim_gave_up}
 use Rattle.dlmalloc.proofs.heap.Dlmalloc.trim.Goals.{then-pad-max_request-via-then-pad-max_request, then-pad-max_request-via-else-pad-max_request+then-self-eq0, then-is_cut-via-then-is_cut, then-is_cut-via-else-is_cut+then-released-gt0}
+use Rattle.dlmalloc.specs.Heap.{state_of}
+use Rattle.dlmalloc.proofs.Counts.{after_cut_pass}
 use Rattle.dlmalloc.proofs.heap.Dlmalloc.trim.Goals as goal
 
 pub trim_top-is_cut-requires-clause-small : goal.trim_top-is_cut-requires-clause-small
@@ -63,3 +65,19 @@ returns-then-pad-max_request-clause-trimmed g c =
       | then-pad-max_request-via-then-pad-max_request w ↦ inl (let more = w.if-pad-max_request.true in omega arith)
       | then-pad-max_request-via-else-pad-max_request+then-self-eq0 w ↦ inr w.if-self-eq0.true
     ]))
+
+pub returns-then-is_cut-clause-counted : goal.returns-then-is_cut-clause-counted
+returns-then-is_cut-clause-counted g c =
+    let start = c.args.self.now.system in
+    let first = c.trim_top-is_cut.ensures.counted in
+    let pass = c.release_unused_segments-released.ensures.counted in
+    let same = after_cut_pass (g.A.Allocator.parts start) (g.A.Allocator.unit start) c.args.pad (state_of g.A.Links.word c.args.self.now) (state_of g.A.Links.word c.trim_top-is_cut.new.self) c.trim_top-is_cut.ensures.cut.state in
+    omega (arith, first, pass, same)
+
+pub returns-clause-counted : goal.returns-clause-counted
+returns-clause-counted g c =
+    let start = c.args.self.now.system in
+    let first = c.trim_top-is_cut.ensures.counted in
+    let pass = c.release_unused_segments-released.ensures.counted in
+    let same = after_cut_pass (g.A.Allocator.parts start) (g.A.Allocator.unit start) c.args.pad (state_of g.A.Links.word c.args.self.now) (state_of g.A.Links.word c.trim_top-is_cut.new.self) c.trim_top-is_cut.ensures.cut.state in
+    omega (arith, first, pass, same)
