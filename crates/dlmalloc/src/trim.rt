@@ -3,7 +3,7 @@ ghost use Rattle.std.specs.Prelude.{◌≡◌, ◌+◌, ◌-◌, ◌%◌, ◌^�
 ghost use Rattle.heap_memory.specs.Runs.{is_in_units};
 ghost use Rattle.dlmalloc.specs.Trimmed.{cut_of, may_go, is_cut};
 ghost use Rattle.dlmalloc.specs.Shortened.{IsShortened, IsCutBack, IsTrimmed};
-ghost use Rattle.dlmalloc.specs.Order.{IsReindexed};
+ghost use Rattle.dlmalloc.specs.Order.{KeepsIndex};
 ghost use Rattle.dlmalloc.specs.Binned.{IsBinned};
 ghost use Rattle.dlmalloc.specs.Counts.{pass_steps};
 ghost use Rattle.dlmalloc.specs.Heap.{state_of, IsSound};
@@ -60,7 +60,7 @@ impl<A: Allocator> Dlmalloc<A> {
         ensures cut { IsCutBack A.regions A.word A.follows (A.parts self.old.system) (A.unit self.old.system) self.old pad self.new }
         ensures there { 0 < self.new.size }
         ensures linked { IsBinned A.regions A.word self.new }
-        ensures index { IsReindexed A.regions A.word (λ index. index) self.old self.new }
+        ensures index { KeepsIndex A.regions A.word self.old self.new }
         ensures counted { steps.new ≤ steps.old + 2 }
     {
         index_stays();
