@@ -59,7 +59,8 @@ pub trait Allocator: Links {
     }
 
     /// Gives back what is behind the first `new_size` bytes of a run of whole regions, if the system takes parts of that
-    /// size. False changes nothing.
+    /// size. What is kept has some bytes, a multiple of 16 as each region does, so that what stays are whole regions. False
+    /// changes nothing.
     fn free_part(&mut self, at: u64, old_size: u64, new_size: u64) -> bool
         requires run { IsRun (Self.regions self.old) at (at + old_size) }
         requires some { 0 < new_size }
