@@ -231,6 +231,36 @@ fn a_system_may_keep_segments(rt: HostRuntime) -> Result<(), Fail> {
             ],
             destroyed: 0,
         },
+        Given {
+            rule: "of large ones the oldest is the second's, since the pass visits it before the first",
+            granularity: 4096,
+            gives: &[
+                (0x1_0000, 4096, 0),
+                (0x2_0000, 4096, 0),
+                (0x3_0000, 4096, 0),
+            ],
+            frees: false,
+            parts: true,
+            calls: &[
+                Call::Malloc(3896, Ok(0x1_0010)),
+                Call::Malloc(3896, Ok(0x2_0010)),
+                Call::Malloc(3896, Ok(0x3_0010)),
+                Call::Free(0x1_0010),
+                Call::Free(0x2_0010),
+                Call::Trim(0, false),
+                Call::Malloc(4000, Ok(0x2_0010)),
+            ],
+            extents: &[
+                (Kind::Free, 0x1_0000, 4016),
+                (Kind::Record, 0x1_0fb0, 80),
+                (Kind::Used, 0x2_0000, 4016),
+                (Kind::Record, 0x2_0fb0, 80),
+                (Kind::Used, 0x3_0000, 3904),
+                (Kind::Top, 0x3_0f40, 112),
+                (Kind::Foot, 0x3_0fb0, 80),
+            ],
+            destroyed: 0,
+        },
     ];
     for row in &rows {
         serve_given::<Brand, HostRuntime>(&rt, rt.alloc(), row, Blank::new(1))?;

@@ -1,8 +1,6 @@
 // In what order chunks of one size are taken: below 256 bytes the newest first, and from there on the oldest.
 ghost use Rattle.std.specs.Prelude.{◌≡◌, ◌<◌, ◌^◌};
 
-use crate::Kind;
-use crate::scripted::{Given, serve_given};
 use crate::tests::{Call, apply, flat_heap};
 use std::alloc::Global;
 use std::marker::Brand;
@@ -150,41 +148,5 @@ fn equal_sizes_are_taken_in_order(rt: HostRuntime) -> Result<(), Fail> {
     for row in &rows {
         serve_order::<Brand, HostRuntime>(&rt, rt.alloc(), row, Blank::new(1))?;
     }
-    Ok(())
-}
-
-#[test]
-fn the_chunk_of_a_kept_segment_is_the_newest(rt: HostRuntime) -> Result<(), Fail> {
-    let row = Given {
-        rule: "a pass visits the second before the first, so that the oldest is the second's",
-        granularity: 4096,
-        gives: &[
-            (0x1_0000, 4096, 0),
-            (0x2_0000, 4096, 0),
-            (0x3_0000, 4096, 0),
-        ],
-        frees: false,
-        parts: true,
-        calls: &[
-            Call::Malloc(3896, Ok(0x1_0010)),
-            Call::Malloc(3896, Ok(0x2_0010)),
-            Call::Malloc(3896, Ok(0x3_0010)),
-            Call::Free(0x1_0010),
-            Call::Free(0x2_0010),
-            Call::Trim(0, false),
-            Call::Malloc(4000, Ok(0x2_0010)),
-        ],
-        extents: &[
-            (Kind::Free, 0x1_0000, 4016),
-            (Kind::Record, 0x1_0fb0, 80),
-            (Kind::Used, 0x2_0000, 4016),
-            (Kind::Record, 0x2_0fb0, 80),
-            (Kind::Used, 0x3_0000, 3904),
-            (Kind::Top, 0x3_0f40, 112),
-            (Kind::Foot, 0x3_0fb0, 80),
-        ],
-        destroyed: 0,
-    };
-    serve_given::<Brand, HostRuntime>(&rt, rt.alloc(), &row, Blank::new(1))?;
     Ok(())
 }
