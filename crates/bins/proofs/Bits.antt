@@ -15,8 +15,8 @@ use Rattle.bins.specs.Laws.{sides_of, node_at, shift_of}
 use Rattle.bins.proofs.Chunks.{same_or_not}
 use Rattle.bins.proofs.Lists.{without_other}
 use Rattle.bins.proofs.Widths.{width_is}
-use Rattle.bins.proofs.Scaled.{scaled_below}
-use Rattle.bins.proofs.TreeRanges.{low_normal, low_last, levels_normal, levels_last, bin_low, bin_end, from_same}
+use Rattle.bins.proofs.Scaled.{scaled_below, range_scaled, word_is}
+use Rattle.bins.proofs.TreeRanges.{low_normal, low_last, levels_normal, levels_last, levels_few, low_scaled, bin_low, bin_end, from_same}
 
 -- The half of a range that has a number, and the number in it. The range is scaled to that of 64-bit words: then the top
 -- bit tells the half, and the other bits, shifted by one, are the number in it.
@@ -92,31 +92,19 @@ shift_normal b not = let e : (b == 31) ≡ false = grind (arith, nat_tests) in a
 shift_last : (b : ℕ) → b ≡ 31 → shift_of b ≡ 0
 shift_last b is = ap shift_of is
 
--- the range of a bin, scaled to that of 64-bit words
-bin_scaled : (b : ℕ) → b < 32 → width (levels_of b) * 2 ^ shift_of b ≡ 2 ^ 64
-bin_scaled b within = elim (same_or_not b 31) [
-  | inl is ↦ ap (λ n. width n * 2 ^ shift_of b) (levels_last b is) ∙ (ap (λ n. width 61 * 2 ^ n) (shift_last b is) ∙ refl)
-  | inr not ↦
-      let w = width_is (b / 2 + 4) in
-      let p = pow-add 2 (b / 2 + 4) (57 - b / 2) in
-      let sum : b / 2 + 4 + (57 - b / 2) ≡ 61 = omega arith in
-      let q : 2 ^ (b / 2 + 4 + (57 - b / 2)) ≡ 2 ^ 61 = ap (λ n. 2 ^ n) sum in
-      ap (λ n. width n * 2 ^ shift_of b) (levels_normal b not) ∙ (ap (λ n. width (b / 2 + 4) * 2 ^ n) (shift_normal b not)
-      ∙ (ap (λ m. m * 2 ^ (57 - b / 2)) w ∙ grind arith))
+shift_is : (b : ℕ) → shift_of b ≡ 61 - levels_of b
+shift_is b = elim (same_or_not b 31) [
+  | inl is ↦ shift_last b is ∙ (let l = levels_last b is in omega (arith, l))
+  | inr not ↦ shift_normal b not ∙ (let l = levels_normal b not in omega (arith, l))
 ]
 
+-- the range of a bin, scaled to that of 64-bit words
+bin_scaled : (b : ℕ) → b < 32 → width (levels_of b) * 2 ^ shift_of b ≡ 2 ^ 64
+bin_scaled b within = ap (λ n. width (levels_of b) * 2 ^ n) (shift_is b) ∙ range_scaled (levels_of b) (levels_few b within)
+
 -- where a bin begins, scaled: a multiple of 2 ^ 64
-low_scaled : (b : ℕ) → b < 32 → low_of b * 2 ^ shift_of b % 2 ^ 64 ≡ 0
-low_scaled b within = elim (same_or_not b 31) [
-  | inl is ↦ ap (λ n. n * 2 ^ shift_of b % 2 ^ 64) (low_last b is) ∙ omega arith
-  | inr not ↦
-      let p = pow-add 2 (b / 2 + 7) (57 - b / 2) in
-      let sum : b / 2 + 7 + (57 - b / 2) ≡ 64 = omega arith in
-      let q : 2 ^ (b / 2 + 7 + (57 - b / 2)) ≡ 2 ^ 64 = ap (λ n. 2 ^ n) sum in
-      let all : (2 + b % 2) * 2 ^ (b / 2 + 7) * 2 ^ (57 - b / 2) ≡ (2 + b % 2) * 2 ^ 64 = grind arith in
-      ap (λ n. n * 2 ^ shift_of b % 2 ^ 64) (low_normal b not) ∙ (ap (λ n. (2 + b % 2) * 2 ^ (b / 2 + 7) * 2 ^ n % 2 ^ 64) (shift_normal b not)
-      ∙ omega (arith, all))
-]
+begin_scaled : (b : ℕ) → b < 32 → low_of b * 2 ^ shift_of b % 2 ^ 64 ≡ 0
+begin_scaled b within = ap (λ n. low_of b * 2 ^ n % 2 ^ 64) (shift_is b) ∙ low_scaled b within
 
 pub bits_lead : (regions : List Grant) (words : ℕ → ℕ) (bins : Bins) (index : ℕ → List ℕ) → IsLinked regions words bins index →
     (size bin chunk : ℕ) (others : List ℕ) → IsTreeIndex size bin → index size ≡ chunk ∷ others →
@@ -129,15 +117,5 @@ bits_lead regions words bins index linked size bin chunk others in_bin listed =
     let offset : ℕ = size - low_of bin in
     let found = lead words bin size chunk others (from (least_size bin) index) (128 + bin) (low_of bin) (levels_of bin) (slice_index bins.roots bin) (size - low_of bin) (2 ^ shift_of bin)
     (linked.large bin in_bin.within).trie (bin_scaled bin in_bin.within) (omega arith) (omega arith) (from_same (least_size bin) index size in_bin.reached ∙ listed) in
-    let word = word_is (low_of bin) (size - low_of bin) size (2 ^ shift_of bin) (width (levels_of bin)) (omega arith) (omega arith) (low_scaled bin in_bin.within) (bin_scaled bin in_bin.within) in
-    (found.0, found.1, ap (λ w. node_at words (slice_index bins.roots bin) (sides_of w found.0)) word ∙ found.2) where
-      word_is : (low offset n scale range : ℕ) → n ≡ low + offset → offset < range → low * scale % 2 ^ 64 ≡ 0 → range * scale ≡ 2 ^ 64 → n * scale % 2 ^ 64 ≡ offset * scale
-      word_is low offset n scale range place within whole scaled =
-          let e : n * scale ≡ (low + offset) * scale = ap (λ x. x * scale) place in
-          let d = add-mul low offset scale in
-          let s : offset + 1 ≤ range = omega arith in
-          let p = mul-le-mul_right scale s in
-          elim (same_or_not scale 0) [
-            | inl none ↦ absurd (let z : range * scale ≡ range * 0 = ap (λ x. range * x) none in omega arith)
-            | inr some ↦ omega arith
-          ]
+    let word = word_is (low_of bin) (size - low_of bin) size (2 ^ shift_of bin) (width (levels_of bin)) (omega arith) (omega arith) (begin_scaled bin in_bin.within) (bin_scaled bin in_bin.within) in
+    (found.0, found.1, ap (λ w. node_at words (slice_index bins.roots bin) (sides_of w found.0)) word ∙ found.2)

@@ -1,6 +1,6 @@
 -- Where a size lies in a range, scaled to the range of 64-bit words.
 use Rattle.std.proofs.Common.{◌≡◌, ℕ, ◌+◌, ◌-◌, ◌*◌, ◌%◌, ◌^◌, ◌<◌, ◌≤◌, inl, inr, Bool, true, false, sym, ap, ◌∙◌, arith}
-use Rattle.std.proofs.lemmas.Nat.{pow-add, pow_pos}
+use Rattle.std.proofs.lemmas.Nat.{pow-add}
 use Rattle.std.proofs.Math.Nat.{mul-le-mul_right, add-mul}
 use Rattle.bins.specs.Tries.{low_at, width}
 use Rattle.bins.proofs.Chunks.{same_or_not}
@@ -24,19 +24,25 @@ half_scaled levels half some few is =
     let q : 2 ^ (levels - 1) * 2 ^ (61 - levels) ≡ 2 ^ 60 = sym p ∙ ap (λ n. 2 ^ n) sum in
     ap (λ h. h * 2 ^ (61 - levels)) (is ∙ w) ∙ omega (arith, q)
 
--- a place in a range of so many levels fits a word
-pub place_fits : (levels offset : ℕ) → levels ≤ 61 → offset < width levels → offset * 2 ^ (61 - levels) < 2 ^ 64
-place_fits levels offset few within =
-    let w = width_is levels in
+-- a range of so many levels
+pub range_scaled : (levels : ℕ) → levels ≤ 61 → width levels * 2 ^ (61 - levels) ≡ 2 ^ 64
+range_scaled levels few =
     let p = pow-add 2 levels (61 - levels) in
     let sum : levels + (61 - levels) ≡ 61 = omega arith in
     let q : 2 ^ levels * 2 ^ (61 - levels) ≡ 2 ^ 61 = sym p ∙ ap (λ n. 2 ^ n) sum in
-    let some : 0 < 2 ^ (61 - levels) = pow_pos (61 - levels) in
-    let less : offset + 1 ≤ 8 * 2 ^ levels = omega (arith, w) in
-    let m = mul-le-mul_right (2 ^ (61 - levels)) less in
-    let d : (offset + 1) * 2 ^ (61 - levels) ≡ offset * 2 ^ (61 - levels) + 2 ^ (61 - levels) = omega arith in
-    let e : 8 * 2 ^ levels * 2 ^ (61 - levels) ≡ 2 ^ 64 = omega (arith, q) in
-    omega (arith, m, d, e, some)
+    ap (λ w. w * 2 ^ (61 - levels)) (width_is levels) ∙ omega (arith, q)
+
+-- A number of a range, scaled as a word, is its place there: where the range begins falls out.
+pub word_is : (low offset n scale range : ℕ) → n ≡ low + offset → offset < range → low * scale % 2 ^ 64 ≡ 0 → range * scale ≡ 2 ^ 64 → n * scale % 2 ^ 64 ≡ offset * scale
+word_is low offset n scale range place within whole scaled =
+    let e : n * scale ≡ (low + offset) * scale = ap (λ x. x * scale) place in
+    let d = add-mul low offset scale in
+    let s : offset + 1 ≤ range = omega arith in
+    let p = mul-le-mul_right scale s in
+    elim (same_or_not scale 0) [
+      | inl none ↦ absurd (let z : range * scale ≡ range * 0 = ap (λ x. range * x) none in omega arith)
+      | inr some ↦ omega arith
+    ]
 
 -- the place in the half
 next_scaled : (side : Bool) (low half size bits scale : ℕ) → low ≤ size → size < low + 2 * half → half * scale ≡ 2 ^ 63 → bits ≡ (size - low) * scale →

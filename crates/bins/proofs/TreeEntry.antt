@@ -1,5 +1,5 @@
 -- The trie of a tree bin, in the words of a call on its root.
-use Rattle.std.proofs.Common.{◌≡◌, ℕ, ◌+◌, ◌*◌, ◌%◌, ◌^◌, ◌<◌, ◌≤◌, ◌⊎◌, inl, inr, List, [], ◌∷◌, ◌++◌, refl, sym, ap, subst, ◌∙◌, arith}
+use Rattle.std.proofs.Common.{◌≡◌, ℕ, ◌+◌, ◌-◌, ◌*◌, ◌%◌, ◌^◌, ◌<◌, ◌≤◌, ◌⊎◌, inl, inr, List, [], ◌∷◌, ◌++◌, refl, sym, ap, subst, ◌∙◌, arith}
 use Rattle.std.specs.Prelude.{slice_index}
 use Rattle.std.proofs.lemmas.Bool.{cases_lt}
 use Rattle.heap_memory.specs.declared.grant.Grant.{Grant}
@@ -17,7 +17,7 @@ use Rattle.bins.proofs.Chunks.{same_or_not, chunk_kept, chunks_with, one_size}
 use Rattle.bins.proofs.Pulled.{in_minus}
 use Rattle.bins.proofs.SmallBins.{in_from, least_large}
 use Rattle.bins.proofs.Opened.{none_in}
-use Rattle.bins.proofs.TreeRanges.{levels_normal, levels_last, levels_few, bin_low, bin_end, end_fits, low_whole, in_range, from_same, from_less, from_alike}
+use Rattle.bins.proofs.TreeRanges.{levels_normal, levels_last, levels_few, bin_low, bin_end, end_fits, low_scaled, low_whole, in_range, from_same, from_less, from_alike}
 use Rattle.bins.proofs.TreeBins.{tree_linked}
 
 pub chunks_from : (regions : List Grant) (old : ℕ → ℕ) (index : ℕ → List ℕ) (least : ℕ) → AreChunks regions old index → AreChunks regions old (from least index)
@@ -43,6 +43,9 @@ module _ (regions : List Grant) (old : ℕ → ℕ) (bins : Bins) (index : ℕ �
 
   pub t_fits : low + width levels ≤ 2 ^ 64
   t_fits = let e = end_fits bin in_bin.within in rw (low_is, levels_is) e
+
+  pub t_whole : low * 2 ^ (61 - levels) % 2 ^ 64 ≡ 0
+  t_whole = let e = low_scaled bin in_bin.within in rw (low_is, levels_is) e
 
   pub t_trie : IsTrie old (from (least_size bin) index) bin (128 + bin) low levels root
   t_trie = let t = (linked.large bin in_bin.within).trie in rw (root_is, low_is, levels_is) t

@@ -119,3 +119,17 @@ low_least b = elim (same_or_not b 31) [
   | inl is ↦ (let l = low_last b is in omega arith)
   | inr not ↦ (let l = low_normal b not in omega arith)
 ]
+
+-- where a bin begins, scaled: a multiple of 2 ^ 64
+pub low_scaled : (b : ℕ) → b < 32 → low_of b * 2 ^ (61 - levels_of b) % 2 ^ 64 ≡ 0
+low_scaled b within = elim (same_or_not b 31) [
+  | inl is ↦ ap (λ n. n * 2 ^ (61 - levels_of b) % 2 ^ 64) (low_last b is) ∙ omega arith
+  | inr not ↦
+      let p = pow-add 2 (b / 2 + 7) (57 - b / 2) in
+      let sum : b / 2 + 7 + (57 - b / 2) ≡ 64 = omega arith in
+      let q : 2 ^ (b / 2 + 7 + (57 - b / 2)) ≡ 2 ^ 64 = ap (λ n. 2 ^ n) sum in
+      let all : (2 + b % 2) * 2 ^ (b / 2 + 7) * 2 ^ (57 - b / 2) ≡ (2 + b % 2) * 2 ^ 64 = grind arith in
+      let rest : 61 - levels_of b ≡ 57 - b / 2 = let l = levels_normal b not in omega (arith, l) in
+      ap (λ n. n * 2 ^ (61 - levels_of b) % 2 ^ 64) (low_normal b not) ∙ (ap (λ n. (2 + b % 2) * 2 ^ (b / 2 + 7) * 2 ^ n % 2 ^ 64) rest
+      ∙ omega (arith, all))
+]

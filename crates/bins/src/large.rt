@@ -1,5 +1,6 @@
 // The bins of large chunks.
-ghost use Rattle.std.specs.Prelude.{◌≡◌, ◌≢◌, ℕ, ◌+◌, ◌*◌, ◌^◌, ◌<◌, ◌≤◌, List, [], MatchOption};
+ghost use Rattle.std.specs.Prelude.{◌≡◌, ◌≢◌, ℕ, ◌+◌, ◌*◌, ◌^◌, ◌<◌, ◌≤◌, List, [], MatchOption, slice_index};
+ghost use Rattle.std.specs.Int.{bit_at};
 ghost use Rattle.dlmalloc_chunks.specs.Bins.{least_size};
 ghost use Rattle.bins.specs.Index.{IsIn, IsNone, IsLeastFit, with_chunk, without_chunk};
 ghost use Rattle.bins.specs.Linked.{IsLinked, IsFresh, OnlyLinksChange, low_of, levels_of};
@@ -39,11 +40,17 @@ pub(crate) fn bin_levels(bin: usize) -> u32
 }
 
 impl Bins {
-    /// Names the root of a tree bin, 0 where it is empty.
-    fn set_root(&mut self, bin: usize, root: u64)
-        requires { bin < 32 }
+    /// Names the root of a tree bin, 0 where it is empty. Nothing is written where it is the one before.
+    fn set_root(&mut self, bin: usize, before: u64, root: u64)
+        requires within { bin < 32 }
+        requires before { before ≡ slice_index self.old.roots bin }
+        requires marked { 0 < before → bit_at self.old.tree_map bin ≡ 1 }
+        requires clear { before ≡ 0 → bit_at self.old.tree_map bin ≡ 0 }
         ensures { HasRoot self.old bin root self.new }
     {
+        if root == before {
+            return;
+        }
         self.roots[bin] = root;
         if root == 0 {
             self.tree_map = map::without_bit(self.tree_map, bin);
@@ -85,7 +92,7 @@ impl Bins {
             size,
             steps,
         );
-        self.set_root(bin, left);
+        self.set_root(bin, root, left);
     }
 
     /// Puts a chunk of a size of at least 256 into its trie, as the newest of its size.
@@ -121,7 +128,7 @@ impl Bins {
             size,
             steps,
         );
-        self.set_root(bin, planted);
+        self.set_root(bin, root, planted);
     }
 
     /// The oldest chunk of the least size in the tree bins behind one.

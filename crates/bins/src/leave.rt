@@ -1,5 +1,5 @@
 // A chunk leaves a trie.
-ghost use Rattle.std.specs.Prelude.{◌≡◌, ◌≢◌, ℕ, ◌+◌, ◌-◌, ◌*◌, ◌^◌, ◌<◌, ◌≤◌, ◌⊎◌, Bool, List, [], ◌∷◌};
+ghost use Rattle.std.specs.Prelude.{◌≡◌, ◌≢◌, ℕ, ◌+◌, ◌-◌, ◌*◌, ◌%◌, ◌^◌, ◌<◌, ◌≤◌, ◌⊎◌, Bool, List, [], ◌∷◌};
 ghost use Rattle.dlmalloc_chunks.specs.Head.{size_of};
 ghost use Rattle.bins.specs.Index.{IsIn, without, without_chunk};
 ghost use Rattle.bins.specs.Tries.{both, width, IsTrie};
@@ -224,6 +224,7 @@ pub(crate) fn unlink_below<M: Links, L: Ledger>(
     requires few { levels ≤ 61 }
     requires above { low ≤ size }
     requires below { size < low + width levels }
+    requires whole { low * 2 ^ (61 - levels) % 2 ^ 64 ≡ 0 }
     requires fits { low + width levels ≤ 2 ^ 64 }
     requires held { (index : ℕ → List ℕ) × (IsHeld (M.regions memory.old) (M.word memory.old) index bin parent low levels at × IsIn chunk (index size)) }
     ensures trie { (index : ℕ → List ℕ) → IsHeld (M.regions memory.old) (M.word memory.old) index bin parent low levels at → IsIn chunk (index size) →

@@ -22,14 +22,16 @@ pub(crate) fn half_width(levels: u32) -> u64
 }
 
 /// Where a size lies in the range of a trie, scaled so that the whole range is that of 64-bit words. The top bit then tells
-/// in which half it lies (dlmalloc: `leftshift_for_tree_index`).
+/// in which half it lies (dlmalloc: `leftshift_for_tree_index`). Where the range begins is a multiple of its length, whose
+/// bits the shift drops.
 pub(crate) fn path_bits(low: u64, levels: u32, size: u64) -> u64
     requires few { levels ≤ 61 }
     requires above { low ≤ size }
     requires below { size < low + width levels }
+    requires whole { low * 2 ^ (61 - levels) % 2 ^ 64 ≡ 0 }
     ensures { result ≡ (size - low) * 2 ^ (61 - levels) }
 {
-    (size - low) << (61 - levels)
+    size << (61 - levels)
 }
 
 /// The same for the half in which it lies, as the range of a child.
@@ -47,10 +49,7 @@ pub(crate) fn is_in_upper(low: u64, half: u64, size: u64, bits: u64) -> bool
     ensures above { low_at result low half ≤ size }
     ensures below { size < low_at result low half + half }
 {
-    if bits < 1 << 63 {
-        return false;
-    }
-    true
+    bits >= 1 << 63
 }
 
 /// The place of a child's word.
@@ -220,6 +219,7 @@ pub(crate) fn plant<M: Links, L: Ledger>(
     requires few { levels ≤ 61 }
     requires above { low ≤ size }
     requires below { size < low + width levels }
+    requires whole { low * 2 ^ (61 - levels) % 2 ^ 64 ≡ 0 }
     requires fits { low + width levels ≤ 2 ^ 64 }
     requires large { 256 ≤ size }
     requires held { (index : ℕ → List ℕ) × (IsHeld (M.regions memory.old) (M.word memory.old) index bin parent low levels root × IsFresh (M.regions memory.old) (M.word memory.old) index size chunk) }

@@ -1,6 +1,7 @@
-use Rattle.std.proofs.Common.{◌-◌, arith}
-use Rattle.bins.proofs.Scaled.{place_fits}
+use Rattle.std.proofs.Common.{◌-◌, ◌^◌, arith}
+use Rattle.bins.proofs.Scaled.{range_scaled, word_is}
+use Rattle.bins.specs.Tries.{width}
 use Rattle.bins.proofs.trie.path_bits.Goals as goal
 
 pub returns : goal.returns
-returns c = let fits = place_fits c.args.levels (c.args.size - c.args.low) c.requires.few (omega arith) in omega (arith, fits)
+returns c = word_is c.args.low (c.args.size - c.args.low) c.args.size (2 ^ (61 - c.args.levels)) (width c.args.levels) (omega arith) (omega arith) c.requires.whole (range_scaled c.args.levels c.requires.few)

@@ -4,12 +4,15 @@ use Rattle.dlmalloc_chunks.specs.Bins.{least_size}
 use Rattle.bins.specs.Index.{from}
 use Rattle.bins.specs.Tries.{width}
 use Rattle.bins.proofs.TreeRanges.{end_normal, end_last}
-use Rattle.bins.proofs.TreeEntry.{t_below, t_fits}
+use Rattle.bins.proofs.TreeEntry.{t_below, t_whole, t_fits}
 use Rattle.bins.proofs.LeastLarge.{read, none_from, lesser_fit, alone_some, alone_none, nothing_read, match_further}
 use Rattle.bins.proofs.bins.Bins.least_large.Goals as goal
 
 pub path_bits-bits-requires-clause-below : goal.path_bits-bits-requires-clause-below
 path_bits-bits-requires-clause-below g c = let r = c.requires.linked in t_below (g.M.Links.regions c.args.memory.now) (g.M.Links.word c.args.memory.now) c.args.self.now r.0 c.compute_tree_index-bin.result c.args.size r.1 c.compute_tree_index-bin.ensures c.ranges.size.fits (slice_index c.args.self.now.roots c.compute_tree_index-bin.result) c.bin_low-low.result c.bin_levels-levels.result refl c.bin_low-low.ensures c.bin_levels-levels.ensures
+
+pub path_bits-bits-requires-clause-whole : goal.path_bits-bits-requires-clause-whole
+path_bits-bits-requires-clause-whole g c = let r = c.requires.linked in t_whole (g.M.Links.regions c.args.memory.now) (g.M.Links.word c.args.memory.now) c.args.self.now r.0 c.compute_tree_index-bin.result c.args.size r.1 c.compute_tree_index-bin.ensures c.ranges.size.fits (slice_index c.args.self.now.roots c.compute_tree_index-bin.result) c.bin_low-low.result c.bin_levels-levels.result refl c.bin_low-low.ensures c.bin_levels-levels.ensures
 
 pub fit_below-fit-requires-clause-below : goal.fit_below-fit-requires-clause-below
 fit_below-fit-requires-clause-below g c = let r = c.requires.linked in t_below (g.M.Links.regions c.args.memory.now) (g.M.Links.word c.args.memory.now) c.args.self.now r.0 c.compute_tree_index-bin.result c.args.size r.1 c.compute_tree_index-bin.ensures c.ranges.size.fits (slice_index c.args.self.now.roots c.compute_tree_index-bin.result) c.bin_low-low.result c.bin_levels-levels.result refl c.bin_low-low.ensures c.bin_levels-levels.ensures
