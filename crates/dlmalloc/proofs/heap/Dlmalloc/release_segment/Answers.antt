@@ -1,9 +1,9 @@
-use Rattle.std.proofs.Common.{ℕ, ◌-◌, ◌<◌, Bool, true, false, ◌&&◌, if◌then◌else◌, [], ◌∷◌, sym, ◌∙◌, ap, subst, arith}
+use Rattle.std.proofs.Common.{◌≡◌, ℕ, ◌-◌, ◌<◌, Bool, true, false, ◌&&◌, if◌then◌else◌, [], ◌∷◌, sym, ◌∙◌, ap, subst, arith}
 use Rattle.dlmalloc.specs.Released.{is_own, is_unused, may_leave}
 use Rattle.dlmalloc.specs.State.{HeapState}
 use Rattle.dlmalloc.specs.Heap.{state_of}
-use Rattle.dlmalloc.specs.Binned.{IsFreeAt, FreeMoves}
-use Rattle.dlmalloc.specs.Chained.{IsVisited}
+use Rattle.dlmalloc.specs.Binned.{IsFreeAt, IsBinnedBut, IsBinned, FreeMoves}
+use Rattle.dlmalloc.specs.Chained.{IsChained, IsVisited}
 use Rattle.dlmalloc.specs.declared.heap.Dlmalloc.{Dlmalloc}
 use Rattle.dlmalloc.proofs.Leaving.{base_is, size_is, never, last_test, first_there, long_told, test_is, first_is_free, stays}
 use Rattle.dlmalloc.proofs.Chaining.{chained_then, may_still, visited_then, visited_binned, loose_still, not_victim, binned_without}
@@ -59,40 +59,47 @@ hand_out-requires-clause-may g c = λ chained.
     ∙ may_still g.A.Links.regions g.A.Links.word g.A.Links.follows c.args.self.now c.unbin.new.self c.requires.sound c.unbin.ensures.same c.requires.there (g.A.Allocator.parts c.args.self.now.system) c.args.before c.args.told.now
     (sym c.may_leave.ensures.told ∙ c.if-not-may_leave.false) chained
 
+pub returns-then-not-may_leave-clause-index : goal.returns-then-not-may_leave-clause-index
+returns-then-not-may_leave-clause-index g c = λ chained b.
+    let heap = c.args.self.now in
+    let told = c.args.told.now in
+    let may = sym c.if-not-may_leave.true ∙ (c.may_leave.ensures.told ∙ test_is g.A.Links.regions g.A.Links.word heap c.requires.sound c.requires.there c.args.before told chained (g.A.Allocator.parts heap.system)) in
+    (b, λ n. visit_none (g.A.Allocator.frees heap.system) (g.A.Allocator.parts heap.system) chained.segment b.index n may)
+
 -- ---- the system took it
 
-pub returns-then-hand_out-clause-answer : goal.returns-then-hand_out-clause-answer
-returns-then-hand_out-clause-answer g c = λ chained.
-    let heap = c.args.self.now in
-    let fixed = g.met.A.Allocator.fixed heap.system c.unbin.new.self.system _ c.unbin.ensures.same.followed in
-    let may = sym c.if-not-may_leave.false ∙ (c.may_leave.ensures.told ∙ test_is g.A.Links.regions g.A.Links.word heap c.requires.sound c.requires.there c.args.before c.args.told.now chained (g.A.Allocator.parts heap.system)) in
-    let frees = sym c.if-hand_out.true ∙ (c.hand_out.ensures.answer ∙ fixed.frees_same) in
-    λ i. frees i && may i
-
-pub returns-then-hand_out-clause-visited : goal.returns-then-hand_out-clause-visited
-returns-then-hand_out-clause-visited g c = λ chained.
-    let heap = c.args.self.now in
-    let middle = c.unbin.new.self in
-    let told = c.args.told.now in
-    let new = c.hand_out.new.self in
-    let may = sym c.if-not-may_leave.false ∙ (c.may_leave.ensures.told ∙ test_is g.A.Links.regions g.A.Links.word heap c.requires.sound c.requires.there c.args.before told chained (g.A.Allocator.parts heap.system)) in
-    let chain = chained_then g.A.Links.regions g.A.Links.word g.A.Links.follows heap middle c.requires.sound c.unbin.ensures.same c.args.before told chained in
-    let visited = subst (λ (leaves : Bool). IsVisited g.A.Links.regions g.A.Links.word g.A.Links.follows true leaves middle c.args.before told chain new) c.if-hand_out.true (c.hand_out.ensures.visited chain) in
-    subst (λ (handed : Bool). IsVisited g.A.Links.regions g.A.Links.word g.A.Links.follows handed true heap c.args.before told chained new) may
-    (visited_then g.A.Links.regions g.A.Links.word g.A.Links.follows g.A.Links.follows_on heap c.requires.sound c.args.before told chained middle c.unbin.ensures.same true true new visited)
-
-pub returns-then-hand_out-clause-linked : goal.returns-then-hand_out-clause-linked
-returns-then-hand_out-clause-linked g c =
+pub returns-then-hand_out : goal.returns-then-hand_out
+returns-then-hand_out g c =
     let heap = c.args.self.now in
     let middle = c.unbin.new.self in
     let told = c.args.told.now in
     let new = c.hand_out.new.self in
     let e = c.hand_out.ensures in
-    let chain = chained_then g.A.Links.regions g.A.Links.word g.A.Links.follows heap middle c.requires.sound c.unbin.ensures.same c.args.before told c.requires.chained in
-    let visited = e.visited chain in
-    binned_without c.index_stays.ensures g.A.Links.regions g.A.Links.word g.A.Links.follows middle new c.unbin.ensures.same.sound c.args.before told chain c.hand_out.result visited e.words e.bins
-    (subst (λ (left : Bool). FreeMoves (state_of g.A.Links.word middle) (state_of g.A.Links.word new) (if left then told.base ∷ [] else []) []) c.if-hand_out.true e.free)
-    (c.unbin.ensures.loose [] c.requires.linked (λ none. none)).0
+    let frees = g.A.Allocator.frees heap.system in
+    let parts = g.A.Allocator.parts heap.system in
+    let fixed = g.met.A.Allocator.fixed heap.system middle.system _ c.unbin.ensures.same.followed in
+    let takes : true ≡ frees = sym c.if-hand_out.true ∙ (e.answer ∙ fixed.frees_same) in
+    let may : (chained : IsChained g.A.Links.word heap c.args.before told) → true ≡ may_leave parts chained.segment = λ chained.
+    sym c.if-not-may_leave.false ∙ (c.may_leave.ensures.told ∙ test_is g.A.Links.regions g.A.Links.word heap c.requires.sound c.requires.there c.args.before told chained parts) in
+    let chain : (chained : IsChained g.A.Links.word heap c.args.before told) → IsChained g.A.Links.word middle c.args.before told = λ chained.
+    chained_then g.A.Links.regions g.A.Links.word g.A.Links.follows heap middle c.requires.sound c.unbin.ensures.same c.args.before told chained in
+    let visited : (chained : IsChained g.A.Links.word heap c.args.before told) → IsVisited g.A.Links.regions g.A.Links.word g.A.Links.follows true true heap c.args.before told chained new = λ chained.
+    visited_then g.A.Links.regions g.A.Links.word g.A.Links.follows g.A.Links.follows_on heap c.requires.sound c.args.before told chained middle c.unbin.ensures.same true true new
+    (subst (λ (leaves : Bool). IsVisited g.A.Links.regions g.A.Links.word g.A.Links.follows true leaves middle c.args.before told (chain chained) new) c.if-hand_out.true (e.visited (chain chained))) in
+    let moves = subst (λ (left : Bool). FreeMoves (state_of g.A.Links.word middle) (state_of g.A.Links.word new) (if left then told.base ∷ [] else []) []) c.if-hand_out.true e.free in
+    let after : (loose : IsBinnedBut (told.base ∷ []) g.A.Links.regions g.A.Links.word middle) → IsBinned g.A.Links.regions g.A.Links.word new = λ loose.
+    binned_without c.index_stays.ensures g.A.Links.regions g.A.Links.word g.A.Links.follows middle new c.unbin.ensures.same.sound c.args.before told (chain c.requires.chained) c.hand_out.result (e.visited (chain c.requires.chained)) e.words e.bins moves loose in
+    record {
+      answer = λ chained. (λ i. takes i && may chained i);
+      visited = λ chained. subst (λ (handed : Bool). IsVisited g.A.Links.regions g.A.Links.word g.A.Links.follows handed true heap c.args.before told chained new) (may chained) (visited chained);
+      linked = after (c.unbin.ensures.loose [] c.requires.linked (λ none. none)).0;
+      index = λ chained b.
+          let left = c.unbin.ensures.loose [] b (λ none. none) in
+          let base = base_is g.A.Links.regions g.A.Links.word heap c.requires.sound c.requires.there c.args.before told chained in
+          let size = ap (λ (n : ℕ). n - 80) (size_is g.A.Links.regions g.A.Links.word heap c.requires.sound c.requires.there c.args.before told chained) in
+          (after left.0, λ n. left.1 n ∙ visit_left frees parts chained.segment b.index n told.base (told.size - 80) base size (may chained) takes);
+      counted = (let tested = c.may_leave.ensures.counted in let left = c.unbin.ensures.counted in let handed = e.counted in omega (arith, tested, left, handed));
+    }
 
 -- ---- the system kept it
 
@@ -134,87 +141,37 @@ bin-requires-clause-loose g c =
           (c.unbin.ensures.loose [] c.requires.linked (λ none. none)).0,
     )
 
-pub returns-clause-answer : goal.returns-clause-answer
-returns-clause-answer g c = λ chained.
-    let heap = c.args.self.now in
-    let fixed = g.met.A.Allocator.fixed heap.system c.unbin.new.self.system _ c.unbin.ensures.same.followed in
-    let may = sym c.if-not-may_leave.false ∙ (c.may_leave.ensures.told ∙ test_is g.A.Links.regions g.A.Links.word heap c.requires.sound c.requires.there c.args.before c.args.told.now chained (g.A.Allocator.parts heap.system)) in
-    let frees = sym c.if-hand_out.false ∙ (c.hand_out.ensures.answer ∙ fixed.frees_same) in
-    λ i. frees i && may i
-
-pub returns-clause-visited : goal.returns-clause-visited
-returns-clause-visited g c = λ chained.
-    let heap = c.args.self.now in
-    let middle = c.unbin.new.self in
-    let told = c.args.told.now in
-    let new = c.hand_out.new.self in
-    let may = sym c.if-not-may_leave.false ∙ (c.may_leave.ensures.told ∙ test_is g.A.Links.regions g.A.Links.word heap c.requires.sound c.requires.there c.args.before told chained (g.A.Allocator.parts heap.system)) in
-    let chain = chained_then g.A.Links.regions g.A.Links.word g.A.Links.follows heap middle c.requires.sound c.unbin.ensures.same c.args.before told chained in
-    let visited = subst (λ (leaves : Bool). IsVisited g.A.Links.regions g.A.Links.word g.A.Links.follows true leaves middle c.args.before told chain new) c.if-hand_out.false (c.hand_out.ensures.visited chain) in
-    let here = visited_then g.A.Links.regions g.A.Links.word g.A.Links.follows g.A.Links.follows_on heap c.requires.sound c.args.before told chained middle c.unbin.ensures.same true false new visited in
-    subst (λ (handed : Bool). IsVisited g.A.Links.regions g.A.Links.word g.A.Links.follows handed false heap c.args.before told chained c.bin.new.self) may
-    (visited_binned g.A.Links.regions g.A.Links.word g.A.Links.follows g.A.Links.follows_on heap c.requires.sound c.args.before told chained true new c.bin.new.self here c.bin.ensures.same)
-
-pub returns-clause-linked : goal.returns-clause-linked
-returns-clause-linked g c =
+pub returns : goal.returns
+returns g c =
     let heap = c.args.self.now in
     let middle = c.unbin.new.self in
     let told = c.args.told.now in
     let new = c.hand_out.new.self in
     let e = c.hand_out.ensures in
-    let chain = chained_then g.A.Links.regions g.A.Links.word g.A.Links.follows heap middle c.requires.sound c.unbin.ensures.same c.args.before told c.requires.chained in
-    (c.bin.ensures.binned []
-    (loose_still c.index_stays.ensures g.A.Links.regions g.A.Links.word g.A.Links.follows middle new c.unbin.ensures.same.sound c.args.before told chain c.hand_out.result (e.visited chain) e.words e.bins
-    (subst (λ (left : Bool). FreeMoves (state_of g.A.Links.word middle) (state_of g.A.Links.word new) (if left then told.base ∷ [] else []) []) c.if-hand_out.false e.free)
-    (c.unbin.ensures.loose [] c.requires.linked (λ none. none)).0)
-    (λ none. none)).0
-
--- ---- the index
-
-pub returns-then-not-may_leave-clause-index : goal.returns-then-not-may_leave-clause-index
-returns-then-not-may_leave-clause-index g c = λ chained b.
-    let heap = c.args.self.now in
-    let told = c.args.told.now in
-    let may = sym c.if-not-may_leave.true ∙ (c.may_leave.ensures.told ∙ test_is g.A.Links.regions g.A.Links.word heap c.requires.sound c.requires.there c.args.before told chained (g.A.Allocator.parts heap.system)) in
-    (b, λ n. visit_none (g.A.Allocator.frees heap.system) (g.A.Allocator.parts heap.system) chained.segment b.index n may)
-
-pub returns-then-hand_out-clause-index : goal.returns-then-hand_out-clause-index
-returns-then-hand_out-clause-index g c = λ chained b.
-    let heap = c.args.self.now in
-    let middle = c.unbin.new.self in
-    let told = c.args.told.now in
-    let new = c.hand_out.new.self in
     let frees = g.A.Allocator.frees heap.system in
     let parts = g.A.Allocator.parts heap.system in
     let fixed = g.met.A.Allocator.fixed heap.system middle.system _ c.unbin.ensures.same.followed in
-    let may = sym c.if-not-may_leave.false ∙ (c.may_leave.ensures.told ∙ test_is g.A.Links.regions g.A.Links.word heap c.requires.sound c.requires.there c.args.before told chained (g.A.Allocator.parts heap.system)) in
-    let base = base_is g.A.Links.regions g.A.Links.word heap c.requires.sound c.requires.there c.args.before told chained in
-    let size = ap (λ (n : ℕ). n - 80) (size_is g.A.Links.regions g.A.Links.word heap c.requires.sound c.requires.there c.args.before told chained) in
-    let e = c.hand_out.ensures in
-    let chain = chained_then g.A.Links.regions g.A.Links.word g.A.Links.follows heap middle c.requires.sound c.unbin.ensures.same c.args.before told chained in
-    let left = c.unbin.ensures.loose [] b (λ none. none) in
-    let takes = sym c.if-hand_out.true ∙ (e.answer ∙ fixed.frees_same) in
-    let after = binned_without c.index_stays.ensures g.A.Links.regions g.A.Links.word g.A.Links.follows middle new c.unbin.ensures.same.sound c.args.before told chain c.hand_out.result (e.visited chain) e.words e.bins
-    (subst (λ (left : Bool). FreeMoves (state_of g.A.Links.word middle) (state_of g.A.Links.word new) (if left then told.base ∷ [] else []) []) c.if-hand_out.true e.free) left.0 in
-    (after, λ n. left.1 n ∙ visit_left frees parts chained.segment b.index n told.base (told.size - 80) base size may takes)
-
-pub returns-clause-index : goal.returns-clause-index
-returns-clause-index g c = λ chained b.
-    let heap = c.args.self.now in
-    let middle = c.unbin.new.self in
-    let told = c.args.told.now in
-    let new = c.hand_out.new.self in
-    let frees = g.A.Allocator.frees heap.system in
-    let parts = g.A.Allocator.parts heap.system in
-    let fixed = g.met.A.Allocator.fixed heap.system middle.system _ c.unbin.ensures.same.followed in
-    let may = sym c.if-not-may_leave.false ∙ (c.may_leave.ensures.told ∙ test_is g.A.Links.regions g.A.Links.word heap c.requires.sound c.requires.there c.args.before told chained (g.A.Allocator.parts heap.system)) in
-    let base = base_is g.A.Links.regions g.A.Links.word heap c.requires.sound c.requires.there c.args.before told chained in
-    let size = ap (λ (n : ℕ). n - 80) (size_is g.A.Links.regions g.A.Links.word heap c.requires.sound c.requires.there c.args.before told chained) in
-    let e = c.hand_out.ensures in
-    let chain = chained_then g.A.Links.regions g.A.Links.word g.A.Links.follows heap middle c.requires.sound c.unbin.ensures.same c.args.before told chained in
-    let left = c.unbin.ensures.loose [] b (λ none. none) in
-    let takes = sym c.if-hand_out.false ∙ (e.answer ∙ fixed.frees_same) in
-    let loose = loose_still c.index_stays.ensures g.A.Links.regions g.A.Links.word g.A.Links.follows middle new c.unbin.ensures.same.sound c.args.before told chain c.hand_out.result (e.visited chain) e.words e.bins
-    (subst (λ (left : Bool). FreeMoves (state_of g.A.Links.word middle) (state_of g.A.Links.word new) (if left then told.base ∷ [] else []) []) c.if-hand_out.false e.free) left.0 in
-    let after = c.bin.ensures.binned [] loose (λ none. none) in
-    (after.0, λ n. after.1 n ∙ (with_same (told.size - 80) told.base left.0.index (without_chunk (told.size - 80) told.base b.index) n (left.1 n) ∙ visit_kept frees parts chained.segment b.index n told.base (told.size - 80) base size may takes))
+    let takes : false ≡ frees = sym c.if-hand_out.false ∙ (e.answer ∙ fixed.frees_same) in
+    let may : (chained : IsChained g.A.Links.word heap c.args.before told) → true ≡ may_leave parts chained.segment = λ chained.
+    sym c.if-not-may_leave.false ∙ (c.may_leave.ensures.told ∙ test_is g.A.Links.regions g.A.Links.word heap c.requires.sound c.requires.there c.args.before told chained parts) in
+    let chain : (chained : IsChained g.A.Links.word heap c.args.before told) → IsChained g.A.Links.word middle c.args.before told = λ chained.
+    chained_then g.A.Links.regions g.A.Links.word g.A.Links.follows heap middle c.requires.sound c.unbin.ensures.same c.args.before told chained in
+    let visited : (chained : IsChained g.A.Links.word heap c.args.before told) → IsVisited g.A.Links.regions g.A.Links.word g.A.Links.follows true false heap c.args.before told chained new = λ chained.
+    visited_then g.A.Links.regions g.A.Links.word g.A.Links.follows g.A.Links.follows_on heap c.requires.sound c.args.before told chained middle c.unbin.ensures.same true false new
+    (subst (λ (leaves : Bool). IsVisited g.A.Links.regions g.A.Links.word g.A.Links.follows true leaves middle c.args.before told (chain chained) new) c.if-hand_out.false (e.visited (chain chained))) in
+    let moves = subst (λ (left : Bool). FreeMoves (state_of g.A.Links.word middle) (state_of g.A.Links.word new) (if left then told.base ∷ [] else []) []) c.if-hand_out.false e.free in
+    let after : (loose : IsBinnedBut (told.base ∷ []) g.A.Links.regions g.A.Links.word middle) → IsBinnedBut (told.base ∷ []) g.A.Links.regions g.A.Links.word new = λ loose.
+    loose_still c.index_stays.ensures g.A.Links.regions g.A.Links.word g.A.Links.follows middle new c.unbin.ensures.same.sound c.args.before told (chain c.requires.chained) c.hand_out.result (e.visited (chain c.requires.chained)) e.words e.bins moves loose in
+    record {
+      answer = λ chained. (λ i. takes i && may chained i);
+      visited = λ chained. subst (λ (handed : Bool). IsVisited g.A.Links.regions g.A.Links.word g.A.Links.follows handed false heap c.args.before told chained c.bin.new.self) (may chained)
+          (visited_binned g.A.Links.regions g.A.Links.word g.A.Links.follows g.A.Links.follows_on heap c.requires.sound c.args.before told chained true new c.bin.new.self (visited chained) c.bin.ensures.same);
+      linked = (c.bin.ensures.binned [] (after (c.unbin.ensures.loose [] c.requires.linked (λ none. none)).0) (λ none. none)).0;
+      index = λ chained b.
+          let left = c.unbin.ensures.loose [] b (λ none. none) in
+          let base = base_is g.A.Links.regions g.A.Links.word heap c.requires.sound c.requires.there c.args.before told chained in
+          let size = ap (λ (n : ℕ). n - 80) (size_is g.A.Links.regions g.A.Links.word heap c.requires.sound c.requires.there c.args.before told chained) in
+          let last = c.bin.ensures.binned [] (after left.0) (λ none. none) in
+          (last.0, λ n. last.1 n ∙ (with_same (told.size - 80) told.base left.0.index (without_chunk (told.size - 80) told.base b.index) n (left.1 n) ∙ visit_kept frees parts chained.segment b.index n told.base (told.size - 80) base size (may chained) takes));
+      counted = (let tested = c.may_leave.ensures.counted in let left = c.unbin.ensures.counted in let handed = e.counted in let put = c.bin.ensures.counted in omega (arith, tested, left, handed, put));
+    }
