@@ -4,6 +4,7 @@ ghost use Rattle.heap_memory.specs.Regions.{are_whole, are_ordered};
 ghost use Rattle.heap_arena.specs.Grants.{grants, are_between};
 
 use crate::table::Table;
+use crate::words::{put_word, word_at};
 use heap_memory::{Links, Memory};
 use std::sync::ledger::Ledger;
 use step_count::Steps;
@@ -147,7 +148,7 @@ impl<'a> Memory for Arena<'a> {
 
     #[tactic(auto, using(crate::proofs::GrantLemmas::granted_between))]
     fn load(&self, at: u64) -> u64 {
-        self.words[((at - self.base) / 8) as usize]
+        word_at(self.words, (at - self.base) as usize)
     }
 
     /// Puts a word at an address, and changes no other, granted or not.
@@ -160,6 +161,6 @@ impl<'a> Memory for Arena<'a> {
         ensures words { self.new.words.now ≡ slice_set self.old.words.now ((at - self.old.base) / 8) value }
         ensures top { self.new.top ≡ self.old.top }
     {
-        self.words[((at - self.base) / 8) as usize] = value;
+        put_word(self.words, (at - self.base) as usize, value);
     }
 }

@@ -4,6 +4,7 @@
 mod arena;
 mod arena_allocator;
 mod table;
+mod words;
 
 pub use arena::Arena;
 

@@ -1,4 +1,4 @@
-use Rattle.std.proofs.Common.{◌-◌, ◌/◌, arith}
+use Rattle.std.proofs.Common.{ℕ, ◌-◌, ◌/◌, List, get_or, ap, ◌∙◌, arith}
 use Rattle.std.proofs.lemmas.List.{get_or-set_same, get_or-set_other}
 use Rattle.heap_arena.specs.Arena.{regions_of}
 use Rattle.heap_arena.proofs.GrantLemmas.{granted_between}
@@ -13,10 +13,11 @@ returns-clause-stored c =
     let within = granted_between base arena.top (regions_of arena) at arena.between c.requires.granted in
     let end = arena.ends in
     let begin = arena.aligned in
-    let whole = c.requires.aligned in record {
-      here = get_or-set_same words ((at - base) / 8) c.args.value 0 (omega (arith, within.0, within.1, end, begin, whole));
+    let whole = c.requires.aligned in
+    let word_put = λ (place : ℕ). ap (λ (ws : List ℕ). get_or ws ((place - base) / 8) 0) c.put_word.ensures in record {
+      here = word_put at ∙ get_or-set_same words ((at - base) / 8) c.args.value 0 (omega (arith, within.0, within.1, end, begin, whole));
       elsewhere = λ other is differ.
           let other_within = granted_between base arena.top (regions_of arena) other arena.between is.granted in
           let other_whole = is.aligned in
-          get_or-set_other words ((at - base) / 8) ((other - base) / 8) c.args.value 0 (λ same. differ (omega (arith, same, within.0, other_within.0, begin, whole, other_whole)));
+          word_put other ∙ get_or-set_other words ((at - base) / 8) ((other - base) / 8) c.args.value 0 (λ same. differ (omega (arith, same, within.0, other_within.0, begin, whole, other_whole)));
     }
