@@ -29,8 +29,6 @@ mod priority_class;
 mod privilege_level;
 mod rflags;
 mod segment_selector;
-#[cfg(test)]
-mod tests;
 mod xcr0_flags;
 
 pub use crate::apic_base_flags::ApicBaseFlags;

@@ -8,6 +8,4 @@ pub mod interrupts;
 pub mod port;
 pub mod smap;
 pub mod tables;
-#[cfg(test)]
-mod tests;
 pub mod tlb;

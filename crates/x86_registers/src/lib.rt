@@ -13,8 +13,6 @@ pub mod mxcsr;
 mod register;
 pub mod rflags;
 pub mod segmentation;
-#[cfg(test)]
-mod tests;
 pub mod xcontrol;
 
 pub use crate::cpu::{Cpu, DescriptorTablePointer};

@@ -7,8 +7,6 @@ pub mod gdt;
 pub mod idt;
 mod laws;
 pub mod mem_encrypt;
-#[cfg(test)]
-mod tests;
 pub mod tss;
 
 pub use crate::laws::{default_segments, number_of_vector, selector_gives_back};

@@ -1,14 +1,5 @@
 //! Worked rows of the layouts, the texts of the errors, and each call once.
 
-use crate::gdt::{Descriptor, DescriptorFlags, GlobalDescriptorTable};
-use crate::idt::{
-    DescriptorTable, Entry, ExceptionVector, HandlerFunc, InterruptDescriptorTable,
-    InterruptStackFrame, InterruptStackFrameValue, InvalidExceptionVectorNumber,
-    PageFaultErrorCode, PageFaultHandlerFunc, SelectorErrorCode,
-};
-use crate::mem_encrypt::{EncryptionBits, MemoryEncryptionConfiguration, enable_memory_encryption};
-use crate::tss::{InvalidIoMap, TaskStateSegment};
-use crate::{default_segments, number_of_vector, selector_gives_back};
 use bitflags::Flags;
 use paging_core::{PageTableFlags, VirtAddr};
 use std::alloc::{AllocError, Global};
@@ -16,6 +7,17 @@ use std::mem::size_of;
 use std::test::Fail;
 use x86_flags::{PrivilegeLevel, RFlags, SegmentSelector};
 use x86_registers::Cpu;
+use x86_tables::gdt::{Descriptor, DescriptorFlags, GlobalDescriptorTable};
+use x86_tables::idt::{
+    DescriptorTable, Entry, ExceptionVector, HandlerFunc, InterruptDescriptorTable,
+    InterruptStackFrame, InterruptStackFrameValue, InvalidExceptionVectorNumber,
+    PageFaultErrorCode, PageFaultHandlerFunc, SelectorErrorCode,
+};
+use x86_tables::mem_encrypt::{
+    EncryptionBits, MemoryEncryptionConfiguration, enable_memory_encryption,
+};
+use x86_tables::tss::{InvalidIoMap, TaskStateSegment};
+use x86_tables::{default_segments, number_of_vector, selector_gives_back};
 
 /// The values of an old Linux, which `SYSCALL` and `SYSENTER` want too.
 #[test]

@@ -1,20 +1,20 @@
 ghost use Rattle.std.specs.Prelude.{◌≡◌, ◌%◌, ◌^◌};
 
-use crate::interrupts;
-use crate::port::{
-    MemoryPorts, Port, PortAccess, PortAccessed, PortRead, PortReadOnly, PortWrite, PortWriteOnly,
-    ReadOnlyAccess, ReadWriteAccess, WriteOnlyAccess,
-};
-use crate::smap::Smap;
-use crate::tables::{lgdt, lidt, load_tss, sgdt, sidt};
-use crate::tlb::{
-    AsidOutOfRangeError, FlushCommand, FlushList, InvPcidCommand, Invlpgb, Pcid, flush, flush_all,
-    flush_pcid,
-};
 use bitflags::Flags;
 use paging_core::{NotGiantPageSize, Page, PageRange, Size2MiB, Size4KiB, VirtAddr};
 use std::alloc::{AllocError, Global};
 use std::test::Fail;
+use x86_instructions::interrupts;
+use x86_instructions::port::{
+    MemoryPorts, Port, PortAccess, PortAccessed, PortRead, PortReadOnly, PortWrite, PortWriteOnly,
+    ReadOnlyAccess, ReadWriteAccess, WriteOnlyAccess,
+};
+use x86_instructions::smap::Smap;
+use x86_instructions::tables::{lgdt, lidt, load_tss, sgdt, sidt};
+use x86_instructions::tlb::{
+    AsidOutOfRangeError, FlushCommand, FlushList, InvPcidCommand, Invlpgb, Pcid, flush, flush_all,
+    flush_pcid,
+};
 use x86_registers::rflags::RFlags;
 use x86_registers::segmentation::SegmentSelector;
 use x86_registers::{Cpu, DescriptorTablePointer};

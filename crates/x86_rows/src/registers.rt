@@ -1,24 +1,24 @@
-use crate::control::{
-    Cr0, Cr0Flags, Cr2, Cr3, Cr3Flags, Cr4, Cr4Flags, Cr8, Efer, EferFlags, PriorityClass,
-};
-use crate::debug::{
-    DebugAddressRegister, DebugAddressRegisterNumber, Dr0, Dr1, Dr2, Dr3, Dr6, Dr7, Dr7Flags,
-    Dr7Value,
-};
-use crate::model_specific::{
-    AddressRegister, ApicBase, ApicBaseFlags, CetFlags, CetRegister, FsBase, GsBase,
-    InvalidStarSegmentSelectors, KernelGsBase, LStar, ModelSpecificRegister, Msr, SCet, SFMask,
-    Star, UCet,
-};
-use crate::mxcsr::{self, MxCsr};
-use crate::rflags::{self, RFlags};
-use crate::segmentation::{CS, DS, ES, FS, GS, SS, Segment, Segment64, SegmentSelector};
-use crate::xcontrol::{InvalidXCr0, XCr0, XCr0Flags};
-use crate::{Cpu, DescriptorTablePointer, FlagRegister};
 use bitflags::Flags;
 use paging_core::{Page, PhysAddr, PhysFrame, VirtAddr, VirtAddrNotValid};
 use std::test::Fail;
 use x86_flags::Pcid;
+use x86_registers::control::{
+    Cr0, Cr0Flags, Cr2, Cr3, Cr3Flags, Cr4, Cr4Flags, Cr8, Efer, EferFlags, PriorityClass,
+};
+use x86_registers::debug::{
+    DebugAddressRegister, DebugAddressRegisterNumber, Dr0, Dr1, Dr2, Dr3, Dr6, Dr7, Dr7Flags,
+    Dr7Value,
+};
+use x86_registers::model_specific::{
+    AddressRegister, ApicBase, ApicBaseFlags, CetFlags, CetRegister, FsBase, GsBase,
+    InvalidStarSegmentSelectors, KernelGsBase, LStar, ModelSpecificRegister, Msr, SCet, SFMask,
+    Star, UCet,
+};
+use x86_registers::mxcsr::{self, MxCsr};
+use x86_registers::rflags::{self, RFlags};
+use x86_registers::segmentation::{CS, DS, ES, FS, GS, SS, Segment, Segment64, SegmentSelector};
+use x86_registers::xcontrol::{InvalidXCr0, XCr0, XCr0Flags};
+use x86_registers::{Cpu, DescriptorTablePointer, FlagRegister};
 
 fn frame(address: u64) -> PhysFrame {
     PhysFrame::containing_address(PhysAddr::new_truncate(address))

@@ -1,12 +1,12 @@
 //! The bits of the manual's tables, and each call once.
 
-use crate::{
+use bitflags::Flags;
+use std::test::Fail;
+use x86_flags::{
     ApicBaseFlags, BreakpointCondition, BreakpointSize, CetFlags, Cr0Flags, Cr3Flags, Cr4Flags,
     DebugAddressRegisterNumber, Dr6Flags, Dr7Flags, Dr7Value, EferFlags, MxCsr, Pcid, PcidTooBig,
     PriorityClass, PrivilegeLevel, RFlags, SegmentSelector, XCr0Flags,
 };
-use bitflags::Flags;
-use std::test::Fail;
 
 #[test]
 fn all_flags_and_some_named_ones(rt: HostRuntime) {
