@@ -6,8 +6,6 @@ ghost use Rattle.number_set.specs.Numbers.{HasNoNumber, IsLowest};
 
 mod bitmap;
 mod level;
-#[cfg(test)]
-mod tests;
 
 use crate::level::Level;
 use std::alloc::{AllocError, Global};

@@ -7,4 +7,3 @@ pub mod Unmapped
 pub mod UnmapSteps
 pub mod UnmapPieces
 pub mod Found
-pub mod Leaving

@@ -8,6 +8,3 @@ mod unmapping;
 
 pub use mapping::{map_pages, map_slots};
 pub use unmapping::unmap_pages;
-
-#[cfg(test)]
-mod tests;

@@ -9,11 +9,7 @@ pub mod access;
 pub mod addr;
 pub mod bit_field;
 pub mod frame_allocator;
-#[cfg(test)]
-mod key_tests;
 pub mod large;
-#[cfg(test)]
-mod large_tests;
 pub mod laws;
 pub mod mapping;
 pub mod memory;
@@ -27,11 +23,7 @@ pub mod pool;
 pub mod protecting;
 mod range;
 mod tables;
-#[cfg(test)]
-mod tests;
 pub mod unmapping;
-#[cfg(test)]
-mod word_tests;
 
 pub use access::{copy_page, load_word, load_words, store_word, store_words};
 pub use addr::{PhysAddr, PhysAddrNotValid, VirtAddr, VirtAddrNotValid, align_down, align_up};

@@ -1,5 +1,5 @@
 use Rattle.std.proofs.Common.{refl}
-use Rattle.paging_core.proofs.tests.addresses_are_aligned.Goals as goal
+use Rattle.paging_rows.proofs.pages.addresses_are_aligned.Goals as goal
 
 pub align_up-requires-clause-power : goal.align_up-requires-clause-power
 align_up-requires-clause-power g c = (0, refl)

@@ -1,6 +1,6 @@
 use Rattle.std.proofs.Common.{◌≡◌, ◌+◌, ◌-◌, arith}
-use Rattle.page_ranges.proofs.Leaving.{part_mapped, part_ends}
-use Rattle.page_ranges.proofs.tests.leave_row.Goals as goal
+use Rattle.paging_rows.proofs.Leaving.{part_mapped, part_ends}
+use Rattle.paging_rows.proofs.ranges.leave_row.Goals as goal
 
 pub unmap_pages-requires-clause-mapped : goal.unmap_pages-requires-clause-mapped
 unmap_pages-requires-clause-mapped g c =

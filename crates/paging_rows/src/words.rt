@@ -3,8 +3,8 @@ ghost use Rattle.std.specs.Prelude.{◌≡◌, ◌+◌, ◌<◌, ◌≤◌, IsTr
 ghost use Rattle.paging_core.specs.Memory.{frame_count};
 ghost use Rattle.paging_core.specs.Walk.{walk_of};
 
-use crate::large_tests::write;
-use crate::*;
+use crate::large_pages::write;
+use paging_core::*;
 use std::alloc::Global;
 use std::process::Abort;
 use std::test::Fail;

@@ -1,5 +1,5 @@
 use Rattle.std.proofs.Common.{refl, arith, ◌∙◌}
-use Rattle.paging_core.proofs.tests.change_three.Goals as goal
+use Rattle.paging_rows.proofs.pages.change_three.Goals as goal
 
 pub protect_range-requires-clause-mapped : goal.protect_range-requires-clause-mapped
 protect_range-requires-clause-mapped g c = λ k lt. let m = c.map_range.ensures.added.mapped k lt in rw m.found refl

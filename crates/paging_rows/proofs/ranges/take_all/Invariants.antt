@@ -1,6 +1,6 @@
 use Rattle.std.proofs.Common.{◌≡◌, length}
 use Rattle.paging_core.specs.Pool.{free_count}
-use Rattle.page_ranges.proofs.tests.take_all.Given as goal
+use Rattle.paging_rows.proofs.ranges.take_all.Given as goal
 
 abbrev pub invariant-loop : goal.invariant-loop
 invariant-loop l = length l.pool ≡ length l.fn.pool

@@ -1,5 +1,5 @@
 //! Which traits the types have, at pages and frames of every size.
-use crate::*;
+use paging_core::*;
 use std::hash::Hash;
 
 /// Compiles at the types that can be keys of maps, by number.

@@ -4,7 +4,7 @@ ghost use Rattle.paging_core.specs.Pool.{FreeBelow};
 ghost use Rattle.paging_core.specs.Tree.{IsTree};
 ghost use Rattle.paging_core.specs.Walk.{walk_of};
 
-use crate::*;
+use paging_core::*;
 use std::alloc::Global;
 use std::process::Abort;
 use std::test::Fail;

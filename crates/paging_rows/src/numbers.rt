@@ -1,6 +1,6 @@
 //! The calls with memory at hand, over one level and over three.
 
-use super::NumberSet;
+use number_set::NumberSet;
 use std::test::Fail;
 
 #[test]

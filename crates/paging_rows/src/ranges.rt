@@ -4,7 +4,7 @@ ghost use Rattle.paging_core.specs.Pool.{is_free, FreeBelow};
 ghost use Rattle.paging_core.specs.Tree.{IsTree};
 ghost use Rattle.paging_core.specs.Walk.{reach, walk_of};
 
-use crate::*;
+use page_ranges::*;
 use paging_core::*;
 use std::alloc::Global;
 use std::process::Abort;
