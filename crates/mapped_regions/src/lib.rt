@@ -10,8 +10,3 @@ mod user_regions;
 
 pub use map_fault::{MapFault, UnmapFault};
 pub use regions::MappedRegions;
-
-#[cfg(test)]
-mod random_tests;
-#[cfg(test)]
-mod tests;

@@ -7,6 +7,3 @@
 mod region_tree;
 
 pub use region_tree::RegionTree;
-
-#[cfg(test)]
-mod tests;

@@ -1,8 +1,8 @@
 //! Ranges that come and go as numbers say that look random, beside a plain map of pages.
 ghost use Rattle.std.specs.Prelude.{◌^◌, ◌<◌, ◌≤◌};
 
-use crate::{MapFault, MappedRegions, UnmapFault};
 use heap_model::Rights;
+use mapped_regions::{MapFault, MappedRegions, UnmapFault};
 use std::alloc::Global;
 use std::process::Abort;
 use std::test::Fail;

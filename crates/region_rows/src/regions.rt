@@ -1,10 +1,11 @@
 //! Rows whose answers are known.
-ghost use Rattle.std.specs.Prelude.{◌≡◌, ◌*◌, ◌^◌, ◌<◌, ◌≤◌, IfSome};
+ghost use Rattle.std.specs.Prelude.{◌≡◌, ◌*◌, ◌^◌, ◌<◌, ◌≤◌, ◌||◌, nat_le, IfSome};
+ghost use Rattle.std.specs.List.{list_all};
+ghost use Rattle.heap_model.specs.State.{end_of, is_within};
 ghost use Rattle.region_tree.specs.Regions.{AreHeld, IsBoundary};
-ghost use Rattle.mapped_regions.specs.Shown.{shown};
 
-use crate::{MapFault, MappedRegions, UnmapFault};
 use heap_model::{Region, RegionList, Rights};
+use mapped_regions::{MapFault, MappedRegions, UnmapFault};
 use std::alloc::{AllocError, Global};
 use std::test::Fail;
 
@@ -116,40 +117,67 @@ fn places_beside_regions_of_the_user(rt: HostRuntime) -> Result<(), Fail> {
     Ok(())
 }
 
-// The page behind the region that has a page, if one has it.
-fn end_page(regions: &MappedRegions, page: u64) -> Option<u64>
-    requires within { page < 2 ^ 35 }
-    ensures behind { IfSome result (λ end. page < end) }
-    ensures held { IfSome result (λ end. AreHeld (4096 * page) (4096 * end) (shown regions.now).regions) }
-    ensures boundary { IfSome result (λ end. IsBoundary (4096 * end) (shown regions.now).regions) }
+/// Whether the region has the first byte of a page.
+fn has_page(region: &Region, page: u64) -> bool
+    requires { page < 2 ^ 35 }
+    ensures { result ≡ is_within (4096 * page) region.now }
 {
-    let Some(region) = regions.regions.lowest_met(page, 1) else {
-        return None;
-    };
-    Some(region.start / 4096 + region.pages)
+    region.start <= page * 4096 && (page * 4096 - region.start) / 4096 < region.pages
 }
 
-// Cuts from a page on what is left of its region, and of the one behind it where it is to cut two. Answers how many
-// pages were cut.
-fn cut_from(regions: &mut MappedRegions, page: u32, two: bool) -> u64 {
-    let first = page.into();
-    let Some(end) = end_page(regions, first) else {
-        return 0;
-    };
-    if end >= 1 << 35 {
-        return 0;
+/// Whether the region ends at a page or before, or begins there or behind.
+fn is_missed(region: &Region, page: u64) -> bool
+    requires { page < 2 ^ 35 }
+    ensures { result ≡ nat_le (end_of region.now) (4096 * page) || nat_le (4096 * page) region.now.start }
+{
+    region.start >= page * 4096 || region.pages <= (page * 4096 - region.start) / 4096
+}
+
+/// Whether each region ends at a page or before, or begins there or behind.
+fn are_missed(list: &[Region], page: u64) -> bool
+    requires { page < 2 ^ 35 }
+    ensures { result ≡ list_all (λ region. nat_le (end_of region) (4096 * page) || nat_le (4096 * page) region.start) list.now }
+{
+    list.iter().all(|region| is_missed(region, page))
+}
+
+/// The page behind the region that has a page, if one has it and none reaches over its end.
+fn end_page(list: &[Region], page: u64) -> Option<u64>
+    requires { page < 2 ^ 35 }
+    ensures range { IfSome result (λ end. (page < end) × (end < 2 ^ 35)) }
+    ensures held { IfSome result (λ end. AreHeld (4096 * page) (4096 * end) list.now) }
+    ensures boundary { IfSome result (λ end. IsBoundary (4096 * end) list.now) }
+{
+    let region = list.iter().find(|region| has_page(region, page))?;
+    let end = (region.start / 4096).checked_add(region.pages)?;
+    if end <= page || end >= 1 << 35 || !are_missed(list, end) {
+        return None;
     }
+    Some(end)
+}
+
+/// Cuts from a page on what is left of its region, and of the one behind it where it is to cut two. Answers how many
+/// pages were cut.
+fn cut_from(
+    regions: &mut MappedRegions,
+    alloc: Global,
+    page: u32,
+    two: bool,
+) -> Result<u64, AllocError> {
+    let first = page.into();
+    let list = regions.regions(alloc)?;
+    let Some(end) = end_page(list.as_slice(), first) else {
+        return Ok(0);
+    };
     if !two {
         regions.cut(first * 4096, end - first);
-        return end - first;
+        return Ok(end - first);
     }
-    match end_page(regions, end) {
-        Some(last) if last < 1 << 35 => {
-            regions.cut(first * 4096, last - first);
-            last - first
-        }
-        _ => 0,
-    }
+    let Some(last) = end_page(list.as_slice(), end) else {
+        return Ok(0);
+    };
+    regions.cut(first * 4096, last - first);
+    Ok(last - first)
 }
 
 // The first page of a region and its pages.
@@ -205,7 +233,11 @@ fn regions_are_cut_at_their_ends(rt: HostRuntime) -> Result<(), Fail> {
             [(0x3fe, 2), (0, 0), (0, 0), (0, 0), (0, 0)],
         ),
     ] {
-        assert_eq!(rt; cut_from(&mut regions, page, two), cut, "from {page:x} on");
+        assert_eq!(rt;
+            cut_from(&mut regions, alloc, page, two)?,
+            cut,
+            "from {page:x} on"
+        );
         let list = regions.regions(alloc)?;
         for (index, want) in rest.iter().enumerate() {
             let found = pages_at(&list, index as u64);

@@ -1,9 +1,9 @@
 //! Rows whose answers are known, and a tree beside a plain list.
 ghost use Rattle.std.specs.Prelude.{◌≡◌, ◌+◌, ◌*◌, ◌^◌, ◌<◌, ◌≤◌};
 
-use crate::RegionTree;
 use heap_model::{Region, RegionList};
 use paging_core::Rights;
+use region_tree::RegionTree;
 use std::alloc::{AllocError, Global};
 use std::test::Fail;
 
