@@ -6,27 +6,15 @@
 
 mod access;
 mod area;
-#[cfg(test)]
-mod byte_tests;
 mod bytes;
 mod changing;
-#[cfg(test)]
-mod copy_tests;
 mod copying;
-#[cfg(test)]
-mod half_tests;
 mod mapping;
-#[cfg(test)]
-mod memory_tests;
-#[cfg(test)]
-mod plain_tests;
 mod range;
 mod run_changes;
 mod runs;
 mod space;
 mod space_fault;
-#[cfg(test)]
-mod tests;
 
 pub use access::Bytes;
 pub use area::{Area, AreaList};

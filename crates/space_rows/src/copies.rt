@@ -1,7 +1,7 @@
 //! Copies of pages.
-use crate::byte_tests::{denied, expect_bytes, expect_no_byte};
-use crate::tests::{DATA, READ, area};
-use crate::{Space, SpaceFault};
+use crate::bytes::{denied, expect_bytes, expect_no_byte};
+use crate::pages::{DATA, READ, area};
+use address_space::{Space, SpaceFault};
 use paging_core::{Page, VirtAddr, walk};
 use std::test::Fail;
 

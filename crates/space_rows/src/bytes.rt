@@ -1,6 +1,6 @@
 //! Bytes in and out of a space.
-use crate::tests::{DATA, READ};
-use crate::{Space, SpaceFault};
+use crate::pages::{DATA, READ};
+use address_space::{Space, SpaceFault};
 use bitflags::Flags;
 use paging_core::Rights;
 use std::process::Abort;

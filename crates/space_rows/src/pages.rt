@@ -1,5 +1,5 @@
 //! Pages that are mapped, get other rights and leave.
-use crate::{Area, Space, SpaceFault};
+use address_space::{Area, Space, SpaceFault};
 use paging_core::Rights;
 use std::test::Fail;
 

@@ -1,8 +1,8 @@
 //! Want of memory. A run in which one allocation fails shows that the call changes nothing, and that it is served when
 //! it is made again; in a run with ample memory each call is served at once.
-use crate::byte_tests::expect_bytes;
-use crate::tests::{DATA, READ, area};
-use crate::{Space, SpaceFault};
+use crate::bytes::expect_bytes;
+use crate::pages::{DATA, READ, area};
+use address_space::{Space, SpaceFault};
 use std::process::Abort;
 use std::test::Fail;
 

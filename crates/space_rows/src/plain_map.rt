@@ -1,7 +1,7 @@
 //! A space beside a plain map of pages, over many calls.
 ghost use Rattle.std.specs.Prelude.{◌<◌};
 
-use crate::{Area, Space, SpaceFault};
+use address_space::{Area, Space, SpaceFault};
 use bitflags::Flags;
 use paging_core::Rights;
 use std::alloc::{AllocError, Global};

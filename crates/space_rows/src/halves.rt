@@ -1,7 +1,7 @@
 //! Pages of both canonical halves.
-use crate::byte_tests::{denied, expect_bytes, expect_no_byte};
-use crate::tests::{DATA, READ, area};
-use crate::{Space, SpaceFault};
+use crate::bytes::{denied, expect_bytes, expect_no_byte};
+use crate::pages::{DATA, READ, area};
+use address_space::{Space, SpaceFault};
 use std::test::Fail;
 
 /// The last page of the low half, the first of the high one, and the last of all.
