@@ -16,10 +16,10 @@ use Rattle.dlmalloc.specs.Heap.{segments_of, state_of, IsSound}
 use Rattle.dlmalloc.specs.Grown.{IsAsItWas}
 use Rattle.dlmalloc.specs.Served.{regions_in, KeepsRegions}
 use Rattle.dlmalloc.specs.declared.heap.Dlmalloc.{Dlmalloc}
-use Rattle.dlmalloc.proofs.Moving.{standing}
-use Rattle.dlmalloc.proofs.Segments.{located, of_located}
-use Rattle.dlmalloc.proofs.Apart.{beside}
-use Rattle.dlmalloc.proofs.Outside.{still_sound, still_state, still_binned}
+use Rattle.dlmalloc.proofs.Moves.OfLists.{standing}
+use Rattle.dlmalloc.proofs.Segments.Among.{located, of_located}
+use Rattle.dlmalloc.proofs.Extents.Disjoint.{beside}
+use Rattle.dlmalloc.proofs.Blocks.WordsOutside.{still_sound, still_state, still_binned}
 
 module _ {A : Type 0} (regions : A → List Grant) (word : A → ℕ → ℕ) (heap : Dlmalloc A) (sound : IsSound regions word heap) where
   -- an extent in use stands in granted bytes, in whole units of 16 bytes

@@ -25,7 +25,7 @@ use step_count::Steps;
 
 impl<A: Allocator> Dlmalloc<A> {
     /// The bytes that the system is asked for, so that a chunk of `n` bytes can be cut from the top that they make.
-    #[tactic(auto, using(crate::proofs::Growing::asked_whole))]
+    #[tactic(auto, using(crate::proofs::Requests::Granularity::asked_whole))]
     fn asked(&self, n: u64) -> u64
         requires granularity { IsGranularity self.now.granularity }
         requires small { n + 96 + self.now.granularity ≤ 2 ^ 64 }

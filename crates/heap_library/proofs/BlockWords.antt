@@ -10,9 +10,9 @@ use Rattle.dlmalloc.specs.Heap.{state_of, IsSound}
 use Rattle.dlmalloc.specs.Binned.{IsBinned}
 use Rattle.dlmalloc.specs.Served.{OnlyBlocksChange, RestsOutside}
 use Rattle.dlmalloc.specs.declared.heap.Dlmalloc.{Dlmalloc}
-use Rattle.dlmalloc.proofs.Places.{found}
+use Rattle.dlmalloc.proofs.Extents.Lookup.{found}
 use Rattle.dlmalloc.proofs.Laws.{used_inside, same_regions}
-use Rattle.dlmalloc.proofs.Elsewhere.{size_at}
+use Rattle.dlmalloc.proofs.Resizing.InPlaceOrElsewhere.{size_at}
 use Rattle.heap_library.specs.Library.{HasBlock, usable, IsIntact}
 
 -- a block has the bytes that were asked for

@@ -9,7 +9,7 @@ use Rattle.dlmalloc.specs.AfterFree.{IsFreed}
 use Rattle.dlmalloc.specs.Moved.{IsGivenSize}
 use Rattle.dlmalloc.specs.Shortened.{IsTrimmed}
 use Rattle.dlmalloc.specs.declared.heap.Dlmalloc.{Dlmalloc}
-use Rattle.dlmalloc.proofs.Places.{found}
+use Rattle.dlmalloc.proofs.Extents.Lookup.{found}
 use Rattle.heap_arena.specs.declared.arena.Arena.{Arena}
 use Rattle.heap_arena.specs.Arena.{regions_of, word_of, IsSameArena, same_on}
 use Rattle.heap_library.specs.declared.heap_error.HeapError.{HeapError}

@@ -10,7 +10,7 @@ use Rattle.dlmalloc.specs.Freed.{freed_in, freed}
 use Rattle.dlmalloc.specs.Released.{may_leave, handed_out, staying, taken_back, regions_without, passed, is_counted, counted, left_by_count}
 use Rattle.dlmalloc.specs.Trimmed.{shortened, cut_of, cut_top, is_cut, after_cut, given_up, top_bytes, is_trimmed, gives_back, trimmed, without_end, regions_cut, regions_trimmed}
 use Rattle.dlmalloc.specs.AfterFree.{is_above_check, after_free, regions_after}
-use Rattle.dlmalloc.proofs.Withdrawn.{all_without}
+use Rattle.dlmalloc.proofs.Segments.RegionsLess.{all_without}
 use Rattle.heap_model.specs.declared.region.Region.{Region}
 use Rattle.heap_model.specs.State.{end_of}
 use Rattle.heap_model.proofs.Booleans.{or_left, or_right, or_cases}

@@ -14,7 +14,7 @@ use Rattle.dlmalloc.specs.Binned.{IsBinned}
 use Rattle.dlmalloc.specs.Heap.{state_of, IsSound}
 use Rattle.dlmalloc.specs.Served.{OnlyBlocksChange, RestsOutside}
 use Rattle.dlmalloc.specs.declared.heap.Dlmalloc.{Dlmalloc}
-use Rattle.dlmalloc.proofs.Places.{extent, found}
+use Rattle.dlmalloc.proofs.Extents.Lookup.{extent, found}
 use Rattle.dlmalloc.proofs.Laws.{used_inside, same_regions}
 use Rattle.kernel_heap.specs.TwinSystem.{paged_of}
 use Rattle.kernel_heap.specs.Words.{grants_of}

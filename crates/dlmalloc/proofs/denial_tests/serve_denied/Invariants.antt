@@ -1,6 +1,4 @@
-use Rattle.dlmalloc.specs.Binned.{IsBinned}
-use Rattle.dlmalloc.specs.Heap.{IsSound}
-use Rattle.heap_memory.specs.FlatSystem.{regions_of, word_of}
+use Rattle.dlmalloc.proofs.Names.{IsBinned, IsSound, regions_of, word_of}
 use Rattle.dlmalloc.proofs.denial_tests.serve_denied.Given as goal
 
 abbrev pub invariant-loop-i : goal.invariant-loop-i

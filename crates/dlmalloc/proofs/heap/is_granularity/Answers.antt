@@ -1,6 +1,5 @@
-use Rattle.std.proofs.Common.{arith, IsTrue, subst, sym}
-use Rattle.std.proofs.lemmas.Bool.Decides.{nat_tests}
-use Rattle.dlmalloc_chunks.proofs.PowersOfTwo.{power_from_test, test_of_power}
+use Rattle.dlmalloc.proofs.Names.{arith, IsTrue, subst, sym, nat_tests, power_from_test}
+use Rattle.dlmalloc_chunks.proofs.PowersOfTwo.{test_of_power}
 use Rattle.dlmalloc.proofs.heap.is_granularity.Goals as goal
 
 pub returns-then-is_power_of_two : goal.returns-then-is_power_of_two

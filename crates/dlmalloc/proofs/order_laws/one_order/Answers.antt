@@ -1,4 +1,4 @@
-use Rattle.dlmalloc.proofs.OneOrder.{one_order}
+use Rattle.dlmalloc.proofs.Bins.OneOrder.{one_order}
 use Rattle.dlmalloc.proofs.order_laws.one_order.Goals as goal
 
 pub returns : goal.returns

@@ -1,4 +1,4 @@
-use Rattle.std.proofs.Common.{inl, inr, arith}
+use Rattle.dlmalloc.proofs.Names.{inl, inr, arith}
 use Rattle.dlmalloc.proofs.record.put_fences.Goals as goal
 
 pub returns-clause-elsewhere : goal.returns-clause-elsewhere

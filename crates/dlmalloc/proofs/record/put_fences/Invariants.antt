@@ -1,5 +1,4 @@
-use Rattle.std.proofs.Common.{◌≡◌, ℕ, ◌-◌, ◌%◌, ◌<◌, ◌≤◌, ◌⊎◌, []}
-use Rattle.heap_memory.specs.Regions.{IsWordOf}
+use Rattle.dlmalloc.proofs.Names.{◌≡◌, ℕ, ◌-◌, ◌%◌, ◌<◌, ◌≤◌, ◌⊎◌, [], IsWordOf}
 use Rattle.dlmalloc.proofs.record.put_fences.Given as goal
 
 abbrev pub invariant-loop-at : goal.invariant-loop-at

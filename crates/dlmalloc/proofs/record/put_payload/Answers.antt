@@ -1,4 +1,4 @@
-use Rattle.std.proofs.Common.{[], refl}
+use Rattle.dlmalloc.proofs.Names.{[], refl}
 use Rattle.dlmalloc.proofs.record.put_payload.Goals as goal
 
 pub returns-clause-follows : goal.returns-clause-follows

@@ -1,11 +1,5 @@
-use Rattle.std.proofs.Common.{◌≡◌, ℕ, ◌-◌, ◌≤◌, Some, refl, arith}
-use Rattle.heap_memory.specs.FlatSystem.{word_of}
-use Rattle.dlmalloc_chunks.specs.declared.extent.Kind.TheVariants.{Used}
-use Rattle.dlmalloc.specs.Extents.{extent_at}
-use Rattle.dlmalloc.specs.State.{HeapState, extents_in}
-use Rattle.dlmalloc.specs.Blocks.{IsBlock}
-use Rattle.dlmalloc.specs.Heap.{state_of}
-use Rattle.dlmalloc.proofs.Places.{extent}
+use Rattle.dlmalloc.proofs.Names.{◌≡◌, ℕ, ◌-◌, ◌≤◌, Some, refl, arith, word_of, Used, extent_at, HeapState, extents_in, IsBlock, state_of}
+use Rattle.dlmalloc.proofs.Extents.Lookup.{extent}
 use Rattle.dlmalloc.proofs.tests.apply.Goals as goal
 
 -- a chunk in use is one of a block

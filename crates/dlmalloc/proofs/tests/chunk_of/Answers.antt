@@ -1,13 +1,5 @@
-use Rattle.std.proofs.Common.{◌≡◌, ℕ, ◌-◌, ◌≤◌, Bool, true, false, if◌then◌else◌, List, Option, Some, None, refl, sym, ◌∙◌, ap, subst, arith}
-use Rattle.std.specs.Prelude.{option_map, unwrap_or}
-use Rattle.heap_memory.specs.FlatSystem.{regions_of, word_of}
-use Rattle.dlmalloc_chunks.specs.declared.extent.Extent.{Extent}
-use Rattle.dlmalloc_chunks.specs.declared.extent.Kind.{Kind}
-use Rattle.dlmalloc_chunks.specs.declared.extent.Kind.TheVariants.{Used, Victim}
-use Rattle.dlmalloc.specs.Extents.{extent_at}
-use Rattle.dlmalloc.specs.State.{HeapState, extents_in, is_victim, shown}
-use Rattle.dlmalloc.specs.Heap.{state_of}
-use Rattle.dlmalloc.proofs.Places.{extent, found}
+use Rattle.dlmalloc.proofs.Names.{◌≡◌, ℕ, ◌-◌, ◌≤◌, Bool, true, false, if◌then◌else◌, List, Option, Some, None, refl, sym, ◌∙◌, ap, subst, arith, option_map, unwrap_or, regions_of, word_of, Extent, Kind, Used, Victim, extent_at, HeapState, extents_in, is_victim, shown, state_of}
+use Rattle.dlmalloc.proofs.Extents.Lookup.{extent, found}
 use Rattle.dlmalloc.proofs.Laws.{used_inside}
 use Rattle.dlmalloc.proofs.tests.chunk_of.Goals as goal
 

@@ -1,5 +1,4 @@
-use Rattle.std.proofs.Common.{IsTrue, subst}
-use Rattle.dlmalloc_chunks.proofs.PowersOfTwo.{power_from_test}
+use Rattle.dlmalloc.proofs.Names.{IsTrue, subst, power_from_test}
 use Rattle.dlmalloc.proofs.tests.power.Goals as goal
 
 pub returns-then-is_power_of_two : goal.returns-then-is_power_of_two

@@ -1,6 +1,4 @@
-use Rattle.dlmalloc.specs.Binned.{IsBinned}
-use Rattle.dlmalloc.specs.Heap.{IsSound}
-use Rattle.heap_memory.specs.FlatSystem.{regions_of, word_of}
+use Rattle.dlmalloc.proofs.Names.{IsBinned, IsSound, regions_of, word_of}
 use Rattle.dlmalloc.proofs.tests.serve_wide.Given as goal
 
 abbrev pub invariant-loop-fault : goal.invariant-loop-fault

@@ -1,5 +1,4 @@
-use lib.Count.{ones}
-use Rattle.std.proofs.Common.{refl}
+use Rattle.dlmalloc.proofs.Names.{ones, refl}
 use Rattle.dlmalloc.proofs.tests.wide_heap.Goals as goal
 
 pub new-requires : goal.new-requires

@@ -2,9 +2,9 @@ use Rattle.std.proofs.Common.{◌≡◌, ◌∙◌, ℕ, ◌+◌, ◌-◌, ap, s
 use Rattle.dlmalloc_chunks.specs.Head.{size_of}
 use Rattle.dlmalloc_chunks.specs.declared.extent.Kind.TheVariants.{Used}
 use Rattle.dlmalloc.specs.Heap.{state_of}
-use Rattle.dlmalloc.proofs.Places.{extent}
-use Rattle.dlmalloc.proofs.BlockChunks.{block_chunk, block_head}
-use Rattle.dlmalloc.proofs.Elsewhere.{size_at}
+use Rattle.dlmalloc.proofs.Extents.Lookup.{extent}
+use Rattle.dlmalloc.proofs.Blocks.Chunks.{block_chunk, block_head}
+use Rattle.dlmalloc.proofs.Resizing.InPlaceOrElsewhere.{size_at}
 use Rattle.heap_library.proofs.calls.usable_size.Goals as goal
 
 pub size-requires : goal.size-requires

@@ -5,7 +5,7 @@ use Rattle.dlmalloc_chunks.specs.declared.extent.Kind.TheVariants.{Used}
 use Rattle.dlmalloc.specs.Extents.{extent_at}
 use Rattle.dlmalloc.specs.State.{extents_in, shown}
 use Rattle.dlmalloc.specs.Heap.{state_of}
-use Rattle.dlmalloc.proofs.Places.{extent}
+use Rattle.dlmalloc.proofs.Extents.Lookup.{extent}
 use Rattle.dlmalloc.proofs.Laws.{used_inside}
 use Rattle.kernel_heap.proofs.TwinHeaps.{regions, word, told, listed}
 use Rattle.kernel_heap.proofs.twin_rows.chunk_of.Goals as goal

@@ -1,7 +1,6 @@
-use Rattle.std.proofs.Common.{[]}
-use Rattle.dlmalloc.proofs.Joining.{as_joined, top_not_free, little_left, top_no_victim, top_left, joined_binned, none_in_grant}
-use Rattle.dlmalloc.specs.Order.{KeepsOrder}
-use Rattle.dlmalloc.proofs.Ordering.{order_same, lessened_same, added_as, in_order}
+use Rattle.dlmalloc.proofs.Names.{[], KeepsOrder}
+use Rattle.dlmalloc.proofs.Grants.WithBins.{as_joined, top_not_free, little_left, top_no_victim, top_left, joined_binned, none_in_grant}
+use Rattle.dlmalloc.proofs.Bins.Order.{order_same, lessened_same, added_as, in_order}
 use Rattle.dlmalloc.proofs.heap.Dlmalloc.add_segment.Goals as goal
 
 pub returns-then-top_size-lt-LEAST_CHUNK : goal.returns-then-top_size-lt-LEAST_CHUNK

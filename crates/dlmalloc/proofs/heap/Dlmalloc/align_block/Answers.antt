@@ -1,14 +1,7 @@
-use Rattle.std.proofs.Common.{ℕ, ◌+◌, ◌-◌, ◌≡◌, ◌∙◌, List, inr, sym, ap, subst}
-use Rattle.heap_memory.specs.declared.grant.Grant.{Grant}
-use Rattle.heap_memory.specs.Regions.{IsWordOf}
-use Rattle.dlmalloc.specs.Boundaries.{IsOwn}
-use Rattle.dlmalloc.specs.State.{HeapState}
-use Rattle.dlmalloc.specs.Aligned.{lead_freed, tail_cut}
-use Rattle.dlmalloc.specs.Heap.{state_of}
-use Rattle.dlmalloc.proofs.BlockChunks.{block_chunk, block_head}
-use Rattle.dlmalloc.proofs.AlignedBlocks.{moved_on, kept_on}
-use Rattle.dlmalloc.proofs.AlignedRequests.{chunk_whole, chunk_small, place_here}
-use Rattle.dlmalloc.specs.Binned.{HoldsBinned}
+use Rattle.dlmalloc.proofs.Names.{ℕ, ◌+◌, ◌-◌, ◌≡◌, ◌∙◌, List, inr, sym, ap, subst, Grant, IsWordOf, IsOwn, HeapState, lead_freed, tail_cut, state_of, HoldsBinned}
+use Rattle.dlmalloc.proofs.Blocks.Chunks.{block_chunk, block_head}
+use Rattle.dlmalloc.proofs.Requests.LeadAndTail.{moved_on, kept_on}
+use Rattle.dlmalloc.proofs.Requests.Aligned.{chunk_whole, chunk_small, place_here}
 use Rattle.dlmalloc.proofs.heap.Dlmalloc.align_block.Goals as goal
 
 pub size-size-requires : goal.size-size-requires

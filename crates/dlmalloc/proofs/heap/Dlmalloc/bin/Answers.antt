@@ -1,5 +1,5 @@
-use Rattle.dlmalloc.proofs.Rebinned.{fresh, rebinned, now_binned, links_insert}
-use Rattle.std.proofs.Common.{refl}
+use Rattle.dlmalloc.proofs.Bins.Changes.{fresh, rebinned, now_binned, links_insert}
+use Rattle.dlmalloc.proofs.Names.{refl}
 use Rattle.dlmalloc.proofs.heap.Dlmalloc.bin.Goals as goal
 
 pub insert-requires : goal.insert-requires

@@ -1,6 +1,6 @@
-use Rattle.std.proofs.Common.{arith}
-use Rattle.dlmalloc.proofs.Rebinned.{not_rebinned, none_binned}
-use Rattle.dlmalloc.proofs.Ordering.{added_none, added_as}
+use Rattle.dlmalloc.proofs.Names.{arith}
+use Rattle.dlmalloc.proofs.Bins.Changes.{not_rebinned, none_binned}
+use Rattle.dlmalloc.proofs.Bins.Order.{added_none, added_as}
 use Rattle.dlmalloc.proofs.heap.Dlmalloc.bin_some.Goals as goal
 
 pub bin-requires-clause-free : goal.bin-requires-clause-free

@@ -1,4 +1,4 @@
-use Rattle.dlmalloc.proofs.BlockChunks.{blocks_apart}
+use Rattle.dlmalloc.proofs.Blocks.Chunks.{blocks_apart}
 use Rattle.dlmalloc.proofs.heap.Dlmalloc.blocks_are_apart.Goals as goal
 
 pub returns : goal.returns

@@ -1,4 +1,4 @@
-use Rattle.dlmalloc.proofs.BlockChunks.{block_placed}
+use Rattle.dlmalloc.proofs.Blocks.Chunks.{block_placed}
 use Rattle.dlmalloc.proofs.heap.Dlmalloc.blocks_are_placed.Goals as goal
 
 pub returns : goal.returns

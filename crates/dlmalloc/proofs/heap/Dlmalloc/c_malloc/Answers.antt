@@ -1,11 +1,8 @@
-use Rattle.std.proofs.Common.{◌≡◌, ℕ, ◌<◌, None, refl, subst, arith, rules}
-use Rattle.dlmalloc.specs.Choice.{chosen}
-use Rattle.dlmalloc.specs.Heap.{state_of}
-use Rattle.dlmalloc.proofs.Members.{member_behind}
-use Rattle.dlmalloc_chunks.specs.Request.{limit}
-use Rattle.dlmalloc.proofs.Requests.{request_small}
-use Rattle.dlmalloc.proofs.Served.{served}
-use Rattle.dlmalloc.proofs.Ordering.{order_same}
+use Rattle.dlmalloc.proofs.Names.{◌≡◌, ℕ, ◌<◌, None, refl, subst, arith, rules, chosen, state_of, limit}
+use Rattle.dlmalloc.proofs.Bins.Members.{member_behind}
+use Rattle.dlmalloc.proofs.Requests.Plain.{request_small}
+use Rattle.dlmalloc.proofs.Cuts.OneStepOrTwo.{served}
+use Rattle.dlmalloc.proofs.Bins.Order.{order_same}
 use Rattle.dlmalloc.proofs.heap.Dlmalloc.c_malloc.Goals as goal
 
 pub cut-requires-clause-small : goal.cut-requires-clause-small

@@ -1,18 +1,10 @@
-use Rattle.std.proofs.Common.{◌≢◌, ℕ, ◌+◌, ◌*◌, ◌-◌, ◌≤◌, min, ◌==◌, Option, Some, IfOk, IfSome, refl, sym, ◌∙◌, ap, subst, arith}
-use Rattle.std.proofs.lemmas.Result.{IfOk-weaker}
-use Rattle.dlmalloc_chunks.specs.declared.extent.Kind.TheVariants.{Used}
-use Rattle.dlmalloc.specs.State.{extents_in, size_where}
-use Rattle.dlmalloc.specs.Heap.{state_of}
-use Rattle.dlmalloc.specs.Moved.{IsResized, IsGivenSize}
-use Rattle.dlmalloc.proofs.Places.{extent}
-use Rattle.dlmalloc.proofs.BlockChunks.{block_chunk, block_head}
-use Rattle.dlmalloc.proofs.Elsewhere.{size_at, block_told}
-use Rattle.dlmalloc.proofs.GivenSize.{given_size}
-use Rattle.dlmalloc.specs.Requested.{IsMemberServed}
-use Rattle.dlmalloc.proofs.Members.{on_both, member_low}
-use Rattle.dlmalloc.proofs.HandedOut.{handed_low}
-use Rattle.dlmalloc.specs.Written.{words_in}
-use Rattle.dlmalloc.specs.Counts.{pass_steps}
+use Rattle.dlmalloc.proofs.Names.{◌≢◌, ℕ, ◌+◌, ◌*◌, ◌-◌, ◌≤◌, min, ◌==◌, Option, Some, IfOk, IfSome, refl, sym, ◌∙◌, ap, subst, arith, IfOk-weaker, Used, extents_in, size_where, state_of, IsResized, IsGivenSize, IsMemberServed, words_in, pass_steps}
+use Rattle.dlmalloc.proofs.Extents.Lookup.{extent}
+use Rattle.dlmalloc.proofs.Blocks.Chunks.{block_chunk, block_head}
+use Rattle.dlmalloc.proofs.Resizing.InPlaceOrElsewhere.{size_at, block_told}
+use Rattle.dlmalloc.proofs.Blocks.GivenSize.{given_size}
+use Rattle.dlmalloc.proofs.Bins.Members.{on_both, member_low}
+use Rattle.dlmalloc.proofs.Blocks.HandedOut.{handed_low}
 use Rattle.dlmalloc.proofs.heap.Dlmalloc.c_realloc.Goals as goal
 
 pub size-size-requires : goal.size-size-requires

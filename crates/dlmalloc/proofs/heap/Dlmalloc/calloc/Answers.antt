@@ -1,7 +1,7 @@
-use Rattle.std.proofs.Common.{ℕ, refl, sym, subst, arith}
-use Rattle.heap_memory.specs.Words.{AreWordsOf, AreFilled}
-use Rattle.dlmalloc.proofs.BlockWords.{block_words, same_heap, same_binned, served_block}
-use Rattle.dlmalloc.proofs.GivenSize.{handed_written}
+use Rattle.dlmalloc.proofs.Names.{ℕ, refl, sym, subst, arith, AreWordsOf}
+use Rattle.heap_memory.specs.Words.{AreFilled}
+use Rattle.dlmalloc.proofs.Blocks.Words.{block_words, same_heap, same_binned, served_block}
+use Rattle.dlmalloc.proofs.Blocks.GivenSize.{handed_written}
 use Rattle.dlmalloc.proofs.heap.Dlmalloc.calloc.Goals as goal
 
 pub fill_counted-requires : goal.fill_counted-requires

@@ -1,12 +1,6 @@
-use Rattle.std.proofs.Common.{◌≡◌, ℕ, ◌+◌, ◌-◌, ◌%◌, ◌<◌, ◌≤◌, ◌∙◌, inl, inr, ◌==◌, nat_le, if◌then◌else◌, [], ◌∷◌, refl, sym, ap, subst, arith}
-use Rattle.heap_memory.specs.Regions.{IsWordOf}
-use Rattle.dlmalloc.specs.Heap.{state_of}
-use Rattle.dlmalloc.specs.Binned.{IsFreeAt, IsSameBins, FreeMoves}
-use Rattle.dlmalloc.specs.Grown.{IsAdmitted}
-use Rattle.dlmalloc.specs.Record.{IsRecordAt}
-use Rattle.dlmalloc.specs.declared.heap.Dlmalloc.{Dlmalloc}
-use Rattle.dlmalloc.proofs.Growing.{top_low, top_whole, top_sizes, ends, end_whole, head_low, head_small, head_word}
-use Rattle.dlmalloc.proofs.NewHead.{new_free, new_rest, bounds_of, ends_same, told_same, beside_head, large_at, record_kept, new_head, joined_new}
+use Rattle.dlmalloc.proofs.Names.{◌≡◌, ℕ, ◌+◌, ◌-◌, ◌%◌, ◌<◌, ◌≤◌, ◌∙◌, inl, inr, ◌==◌, nat_le, if◌then◌else◌, [], ◌∷◌, refl, sym, ap, subst, arith, IsWordOf, state_of, IsFreeAt, IsSameBins, FreeMoves, IsAdmitted, IsRecordAt, Dlmalloc}
+use Rattle.dlmalloc.proofs.Segments.HeadTop.{top_low, top_whole, top_sizes, ends, end_whole, head_low, head_small, head_word}
+use Rattle.dlmalloc.proofs.Grants.NewHeadStored.{new_free, new_rest, bounds_of, ends_same, told_same, beside_head, large_at, record_kept, new_head, joined_new}
 use Rattle.dlmalloc.proofs.heap.Dlmalloc.change_head.Goals as goal
 
 pub leave_top-record-requires : goal.leave_top-record-requires

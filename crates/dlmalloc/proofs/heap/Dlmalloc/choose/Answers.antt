@@ -1,9 +1,5 @@
-use Rattle.std.proofs.Common.{◌≢◌, ◌∙◌, arith, refl, sym}
-use Rattle.dlmalloc_chunks.specs.declared.extent.Kind.TheVariants.{Free}
-use Rattle.dlmalloc.specs.Heap.{state_of}
-use Rattle.dlmalloc.specs.Choice.{IsChosen}
-use Rattle.dlmalloc.specs.Binned.{IsMember}
-use Rattle.dlmalloc.proofs.Choosing.{of_place, bins_chosen, victim_first, victim_alone, top_chosen, none_chosen}
+use Rattle.dlmalloc.proofs.Names.{◌≢◌, ◌∙◌, arith, refl, sym, Free, state_of, IsChosen, IsMember}
+use Rattle.dlmalloc.proofs.Cuts.Chosen.{of_place, bins_chosen, victim_first, victim_alone, top_chosen, none_chosen}
 use Rattle.dlmalloc.proofs.heap.Dlmalloc.choose.Goals as goal
 
 pub returns-in-Some-clause-chunk : goal.returns-in-Some-clause-chunk

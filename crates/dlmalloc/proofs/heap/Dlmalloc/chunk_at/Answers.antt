@@ -1,7 +1,5 @@
-use Rattle.std.proofs.Common.{◌≡◌, ◌+◌, ◌∙◌, ap, Bool, true, false, not, refl, if◌then◌else◌}
-use Rattle.dlmalloc_chunks.specs.declared.extent.Kind.TheVariants.{Used, Free}
-use Rattle.dlmalloc_chunks.specs.Head.{free_of}
-use Rattle.dlmalloc.proofs.Places.{same_extent}
+use Rattle.dlmalloc.proofs.Names.{◌≡◌, ◌+◌, ◌∙◌, ap, Bool, true, false, not, refl, if◌then◌else◌, Used, Free, free_of}
+use Rattle.dlmalloc.proofs.Extents.Lookup.{same_extent}
 use Rattle.dlmalloc.proofs.heap.Dlmalloc.chunk_at.Goals as goal
 
 turned : (b : Bool) → (if not b then Used else Free) ≡ (if b then Free else Used)

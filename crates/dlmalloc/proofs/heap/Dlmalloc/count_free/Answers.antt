@@ -1,7 +1,5 @@
-use Rattle.std.proofs.Common.{◌≡◌, true, false, sym, ◌∙◌, arith}
-use Rattle.std.specs.Prelude.{nat_le}
-use Rattle.std.proofs.lemmas.Bool.Decides.{nat_tests}
-use Rattle.dlmalloc.proofs.Counting.{counted_none, counted_less, counted_pass}
+use Rattle.dlmalloc.proofs.Names.{◌≡◌, true, false, sym, ◌∙◌, arith, nat_le, nat_tests}
+use Rattle.dlmalloc.proofs.Frees.Counted.{counted_none, counted_less, counted_pass}
 use Rattle.dlmalloc.proofs.heap.Dlmalloc.count_free.Goals as goal
 
 pub returns-then-not-is_counted-clause-counted : goal.returns-then-not-is_counted-clause-counted

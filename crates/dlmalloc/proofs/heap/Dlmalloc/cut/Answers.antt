@@ -1,16 +1,12 @@
-use Rattle.std.proofs.Common.{ℕ, Some, refl, sym, ap, subst, arith}
-use Rattle.dlmalloc.specs.Served.{IsCutOut}
-use Rattle.dlmalloc.specs.State.{HeapState}
-use Rattle.dlmalloc.specs.Heap.{state_of}
-use Rattle.dlmalloc.proofs.Choosing.{free_below, bins_no_victim, top_no_bins}
-use Rattle.dlmalloc.proofs.Rebinned.{binned_beside}
-use Rattle.dlmalloc.proofs.Members.{none_member}
-use Rattle.dlmalloc.proofs.Places.{extent}
-use Rattle.dlmalloc_chunks.specs.declared.extent.Kind.TheVariants.{Free, Top}
-use Rattle.dlmalloc.proofs.Requests.{none_chosen_empty}
-use Rattle.dlmalloc.proofs.Served.{as_turned, cut_here}
+use Rattle.dlmalloc.proofs.Names.{ℕ, Some, refl, sym, ap, subst, arith, IsCutOut, HeapState, state_of, Free, Top}
+use Rattle.dlmalloc.proofs.Cuts.Chosen.{free_below, bins_no_victim, top_no_bins}
+use Rattle.dlmalloc.proofs.Bins.Changes.{binned_beside}
+use Rattle.dlmalloc.proofs.Bins.Members.{none_member}
+use Rattle.dlmalloc.proofs.Extents.Lookup.{extent}
+use Rattle.dlmalloc.proofs.Requests.Plain.{none_chosen_empty}
+use Rattle.dlmalloc.proofs.Cuts.OneStepOrTwo.{as_turned, cut_here}
 use Rattle.dlmalloc.proofs.heap.Dlmalloc.cut.Goals.{then-self-gt0+in-None, else-self-gt0}
-use Rattle.dlmalloc.proofs.Ordering.{order_same}
+use Rattle.dlmalloc.proofs.Bins.Order.{order_same}
 use Rattle.dlmalloc.proofs.heap.Dlmalloc.cut.Goals as goal
 
 pub returns-in-Some-Chunk-clause-cut : goal.returns-in-Some-Chunk-clause-cut

@@ -1,6 +1,5 @@
-use Rattle.std.proofs.Common.{rules, refl, ◌+◌, ◌-◌, inl, inr, sym, subst, ◌∙◌, arith}
-use Rattle.dlmalloc_chunks.specs.Chunk.{HasHead, HasFoot}
-use Rattle.dlmalloc.proofs.Taking.{whole_victim, whole_other, split_victim, split_other, at_whole, size_whole, end_small, head_there, foot_there, stores}
+use Rattle.dlmalloc.proofs.Names.{rules, refl, ◌+◌, ◌-◌, inl, inr, sym, subst, ◌∙◌, arith, HasHead, HasFoot}
+use Rattle.dlmalloc.proofs.Cuts.FreeChunk.{whole_victim, whole_other, split_victim, split_other, at_whole, size_whole, end_small, head_there, foot_there, stores}
 use Rattle.dlmalloc.proofs.heap.Dlmalloc.cut_chunk.Goals.{then-at-self-2-via-then-at-self-2, then-at-self-2-via-else-at-self-2+then-n-lt-LEAST_LARGE}
 use Rattle.dlmalloc.proofs.heap.Dlmalloc.cut_chunk.Goals as goal
 

@@ -1,14 +1,8 @@
-use Rattle.std.proofs.Common.{rules, ℕ, ◌+◌, [], ◌∷◌, refl, sym, ap, subst}
-use Rattle.heap_memory.specs.Events.{Granted}
-use Rattle.dlmalloc_chunks.specs.Request.{round_up}
-use Rattle.dlmalloc.specs.Blocks.{IsFull}
-use Rattle.dlmalloc.specs.Heap.{state_of}
-use Rattle.dlmalloc.specs.Served.{IsCutOut}
-use Rattle.dlmalloc.specs.State.{HeapState}
-use Rattle.dlmalloc.proofs.Full.{full}
-use Rattle.dlmalloc.proofs.Rebinned.{binned_beside}
-use Rattle.dlmalloc.proofs.Choosing.{top_below}
-use Rattle.dlmalloc.proofs.Served.{cut_new}
+use Rattle.dlmalloc.proofs.Names.{rules, ℕ, ◌+◌, [], ◌∷◌, refl, sym, ap, subst, Granted, round_up, IsFull, state_of, IsCutOut, HeapState}
+use Rattle.dlmalloc.proofs.Extents.NoRoom.{full}
+use Rattle.dlmalloc.proofs.Bins.Changes.{binned_beside}
+use Rattle.dlmalloc.proofs.Cuts.Chosen.{top_below}
+use Rattle.dlmalloc.proofs.Cuts.OneStepOrTwo.{cut_new}
 use Rattle.dlmalloc.proofs.heap.Dlmalloc.cut_new.Goals as goal
 
 pub returns-in-None-clause-cut : goal.returns-in-None-clause-cut

@@ -1,12 +1,6 @@
-use Rattle.std.proofs.Common.{◌≡◌, ◌+◌, ◌-◌, ◌<◌, ◌∙◌, [], ◌∷◌, refl, sym, subst, arith}
-use Rattle.heap_memory.specs.Events.{Released}
-use Rattle.heap_memory.specs.Regions.{IsWordOf}
-use Rattle.heap_memory.specs.RegionLaws.{whole_each}
-use Rattle.dlmalloc.specs.Shortened.{IsShortened}
-use Rattle.dlmalloc.specs.State.{trim_threshold}
-use Rattle.dlmalloc.specs.declared.heap.Dlmalloc.{Dlmalloc}
-use Rattle.dlmalloc.proofs.Growing.{top_low, ends}
-use Rattle.dlmalloc.proofs.Shortening.{head_given, within, rest_some, rest_whole, top_still, foot_still, is_shortened}
+use Rattle.dlmalloc.proofs.Names.{◌≡◌, ◌+◌, ◌-◌, ◌<◌, ◌∙◌, [], ◌∷◌, refl, sym, subst, arith, Released, IsWordOf, whole_each, IsShortened, trim_threshold, Dlmalloc}
+use Rattle.dlmalloc.proofs.Segments.HeadTop.{top_low, ends}
+use Rattle.dlmalloc.proofs.Returns.TopShortened.{head_given, within, rest_some, rest_whole, top_still, foot_still, is_shortened}
 use Rattle.dlmalloc.proofs.heap.Dlmalloc.cut_top.Goals as goal
 
 pub overflow_sub-size : goal.overflow_sub-size

@@ -1,7 +1,5 @@
-use Rattle.std.proofs.Common.{◌+◌, Bool, [], ◌∷◌, filter, subst, refl, arith}
-use Rattle.dlmalloc.specs.Released.{is_own, taken_back}
-use Rattle.dlmalloc.specs.GivenBack.{AreGivenBack, told_of}
-use Rattle.dlmalloc.proofs.Destroying.{head_given, head_is_run, read_high, read_word, is_run, on_given, sum_fits, fewer_given, destroyed}
+use Rattle.dlmalloc.proofs.Names.{◌+◌, Bool, [], ◌∷◌, filter, subst, refl, arith, is_own, taken_back, AreGivenBack, told_of}
+use Rattle.dlmalloc.proofs.Returns.Everything.{head_given, head_is_run, read_high, read_word, is_run, on_given, sum_fits, fewer_given, destroyed}
 use Rattle.dlmalloc.proofs.heap.Dlmalloc.destroy.Goals as goal
 
 pub give_back-released-requires : goal.give_back-released-requires

@@ -1,7 +1,5 @@
-use Rattle.std.proofs.Common.{◌^◌}
-use Rattle.std.specs.Prelude.{length}
-use Rattle.dlmalloc.specs.Segments.{records_from}
-use Rattle.dlmalloc.proofs.Destroying.{Destroying}
+use Rattle.dlmalloc.proofs.Names.{◌^◌, length, records_from}
+use Rattle.dlmalloc.proofs.Returns.Everything.{Destroying}
 use Rattle.dlmalloc.proofs.heap.Dlmalloc.destroy.Given as goal
 
 abbrev pub invariant-loop-payload : goal.invariant-loop-payload

@@ -1,17 +1,9 @@
-use Rattle.std.proofs.Common.{◌+◌, ◌-◌, [], ◌∷◌, refl, sym, ◌∙◌, ap, subst, arith}
-use Rattle.dlmalloc.specs.State.{HeapState, extents_in}
-use Rattle.dlmalloc.specs.Extents.{extent_at}
-use Rattle.dlmalloc.specs.Freed.{freed}
-use Rattle.dlmalloc.specs.Released.{IsFreeAround}
-use Rattle.dlmalloc.specs.Blocks.{HasOneMore}
-use Rattle.dlmalloc.specs.Heap.{state_of}
-use Rattle.dlmalloc.specs.Binned.{IsFreeAt}
-use Rattle.dlmalloc.specs.Order.{KeepsOrder}
-use Rattle.dlmalloc.proofs.Answering.{head_there, foot_there, behind_there, behind_small, end_below, foot_fits}
-use Rattle.dlmalloc.proofs.Unbinning.{left_free, left_none, right_free, right_none}
-use Rattle.dlmalloc.proofs.Disposed.{some, two, joined_other, still_there, from_still, to_still, joined_loose}
-use Rattle.dlmalloc.proofs.Ordering.{lessened_on, in_order}
-use Rattle.dlmalloc.proofs.Turning.{rebinned_on, turned}
+use Rattle.dlmalloc.proofs.Names.{◌+◌, ◌-◌, [], ◌∷◌, refl, sym, ◌∙◌, ap, subst, arith, HeapState, extents_in, extent_at, freed, IsFreeAround, HasOneMore, state_of, IsFreeAt, KeepsOrder}
+use Rattle.dlmalloc.proofs.Frees.WhatCallsWant.{head_there, foot_there, behind_there, behind_small, end_below, foot_fits}
+use Rattle.dlmalloc.proofs.Frees.NeighboursUnbinned.{left_free, left_none, right_free, right_none}
+use Rattle.dlmalloc.proofs.Frees.OfChunkAndBins.{some, two, joined_other, still_there, from_still, to_still, joined_loose}
+use Rattle.dlmalloc.proofs.Bins.Order.{lessened_on, in_order}
+use Rattle.dlmalloc.proofs.Moves.WithBins.{rebinned_on, turned}
 use Rattle.dlmalloc.proofs.heap.Dlmalloc.dispose_chunk.Goals as goal
 
 pub free_begin-from-requires-clause-head : goal.free_begin-from-requires-clause-head

@@ -1,11 +1,6 @@
-use Rattle.std.proofs.Common.{◌≡◌, ◌+◌, ◌-◌, ◌<◌, inr, [], refl, sym, subst, arith}
-use Rattle.heap_memory.specs.RegionLaws.{whole_each}
-use Rattle.dlmalloc.specs.State.{trim_threshold}
-use Rattle.dlmalloc.specs.Grown.{IsAdmitted}
-use Rattle.dlmalloc.specs.Heap.{state_of}
-use Rattle.dlmalloc.specs.Binned.{FreeMoves, IsSameBins}
-use Rattle.dlmalloc.specs.declared.heap.Dlmalloc.{Dlmalloc}
-use Rattle.dlmalloc.proofs.Growing.{behind_means, top_low, ends, top_word, end_whole, extended_sound, extended_state, extended_used, extended_words, extended_free}
+use Rattle.dlmalloc.proofs.Names.{◌≡◌, ◌+◌, ◌-◌, ◌<◌, inr, [], refl, sym, subst, arith, whole_each, trim_threshold, IsAdmitted, state_of, FreeMoves, IsSameBins, Dlmalloc}
+use Rattle.dlmalloc.proofs.Grants.BehindHead.{behind_means, extended_sound, extended_state, extended_used, extended_words, extended_free}
+use Rattle.dlmalloc.proofs.Segments.HeadTop.{top_low, ends, top_word, end_whole}
 use Rattle.dlmalloc.proofs.heap.Dlmalloc.extend.Goals as goal
 
 pub overflow_add-self : goal.overflow_add-self

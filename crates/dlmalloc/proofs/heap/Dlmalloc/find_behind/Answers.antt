@@ -1,8 +1,6 @@
-use Rattle.std.proofs.Common.{ℕ, ◌+◌, ◌^◌, ◌<◌, sym, subst, refl, ◌∙◌, arith}
-use Rattle.std.specs.Prelude.{length}
-use Rattle.dlmalloc.specs.Segments.{records_from}
-use Rattle.dlmalloc.proofs.Walking.{fewer_left}
-use Rattle.dlmalloc.proofs.SegmentBehind.{PassedBehind, as_passed, begun_behind, told_word, told_high, found_behind, onward_behind, none_behind}
+use Rattle.dlmalloc.proofs.Names.{ℕ, ◌+◌, ◌^◌, ◌<◌, sym, subst, refl, ◌∙◌, arith, length, records_from}
+use Rattle.dlmalloc.proofs.Segments.Walk.{fewer_left}
+use Rattle.dlmalloc.proofs.Grants.SegmentBehind.{PassedBehind, as_passed, begun_behind, told_word, told_high, found_behind, onward_behind, none_behind}
 use Rattle.dlmalloc.proofs.heap.Dlmalloc.find_behind.Goals as goal
 
 pub loop-payload-init : goal.loop-payload-init

@@ -1,7 +1,5 @@
-use Rattle.std.proofs.Common.{◌^◌}
-use Rattle.std.specs.Prelude.{length}
-use Rattle.dlmalloc.specs.Segments.{records_from}
-use Rattle.dlmalloc.proofs.SegmentBehind.{PassedBehind}
+use Rattle.dlmalloc.proofs.Names.{◌^◌, length, records_from}
+use Rattle.dlmalloc.proofs.Grants.SegmentBehind.{PassedBehind}
 use Rattle.dlmalloc.proofs.heap.Dlmalloc.find_behind.Given as goal
 
 abbrev pub invariant-loop-payload : goal.invariant-loop-payload

@@ -1,8 +1,6 @@
-use Rattle.std.proofs.Common.{ℕ, ◌≡◌, ◌∙◌, Some, sym, ap, subst, arith}
-use Rattle.dlmalloc.specs.Heap.{state_of}
-use Rattle.dlmalloc.specs.Binned.{IsFreeAt}
-use Rattle.dlmalloc.proofs.LinkWords.{free_has_head, is_chunk}
-use Rattle.dlmalloc.proofs.Fitting.{fit_free, fit_other, fit_least, fit_none}
+use Rattle.dlmalloc.proofs.Names.{ℕ, ◌≡◌, ◌∙◌, Some, sym, ap, subst, arith, state_of, IsFreeAt}
+use Rattle.dlmalloc.proofs.Words.OfLinks.{free_has_head, is_chunk}
+use Rattle.dlmalloc.proofs.Bins.LeastFit.{fit_free, fit_other, fit_least, fit_none}
 use Rattle.dlmalloc.proofs.heap.Dlmalloc.find_free.Goals as goal
 
 pub least_fit-requires : goal.least_fit-requires

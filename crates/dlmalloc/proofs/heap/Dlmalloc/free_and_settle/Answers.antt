@@ -1,8 +1,6 @@
-use Rattle.std.proofs.Common.{◌-◌, arith}
-use Rattle.dlmalloc.specs.AfterFree.{IsSettled}
-use Rattle.dlmalloc.proofs.AllFreed.{by_rules, freed_whole}
-use Rattle.dlmalloc.specs.Heap.{state_of}
-use Rattle.dlmalloc.proofs.Counts.{freed_pass}
+use Rattle.dlmalloc.proofs.Names.{◌-◌, arith, IsSettled, state_of}
+use Rattle.dlmalloc.proofs.Frees.Whole.{by_rules, freed_whole}
+use Rattle.dlmalloc.proofs.Returns.PassSteps.{freed_pass}
 use Rattle.dlmalloc.proofs.heap.Dlmalloc.free_and_settle.Goals as goal
 
 pub returns-clause-freed : goal.returns-clause-freed

@@ -1,9 +1,6 @@
-use Rattle.std.proofs.Common.{inl, inr, refl, sym, subst}
-use Rattle.dlmalloc_chunks.specs.declared.extent.Kind.TheVariants.{Used}
-use Rattle.dlmalloc.specs.Boundaries.{IsBoundary}
-use Rattle.dlmalloc.specs.Heap.{state_of}
-use Rattle.dlmalloc.proofs.Places.{extent}
-use Rattle.dlmalloc.proofs.Ordering.{order_same}
+use Rattle.dlmalloc.proofs.Names.{inl, inr, refl, sym, subst, Used, IsBoundary, state_of}
+use Rattle.dlmalloc.proofs.Extents.Lookup.{extent}
+use Rattle.dlmalloc.proofs.Bins.Order.{order_same}
 use Rattle.dlmalloc.proofs.heap.Dlmalloc.free_before.Goals as goal
 
 -- the chunk's own head is at a boundary

@@ -1,4 +1,4 @@
-use Rattle.dlmalloc.proofs.BlockChunks.{block_chunk, block_head, freed_block}
+use Rattle.dlmalloc.proofs.Blocks.Chunks.{block_chunk, block_head, freed_block}
 use Rattle.dlmalloc.proofs.heap.Dlmalloc.free_block.Goals as goal
 
 pub size-size-requires : goal.size-size-requires

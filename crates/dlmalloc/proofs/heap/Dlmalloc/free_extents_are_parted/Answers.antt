@@ -1,5 +1,5 @@
-use Rattle.dlmalloc.specs.Heap.{segments_of}
-use Rattle.dlmalloc.proofs.FreeExtents.{all_parted}
+use Rattle.dlmalloc.proofs.Names.{segments_of}
+use Rattle.dlmalloc.proofs.Extents.FreeParted.{all_parted}
 use Rattle.dlmalloc.proofs.heap.Dlmalloc.free_extents_are_parted.Goals as goal
 
 pub returns : goal.returns

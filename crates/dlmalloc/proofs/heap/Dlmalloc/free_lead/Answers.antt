@@ -1,7 +1,6 @@
-use Rattle.std.proofs.Common.{ap}
-use Rattle.dlmalloc.specs.State.{HeapState}
-use Rattle.dlmalloc.proofs.Rebinned.{binned_beside}
-use Rattle.dlmalloc.proofs.Parting.{IsSplit, lead_state, lead_second, lead_others, lead_kept, lead_words}
+use Rattle.dlmalloc.proofs.Names.{ap, HeapState}
+use Rattle.dlmalloc.proofs.Bins.Changes.{binned_beside}
+use Rattle.dlmalloc.proofs.Resizing.SplitAndFreed.{IsSplit, lead_state, lead_second, lead_others, lead_kept, lead_words}
 use Rattle.dlmalloc.proofs.heap.Dlmalloc.free_lead.Goals as goal
 
 pub returns-clause-state : goal.returns-clause-state

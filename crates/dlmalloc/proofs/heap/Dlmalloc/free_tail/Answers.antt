@@ -1,8 +1,7 @@
-use Rattle.std.proofs.Common.{[], refl, ◌∙◌, arith, ap}
-use Rattle.dlmalloc.proofs.Splitting.{end_small}
-use Rattle.dlmalloc.specs.State.{HeapState}
-use Rattle.dlmalloc.proofs.Rebinned.{binned_beside}
-use Rattle.dlmalloc.proofs.Parting.{IsSplit, tail_state, tail_first, tail_others, tail_words}
+use Rattle.dlmalloc.proofs.Names.{[], refl, ◌∙◌, arith, ap, HeapState}
+use Rattle.dlmalloc.proofs.Resizing.Split.{end_small}
+use Rattle.dlmalloc.proofs.Bins.Changes.{binned_beside}
+use Rattle.dlmalloc.proofs.Resizing.SplitAndFreed.{IsSplit, tail_state, tail_first, tail_others, tail_words}
 use Rattle.dlmalloc.proofs.heap.Dlmalloc.free_tail.Goals as goal
 
 pub overflow_add-at : goal.overflow_add-at

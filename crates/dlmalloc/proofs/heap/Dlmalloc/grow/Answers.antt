@@ -1,20 +1,12 @@
-use Rattle.std.proofs.Common.{◌≡◌, ℕ, ◌+◌, ◌≤◌, ◌∙◌, true, false, List, [], ◌∷◌, refl, ap, subst, arith}
-use Rattle.std.specs.Prelude.{Option, unwrap_or}
-use Rattle.heap_memory.specs.Events.{Event, Granted, Refused}
+use Rattle.dlmalloc.proofs.Names.{◌≡◌, ℕ, ◌+◌, ◌≤◌, ◌∙◌, true, false, List, [], ◌∷◌, refl, ap, subst, arith, Option, unwrap_or, Event, Granted, round_up, Segment, is_put_before, granted, HasSameUsed, state_of, IsCutOut, IsInFree}
+use Rattle.heap_memory.specs.Events.{Refused}
 use Rattle.heap_memory.specs.declared.grant.GrantFault.{GrantFault}
-use Rattle.dlmalloc_chunks.specs.Request.{round_up}
-use Rattle.dlmalloc.specs.State.{Segment}
-use Rattle.dlmalloc.specs.Granted.{is_put_before, granted}
-use Rattle.dlmalloc.specs.Grown.{HasSameUsed}
-use Rattle.dlmalloc.specs.Heap.{state_of}
-use Rattle.dlmalloc.specs.Served.{IsCutOut}
-use Rattle.dlmalloc.proofs.Regions.{word_kept, word_new}
-use Rattle.dlmalloc.proofs.Fresh.{granted_sound, granted_same, granted_binned, fresh_grant}
-use Rattle.dlmalloc.proofs.PutBefore.{cut_before}
-use Rattle.dlmalloc.specs.Boundaries.{IsInFree}
+use Rattle.dlmalloc.proofs.Segments.RegionsMore.{word_kept, word_new}
+use Rattle.dlmalloc.proofs.Grants.NewRegion.{granted_sound, granted_same, granted_binned, fresh_grant}
+use Rattle.dlmalloc.proofs.Grants.CutFromStart.{cut_before}
 use Rattle.dlmalloc.proofs.Laws.{as_it_was, as_binned}
-use Rattle.dlmalloc.proofs.Requests.{if_err}
-use Rattle.dlmalloc.proofs.Ordering.{order_same}
+use Rattle.dlmalloc.proofs.Requests.Plain.{if_err}
+use Rattle.dlmalloc.proofs.Bins.Order.{order_same}
 use Rattle.dlmalloc.proofs.heap.Dlmalloc.grow.Goals as goal
 
 pub returns-in_err-grant-clause-err : goal.returns-in_err-grant-clause-err

@@ -1,17 +1,10 @@
-use Rattle.std.proofs.Common.{◌+◌, ◌-◌, ◌≢◌, [], sym, ◌∙◌, ap, subst, arith}
-use Rattle.dlmalloc_chunks.specs.declared.extent.Kind.TheVariants.{Used, Free}
-use Rattle.dlmalloc.specs.State.{HeapState, extents_in}
-use Rattle.dlmalloc.specs.Extents.{extent_at}
-use Rattle.dlmalloc.specs.Resized.{grown_into, HasSameOthers}
-use Rattle.dlmalloc.specs.Heap.{state_of}
-use Rattle.dlmalloc.proofs.Places.{extent}
-use Rattle.dlmalloc.proofs.IntoFree.{free_end_small}
-use Rattle.dlmalloc.proofs.Turning.{turned}
-use Rattle.dlmalloc.proofs.Rebinned.{not_rebinned, none_binned}
-use Rattle.dlmalloc.proofs.TakingBins.{into_victim, into_whole, into_part, part_other, part_came}
-use Rattle.dlmalloc.specs.Binned.{IsFreeAt}
-use Rattle.dlmalloc.specs.Order.{KeepsOrder}
-use Rattle.dlmalloc.proofs.Ordering.{lessened_as, added_as, order_less, order_left, in_order}
+use Rattle.dlmalloc.proofs.Names.{◌+◌, ◌-◌, ◌≢◌, [], sym, ◌∙◌, ap, subst, arith, Used, Free, HeapState, extents_in, extent_at, grown_into, HasSameOthers, state_of, IsFreeAt, KeepsOrder}
+use Rattle.dlmalloc.proofs.Extents.Lookup.{extent}
+use Rattle.dlmalloc.proofs.Resizing.IntoFree.{free_end_small}
+use Rattle.dlmalloc.proofs.Moves.WithBins.{turned}
+use Rattle.dlmalloc.proofs.Bins.Changes.{not_rebinned, none_binned}
+use Rattle.dlmalloc.proofs.Cuts.BinsMeanwhile.{into_victim, into_whole, into_part, part_other, part_came}
+use Rattle.dlmalloc.proofs.Bins.Order.{lessened_as, added_as, order_less, order_left, in_order}
 use Rattle.dlmalloc.proofs.heap.Dlmalloc.grow_into_free.Goals as goal
 
 pub overflow_add-was_victim : goal.overflow_add-was_victim

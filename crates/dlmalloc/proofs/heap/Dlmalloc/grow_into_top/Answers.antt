@@ -1,6 +1,5 @@
-use Rattle.std.proofs.Common.{◌≡◌, ◌+◌, ◌-◌, sym, subst, ◌∙◌, arith, rules, refl}
-use Rattle.heap_memory.specs.Regions.{IsWordOf}
-use Rattle.dlmalloc.proofs.IntoTop.{top_first_head, top_rest_head, into_top, into_top_free}
+use Rattle.dlmalloc.proofs.Names.{◌≡◌, ◌+◌, ◌-◌, sym, subst, ◌∙◌, arith, rules, refl, IsWordOf}
+use Rattle.dlmalloc.proofs.Resizing.IntoTop.{top_first_head, top_rest_head, into_top, into_top_free}
 use Rattle.dlmalloc.proofs.heap.Dlmalloc.grow_into_top.Goals as goal
 
 pub overflow_add-self : goal.overflow_add-self

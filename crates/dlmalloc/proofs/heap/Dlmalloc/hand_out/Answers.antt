@@ -1,14 +1,6 @@
-use Rattle.std.proofs.Common.{◌≡◌, ◌≢◌, ℕ, ◌+◌, true, false, ◌==◌, if◌then◌else◌, List, [], ◌∷◌, refl, sym, ◌∙◌, ap, subst}
-use Rattle.heap_memory.specs.declared.grant.Grant.{Grant}
-use Rattle.heap_memory.specs.Events.{Released}
-use Rattle.heap_memory.specs.Regions.{IsWordOf}
-use Rattle.heap_memory.specs.Runs.{IsRun, without}
-use Rattle.dlmalloc.specs.Released.{is_own, is_unused}
-use Rattle.dlmalloc.specs.Binned.{FreeMoves}
-use Rattle.dlmalloc.specs.Heap.{state_of}
-use Rattle.dlmalloc.specs.Chained.{IsVisited}
-use Rattle.dlmalloc.specs.declared.heap.Dlmalloc.{Dlmalloc}
-use Rattle.dlmalloc.proofs.Leaving.{last_test, run_told, stays_handed, free_kept, link_small, link_granted, left_words, left_heap, left_free, leaves}
+use Rattle.dlmalloc.proofs.Names.{◌≡◌, ◌≢◌, ℕ, ◌+◌, true, false, ◌==◌, if◌then◌else◌, List, [], ◌∷◌, refl, sym, ◌∙◌, ap, subst, Grant, Released, IsWordOf, without, is_own, is_unused, FreeMoves, state_of, IsVisited, Dlmalloc}
+use Rattle.heap_memory.specs.Runs.{IsRun}
+use Rattle.dlmalloc.proofs.Returns.SegmentVisited.{last_test, run_told, stays_handed, free_kept, link_small, link_granted, left_words, left_heap, left_free, leaves}
 use Rattle.dlmalloc.proofs.heap.Dlmalloc.hand_out.Goals as goal
 
 pub free-requires : goal.free-requires

@@ -1,4 +1,4 @@
-use Rattle.dlmalloc.proofs.Idle.{idle_handed_out}
+use Rattle.dlmalloc.proofs.Returns.Idle.{idle_handed_out}
 use Rattle.dlmalloc.proofs.heap.Dlmalloc.idle_segments_are_handed_out.Goals as goal
 
 pub returns : goal.returns

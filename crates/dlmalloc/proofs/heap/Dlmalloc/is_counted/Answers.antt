@@ -1,4 +1,4 @@
-use Rattle.dlmalloc.proofs.Counting.{around_head, top_told, victim_told, size_told}
+use Rattle.dlmalloc.proofs.Frees.Counted.{around_head, top_told, victim_told, size_told}
 use Rattle.dlmalloc.proofs.heap.Dlmalloc.is_counted.Goals as goal
 
 pub size-requires : goal.size-requires

@@ -1,5 +1,5 @@
-use Rattle.dlmalloc.proofs.Joining.{as_joined, admitted_binned}
-use Rattle.dlmalloc.proofs.Ordering.{order_same}
+use Rattle.dlmalloc.proofs.Grants.WithBins.{as_joined, admitted_binned}
+use Rattle.dlmalloc.proofs.Bins.Order.{order_same}
 use Rattle.dlmalloc.proofs.heap.Dlmalloc.join.Goals as goal
 
 pub returns-then-self-eq0 : goal.returns-then-self-eq0

@@ -1,7 +1,6 @@
-use Rattle.std.proofs.Common.{◌-◌, ◌<◌, ◌≤◌, ◌⊎◌, inl, inr, refl, arith, rules}
-use Rattle.std.proofs.lemmas.Bool.Decides.{nat_tests}
-use Rattle.dlmalloc.proofs.Answering.{no_top, from_there, goes_on, ends_at, small_top, from_some, top_victim, top_other, around_top}
-use Rattle.dlmalloc.proofs.Disposing.{whole_size, room, end_head, end_foot, end_told, as_victim, as_other, around}
+use Rattle.dlmalloc.proofs.Names.{◌-◌, ◌<◌, ◌≤◌, ◌⊎◌, inl, inr, refl, arith, rules, nat_tests}
+use Rattle.dlmalloc.proofs.Frees.WhatCallsWant.{no_top, from_there, goes_on, ends_at, small_top, from_some, top_victim, top_other, around_top}
+use Rattle.dlmalloc.proofs.Frees.OfChunk.{whole_size, room, end_head, end_foot, end_told, as_victim, as_other, around}
 use Rattle.dlmalloc.proofs.heap.Dlmalloc.join_free.Goals.{else-from-self-via-then-from-self+else-self-to, else-from-self-via-else-from-self, else-from-self-2-via-then-from-self-2+else-self-to-2, else-from-self-2-via-else-from-self-2}
 use Rattle.dlmalloc.proofs.heap.Dlmalloc.join_free.Goals as goal
 

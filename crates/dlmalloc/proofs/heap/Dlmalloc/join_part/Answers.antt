@@ -1,7 +1,5 @@
-use Rattle.std.proofs.Common.{◌+◌, ◌-◌, List, sym, subst, ◌∙◌, arith, rules, refl}
-use Rattle.heap_memory.specs.declared.grant.Grant.{Grant}
-use Rattle.dlmalloc_chunks.specs.Chunk.{HasHead, HasFoot}
-use Rattle.dlmalloc.proofs.IntoFree.{free_end_small, free_at_whole, free_sizes_whole, free_head_there, free_foot_there, free_stores, into_victim, into_binned, whole_victim, whole_binned, split_free, split_rest, whole_free}
+use Rattle.dlmalloc.proofs.Names.{◌+◌, ◌-◌, List, sym, subst, ◌∙◌, arith, rules, refl, Grant, HasHead, HasFoot}
+use Rattle.dlmalloc.proofs.Resizing.IntoFree.{free_end_small, free_at_whole, free_sizes_whole, free_head_there, free_foot_there, free_stores, into_victim, into_binned, whole_victim, whole_binned, split_free, split_rest, whole_free}
 use Rattle.dlmalloc.proofs.heap.Dlmalloc.join_part.Goals as goal
 
 pub overflow_add-all : goal.overflow_add-all

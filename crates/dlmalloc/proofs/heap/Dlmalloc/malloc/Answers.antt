@@ -1,6 +1,6 @@
-use Rattle.std.proofs.Common.{arith}
-use Rattle.dlmalloc.proofs.Members.{on_both, member_low, chosen_low, chosen_high}
-use Rattle.dlmalloc.proofs.HandedOut.{on_ok, handed_low, handed_high}
+use Rattle.dlmalloc.proofs.Names.{arith}
+use Rattle.dlmalloc.proofs.Bins.Members.{on_both, member_low, chosen_low, chosen_high}
+use Rattle.dlmalloc.proofs.Blocks.HandedOut.{on_ok, handed_low, handed_high}
 use Rattle.dlmalloc.proofs.heap.Dlmalloc.malloc.Goals as goal
 
 pub returns-then-align-le-LEAST_ALIGN-clause-handed : goal.returns-then-align-le-LEAST_ALIGN-clause-handed

@@ -1,11 +1,7 @@
-use Rattle.std.proofs.Common.{◌≡◌, ℕ, ◌+◌, ◌≤◌, None, refl, subst, arith, rules}
-use Rattle.dlmalloc_chunks.specs.Request.{padded}
-use Rattle.dlmalloc.specs.Choice.{chosen}
-use Rattle.dlmalloc.specs.Heap.{state_of}
-use Rattle.dlmalloc.proofs.Members.{member_high}
-use Rattle.dlmalloc_chunks.specs.Request.{limit}
+use Rattle.dlmalloc.proofs.Names.{◌≡◌, ℕ, ◌+◌, ◌≤◌, None, refl, subst, arith, rules, padded, chosen, state_of, limit}
+use Rattle.dlmalloc.proofs.Bins.Members.{member_high}
 use Rattle.dlmalloc.specs.Served.{IsRefusedWith}
-use Rattle.dlmalloc.proofs.AlignedRequests.{limit_small, enlarged_is, too_large, IsAligned, served_aligned}
+use Rattle.dlmalloc.proofs.Requests.Aligned.{limit_small, enlarged_is, too_large, IsAligned, served_aligned}
 use Rattle.dlmalloc.proofs.heap.Dlmalloc.memalign.Goals.{then-size-limit-via-then-size-limit, then-size-limit-via-else-size-limit+then-align-limit}
 use Rattle.dlmalloc.proofs.heap.Dlmalloc.memalign.Goals as goal
 

@@ -1,14 +1,7 @@
-use Rattle.std.proofs.Common.{ℕ, ◌+◌, ◌-◌, ◌*◌, ◌≤◌, ◌⊎◌, refl, sym, subst, ◌∙◌, ap, arith}
-use Rattle.heap_memory.specs.Words.{AreWordsOf, AreCopied}
-use Rattle.dlmalloc_chunks.specs.Request.{padded}
-use Rattle.dlmalloc.specs.AfterFree.{IsFreed}
-use Rattle.dlmalloc.specs.Heap.{state_of}
-use Rattle.dlmalloc.specs.Requested.{asked}
-use Rattle.dlmalloc.specs.Written.{words_in}
-use Rattle.dlmalloc.proofs.Elsewhere.{from_words, to_words, words_apart, copied_heap, copied_binned, copied_block, moved_block, moved_contents, moved_kept}
-use Rattle.dlmalloc.proofs.AllFreed.{by_rules, rules_found}
-use Rattle.dlmalloc.specs.Counts.{pass_steps}
-use Rattle.dlmalloc.proofs.Counts.{found_pass}
+use Rattle.dlmalloc.proofs.Names.{ℕ, ◌+◌, ◌-◌, ◌*◌, ◌≤◌, ◌⊎◌, refl, sym, subst, ◌∙◌, ap, arith, AreWordsOf, AreCopied, padded, IsFreed, state_of, asked, words_in, pass_steps}
+use Rattle.dlmalloc.proofs.Resizing.InPlaceOrElsewhere.{from_words, to_words, words_apart, copied_heap, copied_binned, copied_block, moved_block, moved_contents, moved_kept}
+use Rattle.dlmalloc.proofs.Frees.Whole.{by_rules, rules_found}
+use Rattle.dlmalloc.proofs.Returns.PassSteps.{found_pass}
 use Rattle.dlmalloc.proofs.heap.Dlmalloc.move_block.Goals as goal
 
 pub copy_counted-requires-clause-from : goal.copy_counted-requires-clause-from

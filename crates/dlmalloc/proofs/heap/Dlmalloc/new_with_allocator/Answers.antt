@@ -1,4 +1,4 @@
-use Rattle.std.proofs.Common.{[], refl, arith}
+use Rattle.dlmalloc.proofs.Names.{[], refl, arith}
 use Rattle.dlmalloc.proofs.heap.Dlmalloc.new_with_allocator.Goals as goal
 
 pub returns-clause-sound : goal.returns-clause-sound

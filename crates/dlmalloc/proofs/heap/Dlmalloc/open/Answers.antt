@@ -1,11 +1,6 @@
-use Rattle.std.proofs.Common.{◌≡◌, ◌+◌, ◌-◌, ◌<◌, inl, refl, sym, subst, arith, []}
-use Rattle.dlmalloc.specs.State.{trim_threshold}
-use Rattle.dlmalloc.specs.Grown.{IsAdmitted}
-use Rattle.dlmalloc.specs.Heap.{state_of}
-use Rattle.dlmalloc.specs.Binned.{FreeMoves, IsSameBins}
-use Rattle.dlmalloc.specs.declared.heap.Dlmalloc.{Dlmalloc}
-use Rattle.dlmalloc.proofs.Growing.{opened_sound, opened_state, opened_used, opened_free}
-use Rattle.dlmalloc.proofs.Retold.{head_tags}
+use Rattle.dlmalloc.proofs.Names.{◌≡◌, ◌+◌, ◌-◌, ◌<◌, inl, refl, sym, subst, arith, [], trim_threshold, IsAdmitted, state_of, FreeMoves, IsSameBins, Dlmalloc}
+use Rattle.dlmalloc.proofs.Grants.Opened.{opened_sound, opened_state, opened_used, opened_free}
+use Rattle.dlmalloc.proofs.Segments.ToldAnew.{head_tags}
 use Rattle.dlmalloc.proofs.heap.Dlmalloc.open.Goals as goal
 
 pub make_head-requires-clause-high : goal.make_head-requires-clause-high

@@ -1,5 +1,5 @@
-use Rattle.std.proofs.Common.{refl}
-use Rattle.dlmalloc.proofs.Outside.{still_binned}
+use Rattle.dlmalloc.proofs.Names.{refl}
+use Rattle.dlmalloc.proofs.Blocks.WordsOutside.{still_binned}
 use Rattle.dlmalloc.proofs.heap.Dlmalloc.order_rests_outside.Goals as goal
 
 pub returns : goal.returns

@@ -1,7 +1,5 @@
-use Rattle.std.proofs.Common.{◌+◌, refl, arith}
-use Rattle.heap_memory.specs.RegionLaws.{whole_each}
-use Rattle.dlmalloc.specs.Heap.{segments_of}
-use Rattle.dlmalloc.proofs.Beforehand.{part_head, before_head, head_ends}
+use Rattle.dlmalloc.proofs.Names.{◌+◌, refl, arith, whole_each, segments_of}
+use Rattle.dlmalloc.proofs.Grants.BeforeWhich.{part_head, before_head, head_ends}
 use Rattle.dlmalloc.proofs.heap.Dlmalloc.prepend_head.Goals as goal
 
 pub overflow_add-self : goal.overflow_add-self

@@ -1,9 +1,5 @@
-use Rattle.std.proofs.Common.{◌≡◌, ℕ, ◌+◌, ◌∙◌, [], refl, sym, subst, arith}
-use Rattle.heap_memory.specs.Regions.{IsWordOf}
-use Rattle.heap_memory.specs.RegionLaws.{whole_each}
-use Rattle.dlmalloc_chunks.specs.Chunk.{HasHead}
-use Rattle.dlmalloc.specs.Heap.{segments_of}
-use Rattle.dlmalloc.proofs.Beforehand.{part_head, before_told, told_place}
+use Rattle.dlmalloc.proofs.Names.{◌≡◌, ℕ, ◌+◌, ◌∙◌, [], refl, sym, subst, arith, IsWordOf, whole_each, HasHead, segments_of}
+use Rattle.dlmalloc.proofs.Grants.BeforeWhich.{part_head, before_told, told_place}
 use Rattle.dlmalloc.proofs.heap.Dlmalloc.prepend_told.Goals as goal
 
 pub load_counted-size-requires : goal.load_counted-size-requires

@@ -1,5 +1,5 @@
-use Rattle.std.proofs.Common.{[], refl}
-use Rattle.dlmalloc.proofs.PutBefore.{prepended_binned, put_before_is}
+use Rattle.dlmalloc.proofs.Names.{[], refl}
+use Rattle.dlmalloc.proofs.Grants.CutFromStart.{prepended_binned, put_before_is}
 use Rattle.dlmalloc.proofs.heap.Dlmalloc.put_before.Goals as goal
 
 pub dispose_chunk-requires-clause-sound : goal.dispose_chunk-requires-clause-sound

@@ -1,6 +1,5 @@
-use Rattle.std.proofs.lemmas.Result.{IfOk-weaker}
-use Rattle.dlmalloc.specs.Moved.{IsElsewhere, IsResized, IsGivenSize}
-use Rattle.dlmalloc.proofs.GivenSize.{given_size, given_elsewhere}
+use Rattle.dlmalloc.proofs.Names.{IfOk-weaker, IsElsewhere, IsResized, IsGivenSize}
+use Rattle.dlmalloc.proofs.Blocks.GivenSize.{given_size, given_elsewhere}
 use Rattle.dlmalloc.proofs.heap.Dlmalloc.realloc.Goals as goal
 
 pub returns-then-old_align-le-LEAST_ALIGN-clause-given : goal.returns-then-old_align-le-LEAST_ALIGN-clause-given

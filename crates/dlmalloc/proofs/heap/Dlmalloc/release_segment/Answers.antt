@@ -1,14 +1,7 @@
-use Rattle.std.proofs.Common.{◌≡◌, ℕ, ◌-◌, ◌<◌, Bool, true, false, ◌&&◌, if◌then◌else◌, [], ◌∷◌, sym, ◌∙◌, ap, subst, arith}
-use Rattle.dlmalloc.specs.Released.{is_own, is_unused, may_leave}
-use Rattle.dlmalloc.specs.State.{HeapState}
-use Rattle.dlmalloc.specs.Heap.{state_of}
-use Rattle.dlmalloc.specs.Binned.{IsFreeAt, IsBinnedBut, IsBinned, FreeMoves}
-use Rattle.dlmalloc.specs.Chained.{IsChained, IsVisited}
-use Rattle.dlmalloc.specs.declared.heap.Dlmalloc.{Dlmalloc}
-use Rattle.dlmalloc.proofs.Leaving.{base_is, size_is, never, last_test, first_there, long_told, test_is, first_is_free, stays}
-use Rattle.dlmalloc.proofs.Chaining.{chained_then, may_still, visited_then, visited_binned, loose_still, not_victim, binned_without}
-use Rattle.bins.specs.Index.{without_chunk}
-use Rattle.dlmalloc.proofs.PassOrder.{with_same, visit_none, visit_left, visit_kept}
+use Rattle.dlmalloc.proofs.Names.{◌≡◌, ℕ, ◌-◌, ◌<◌, Bool, true, false, ◌&&◌, if◌then◌else◌, [], ◌∷◌, sym, ◌∙◌, ap, subst, arith, is_own, is_unused, may_leave, HeapState, state_of, IsFreeAt, IsBinnedBut, IsBinned, FreeMoves, IsChained, IsVisited, Dlmalloc, without_chunk}
+use Rattle.dlmalloc.proofs.Returns.SegmentVisited.{base_is, size_is, never, last_test, first_there, long_told, test_is, first_is_free, stays}
+use Rattle.dlmalloc.proofs.Returns.VisitWithBins.{chained_then, may_still, visited_then, visited_binned, loose_still, not_victim, binned_without}
+use Rattle.dlmalloc.proofs.Returns.PassOrder.{with_same, visit_none, visit_left, visit_kept}
 use Rattle.dlmalloc.proofs.heap.Dlmalloc.release_segment.Goals as goal
 
 pub may_leave-requires-clause-head : goal.may_leave-requires-clause-head

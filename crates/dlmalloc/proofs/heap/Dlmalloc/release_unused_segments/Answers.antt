@@ -1,14 +1,6 @@
-use Rattle.std.proofs.Common.{◌≡◌, ℕ, ◌+◌, Bool, true, false, ◌&&◌, refl, sym, ◌∙◌, subst, arith}
-use Rattle.std.specs.Prelude.{max}
-use Rattle.dlmalloc.specs.Released.{may_leave}
-use Rattle.dlmalloc.specs.State.{countdown_from}
-use Rattle.dlmalloc.specs.Binned.{IsBinned}
-use Rattle.dlmalloc.specs.Chained.{IsVisited}
-use Rattle.dlmalloc.specs.GivenBack.{IsPassed}
-use Rattle.dlmalloc.specs.Order.{after_visit, IsReindexed}
-use Rattle.dlmalloc.specs.declared.heap.Dlmalloc.{Dlmalloc}
-use Rattle.dlmalloc.proofs.Passing.{Passing, begun_passing, read_high, read_word, ahead, chained, sum_fits, count_fits, more_left, on_passing, passed_few, passed_all}
-use Rattle.dlmalloc.proofs.Rebinned.{same_bins}
+use Rattle.dlmalloc.proofs.Names.{◌≡◌, ℕ, ◌+◌, Bool, true, false, ◌&&◌, refl, sym, ◌∙◌, subst, arith, max, may_leave, countdown_from, IsBinned, IsVisited, IsPassed, after_visit, IsReindexed, Dlmalloc}
+use Rattle.dlmalloc.proofs.Returns.ReleasePass.{Passing, begun_passing, read_high, read_word, ahead, chained, sum_fits, count_fits, more_left, on_passing, passed_few, passed_all}
+use Rattle.dlmalloc.proofs.Bins.Changes.{same_bins}
 use Rattle.dlmalloc.proofs.heap.Dlmalloc.release_unused_segments.Goals.{then-release_segment, else-release_segment}
 use Rattle.dlmalloc.proofs.heap.Dlmalloc.release_unused_segments.Goals as goal
 

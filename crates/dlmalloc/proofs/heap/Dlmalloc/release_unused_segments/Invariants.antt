@@ -1,8 +1,5 @@
-use Rattle.std.proofs.Common.{◌+◌, ◌*◌, ◌-◌, ◌≤◌}
-use Rattle.std.specs.Prelude.{length}
-use Rattle.dlmalloc.specs.Heap.{segments_of}
-use Rattle.dlmalloc.specs.Binned.{IsBinned}
-use Rattle.dlmalloc.proofs.Passing.{Passing}
+use Rattle.dlmalloc.proofs.Names.{◌+◌, ◌*◌, ◌-◌, ◌≤◌, length, segments_of, IsBinned}
+use Rattle.dlmalloc.proofs.Returns.ReleasePass.{Passing}
 use Rattle.dlmalloc.proofs.heap.Dlmalloc.release_unused_segments.Given as goal
 
 abbrev pub invariant-loop-payload : goal.invariant-loop-payload

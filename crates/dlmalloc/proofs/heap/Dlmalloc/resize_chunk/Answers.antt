@@ -1,14 +1,10 @@
-use Rattle.std.proofs.Common.{◌≡◌, ◌+◌, true, false, nat_le, nat_lt, Some, refl, sym, ◌∙◌, ap, arith}
-use Rattle.std.proofs.lemmas.Bool.Decides.{nat_tests}
-use Rattle.dlmalloc_chunks.specs.declared.extent.Kind.TheVariants.{Free, Top}
-use Rattle.dlmalloc.specs.Heap.{state_of}
-use Rattle.dlmalloc.specs.State.{HeapState}
-use Rattle.dlmalloc.proofs.Places.{extent}
-use Rattle.dlmalloc.proofs.Served.{as_turned}
-use Rattle.dlmalloc.proofs.Rebinned.{binned_beside}
-use Rattle.dlmalloc.proofs.Answering.{head_there, behind_there, behind_small}
-use Rattle.dlmalloc.proofs.Resizing.{shrinks, stays, grows, has_no_room, not_free, is_free_told, chunk_told, top_behind, free_behind, used_behind}
-use Rattle.dlmalloc.proofs.Ordering.{order_same}
+use Rattle.dlmalloc.proofs.Names.{◌≡◌, ◌+◌, true, false, nat_le, nat_lt, Some, refl, sym, ◌∙◌, ap, arith, nat_tests, Free, Top, state_of, HeapState}
+use Rattle.dlmalloc.proofs.Extents.Lookup.{extent}
+use Rattle.dlmalloc.proofs.Cuts.OneStepOrTwo.{as_turned}
+use Rattle.dlmalloc.proofs.Bins.Changes.{binned_beside}
+use Rattle.dlmalloc.proofs.Frees.WhatCallsWant.{head_there, behind_there, behind_small}
+use Rattle.dlmalloc.proofs.Resizing.InPlace.{shrinks, stays, grows, has_no_room, not_free, is_free_told, chunk_told, top_behind, free_behind, used_behind}
+use Rattle.dlmalloc.proofs.Bins.Order.{order_same}
 use Rattle.dlmalloc.proofs.heap.Dlmalloc.resize_chunk.Goals as goal
 
 pub size-size-requires : goal.size-size-requires

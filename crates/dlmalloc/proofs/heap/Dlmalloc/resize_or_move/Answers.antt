@@ -1,17 +1,5 @@
-use Rattle.std.proofs.Common.{◌≡◌, ◌≢◌, ℕ, ◌+◌, ◌-◌, ◌<◌, ◌≤◌, inl, Some, None, true, refl, sym, ap, subst, arith, rules}
-use Rattle.std.specs.Prelude.{nat_le}
-use Rattle.std.proofs.lemmas.Bool.Decides.{nat_tests}
-use Rattle.dlmalloc_chunks.specs.Request.{limit}
-use Rattle.dlmalloc.specs.Resized.{in_place}
-use Rattle.dlmalloc.specs.Heap.{state_of}
-use Rattle.dlmalloc.proofs.Elsewhere.{chunk_there, held_there, stays_there}
-use Rattle.std.proofs.lemmas.Result.{IfOk-weaker}
-use Rattle.dlmalloc.specs.Requested.{IsMemberServed}
-use Rattle.dlmalloc.specs.declared.heap.Dlmalloc.{Dlmalloc}
-use Rattle.dlmalloc_chunks.specs.Request.{padded}
-use Rattle.dlmalloc.specs.Choice.{chosen}
-use Rattle.dlmalloc.specs.Requested.{asked}
-use Rattle.dlmalloc.specs.Counts.{pass_steps}
+use Rattle.dlmalloc.proofs.Names.{◌≡◌, ◌≢◌, ℕ, ◌+◌, ◌-◌, ◌<◌, ◌≤◌, inl, Some, None, true, refl, sym, ap, subst, arith, rules, nat_le, nat_tests, limit, in_place, state_of, IfOk-weaker, IsMemberServed, Dlmalloc, padded, chosen, asked, pass_steps}
+use Rattle.dlmalloc.proofs.Resizing.InPlaceOrElsewhere.{chunk_there, held_there, stays_there}
 use Rattle.dlmalloc.proofs.heap.Dlmalloc.resize_or_move.Goals as goal
 
 pub resize_chunk-requires-clause-chunk : goal.resize_chunk-requires-clause-chunk

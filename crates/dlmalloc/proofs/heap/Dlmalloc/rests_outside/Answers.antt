@@ -1,4 +1,4 @@
-use Rattle.dlmalloc.proofs.Outside.{still_sound, still_state, still_binned}
+use Rattle.dlmalloc.proofs.Blocks.WordsOutside.{still_sound, still_state, still_binned}
 use Rattle.dlmalloc.proofs.heap.Dlmalloc.rests_outside.Goals as goal
 
 pub returns : goal.returns

@@ -1,5 +1,5 @@
-use Rattle.std.proofs.Common.{arith}
-use Rattle.dlmalloc.proofs.Growing.{head_small}
+use Rattle.dlmalloc.proofs.Names.{arith}
+use Rattle.dlmalloc.proofs.Segments.HeadTop.{head_small}
 use Rattle.dlmalloc.proofs.heap.Dlmalloc.segment_behind.Goals as goal
 
 pub is_behind-requires : goal.is_behind-requires

@@ -1,4 +1,4 @@
-use Rattle.std.proofs.Common.{refl}
+use Rattle.dlmalloc.proofs.Names.{refl}
 use Rattle.dlmalloc.proofs.heap.Dlmalloc.set_granularity.Goals as goal
 
 pub returns-then-accepted-clause-linked : goal.returns-then-accepted-clause-linked

@@ -1,4 +1,4 @@
-use Rattle.std.proofs.Common.{refl}
+use Rattle.dlmalloc.proofs.Names.{refl}
 use Rattle.dlmalloc.proofs.heap.Dlmalloc.set_max_release_check_rate.Goals as goal
 
 pub returns-clause-linked : goal.returns-clause-linked

@@ -1,4 +1,4 @@
-use Rattle.dlmalloc.proofs.Settling.{above_none, settled_counted, settled_top}
+use Rattle.dlmalloc.proofs.Frees.Settled.{above_none, settled_counted, settled_top}
 use Rattle.dlmalloc.proofs.heap.Dlmalloc.settle.Goals as goal
 
 pub returns-then-chunk-self-clause-settled : goal.returns-then-chunk-self-clause-settled

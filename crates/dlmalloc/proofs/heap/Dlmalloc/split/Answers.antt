@@ -1,7 +1,5 @@
-use Rattle.std.proofs.Common.{◌+◌, List, ◌∙◌, sym, subst, arith, rules}
-use Rattle.heap_memory.specs.declared.grant.Grant.{Grant}
-use Rattle.dlmalloc_chunks.specs.Chunk.{HasHead}
-use Rattle.dlmalloc.proofs.Splitting.{end_small, first_head, second_head, rest_whole, split_state, split_first, split_second, split_others, split_sound, split_words, split_free}
+use Rattle.dlmalloc.proofs.Names.{◌+◌, List, ◌∙◌, sym, subst, arith, rules, Grant, HasHead}
+use Rattle.dlmalloc.proofs.Resizing.Split.{end_small, first_head, second_head, rest_whole, split_state, split_first, split_second, split_others, split_sound, split_words, split_free}
 use Rattle.dlmalloc.proofs.heap.Dlmalloc.split.Goals as goal
 
 pub set_inuse-requires-clause-head : goal.set_inuse-requires-clause-head

@@ -1,6 +1,6 @@
-use Rattle.std.proofs.Common.{arith}
-use Rattle.dlmalloc.proofs.Served.{as_turned}
-use Rattle.dlmalloc.proofs.TakingBins.{victim_taken}
+use Rattle.dlmalloc.proofs.Names.{arith}
+use Rattle.dlmalloc.proofs.Cuts.OneStepOrTwo.{as_turned}
+use Rattle.dlmalloc.proofs.Cuts.BinsMeanwhile.{victim_taken}
 use Rattle.dlmalloc.proofs.heap.Dlmalloc.take.Goals as goal
 
 pub returns-then-at-self : goal.returns-then-at-self

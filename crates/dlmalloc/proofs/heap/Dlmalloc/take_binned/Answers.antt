@@ -1,18 +1,10 @@
-use Rattle.std.proofs.Common.{ℕ, ◌+◌, ◌-◌, ◌≡◌, ◌≢◌, [], Some, refl, sym, ◌∙◌, ap, subst, arith}
-use Rattle.dlmalloc_chunks.specs.declared.extent.Kind.TheVariants.{Free}
-use Rattle.dlmalloc.specs.State.{HeapState, extents_in}
-use Rattle.dlmalloc.specs.Extents.{extent_at}
-use Rattle.dlmalloc.specs.Taken.{taken}
-use Rattle.dlmalloc.specs.Blocks.{HasOneMore}
-use Rattle.dlmalloc.specs.Heap.{state_of}
-use Rattle.dlmalloc.specs.Binned.{IsFreeAt}
-use Rattle.dlmalloc.specs.Order.{KeepsOrder}
-use Rattle.dlmalloc.proofs.Places.{extent}
-use Rattle.dlmalloc.proofs.Taking.{end_small}
-use Rattle.dlmalloc.proofs.Turning.{turned}
-use Rattle.dlmalloc.proofs.Rebinned.{not_rebinned, renamed}
-use Rattle.dlmalloc.proofs.Ordering.{lessened_as, added_as, order_less, in_order}
-use Rattle.dlmalloc.proofs.TakingBins.{whole_taken, rest_came, small_taken, small_other, large_taken, large_other, old_victim_free, old_victim_none}
+use Rattle.dlmalloc.proofs.Names.{ℕ, ◌+◌, ◌-◌, ◌≡◌, ◌≢◌, [], Some, refl, sym, ◌∙◌, ap, subst, arith, Free, HeapState, extents_in, extent_at, taken, HasOneMore, state_of, IsFreeAt, KeepsOrder}
+use Rattle.dlmalloc.proofs.Extents.Lookup.{extent}
+use Rattle.dlmalloc.proofs.Cuts.FreeChunk.{end_small}
+use Rattle.dlmalloc.proofs.Moves.WithBins.{turned}
+use Rattle.dlmalloc.proofs.Bins.Changes.{not_rebinned, renamed}
+use Rattle.dlmalloc.proofs.Bins.Order.{lessened_as, added_as, order_less, in_order}
+use Rattle.dlmalloc.proofs.Cuts.BinsMeanwhile.{whole_taken, rest_came, small_taken, small_other, large_taken, large_other, old_victim_free, old_victim_none}
 use Rattle.dlmalloc.proofs.heap.Dlmalloc.take_binned.Goals as goal
 
 pub unbin-requires-clause-binned : goal.unbin-requires-clause-binned

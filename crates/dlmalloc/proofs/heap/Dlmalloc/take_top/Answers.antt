@@ -1,6 +1,5 @@
-use Rattle.std.proofs.Common.{rules, ◌+◌, refl, sym, subst, ◌∙◌, arith}
-use Rattle.heap_memory.specs.Regions.{IsWordOf}
-use Rattle.dlmalloc.proofs.TopTaking.{top_head, rest_head, top_taken, top_free, others_still, head_boundary, foot_boundary, stores}
+use Rattle.dlmalloc.proofs.Names.{rules, ◌+◌, refl, sym, subst, ◌∙◌, arith, IsWordOf}
+use Rattle.dlmalloc.proofs.Cuts.Top.{top_head, rest_head, top_taken, top_free, others_still, head_boundary, foot_boundary, stores}
 use Rattle.dlmalloc.proofs.heap.Dlmalloc.take_top.Goals as goal
 
 pub set_size_and_pinuse_of_inuse_chunk-requires-clause-head : goal.set_size_and_pinuse_of_inuse_chunk-requires-clause-head

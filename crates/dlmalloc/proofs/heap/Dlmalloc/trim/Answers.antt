@@ -1,15 +1,8 @@
-use Rattle.std.proofs.Common.{◌≡◌, ◌-◌, ◌^◌, ◌<◌, true, false, ◌||◌, if◌then◌else◌, inl, inr, refl, sym, subst, arith}
-use Rattle.std.specs.Prelude.{nat_lt}
-use Rattle.std.proofs.lemmas.Bool.Decides.{nat_tests}
-use Rattle.dlmalloc_chunks.specs.Request.{limit}
-use Rattle.dlmalloc.specs.Shortened.{IsTrimmed}
-use Rattle.dlmalloc.specs.Binned.{IsBinned}
-use Rattle.dlmalloc.specs.declared.heap.Dlmalloc.{Dlmalloc}
-use Rattle.dlmalloc.proofs.Rebinned.{same_check}
-use Rattle.dlmalloc.proofs.Trims.{is_not_made, untouched, limit_small, trim_gave, trim_gave_up}
+use Rattle.dlmalloc.proofs.Names.{◌≡◌, ◌-◌, ◌^◌, ◌<◌, true, false, ◌||◌, if◌then◌else◌, inl, inr, refl, sym, subst, arith, nat_lt, nat_tests, limit, IsTrimmed, IsBinned, Dlmalloc, state_of}
+use Rattle.dlmalloc.proofs.Bins.Changes.{same_check}
+use Rattle.dlmalloc.proofs.Returns.Trim.{is_not_made, untouched, limit_small, trim_gave, trim_gave_up}
 use Rattle.dlmalloc.proofs.heap.Dlmalloc.trim.Goals.{then-pad-max_request-via-then-pad-max_request, then-pad-max_request-via-else-pad-max_request+then-self-eq0, then-is_cut-via-then-is_cut, then-is_cut-via-else-is_cut+then-released-gt0}
-use Rattle.dlmalloc.specs.Heap.{state_of}
-use Rattle.dlmalloc.proofs.Counts.{after_cut_pass}
+use Rattle.dlmalloc.proofs.Returns.PassSteps.{after_cut_pass}
 use Rattle.dlmalloc.proofs.heap.Dlmalloc.trim.Goals as goal
 
 pub trim_top-is_cut-requires-clause-small : goal.trim_top-is_cut-requires-clause-small

@@ -1,6 +1,5 @@
-use Rattle.std.proofs.Common.{true, false, refl, sym, ◌∙◌, subst}
-use Rattle.dlmalloc.specs.Shortened.{IsShortened}
-use Rattle.dlmalloc.proofs.Trimming.{cut_answer, cut_back, binned_but_top}
+use Rattle.dlmalloc.proofs.Names.{true, false, refl, sym, ◌∙◌, subst, IsShortened}
+use Rattle.dlmalloc.proofs.Returns.TrimCut.{cut_answer, cut_back, binned_but_top}
 use Rattle.dlmalloc.proofs.heap.Dlmalloc.trim_top.Goals as goal
 
 pub returns-then-may_cut-clause-answer : goal.returns-then-may_cut-clause-answer

@@ -1,6 +1,6 @@
-use Rattle.dlmalloc.proofs.Rebinned.{rebinned, not_rebinned, is_binned, now_loose, links_unlink, victim_loose}
-use Rattle.dlmalloc.proofs.Ordering.{none_left}
-use Rattle.std.proofs.Common.{refl}
+use Rattle.dlmalloc.proofs.Bins.Changes.{rebinned, not_rebinned, is_binned, now_loose, links_unlink, victim_loose}
+use Rattle.dlmalloc.proofs.Bins.Order.{none_left}
+use Rattle.dlmalloc.proofs.Names.{refl}
 use Rattle.dlmalloc.proofs.heap.Dlmalloc.unbin.Goals as goal
 
 pub returns-then-at-self-clause-loose : goal.returns-then-at-self-clause-loose

@@ -1,6 +1,6 @@
-use Rattle.std.proofs.Common.{◌-◌}
-use Rattle.dlmalloc.proofs.Rebinned.{not_rebinned, none_loose}
-use Rattle.dlmalloc.proofs.Ordering.{lessened_same, lessened_as}
+use Rattle.dlmalloc.proofs.Names.{◌-◌}
+use Rattle.dlmalloc.proofs.Bins.Changes.{not_rebinned, none_loose}
+use Rattle.dlmalloc.proofs.Bins.Order.{lessened_same, lessened_as}
 use Rattle.dlmalloc.proofs.heap.Dlmalloc.unbin_between.Goals as goal
 
 pub unbin-requires-clause-free : goal.unbin-requires-clause-free

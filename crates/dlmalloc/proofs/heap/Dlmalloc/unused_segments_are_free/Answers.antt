@@ -1,4 +1,4 @@
-use Rattle.dlmalloc.proofs.FreeExtents.{each_free}
+use Rattle.dlmalloc.proofs.Extents.FreeParted.{each_free}
 use Rattle.dlmalloc.proofs.heap.Dlmalloc.unused_segments_are_free.Goals as goal
 
 pub returns : goal.returns

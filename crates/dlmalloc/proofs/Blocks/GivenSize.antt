@@ -1,0 +1,190 @@
+-- What holds of each block that gets another size, and of each that is cleared.
+use Rattle.dlmalloc.proofs.Names.{◌≡◌, ℕ, ◌+◌, ◌-◌, ◌/◌, ◌%◌, IsTrue, ◌<◌, ◌≤◌, inl, inr, max, Bool, true, false, nat_le, List, [], ◌++◌, Option, None, Some, refl, sym, ◌∙◌, ap, subst, arith, IsPowerOfTwo, Grant, Event, is_granted, IsWordOf, IsBeside, padded, limit, Extent, Used, extent_at, HeapState, extents_in, replaced, cut, in_segments, freed_in, IsBlock, IsInside, HasOneMore, halves, tail_freed, joined, has_room, replaced_both, grown_into, in_place, HasOneMoved, state_of, IsSound, spans, IsHandedOut, words_in, IsSameHeap, IsInPlace, IsElsewhere, IsResized, IsGivenSize, Dlmalloc}
+use Rattle.dlmalloc.proofs.Extents.Lookup.{found}
+use Rattle.dlmalloc.proofs.Laws.{used_inside, used_apart}
+use Rattle.dlmalloc.proofs.Segments.RegionsMore.{with_other}
+use Rattle.dlmalloc.proofs.Grants.StillGranted.{still_granted}
+use Rattle.dlmalloc.proofs.Blocks.HandedOut.{spans_changed, asked_low, handed_low, handed_high}
+
+-- ---- resizing in place leaves the segments where they are
+
+spans_resized : (heap new : HeapState) (at n : ℕ) → in_place heap at n ≡ Some new → (spans new ≡ spans heap) × (new.granularity ≡ heap.granularity)
+spans_resized heap new at n is = first (extent_at at (extents_in heap)) refl
+  where
+    told : (state : HeapState) → in_place heap at n ≡ Some state → (spans state ≡ spans heap) × (state.granularity ≡ heap.granularity) → (spans new ≡ spans heap) × (new.granularity ≡ heap.granularity)
+    told state that h = let one : state ≡ new = (let both : Some state ≡ Some new = sym that ∙ is in cc) in subst (λ (s : HeapState). (spans s ≡ spans heap) × (s.granularity ≡ heap.granularity)) one h
+
+    behind : (one : Extent) → extent_at at (extents_in heap) ≡ Some one → nat_le n one.size ≡ false → (o : Option Extent) → extent_at (one.at + one.size) (extents_in heap) ≡ o → (spans new ≡ spans heap) × (new.granularity ≡ heap.granularity)
+    behind one there more None none = absurd (let gone : in_place heap at n ≡ None = rw (there, more, none) refl in let both : None ≡ Some new = sym gone ∙ is in cc)
+    behind one there more (Some next) after = room (has_room n (joined one next)) refl
+      where
+        room : (b : Bool) → has_room n (joined one next) ≡ b → (spans new ≡ spans heap) × (new.granularity ≡ heap.granularity)
+        room true has = told (grown_into heap one next n) (rw (there, more, after, has) refl) (spans_changed (replaced_both one.at (λ one behind. cut n (joined one behind))) heap.segments, refl)
+        room false none = absurd (let gone : in_place heap at n ≡ None = rw (there, more, after, none) refl in let both : None ≡ Some new = sym gone ∙ is in cc)
+
+    rest : (one : Extent) → extent_at at (extents_in heap) ≡ Some one → nat_le n one.size ≡ true → (b : Bool) → nat_le (n + 32) one.size ≡ b → (spans new ≡ spans heap) × (new.granularity ≡ heap.granularity)
+    rest one there fits true much = told (tail_freed heap one.at n) (rw (there, fits, much) refl)
+        (spans_changed (freed_in (one.at + n)) (in_segments (replaced one.at (halves n)) heap.segments) ∙ spans_changed (replaced one.at (halves n)) heap.segments, refl)
+    rest one there fits false few = told heap (rw (there, fits, few) refl) (refl, refl)
+
+    first : (o : Option Extent) → extent_at at (extents_in heap) ≡ o → (spans new ≡ spans heap) × (new.granularity ≡ heap.granularity)
+    first None none = absurd (let gone : in_place heap at n ≡ None = rw none refl in let both : None ≡ Some new = sym gone ∙ is in cc)
+    first (Some one) there = fit (nat_le n one.size) refl
+      where
+        fit : (b : Bool) → nat_le n one.size ≡ b → (spans new ≡ spans heap) × (new.granularity ≡ heap.granularity)
+        fit true fits = rest one there fits (nat_le (n + 32) one.size) refl
+        fit false more = behind one there more (extent_at (one.at + one.size) (extents_in heap)) refl
+
+-- ---- the block
+
+module _ {A : Type 0} (regions : A → List Grant) (word : A → ℕ → ℕ) (heap : Dlmalloc A) (sound : IsSound regions word heap) (address size : ℕ) (block : IsBlock (state_of word heap) address size) where
+  place : block.extent.at ≡ address - 16
+  place = (found (address - 16) block.extent (extents_in (state_of word heap)) block.there).place
+
+  pub there : extent_at block.extent.at (extents_in (state_of word heap)) ≡ Some block.extent
+  there = ap (λ (a : ℕ). extent_at a (extents_in (state_of word heap))) place ∙ block.there
+
+  inside : IsInside (regions heap.system) block.extent
+  inside = used_inside regions word heap sound block.extent block.used there
+
+  -- a block lies in granted bytes, at a multiple of 16
+  pub whole : address % 16 ≡ 0
+  whole = omega (arith, place, block.low, inside.whole)
+
+  pub bytes_granted : (k : ℕ) → address ≤ k → k < address + max size 1 → IsTrue (is_granted (regions heap.system) k)
+  bytes_granted k low high = inside.granted k (omega (arith, place, block.low, low)) (omega (arith, place, block.low, block.holds, inside.long, high))
+
+-- ---- a block with another size
+
+module _ {A : Type 0} (regions : A → List Grant) (word : A → ℕ → ℕ) (zeros : A → Bool) (follows : A → List Event → A → Type 0) (on : (x y z : A) (a b c : List Event) → follows x a y → follows y b z → a ++ b ≡ c → follows x c z) (frees parts : Bool) (unit : ℕ)
+    (old new : Dlmalloc A) (from held align size address n : ℕ) (sound : IsSound regions word old) (power : IsPowerOfTwo align) (block : IsBlock (state_of word old) from n) where
+  given_here : align ≤ 16 → address ≡ from → IsInPlace regions word follows old from held size new → IsGivenSize regions word follows frees parts unit old from held align size address new
+  given_here few same out = record {
+    middle = new;
+    found = inl (still.0, out.moved.followed, out.moved.regions_same);
+    between = out.moved.sound;
+    still = λ grant with_it. absurd (with_other grant (regions old.system) (sym with_it ∙ out.moved.regions_same));
+    here = λ is. (refl, out.moved.followed);
+    elsewhere = λ differs. absurd (differs same);
+    granularity = still.1;
+    small = subst (λ (n : ℕ). n < limit old.granularity) (asked_low size align few) out.small;
+    low = subst (λ (a : ℕ). 16 ≤ a) (sym same) block.low;
+    block = there_now;
+    multiple = λ is. ap (λ a. a % align) same ∙ is;
+    aligned = whole regions word new out.moved.sound address size there_now;
+    granted = bytes_granted regions word new out.moved.sound address size there_now;
+    moved = subst (λ (a : ℕ). HasOneMoved (state_of word old) (state_of word new) (from - 16) (a - 16)) (sym same) (record {
+      kept = λ used is other there. out.others.kept used is other other there;
+      only = λ used is other there. out.others.only used is other other there;
+      apart = λ used is other there. other;
+      gone = λ used is other there. other;
+    });
+    kept = out.kept;
+    contents = λ k less m. ap (λ a. word new.system (a + k)) same ∙ out.contents k less m;
+    sound = out.moved.sound;
+  }
+    where
+      there_now : IsBlock (state_of word new) address size
+      there_now = subst (λ (a : ℕ). IsBlock (state_of word new) a size) (sym same) out.block
+
+      still : (spans (state_of word new) ≡ spans (state_of word old)) × (new.granularity ≡ old.granularity)
+      still = spans_resized (state_of word old) (state_of word new) (from - 16) (padded size) out.state
+
+  module _ (out : IsElsewhere regions word zeros follows frees parts unit old from held align size address new) where
+    handed : IsHandedOut regions word follows old size align address out.middle
+    handed = elim out.served [
+      | inl few ↦ handed_low regions word zeros follows old out.middle size align address power few.0 few.1
+      | inr many ↦ handed_high regions word zeros follows old out.middle size align address many.0 on many.1
+    ]
+
+    -- what is in use as the block is handed out is what is in use as its words are filled
+    filled : (k : ℕ) (one : Extent) → extent_at k (extents_in (state_of word out.middle)) ≡ Some one → extent_at k (extents_in (state_of word out.filled)) ≡ Some one
+    filled k one is = ap (λ (s : HeapState). extent_at k (extents_in s)) out.same.state ∙ is
+
+    unfilled : (k : ℕ) (one : Extent) → extent_at k (extents_in (state_of word out.filled)) ≡ Some one → extent_at k (extents_in (state_of word out.middle)) ≡ Some one
+    unfilled k one is = ap (λ (s : HeapState). extent_at k (extents_in s)) (sym out.same.state) ∙ is
+
+    there_before : extent_at block.extent.at (extents_in (state_of word old)) ≡ Some block.extent
+    there_before = there regions word old sound from n block
+
+    place_before : block.extent.at ≡ from - 16
+    place_before = (found (from - 16) block.extent (extents_in (state_of word old)) block.there).place
+
+    pub given_elsewhere : IsGivenSize regions word follows frees parts unit old from held align size address new
+    given_elsewhere = record {
+      middle = out.filled;
+      found = elim handed.found [
+        | inl here ↦ inl (ap spans out.same.state ∙ here.0, on old.system out.middle.system out.filled.system [] [] [] here.1 out.same.followed refl, out.same.regions_same ∙ here.2)
+        | inr there ↦ inr (there.0, there.1, there.2, ap spans out.same.state ∙ there.3, on old.system out.middle.system out.filled.system _ [] _ there.4 out.same.followed refl, out.same.regions_same ∙ there.5)
+      ];
+      between = out.same.sound;
+      still = still_granted regions word zeros follows frees parts unit old new from held align size address n sound power block out;
+      here = λ same. absurd (handed.more.new block.extent block.used there_before (omega (arith, place_before, same)));
+      elsewhere = λ differs. out.freed;
+      granularity = out.freed.granularity ∙ (ap (λ (h : HeapState). h.granularity) out.same.state ∙ handed.granularity);
+      small = handed.small;
+      low = handed.low;
+      block = out.block;
+      multiple = λ is. handed.multiple;
+      aligned = handed.aligned;
+      granted = bytes_granted regions word new out.freed.sound address size out.block;
+      moved = record {
+        kept = λ used is other there. out.freed.less.only used is (filled used.at used (handed.more.kept used is there)) other;
+        only = λ used is other there. handed.more.only used is (unfilled used.at used (out.freed.less.kept used is there)) other;
+        apart = λ used is other there. handed.more.new used is there;
+        gone = λ used is other there. out.freed.less.new used is there;
+      };
+      kept = out.kept;
+      contents = out.contents;
+      sound = out.freed.sound;
+    }
+
+  pub given_size : IsResized regions word zeros follows frees parts unit old from held align size address new → IsGivenSize regions word follows frees parts unit old from held align size address new
+  given_size (inl here) = given_here here.0 here.1 here.2
+  given_size (inr there) = given_elsewhere there.1
+
+-- ---- a block that is cleared
+
+-- A block is handed out still, where no word but its own is written.
+pub handed_written : {A : Type 0} (regions : A → List Grant) (word : A → ℕ → ℕ) (follows : A → List Event → A → Type 0) → ((x y z : A) (a b c : List Event) → follows x a y → follows y b z → a ++ b ≡ c → follows x c z) →
+    (old middle new : Dlmalloc A) (size align address : ℕ) → IsHandedOut regions word follows old size align address middle → IsSameHeap regions word follows middle new →
+    ((k : ℕ) → IsWordOf (regions middle.system) k → IsBeside address (words_in size) k → word new.system k ≡ word middle.system k) → IsHandedOut regions word follows old size align address new
+handed_written {A} regions word follows on old middle new size align address handed same elsewhere = record {
+  found = elim handed.found [
+    | inl here ↦ inl (ap spans same.state ∙ here.0, on old.system middle.system new.system [] [] [] here.1 same.followed refl, same.regions_same ∙ here.2)
+    | inr there ↦ inr (there.0, there.1, there.2, ap spans same.state ∙ there.3, on old.system middle.system new.system _ [] _ there.4 same.followed refl, same.regions_same ∙ there.5)
+  ];
+  granularity = ap (λ (h : HeapState). h.granularity) same.state ∙ handed.granularity;
+  small = handed.small;
+  low = handed.low;
+  block = subst (λ (s : HeapState). IsBlock s address size) (sym same.state) handed.block;
+  multiple = handed.multiple;
+  aligned = handed.aligned;
+  granted = λ k low high. ap (λ (rs : List Grant). is_granted rs k) same.regions_same ∙ handed.granted k low high;
+  more = subst (λ (s : HeapState). HasOneMore (state_of word old) s (address - 16)) (sym same.state) handed.more;
+  kept = record {
+    words = λ other there used k low high m.
+        let inside = used_inside regions word middle handed.sound other used (handed.more.kept other used there) in
+        elsewhere k (record { granted = inside.granted k (omega (arith, low)) (omega (arith, high)); aligned = m }) (beside other used there k (omega (arith, low)) high) ∙ handed.kept.words other there used k low high m;
+    heads = λ other there used.
+        let inside = used_inside regions word middle handed.sound other used (handed.more.kept other used there) in
+        ap (λ (w : ℕ). w / 2) (elsewhere (other.at + 8) (record { granted = inside.granted (other.at + 8) (omega arith) (omega (arith, inside.long)); aligned = omega (arith, inside.whole) }) (beside other used there (other.at + 8) (omega arith) (omega (arith, inside.long))))
+        ∙ handed.kept.heads other there used;
+  };
+  sound = same.sound;
+}
+  where
+    cut_there : extent_at handed.block.extent.at (extents_in (state_of word middle)) ≡ Some handed.block.extent
+    cut_there = there regions word middle handed.sound address size handed.block
+
+    cut_place : handed.block.extent.at ≡ address - 16
+    cut_place = (found (address - 16) handed.block.extent (extents_in (state_of word middle)) handed.block.there).place
+
+    beside : (other : Extent) → other.kind ≡ Used → extent_at other.at (extents_in (state_of word old)) ≡ Some other → (k : ℕ) → other.at + 8 ≤ k → k < other.at + other.size + 8 → IsBeside address (words_in size) k
+    beside other used there k low high =
+        let holds = handed.block.holds in
+        let size_whole = (used_inside regions word middle handed.sound handed.block.extent handed.block.used cut_there).size_whole in
+        elim (used_apart regions word middle handed.sound other handed.block.extent (handed.more.kept other used there) cut_there (λ same. handed.more.new other used there (same ∙ cut_place))) [
+          | inl before ↦ inl (omega (arith, cut_place, handed.low, high, before))
+          | inr behind ↦ inr (omega (arith, cut_place, handed.low, holds, size_whole, low, behind))
+        ]

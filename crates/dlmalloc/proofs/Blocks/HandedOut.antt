@@ -1,0 +1,157 @@
+-- What holds of each block that is handed out.
+use Rattle.dlmalloc.proofs.Names.{◌≡◌, ℕ, ◌+◌, ◌-◌, ◌%◌, ◌^◌, ◌<◌, ◌≤◌, inl, inr, Bool, true, false, ◌==◌, nat_le, nat_lt, if◌then◌else◌, List, [], ◌∷◌, ◌++◌, map, Result, Ok, Err, IfOk, zero, suc, refl, sym, ◌∙◌, ap, subst, arith, pow_mono, list_any, IsPowerOfTwo, dec_lt, nat_tests, Grant, Event, padded, enlarged, limit, Extent, HeapState, Segment, extents_in, size_where, is_behind, is_before, is_put_before, granted, replaced, cut, in_segments, freed, freed_in, exchanged, halves, tail_freed, aligned_place, lead_freed, tail_cut, aligned, state_of, IsTakenFromGrant, IsServed, asked, spans, IsFound, IsHandedOut, IsServedAligned, Dlmalloc}
+
+-- what follows from the answer of a call, where it is one
+pub on_ok : {T E : Type 0} (r : Result T E) {P Q : T → Type 0} → ((x : T) → P x → Q x) → IfOk r P → IfOk r Q
+on_ok (Ok x) each holds = each x holds
+on_ok (Err e) each holds = tt
+
+-- ---- segments stay where they are
+
+pub spans_changed : (change : List Extent → List Extent) (segments : List Segment) → map {B = Segment} (λ (segment : Segment). record segment { extents = [] }) (in_segments change segments) ≡ map {B = Segment} (λ (segment : Segment). record segment { extents = [] }) segments
+spans_changed change [] = refl
+spans_changed change (segment ∷ segments) = ap (λ (l : List Segment). (record segment { extents = [] }) ∷ l) (spans_changed change segments)
+
+spans_lead : (heap : HeapState) (at place : ℕ) → spans (lead_freed heap at place) ≡ spans heap
+spans_lead heap at place = go (place == at)
+  where
+    go : (b : Bool) → spans (if b then heap else freed (exchanged heap at (halves (place - at))) at) ≡ spans heap
+    go true = refl
+    go false = spans_changed (freed_in at) (in_segments (replaced at (halves (place - at))) heap.segments) ∙ spans_changed (replaced at (halves (place - at))) heap.segments
+
+spans_tail : (heap : HeapState) (at n : ℕ) → spans (tail_cut heap at n) ≡ spans heap
+spans_tail heap at n = go (nat_lt (n + 32) (size_where (λ (extent : Extent). extent.at == at) (extents_in heap)))
+  where
+    go : (b : Bool) → spans (if b then tail_freed heap at n else heap) ≡ spans heap
+    go true = spans_changed (freed_in (at + n)) (in_segments (replaced at (halves n)) heap.segments) ∙ spans_changed (replaced at (halves n)) heap.segments
+    go false = refl
+
+pub spans_aligned : (heap : HeapState) (at align n : ℕ) → spans (aligned heap at align n) ≡ spans heap
+spans_aligned heap at align n = spans_tail (lead_freed heap at (aligned_place at align)) (aligned_place at align) n ∙ spans_lead heap at (aligned_place at align)
+
+-- ---- and regions are asked for in the same multiples
+
+granularity_granted : (segments : List Segment) (victim granularity rate countdown trim_check : ℕ) (grant : Grant) (n : ℕ) →
+    (granted grant n (record { segments = segments; victim = victim; granularity = granularity; rate = rate; countdown = countdown; trim_check = trim_check })).granularity ≡ granularity
+granularity_granted [] victim granularity rate countdown trim_check grant n = refl
+granularity_granted (head ∷ rest) victim granularity rate countdown trim_check grant n = go (is_behind grant head) refl (list_any (is_before grant) (head ∷ rest)) refl
+  where
+    go : (b : Bool) → is_behind grant head ≡ b → (c : Bool) → list_any (is_before grant) (head ∷ rest) ≡ c →
+        (granted grant n (record { segments = head ∷ rest; victim = victim; granularity = granularity; rate = rate; countdown = countdown; trim_check = trim_check })).granularity ≡ granularity
+    go true behind c before = rw behind refl
+    go false behind true before = rw (behind, before) refl
+    go false behind false before = rw (behind, before) refl
+
+granularity_lead : (heap : HeapState) (at place : ℕ) → (lead_freed heap at place).granularity ≡ heap.granularity
+granularity_lead heap at place = go (place == at)
+  where
+    go : (b : Bool) → (if b then heap else freed (exchanged heap at (halves (place - at))) at).granularity ≡ heap.granularity
+    go true = refl
+    go false = refl
+
+granularity_tail : (heap : HeapState) (at n : ℕ) → (tail_cut heap at n).granularity ≡ heap.granularity
+granularity_tail heap at n = go (nat_lt (n + 32) (size_where (λ (extent : Extent). extent.at == at) (extents_in heap)))
+  where
+    go : (b : Bool) → (if b then tail_freed heap at n else heap).granularity ≡ heap.granularity
+    go true = refl
+    go false = refl
+
+granularity_aligned : (heap : HeapState) (at align n : ℕ) → (aligned heap at align n).granularity ≡ heap.granularity
+granularity_aligned heap at align n = granularity_tail (lead_freed heap at (aligned_place at align)) (aligned_place at align) n ∙ granularity_lead heap at (aligned_place at align)
+
+-- ---- a multiple of 16 is one of each lower power of two
+
+low_multiple : (align address : ℕ) → IsPowerOfTwo align → align ≤ 16 → address % 16 ≡ 0 → address % align ≡ 0
+low_multiple align address power few whole = subst (λ (a : ℕ). address % a ≡ 0) (sym power.1) (go power.0 low)
+  where
+    low : power.0 ≤ 4
+    low = elim (dec_lt 4 power.0) [
+      | yes many ↦ absurd (let five : 5 ≤ power.0 = omega arith in let high : 2 ^ 5 ≤ 2 ^ power.0 = pow_mono five in let is = power.1 in omega arith)
+      | no less ↦ omega arith
+    ]
+
+    go : (k : ℕ) → k ≤ 4 → address % 2 ^ k ≡ 0
+    go zero less = omega arith
+    go (suc zero) less = omega (arith, whole)
+    go (suc (suc zero)) less = omega (arith, whole)
+    go (suc (suc (suc zero))) less = omega (arith, whole)
+    go (suc (suc (suc (suc zero)))) less = whole
+    go (suc (suc (suc (suc (suc k))))) less = absurd (omega arith)
+
+-- ---- what was asked of the heap
+
+pub asked_low : (size align : ℕ) → align ≤ 16 → size ≡ asked size align
+asked_low size align few = let test : nat_le align 16 ≡ true = grind (arith, nat_tests) in rw test refl
+
+pub asked_high : (size align : ℕ) → 16 < align → enlarged size align ≡ asked size align
+asked_high size align many = let test : nat_le align 16 ≡ false = grind (arith, nat_tests) in rw test refl
+
+module _ {A : Type 0} (regions : A → List Grant) (word : A → ℕ → ℕ) (zeros : A → Bool) (follows : A → List Event → A → Type 0) (old new : Dlmalloc A) (size align address : ℕ) where
+  -- where a region was granted, they are those that it makes
+  pub spans_new : (n at : ℕ) (grant : Grant) (new : HeapState) → IsTakenFromGrant (state_of word old) n at grant new → spans new ≡ spans (granted grant n (state_of word old))
+  spans_new n at grant new is = go (is_put_before grant (state_of word old).segments) refl
+    where
+      go : (b : Bool) → is_put_before grant (state_of word old).segments ≡ b → spans new ≡ spans (granted grant n (state_of word old))
+      go true before = ap spans (is.of_grant before).1
+      go false apart = let top = is.of_top apart in ap spans top.state ∙ spans_changed (replaced top.top.at (cut n)) (granted grant n (state_of word old)).segments
+
+  granularity_new : (n at : ℕ) (grant : Grant) (new : HeapState) → IsTakenFromGrant (state_of word old) n at grant new → new.granularity ≡ old.granularity
+  granularity_new n at grant new is = go (is_put_before grant (state_of word old).segments) refl
+    where
+      granted_same : (granted grant n (state_of word old)).granularity ≡ old.granularity
+      granted_same = let h = state_of word old in granularity_granted h.segments h.victim h.granularity h.rate h.countdown h.trim_check grant n
+
+      go : (b : Bool) → is_put_before grant (state_of word old).segments ≡ b → new.granularity ≡ old.granularity
+      go true before = ap (λ (h : HeapState). h.granularity) (is.of_grant before).1 ∙ granted_same
+      go false apart = ap (λ (h : HeapState). h.granularity) (is.of_top apart).state ∙ granted_same
+
+  found_served : (n : ℕ) (at : ℕ) (middle : Dlmalloc A) → IsServed regions word zeros follows old n at middle → IsFound follows regions old.system (state_of word old) (padded n) middle.system (state_of word middle)
+  found_served n at middle served = elim served.cut [
+    | inl here ↦ inl (ap spans here.0.state ∙ spans_changed (replaced here.0.extent.at (cut (padded n))) (state_of word old).segments, here.1, here.2)
+    | inr there ↦ inr (there.0, there.1.none_chosen, there.1.full, spans_new (padded n) (at - 16) there.0 (state_of word middle) there.1, there.2, there.3)
+  ]
+
+  granularity_served : (n : ℕ) (at : ℕ) (middle : Dlmalloc A) → IsServed regions word zeros follows old n at middle → middle.granularity ≡ old.granularity
+  granularity_served n at middle served = elim served.cut [
+    | inl here ↦ ap (λ (h : HeapState). h.granularity) here.0.state
+    | inr there ↦ granularity_new (padded n) (at - 16) there.0 (state_of word middle) there.1
+  ]
+
+  pub handed_low : IsPowerOfTwo align → align ≤ 16 → IsServed regions word zeros follows old size address new → IsHandedOut regions word follows old size align address new
+  handed_low power few served = record {
+    found = subst (λ (n : ℕ). IsFound follows regions old.system (state_of word old) (padded n) new.system (state_of word new)) (asked_low size align few) (found_served size address new served);
+    granularity = granularity_served size address new served;
+    small = subst (λ (n : ℕ). n < limit old.granularity) (asked_low size align few) served.small;
+    low = served.low;
+    block = served.block;
+    multiple = low_multiple align address power few served.aligned;
+    aligned = served.aligned;
+    granted = served.granted;
+    more = served.more;
+    kept = served.kept;
+    sound = served.sound;
+  }
+
+  pub handed_high : 16 < align → ((x y z : A) (a b c : List Event) → follows x a y → follows y b z → a ++ b ≡ c → follows x c z) → IsServedAligned regions word zeros follows old size align address new → IsHandedOut regions word follows old size align address new
+  handed_high many on out = record {
+    found = subst (λ (n : ℕ). IsFound follows regions old.system (state_of word old) (padded n) new.system (state_of word new)) (asked_high size align many) found;
+    granularity = ap (λ (h : HeapState). h.granularity) out.state ∙ (granularity_aligned (state_of word out.middle) (out.greater - 16) align (padded size) ∙ granularity_served (enlarged size align) out.greater out.middle out.served);
+    small = subst (λ (n : ℕ). n < limit old.granularity) (asked_high size align many) out.served.small;
+    low = out.low;
+    block = out.block;
+    multiple = out.multiple;
+    aligned = out.aligned_at_16;
+    granted = out.granted;
+    more = out.more;
+    kept = out.kept;
+    sound = out.sound;
+  }
+    where
+      stay : spans (state_of word new) ≡ spans (state_of word out.middle)
+      stay = ap spans out.state ∙ spans_aligned (state_of word out.middle) (out.greater - 16) align (padded size)
+
+      found : IsFound follows regions old.system (state_of word old) (padded (enlarged size align)) new.system (state_of word new)
+      found = elim (found_served (enlarged size align) out.greater out.middle out.served) [
+        | inl here ↦ inl (stay ∙ here.0, on old.system out.middle.system new.system [] [] [] here.1 out.followed refl, out.regions_same ∙ here.2)
+        | inr there ↦ inr (there.0, there.1, there.2, stay ∙ there.3, on old.system out.middle.system new.system _ [] _ there.4 out.followed refl, out.regions_same ∙ there.5)
+      ]

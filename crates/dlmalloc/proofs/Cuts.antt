@@ -1,0 +1,8 @@
+-- A chunk is cut from a free extent, the victim or the top.
+pub mod Chosen
+pub mod FreeExtent
+pub mod FreeChunk
+pub mod StateAfter
+pub mod Top
+pub mod BinsMeanwhile
+pub mod OneStepOrTwo

@@ -1,0 +1,171 @@
+-- A free extent is cut.
+use Rattle.dlmalloc.proofs.Names.{◌≡◌, ◌≢◌, ℕ, ◌+◌, ◌-◌, ◌%◌, ◌<◌, ◌≤◌, ◌⊎◌, inl, inr, true, false, List, [], ◌∷◌, IsTrue, sym, ◌∙◌, ap, subst, arith, refl, Grant, IsWordOf, IsStored, AreStored, Extent, Kind, Used, Free, Victim, Top, Record, Foot, IsSize, head_of, with_pinuse, with_pinuse-head_of, is_used, is_free_below_top, MayStand, told_size, HasChunk, IsSpared, IsMove}
+use Rattle.dlmalloc.proofs.Extents.Lookup.{extent}
+
+-- one store, and others behind it
+pub stored_then : (regions : List Grant) (old middle new : ℕ → ℕ) (at value : ℕ) (stores : List (ℕ × ℕ)) → IsWordOf regions at → IsStored regions old at value middle → AreStored regions middle stores new → AreStored regions old ((at, value) ∷ stores) new
+stored_then regions old middle new at value stores word first second = record {
+  here = ((λ apart. second.elsewhere at word apart ∙ first.here), second.here);
+  elsewhere = λ k is apart. second.elsewhere k is apart.1 ∙ first.elsewhere k is apart.0;
+}
+
+-- two stores, and another over the second
+pub stored_over : (regions : List Grant) (old middle new : ℕ → ℕ) (first second value other last : ℕ) → IsWordOf regions first → AreStored regions old ((first, value) ∷ (second, other) ∷ []) middle → IsStored regions middle second last new →
+    AreStored regions old ((first, value) ∷ (second, last) ∷ []) new
+stored_over regions old middle new first second value other last word before after = record {
+  here = ((λ apart. after.elsewhere first word apart.0 ∙ before.here.0 apart), ((λ apart. after.here), tt));
+  elsewhere = λ k is apart. after.elsewhere k is apart.1.0 ∙ before.elsewhere k is apart;
+}
+
+-- An extent in use or a record, behind one of another kind: bit 0 of its head alone tells of it.
+pub rehung : (words words' : ℕ → ℕ) (before before' : Kind) (next : Extent) → HasChunk words before next → (next.kind ≡ Used) ⊎ (next.kind ≡ Record) → MayStand before' next.kind →
+    words' (next.at + 8) ≡ head_of (told_size next.kind next.size) (is_used before') (is_used next.kind) →
+    ((k : ℕ) → next.at + 56 ≤ k → k < next.at + next.size → k % 8 ≡ 0 → words' k ≡ words k) → HasChunk words' before' next
+rehung words words' before before' next h kind may head same = record {
+  whole = h.whole;
+  size = h.size;
+  kind = may;
+  head = head;
+  foot = λ free. absurd (no_free kind free);
+  fence = λ is k low high m. same k low high m ∙ h.fence is k low high m;
+}
+  where
+    no_free : (next.kind ≡ Used) ⊎ (next.kind ≡ Record) → IsTrue (is_free_below_top next.kind) → ⊥
+    no_free (inl is) free = (let not = ap is_free_below_top is in cc)
+    no_free (inr is) free = (let not = ap is_free_below_top is in cc)
+
+-- the size that a head tells is whole
+pub told_whole : (kind : Kind) (size : ℕ) → IsSize kind size → told_size kind size % 8 ≡ 0
+told_whole Used size h = let w = h.0 in omega arith
+told_whole Free size h = let w = h.0 in omega arith
+told_whole Victim size h = let w = h.0 in omega arith
+told_whole Top size h = let w = h.0 in omega arith
+told_whole Record size h = refl
+told_whole Foot size h = omega (arith, h)
+
+-- a word that an extent spares is not its head
+pub no_head : (k : ℕ) (kind : Kind) (at size : ℕ) → IsSize kind size → IsSpared k kind at size → k ≢ at + 8
+no_head k Used at size long h = h
+no_head k Free at size long h = h.0
+no_head k Victim at size long h = h.0
+no_head k Top at size long h = h
+no_head k Record at size long h = h
+no_head k Foot at size long h = h
+
+-- it may stand behind one in use, and behind a free one
+pub may_stand : (kind before : Kind) → (kind ≡ Used) ⊎ (kind ≡ Record) → (before ≡ Used) ⊎ (before ≡ Free) → MayStand before kind
+may_stand kind before (inl is) b = subst (MayStand before) (sym is) b
+may_stand kind before (inr is) b = subst (MayStand before) (sym is) b
+
+-- behind a free extent stands one in use or a record, and a free one stands behind one in use
+pub behind_free : (kind : Kind) → MayStand Free kind → (kind ≡ Used) ⊎ (kind ≡ Record)
+behind_free Used h = inl refl
+behind_free Free h = absurd (cc)
+behind_free Victim h = absurd h
+behind_free Top h = absurd (cc)
+behind_free Record h = inr refl
+behind_free Foot h = absurd (cc)
+
+module _ (regions : List Grant) (old new : ℕ → ℕ) (before : Kind) (at size : ℕ) (stands : HasChunk old before (extent at size Free)) where
+  -- a rest stays free
+  pub cut_split : (n : ℕ) → n % 16 ≡ 0 → 32 ≤ n → n + 32 ≤ size →
+      AreStored regions old ((at + 8, head_of n true true) ∷ (at + n + 8, head_of (size - n) true false) ∷ (at + n + (size - n), size - n) ∷ []) new →
+      IsMove regions old new before at (at + size) (at + size) (extent at size Free ∷ []) (extent at n Used ∷ extent (at + n) (size - n) Free ∷ [])
+  cut_split n whole least room stored =
+      let place = stands.whole in
+      let units = stands.size.0 in
+      record {
+        less_stand = (refl, stands, refl);
+        more_stand = (
+          refl,
+          record {
+            whole = place;
+            size = (whole, least);
+            kind = inl stands.kind;
+            head = stored.here.0 ((λ is. omega arith), ((λ is. omega arith), tt)) ∙ ap (λ (k : Kind). head_of n (is_used k) true) (sym stands.kind);
+            foot = λ free. absurd (cc);
+            fence = λ is. absurd (cc);
+          },
+          (
+            refl,
+            record {
+              whole = omega arith;
+              size = (omega arith, omega arith);
+              kind = refl;
+              head = stored.here.1.0 ((λ is. omega arith), tt);
+              foot = λ free. stored.here.1.1.0 tt;
+              fence = λ is. absurd (cc);
+            },
+            omega arith,
+          ),
+        );
+        kept = λ k word more. stored.elsewhere k word (more.0, (more.1.0.0, (more.1.0.1, tt)));
+      }
+
+  -- nothing stays free
+  module _ (next : Extent) (behind : HasChunk old Free next) (touch : next.at ≡ at + size) where
+    pub cut_whole : AreStored regions old ((at + 8, head_of size true true) ∷ (at + size + 8, with_pinuse (old (at + size + 8))) ∷ []) new →
+        ((k : ℕ) → next.at < k → k < next.at + next.size → k % 8 ≡ 0 → IsWordOf regions k) →
+        IsMove regions old new before at (at + size + next.size) (at + size + next.size) (extent at size Free ∷ next ∷ []) (extent at size Used ∷ next ∷ [])
+    cut_whole stored granted =
+        let kind = behind_free next.kind behind.kind in
+        let long = stands.size.1 in
+        record {
+          less_stand = (refl, stands, (touch, behind, refl));
+          more_stand = (
+            refl,
+            record {
+              whole = stands.whole;
+              size = stands.size;
+              kind = inl stands.kind;
+              head = stored.here.0 ((λ is. omega arith), tt) ∙ ap (λ (k : Kind). head_of size (is_used k) true) (sym stands.kind);
+              foot = λ free. absurd (cc);
+              fence = λ is. absurd (cc);
+            },
+            (
+              touch,
+              rehung old new Free Used next behind kind (may_stand next.kind Used kind (inl refl))
+                  (subst (λ (a : ℕ). new (a + 8) ≡ head_of (told_size next.kind next.size) true (is_used next.kind)) (sym touch)
+                  (stored.here.1.0 tt ∙ (ap (λ (a : ℕ). with_pinuse (old (a + 8))) (sym touch)
+                  ∙ (ap with_pinuse behind.head ∙ with_pinuse-head_of (told_size next.kind next.size) false (is_used next.kind) (told_whole next.kind next.size behind.size)))))
+                  (λ k low high m. stored.elsewhere k (granted k (omega arith) high m) ((λ is. omega arith), ((λ is. omega arith), tt))),
+              refl,
+            ),
+          );
+          kept = λ k word more. stored.elsewhere k word (more.0, (subst (λ (a : ℕ). k ≢ a + 8) touch (no_head k next.kind next.at next.size behind.size more.1.0), tt));
+        }
+
+-- the top is cut
+pub cut_top : (regions : List Grant) (old new : ℕ → ℕ) (before : Kind) (at size n : ℕ) → HasChunk old before (extent at size Top) → n % 16 ≡ 0 → 32 ≤ n → n + 16 ≤ size →
+    AreStored regions old ((at + 8, head_of n true true) ∷ (at + n + 8, size - n + 1) ∷ []) new →
+    IsMove regions old new before at (at + size) (at + size) (extent at size Top ∷ []) (extent at n Used ∷ extent (at + n) (size - n) Top ∷ [])
+cut_top regions old new before at size n stands whole least room stored =
+    let place = stands.whole in
+    let units = stands.size.0 in
+    record {
+      less_stand = (refl, stands, refl);
+      more_stand = (
+        refl,
+        record {
+          whole = place;
+          size = (whole, least);
+          kind = inl stands.kind;
+          head = stored.here.0 ((λ is. omega arith), tt) ∙ ap (λ (k : Kind). head_of n (is_used k) true) (sym stands.kind);
+          foot = λ free. absurd (cc);
+          fence = λ is. absurd (cc);
+        },
+        (
+          refl,
+          record {
+            whole = omega arith;
+            size = (omega arith, omega arith);
+            kind = refl;
+            head = stored.here.1.0 tt ∙ omega arith;
+            foot = λ free. absurd (cc);
+            fence = λ is. absurd (cc);
+          },
+          omega arith,
+        ),
+      );
+      kept = λ k word more. stored.elsewhere k word (more.0, (more.1.0, tt));
+    }

@@ -1,0 +1,67 @@
+-- The extent that begins at an address, among others.
+use Rattle.dlmalloc.proofs.Names.{◌≡◌, ℕ, ◌+◌, ◌<◌, ◌⊎◌, inl, inr, Bool, true, false, ◌==◌, if◌then◌else◌, List, [], ◌∷◌, ◌++◌, Option, Some, None, refl, sym, ◌∙◌, ap, subst, arith, unwrap_or, option_or, find-append, nat_tests, Extent, Kind, size_of, free_of, extent_at}
+
+-- an extent of this place, size and kind
+abbrev pub extent : ℕ → ℕ → Kind → Extent
+extent at size kind = record { at = at; size = size; kind = kind }
+
+pub same_extent : {at at' size size' : ℕ} {kind kind' : Kind} → at ≡ at' → size ≡ size' → kind ≡ kind' → extent at size kind ≡ extent at' size' kind'
+same_extent a s k = λ i. extent (a i) (s i) (k i)
+
+-- where a chunk at this address ends if it is free
+abbrev pub end_of : (ℕ → ℕ) → ℕ → ℕ
+end_of words at = if free_of (words (at + 8)) then at + size_of (words (at + 8)) else at
+
+pub nat_is : {m n : ℕ} → (m == n) ≡ true → m ≡ n
+nat_is {m} {n} test = grind (arith, nat_tests)
+
+pub nat_same : (n : ℕ) → (n == n) ≡ true
+nat_same n = grind (arith, nat_tests)
+
+pub nat_isnt : {m n : ℕ} → (m < n) ⊎ (n < m) → (m == n) ≡ false
+nat_isnt {m} {n} apart = grind (arith, nat_tests)
+
+-- an extent that is found is the one there
+pub the_extent : {one other : Extent} → Some one ≡ Some other → one ≡ other
+the_extent {one} {other} h = ap (λ (o : Option Extent). unwrap_or o one) h
+
+-- an extent with those before and behind it
+pub record Found (at : ℕ) (extent : Extent) (extents : List Extent) : Type 0 where
+  pub front : List Extent
+  pub back : List Extent
+  pub is : extents ≡ front ++ extent ∷ back
+  pub place : extent.at ≡ at
+
+pub found : (at : ℕ) (extent : Extent) (extents : List Extent) → extent_at at extents ≡ Some extent → Found at extent extents
+found at extent [] h = absurd (cc)
+found at extent (first ∷ extents) h =
+    at_first (first.at == at) refl h (λ rest. found at extent extents rest)
+  where
+    at_first : (b : Bool) → (first.at == at) ≡ b → extent_at at (first ∷ extents) ≡ Some extent → (extent_at at extents ≡ Some extent → Found at extent extents) → Found at extent (first ∷ extents)
+    at_first true test h later =
+        let is : first ≡ extent = ap (λ (o : Option Extent). unwrap_or o first) (subst (λ (b : Bool). (if b then Some first else extent_at at extents) ≡ Some extent) test h) in
+        record { front = []; back = extents; is = ap (λ (e : Extent). e ∷ extents) is; place = ap (λ (e : Extent). e.at) (sym is) ∙ nat_is test }
+    at_first false test h later =
+        let rest = later (subst (λ (b : Bool). (if b then Some first else extent_at at extents) ≡ Some extent) test h) in
+        record { front = first ∷ rest.front; back = rest.back; is = ap (λ (es : List Extent). first ∷ es) rest.is; place = rest.place }
+
+-- the first of some extents is found where it begins
+pub found_here : (extent : Extent) (rest : List Extent) → extent_at extent.at (extent ∷ rest) ≡ Some extent
+found_here extent rest = rw (nat_same extent.at) refl
+
+-- an extent that is found is found with more behind
+pub found_more : (at : ℕ) (extents more : List Extent) (extent : Extent) → extent_at at extents ≡ Some extent → extent_at at (extents ++ more) ≡ Some extent
+found_more at extents more extent there = find-append (λ extent. extent.at == at) extents more ∙ ap (λ (o : Option Extent). option_or o (extent_at at more)) there
+
+-- an extent that is found in two lists is found in the first, or in the second alone
+pub found_either : (at : ℕ) (front back : List Extent) (extent : Extent) → extent_at at (front ++ back) ≡ Some extent →
+    (extent_at at front ≡ Some extent) ⊎ ((extent_at at front ≡ None) × (extent_at at back ≡ Some extent))
+found_either at front back extent there = go (extent_at at front) (sym (find-append (λ extent. extent.at == at) front back) ∙ there)
+  where
+    go : (first : Option Extent) → option_or first (extent_at at back) ≡ Some extent → (first ≡ Some extent) ⊎ ((first ≡ None) × (extent_at at back ≡ Some extent))
+    go None later = inr (refl, later)
+    go (Some one) is = inl is
+
+-- what is found behind a list is found with it, where the list has none
+pub found_later : (at : ℕ) (front back : List Extent) → extent_at at front ≡ None → extent_at at (front ++ back) ≡ extent_at at back
+found_later at front back none = find-append (λ extent. extent.at == at) front back ∙ ap (λ (o : Option Extent). option_or o (extent_at at back)) none

@@ -1,0 +1,162 @@
+-- A run of extents of a heap gives way to others.
+use Rattle.dlmalloc.proofs.Names.{◌≡◌, ℕ, ◌+◌, ◌%◌, ◌<◌, ◌≤◌, inl, inr, true, false, List, [], ◌∷◌, ◌++◌, Some, refl, sym, ◌∙◌, ap, subst, arith, append_assoc, dec_lt, Grant, IsWordOf, Extent, Kind, Used, Top, Record, ends_segment, extent_at, Tiles, last_kind, Segment, IsMove, IsRunOf, IsRun, IsSegment, AreSegments, AreApart, record_of, segments_of, AreTold, IsSound, Dlmalloc}
+use Rattle.dlmalloc.proofs.Extents.Lookup.{extent, found, found_either, found_later, found_more}
+use Rattle.dlmalloc.proofs.Extents.Tiling.{sized, tiles_append, tiles_split}
+use Rattle.dlmalloc.proofs.Words.Spared.{spared_first, spared_second}
+use Rattle.dlmalloc.proofs.Moves.OfLists.{last_append, moved}
+use Rattle.dlmalloc.proofs.Extents.OneMoreUsed.{none_outside}
+use Rattle.dlmalloc.proofs.Segments.Among.{extents_all, with_extents, all_at, located, of_located}
+use Rattle.dlmalloc.proofs.Segments.OneReplaced.{IsChanged}
+use Rattle.dlmalloc.proofs.Segments.HeadTold.{IsHead, HasSameHead, told_head, told_same}
+use Rattle.dlmalloc.proofs.Moves.OfHeaps.{IsStep}
+
+-- an extent that is found is a run
+pub run_of : (regions : List Grant) (words : ℕ → ℕ) (segments : List Segment) → AreSegments regions words segments → (extent : Extent) → extent_at extent.at (extents_all segments) ≡ Some extent →
+    IsRunOf words segments extent.at (extent.at + extent.size) (extent ∷ [])
+run_of regions words segments parts extent there =
+    let l = located extent.at extent segments there in
+    let p = of_located (IsSegment regions words) extent.at extent segments l parts in
+    let f = found extent.at extent l.segment.extents l.there in
+    let end = l.segment.base + l.segment.size in
+    let s = tiles_split words Used l.segment.base f.front (extent ∷ f.back) end (subst (λ (es : List Extent). Tiles words Used l.segment.base es end) f.is p.extents) in
+    let place : extent.at ≡ s.middle = s.second.0 in
+    record {
+      front = l.front;
+      segment = l.segment;
+      back = l.back;
+      is = l.is;
+      first = f.front;
+      last = f.back;
+      extents = f.is;
+      first_stand = subst (λ (a : ℕ). Tiles words Used l.segment.base f.front a) (sym place) s.first;
+      here = (refl, s.second.1, refl);
+      last_stand = subst (λ (a : ℕ). Tiles words extent.kind (a + extent.size) f.back end) (sym place) s.second.2;
+      some = (let long = (sized extent.kind extent.size s.second.1.size).1 in omega arith);
+    }
+
+-- ---- a run in a segment gives way to others that are as long
+
+module _ {A : Type 0} (regions : A → List Grant) (word : A → ℕ → ℕ) (heap new : Dlmalloc A) (sound : IsSound regions word heap) (same : regions new.system ≡ regions heap.system)
+    (from to : ℕ) (less more : List Extent) (run : IsRunOf (word heap.system) (segments_of word heap) from to less)
+    (move : IsMove (regions heap.system) (word heap.system) (word new.system) (last_kind Used run.first) from to to less more)
+    (kind : last_kind (last_kind Used run.first) more ≡ last_kind (last_kind Used run.first) less)
+    (tails : (k : ℕ) (tail : Extent) → extent_at k less ≡ Some tail → tail.kind ≡ Record → extent_at k more ≡ Some tail) where
+  abbrev pub run_extents : List Extent
+  run_extents = run.first ++ (more ++ run.last)
+
+  abbrev pub run_now : Segment
+  run_now = with_extents run.segment run_extents
+
+  pub parts : AreSegments (regions heap.system) (word heap.system) (run.front ++ run.segment ∷ run.back)
+  parts = subst (AreSegments (regions heap.system) (word heap.system)) run.is sound.segments
+
+  pub apart : AreApart (run.front ++ run.segment ∷ run.back)
+  apart = subst AreApart run.is sound.apart
+
+  part : IsSegment (regions heap.system) (word heap.system) run.segment
+  part = all_at (IsSegment (regions heap.system) (word heap.system)) run.front run.segment run.back parts
+
+  -- what is found in the segment still is, where it is found among the new ones too
+  pub stays : (k : ℕ) (one : Extent) → (extent_at k less ≡ Some one → extent_at k more ≡ Some one) → extent_at k run.segment.extents ≡ Some one → extent_at k run_extents ≡ Some one
+  stays k one still there =
+      elim (found_either k run.first (less ++ run.last) one (ap (extent_at k) (sym run.extents) ∙ there)) [
+        | inl first ↦ found_more k run.first (more ++ run.last) one first
+        | inr later ↦ found_later k run.first (more ++ run.last) later.0 ∙ elim (found_either k less run.last one later.1) [
+          | inl here ↦ found_more k more run.last one (still here)
+          | inr behind ↦ found_later k more run.last (none_outside (word new.system) (last_kind Used run.first) from more to k (inr (beyond behind.1)) move.more_stand) ∙ behind.1
+        ]
+      ]
+    where
+      beyond : extent_at k run.last ≡ Some one → to ≤ k
+      beyond is = elim (dec_lt k to) [
+        | yes before ↦ absurd (let none = none_outside (word heap.system) (last_kind (last_kind Used run.first) less) to run.last (run.segment.base + run.segment.size) k (inl before) run.last_stand in cc)
+        | no behind ↦ omega arith
+      ]
+
+  tail_kind : ends_segment (last_kind (last_kind (last_kind Used run.first) less) run.last) ≡ true
+  tail_kind = ap ends_segment (sym (last_append (last_kind Used run.first) less run.last)) ∙ (ap ends_segment (sym (last_append Used run.first (less ++ run.last)))
+      ∙ (ap (λ (es : List Extent). ends_segment (last_kind Used es)) (sym run.extents) ∙ part.tail))
+
+  is_now : IsSegment (regions heap.system) (word new.system) run_now
+  is_now = record {
+    run = part.run;
+    low = part.low;
+    high = part.high;
+    long = part.long;
+    extents = moved (regions heap.system) (word heap.system) (word new.system) Used run.segment.base from to to (run.segment.base + run.segment.size) (run.segment.base + run.segment.size) run.first less more run.last run.first_stand move run.last_stand
+        (λ k low high m. record { granted = part.run.covered k (omega arith) high; aligned = m }) run.some refl kind tail_kind;
+    tail = ap ends_segment (last_append Used run.first (more ++ run.last)) ∙ (ap ends_segment (last_append (last_kind Used run.first) more run.last)
+        ∙ (ap (λ (k : Kind). ends_segment (last_kind k run.last)) kind ∙ tail_kind));
+  }
+
+  pub changed : IsChanged (regions heap.system) (regions new.system) (word heap.system) (word new.system) run.segment run_now
+  changed = record {
+    now = subst (λ (rs : List Grant). IsSegment rs (word new.system) run_now) (sym same) is_now;
+    kept = λ k inside spared. move.kept k inside (spared_first more run.last k (spared_second run.first (more ++ run.last) k spared));
+    others = λ other is beyond. (subst (λ (rs : List Grant). IsRun rs other.base other.size other.flags) (sym same) is.run, beyond);
+    records = λ at there. (refl, refl, refl, stays at (record_of at (run.segment.base + run.segment.size)) (λ here. tails at (record_of at (run.segment.base + run.segment.size)) here refl) there);
+  }
+
+  abbrev step : AreTold (word new.system) new (run.front ++ run_now ∷ run.back) → IsStep regions word heap new less more
+  step told = record { front = run.front; segment = run.segment; back = run.back; is = run.is; now = run_now; first = run.first; last = run.last; old_extents = run.extents; new_extents = refl; changed = changed; told = told }
+
+  -- the top stays
+  abbrev pub step_beside : new.next ≡ heap.next → HasSameHead heap new → ((k : ℕ) (tail : Extent) → extent_at k less ≡ Some tail → tail.kind ≡ Top → extent_at k more ≡ Some tail) → IsStep regions word heap new less more
+  step_beside next head top = step (told_same (regions heap.system) (regions new.system) (word heap.system) (word new.system) heap new run.segment run_now changed next run.front run.back apart parts
+      (subst (AreTold (word heap.system) heap) run.is sound.told) head refl refl refl
+      (λ there. stays heap.top (extent heap.top heap.top_size Top) (λ here. top heap.top (extent heap.top heap.top_size Top) here refl) there))
+
+  -- the head segment has another top
+  abbrev pub step_top : new.next ≡ heap.next → run.front ≡ [] → IsHead new run_now → IsStep regions word heap new less more
+  step_top next none head = step (told_head (regions heap.system) (regions new.system) (word heap.system) (word new.system) heap new run.segment run_now changed next run.front run.back none apart parts
+      (subst (AreTold (word heap.system) heap) run.is sound.told) head)
+
+-- ---- a run and what stands beside it
+
+pub record HasNext (last : List Extent) : Type 0 where
+  pub next : Extent
+  pub rest : List Extent
+  pub is : last ≡ next ∷ rest
+
+module _ (regions : List Grant) (words : ℕ → ℕ) (segments : List Segment) (parts : AreSegments regions words segments) (from to : ℕ) (less : List Extent) (run : IsRunOf words segments from to less) where
+  abbrev pub run_end : ℕ
+  run_end = run.segment.base + run.segment.size
+
+  pub run_part : IsSegment regions words run.segment
+  run_part = all_at (IsSegment regions words) run.front run.segment run.back (subst (AreSegments regions words) run.is parts)
+
+  run_tail : ends_segment (last_kind (last_kind (last_kind Used run.first) less) run.last) ≡ true
+  run_tail = ap ends_segment (sym (last_append (last_kind Used run.first) less run.last)) ∙ (ap ends_segment (sym (last_append Used run.first (less ++ run.last)))
+      ∙ (ap (λ (es : List Extent). ends_segment (last_kind Used es)) (sym run.extents) ∙ run_part.tail))
+
+  -- a run that ends no segment has an extent behind it
+  pub has_next : ends_segment (last_kind (last_kind Used run.first) less) ≡ false → HasNext run.last
+  has_next goes_on = go run.last run_tail
+    where
+      go : (last : List Extent) → ends_segment (last_kind (last_kind (last_kind Used run.first) less) last) ≡ true → HasNext last
+      go [] tail = absurd (cc)
+      go (next ∷ rest) tail = record { next = next; rest = rest; is = refl }
+
+  module _ (n : HasNext run.last) where
+    abbrev pub behind : Tiles words (last_kind (last_kind Used run.first) less) to (n.next ∷ n.rest) run_end
+    behind = subst (λ (es : List Extent). Tiles words (last_kind (last_kind Used run.first) less) to es run_end) n.is run.last_stand
+
+    -- it goes into the run
+    abbrev pub with_next : IsRunOf words segments from (to + n.next.size) (less ++ n.next ∷ [])
+    with_next = record {
+      front = run.front;
+      segment = run.segment;
+      back = run.back;
+      is = run.is;
+      first = run.first;
+      last = n.rest;
+      extents = run.extents ∙ (ap (λ (es : List Extent). run.first ++ (less ++ es)) n.is ∙ ap (λ (es : List Extent). run.first ++ es) (sym (append_assoc less (n.next ∷ []) n.rest)));
+      first_stand = run.first_stand;
+      here = tiles_append words (last_kind Used run.first) from less (n.next ∷ []) to (to + n.next.size) run.here (behind.0, behind.1, refl);
+      last_stand = subst (λ (k : Kind). Tiles words k (to + n.next.size) n.rest run_end) (sym (last_append (last_kind Used run.first) less (n.next ∷ []))) behind.2;
+      some = (let s = run.some in omega arith);
+    }
+
+  -- the word at a place of the segment
+  pub run_word : (k : ℕ) → run.segment.base ≤ k → k < run_end → k % 8 ≡ 0 → IsWordOf regions k
+  run_word k low high m = record { granted = run_part.run.covered k low high; aligned = m }

@@ -1,0 +1,224 @@
+-- The free extents beside one that is freed.
+use Rattle.dlmalloc.proofs.Names.{◌≡◌, ◌≢◌, ℕ, ◌+◌, ◌-◌, ◌%◌, ◌≤◌, ◌⊎◌, inl, inr, Bool, true, false, ◌==◌, if◌then◌else◌, List, [], ◌∷◌, ◌++◌, Option, Some, None, IsTrue, refl, sym, ◌∙◌, ap, subst, arith, append_assoc, unwrap_or, append-nil, Grant, Extent, Kind, Used, Free, Victim, Top, Record, Foot, size_of, pinuse_of, free_of, head_of, size_of-head_of, pinuse_of-head_of, cinuse_of-head_of, is_free, ends_segment, is_used, Segment, is_free_below_top, MayStand, told_size, HasChunk, Tiles, last_kind, IsRunOf, used_of, AreSegments, IsChunkKind}
+use Rattle.dlmalloc_chunks.specs.Tiling.{extent_at}
+use Rattle.dlmalloc.proofs.Extents.Lookup.{extent, end_of, nat_is, found_here}
+use Rattle.dlmalloc.proofs.Extents.Tiling.{tiles_le, tiles_append, tiles_split}
+use Rattle.dlmalloc.proofs.Moves.OfLists.{last_append}
+use Rattle.dlmalloc.proofs.Cuts.FreeExtent.{told_whole, behind_free}
+use Rattle.dlmalloc.proofs.Extents.RunReplaced.{HasNext, has_next, with_next, behind}
+use Rattle.dlmalloc.proofs.Frees.StateAfter.{IsBeside, joint_kind}
+
+abbrev pub AllFree : List Extent → Type 0
+AllFree extents = (k : ℕ) (one : Extent) → extent_at k extents ≡ Some one → one.kind ≡ Free
+
+none_free : AllFree []
+none_free k one there = absurd (cc)
+
+one_free : (extent : Extent) → extent.kind ≡ Free → AllFree (extent ∷ [])
+one_free extent free k one there = go (extent.at == k) there
+  where
+    go : (b : Bool) → (if b then Some extent else None) ≡ Some one → one.kind ≡ Free
+    go true is = ap (λ (o : Option Extent). (unwrap_or o extent).kind) (sym is) ∙ free
+    go false is = absurd (cc)
+
+-- ---- what is found among them
+
+pub the_one : (k : ℕ) (one other : Extent) → extent_at k (one ∷ []) ≡ Some other → one ≡ other
+the_one k one other there = go (one.at == k) there
+  where
+    go : (b : Bool) → (if b then Some one else None) ≡ Some other → one ≡ other
+    go true is = ap (λ (o : Option Extent). unwrap_or o one) is
+    go false is = absurd (cc)
+
+-- one that is joined begins where they do
+pub beside_place : (words : ℕ → ℕ) (before : Kind) (from : ℕ) (extents : List Extent) (to : ℕ) → IsBeside extents → Tiles words before from extents to → (k : ℕ) (one : Extent) → extent_at k extents ≡ Some one → k ≡ from
+beside_place words before from [] to beside h k one there = absurd (cc)
+beside_place words before from (extent ∷ []) to beside h k one there = go (extent.at == k) refl there
+  where
+    go : (b : Bool) → (extent.at == k) ≡ b → (if b then Some extent else None) ≡ Some one → k ≡ from
+    go true test is = sym (nat_is test) ∙ h.0
+    go false test is = absurd (cc)
+beside_place words before from (extent ∷ next ∷ extents) to beside h k one there = absurd beside
+
+-- where extents begin, one does
+pub first_there : (words : ℕ → ℕ) (before : Kind) (from : ℕ) (extents : List Extent) (next : Extent) (to : ℕ) → Tiles words before from (extents ++ next ∷ []) to → (one : Extent) × (extent_at from (extents ++ next ∷ []) ≡ Some one)
+first_there words before from [] next to h = (next, subst (λ (a : ℕ). extent_at a (next ∷ []) ≡ Some next) h.0 (found_here next []))
+first_there words before from (extent ∷ extents) next to h = (extent, subst (λ (a : ℕ). extent_at a (extent ∷ (extents ++ next ∷ [])) ≡ Some extent) h.0 (found_here extent (extents ++ next ∷ [])))
+
+-- the extents before one at an address: those that stay, and the free one that is joined, if there is one
+pub record Left (words : ℕ → ℕ) (base : ℕ) (extents : List Extent) (at from : ℕ) : Type 0 where
+  pub front : List Extent
+  pub lefts : List Extent
+  pub is : extents ≡ front ++ lefts
+  pub beside : IsBeside lefts
+  pub used : last_kind Used front ≡ Used
+  pub front_stand : Tiles words Used base front from
+  pub lefts_stand : Tiles words Used from lefts at
+  pub free : AllFree lefts
+  pub none : used_of lefts ≡ []
+
+pub record LastOf (extents : List Extent) : Type 0 where
+  pub front : List Extent
+  pub last : Extent
+  pub is : extents ≡ front ++ last ∷ []
+
+last_of : (first : Extent) (extents : List Extent) → LastOf (first ∷ extents)
+last_of first [] = record { front = []; last = first; is = refl }
+last_of first (next ∷ extents) = let rest = last_of next extents in record { front = first ∷ rest.front; last = rest.last; is = ap (λ (es : List Extent). first ∷ es) rest.is }
+
+pub left_of : (words : ℕ → ℕ) (base : ℕ) (extents : List Extent) (at : ℕ) → Tiles words Used base extents at → IsChunkKind (last_kind Used extents) →
+    Left words base extents at (if is_used (last_kind Used extents) then at else at - words at)
+left_of words base extents at h (inl used) =
+    subst (λ (f : ℕ). Left words base extents at f) (ap (λ (k : Kind). if is_used k then at else at - words at) (sym used)) (record {
+      front = extents;
+      lefts = [];
+      is = sym (append-nil extents);
+      beside = tt;
+      used = used;
+      front_stand = h;
+      lefts_stand = refl;
+      free = none_free;
+      none = refl;
+    })
+left_of words base [] at h (inr free) = absurd (cc)
+left_of words base (first ∷ more) at h (inr free) =
+    let l = last_of first more in
+    let s = tiles_split words Used base l.front (l.last ∷ []) at (subst (λ (es : List Extent). Tiles words Used base es at) l.is h) in
+    let kind : l.last.kind ≡ Free = sym (last_append Used l.front (l.last ∷ [])) ∙ (ap (last_kind Used) (sym l.is) ∙ free) in
+    let place : l.last.at ≡ s.middle = s.second.0 in
+    let ends : s.middle + l.last.size ≡ at = s.second.2 in
+    let foot : words (l.last.at + l.last.size) ≡ l.last.size = s.second.1.foot (subst (λ (k : Kind). IsTrue (is_free_below_top k)) (sym kind) refl) in
+    let here : l.last.at + l.last.size ≡ at = omega arith in
+    let size : words at ≡ l.last.size = ap words (sym here) ∙ foot in
+    let from : s.middle ≡ at - words at = omega arith in
+    let used : last_kind Used l.front ≡ Used = subst (MayStand (last_kind Used l.front)) kind s.second.1.kind in
+    subst (λ (f : ℕ). Left words base (first ∷ more) at f) (from ∙ ap (λ (k : Kind). if is_used k then at else at - words at) (sym free)) (record {
+      front = l.front;
+      lefts = l.last ∷ [];
+      is = l.is;
+      beside = ap is_free kind;
+      used = used;
+      front_stand = s.first;
+      lefts_stand = subst (λ (k : Kind). Tiles words k s.middle (l.last ∷ []) at) used s.second;
+      free = one_free l.last kind;
+      none = (let unused = ap is_used kind in rw unused refl);
+    })
+
+-- ---- a run in two lists
+
+module _ (regions : List Grant) (words : ℕ → ℕ) (segments : List Segment) where
+  -- what stands before it goes into the run
+  abbrev pub with_left : (at to : ℕ) (run : List Extent) (r : IsRunOf words segments at to run) (from : ℕ) (l : Left words r.segment.base r.first at from) → IsRunOf words segments from to (l.lefts ++ run)
+  with_left at to run r from l = record {
+    front = r.front;
+    segment = r.segment;
+    back = r.back;
+    is = r.is;
+    first = l.front;
+    last = r.last;
+    extents = r.extents ∙ (ap (λ (es : List Extent). es ++ (run ++ r.last)) l.is ∙ (append_assoc l.front l.lefts (run ++ r.last) ∙ ap (λ (es : List Extent). l.front ++ es) (sym (append_assoc l.lefts run r.last))));
+    first_stand = l.front_stand;
+    here = tiles_append words (last_kind Used l.front) from l.lefts run at to (subst (λ (k : Kind). Tiles words k from l.lefts at) (sym l.used) l.lefts_stand)
+        (subst (λ (k : Kind). Tiles words k at run to) (ap (last_kind Used) l.is ∙ last_append Used l.front l.lefts) r.here);
+    last_stand = subst (λ (k : Kind). Tiles words k to r.last (r.segment.base + r.segment.size))
+        (ap (λ (k : Kind). last_kind k run) (ap (last_kind Used) l.is ∙ last_append Used l.front l.lefts) ∙ sym (last_append (last_kind Used l.front) l.lefts run)) r.last_stand;
+    some = (let s = r.some in let low = tiles_le words Used from l.lefts at l.lefts_stand in omega arith);
+  }
+
+-- an extent in use with what stands behind it
+pub record Right (words : ℕ → ℕ) (segments : List Segment) (at size to : ℕ) : Type 0 where
+  pub rights : List Extent
+  pub next : Extent
+  pub run : IsRunOf words segments at (to + next.size) (extent at size Used ∷ (rights ++ next ∷ []))
+  pub place : next.at ≡ to
+  pub kind : (next.kind ≡ Used) ⊎ (next.kind ≡ Record)
+  pub beside : IsBeside rights
+  pub joint : joint_kind rights ≡ Free
+  pub free : AllFree rights
+  pub none : used_of rights ≡ []
+  pub before : Kind
+  pub stands : HasChunk words before next
+  pub reach : at + size ≤ to
+  pub told : to ≢ at + size → pinuse_of (words (to + 8)) ≡ false
+
+used_ends : (kind : Kind) → (kind ≡ Used) ⊎ (kind ≡ Record) → is_used kind ≡ true
+used_ends kind (inl is) = ap is_used is
+used_ends kind (inr is) = ap is_used is
+
+module _ (regions : List Grant) (words : ℕ → ℕ) (segments : List Segment) (parts : AreSegments regions words segments) (at size : ℕ) (r : IsRunOf words segments at (at + size) (extent at size Used ∷ [])) where
+  abbrev pub next_one : HasNext r.last
+  next_one = has_next regions words segments parts at (at + size) (extent at size Used ∷ []) r refl
+
+  stand : Tiles words Used (at + size) (next_one.next ∷ next_one.rest) (r.segment.base + r.segment.size)
+  stand = behind regions words segments parts at (at + size) (extent at size Used ∷ []) r next_one
+
+  right_used : (next_one.next.kind ≡ Used) ⊎ (next_one.next.kind ≡ Record) → Right words segments at size (end_of words (at + size))
+  right_used kind =
+      let whole = told_whole next_one.next.kind next_one.next.size stand.1.size in
+      let told_size = told_size next_one.next.kind next_one.next.size in
+      let head : words (at + size + 8) ≡ head_of told_size true true =
+      ap (λ (a : ℕ). words (a + 8)) (sym stand.0) ∙ (stand.1.head ∙ ap (λ (u : Bool). head_of told_size true u) (used_ends next_one.next.kind kind)) in
+      let told : free_of (words (at + size + 8)) ≡ false = ap free_of head ∙ rw (pinuse_of-head_of told_size true true whole, cinuse_of-head_of told_size true true whole) refl in
+      subst (λ (t : ℕ). Right words segments at size t) (ap (λ (b : Bool). if b then at + size + size_of (words (at + size + 8)) else at + size) (sym told)) (record {
+        rights = [];
+        next = next_one.next;
+        run = with_next regions words segments parts at (at + size) (extent at size Used ∷ []) r next_one;
+        place = stand.0;
+        kind = kind;
+        beside = tt;
+        joint = refl;
+        free = none_free;
+        none = refl;
+        before = Used;
+        stands = stand.1;
+        reach = omega arith;
+        told = λ more. absurd (more refl);
+      })
+
+  right_free : next_one.next.kind ≡ Free → Right words segments at size (end_of words (at + size))
+  right_free free =
+      let q = next_one.next in
+      let run = with_next regions words segments parts at (at + size) (extent at size Used ∷ []) r next_one in
+      let n = has_next regions words segments parts at (at + size + q.size) (extent at size Used ∷ q ∷ []) run (ap ends_segment free) in
+      let b = behind regions words segments parts at (at + size + q.size) (extent at size Used ∷ q ∷ []) run n in
+      let kind = behind_free n.next.kind (subst (λ (k : Kind). MayStand k n.next.kind) free b.1.kind) in
+      let whole = told_whole q.kind q.size stand.1.size in
+      let is_size : told_size q.kind q.size ≡ q.size = ap (λ (k : Kind). told_size k q.size) free in
+      let sized : q.size % 8 ≡ 0 = subst (λ (n : ℕ). n % 8 ≡ 0) is_size whole in
+      let head : words (at + size + 8) ≡ head_of q.size true false =
+      ap (λ (a : ℕ). words (a + 8)) (sym stand.0) ∙ (stand.1.head ∙ ((λ i. head_of (is_size i) true (is_used (free i))))) in
+      let told : free_of (words (at + size + 8)) ≡ true = ap free_of head ∙ rw (pinuse_of-head_of q.size true false sized, cinuse_of-head_of q.size true false sized) refl in
+      let bytes : size_of (words (at + size + 8)) ≡ q.size = ap size_of head ∙ size_of-head_of q.size true false sized in
+      let unused : is_used q.kind ≡ false = ap is_used free in
+      let ends : at + size + q.size ≡ end_of words (at + size) = ap (λ (n : ℕ). at + size + n) (sym bytes) ∙ ap (λ (b : Bool). if b then at + size + size_of (words (at + size + 8)) else at + size) (sym told) in
+      subst (λ (t : ℕ). Right words segments at size t) ends (record {
+        rights = q ∷ [];
+        next = n.next;
+        run = with_next regions words segments parts at (at + size + q.size) (extent at size Used ∷ q ∷ []) run n;
+        place = b.0;
+        kind = kind;
+        beside = ap is_free free;
+        joint = free;
+        free = one_free q free;
+        none = (rw unused refl);
+        before = q.kind;
+        stands = b.1;
+        reach = omega arith;
+        told = λ more.
+            let t = told_size n.next.kind n.next.size in
+            let head_next : words (at + size + q.size + 8) ≡ head_of t false (is_used n.next.kind) =
+            ap (λ (a : ℕ). words (a + 8)) (sym b.0) ∙ (b.1.head ∙ ap (λ (u : Bool). head_of t u (is_used n.next.kind)) unused) in
+            ap pinuse_of head_next ∙ pinuse_of-head_of t false (is_used n.next.kind) (told_whole n.next.kind n.next.size b.1.size);
+      })
+
+  -- no top stands behind it
+  pub right_of : next_one.next.kind ≢ Top → Right words segments at size (end_of words (at + size))
+  right_of no_top = go next_one.next.kind refl stand.1.kind
+    where
+      go : (kind : Kind) → next_one.next.kind ≡ kind → MayStand Used kind → Right words segments at size (end_of words (at + size))
+      go Used is may = right_used (inl is)
+      go Free is may = right_free is
+      go Victim is may = absurd may
+      go Top is may = absurd (no_top is)
+      go Record is may = right_used (inr is)
+      go Foot is may = absurd (cc)

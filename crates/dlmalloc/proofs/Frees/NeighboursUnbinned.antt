@@ -1,0 +1,187 @@
+-- The free chunks beside one in use, which leave their bins before it joins them.
+use Rattle.dlmalloc.proofs.Names.{◌≡◌, ◌≢◌, ℕ, ◌+◌, ◌-◌, ◌<◌, ◌≤◌, ◌⊎◌, inl, inr, Bool, true, false, ◌==◌, if◌then◌else◌, List, [], ◌∷◌, ◌++◌, Some, refl, sym, ◌∙◌, ap, subst, arith, dec_lt, nat_tests, Grant, IsWordOf, Extent, Kind, Used, Free, Top, Record, pinuse_of, free_of, size_of, IsIn, extent_at, Tiles, Segment, extents_in, segments_of, state_of, AreTold, IsSound, IsFreeAt, FreeMoves, IsVictimAfter, OnlyFreeChange, Dlmalloc}
+use Rattle.dlmalloc.proofs.Extents.Lookup.{extent, nat_is, nat_isnt, found_here, found_later, found_more, the_extent, end_of}
+use Rattle.dlmalloc.proofs.Extents.Tiling.{tiles_split}
+use Rattle.dlmalloc.proofs.Extents.OneMoreUsed.{none_outside}
+use Rattle.dlmalloc.proofs.Segments.Among.{extents_all, among_all}
+use Rattle.dlmalloc.proofs.Frees.StateAfter.{IsBeside}
+use Rattle.dlmalloc.proofs.Frees.FreeBeside.{AllFree, Right, first_there, the_one}
+use Rattle.dlmalloc.proofs.Extents.Top.{top_among}
+use Rattle.dlmalloc.proofs.Cuts.Chosen.{free_low}
+use Rattle.dlmalloc.proofs.Bins.Held.{AreAccounted}
+use Rattle.dlmalloc.proofs.Words.OfLinks.{stands, same_or_beside}
+use Rattle.dlmalloc.proofs.Frees.OfChunk.{run_one, right}
+use Rattle.dlmalloc.proofs.Frees.WhatCallsWant.{left_one, no_top, ends_at, from_at}
+
+-- a heap with an extent has a segment
+pub some_size : {A : Type 0} (regions : A → List Grant) (word : A → ℕ → ℕ) (heap : Dlmalloc A) → IsSound regions word heap → (k : ℕ) (one : Extent) → extent_at k (extents_in (state_of word heap)) ≡ Some one → 0 < heap.size
+some_size {A} regions word heap sound k one there = go (segments_of word heap) sound.told there
+  where
+    go : (segments : List Segment) → AreTold (word heap.system) heap segments → extent_at k (extents_all segments) ≡ Some one → 0 < heap.size
+    go [] told found = absurd (cc)
+    go (segment ∷ segments) told found = told.0
+
+-- the words that tell a chunk in use and what is beside it stay, where those in free chunks alone change
+pub told_stays : {A : Type 0} (regions : A → List Grant) (word : A → ℕ → ℕ) (heap : Dlmalloc A) → IsSound regions word heap → (at size : ℕ) → extent_at at (extents_in (state_of word heap)) ≡ Some (extent at size Used) → (granted : List Grant) (new : ℕ → ℕ) →
+    OnlyFreeChange granted (state_of word heap) (word heap.system) new → (k : ℕ) → at ≤ k → k ≤ at + size + 8 → IsWordOf granted k → new k ≡ word heap.system k
+told_stays {A} regions word heap sound at size there granted new only k low high inside = only k inside (λ f n free. out f n free (same_or_beside regions word heap sound f n free (extent at size Used) there))
+  where
+    out : (f n : ℕ) → IsFreeAt (state_of word heap) f n → (extent at size Used ≡ extent f n Free) ⊎ ((at + size ≤ f) ⊎ (f + n ≤ at)) → (k < f + 16) ⊎ (f + n ≤ k)
+    out f n free (inl same) = absurd (let no : Used ≡ Free = ap (λ (e : Extent). e.kind) same in cc)
+    out f n free (inr (inl before)) = inl (omega arith)
+    out f n free (inr (inr behind)) = inr (omega arith)
+
+-- the one extent that is joined, where there is one
+whole_beside : (words : ℕ → ℕ) (before : Kind) (from : ℕ) (extents : List Extent) (to : ℕ) → IsBeside extents → AllFree extents → Tiles words before from extents to → from < to → extent_at from extents ≡ Some (extent from (to - from) Free)
+whole_beside words before from [] to beside free h some = absurd (omega (arith, h, some))
+whole_beside words before from (one ∷ []) to beside free h some =
+    let place : one.at ≡ from = h.0 in
+    let long : one.size ≡ to - from = (let end : from + one.size ≡ to = h.2 in omega arith) in
+    let here : extent_at from (one ∷ []) ≡ Some one = subst (λ (a : ℕ). extent_at a (one ∷ []) ≡ Some one) place (found_here one []) in
+    let kind : one.kind ≡ Free = free from one here in
+    here ∙ (λ i. Some (extent (place i) (long i) (kind i)))
+whole_beside words before from (one ∷ next ∷ extents) to beside free h some = absurd beside
+
+module _ {A : Type 0} (regions : A → List Grant) (word : A → ℕ → ℕ) (heap : Dlmalloc A) (sound : IsSound regions word heap) (at size : ℕ)
+    (there : extent_at at (extents_in (state_of word heap)) ≡ Some (extent at size Used)) (from : ℕ) (from_is : from ≡ (if pinuse_of (word heap.system (at + 8)) then at else at - word heap.system at)) where
+  abbrev words : ℕ → ℕ
+  words = word heap.system
+
+  -- the chunk itself is not free
+  pub not_free : (n : ℕ) → IsFreeAt (state_of word heap) at n → ⊥
+  not_free n free = (let no : Used ≡ Free = ap (λ (e : Extent). e.kind) (the_extent (sym there ∙ free)) in cc)
+
+  pub left_none : at ≤ from → (n : ℕ) → IsFreeAt (state_of word heap) from n → ⊥
+  left_none low n free = (let same : from ≡ at = (let le = from_at regions word heap sound at size there from from_is in omega arith) in not_free n (subst (λ (a : ℕ). IsFreeAt (state_of word heap) a n) same free))
+
+  pub left_free : from < at → IsFreeAt (state_of word heap) from (at - from)
+  left_free some =
+      let one = run_one regions word heap sound at size there in
+      let left = left_one regions word heap sound at size there from from_is in
+      let here = whole_beside words Used from left.lefts at left.beside left.free left.lefts_stand some in
+      let first : extent_at from one.first ≡ Some (extent from (at - from) Free) =
+      ap (extent_at from) left.is ∙ (found_later from left.front left.lefts (none_outside words Used one.segment.base left.front from from (inr (omega arith)) left.front_stand) ∙ here) in
+      among_all (regions heap.system) words (segments_of word heap) sound.segments sound.apart one.front one.segment one.back one.is from (extent from (at - from) Free)
+      (ap (extent_at from) one.extents ∙ found_more from one.first ((extent at size Used ∷ []) ++ one.last) (extent from (at - from) Free) first)
+
+  module _ (to : ℕ) (to_is : to ≡ (if at + size == heap.top then at + size else if free_of (word heap.system (at + size + 8)) then at + size + size_of (word heap.system (at + size + 8)) else at + size)) where
+    by_top : (b : Bool) → (at + size == heap.top) ≡ b → to ≡ (if b then at + size else end_of words (at + size))
+    by_top b is = to_is ∙ ap (λ (b : Bool). if b then at + size else end_of words (at + size)) is
+
+    -- at the top nothing is free behind it
+    top_behind : at + size ≡ heap.top → 0 < heap.size → (n : ℕ) → IsFreeAt (state_of word heap) (at + size) n → ⊥
+    top_behind is some n free =
+        let top = top_among regions word heap sound some in
+        let here : extent_at heap.top (extents_in (state_of word heap)) ≡ Some (extent (at + size) n Free) = subst (λ (a : ℕ). extent_at a (extents_in (state_of word heap)) ≡ Some (extent (at + size) n Free)) is free in
+        (let no : Free ≡ Top = ap (λ (e : Extent). e.kind) (the_extent (sym here ∙ top)) in cc)
+
+    module _ (some : 0 < heap.size) (goes_on : at + size ≢ heap.top) where
+      abbrev r : Right words (segments_of word heap) at size to
+      r = right regions word heap sound at size there (no_top regions word heap sound at size there goes_on) from from_is to (ends_at regions word heap sound at size there from from_is to to_is goes_on)
+
+      -- what is found behind the chunk in its run is found in the heap
+      behind : (k : ℕ) (one : Extent) → at + size ≤ k → extent_at k (r.rights ++ r.next ∷ []) ≡ Some one → extent_at k (extents_in (state_of word heap)) ≡ Some one
+      behind k one low found =
+          let test : (at == k) ≡ false = nat_isnt (inl (let long = r.run.here.1.size.1 in omega arith)) in
+          among_all (regions heap.system) words (segments_of word heap) sound.segments sound.apart r.run.front r.run.segment r.run.back r.run.is k one
+          (ap (extent_at k) r.run.extents ∙ (found_later k r.run.first ((extent at size Used ∷ (r.rights ++ r.next ∷ [])) ++ r.run.last)
+          (none_outside words Used r.run.segment.base r.run.first at k (inr (omega arith)) r.run.first_stand) ∙ found_more k (extent at size Used ∷ (r.rights ++ r.next ∷ [])) r.run.last one (rw test found)))
+
+      behind_free : at + size < to → IsFreeAt (state_of word heap) (at + size) (to - (at + size))
+      behind_free more =
+          let s = tiles_split words Used (at + size) r.rights (r.next ∷ []) (to + r.next.size) r.run.here.2 in
+          let ends : s.middle ≡ to = sym s.second.0 ∙ r.place in
+          behind (at + size) (extent (at + size) (to - (at + size)) Free) (omega arith)
+          (found_more (at + size) r.rights (r.next ∷ []) (extent (at + size) (to - (at + size)) Free)
+          (whole_beside words Used (at + size) r.rights to r.beside r.free (subst (λ (m : ℕ). Tiles words Used (at + size) r.rights m) ends s.first) more))
+
+      behind_none : to ≤ at + size → (n : ℕ) → IsFreeAt (state_of word heap) (at + size) n → ⊥
+      behind_none less n free =
+          let f = first_there words Used (at + size) r.rights r.next (to + r.next.size) r.run.here.2 in
+          let same : f.0 ≡ extent (at + size) n Free = the_extent (sym (behind (at + size) f.0 (omega arith) f.1) ∙ free) in
+          let s = tiles_split words Used (at + size) r.rights (r.next ∷ []) (to + r.next.size) r.run.here.2 in
+          let ends : s.middle ≡ to = sym s.second.0 ∙ r.place in
+          let next : extent_at (at + size) (r.next ∷ []) ≡ Some f.0 =
+          sym (found_later (at + size) r.rights (r.next ∷ []) (none_outside words Used (at + size) r.rights s.middle (at + size) (inr (omega arith)) s.first)) ∙ f.1 in
+          let kind : r.next.kind ≡ Free = ap (λ (e : Extent). e.kind) (the_one (at + size) r.next f.0 next ∙ same) in
+          elim (r.kind) [ inl used ↦ (let no : Used ≡ Free = sym used ∙ kind in cc) | inr tail ↦ (let no : Record ≡ Free = sym tail ∙ kind in cc) ]
+
+    pub right_free : 0 < heap.size → at + size < to → IsFreeAt (state_of word heap) (at + size) (to - (at + size))
+    right_free some more = go (at + size == heap.top) refl
+      where
+        go : (b : Bool) → (at + size == heap.top) ≡ b → IsFreeAt (state_of word heap) (at + size) (to - (at + size))
+        go true is = absurd (let t = by_top true is in omega arith)
+        go false apart = behind_free some (grind (arith, nat_tests)) more
+
+    pub right_none : 0 < heap.size → to ≤ at + size → (n : ℕ) → IsFreeAt (state_of word heap) (at + size) n → ⊥
+    right_none some less = go (at + size == heap.top) refl
+      where
+        go : (b : Bool) → (at + size == heap.top) ≡ b → (n : ℕ) → IsFreeAt (state_of word heap) (at + size) n → ⊥
+        go true is = top_behind (nat_is is) some
+        go false apart = behind_none some (grind (arith, nat_tests)) less
+
+    -- a free extent that begins in the range is one of the two
+    pub one_of_two : 0 < heap.size → (k n : ℕ) → IsFreeAt (state_of word heap) k n → from ≤ k → k < to → (IsIn k (from ∷ (at + size) ∷ []) → ⊥) → ⊥
+    one_of_two some k n free low high out = right_of_it
+      where
+        long : 32 ≤ n
+        long = (stands regions word heap sound k n free).1.size.1
+
+        behind_left : at ≤ k
+        behind_left = elim (dec_lt from at) [
+          | yes more ↦ elim (same_or_beside regions word heap sound from (at - from) (left_free more) (extent k n Free) free) [
+            | inl same ↦ absurd (out (inl (ap (λ (e : Extent). e.at) same)))
+            | inr beside ↦ elim beside [ inl before ↦ absurd (omega (arith, before, low, long)) | inr after ↦ omega (arith, after, more) ]
+          ]
+          | no none ↦ omega (arith, none, low)
+        ]
+
+        behind_chunk : at + size ≤ k
+        behind_chunk = elim (same_or_beside regions word heap sound k n free (extent at size Used) there) [
+          | inl same ↦ absurd (let no : Used ≡ Free = ap (λ (e : Extent). e.kind) same in cc)
+          | inr beside ↦ elim beside [ inl before ↦ before | inr after ↦ absurd (omega (arith, after, behind_left, long)) ]
+        ]
+
+        right_of_it : ⊥
+        right_of_it = elim (same_or_beside regions word heap sound (at + size) (to - (at + size)) (right_free some (omega (arith, behind_chunk, high))) (extent k n Free) free) [
+          | inl same ↦ out (inr (inl (ap (λ (e : Extent). e.at) same)))
+          | inr beside ↦ elim beside [ inl before ↦ omega (arith, before, behind_chunk, long) | inr after ↦ omega (arith, after, behind_chunk, high) ]
+        ]
+
+    -- what is in no bin once they are joined is the joined one
+    pub accounted : 0 < heap.size → (new : Dlmalloc A) → FreeMoves (state_of word heap) (state_of word new) (from ∷ (at + size) ∷ []) (from ∷ []) → IsVictimAfter from to heap.victim new.victim →
+        AreAccounted (state_of word heap) (state_of word new) ((at + size) ∷ from ∷ []) (from ∷ []) (from ∷ (at + size) ∷ []) (from ∷ [])
+    accounted some new moves victim = record {
+      gone = λ k is n free other. turn k is;
+      come = λ k is n free other. is;
+      still = λ k out which n free other. absurd (elim which [ inl was ↦ lost k was out (moves_back k n free out) other | inr loose ↦ out (turn_back k loose) ]);
+      from = λ k out which n free other. absurd (elim which [ inl now ↦ gained k n now out free other | inr loose ↦ out loose ]);
+    }
+      where
+        turn : (k : ℕ) → IsIn k (from ∷ (at + size) ∷ []) → IsIn k ((at + size) ∷ from ∷ [])
+        turn k (inl is) = inr (inl is)
+        turn k (inr (inl is)) = inl is
+        turn k (inr (inr none)) = absurd none
+
+        turn_back : (k : ℕ) → IsIn k ((at + size) ∷ from ∷ []) → IsIn k (from ∷ (at + size) ∷ [])
+        turn_back k (inl is) = inr (inl is)
+        turn_back k (inr (inl is)) = inl is
+        turn_back k (inr (inr none)) = absurd none
+
+        moves_back : (k n : ℕ) → IsFreeAt (state_of word new) k n → (IsIn k (from ∷ (at + size) ∷ []) → ⊥) → IsFreeAt (state_of word heap) k n
+        moves_back k n free out = (moves.was k n free (λ came. out (elim came [ inl is ↦ inl is | inr none ↦ absurd none ]))).0
+
+        lost : (k : ℕ) {n : ℕ} → k ≡ heap.victim → (IsIn k (from ∷ (at + size) ∷ []) → ⊥) → IsFreeAt (state_of word heap) k n → k ≢ new.victim → ⊥
+        lost k {n} was out free other = elim victim [
+          | inl same ↦ other (was ∙ sym same)
+          | inr moved ↦ (let low = moved.0 in let high = moved.1 in one_of_two some k n free (omega arith) (omega arith) out)
+        ]
+
+        gained : (k n : ℕ) → k ≡ new.victim → (IsIn k (from ∷ []) → ⊥) → IsFreeAt (state_of word heap) k n → k ≢ heap.victim → ⊥
+        gained k n now out free other = elim victim [
+          | inl same ↦ other (now ∙ same)
+          | inr moved ↦ elim (moved.2) [
+            | inl none ↦ (let low = free_low regions word heap sound (extent k n Free) free in let zero : k ≡ 0 = now ∙ none in omega arith)
+            | inr begins ↦ out (inl (now ∙ begins))
+          ]
+        ]

@@ -1,0 +1,86 @@
+-- A chunk is freed, and the bins with it.
+use Rattle.dlmalloc.proofs.Names.{◌≡◌, ℕ, ◌+◌, ◌-◌, ◌<◌, ◌≤◌, inl, inr, Bool, true, false, ◌==◌, if◌then◌else◌, List, [], ◌∷◌, Some, sym, ◌∙◌, ap, subst, arith, dec_lt, Grant, IsWordOf, Event, Used, pinuse_of, free_of, size_of, IsIn, IndexStays, extent_at, HeapState, extents_in, segments_of, state_of, IsSound, IsFreeAt, IsBinnedBut, IsRebinned, IsVictimAfter, FreeMoves, IsMoved, Dlmalloc}
+use Rattle.dlmalloc.proofs.Extents.Lookup.{extent}
+use Rattle.dlmalloc.proofs.Extents.Disjoint.{stands_there}
+use Rattle.dlmalloc.proofs.Frees.WhatCallsWant.{head_there, foot_there, behind_there, from_at}
+use Rattle.dlmalloc.proofs.Bins.Held.{one_size}
+use Rattle.dlmalloc.proofs.Frees.NeighboursUnbinned.{some_size, told_stays, left_none, left_free, accounted}
+use Rattle.dlmalloc.proofs.Bins.Changes.{binned_moved}
+
+-- where the free chunks beside a chunk begin and end, as words tell it
+abbrev pub IsFrom : (ℕ → ℕ) → ℕ → ℕ → Type 0
+IsFrom words at from = from ≡ (if pinuse_of (words (at + 8)) then at else at - words at)
+
+abbrev pub IsTo : (ℕ → ℕ) → ℕ → ℕ → ℕ → Type 0
+IsTo words top at to = to ≡ (if at == top then at else if free_of (words (at + 8)) then at + size_of (words (at + 8)) else at)
+
+module _ {A : Type 0} (regions : A → List Grant) (word : A → ℕ → ℕ) (follows : A → List Event → A → Type 0) (heap : Dlmalloc A) (sound : IsSound regions word heap) (at size : ℕ)
+    (there : extent_at at (extents_in (state_of word heap)) ≡ Some (extent at size Used)) (from to : ℕ) (from_is : IsFrom (word heap.system) at from) (to_is : IsTo (word heap.system) heap.top (at + size) to) where
+  pub some : 0 < heap.size
+  some = some_size regions word heap sound at (extent at size Used) there
+
+  -- the two begin at addresses of their own
+  pub two : IsIn (at + size) (from ∷ []) → ⊥
+  two is = elim is [
+    | inl same ↦ (let low = from_at regions word heap sound at size there from from_is in let long = used_long in omega arith)
+    | inr none ↦ none
+  ]
+    where
+      used_long : 0 < size
+      used_long = (let s = (stands_there (regions heap.system) (word heap.system) (segments_of word heap) sound.segments (extent at size Used) there).1.size.1 in omega arith)
+
+  -- and what they are joined to was no free chunk
+  pub joined_other : IsFreeAt (state_of word heap) from (to - from) → ⊥
+  joined_other free = elim (dec_lt from at) [
+    | yes before ↦
+        let same = one_size (state_of word heap) from (to - from) (at - from) free (left_free regions word heap sound at size there from from_is before) in
+        let long = used_long in
+        let end = to_above in
+        omega (arith, before)
+    | no here ↦ left_none regions word heap sound at size there from from_is (omega (arith, here)) (to - from) free
+  ]
+    where
+      used_long : 0 < size
+      used_long = (let s = (stands_there (regions heap.system) (word heap.system) (segments_of word heap) sound.segments (extent at size Used) there).1.size.1 in omega arith)
+
+      above : (b c : Bool) (more : ℕ) → at + size ≤ (if b then at + size else if c then at + size + more else at + size)
+      above true c more = omega arith
+      above false true more = omega arith
+      above false false more = omega arith
+
+      to_above : at + size ≤ to
+      to_above = subst (λ (t : ℕ). at + size ≤ t) (sym to_is) (above (at + size == heap.top) (free_of (word heap.system (at + size + 8))) (size_of (word heap.system (at + size + 8))))
+
+  -- the chunks beside it left their bins
+  module _ (middle : Dlmalloc A) (left : IsRebinned regions word follows heap middle) where
+    pub still_there : extent_at at (extents_in (state_of word middle)) ≡ Some (extent at size Used)
+    still_there = ap (λ (s : HeapState). extent_at at (extents_in s)) left.state ∙ there
+
+    top_same : middle.top ≡ heap.top
+    top_same = ap (λ (h : Dlmalloc A). h.top) left.fields
+
+    same : (k : ℕ) → at ≤ k → k ≤ at + size + 8 → IsWordOf (regions heap.system) k → word middle.system k ≡ word heap.system k
+    same = told_stays regions word heap sound at size there (regions heap.system) (word middle.system) left.words
+
+    head_same : word middle.system (at + 8) ≡ word heap.system (at + 8)
+    head_same = same (at + 8) (omega arith) (omega arith) (head_there regions word heap sound at size there).granted
+
+    foot_same : word middle.system at ≡ word heap.system at
+    foot_same = same at (omega arith) (omega arith) (foot_there regions word heap sound at size there).granted
+
+    behind_same : word middle.system (at + size + 8) ≡ word heap.system (at + size + 8)
+    behind_same = same (at + size + 8) (omega arith) (omega arith) (behind_there regions word heap sound at size there).granted
+
+    pub from_still : IsFrom (word middle.system) at from
+    from_still = from_is ∙ (λ i. if pinuse_of ((sym head_same) i) then at else at - (sym foot_same) i)
+
+    pub to_still : IsTo (word middle.system) middle.top (at + size) to
+    to_still = to_is ∙ (λ i. if at + size == (sym top_same) i then at + size else if free_of ((sym behind_same) i) then at + size + size_of ((sym behind_same) i) else at + size)
+
+    -- they were joined to it
+    module _ (stays : IndexStays) (loose : IsBinnedBut ((at + size) ∷ from ∷ []) regions word middle) (joined : Dlmalloc A) (moved : IsMoved regions word follows middle joined)
+        (moves : FreeMoves (state_of word middle) (state_of word joined) (from ∷ (at + size) ∷ []) (from ∷ [])) (victim : IsVictimAfter from to middle.victim joined.victim) (bins : joined.bins ≡ middle.bins) where
+      abbrev pub joined_loose : IsBinnedBut (from ∷ []) regions word joined
+      joined_loose = binned_moved stays regions word middle joined left.sound moved.sound (λ k was is boundary tag tag'. moved.words k was boundary) bins
+          ((at + size) ∷ from ∷ []) (from ∷ []) (from ∷ (at + size) ∷ []) (from ∷ []) moves
+          (accounted regions word middle left.sound at size still_there from from_still to to_still (some_size regions word middle left.sound at (extent at size Used) still_there) joined moves victim) loose

@@ -1,0 +1,166 @@
+-- What a free does further, told by the free extent that its chunk became part of.
+use Rattle.dlmalloc.proofs.Names.{◌≡◌, ◌≢◌, ℕ, ◌+◌, ◌<◌, ◌≤◌, inl, inr, Bool, true, false, ◌&&◌, ◌==◌, if◌then◌else◌, List, [], ◌∷◌, Option, Some, None, refl, sym, ◌∙◌, ap, subst, arith, dec_lt, find, nat_le, nat_lt, unwrap_or, option_map, nat_tests, Grant, Event, Extent, Kind, Used, Free, Victim, Top, Record, Foot, extent_at, IsFreeAround, counted, left_by_count, releases, regions_without, IsCounted, after_trim, trimmed, regions_trimmed, IsTrimmed, is_above_check, IsSettled, segments_of, state_of, IsSound, Dlmalloc}
+use Rattle.dlmalloc.specs.State.{is_top as is_the_top}
+use Rattle.dlmalloc.specs.Order.{after_count}
+use Rattle.dlmalloc.specs.Trimmed.{trim_releases}
+use Rattle.dlmalloc.specs.AfterFree.{is_top_with}
+use Rattle.dlmalloc.proofs.Extents.Lookup.{extent, nat_is, nat_same, the_extent, found_here}
+use Rattle.dlmalloc.proofs.Extents.OneMoreUsed.{AreDistinct}
+use Rattle.dlmalloc.proofs.Segments.Among.{extents_all, all_distinct, distinct_later, located}
+use Rattle.dlmalloc.proofs.Extents.Disjoint.{beside}
+use Rattle.dlmalloc.proofs.Segments.HeadTop.{some_segment}
+use Rattle.dlmalloc.proofs.Extents.Top.{is_top, top_among}
+use Rattle.dlmalloc.proofs.Frees.Counted.{top_told, counted_none}
+
+-- ---- the only one of some sort
+
+find_only : (is : Extent → Bool) (extents : List Extent) (one : Extent) → AreDistinct extents → extent_at one.at extents ≡ Some one → is one ≡ true →
+    ((other : Extent) → extent_at other.at extents ≡ Some other → is other ≡ true → other.at ≡ one.at) → find is extents ≡ Some one
+find_only is [] one distinct there holds only = absurd (cc)
+find_only is (first ∷ extents) one distinct there holds only =
+    go (is first) refl (first.at == one.at) refl there (λ found. find_only is extents one distinct.1 found holds (λ other found' test. only other (distinct_later (first ∷ []) extents other.at other distinct found') test))
+  where
+    go : (a : Bool) → is first ≡ a → (b : Bool) → (first.at == one.at) ≡ b → (if b then Some first else extent_at one.at extents) ≡ Some one → (extent_at one.at extents ≡ Some one → find is extents ≡ Some one) →
+        (if a then Some first else find is extents) ≡ Some one
+    go true test true same found rest = found
+    go true test false other found rest = absurd (let place = only first (found_here first extents) test in let no : (first.at == one.at) ≡ true = ap (λ (n : ℕ). n == one.at) place ∙ nat_same one.at in let both = sym no ∙ other in cc)
+    go false test true same found rest = absurd (let both = sym test ∙ (ap is (the_extent found) ∙ holds) in cc)
+    go false test false other found rest = rest found
+
+find_none : (is : Extent → Bool) (extents : List Extent) → AreDistinct extents → ((other : Extent) → extent_at other.at extents ≡ Some other → is other ≡ true → ⊥) → find is extents ≡ None
+find_none is [] distinct none = refl
+find_none is (first ∷ extents) distinct none =
+    go (is first) refl (find_none is extents distinct.1 (λ other found holds. none other (distinct_later (first ∷ []) extents other.at other distinct found) holds))
+  where
+    go : (a : Bool) → is first ≡ a → find is extents ≡ None → (if a then Some first else find is extents) ≡ None
+    go true test rest = absurd (none first (found_here first extents) test)
+    go false test rest = rest
+
+-- ---- the top, or none
+
+-- what the test says
+record IsTopWith (at : ℕ) (extent : Extent) : Type 0 where
+  pub kind : extent.kind ≡ Top
+  pub low : extent.at ≤ at
+  pub high : at < extent.at + extent.size
+
+top_with : (at : ℕ) (one : Extent) → is_top_with at one ≡ true → IsTopWith at one
+top_with at one test = go one.kind refl test
+  where
+    go : (kind : Kind) → one.kind ≡ kind → (is_the_top kind && (nat_le one.at at && nat_lt at (one.at + one.size))) ≡ true → IsTopWith at one
+    go Used is test = absurd (cc)
+    go Free is test = absurd (cc)
+    go Victim is test = absurd (cc)
+    go Top is test = record { kind = is; low = grind (arith, nat_tests); high = grind (arith, nat_tests) }
+    go Record is test = absurd (cc)
+    go Foot is test = absurd (cc)
+
+module _ {A : Type 0} (regions : A → List Grant) (word : A → ℕ → ℕ) (heap : Dlmalloc A) (sound : IsSound regions word heap) (at from : ℕ) (around : IsFreeAround (state_of word heap) at from) where
+  abbrev one : Extent
+  one = around.extent
+
+  abbrev all : List Extent
+  all = extents_all (segments_of word heap)
+
+  there : extent_at one.at all ≡ Some one
+  there = subst (λ (a : ℕ). extent_at a all ≡ Some one) (sym around.place) around.there
+
+  some : 0 < heap.size
+  some = some_segment word heap one.at one there
+
+  apart : AreDistinct all
+  apart = all_distinct (regions heap.system) (word heap.system) (segments_of word heap) sound.segments sound.apart
+
+  -- a top stands where the field says
+  place_of : (other : Extent) → extent_at other.at all ≡ Some other → other.kind ≡ Top → other.at ≡ heap.top
+  place_of other found is =
+      let l = located other.at other (segments_of word heap) found in
+      (is_top regions word heap sound l.front l.segment l.back l.is other.at other.size (l.there ∙ (λ i. Some (extent other.at other.size (is i))))).1
+
+  top_there : extent_at heap.top all ≡ Some (extent heap.top heap.top_size Top)
+  top_there = top_among regions word heap sound some
+
+  pub above_top : from ≡ heap.top → is_above_check (state_of word heap) at ≡ nat_lt heap.trim_check heap.top_size
+  above_top is = ap (λ (o : Option Extent). nat_lt heap.trim_check (unwrap_or (option_map (λ (extent : Extent). extent.size) o) 0))
+      (find_only (is_top_with at) all (extent heap.top heap.top_size Top) apart top_there holds (λ other found test. place_of other found (top_with at other test).kind))
+    where
+      same : one ≡ extent heap.top heap.top_size Top
+      same = the_extent (sym there ∙ (ap (λ (a : ℕ). extent_at a all) (around.place ∙ is) ∙ top_there))
+
+      size : one.size ≡ heap.top_size
+      size = ap (λ (e : Extent). e.size) same
+
+      holds : (nat_le heap.top at && nat_lt at (heap.top + heap.top_size)) ≡ true
+      holds = (let low : heap.top ≤ at = omega (arith, around.low, is) in let high : at < heap.top + heap.top_size = omega (arith, around.high, is, size) in grind (arith, nat_tests))
+
+  pub above_none : from ≢ heap.top → is_above_check (state_of word heap) at ≡ false
+  above_none differs = ap (λ (o : Option Extent). nat_lt heap.trim_check (unwrap_or (option_map (λ (extent : Extent). extent.size) o) 0))
+      (find_none (is_top_with at) all apart (λ other found test.
+      (let t = top_with at other test in let low = t.low in let high = t.high in
+      elim (beside (regions heap.system) (word heap.system) (segments_of word heap) sound.segments sound.apart one other there found (λ same. differs (sym around.place ∙ (same ∙ place_of other found t.kind)))) [
+        | inl before ↦ omega (arith, before, low, around.high, around.place)
+        | inr behind ↦ omega (arith, behind, high, around.low, around.place)
+      ])))
+      ∙ never heap.trim_check
+    where
+      never : (n : ℕ) → nat_lt n 0 ≡ false
+      never n = grind (arith, nat_tests)
+
+  -- so a freed chunk above the check is one of the top's bytes
+  pub top_around : is_above_check (state_of word heap) at ≡ true → (from ≡ heap.top) × (at < heap.top + heap.top_size)
+  top_around above = go (from == heap.top) refl
+    where
+      go : (b : Bool) → (from == heap.top) ≡ b → (from ≡ heap.top) × (at < heap.top + heap.top_size)
+      go true is =
+          let place : from ≡ heap.top = nat_is is in
+          let size : one.size ≡ heap.top_size = ap (λ (e : Extent). e.size) (the_extent (sym there ∙ (ap (λ (a : ℕ). extent_at a all) (around.place ∙ place) ∙ top_there))) in
+          (place, omega (arith, around.high, place, size))
+      go false isnt = absurd (let under = above_none (λ same. (let is : (from == heap.top) ≡ true = ap (λ (n : ℕ). n == heap.top) same ∙ nat_same heap.top in cc)) in cc)
+
+-- ---- so it is settled
+
+module _ {A : Type 0} (regions : A → List Grant) (word : A → ℕ → ℕ) (follows : A → List Event → A → Type 0) (frees parts : Bool) (unit : ℕ) (old : Dlmalloc A) (at : ℕ) (new : Dlmalloc A) where
+  pub settled_counted : is_above_check (state_of word old) at ≡ false → IsCounted regions word follows frees parts old at new → IsSettled regions word follows frees parts unit old at new
+  settled_counted none c = record {
+    state = c.state ∙ sym (ap (λ (b : Bool). if b then trimmed frees parts unit 0 (state_of word old) else counted frees parts (state_of word old) at) none);
+    sound = c.sound;
+    used = c.used;
+    kept = c.kept;
+    words = λ k inside free own out. c.words k inside free out;
+    index = λ b. (let a = c.index b in (a.0, λ n. a.1 n ∙ sym (ap (λ (t : Bool). (if t then after_trim frees parts 0 (state_of word old) b.index else after_count frees parts (state_of word old) at b.index) n) none)));
+    regions_are = c.regions_are ∙ sym (ap (λ (b : Bool). if b then regions_trimmed frees parts unit 0 (state_of word old) (regions old.system) else regions_without (left_by_count frees parts (state_of word old) at) (regions old.system)) none);
+    followed = subst (λ (events : List Event). follows old.system events new.system)
+        (sym (ap (λ (b : Bool). if b then trim_releases frees parts unit 0 (state_of word old) else releases (left_by_count frees parts (state_of word old) at)) none)) c.followed;
+  }
+
+  pub settled_trimmed : is_above_check (state_of word old) at ≡ true → (answer : Bool) → IsTrimmed regions word follows frees parts unit old 0 answer new → IsSettled regions word follows frees parts unit old at new
+  settled_trimmed above answer t = record {
+    state = t.state ∙ sym (ap (λ (b : Bool). if b then trimmed frees parts unit 0 (state_of word old) else counted frees parts (state_of word old) at) above);
+    sound = t.sound;
+    used = t.used;
+    kept = t.kept;
+    words = t.words;
+    index = λ b. (let a = t.index b in (a.0, λ n. a.1 n ∙ sym (ap (λ (t : Bool). (if t then after_trim frees parts 0 (state_of word old) b.index else after_count frees parts (state_of word old) at b.index) n) above)));
+    regions_are = t.regions_are ∙ sym (ap (λ (b : Bool). if b then regions_trimmed frees parts unit 0 (state_of word old) (regions old.system) else regions_without (left_by_count frees parts (state_of word old) at) (regions old.system)) above);
+    followed = subst (λ (events : List Event). follows old.system events new.system)
+        (sym (ap (λ (b : Bool). if b then trim_releases frees parts unit 0 (state_of word old) else releases (left_by_count frees parts (state_of word old) at)) above)) t.followed;
+  }
+
+-- where the chunk became part of the top
+pub settled_top : {A : Type 0} (regions : A → List Grant) (word : A → ℕ → ℕ) (follows : A → List Event → A → Type 0) (follows_none : (x : A) → follows x [] x) (frees parts : Bool) (unit : ℕ) (old : Dlmalloc A) (sound : IsSound regions word old)
+    (at from : ℕ) (around : IsFreeAround (state_of word old) at from) (is : from ≡ old.top) (new : Dlmalloc A) →
+    (old.trim_check < old.top_size → (answer : Bool) × IsTrimmed regions word follows frees parts unit old 0 answer new) → (old.top_size ≤ old.trim_check → new ≡ old) → IsSettled regions word follows frees parts unit old at new
+settled_top {A} regions word follows follows_none frees parts unit old sound at from around is new above same = elim (dec_lt old.trim_check old.top_size) [
+  | yes more ↦ (let t = above more in settled_trimmed regions word follows frees parts unit old at new (test_is ∙ over more) t.0 t.1)
+  | no less ↦ subst (λ (heap : Dlmalloc A). IsSettled regions word follows frees parts unit old at heap) (sym (same (omega (arith, less))))
+      (settled_counted regions word follows frees parts unit old at old (test_is ∙ under less) (counted_none regions word follows follows_none frees parts old sound at (sym (top_told regions word old sound at from around is))))
+]
+  where
+    test_is : is_above_check (state_of word old) at ≡ nat_lt old.trim_check old.top_size
+    test_is = above_top regions word old sound at from around is
+
+    over : old.trim_check < old.top_size → nat_lt old.trim_check old.top_size ≡ true
+    over more = grind (arith, nat_tests)
+
+    under : (old.trim_check < old.top_size → ⊥) → nat_lt old.trim_check old.top_size ≡ false
+    under less = (let most : old.top_size ≤ old.trim_check = omega (arith, less) in grind (arith, nat_tests))

@@ -1,0 +1,160 @@
+-- A free, whole: its chunk is given back, and then what a free does further is done.
+use Rattle.dlmalloc.proofs.Names.{◌≡◌, ℕ, ◌+◌, ◌-◌, ◌^◌, ◌<◌, ◌⊎◌, Bool, true, false, if◌then◌else◌, List, [], ◌∷◌, ◌++◌, IsTrue, inl, inr, refl, sym, ◌∙◌, ap, subst, arith, nat_le, nat_lt, Grant, Event, Granted, IsWordOf, is_granted, granted_before, IsFixed, round_up, HeapState, Segment, IsInRecord, IsOwn, freed_in, IsFreeAround, handed_out, taken_back, regions_without, passed, is_counted, counted, left_by_count, cut_of, cut_top, is_cut, after_cut, given_up, is_trimmed, gives_back, trimmed, without_end, regions_cut, regions_trimmed, is_above_check, IsSettled, IsFreed, IsDisposed, IsFound, segments_of, state_of, IsSound, HoldsBinned, Dlmalloc}
+use Rattle.dlmalloc.specs.Trimmed.{top_bytes}
+use Rattle.dlmalloc.specs.AfterFree.{after_free, free_releases, regions_after, IsBehindUsed}
+use Rattle.dlmalloc.specs.AfterFree.{index_after}
+use Rattle.dlmalloc.proofs.Segments.HeadTop.{some_segment, ends}
+use Rattle.dlmalloc.proofs.Returns.Segments.{still_granted}
+use Rattle.dlmalloc.proofs.Segments.Head.{first_base, first_size, first_changed, first_counted, beside_top, same_head}
+use Rattle.dlmalloc.proofs.Frees.Settled.{top_around}
+
+-- ---- what is granted behind a free was granted before it
+
+end_granted : (less : ℕ) (segments : List Segment) (regions : List Grant) (k : ℕ) → IsTrue (is_granted (without_end less segments regions) k) → IsTrue (is_granted regions k)
+end_granted less [] regions k granted = granted
+end_granted less (head ∷ rest) regions k granted = granted_before (head.base + (head.size - less)) (head.base + head.size) regions k granted
+
+trim_granted : (frees parts : Bool) (unit pad : ℕ) (heap : HeapState) (regions : List Grant) (k : ℕ) → IsTrue (is_granted (regions_trimmed frees parts unit pad heap regions) k) → IsTrue (is_granted regions k)
+trim_granted frees parts unit pad heap regions k = made (is_trimmed pad heap)
+  where
+    cut : (b : Bool) → IsTrue (is_granted (if b then without_end (cut_of heap pad) heap.segments regions else regions) k) → IsTrue (is_granted regions k)
+    cut true granted = end_granted (cut_of heap pad) heap.segments regions k granted
+    cut false granted = granted
+
+    made : (b : Bool) → IsTrue (is_granted (if b then regions_without (taken_back frees (handed_out parts heap.segments)) (regions_cut parts unit pad heap regions) else regions) k) → IsTrue (is_granted regions k)
+    made true granted = cut (is_cut parts unit pad heap) (still_granted (taken_back frees (handed_out parts heap.segments)) (regions_cut parts unit pad heap regions) k granted)
+    made false granted = granted
+
+pub after_granted : (frees parts : Bool) (unit : ℕ) (heap : HeapState) (at : ℕ) (regions : List Grant) (k : ℕ) → IsTrue (is_granted (regions_after frees parts unit heap at regions) k) → IsTrue (is_granted regions k)
+after_granted frees parts unit heap at regions k = above (is_above_check heap at)
+  where
+    above : (b : Bool) → IsTrue (is_granted (if b then regions_trimmed frees parts unit 0 heap regions else regions_without (left_by_count frees parts heap at) regions) k) → IsTrue (is_granted regions k)
+    above true granted = trim_granted frees parts unit 0 heap regions k granted
+    above false granted = still_granted (left_by_count frees parts heap at) regions k granted
+
+-- ---- no free changes the granularity
+
+cut_granularity : (less : ℕ) (segments : List Segment) (victim granularity rate countdown trim_check : ℕ) →
+    (cut_top less (record { segments = segments; victim = victim; granularity = granularity; rate = rate; countdown = countdown; trim_check = trim_check })).granularity ≡ granularity
+cut_granularity less [] victim granularity rate countdown trim_check = refl
+cut_granularity less (head ∷ rest) victim granularity rate countdown trim_check = refl
+
+granularity_after : (frees parts : Bool) (unit : ℕ) (heap : HeapState) (at : ℕ) → (after_free frees parts unit heap at).granularity ≡ heap.granularity
+granularity_after frees parts unit heap at = above (is_above_check heap at)
+  where
+    cut : (b : Bool) → (if b then cut_top (cut_of heap 0) heap else heap).granularity ≡ heap.granularity
+    cut true = cut_granularity (cut_of heap 0) heap.segments heap.victim heap.granularity heap.rate heap.countdown heap.trim_check
+    cut false = refl
+
+    given : (b : Bool) (left : HeapState) → (if b then record left { trim_check = 2 ^ 64 - 1 } else left).granularity ≡ left.granularity
+    given true left = refl
+    given false left = refl
+
+    gave : (b : Bool) → (if b then passed frees parts (after_cut parts unit 0 heap) else given_up (passed frees parts (after_cut parts unit 0 heap))).granularity ≡ heap.granularity
+    gave true = cut (is_cut parts unit 0 heap)
+    gave false =
+        let left = passed frees parts (after_cut parts unit 0 heap) in
+        given (nat_lt left.trim_check (top_bytes left)) left ∙ cut (is_cut parts unit 0 heap)
+
+    made : (b : Bool) → (if b then (if gives_back frees parts unit 0 heap then passed frees parts (after_cut parts unit 0 heap) else given_up (passed frees parts (after_cut parts unit 0 heap))) else heap).granularity ≡ heap.granularity
+    made true = gave (gives_back frees parts unit 0 heap)
+    made false = refl
+
+    count : (a b : Bool) → (if a then (if b then passed frees parts heap else record heap { countdown = heap.countdown - 1 }) else heap).granularity ≡ heap.granularity
+    count true true = refl
+    count true false = refl
+    count false b = refl
+
+    above : (b : Bool) → (if b then trimmed frees parts unit 0 heap else counted frees parts heap at).granularity ≡ heap.granularity
+    above true = made (is_trimmed 0 heap)
+    above false = count (is_counted heap at) (nat_le heap.countdown 1)
+
+-- ---- both steps
+
+module _ {A : Type 0} (regions : A → List Grant) (word : A → ℕ → ℕ) (follows : A → List Event → A → Type 0) (on : (x y z : A) (a b c : List Event) → follows x a y → follows y b z → a ++ b ≡ c → follows x c z) (frees parts : Bool) (unit : ℕ)
+    (old middle new : Dlmalloc A) (address : ℕ) (sound : IsSound regions word old) (disposed : IsDisposed regions word follows old address middle) (from : ℕ) (around : IsFreeAround (state_of word middle) (address - 16) from)
+    (settled : IsSettled regions word follows frees parts unit middle (address - 16) new) where
+  -- there is a head segment, and the merging leaves it where it is
+  some : 0 < middle.size
+  some = some_segment word middle from around.extent around.there
+
+  head_merged : (old.base ≡ middle.base) × (old.size ≡ middle.size)
+  head_merged = same_head regions word middle old disposed.sound sound some
+      (let same = first_changed (freed_in (address - 16)) (segments_of word old) in let is = ap (λ (heap : HeapState). heap.segments) disposed.state in (sym same.0 ∙ sym (ap first_base is), sym same.1 ∙ sym (ap first_size is)))
+
+  -- so does the rest, unless it became part of a top above the trim check
+  head_left : ((new.base ≡ old.base) × (new.size ≡ old.size)) ⊎ IsBehindUsed old (state_of word new) (address - 16)
+  head_left = go (is_above_check (state_of word middle) (address - 16)) refl
+    where
+      go : (b : Bool) → is_above_check (state_of word middle) (address - 16) ≡ b → ((new.base ≡ old.base) × (new.size ≡ old.size)) ⊎ IsBehindUsed old (state_of word new) (address - 16)
+      go false under =
+          let state : state_of word new ≡ counted frees parts (state_of word middle) (address - 16)
+          = settled.state ∙ ap (λ (b : Bool). if b then trimmed frees parts unit 0 (state_of word middle) else counted frees parts (state_of word middle) (address - 16)) under in
+          let same = first_counted frees parts (state_of word middle) (address - 16) in
+          let is = ap (λ (heap : HeapState). heap.segments) state in
+          let left = same_head regions word middle new disposed.sound settled.sound some (ap first_base is ∙ same.0, ap first_size is ∙ same.1) in
+          inl (left.0 ∙ sym head_merged.0, left.1 ∙ sym head_merged.1)
+      go true above =
+          let place = top_around regions word middle disposed.sound (address - 16) from around above in
+          let low = around.low in
+          inr (record {
+            within = omega (arith, place.1, ends regions word middle disposed.sound some, head_merged.0, head_merged.1);
+            behind = λ used is there. elim (beside_top regions word middle disposed.sound some used is (settled.used.before used is there)) [
+              | inl before ↦ inl (omega (arith, before, place.0, low))
+              | inr beyond ↦ inr (omega (arith, beyond, head_merged.0, head_merged.1))
+            ];
+          })
+
+  inside : (k : ℕ) → IsWordOf (regions new.system) k → IsWordOf (regions old.system) k
+  inside k is = record {
+    granted = subst (λ (rs : List Grant). IsTrue (is_granted rs k)) disposed.regions_same
+        (after_granted frees parts unit (state_of word middle) (address - 16) (regions middle.system) k (subst (λ (rs : List Grant). IsTrue (is_granted rs k)) settled.regions_are is.granted));
+    aligned = is.aligned;
+  }
+
+  pub freed_whole : IsFreed regions word follows frees parts unit old address new
+  freed_whole = record {
+    state = settled.state ∙ ap (λ (heap : HeapState). after_free frees parts unit heap (address - 16)) disposed.state;
+    less = record {
+      kept = λ used is there. disposed.less.kept used is (settled.used.before used is there);
+      only = λ used is there other. settled.used.still used is (disposed.less.only used is there other);
+      new = λ used is there. disposed.less.new used is (settled.used.before used is there);
+    };
+    kept = record {
+      words = λ block there used k low high m. (let was = settled.used.before block used there in settled.kept.words block was used k low high m ∙ disposed.kept.words block was used k low high m);
+      heads = λ block there used. (let was = settled.used.before block used there in settled.kept.heads block was used ∙ disposed.kept.heads block was used);
+    };
+    words = λ k is free first last recorded.
+        settled.words k is (λ f. first (subst (λ (heap : HeapState). IsOwn heap k) disposed.state (inr f))) last (λ r. recorded (subst (λ (heap : HeapState). IsInRecord heap k) disposed.state r))
+        ∙ disposed.words k (inside k is) free (λ own. first (subst (λ (heap : HeapState). IsOwn heap k) disposed.state own));
+    sound = settled.sound;
+    granularity = ap (λ (heap : HeapState). heap.granularity) settled.state
+        ∙ (granularity_after frees parts unit (state_of word middle) (address - 16) ∙ ap (λ (heap : HeapState). heap.granularity) disposed.state);
+    head = head_left;
+    regions_are = settled.regions_are ∙ (λ i. regions_after frees parts unit (disposed.state i) (address - 16) (disposed.regions_same i));
+    followed = subst (λ (heap : HeapState). follows old.system (free_releases frees parts unit heap (address - 16)) new.system) disposed.state
+        (on old.system middle.system new.system [] (free_releases frees parts unit (state_of word middle) (address - 16)) (free_releases frees parts unit (state_of word middle) (address - 16)) disposed.followed settled.followed refl);
+    order = λ b.
+        let first = disposed.order b in
+        let last = settled.index first.0 in (
+          first.0.index,
+          subst (λ (heap : HeapState). HoldsBinned heap first.0.index) disposed.state first.0.holds,
+          first.1,
+          (last.0, λ n. last.1 n ∙ ap (λ (heap : HeapState). index_after frees parts heap (address - 16) first.0.index n) disposed.state),
+        );
+  }
+
+-- ---- the rules of a system stay
+
+module _ {A : Type 0} (zeros frees parts : A → Bool) (unit : A → ℕ) where
+  -- so what holds by its rules holds by those that it had before
+  pub by_rules : (old new : A) → IsFixed zeros frees parts unit old new → (Holds : Bool → Bool → ℕ → Type 0) → Holds (frees new) (parts new) (unit new) → Holds (frees old) (parts old) (unit old)
+  by_rules old new same Holds holds =
+      subst (λ (b : Bool). Holds b (parts old) (unit old)) same.frees_same
+      (subst (λ (b : Bool). Holds (frees new) b (unit old)) same.parts_same
+      (subst (λ (n : ℕ). Holds (frees new) (parts new) n) same.unit_same holds))
+
+  pub rules_found : (follows : A → List Event → A → Type 0) → ((x y : A) (events : List Event) → follows x events y → IsFixed zeros frees parts unit x y) → (regions : A → List Grant) (old : A) (heap : HeapState) (n : ℕ) (new : A) (heap' : HeapState) →
+      IsFound follows regions old heap n new heap' → IsFixed zeros frees parts unit old new
+  rules_found follows fixed regions old heap n new heap' (inl here) = fixed old new [] here.1
+  rules_found follows fixed regions old heap n new heap' (inr there) = fixed old new (Granted (round_up (n + 96) heap.granularity) there.0 ∷ []) there.4

@@ -1,0 +1,233 @@
+-- A grant at the end of the head segment makes its top longer.
+use Rattle.dlmalloc.proofs.Names.{◌≡◌, ◌≢◌, ℕ, ◌+◌, ◌-◌, ◌%◌, ◌<◌, ◌≤◌, ◌⊎◌, inl, inr, Bool, true, false, ◌&&◌, ◌==◌, if◌then◌else◌, List, [], ◌∷◌, ◌++◌, map, Option, Some, None, refl, sym, ◌∙◌, ap, subst, arith, append_assoc, unwrap_or, AllByRecursion, nat_tests, map-append, Grant, IsWordOf, IsWhole, Extent, Used, Free, Top, Foot, ends_segment, extent_at, Tiles, last_kind, Segment, extents_in, trim_threshold, opened, is_behind, granted, IsFresh, HasSameUsed, OnlyTagsChange, IsRun, IsSegment, AreSegments, IsApartFrom, AreApart, AreRecords, FreeMoves, segments_of, state_of, IsGranularity, AreTold, IsSound, Dlmalloc, AreChunks, IsRunOf, used_of}
+use Rattle.dlmalloc.specs.Granted.{grown, extended}
+use Rattle.dlmalloc.proofs.Frees.FreeBeside.{the_one}
+use Rattle.dlmalloc.proofs.Moves.OfFreeExtents.{free_changes}
+use Rattle.dlmalloc.proofs.Extents.Lookup.{extent, nat_same, found_later, found_either}
+use Rattle.dlmalloc.proofs.Extents.Tiling.{tiles_kept, tiles_append}
+use Rattle.dlmalloc.proofs.Moves.OfLists.{last_append}
+use Rattle.dlmalloc.proofs.Extents.OneMoreUsed.{AreDistinct, none_outside, used_append}
+use Rattle.dlmalloc.proofs.Extents.FromWords.{are_chunks}
+use Rattle.dlmalloc.proofs.Segments.HeadTold.{IsHead}
+use Rattle.dlmalloc.proofs.Segments.Among.{extents_all, all_distinct}
+use Rattle.dlmalloc.proofs.Segments.RegionsMore.{runs_joined}
+use Rattle.dlmalloc.proofs.Segments.ToldAnew.{IsOutside, retold, distinct, all_retold, retold_sound, same_used, replaced_found, head_tags}
+use Rattle.dlmalloc.proofs.Segments.HeadTop.{top_stands, top_run, top_part, top_segment, top_last, top_low, top_whole, top_sizes, ends}
+use Rattle.dlmalloc.proofs.Grants.Opened.{run, segments_are, back_parts, back_apart, grant_apart, parts_kept, told_kept}
+
+-- what the test says of a grant at the end of a segment
+pub behind_means : (grant : Grant) (segment : Segment) → is_behind grant segment ≡ true → (grant.base ≡ segment.base + segment.size) × (grant.flags ≡ segment.flags)
+behind_means grant segment test = (grind (arith, nat_tests), grind (arith, nat_tests))
+
+-- chunks stay as they are
+map_grown : (more : ℕ) (chunks : List Extent) → AreChunks chunks → map (grown more) chunks ≡ chunks
+map_grown more [] are = refl
+map_grown more (chunk ∷ chunks) are = λ i. same are.0 i ∷ map_grown more chunks are.1 i
+  where
+    same : (chunk.kind ≡ Used) ⊎ (chunk.kind ≡ Free) → grown more chunk ≡ chunk
+    same (inl is) = rw is refl
+    same (inr is) = rw is refl
+
+-- ---- a grant at the end of the head segment makes its top longer
+
+module _ {A : Type 0} (regions : A → List Grant) (word : A → ℕ → ℕ) (heap new : Dlmalloc A) (sound : IsSound regions word heap) (grant : Grant)
+    (fresh : IsFresh (regions heap.system) (segments_of word heap) grant) (same : regions new.system ≡ regions heap.system) (some : 0 < heap.size)
+    (begins : grant.base ≡ heap.base + heap.size) (equal : grant.flags ≡ heap.flags) (behind : is_behind grant (record { base = heap.base; size = heap.size; flags = heap.flags; extents = [] }) ≡ true)
+    (whole : AllByRecursion IsWhole (regions heap.system)) (base : new.base ≡ heap.base) (size : new.size ≡ heap.size + grant.size) (flags : new.flags ≡ heap.flags) (no_next : new.next ≡ heap.next) (top : new.top ≡ heap.top)
+    (top_size : new.top_size ≡ heap.base + (heap.size + grant.size) - 80 - heap.top)
+    (victim : new.victim ≡ heap.victim) (victim_size : new.victim_size ≡ heap.victim_size) (granularity : new.granularity ≡ heap.granularity) (rate : new.rate ≡ heap.rate)
+    (countdown : new.countdown ≡ heap.countdown) (trim_check : new.trim_check ≡ trim_threshold)
+    (head : word new.system (heap.top + 8) ≡ heap.base + (heap.size + grant.size) - 80 - heap.top + 1) (foot : word new.system (heap.base + (heap.size + grant.size) - 72) ≡ 80)
+    (kept : (k : ℕ) → IsWordOf (regions heap.system) k → k ≢ heap.top + 8 → k ≢ heap.base + (heap.size + grant.size) - 72 → word new.system k ≡ word heap.system k) where
+  abbrev old_run : IsRunOf (word heap.system) (segments_of word heap) heap.top (heap.top + heap.top_size) (extent heap.top heap.top_size Top ∷ [])
+  old_run = top_run regions word heap sound some
+
+  old_part : IsSegment (regions heap.system) (word heap.system) old_run.segment
+  old_part = top_part regions word heap sound some
+
+  was : IsHead heap old_run.segment
+  was = top_segment regions word heap sound some
+
+  last_is : (old_run.last ≡ extent (old_run.segment.base + old_run.segment.size - 80) 80 Foot ∷ []) × (heap.top + heap.top_size + 80 ≡ old_run.segment.base + old_run.segment.size)
+  last_is = top_last regions word heap sound some
+
+  sizes : (heap.top_size % 16 ≡ 0) × (16 ≤ heap.top_size)
+  sizes = top_sizes regions word heap sound some
+
+  closes : heap.top + heap.top_size + 80 ≡ heap.base + heap.size
+  closes = ends regions word heap sound some
+
+  abbrev less : List Extent
+  less = extent heap.top heap.top_size Top ∷ extent (heap.top + heap.top_size) 80 Foot ∷ []
+
+  abbrev length_now : ℕ
+  length_now = heap.top_size + grant.size
+
+  length_is : length_now ≡ heap.base + (heap.size + grant.size) - 80 - heap.top
+  length_is = omega (arith, closes)
+
+  abbrev more : List Extent
+  more = extent heap.top length_now Top ∷ extent (heap.top + length_now) 80 Foot ∷ []
+
+  abbrev now : Segment
+  now = record { base = old_run.segment.base; size = old_run.segment.size + grant.size; flags = old_run.segment.flags; extents = old_run.first ++ more }
+
+  now_end : heap.top + length_now + 80 ≡ old_run.segment.base + (old_run.segment.size + grant.size)
+  now_end = omega (arith, last_is.1)
+
+  -- words of the chunks before the top stay, and so do those of other segments
+  first_kept : (k : ℕ) → IsWordOf (regions heap.system) k → k ≤ heap.top → word new.system k ≡ word heap.system k
+  first_kept k inside below = kept k inside (λ is. omega (arith, is, below)) (λ is. omega (arith, is, below, closes, fresh.long))
+
+  outside_kept : (k : ℕ) → IsWordOf (regions heap.system) k → IsOutside old_run.segment k → IsOutside (opened grant) k → word new.system k ≡ word heap.system k
+  outside_kept k inside first second = kept k inside
+      (λ is. elim first [
+        | inl below ↦ omega (arith, is, below, was.base, top_low regions word heap sound some)
+        | inr above ↦ omega (arith, is, above, last_is.1)
+      ])
+      (λ is. elim second [
+        | inl below ↦ omega (arith, is, below, begins, fresh.long)
+        | inr above ↦ omega (arith, is, above, begins, fresh.long)
+      ])
+
+  more_stand : Tiles (word new.system) (last_kind Used old_run.first) heap.top more (old_run.segment.base + (old_run.segment.size + grant.size))
+  more_stand =
+      let units = fresh.size_aligned in
+      let place : heap.top + length_now + 8 ≡ heap.base + (heap.size + grant.size) - 72 = omega (arith, closes) in
+      subst (λ (end : ℕ). Tiles (word new.system) (last_kind Used old_run.first) heap.top more end) now_end
+      (top_stands (word new.system) (last_kind Used old_run.first) heap.top length_now old_run.here.1.kind (top_whole regions word heap sound some) (omega (arith, sizes.0, units)) (omega (arith, sizes.1)) (head ∙ ap (λ (n : ℕ). n + 1) (sym length_is)) (ap (word new.system) place ∙ foot))
+
+  is_now : IsSegment (regions new.system) (word new.system) now
+  is_now = record {
+    run = subst (λ (rs : List Grant). IsRun rs old_run.segment.base (old_run.segment.size + grant.size) old_run.segment.flags) (sym same)
+        (runs_joined (regions heap.system) old_run.segment.base old_run.segment.size grant.base grant.size old_run.segment.flags (begins ∙ (λ i. was.base i + was.size i)) old_part.run
+        (subst (λ (f : ℕ). IsRun (regions heap.system) grant.base grant.size f) (equal ∙ was.flags) fresh.run) whole);
+    low = old_part.low;
+    high = omega (arith, fresh.high, begins, was.base, was.size);
+    long = omega (arith, old_part.long);
+    extents = tiles_append (word new.system) Used old_run.segment.base old_run.first more heap.top (old_run.segment.base + (old_run.segment.size + grant.size))
+        (tiles_kept (word heap.system) (word new.system) Used old_run.segment.base old_run.first heap.top old_run.first_stand
+        (λ k above below m free. first_kept k (record { granted = old_part.run.covered k (omega arith) (omega (arith, last_is.1, below)); aligned = m }) below)) more_stand;
+    tail = ap ends_segment (last_append Used old_run.first more);
+  }
+
+  parts_now : AreSegments (regions new.system) (word new.system) (now ∷ old_run.back)
+  parts_now = (is_now, parts_kept regions word heap new sound grant fresh same some outside_kept)
+
+  longer_apart : (others : List Segment) → AreSegments (regions heap.system) (word heap.system) others → AllByRecursion (IsApartFrom old_run.segment) others → AllByRecursion (λ (segment : Segment). IsApartFrom segment (opened grant)) others → AllByRecursion (IsApartFrom now) others
+  longer_apart [] parts one two = tt
+  longer_apart (other ∷ others) parts one two = (
+    elim (one.0) [
+      | inr before ↦ inr before
+      | inl behind ↦ elim (two.0) [
+        | inl ahead ↦ absurd (omega (arith, ahead, behind, begins, was.base, was.size, parts.0.long))
+        | inr past ↦ inl (omega (arith, past, begins, was.base, was.size))
+      ]
+    ],
+    longer_apart others parts.1 one.1 two.1,
+  )
+
+  apart_now : AreApart (now ∷ old_run.back)
+  apart_now =
+      let back = back_apart regions word heap new sound grant fresh same some in
+      (longer_apart old_run.back (back_parts regions word heap new sound grant fresh same some) back.0 (grant_apart regions word heap new sound grant fresh same some).1, back.1)
+
+  where_top : extent_at new.top now.extents ≡ Some (extent new.top new.top_size Top)
+  where_top =
+      let here : (heap.top == heap.top) ≡ true = nat_same heap.top in
+      ap (λ (t : ℕ). extent_at t now.extents) top ∙ (found_later heap.top old_run.first more (none_outside (word heap.system) Used old_run.segment.base old_run.first heap.top heap.top (inr (omega arith)) old_run.first_stand)
+      ∙ (rw here refl ∙ (λ i. Some (extent ((sym top) i) ((length_is ∙ sym top_size) i) Top))))
+
+  size_some : 0 < new.size
+  size_some = subst (λ (n : ℕ). 0 < n) (sym size) (omega (arith, some))
+
+  told_now : AreTold (word new.system) new (now ∷ old_run.back)
+  told_now = (
+    size_some,
+    base ∙ was.base,
+    size ∙ ap (λ (n : ℕ). n + grant.size) was.size,
+    flags ∙ was.flags,
+    where_top,
+    subst (λ (p : ℕ). AreRecords (word new.system) p old_run.back) (sym no_next) (told_kept regions word heap new sound grant fresh same some outside_kept),
+  )
+
+  extended_read : segments_of word new ≡ now ∷ old_run.back
+  extended_read = retold regions word new (now ∷ old_run.back) parts_now apart_now told_now
+
+  extents_were : extents_in (state_of word heap) ≡ old_run.first ++ (less ++ extents_all old_run.back)
+  extents_were =
+      ap extents_all (segments_are regions word heap new sound grant fresh same some)
+      ∙ (ap (λ (es : List Extent). es ++ extents_all old_run.back) (old_run.extents ∙ ap (λ (es : List Extent). old_run.first ++ extent heap.top heap.top_size Top ∷ es) (last_is.0 ∙ (λ i. extent (foot_at i) 80 Foot ∷ [])))
+      ∙ append_assoc old_run.first less (extents_all old_run.back))
+    where
+      foot_at : old_run.segment.base + old_run.segment.size - 80 ≡ heap.top + heap.top_size
+      foot_at = omega (arith, last_is.1)
+
+  extents_are : extents_all (now ∷ old_run.back) ≡ old_run.first ++ (more ++ extents_all old_run.back)
+  extents_are = append_assoc old_run.first more (extents_all old_run.back)
+
+  pub extended_used : HasSameUsed (state_of word heap) (state_of word new)
+  extended_used = same_used (state_of word heap) (state_of word new) (all_distinct (regions heap.system) (word heap.system) (segments_of word heap) sound.segments sound.apart)
+      (subst AreDistinct (sym (all_retold regions word new (now ∷ old_run.back) parts_now apart_now told_now)) (distinct regions word new (now ∷ old_run.back) parts_now apart_now told_now))
+      (ap used_of extents_were ∙ (used_append old_run.first (less ++ extents_all old_run.back) ∙ (sym (used_append old_run.first (more ++ extents_all old_run.back))
+      ∙ ap used_of (sym (all_retold regions word new (now ∷ old_run.back) parts_now apart_now told_now ∙ extents_are)))))
+
+  pub extended_sound : IsSound regions word new
+  extended_sound = retold_sound regions word new (now ∷ old_run.back) parts_now apart_now told_now (subst (IsGranularity) (sym granularity) sound.granularity) size_some
+      (λ none. victim ∙ sound.no_victim (sym victim_size ∙ none))
+      (λ there. (λ i. extent_at (victim i) (extents_all (now ∷ old_run.back))) ∙ (found_now (sound.victim (λ none. there (victim_size ∙ none))) ∙ (λ i. Some (extent ((sym victim) i) ((sym victim_size) i) Free))))
+    where
+      no_free : (b d : Bool) → (if b then Some (extent heap.top heap.top_size Top) else if d then Some (extent (heap.top + heap.top_size) 80 Foot) else None) ≡ Some (extent heap.victim heap.victim_size Free) → ⊥
+      no_free true d found = (let no : Top ≡ Free = ap (λ (o : Option Extent). (unwrap_or o (extent heap.victim heap.victim_size Free)).kind) found in cc)
+      no_free false true found = (let no : Foot ≡ Free = ap (λ (o : Option Extent). (unwrap_or o (extent heap.victim heap.victim_size Free)).kind) found in cc)
+      no_free false false found = cc
+
+      found_now : extent_at heap.victim (extents_in (state_of word heap)) ≡ Some (extent heap.victim heap.victim_size Free) → extent_at heap.victim (extents_all (now ∷ old_run.back)) ≡ Some (extent heap.victim heap.victim_size Free)
+      found_now there = replaced_found (extents_all (now ∷ old_run.back)) heap.victim (extent heap.victim heap.victim_size Free) old_run.first less more (extents_all old_run.back) extents_are (distinct regions word new (now ∷ old_run.back) parts_now apart_now told_now)
+          (λ found. absurd (no_free (heap.top == heap.victim) (heap.top + heap.top_size == heap.victim) found)) (ap (extent_at heap.victim) (sym extents_were) ∙ there)
+
+  pub extended_state : (n : ℕ) → state_of word new ≡ granted grant n (state_of word heap)
+  extended_state n =
+      (λ i. record { segments = segments_now i; victim = victim i; granularity = granularity i; rate = rate i; countdown = countdown i; trim_check = trim_check i })
+      ∙ (sym after ∙ ap (λ (ss : List Segment). granted grant n (record { segments = ss; victim = heap.victim; granularity = heap.granularity; rate = heap.rate; countdown = heap.countdown; trim_check = heap.trim_check }))
+      (sym (segments_are regions word heap new sound grant fresh same some)))
+    where
+      here : is_behind grant old_run.segment ≡ true
+      here = (λ i. (grant.base == (sym was.base) i + (sym was.size) i) && (grant.flags % 2 == 0 && grant.flags == (sym was.flags) i)) ∙ behind
+
+      after : granted grant n (record { segments = old_run.segment ∷ old_run.back; victim = heap.victim; granularity = heap.granularity; rate = heap.rate; countdown = heap.countdown; trim_check = heap.trim_check }) ≡
+          record { segments = extended grant.size old_run.segment ∷ old_run.back; victim = heap.victim; granularity = heap.granularity; rate = heap.rate; countdown = heap.countdown; trim_check = trim_threshold }
+      after = (let test = here in rw test refl)
+
+      chunks : AreChunks old_run.first
+      chunks = are_chunks (word heap.system) Used old_run.segment.base old_run.first (extent heap.top heap.top_size Top) old_run.last (old_run.segment.base + old_run.segment.size) (λ is. cc)
+          (subst (λ (es : List Extent). Tiles (word heap.system) Used old_run.segment.base es (old_run.segment.base + old_run.segment.size)) old_run.extents old_part.extents)
+
+      grown_are : map (grown grant.size) old_run.segment.extents ≡ old_run.first ++ more
+      grown_are =
+          let place : old_run.segment.base + old_run.segment.size - 80 + grant.size ≡ heap.top + length_now = omega (arith, last_is.1) in
+          ap (map (grown grant.size)) (old_run.extents ∙ ap (λ (es : List Extent). old_run.first ++ extent heap.top heap.top_size Top ∷ es) last_is.0)
+          ∙ (map-append (grown grant.size) old_run.first (extent heap.top heap.top_size Top ∷ extent (old_run.segment.base + old_run.segment.size - 80) 80 Foot ∷ [])
+          ∙ (λ i. map_grown grant.size old_run.first chunks i ++ (extent heap.top length_now Top ∷ extent (place i) 80 Foot ∷ [])))
+
+      segments_now : segments_of word new ≡ extended grant.size old_run.segment ∷ old_run.back
+      segments_now = extended_read ∙ (λ i. (record { base = old_run.segment.base; size = old_run.segment.size + grant.size; flags = old_run.segment.flags; extents = (sym grown_are) i }) ∷ old_run.back)
+
+  pub extended_words : OnlyTagsChange (regions heap.system) (state_of word new) (word heap.system) (word new.system)
+  extended_words k inside boundary recorded =
+      let tags = head_tags regions word new extended_sound size_some k boundary in
+      kept k inside (λ is. tags.0 (omega (arith, is, top))) (λ is. tags.1 (omega (arith, is, top, top_size, closes)))
+
+  -- no free extent but the top changes
+  pub extended_free : FreeMoves (state_of word heap) (state_of word new) [] []
+  extended_free = free_changes (state_of word heap) (state_of word new) old_run.first less more (extents_all old_run.back) extents_were
+      (all_retold regions word new (now ∷ old_run.back) parts_now apart_now told_now ∙ extents_are)
+      (all_distinct (regions heap.system) (word heap.system) (segments_of word heap) sound.segments sound.apart)
+      (subst AreDistinct (sym (all_retold regions word new (now ∷ old_run.back) parts_now apart_now told_now)) (distinct regions word new (now ∷ old_run.back) parts_now apart_now told_now))
+      [] [] (none_free heap.top heap.top_size) (none_free heap.top length_now) (λ k none. absurd none) (λ k none. absurd none)
+    where
+      none_free : (top bytes k size : ℕ) → extent_at k (extent top bytes Top ∷ extent (top + bytes) 80 Foot ∷ []) ≡ Some (extent k size Free) → ⊥
+      none_free top bytes k size found = elim (found_either k (extent top bytes Top ∷ []) (extent (top + bytes) 80 Foot ∷ []) (extent k size Free) found) [
+        | inl first ↦ (let no : Top ≡ Free = ap (λ (e : Extent). e.kind) (the_one k (extent top bytes Top) (extent k size Free) first) in cc)
+        | inr later ↦ (let no : Foot ≡ Free = ap (λ (e : Extent). e.kind) (the_one k (extent (top + bytes) 80 Foot) (extent k size Free) later.1) in cc)
+      ]

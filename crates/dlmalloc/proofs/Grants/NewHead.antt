@@ -1,0 +1,310 @@
+-- A grant becomes the head segment: what was the top is freed, and a record behind it tells the segment that it is in.
+use Rattle.dlmalloc.proofs.Names.{◌≡◌, ◌≢◌, ℕ, ◌+◌, ◌-◌, ◌%◌, ◌<◌, ◌≤◌, ◌⊎◌, inl, inr, Bool, true, false, not, ◌&&◌, ◌==◌, List, [], ◌∷◌, ◌++◌, Some, refl, sym, ◌∙◌, ap, subst, arith, append_assoc, dec_lt, flat_map, list_any, nat_tests, flat_map-append, Grant, IsWordOf, Extent, Kind, Used, Free, Top, Record, Foot, head_of, ends_segment, extent_at, is_used, Tiles, last_kind, Segment, extents_in, trim_threshold, opened, is_behind, is_before, is_put_before, granted, IsFresh, HasSameUsed, IsRecordAt, OnlyTagsChange, IsRun, IsSegment, AreSegments, IsApartFrom, AreApart, record_of, AreRecords, IsIn, IsFreeAt, FreeMoves, segments_of, state_of, IsGranularity, AreTold, IsSound, AreChunks, IsRunOf, Dlmalloc}
+use Rattle.dlmalloc.specs.Granted.{closed, without_top}
+use Rattle.dlmalloc.proofs.Moves.OfFreeExtents.{free_stays}
+use Rattle.dlmalloc.proofs.Extents.Lookup.{extent, found_here, found_either, found_more, found_later}
+use Rattle.dlmalloc.proofs.Extents.Tiling.{tiles_kept, tiles_append}
+use Rattle.dlmalloc.proofs.Moves.OfLists.{last_append}
+use Rattle.dlmalloc.proofs.Extents.OneMoreUsed.{AreDistinct, none_outside}
+use Rattle.dlmalloc.proofs.Extents.FromWords.{are_chunks}
+use Rattle.dlmalloc.proofs.Segments.HeadTold.{IsHead}
+use Rattle.dlmalloc.proofs.Segments.Among.{extents_all, all_distinct, distinct_later, apart_back}
+use Rattle.dlmalloc.proofs.Segments.HeadTop.{top_last, top_sizes, top_low, top_whole, ends}
+use Rattle.dlmalloc.proofs.Grants.Opened.{run, part, was_head, segments_are, back_apart, grant_apart, apart_grant, parts_kept, told_kept, opened_segment}
+use Rattle.dlmalloc.proofs.Segments.ToldAnew.{IsOutside, retold, distinct, all_retold, retold_sound, replaced_found, head_tags}
+use Rattle.dlmalloc.proofs.Grants.TopLeft.{of_two, closed_chunks, left, left_free, in_left, left_there, place, left_stands, left_tail, left_record, left_other}
+
+-- ---- the heap
+
+module _ {A : Type 0} (regions : A → List Grant) (word : A → ℕ → ℕ) (heap new : Dlmalloc A) (sound : IsSound regions word heap) (grant : Grant)
+    (fresh : IsFresh (regions heap.system) (segments_of word heap) grant) (same : regions new.system ≡ regions heap.system) (some : 0 < heap.size)
+    (beside : is_behind grant (record { base = heap.base; size = heap.size; flags = heap.flags; extents = [] }) ≡ false) (no_join : is_put_before grant (segments_of word heap) ≡ false)
+    (at : ℕ) (small : Bool) (small_is : (heap.top_size == 16) ≡ small) (at_is : at ≡ place small heap.top heap.top_size)
+    (base : new.base ≡ grant.base) (size : new.size ≡ grant.size) (flags : new.flags ≡ grant.flags) (next : new.next ≡ at + 16) (top : new.top ≡ grant.base)
+    (top_size : new.top_size ≡ grant.base + grant.size - 80 - grant.base)
+    (victim : new.victim ≡ heap.victim) (victim_size : new.victim_size ≡ heap.victim_size) (granularity : new.granularity ≡ heap.granularity) (rate : new.rate ≡ heap.rate)
+    (countdown : new.countdown ≡ heap.countdown) (trim_check : new.trim_check ≡ trim_threshold)
+    (head : word new.system (grant.base + 8) ≡ grant.base + grant.size - 80 - grant.base + 1) (foot : word new.system (grant.base + grant.size - 72) ≡ 80)
+    (recorded : IsRecordAt (word new.system) at (record { base = heap.base; size = heap.size; next = heap.next; flags = heap.flags }) (heap.base + heap.size) small)
+    (left_foot : small ≡ false → word new.system (heap.top + heap.top_size) ≡ heap.top_size)
+    (kept : (k : ℕ) → IsWordOf (regions heap.system) k → (k ≤ at) ⊎ (heap.base + heap.size ≤ k) → (k ≡ heap.top + heap.top_size → small ≡ true) → k ≢ grant.base + 8 → k ≢ grant.base + grant.size - 72 → word new.system k ≡ word heap.system k) where
+  abbrev it : IsRunOf (word heap.system) (segments_of word heap) heap.top (heap.top + heap.top_size) (extent heap.top heap.top_size Top ∷ [])
+  it = run regions word heap new sound grant fresh same some
+
+  old_part : IsSegment (regions heap.system) (word heap.system) it.segment
+  old_part = part regions word heap new sound grant fresh same some
+
+  was : IsHead heap it.segment
+  was = was_head regions word heap new sound grant fresh same some
+
+  last_is : (it.last ≡ extent (it.segment.base + it.segment.size - 80) 80 Foot ∷ []) × (heap.top + heap.top_size + 80 ≡ it.segment.base + it.segment.size)
+  last_is = top_last regions word heap sound some
+
+  sizes : (heap.top_size % 16 ≡ 0) × (16 ≤ heap.top_size)
+  sizes = top_sizes regions word heap sound some
+
+  closes : heap.top + heap.top_size + 80 ≡ heap.base + heap.size
+  closes = ends regions word heap sound some
+
+  low_top : it.segment.base ≤ heap.top
+  low_top = omega (arith, top_low regions word heap sound some, was.base)
+
+  -- where the record stands
+  bounds : (heap.top ≤ at) × (at + 80 ≤ heap.base + heap.size)
+  bounds = go small small_is at_is
+    where
+      go : (b : Bool) → (heap.top_size == 16) ≡ b → at ≡ place b heap.top heap.top_size → (heap.top ≤ at) × (at + 80 ≤ heap.base + heap.size)
+      go true is at_is = (omega (arith, at_is), omega (arith, at_is, closes))
+      go false isnt at_is = (omega (arith, at_is), omega (arith, at_is, closes))
+
+  abbrev rest : List Extent
+  rest = left small heap.top heap.top_size
+
+  abbrev now : Segment
+  now = record { base = it.segment.base; size = it.segment.size; flags = it.segment.flags; extents = it.first ++ rest }
+
+  grant_beside : IsApartFrom it.segment (opened grant)
+  grant_beside = (grant_apart regions word heap new sound grant fresh same some).0
+
+  -- a word of the segment before the record is none of those written
+  inside_kept : (k : ℕ) → it.segment.base ≤ k → k ≤ heap.top + 8 → k ≤ at → k % 8 ≡ 0 → (k ≡ heap.top + heap.top_size → small ≡ true) → word new.system k ≡ word heap.system k
+  inside_kept k low below before m free = kept k (record { granted = old_part.run.covered k low (omega (arith, below, last_is.1, sizes.1)); aligned = m }) (inl before) free
+      (λ is. elim (grant_beside) [ inl a ↦ omega (arith, a, is, below, last_is.1, sizes.1) | inr b ↦ omega (arith, b, is, low, fresh.long) ])
+      (λ is. elim (grant_beside) [ inl a ↦ omega (arith, a, is, below, last_is.1, sizes.1, fresh.long) | inr b ↦ omega (arith, b, is, low, fresh.long) ])
+
+  rest_stand : Tiles (word new.system) (last_kind Used it.first) heap.top rest (it.segment.base + it.segment.size)
+  rest_stand = left_stands (word new.system) (last_kind Used it.first) heap.top heap.top_size (it.segment.base + it.segment.size) (record { base = heap.base; size = heap.size; next = heap.next; flags = heap.flags }) it.here.1.kind (top_whole regions word heap sound some) sizes.0 sizes.1 last_is.1
+      small small_is (subst (λ (a : ℕ). IsRecordAt (word new.system) a (record { base = heap.base; size = heap.size; next = heap.next; flags = heap.flags }) (it.segment.base + it.segment.size) small) at_is
+      (subst (λ (e : ℕ). IsRecordAt (word new.system) at (record { base = heap.base; size = heap.size; next = heap.next; flags = heap.flags }) e small) (λ i. was.base i + was.size i) recorded))
+      (λ large. was_top large) left_foot
+    where
+      was_top : small ≡ false → word new.system (heap.top + 8) ≡ heap.top_size + 1
+      was_top large =
+          let there : at ≡ heap.top + heap.top_size = at_is ∙ ap (λ (b : Bool). place b heap.top heap.top_size) large in
+          inside_kept (heap.top + 8) (omega (arith, low_top)) (omega arith) (omega (arith, there, sizes.1)) (omega (arith, top_whole regions word heap sound some))
+          (λ is. absurd (omega (arith, is, sizes.1)))
+          ∙ (it.here.1.head ∙ (ap (λ (k : Kind). head_of heap.top_size (is_used k) false) it.here.1.kind ∙ omega arith))
+
+  is_now : IsSegment (regions new.system) (word new.system) now
+  is_now = record {
+    run = subst (λ (rs : List Grant). IsRun rs it.segment.base it.segment.size it.segment.flags) (sym same) old_part.run;
+    low = old_part.low;
+    high = old_part.high;
+    long = old_part.long;
+    extents = tiles_append (word new.system) Used it.segment.base it.first rest heap.top (it.segment.base + it.segment.size)
+        (tiles_kept (word heap.system) (word new.system) Used it.segment.base it.first heap.top it.first_stand
+        (λ k above below m free. inside_kept k (omega (arith, above)) (omega (arith, below)) (omega (arith, below, bounds.0)) m (λ is. absurd (omega (arith, is, below, sizes.1))))) rest_stand;
+    tail = ap ends_segment (last_append Used it.first rest) ∙ left_tail (word new.system) (last_kind Used it.first) heap.top heap.top_size (it.segment.base + it.segment.size) (record { base = heap.base; size = heap.size; next = heap.next; flags = heap.flags }) it.here.1.kind (top_whole regions word heap sound some) sizes.0 sizes.1 last_is.1 small;
+  }
+
+  outside_kept : (k : ℕ) → IsWordOf (regions heap.system) k → IsOutside it.segment k → IsOutside (opened grant) k → word new.system k ≡ word heap.system k
+  outside_kept k inside first second = kept k inside
+      (elim first [ inl below ↦ inl (omega (arith, below, low_top, bounds.0)) | inr above ↦ inr (omega (arith, above, was.base, was.size)) ])
+      (λ is. absurd (elim first [ inl below ↦ omega (arith, is, below, low_top) | inr above ↦ omega (arith, is, above, last_is.1) ]))
+      (λ is. elim second [ inl below ↦ omega (arith, is, below) | inr above ↦ omega (arith, is, above, fresh.long) ])
+      (λ is. elim second [ inl below ↦ omega (arith, is, below, fresh.long) | inr above ↦ omega (arith, is, above, fresh.long) ])
+
+  abbrev all : List Segment
+  all = opened grant ∷ now ∷ it.back
+
+  parts_now : AreSegments (regions new.system) (word new.system) all
+  parts_now = (opened_segment regions word heap new sound grant fresh same head foot, (is_now, parts_kept regions word heap new sound grant fresh same some outside_kept))
+
+  apart_now : AreApart all
+  apart_now = (
+    (apart_back it.segment (opened grant) grant_beside, apart_grant regions word heap new sound grant fresh same some),
+    ((back_apart regions word heap new sound grant fresh same some).0, (back_apart regions word heap new sound grant fresh same some).1),
+  )
+
+  record_there : extent_at at now.extents ≡ Some (record_of at (it.segment.base + it.segment.size))
+  record_there =
+      found_later at it.first rest (none_outside (word heap.system) Used it.segment.base it.first heap.top at (inr bounds.0) it.first_stand)
+      ∙ subst (λ (a : ℕ). extent_at a rest ≡ Some (record_of a (it.segment.base + it.segment.size))) (sym at_is)
+      (left_record (word new.system) (last_kind Used it.first) heap.top heap.top_size (it.segment.base + it.segment.size) (record { base = heap.base; size = heap.size; next = heap.next; flags = heap.flags }) it.here.1.kind (top_whole regions word heap sound some) sizes.0 sizes.1 last_is.1 small small_is)
+
+  size_some : 0 < new.size
+  size_some = subst (λ (n : ℕ). 0 < n) (sym size) (omega (arith, fresh.long))
+
+  told_now : AreTold (word new.system) new all
+  told_now = (
+    size_some,
+    base,
+    size,
+    flags,
+    (let here : (grant.base == new.top) ≡ true = (let t = top in grind (arith, nat_tests)) in rw here (λ i. Some (extent ((sym top) i) ((sym top_size) i) Top))),
+    subst (λ (p : ℕ). AreRecords (word new.system) p (now ∷ it.back)) (sym next) (
+      omega (arith, bounds.0, low_top, old_part.low),
+      recorded.base ∙ was.base,
+      recorded.size ∙ was.size,
+      recorded.flags ∙ was.flags,
+      subst (λ (a : ℕ). extent_at a now.extents ≡ Some (record_of a (it.segment.base + it.segment.size))) back record_there,
+      subst (λ (p : ℕ). AreRecords (word new.system) p it.back) (sym recorded.next) (told_kept regions word heap new sound grant fresh same some outside_kept),
+    ),
+  )
+    where
+      back : at ≡ at + 16 - 16
+      back = omega arith
+
+  abbrev before : List Extent
+  before = extent heap.top heap.top_size Top ∷ extent (it.segment.base + it.segment.size - 80) 80 Foot ∷ []
+
+  extents_were : extents_in (state_of word heap) ≡ it.first ++ (before ++ extents_all it.back)
+  extents_were = ap extents_all (segments_are regions word heap new sound grant fresh same some)
+      ∙ (ap (λ (es : List Extent). es ++ extents_all it.back) (it.extents ∙ ap (λ (es : List Extent). it.first ++ extent heap.top heap.top_size Top ∷ es) last_is.0)
+      ∙ append_assoc it.first before (extents_all it.back))
+
+  all_apart : AreDistinct (extents_all all)
+  all_apart = distinct regions word new all parts_now apart_now told_now
+
+  distinct_old : AreDistinct (extents_in (state_of word heap))
+  distinct_old = all_distinct (regions heap.system) (word heap.system) (segments_of word heap) sound.segments sound.apart
+
+  -- what is found and is neither the top nor its foot still is
+  found_now : (k : ℕ) (one : Extent) → (one.kind ≡ Top → ⊥) → (one.kind ≡ Foot → ⊥) → extent_at k (extents_in (state_of word heap)) ≡ Some one → extent_at k (extents_all all) ≡ Some one
+  found_now k one no_top no_foot there =
+      distinct_later (opened grant).extents (extents_all (now ∷ it.back)) k one all_apart
+      (replaced_found (extents_all (now ∷ it.back)) k one it.first before rest (extents_all it.back) (append_assoc it.first rest (extents_all it.back)) (all_apart.1.1)
+      (λ found. absurd (elim (of_two k (extent heap.top heap.top_size Top) (extent (it.segment.base + it.segment.size - 80) 80 Foot) one found) [
+        | inl is ↦ no_top (ap (λ (e : Extent). e.kind) (sym is))
+        | inr is ↦ no_foot (ap (λ (e : Extent). e.kind) (sym is))
+      ])) (ap (extent_at k) (sym extents_were) ∙ there))
+
+  found_before : (k : ℕ) (one : Extent) → one.kind ≡ Used → extent_at k (extents_all all) ≡ Some one → extent_at k (extents_in (state_of word heap)) ≡ Some one
+  found_before k one used there =
+      elim (found_either k (opened grant).extents (extents_all (now ∷ it.back)) one there) [
+        | inl of_grant ↦ absurd (elim (of_two k (extent grant.base (grant.base + grant.size - 80 - grant.base) Top) (extent (grant.base + grant.size - 80) 80 Foot) one of_grant) [
+          | inl is ↦ (let no : Top ≡ Used = ap (λ (e : Extent). e.kind) is ∙ used in cc)
+          | inr is ↦ (let no : Foot ≡ Used = ap (λ (e : Extent). e.kind) is ∙ used in cc)
+        ])
+        | inr later ↦ replaced_found (extents_in (state_of word heap)) k one it.first rest before (extents_all it.back) extents_were distinct_old
+            (λ found. absurd (left_other (word new.system) (last_kind Used it.first) heap.top heap.top_size (it.segment.base + it.segment.size) (record { base = heap.base; size = heap.size; next = heap.next; flags = heap.flags }) it.here.1.kind (top_whole regions word heap sound some) sizes.0 sizes.1 last_is.1 small k one found used))
+            (ap (extent_at k) (sym (append_assoc it.first rest (extents_all it.back))) ∙ later.1)
+      ]
+
+  pub added_used : HasSameUsed (state_of word heap) (state_of word new)
+  added_used = record {
+    still = λ used is there. ap (extent_at used.at) (all_retold regions word new all parts_now apart_now told_now) ∙ found_now used.at used (λ top. (let no : Used ≡ Top = sym is ∙ top in cc)) (λ foot. (let no : Used ≡ Foot = sym is ∙ foot in cc)) there;
+    before = λ used is there. found_before used.at used is (ap (extent_at used.at) (sym (all_retold regions word new all parts_now apart_now told_now)) ∙ there);
+  }
+
+  -- ---- the free extents
+
+  in_before : (k size : ℕ) → extent_at k before ≡ Some (extent k size Free) → IsIn k []
+  in_before k size found = elim (of_two k (extent heap.top heap.top_size Top) (extent (it.segment.base + it.segment.size - 80) 80 Foot) (extent k size Free) found) [
+    | inl is ↦ (let no : Top ≡ Free = ap (λ (e : Extent). e.kind) is in cc)
+    | inr is ↦ (let no : Foot ≡ Free = ap (λ (e : Extent). e.kind) is in cc)
+  ]
+
+  pub added_free : FreeMoves (state_of word heap) (state_of word new) [] (left_free small heap.top)
+  added_free = record {
+    stays = λ k size free out.
+        let found = free_stays it.first before rest (extents_all it.back) (subst AreDistinct (append_assoc it.first rest (extents_all it.back)) (all_apart.1.1)) [] (left_free small heap.top) in_before
+        (λ k came. inr (left_there small heap.top heap.top_size k came)) k size (ap (extent_at k) (sym extents_were) ∙ free) out in (
+          ap (extent_at k) (all_retold regions word new all parts_now apart_now told_now)
+              ∙ distinct_later (opened grant).extents (extents_all (now ∷ it.back)) k (extent k size Free) all_apart (ap (extent_at k) (append_assoc it.first rest (extents_all it.back)) ∙ found.0),
+          found.1,
+        );
+    was = λ k size free out. elim (found_either k (opened grant).extents (extents_all (now ∷ it.back)) (extent k size Free) (ap (extent_at k) (sym (all_retold regions word new all parts_now apart_now told_now)) ∙ free)) [
+      | inl of_grant ↦ absurd (elim (of_two k (extent grant.base (grant.base + grant.size - 80 - grant.base) Top) (extent (grant.base + grant.size - 80) 80 Foot) (extent k size Free) of_grant) [
+        | inl is ↦ (let no : Top ≡ Free = ap (λ (e : Extent). e.kind) is in cc)
+        | inr is ↦ (let no : Foot ≡ Free = ap (λ (e : Extent). e.kind) is in cc)
+      ])
+      | inr later ↦ (
+          let found = free_stays it.first rest before (extents_all it.back) (subst AreDistinct extents_were distinct_old) (left_free small heap.top) [] (in_left small heap.top heap.top_size) (λ k none. absurd none)
+          k size (ap (extent_at k) (sym (append_assoc it.first rest (extents_all it.back))) ∙ later.1) out in
+          (ap (extent_at k) extents_were ∙ found.0, λ none. none))
+    ];
+  }
+
+  pub added_rest : small ≡ false → IsFreeAt (state_of word new) heap.top heap.top_size
+  added_rest large =
+      ap (extent_at heap.top) (all_retold regions word new all parts_now apart_now told_now)
+      ∙ distinct_later (opened grant).extents (extents_all (now ∷ it.back)) heap.top (extent heap.top heap.top_size Free) all_apart (ap (extent_at heap.top) (append_assoc it.first rest (extents_all it.back))
+      ∙ (found_later heap.top it.first (rest ++ extents_all it.back) (none_outside (word heap.system) Used it.segment.base it.first heap.top heap.top (inr (omega arith)) it.first_stand)
+      ∙ found_more heap.top rest (extents_all it.back) (extent heap.top heap.top_size Free) (subst (λ (b : Bool). extent_at heap.top (left b heap.top heap.top_size) ≡ Some (extent heap.top heap.top_size Free)) (sym large)
+      (found_here (extent heap.top heap.top_size Free) (extent (heap.top + heap.top_size) 80 Record ∷ [])))))
+
+  pub added_sound : IsSound regions word new
+  added_sound = retold_sound regions word new all parts_now apart_now told_now (subst (IsGranularity) (sym granularity) sound.granularity) size_some
+      (λ none. victim ∙ sound.no_victim (sym victim_size ∙ none))
+      (λ there. (λ i. extent_at (victim i) (extents_all all)) ∙ (found_now heap.victim (extent heap.victim heap.victim_size Free) (λ is. cc) (λ is. cc) (sound.victim (λ none. there (victim_size ∙ none)))
+      ∙ (λ i. Some (extent ((sym victim) i) ((sym victim_size) i) Free))))
+
+  pub added_words : OnlyTagsChange (regions heap.system) (state_of word new) (word heap.system) (word new.system)
+  added_words k inside boundary recording =
+      let tags = head_tags regions word new added_sound size_some k boundary in
+      kept k inside out free (λ is. tags.0 (omega (arith, is, top))) (λ is. tags.1 (omega (arith, is, top, top_size, fresh.long)))
+    where
+      there : (k : ℕ) (one : Extent) → extent_at k now.extents ≡ Some one → extent_at k (extents_in (state_of word new)) ≡ Some one
+      there k one found =
+          ap (extent_at k) (all_retold regions word new all parts_now apart_now told_now)
+          ∙ distinct_later (opened grant).extents (extents_all (now ∷ it.back)) k one all_apart (found_more k now.extents (extents_all it.back) one found)
+
+      out : (k ≤ at) ⊎ (heap.base + heap.size ≤ k)
+      out = elim (dec_lt at k) [
+        | no before ↦ inl (omega arith)
+        | yes above ↦ elim (dec_lt k (heap.base + heap.size)) [
+          | no behind ↦ inr (omega arith)
+          | yes within ↦ absurd (recording (record {
+            extent = record_of at (it.segment.base + it.segment.size);
+            there = there at (record_of at (it.segment.base + it.segment.size)) record_there;
+            is = refl;
+            low = above;
+            high = omega (arith, within, was.base, was.size, bounds.1);
+          }))
+        ]
+      ]
+
+      free : k ≡ heap.top + heap.top_size → small ≡ true
+      free is = go small refl
+        where
+          go : (b : Bool) → small ≡ b → b ≡ true
+          go true test = refl
+          go false test = absurd (boundary (record {
+            extent = extent heap.top heap.top_size Free;
+            there = there heap.top (extent heap.top heap.top_size Free)
+                (found_later heap.top it.first rest (none_outside (word heap.system) Used it.segment.base it.first heap.top heap.top (inr (omega arith)) it.first_stand)
+                ∙ (ap (λ (b : Bool). extent_at heap.top (left b heap.top heap.top_size)) test ∙ found_here (extent heap.top heap.top_size Free) (extent (heap.top + heap.top_size) 80 Record ∷ [])));
+            is = inr (refl, is);
+          }))
+
+  -- of the grant the heads of the top and of its foot alone are written
+  pub added_new : (k : ℕ) → IsWordOf (regions heap.system) k → grant.base ≤ k → k < grant.base + grant.size → k ≢ new.top + 8 → k ≢ new.top + new.top_size + 8 → word new.system k ≡ word heap.system k
+  added_new k inside low high not_top not_foot = kept k inside
+      (elim (grant_beside) [ inl a ↦ inr (omega (arith, a, low, was.base, was.size)) | inr b ↦ inl (omega (arith, b, high, low_top, bounds.0)) ])
+      (λ is. absurd (elim (grant_beside) [ inl a ↦ omega (arith, a, low, is, last_is.1) | inr b ↦ omega (arith, b, high, is, low_top) ]))
+      (λ is. not_top (omega (arith, is, top))) (λ is. not_foot (omega (arith, is, top, top_size, fresh.long)))
+
+  pub added_state : (n : ℕ) → state_of word new ≡ granted grant n (state_of word heap)
+  added_state n =
+      (λ i. record { segments = segments_now i; victim = victim i; granularity = granularity i; rate = rate i; countdown = countdown i; trim_check = trim_check i })
+      ∙ (sym after ∙ ap (λ (ss : List Segment). granted grant n (record { segments = ss; victim = heap.victim; granularity = heap.granularity; rate = heap.rate; countdown = heap.countdown; trim_check = heap.trim_check }))
+      (sym (segments_are regions word heap new sound grant fresh same some)))
+    where
+      apart : is_behind grant it.segment ≡ false
+      apart = (λ i. (grant.base == (sym was.base) i + (sym was.size) i) && (grant.flags % 2 == 0 && grant.flags == (sym was.flags) i)) ∙ beside
+
+      none : list_any (is_before grant) (it.segment ∷ it.back) ≡ false
+      none = (λ i. not (sym apart i) && list_any (is_before grant) (it.segment ∷ it.back)) ∙ (ap (is_put_before grant) (sym (segments_are regions word heap new sound grant fresh same some)) ∙ no_join)
+
+      after : granted grant n (record { segments = it.segment ∷ it.back; victim = heap.victim; granularity = heap.granularity; rate = heap.rate; countdown = heap.countdown; trim_check = heap.trim_check }) ≡
+          record { segments = opened grant ∷ without_top it.segment ∷ it.back; victim = heap.victim; granularity = heap.granularity; rate = heap.rate; countdown = heap.countdown; trim_check = trim_threshold }
+      after = (let one = apart in let two = none in rw (one, two) refl)
+
+      chunks : AreChunks it.first
+      chunks = are_chunks (word heap.system) Used it.segment.base it.first (extent heap.top heap.top_size Top) it.last (it.segment.base + it.segment.size) (λ is. cc)
+          (subst (λ (es : List Extent). Tiles (word heap.system) Used it.segment.base es (it.segment.base + it.segment.size)) it.extents old_part.extents)
+
+      closed_are : flat_map closed it.segment.extents ≡ it.first ++ rest
+      closed_are =
+          ap (flat_map closed) (it.extents ∙ ap (λ (es : List Extent). it.first ++ extent heap.top heap.top_size Top ∷ es) last_is.0)
+          ∙ (flat_map-append closed it.first before
+          ∙ (λ i. closed_chunks it.first chunks i ++ of_top small small_is i))
+        where
+          of_top : (b : Bool) → (heap.top_size == 16) ≡ b → flat_map closed before ≡ left b heap.top heap.top_size
+          of_top true is = rw is refl
+          of_top false is = rw is refl
+
+      segments_now : segments_of word new ≡ opened grant ∷ without_top it.segment ∷ it.back
+      segments_now = retold regions word new all parts_now apart_now told_now
+          ∙ (λ i. opened grant ∷ (record { base = it.segment.base; size = it.segment.size; flags = it.segment.flags; extents = (sym closed_are) i }) ∷ it.back)

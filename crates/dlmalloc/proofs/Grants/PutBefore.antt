@@ -1,0 +1,247 @@
+-- A grant is put before a segment, in two parts that are in use.
+use Rattle.dlmalloc.proofs.Names.{◌≡◌, ◌≢◌, ℕ, ◌+◌, ◌-◌, ◌%◌, ◌<◌, ◌≤◌, inl, inr, Bool, true, false, ◌==◌, if◌then◌else◌, List, [], ◌∷◌, ◌++◌, map, Some, None, refl, sym, ◌∙◌, ap, subst, arith, AllByRecursion, nat_tests, map-append, Grant, IsWordOf, IsWhole, Event, Extent, Used, Free, head_of, extent_at, Tiles, last_kind, ends_segment, Segment, extents_in, opened, is_before, put_before, IsFresh, IsPrepended, IsInRecord, IsRun, IsSegment, AreSegments, IsApartFrom, AreApart, segments_of, state_of, IsGranularity, AreTold, IsSound, Dlmalloc}
+use Rattle.dlmalloc.specs.Granted.{joined}
+use Rattle.dlmalloc.proofs.Extents.Lookup.{extent, nat_same, nat_isnt, nat_is, found_here, found_more}
+use Rattle.dlmalloc.proofs.Extents.OneMoreUsed.{AreDistinct}
+use Rattle.dlmalloc.proofs.Segments.Among.{extents_all, all_among, all_at, all_front, all_back, all_with, front_apart, back_apart, apart_back, none_there, all_distinct, distinct_later}
+use Rattle.dlmalloc.proofs.Segments.RegionsMore.{runs_joined}
+use Rattle.dlmalloc.proofs.Segments.ToldAnew.{KeepsIts, IsOutside, parts_stay, apart_stay, retold, distinct, all_retold, retold_sound, replaced_found}
+
+-- what the test says of a grant before a segment
+pub before_means : (grant : Grant) (segment : Segment) → is_before grant segment ≡ true → (segment.base ≡ grant.base + grant.size) × (grant.flags ≡ segment.flags)
+before_means grant segment test = (grind (arith, nat_tests), grind (arith, nat_tests))
+
+-- being apart goes both ways
+pub flip : (one : Segment) (others : List Segment) → AllByRecursion (λ (other : Segment). IsApartFrom other one) others → AllByRecursion (IsApartFrom one) others
+flip one [] all = tt
+flip one (other ∷ others) all = (apart_back other one all.0, flip one others all.1)
+
+pub parts_around : (regions : List Grant) (words : ℕ → ℕ) (now : Segment) (front back : List Segment) → AreSegments regions words front → IsSegment regions words now → AreSegments regions words back → AreSegments regions words (front ++ now ∷ back)
+parts_around regions words now [] back first one last = (one, last)
+parts_around regions words now (other ∷ front) back first one last = (first.0, parts_around regions words now front back first.1 one last)
+
+module _ {A : Type 0} (regions : A → List Grant) (word : A → ℕ → ℕ) (heap new : Dlmalloc A) (sound : IsSound regions word heap) (grant : Grant)
+    (fresh : IsFresh (regions heap.system) (segments_of word heap) grant) (same : regions new.system ≡ regions heap.system)
+    (n : ℕ) (multiple : n % 16 ≡ 0) (least : 32 ≤ n) (room : n + 96 ≤ grant.size)
+    (front : List Segment) (segment : Segment) (back : List Segment) (is : segments_of word heap ≡ front ++ segment ∷ back) (joins : is_before grant segment ≡ true)
+    (IsUntold : ℕ → Type 0) (untold : (k : ℕ) → IsOutside segment k → IsUntold k)
+    (kept : (k : ℕ) → IsWordOf (regions heap.system) k → k ≢ grant.base + 8 → k ≢ grant.base + n + 8 → IsUntold k → word new.system k ≡ word heap.system k) where
+  place : segment.base ≡ grant.base + grant.size
+  place = (before_means grant segment joins).0
+
+  parts : AreSegments (regions heap.system) (word heap.system) (front ++ segment ∷ back)
+  parts = subst (AreSegments (regions heap.system) (word heap.system)) is sound.segments
+
+  apart : AreApart (front ++ segment ∷ back)
+  apart = subst AreApart is sound.apart
+
+  beside : AllByRecursion (λ (other : Segment). IsApartFrom other (opened grant)) (front ++ segment ∷ back)
+  beside = subst (AllByRecursion (λ (other : Segment). IsApartFrom other (opened grant))) is fresh.apart
+
+  pub the_part : IsSegment (regions heap.system) (word heap.system) segment
+  the_part = all_at (IsSegment (regions heap.system) (word heap.system)) front segment back parts
+
+  pub front_parts : AreSegments (regions heap.system) (word heap.system) front
+  front_parts = all_front (IsSegment (regions heap.system) (word heap.system)) front (segment ∷ back) parts
+
+  pub back_parts : AreSegments (regions heap.system) (word heap.system) back
+  back_parts = (all_back (IsSegment (regions heap.system) (word heap.system)) front (segment ∷ back) parts).1
+
+  front_beside : AllByRecursion (λ (other : Segment). IsApartFrom other (opened grant)) front
+  front_beside = all_front (λ (other : Segment). IsApartFrom other (opened grant)) front (segment ∷ back) beside
+
+  back_beside : AllByRecursion (λ (other : Segment). IsApartFrom other (opened grant)) back
+  back_beside = (all_back (λ (other : Segment). IsApartFrom other (opened grant)) front (segment ∷ back) beside).1
+
+  outside_kept : (k : ℕ) → IsWordOf (regions heap.system) k → IsOutside segment k → IsOutside (opened grant) k → word new.system k ≡ word heap.system k
+  outside_kept k inside first second = kept k inside
+      (λ at. elim second [ inl below ↦ omega (arith, at, below) | inr above ↦ omega (arith, at, above, fresh.long) ])
+      (λ at. elim second [ inl below ↦ omega (arith, at, below) | inr above ↦ omega (arith, at, above, room) ])
+      (untold k first)
+
+  pub front_keeps : AllByRecursion (KeepsIts (word heap.system) (word new.system)) front
+  front_keeps = apart_stay (regions heap.system) (word heap.system) (word new.system) segment (opened grant) front front_parts (flip segment front (front_apart front segment back apart)) front_beside outside_kept
+
+  pub back_keeps : AllByRecursion (KeepsIts (word heap.system) (word new.system)) back
+  back_keeps = apart_stay (regions heap.system) (word heap.system) (word new.system) segment (opened grant) back back_parts (flip segment back (back_apart front segment back apart)) back_beside outside_kept
+
+  abbrev pub now : Segment
+  now = put_before grant n segment
+
+  abbrev two : List Extent
+  two = extent grant.base n Used ∷ extent (grant.base + n) (grant.size - n) Used ∷ []
+
+  module _ (whole : AllByRecursion IsWhole (regions heap.system)) (first : word new.system (grant.base + 8) ≡ head_of n true true) (second : word new.system (grant.base + n + 8) ≡ head_of (grant.size - n) true true)
+      (tiles : Tiles (word new.system) Used segment.base segment.extents (segment.base + segment.size)) (told : AreTold (word new.system) new (front ++ now ∷ back)) where
+    two_stand : Tiles (word new.system) Used grant.base now.extents (grant.base + (grant.size + segment.size))
+    two_stand = (
+      refl,
+      record {
+        whole = fresh.base_aligned;
+        size = (multiple, least);
+        kind = inl refl;
+        head = first;
+        foot = λ free. absurd (cc);
+        fence = λ is. absurd (cc);
+      },
+      (
+        refl,
+        record {
+          whole = omega (arith, fresh.base_aligned, multiple);
+          size = (omega (arith, fresh.size_aligned, multiple, room), omega (arith, room));
+          kind = inl refl;
+          head = second;
+          foot = λ free. absurd (cc);
+          fence = λ is. absurd (cc);
+        },
+        subst (λ (end : ℕ). Tiles (word new.system) Used (grant.base + n + (grant.size - n)) segment.extents end) same_end
+            (subst (λ (at : ℕ). Tiles (word new.system) Used at segment.extents (segment.base + segment.size)) same_begin tiles),
+      ),
+    )
+      where
+        same_end : segment.base + segment.size ≡ grant.base + (grant.size + segment.size)
+        same_end = omega (arith, place)
+
+        same_begin : segment.base ≡ grant.base + n + (grant.size - n)
+        same_begin = omega (arith, place, room)
+
+    tail_is : ends_segment (last_kind Used now.extents) ≡ true
+    tail_is = the_part.tail
+
+    is_now : IsSegment (regions new.system) (word new.system) now
+    is_now = record {
+      run = subst (λ (rs : List Grant). IsRun rs grant.base (grant.size + segment.size) segment.flags) (sym same)
+          (runs_joined (regions heap.system) grant.base grant.size segment.base segment.size segment.flags place
+          (subst (λ (f : ℕ). IsRun (regions heap.system) grant.base grant.size f) (before_means grant segment joins).1 fresh.run) the_part.run whole);
+      low = fresh.low;
+      high = omega (arith, the_part.high, place);
+      long = omega (arith, the_part.long);
+      extents = two_stand;
+      tail = tail_is;
+    }
+
+    parts_now : AreSegments (regions new.system) (word new.system) (front ++ now ∷ back)
+    parts_now = parts_around (regions new.system) (word new.system) now front back
+        (subst (λ (rs : List Grant). AreSegments rs (word new.system) front) (sym same) (parts_stay (regions heap.system) (word heap.system) (word new.system) front front_parts front_keeps))
+        is_now
+        (subst (λ (rs : List Grant). AreSegments rs (word new.system) back) (sym same) (parts_stay (regions heap.system) (word heap.system) (word new.system) back back_parts back_keeps))
+
+    -- what is apart from the segment and from the grant is apart from both as one
+    step : (other : Segment) → 96 < other.size → IsApartFrom other segment → IsApartFrom other (opened grant) → IsApartFrom other now
+    step other long one two = elim two [
+      | inl before ↦ inl before
+      | inr behind ↦ elim one [
+        | inl below ↦ absurd (omega (arith, behind, below, place, long))
+        | inr above ↦ inr (omega (arith, above, place))
+      ]
+    ]
+
+    now_back : (others : List Segment) → AreSegments (regions heap.system) (word heap.system) others → AllByRecursion (λ (other : Segment). IsApartFrom other segment) others → AllByRecursion (λ (other : Segment). IsApartFrom other (opened grant)) others → AllByRecursion (IsApartFrom now) others
+    now_back [] p one two = tt
+    now_back (other ∷ others) p one two = (apart_back other now (step other p.0.long one.0 two.0), now_back others p.1 one.1 two.1)
+
+    around : (others : List Segment) → AreSegments (regions heap.system) (word heap.system) others → AreApart (others ++ segment ∷ back) → AllByRecursion (λ (other : Segment). IsApartFrom other (opened grant)) others → AreApart (others ++ now ∷ back)
+    around [] p all two = (now_back back back_parts (back_apart front segment back apart) back_beside, all.1)
+    around (other ∷ others) p all two = (all_with (IsApartFrom other) others segment now back (λ one. step other p.0.long one two.0) all.0, around others p.1 all.1 two.1)
+
+    apart_now : AreApart (front ++ now ∷ back)
+    apart_now = around front front_parts apart front_beside
+
+    abbrev after : List Extent
+    after = segment.extents ++ extents_all back
+
+    all_old : extents_in (state_of word heap) ≡ extents_all front ++ ([] ++ after)
+    all_old = ap extents_all is ∙ all_among front segment back
+
+    all_new : extents_all (front ++ now ∷ back) ≡ extents_all front ++ (two ++ after)
+    all_new = all_among front now back
+
+    all_apart : AreDistinct (extents_all (front ++ now ∷ back))
+    all_apart = distinct regions word new (front ++ now ∷ back) parts_now apart_now told
+
+    pub in_now : (k : ℕ) (one : Extent) → extent_at k (extents_all (front ++ now ∷ back)) ≡ Some one → extent_at k (extents_in (state_of word new)) ≡ Some one
+    in_now k one there = ap (extent_at k) (all_retold regions word new (front ++ now ∷ back) parts_now apart_now told) ∙ there
+
+    -- what is found in the segment is found among all
+    pub among_new : (k : ℕ) (one : Extent) → extent_at k now.extents ≡ Some one → extent_at k (extents_all (front ++ now ∷ back)) ≡ Some one
+    among_new k one there = ap (extent_at k) (all_among front now back) ∙ distinct_later (extents_all front) (now.extents ++ extents_all back) k one (subst AreDistinct (all_among front now back) all_apart) (found_more k now.extents (extents_all back) one there)
+
+    found_now : (k : ℕ) (one : Extent) → extent_at k (extents_in (state_of word heap)) ≡ Some one → extent_at k (extents_all (front ++ now ∷ back)) ≡ Some one
+    found_now k one there = replaced_found (extents_all (front ++ now ∷ back)) k one (extents_all front) [] two after all_new all_apart (λ found. absurd (cc)) (ap (extent_at k) (sym all_old) ∙ there)
+
+    -- one of the two is found
+    of_two : (k : ℕ) (one : Extent) → extent_at k (two ++ after) ≡ Some one → extent_at k (extents_all (front ++ now ∷ back)) ≡ Some one
+    of_two k one there = ap (extent_at k) all_new ∙ distinct_later (extents_all front) (two ++ after) k one (subst AreDistinct all_new all_apart) there
+
+    chunk_there : extent_at grant.base (extents_all (front ++ now ∷ back)) ≡ Some (extent grant.base n Used)
+    chunk_there = of_two grant.base (extent grant.base n Used) (found_here (extent grant.base n Used) (extent (grant.base + n) (grant.size - n) Used ∷ after))
+
+    rest_there : extent_at (grant.base + n) (extents_all (front ++ now ∷ back)) ≡ Some (extent (grant.base + n) (grant.size - n) Used)
+    rest_there =
+        let other : (grant.base == grant.base + n) ≡ false = nat_isnt (inl (omega (arith, least))) in
+        let here = nat_same (grant.base + n) in
+        of_two (grant.base + n) (extent (grant.base + n) (grant.size - n) Used) (rw (other, here) refl)
+
+    found_before : (k : ℕ) (one : Extent) → k ≢ grant.base → k ≢ grant.base + n → extent_at k (extents_all (front ++ now ∷ back)) ≡ Some one → extent_at k (extents_in (state_of word heap)) ≡ Some one
+    found_before k one not_chunk not_rest there =
+        replaced_found (extents_in (state_of word heap)) k one (extents_all front) two [] after all_old (all_distinct (regions heap.system) (word heap.system) (segments_of word heap) sound.segments sound.apart)
+        (λ found. absurd (none (grant.base == k) refl (grant.base + n == k) refl found)) (ap (extent_at k) (sym all_new) ∙ there)
+      where
+        none : (a : Bool) → (grant.base == k) ≡ a → (b : Bool) → (grant.base + n == k) ≡ b → (if a then Some (extent grant.base n Used) else if b then Some (extent (grant.base + n) (grant.size - n) Used) else None) ≡ Some one → ⊥
+        none true is b other found = not_chunk (sym (nat_is is))
+        none false isnt true is found = not_rest (sym (nat_is is))
+        none false isnt false other found = cc
+
+    -- nothing was found in the grant
+    none_in_grant : (k : ℕ) (one : Extent) → grant.base ≤ k → k < grant.base + grant.size → extent_at k (extents_in (state_of word heap)) ≡ Some one → ⊥
+    none_in_grant k one low high there =
+        let none = none_there (regions heap.system) (word heap.system) (opened grant) (segments_of word heap) sound.segments (flip (opened grant) (segments_of word heap) fresh.apart) k low high in
+        cc
+
+    -- the other segments are as they were
+    same_other : (other : Segment) → 96 < other.size → IsApartFrom other segment → joined grant n other ≡ other
+    same_other other long one =
+        let long' = the_part.long in
+        let p = place in
+        let test : (other.base == grant.base + grant.size) ≡ false = nat_isnt (elim one [ inl below ↦ inl (omega arith) | inr above ↦ inr (omega arith) ]) in
+        rw test refl
+
+    same_others : (others : List Segment) → AreSegments (regions heap.system) (word heap.system) others → AllByRecursion (λ (other : Segment). IsApartFrom other segment) others → map (joined grant n) others ≡ others
+    same_others [] p one = refl
+    same_others (other ∷ others) p one = λ i. same_other other p.0.long one.0 i ∷ same_others others p.1 one.1 i
+
+    joined_are : map (joined grant n) (segments_of word heap) ≡ front ++ now ∷ back
+    joined_are =
+        ap (map (joined grant n)) is ∙ (map-append (joined grant n) front (segment ∷ back)
+        ∙ (λ i. same_others front front_parts (front_apart front segment back apart) i ++ here i ∷ same_others back back_parts (back_apart front segment back apart) i))
+      where
+        here : joined grant n segment ≡ now
+        here = (let test = joins in rw test refl)
+
+    module _ (follows : A → List Event → A → Type 0) (followed : follows heap.system [] new.system) (size_some : 0 < new.size)
+        (victim : new.victim ≡ heap.victim) (victim_size : new.victim_size ≡ heap.victim_size) (granularity : new.granularity ≡ heap.granularity) (rate : new.rate ≡ heap.rate)
+        (countdown : new.countdown ≡ heap.countdown) (trim_check : new.trim_check ≡ heap.trim_check)
+        (recorded : (k : ℕ) → (IsInRecord (state_of word new) k → ⊥) → IsUntold k) where
+      pub is_prepended : IsPrepended regions word follows heap grant n new
+      is_prepended = record {
+        state = λ i. record { segments = (retold regions word new (front ++ now ∷ back) parts_now apart_now told ∙ sym joined_are) i; victim = victim i; granularity = granularity i; rate = rate i; countdown = countdown i; trim_check = trim_check i };
+        sound = retold_sound regions word new (front ++ now ∷ back) parts_now apart_now told (subst IsGranularity (sym granularity) sound.granularity) size_some
+            (λ none. victim ∙ sound.no_victim (sym victim_size ∙ none))
+            (λ there. (λ i. extent_at (victim i) (extents_all (front ++ now ∷ back))) ∙ (found_now heap.victim (extent heap.victim heap.victim_size Free) (sound.victim (λ none. there (victim_size ∙ none)))
+            ∙ (λ i. Some (extent ((sym victim) i) ((sym victim_size) i) Free))));
+        regions_same = same;
+        followed = followed;
+        chunk = in_now grant.base (extent grant.base n Used) chunk_there;
+        rest = in_now (grant.base + n) (extent (grant.base + n) (grant.size - n) Used) rest_there;
+        still = λ one there. in_now one.at one (found_now one.at one there);
+        before = λ one not_chunk not_rest there. found_before one.at one not_chunk not_rest (ap (extent_at one.at) (sym (all_retold regions word new (front ++ now ∷ back) parts_now apart_now told)) ∙ there);
+        apart = λ one there. (
+          (λ at. none_in_grant one.at one (omega (arith, at)) (omega (arith, at, room)) there),
+          (λ at. none_in_grant one.at one (omega (arith, at)) (omega (arith, at, room)) there),
+        );
+        words = λ k inside out tag. kept k inside
+            (λ at. elim out [ inl below ↦ omega (arith, at, below) | inr above ↦ omega (arith, at, above, room) ])
+            (λ at. elim out [ inl below ↦ omega (arith, at, below) | inr above ↦ omega (arith, at, above, room) ])
+            (recorded k tag);
+        new_words = λ k inside low high not_first not_second. kept k inside not_first not_second (untold k (inl (omega (arith, high, place))));
+      }

@@ -1,0 +1,186 @@
+-- The segment that a grant is put before is found, and the two ways in which it is told.
+use Rattle.dlmalloc.proofs.Names.{◌≡◌, ◌≢◌, ℕ, ◌+◌, ◌-◌, ◌%◌, ◌^◌, ◌<◌, ◌≤◌, inl, inr, Bool, true, false, ◌&&◌, ◌==◌, List, [], ◌∷◌, ◌++◌, refl, sym, ◌∙◌, ap, subst, arith, append_assoc, ⊤, AllByRecursion, list_any, list_any-append, Grant, IsWordOf, Used, Segment, is_behind, is_before, is_put_before, IsSegment, AreSegments, record_of, AreRecords, payload_behind, IsHeadBehind, IsToldBehind, segments_of, AreTold, IsSound, Dlmalloc}
+use Rattle.dlmalloc.specs.Prepended.{IsBehindAt}
+use Rattle.dlmalloc.specs.declared.prepend.Behind.{Behind}
+use Rattle.dlmalloc.specs.declared.prepend.Behind.TheVariants.{Head, Told}
+use Rattle.dlmalloc.proofs.Segments.Among.{any_among, IsIn, in_part}
+use Rattle.dlmalloc.proofs.Segments.HeadTop.{no_segments}
+use Rattle.dlmalloc.proofs.Segments.ToldAnew.{KeepsIts}
+use Rattle.dlmalloc.proofs.Segments.Walk.{PassedSegments, ahead_segment}
+
+-- the records of some segments are passed, none of which the grant is before
+pub record PassedBehind {A : Type 0} (word : A → ℕ → ℕ) (heap : Dlmalloc A) (grant : Grant) (payload : ℕ) : Type 0 where
+  pub head : Segment
+  pub passed : List Segment
+  pub rest : List Segment
+  pub is : segments_of word heap ≡ head ∷ (passed ++ rest)
+  pub told : AreRecords (word heap.system) payload rest
+  pub reached : payload ≡ payload_behind (word heap.system) heap.next passed
+  pub none : list_any (is_before grant) (head ∷ passed) ≡ false
+
+abbrev pub as_passed : {A : Type 0} (word : A → ℕ → ℕ) (heap : Dlmalloc A) (grant : Grant) (payload : ℕ) → PassedBehind word heap grant payload → PassedSegments word heap payload (λ (ss : List Segment). ⊤)
+as_passed word heap grant payload p = record { passed = p.head ∷ p.passed; rest = p.rest; is = p.is; some = omega arith; told = p.told; so_far = tt }
+
+-- the payload behind one more
+pub behind_more : (words : ℕ → ℕ) (payload : ℕ) (front : List Segment) (segment : Segment) → payload_behind words payload (front ++ segment ∷ []) ≡ words (payload_behind words payload front + 16)
+behind_more words payload [] segment = refl
+behind_more words payload (first ∷ front) segment = behind_more words (words (payload + 16)) front segment
+
+any_more : (grant : Grant) (front : List Segment) (segment : Segment) → list_any (is_before grant) front ≡ false → is_before grant segment ≡ false → list_any (is_before grant) (front ++ segment ∷ []) ≡ false
+any_more grant front segment none other = list_any-append (is_before grant) front (segment ∷ []) ∙ (let a = none in let b = other in rw (a, b) refl)
+
+module _ {A : Type 0} (regions : A → List Grant) (word : A → ℕ → ℕ) (heap : Dlmalloc A) (sound : IsSound regions word heap) (some : 0 < heap.size) (grant : Grant) where
+  -- what the fields tell of the head segment
+  record HeadTold : Type 0 where
+    pub segment : Segment
+    pub back : List Segment
+    pub is : segments_of word heap ≡ segment ∷ back
+    pub same : is_before grant segment ≡ is_before grant (record { base = heap.base; size = heap.size; flags = heap.flags; extents = [] })
+    pub longer : is_behind grant segment ≡ is_behind grant (record { base = heap.base; size = heap.size; flags = heap.flags; extents = [] })
+    pub told : AreRecords (word heap.system) heap.next back
+
+  head_told : HeadTold
+  head_told = go (segments_of word heap) refl sound.told
+    where
+      go : (segments : List Segment) → segments_of word heap ≡ segments → AreTold (word heap.system) heap segments → HeadTold
+      go [] is h = absurd (omega (arith, some, h))
+      go (segment ∷ segments) is h = record {
+        segment = segment;
+        back = segments;
+        is = is;
+        same = λ i. (sym h.1) i == grant.base + grant.size && (grant.flags % 2 == 0 && grant.flags == (sym h.3) i);
+        longer = λ i. grant.base == (sym h.1) i + (sym h.2) i && (grant.flags % 2 == 0 && grant.flags == (sym h.3) i);
+        told = h.5;
+      }
+
+  -- a grant that makes the head segment longer is put before none
+  longer_same : is_behind grant head_told.segment ≡ is_behind grant (record { base = heap.base; size = heap.size; flags = heap.flags; extents = [] })
+  longer_same = head_told.longer
+
+  pub put_none : is_behind grant (record { base = heap.base; size = heap.size; flags = heap.flags; extents = [] }) ≡ true → is_put_before grant (segments_of word heap) ≡ false
+  put_none test = ap (is_put_before grant) head_told.is ∙ (let longer = longer_same ∙ test in rw longer refl)
+
+  -- any other is, where it is before one
+  pub put_where : is_behind grant (record { base = heap.base; size = heap.size; flags = heap.flags; extents = [] }) ≡ false → is_put_before grant (segments_of word heap) ≡ list_any (is_before grant) (segments_of word heap)
+  put_where test = ap (is_put_before grant) head_told.is ∙ ((let longer = longer_same ∙ test in rw longer refl) ∙ ap (list_any (is_before grant)) (sym head_told.is))
+
+  -- the grant is before it
+  pub head_behind : is_before grant (record { base = heap.base; size = heap.size; flags = heap.flags; extents = [] }) ≡ true → IsHeadBehind word heap grant
+  head_behind test = record { segment = head_told.segment; back = head_told.back; is = head_told.is; joins = head_told.same ∙ test }
+
+  -- or not, and it is passed
+  pub begun_behind : is_before grant (record { base = heap.base; size = heap.size; flags = heap.flags; extents = [] }) ≡ false → PassedBehind word heap grant heap.next
+  begun_behind test = record {
+    head = head_told.segment;
+    passed = [];
+    rest = head_told.back;
+    is = head_told.is;
+    told = head_told.told;
+    reached = refl;
+    none = (let other = head_told.same ∙ test in rw other refl);
+  }
+
+  module _ (payload : ℕ) (p : PassedBehind word heap grant payload) (more : payload ≢ 0) where
+    abbrev segment : Segment
+    segment = (ahead_segment regions word heap sound payload (λ (ss : List Segment). ⊤) (as_passed word heap grant payload p) more).segment
+
+    abbrev others : List Segment
+    others = (ahead_segment regions word heap sound payload (λ (ss : List Segment). ⊤) (as_passed word heap grant payload p) more).others
+
+    rest_is : p.rest ≡ segment ∷ others
+    rest_is = (ahead_segment regions word heap sound payload (λ (ss : List Segment). ⊤) (as_passed word heap grant payload p) more).is
+
+    told_rest : AreRecords (word heap.system) payload (segment ∷ others)
+    told_rest = subst (AreRecords (word heap.system) payload) rest_is p.told
+
+    part : IsSegment (regions heap.system) (word heap.system) segment
+    part = (ahead_segment regions word heap sound payload (λ (ss : List Segment). ⊤) (as_passed word heap grant payload p) more).part
+
+    at_in : IsIn (word heap.system) segment.base (segment.base + segment.size) (record_of (payload - 16) (segment.base + segment.size))
+    at_in = in_part (word heap.system) Used segment.base segment.extents (segment.base + segment.size) (record_of (payload - 16) (segment.base + segment.size)) part.extents told_rest.4
+
+    long : 80 ≤ segment.base + segment.size - (payload - 16)
+    long = elim (at_in.stands.size) [ inl short ↦ omega arith | inr longer ↦ omega arith ]
+
+    -- the four words of its record
+    pub told_word : (k : ℕ) → payload ≤ k → k < payload + 32 → k % 8 ≡ payload % 8 → IsWordOf (regions heap.system) k
+    told_word k low high m = record {
+      granted = part.run.covered k (omega (arith, at_in.low, told_rest.0, low)) (omega (arith, long, told_rest.0, high));
+      aligned = omega (arith, at_in.stands.whole, told_rest.0, m);
+    }
+
+    pub told_high : payload + 32 < 2 ^ 64
+    told_high = omega (arith, long, told_rest.0, part.high)
+
+    -- the test on its words is that on the segment
+    test_is : (b : Bool) → (word heap.system payload == grant.base + grant.size && (grant.flags % 2 == 0 && grant.flags == word heap.system (payload + 24))) ≡ b → is_before grant segment ≡ b
+    test_is b test = (λ i. (sym told_rest.1) i == grant.base + grant.size && (grant.flags % 2 == 0 && grant.flags == (sym told_rest.3) i)) ∙ test
+
+    pub found_behind : (word heap.system payload == grant.base + grant.size && (grant.flags % 2 == 0 && grant.flags == word heap.system (payload + 24))) ≡ true → IsToldBehind word heap grant payload
+    found_behind test = record {
+      head = p.head;
+      front = p.passed;
+      segment = segment;
+      back = others;
+      is = p.is ∙ ap (λ (ss : List Segment). p.head ∷ (p.passed ++ ss)) rest_is;
+      joins = test_is true test;
+      reached = p.reached;
+      told = told_rest;
+    }
+
+    pub onward_behind : (word heap.system payload == grant.base + grant.size && (grant.flags % 2 == 0 && grant.flags == word heap.system (payload + 24))) ≡ false → PassedBehind word heap grant (word heap.system (payload + 16))
+    onward_behind test = record {
+      head = p.head;
+      passed = p.passed ++ segment ∷ [];
+      rest = others;
+      is = p.is ∙ (ap (λ (ss : List Segment). p.head ∷ (p.passed ++ ss)) rest_is ∙ ap (λ (ss : List Segment). p.head ∷ ss) (sym (append_assoc p.passed (segment ∷ []) others)));
+      told = told_rest.5;
+      reached = ap (λ (k : ℕ). word heap.system (k + 16)) p.reached ∙ sym (behind_more (word heap.system) heap.next p.passed segment);
+      none = any_more grant (p.head ∷ p.passed) segment p.none (test_is false test);
+    }
+
+  -- where no record is left, the grant is before no segment
+  pub none_behind : (payload : ℕ) → PassedBehind word heap grant payload → payload ≡ 0 → list_any (is_before grant) (segments_of word heap) ≡ false
+  none_behind payload p empty = ap (list_any (is_before grant)) (p.is ∙ (ap (λ (ss : List Segment). p.head ∷ (p.passed ++ ss)) (nothing p.rest p.told))) ∙ (list_any-append (is_before grant) (p.head ∷ p.passed) [] ∙ (let none = p.none in rw none refl))
+    where
+      nothing : (rest : List Segment) → AreRecords (word heap.system) payload rest → rest ≡ []
+      nothing [] h = refl
+      nothing (one ∷ rest) h = absurd (let low = h.0 in omega arith)
+
+-- ---- records that tell segments as before, and others behind them
+
+module _ (regions : List Grant) (old new : ℕ → ℕ) (rest now : List Segment) where
+  pub told_around : (front : List Segment) (payload start : ℕ) → payload ≡ payload_behind old start front → AreSegments regions old front → AllByRecursion (KeepsIts old new) front → AreRecords old start (front ++ rest) → AreRecords new payload now → AreRecords new start (front ++ now)
+  told_around [] payload start reached parts same h here = subst (λ (p : ℕ). AreRecords new p now) reached here
+  told_around (other ∷ front) payload start reached parts same h here = (
+    h.0,
+    at start (omega arith) (omega arith) whole ∙ h.1,
+    at (start + 8) (omega arith) (omega arith) (omega (arith, whole)) ∙ h.2,
+    at (start + 24) (omega arith) (omega arith) (omega (arith, whole)) ∙ h.3,
+    h.4,
+    subst (λ (p : ℕ). AreRecords new p (front ++ now)) (sym (at (start + 16) (omega arith) (omega arith) (omega (arith, whole)))) (told_around front payload (old (start + 16)) reached parts.1 same.1 h.5 here),
+  )
+    where
+      r : IsIn old other.base (other.base + other.size) (record_of (start - 16) (other.base + other.size))
+      r = in_part old Used other.base other.extents (other.base + other.size) (record_of (start - 16) (other.base + other.size)) parts.0.extents h.4
+
+      some : 16 < start
+      some = h.0
+
+      whole : start % 8 ≡ 0
+      whole = omega (arith, r.stands.whole, some)
+
+      long : 80 ≤ other.base + other.size - (start - 16)
+      long = elim (r.stands.size) [ inl short ↦ omega arith | inr longer ↦ omega arith ]
+
+      at : (k : ℕ) → start ≤ k → k < start + 32 → k % 8 ≡ 0 → new k ≡ old k
+      at k low high m = same.0 k (omega (arith, r.low, low, some)) (omega (arith, r.high, long, high, some)) m
+
+-- where there is no segment, it is put before none
+pub put_empty : {A : Type 0} (word : A → ℕ → ℕ) (heap : Dlmalloc A) (grant : Grant) → heap.size ≡ 0 → is_put_before grant (segments_of word heap) ≡ false
+put_empty word heap grant empty = ap (is_put_before grant) (no_segments word heap empty)
+
+-- it is before one, where that is found
+pub found_put : {A : Type 0} (word : A → ℕ → ℕ) (heap : Dlmalloc A) (grant : Grant) (behind : Behind) → IsBehindAt word heap grant behind → list_any (is_before grant) (segments_of word heap) ≡ true
+found_put word heap grant Head b = ap (list_any (is_before grant)) b.is ∙ any_among (is_before grant) [] b.segment b.back b.joins
+found_put word heap grant (Told payload) b = ap (list_any (is_before grant)) b.is ∙ any_among (is_before grant) (b.head ∷ b.front) b.segment b.back b.joins

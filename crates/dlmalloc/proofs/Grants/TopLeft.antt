@@ -1,0 +1,125 @@
+-- What a top leaves behind where another head segment comes: a record, and a free chunk if it has more than 16 bytes.
+use Rattle.dlmalloc.proofs.Names.{◌≡◌, ℕ, ◌+◌, ◌-◌, ◌%◌, ◌≤◌, ◌⊎◌, inl, inr, Bool, true, false, ◌==◌, if◌then◌else◌, List, [], ◌∷◌, ◌++◌, Option, Some, None, refl, sym, ◌∙◌, ap, subst, arith, dec_lt, unwrap_or, flat_map, nat_tests, Extent, Kind, Used, Free, Record, head_of, ends_segment, extent_at, is_used, Tiles, last_kind, IsRecordAt, record_of, IsIn, AreChunks, SegmentRecord}
+use Rattle.dlmalloc.specs.Granted.{closed}
+use Rattle.dlmalloc.proofs.Frees.FreeBeside.{the_one}
+use Rattle.dlmalloc.proofs.Moves.OfFreeExtents.{IsThere}
+use Rattle.dlmalloc.proofs.Extents.Lookup.{extent, nat_same, nat_isnt, found_here, found_either}
+
+-- an extent that is found among two is one of them
+pub of_two : (k : ℕ) (one two it : Extent) → extent_at k (one ∷ two ∷ []) ≡ Some it → (one ≡ it) ⊎ (two ≡ it)
+of_two k one two it there = go (one.at == k) (two.at == k) there
+  where
+    go : (a b : Bool) → (if a then Some one else if b then Some two else None) ≡ Some it → (one ≡ it) ⊎ (two ≡ it)
+    go true b found = inl (ap (λ (o : Option Extent). unwrap_or o one) found)
+    go false true found = inr (ap (λ (o : Option Extent). unwrap_or o two) found)
+    go false false found = absurd (cc)
+
+-- chunks stay where a top is closed
+pub closed_chunks : (chunks : List Extent) → AreChunks chunks → flat_map closed chunks ≡ chunks
+closed_chunks [] are = refl
+closed_chunks (chunk ∷ chunks) are = λ i. same are.0 i ++ closed_chunks chunks are.1 i
+  where
+    same : (chunk.kind ≡ Used) ⊎ (chunk.kind ≡ Free) → closed chunk ≡ chunk ∷ []
+    same (inl is) = rw is refl
+    same (inr is) = rw is refl
+
+-- what a top of so many bytes leaves behind, and where the record is in it
+abbrev pub left : Bool → ℕ → ℕ → List Extent
+left b at size = if b then extent at 96 Record ∷ [] else extent at size Free ∷ extent (at + size) 80 Record ∷ []
+
+-- where it is free
+abbrev pub left_free : Bool → ℕ → List ℕ
+left_free small top = if small then [] else top ∷ []
+
+pub in_left : (small : Bool) (top size k bytes : ℕ) → extent_at k (left small top size) ≡ Some (extent k bytes Free) → IsIn k (left_free small top)
+in_left true top size k bytes found = (let no : Record ≡ Free = ap (λ (e : Extent). e.kind) (the_one k (extent top 96 Record) (extent k bytes Free) found) in cc)
+in_left false top size k bytes found = elim (found_either k (extent top size Free ∷ []) (extent (top + size) 80 Record ∷ []) (extent k bytes Free) found) [
+  | inl first ↦ inl (sym (ap (λ (e : Extent). e.at) (the_one k (extent top size Free) (extent k bytes Free) first)))
+  | inr later ↦ absurd (let no : Record ≡ Free = ap (λ (e : Extent). e.kind) (the_one k (extent (top + size) 80 Record) (extent k bytes Free) later.1) in cc)
+]
+
+pub left_there : (small : Bool) (top size k : ℕ) → IsIn k (left_free small top) → IsThere k (left small top size)
+left_there true top size k is = absurd is
+left_there false top size k (inl same) = (extent top size Free, subst (λ (a : ℕ). extent_at a (left false top size) ≡ Some (extent top size Free)) (sym same) (found_here (extent top size Free) (extent (top + size) 80 Record ∷ [])))
+left_there false top size k (inr none) = absurd none
+
+abbrev pub place : Bool → ℕ → ℕ → ℕ
+place b at size = if b then at else at + size
+
+-- it stands up to the segment's end
+module _ (words : ℕ → ℕ) (before : Kind) (at size end : ℕ) (told : SegmentRecord) (used : before ≡ Used) (whole : at % 16 ≡ 0) (units : size % 16 ≡ 0) (long : 16 ≤ size) (ends_at : at + size + 80 ≡ end) where
+  pub left_stands : (b : Bool) → (size == 16) ≡ b → IsRecordAt words (place b at size) told end b → (b ≡ false → words (at + 8) ≡ size + 1) → (b ≡ false → words (at + size) ≡ size) → Tiles words before at (left b at size) end
+  left_stands true is recorded head foot =
+      let s : size ≡ 16 = grind (arith, nat_tests) in (
+        refl,
+        record {
+          whole = whole;
+          size = inr refl;
+          kind = inl used;
+          head = recorded.head ∙ ap (λ (k : Kind). head_of 48 (is_used k) true) (sym used);
+          foot = λ free. absurd (cc);
+          fence = λ is k low high m. recorded.fences k low (omega (arith, high, s, ends_at)) m;
+        },
+        omega (arith, s, ends_at),
+      )
+  left_stands false isnt recorded head foot =
+      let more = large isnt in (
+        refl,
+        record {
+          whole = whole;
+          size = (units, more);
+          kind = used;
+          head = head refl ∙ (omega arith ∙ ap (λ (k : Kind). head_of size (is_used k) false) (sym used));
+          foot = λ free. foot refl;
+          fence = λ is. absurd (cc);
+        },
+        (
+          refl,
+          record {
+            whole = omega (arith, whole, units);
+            size = inl refl;
+            kind = inr refl;
+            head = recorded.head;
+            foot = λ free. absurd (cc);
+            fence = λ is k low high m. recorded.fences k low (omega (arith, high, ends_at)) m;
+          },
+          ends_at,
+        ),
+      )
+    where
+      large : (size == 16) ≡ false → 32 ≤ size
+      large test = elim (dec_lt size 32) [
+        | yes small ↦ absurd (let sixteen : size ≡ 16 = omega (arith, small, units, long) in let yes : (size == 16) ≡ true = grind (arith, nat_tests) in cc)
+        | no more ↦ omega arith
+      ]
+
+  pub left_tail : (b : Bool) → ends_segment (last_kind before (left b at size)) ≡ true
+  left_tail true = refl
+  left_tail false = refl
+
+  -- the record is found in it
+  pub left_record : (b : Bool) → (size == 16) ≡ b → extent_at (place b at size) (left b at size) ≡ Some (record_of (place b at size) end)
+  left_record true is =
+      let s : size ≡ 16 = grind (arith, nat_tests) in
+      let here = nat_same at in
+      rw here (λ i. Some (extent at (bytes s i) Record))
+    where
+      bytes : size ≡ 16 → 96 ≡ end - at
+      bytes s = omega (arith, s, ends_at)
+  left_record false isnt =
+      let first : (at == at + size) ≡ false = nat_isnt (inl (omega (arith, long))) in
+      let second = nat_same (at + size) in
+      let bytes : 80 ≡ end - (at + size) = omega (arith, ends_at) in
+      rw (first, second) (λ i. Some (extent (at + size) (bytes i) Record))
+
+  -- no block, and no other chunk, is
+  pub left_other : (b : Bool) (k : ℕ) (one : Extent) → extent_at k (left b at size) ≡ Some one → one.kind ≡ Used → ⊥
+  left_other true k one there is = go (at == k) there
+    where
+      go : (b : Bool) → (if b then Some (extent at 96 Record) else None) ≡ Some one → ⊥
+      go true found = (let kind : Record ≡ one.kind = ap (λ (o : Option Extent). (unwrap_or o one).kind) found in let no : Record ≡ Used = kind ∙ is in cc)
+      go false found = cc
+  left_other false k one there is = elim (of_two k (extent at size Free) (extent (at + size) 80 Record) one there) [
+    | inl free ↦ (let no : Free ≡ Used = ap (λ (e : Extent). e.kind) free ∙ is in cc)
+    | inr tail ↦ (let no : Record ≡ Used = ap (λ (e : Extent). e.kind) tail ∙ is in cc)
+  ]

@@ -1,0 +1,70 @@
+-- What a move does to the free extents of a heap.
+use Rattle.dlmalloc.proofs.Names.{◌≡◌, ℕ, ◌⊎◌, inl, inr, Bool, true, false, ◌==◌, if◌then◌else◌, List, [], ◌∷◌, ◌++◌, Some, None, refl, sym, ◌∙◌, ap, subst, Grant, Extent, Free, IsIn, extent_at, HeapState, extents_in, state_of, IsSound, FreeMoves, Dlmalloc}
+use Rattle.dlmalloc.proofs.Extents.Lookup.{extent, nat_is, found_either, found_more}
+use Rattle.dlmalloc.proofs.Extents.OneMoreUsed.{AreDistinct}
+use Rattle.dlmalloc.proofs.Segments.Among.{distinct_later}
+use Rattle.dlmalloc.proofs.Moves.OfHeaps.{IsStep, before, behind, all_old, all_new, distinct_old, distinct_new}
+
+-- some extent begins at an address
+abbrev pub IsThere : ℕ → List Extent → Type 0
+IsThere k extents = (one : Extent) × (extent_at k extents ≡ Some one)
+
+-- of two lists of distinct extents one alone has an extent at an address
+not_both : (front back : List Extent) (k : ℕ) (one other : Extent) → AreDistinct (front ++ back) → extent_at k front ≡ Some one → extent_at k back ≡ Some other → ⊥
+not_both [] back k one other apart here there = (let some = here in cc)
+not_both (first ∷ front) back k one other apart here there = go (first.at == k) refl here (λ later. not_both front back k one other apart.1 later there)
+  where
+    go : (b : Bool) → (first.at == k) ≡ b → (if b then Some first else extent_at k front) ≡ Some one → (extent_at k front ≡ Some one → ⊥) → ⊥
+    go true test is rest = (let none = subst (λ (a : ℕ). extent_at a (front ++ back) ≡ None) (nat_is test) apart.0 in let some = distinct_later front back k other apart.1 there in cc)
+    go false test is rest = rest is
+
+distinct_second : (front back : List Extent) → AreDistinct (front ++ back) → AreDistinct back
+distinct_second [] back apart = apart
+distinct_second (first ∷ front) back apart = distinct_second front back apart.1
+
+-- Some extents give way to others. A free one that is not of those at the addresses `gone` is found as before, and at no
+-- address of those that come.
+module _ (front less more back : List Extent) (apart : AreDistinct (front ++ (more ++ back))) (gone come : List ℕ)
+    (in_less : (k size : ℕ) → extent_at k less ≡ Some (extent k size Free) → IsIn k gone) (come_there : (k : ℕ) → IsIn k come → IsIn k gone ⊎ IsThere k more) where
+  pub free_stays : (k size : ℕ) → extent_at k (front ++ (less ++ back)) ≡ Some (extent k size Free) → (IsIn k gone → ⊥) → (extent_at k (front ++ (more ++ back)) ≡ Some (extent k size Free)) × (IsIn k come → ⊥)
+  free_stays k size free out = elim (found_either k front (less ++ back) (extent k size Free) free) [
+    | inl first ↦ (
+      found_more k front (more ++ back) (extent k size Free) first,
+      λ came. elim (come_there k came) [
+        | inl left ↦ out left
+        | inr there ↦ not_both front (more ++ back) k (extent k size Free) there.0 apart first (found_more k more back there.0 there.1)
+      ],
+    )
+    | inr later ↦ elim (found_either k less back (extent k size Free) later.1) [
+      | inl here ↦ absurd (out (in_less k size here))
+      | inr last ↦ (
+        distinct_later front (more ++ back) k (extent k size Free) apart (distinct_later more back k (extent k size Free) (distinct_second front (more ++ back) apart) last.1),
+        λ came. elim (come_there k came) [
+          | inl left ↦ out left
+          | inr there ↦ not_both more back k there.0 (extent k size Free) (distinct_second front (more ++ back) apart) there.1 last.1
+        ],
+      )
+    ]
+  ]
+
+-- so the free extents of two heaps are, whose extents differ so
+pub free_changes : (old new : HeapState) (front less more back : List Extent) → extents_in old ≡ front ++ (less ++ back) → extents_in new ≡ front ++ (more ++ back) → AreDistinct (extents_in old) → AreDistinct (extents_in new) → (gone come : List ℕ) →
+    ((k size : ℕ) → extent_at k less ≡ Some (extent k size Free) → IsIn k gone) → ((k size : ℕ) → extent_at k more ≡ Some (extent k size Free) → IsIn k come) →
+    ((k : ℕ) → IsIn k gone → IsIn k come ⊎ IsThere k less) → ((k : ℕ) → IsIn k come → IsIn k gone ⊎ IsThere k more) → FreeMoves old new gone come
+free_changes old new front less more back was is apart apart' gone come in_less in_more gone_there come_there = record {
+  stays = λ k size free out.
+      let found = free_stays front less more back (subst AreDistinct is apart') gone come in_less come_there k size (ap (extent_at k) (sym was) ∙ free) out in
+      (ap (extent_at k) is ∙ found.0, found.1);
+  was = λ k size free out.
+      let found = free_stays front more less back (subst AreDistinct was apart) come gone in_more gone_there k size (ap (extent_at k) (sym is) ∙ free) out in
+      (ap (extent_at k) was ∙ found.0, found.1);
+}
+
+-- and those before and after a step
+module _ {A : Type 0} (regions : A → List Grant) (word : A → ℕ → ℕ) (heap new : Dlmalloc A) (sound : IsSound regions word heap) (less more : List Extent) (step : IsStep regions word heap new less more) (gone come : List ℕ)
+    (in_less : (k size : ℕ) → extent_at k less ≡ Some (extent k size Free) → IsIn k gone) (in_more : (k size : ℕ) → extent_at k more ≡ Some (extent k size Free) → IsIn k come)
+    (gone_there : (k : ℕ) → IsIn k gone → IsIn k come ⊎ IsThere k less) (come_there : (k : ℕ) → IsIn k come → IsIn k gone ⊎ IsThere k more) where
+  pub free_moves : FreeMoves (state_of word heap) (state_of word new) gone come
+  free_moves = free_changes (state_of word heap) (state_of word new) (before regions word heap new sound less more step) less more (behind regions word heap new sound less more step)
+      (all_old regions word heap new sound less more step) (all_new regions word heap new sound less more step) (distinct_old regions word heap new sound less more step) (distinct_new regions word heap new sound less more step)
+      gone come in_less in_more gone_there come_there

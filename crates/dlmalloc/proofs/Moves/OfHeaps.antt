@@ -1,0 +1,203 @@
+-- What a move leaves of a heap.
+use Rattle.dlmalloc.proofs.Names.{◌≡◌, ◌≢◌, ℕ, suc, ◌+◌, ◌/◌, ◌^◌, ◌<◌, ◌≤◌, inl, inr, Bool, true, false, ◌==◌, if◌then◌else◌, List, [], ◌∷◌, ◌++◌, Option, Some, None, refl, sym, ◌∙◌, ap, subst, arith, append_assoc, length, nat_tests, Grant, Extent, Free, Used, extent_at, chunks_from, Segment, extents_in, top_and_foot, OnlyBoundariesChange, HasOneMore, HasMore, used_of, AreSegments, AreApart, records_from, segments_of, state_of, AreTold, IsGranularity, IsSound, Dlmalloc}
+use Rattle.dlmalloc.proofs.Extents.Lookup.{extent, nat_isnt, found_either, found_more}
+use Rattle.dlmalloc.proofs.Extents.FromWords.{read_top, records_read, records_few}
+use Rattle.dlmalloc.proofs.Extents.OneMoreUsed.{AreDistinct, more_between, one_more, used_append, used_there, used_back}
+use Rattle.dlmalloc.proofs.Segments.Among.{extents_all, all_among, as_many, all_distinct, distinct_later}
+use Rattle.dlmalloc.proofs.Segments.OneReplaced.{IsChanged, all_spared, segments_after, apart_after}
+
+-- ---- the segments that are read are those that are told
+
+pub segments_read : {A : Type 0} (regions : List Grant) (word : A → ℕ → ℕ) (heap : Dlmalloc A) (segments : List Segment) →
+    AreSegments regions (word heap.system) segments → AreTold (word heap.system) heap segments → length segments ≤ suc (2 ^ 64) → segments_of word heap ≡ segments
+segments_read regions word heap [] parts told few = (let none : (heap.size == 0) ≡ true = grind (arith, nat_tests) in rw none refl)
+segments_read regions word heap (segment ∷ segments) parts told few =
+    let words = word heap.system in
+    let some : (heap.size == 0) ≡ false = nat_isnt (inr told.0) in
+    let extents : chunks_from words (heap.size / 16) heap.base heap.top ++ top_and_foot heap.top (heap.base + heap.size) ≡ segment.extents =
+    (λ i. chunks_from words (told.2 i / 16) (told.1 i) heap.top ++ top_and_foot heap.top (told.1 i + told.2 i)) ∙ read_top regions words segment parts.0 heap.top heap.top_size told.4 in
+    rw some (λ i. (record { base = told.1 i; size = told.2 i; flags = told.3 i; extents = extents i })
+    ∷ records_read regions words (2 ^ 64) heap.next segments (omega (arith, few)) parts.1 told.5 i)
+
+-- they are no more than can be read
+pub segments_few : {A : Type 0} (word : A → ℕ → ℕ) (heap : Dlmalloc A) → length (segments_of word heap) ≤ suc (2 ^ 64)
+segments_few word heap = go (heap.size == 0)
+  where
+    head : Segment
+    head = record { base = heap.base; size = heap.size; flags = heap.flags; extents = chunks_from (word heap.system) (heap.size / 16) heap.base heap.top ++ top_and_foot heap.top (heap.base + heap.size) }
+
+    go : (b : Bool) → length (if b then [] else head ∷ records_from (word heap.system) (2 ^ 64) heap.next) ≤ suc (2 ^ 64)
+    go true = omega arith
+    go false = let few = records_few (word heap.system) (2 ^ 64) heap.next in omega arith
+
+-- ---- a move, and the heap that it leaves
+
+-- In one segment some extents give way to others, and the new heap is told the new segment in its place.
+pub record IsStep {A : Type 0} (regions : A → List Grant) (word : A → ℕ → ℕ) (heap new : Dlmalloc A) (less more : List Extent) : Type 0 where
+  pub front : List Segment
+  pub segment : Segment
+  pub back : List Segment
+  pub is : segments_of word heap ≡ front ++ segment ∷ back
+  pub now : Segment
+  pub first : List Extent
+  pub last : List Extent
+  pub old_extents : segment.extents ≡ first ++ (less ++ last)
+  pub new_extents : now.extents ≡ first ++ (more ++ last)
+  pub changed : IsChanged (regions heap.system) (regions new.system) (word heap.system) (word new.system) segment now
+  pub told : AreTold (word new.system) new (front ++ now ∷ back)
+
+module _ {A : Type 0} (regions : A → List Grant) (word : A → ℕ → ℕ) (heap new : Dlmalloc A) (sound : IsSound regions word heap) (less more : List Extent) (step : IsStep regions word heap new less more) where
+  was_segments : AreSegments (regions heap.system) (word heap.system) (step.front ++ step.segment ∷ step.back)
+  was_segments = subst (AreSegments (regions heap.system) (word heap.system)) step.is sound.segments
+
+  was_apart : AreApart (step.front ++ step.segment ∷ step.back)
+  was_apart = subst AreApart step.is sound.apart
+
+  now_segments : AreSegments (regions new.system) (word new.system) (step.front ++ step.now ∷ step.back)
+  now_segments = segments_after (regions heap.system) (regions new.system) (word heap.system) (word new.system) step.segment step.now step.changed step.front step.back was_apart was_segments
+
+  now_apart : AreApart (step.front ++ step.now ∷ step.back)
+  now_apart = apart_after (regions heap.system) (regions new.system) (word heap.system) (word new.system) step.segment step.now step.changed step.front step.back was_apart was_segments
+
+  -- the segments of the new heap
+  pub read : segments_of word new ≡ step.front ++ step.now ∷ step.back
+  read = segments_read (regions new.system) word new (step.front ++ step.now ∷ step.back) now_segments step.told
+      (subst (λ (n : ℕ). n ≤ suc (2 ^ 64)) (ap length step.is ∙ as_many step.front step.segment step.now step.back) (segments_few word heap))
+
+  pub segments_now : AreSegments (regions new.system) (word new.system) (segments_of word new)
+  segments_now = subst (AreSegments (regions new.system) (word new.system)) (sym read) now_segments
+
+  pub apart_now : AreApart (segments_of word new)
+  apart_now = subst AreApart (sym read) now_apart
+
+  -- all extents, before and after
+  abbrev pub before : List Extent
+  before = extents_all step.front ++ step.first
+
+  abbrev pub behind : List Extent
+  behind = step.last ++ extents_all step.back
+
+  around : (segment : Segment) (run : List Extent) → segment.extents ≡ step.first ++ (run ++ step.last) → extents_all (step.front ++ segment ∷ step.back) ≡ before ++ (run ++ behind)
+  around segment run is =
+      all_among step.front segment step.back ∙ (ap (λ (es : List Extent). extents_all step.front ++ (es ++ extents_all step.back)) is
+      ∙ (ap (λ (es : List Extent). extents_all step.front ++ es) (append_assoc step.first (run ++ step.last) (extents_all step.back) ∙ ap (λ (es : List Extent). step.first ++ es) (append_assoc run step.last (extents_all step.back)))
+      ∙ sym (append_assoc (extents_all step.front) step.first (run ++ behind))))
+
+  pub all_old : extents_in (state_of word heap) ≡ before ++ (less ++ behind)
+  all_old = ap extents_all step.is ∙ around step.segment less step.old_extents
+
+  pub all_new : extents_in (state_of word new) ≡ before ++ (more ++ behind)
+  all_new = ap extents_all read ∙ around step.now more step.new_extents
+
+  pub distinct_old : AreDistinct (extents_in (state_of word heap))
+  distinct_old = all_distinct (regions heap.system) (word heap.system) (segments_of word heap) sound.segments sound.apart
+
+  pub distinct_new : AreDistinct (extents_in (state_of word new))
+  distinct_new = all_distinct (regions new.system) (word new.system) (segments_of word new) segments_now apart_now
+
+  distinct : AreDistinct (before ++ (more ++ behind))
+  distinct = subst AreDistinct all_new distinct_new
+
+  distinct_second : (one other : List Extent) → AreDistinct (one ++ other) → AreDistinct other
+  distinct_second [] other d = d
+  distinct_second (extent ∷ one) other d = distinct_second one other d.1
+
+  -- one of the new extents is found among all
+  pub found_new : (k : ℕ) (one : Extent) → extent_at k more ≡ Some one → extent_at k (extents_in (state_of word new)) ≡ Some one
+  found_new k one there = ap (extent_at k) all_new ∙ distinct_later before (more ++ behind) k one distinct (found_more k more behind one there)
+
+  -- what is found still is, where it is found among the new ones too
+  pub found_again : (k : ℕ) (one : Extent) → (extent_at k less ≡ Some one → extent_at k more ≡ Some one) → extent_at k (extents_in (state_of word heap)) ≡ Some one → extent_at k (extents_in (state_of word new)) ≡ Some one
+  found_again k one stays there =
+      ap (extent_at k) all_new ∙ elim (found_either k before (less ++ behind) one (ap (extent_at k) (sym all_old) ∙ there)) [
+        | inl first ↦ found_more k before (more ++ behind) one first
+        | inr later ↦ distinct_later before (more ++ behind) k one distinct (elim (found_either k less behind one later.1) [
+          | inl here ↦ found_more k more behind one (stays here)
+          | inr last ↦ distinct_later more behind k one (distinct_second before (more ++ behind) distinct) last.1
+        ])
+      ]
+
+  -- what is found was there, where it was found among the old ones too
+  pub found_before : (k : ℕ) (one : Extent) → (extent_at k more ≡ Some one → extent_at k less ≡ Some one) → extent_at k (extents_in (state_of word new)) ≡ Some one → extent_at k (extents_in (state_of word heap)) ≡ Some one
+  found_before k one stays there =
+      ap (extent_at k) all_old ∙ elim (found_either k before (more ++ behind) one (ap (extent_at k) (sym all_new) ∙ there)) [
+        | inl first ↦ found_more k before (less ++ behind) one first
+        | inr later ↦ distinct_later before (less ++ behind) k one was_distinct (elim (found_either k more behind one later.1) [
+          | inl here ↦ found_more k less behind one (stays here)
+          | inr last ↦ distinct_later less behind k one (distinct_second before (less ++ behind) was_distinct) last.1
+        ])
+      ]
+    where
+      was_distinct : AreDistinct (before ++ (less ++ behind))
+      was_distinct = subst AreDistinct all_old distinct_old
+
+  -- all granted words stay but those at boundaries
+  pub keeps_words : OnlyBoundariesChange (regions heap.system) (state_of word new) (word heap.system) (word new.system)
+  keeps_words k inside apart = step.changed.kept k inside (all_spared (state_of word new) k step.now.extents
+      (distinct_front step.now.extents (extents_all step.back) (distinct_second (extents_all step.front) (step.now.extents ++ extents_all step.back) among))
+      (λ extent there. ap (extent_at extent.at) now_all ∙ distinct_later (extents_all step.front) (step.now.extents ++ extents_all step.back) extent.at extent among (found_more extent.at step.now.extents (extents_all step.back) extent there)) apart)
+    where
+      now_all : extents_in (state_of word new) ≡ extents_all step.front ++ (step.now.extents ++ extents_all step.back)
+      now_all = ap extents_all read ∙ all_among step.front step.now step.back
+
+      among : AreDistinct (extents_all step.front ++ (step.now.extents ++ extents_all step.back))
+      among = subst AreDistinct now_all distinct_new
+
+      none_first : (k : ℕ) (one other : List Extent) → extent_at k (one ++ other) ≡ None → extent_at k one ≡ None
+      none_first k one other none = go (extent_at k one) refl
+        where
+          go : (o : Option Extent) → extent_at k one ≡ o → o ≡ None
+          go None is = refl
+          go (Some extent) is = absurd (let some = found_more k one other extent is in cc)
+
+      distinct_front : (one other : List Extent) → AreDistinct (one ++ other) → AreDistinct one
+      distinct_front [] other d = tt
+      distinct_front (extent ∷ one) other d = (none_first extent.at one other d.0, distinct_front one other d.1)
+
+  -- it is sound, where the victim is one of its extents
+  pub keeps_sound : IsGranularity new.granularity → 0 < new.size →
+      (new.victim_size ≡ 0 → new.victim ≡ 0) → (new.victim_size ≢ 0 → extent_at new.victim (extents_in (state_of word new)) ≡ Some (extent new.victim new.victim_size Free)) → IsSound regions word new
+  keeps_sound granularity some none named = record {
+    granularity = granularity;
+    segments = segments_now;
+    apart = apart_now;
+    told = subst (AreTold (word new.system) new) (sym read) step.told;
+    none = λ gone. absurd (omega (arith, gone, some));
+    no_victim = none;
+    victim = named;
+  }
+
+  -- ---- extents in use
+
+  pub has_more : (one : Extent) → HasMore less more one → HasOneMore (state_of word heap) (state_of word new) one.at
+  has_more one h = one_more (state_of word heap) (state_of word new) one distinct_old distinct_new
+      (subst (λ (es : List Extent). HasMore es (extents_in (state_of word new)) one) (sym all_old) (subst (λ (es : List Extent). HasMore (before ++ (less ++ behind)) es one) (sym all_new) (more_between before less more behind one h)))
+
+  pub has_less : (one : Extent) → HasMore more less one → HasOneMore (state_of word new) (state_of word heap) one.at
+  has_less one h = one_more (state_of word new) (state_of word heap) one distinct_new distinct_old
+      (subst (λ (es : List Extent). HasMore es (extents_in (state_of word heap)) one) (sym all_new) (subst (λ (es : List Extent). HasMore (before ++ (more ++ behind)) es one) (sym all_old) (more_between before more less behind one h)))
+
+  -- where as many are in use, the same are
+  same_used : used_of less ≡ used_of more → used_of (extents_in (state_of word heap)) ≡ used_of (extents_in (state_of word new))
+  same_used same = ap used_of all_old ∙ (used_append before (less ++ behind) ∙ (ap (λ (es : List Extent). used_of before ++ es) (used_append less behind ∙ (ap (λ (es : List Extent). es ++ used_of behind) same ∙ sym (used_append more behind)))
+      ∙ sym (used_append before (more ++ behind)))) ∙ ap used_of (sym all_new)
+
+  pub used_still : used_of less ≡ used_of more → (k : ℕ) (used : Extent) → used.kind ≡ Used → extent_at k (extents_in (state_of word heap)) ≡ Some used → extent_at k (extents_in (state_of word new)) ≡ Some used
+  used_still same k used is there = used_back k (extents_in (state_of word new)) used distinct_new (ap (extent_at k) (sym (same_used same)) ∙ used_there k (extents_in (state_of word heap)) used is there)
+
+  pub used_before : used_of less ≡ used_of more → (k : ℕ) (used : Extent) → used.kind ≡ Used → extent_at k (extents_in (state_of word new)) ≡ Some used → extent_at k (extents_in (state_of word heap)) ≡ Some used
+  used_before same k used is there = used_back k (extents_in (state_of word heap)) used distinct_old (ap (extent_at k) (same_used same) ∙ used_there k (extents_in (state_of word new)) used is there)
+
+  -- there is a head segment
+  pub some_there : 0 < heap.size
+  some_there = go step.front (subst (AreTold (word heap.system) heap) step.is sound.told)
+    where
+      go : (front : List Segment) → AreTold (word heap.system) heap (front ++ step.segment ∷ step.back) → 0 < heap.size
+      go [] h = h.0
+      go (first ∷ front) h = h.0
+
+  -- it is sound where the head segment's size stayed
+  pub stays_sound : regions new.system ≡ regions heap.system → new.granularity ≡ heap.granularity → new.base ≡ heap.base → new.size ≡ heap.size → new.flags ≡ heap.flags →
+      (new.victim_size ≡ 0 → new.victim ≡ 0) → (new.victim_size ≢ 0 → extent_at new.victim (extents_in (state_of word new)) ≡ Some (extent new.victim new.victim_size Free)) → IsSound regions word new
+  stays_sound same granularity base size flags none named =
+      keeps_sound (subst IsGranularity (sym granularity) sound.granularity) (subst (λ (n : ℕ). 0 < n) (sym size) some_there) none named

@@ -1,0 +1,110 @@
+-- A chunk in use, and the extent behind it, of which it takes bytes.
+use Rattle.dlmalloc.proofs.Names.{◌≡◌, ◌≢◌, ℕ, ◌+◌, ◌%◌, ◌^◌, ◌<◌, ◌≤◌, ◌⊎◌, inl, inr, List, [], ◌∷◌, ◌++◌, Some, refl, sym, ◌∙◌, ap, subst, arith, Grant, HasHead, Extent, Kind, Used, Free, extent_at, Segment, extents_in, OnlyBoundariesChange, cut, joined, grown_into, HasSameOthers, IsRunOf, segments_of, state_of, IsSound, Dlmalloc}
+use Rattle.dlmalloc.proofs.Extents.Lookup.{extent, found_either}
+use Rattle.dlmalloc.proofs.Extents.Tiling.{tiles_le}
+use Rattle.dlmalloc.proofs.Resizing.EnlargedWords.{both_run}
+use Rattle.dlmalloc.proofs.Segments.Among.{with_extents}
+use Rattle.dlmalloc.proofs.Moves.OfHeaps.{IsStep, read, found_new, found_again, found_before, keeps_words, stays_sound}
+use Rattle.dlmalloc.proofs.Extents.RunReplaced.{run_of, HasNext, has_next, with_next, run_part, run_word}
+use Rattle.dlmalloc.proofs.Cuts.FreeChunk.{found_one}
+
+-- A chunk in use took bytes of the extent behind it, so that it has so many.
+pub record IsEnlarged {A : Type 0} (regions : A → List Grant) (word : A → ℕ → ℕ) (old : Dlmalloc A) (chunk behind : Extent) (n whole : ℕ) (new : Dlmalloc A) : Type 0 where
+  pub state : state_of word new ≡ grown_into (state_of word old) chunk behind n
+  pub held : extent_at chunk.at (extents_in (state_of word new)) ≡ Some (extent chunk.at whole Used)
+  pub others : HasSameOthers (state_of word old) (state_of word new) chunk.at chunk.at
+  pub sound : IsSound regions word new
+  pub words : OnlyBoundariesChange (regions old.system) (state_of word new) (word old.system) (word new.system)
+
+-- ---- what is found among two
+
+pub in_two : (first second : Extent) (k : ℕ) (one : Extent) → extent_at k (first ∷ second ∷ []) ≡ Some one → (first ≡ one) ⊎ (second ≡ one)
+in_two first second k one found =
+    elim (found_either k (first ∷ []) (second ∷ []) one found) [
+      | inl here ↦ inl (found_one k first one here)
+      | inr behind ↦ inr (found_one k second one behind.1)
+    ]
+
+-- none of them is of a kind that they have not
+pub no_kind : (first second : Extent) (kind : Kind) → first.kind ≢ kind → second.kind ≢ kind → (k : ℕ) (one : Extent) → extent_at k (first ∷ second ∷ []) ≡ Some one → one.kind ≢ kind
+no_kind first second kind no_first no_second k one found is =
+    elim (in_two first second k one found) [
+      | inl here ↦ no_first (ap (λ (e : Extent). e.kind) here ∙ is)
+      | inr behind ↦ no_second (ap (λ (e : Extent). e.kind) behind ∙ is)
+    ]
+
+-- and but for the first none is in use, where the second is not
+pub no_other : (first second : Extent) → second.kind ≢ Used → (used : Extent) → used.kind ≡ Used → used.at ≢ first.at → extent_at used.at (first ∷ second ∷ []) ≡ Some used → ⊥
+no_other first second free used is other found =
+    elim (in_two first second used.at used found) [
+      | inl here ↦ other (ap (λ (e : Extent). e.at) (sym here))
+      | inr behind ↦ free (ap (λ (e : Extent). e.kind) behind ∙ is)
+    ]
+
+-- ---- the two
+
+module _ {A : Type 0} (regions : A → List Grant) (word : A → ℕ → ℕ) (heap : Dlmalloc A) (sound : IsSound regions word heap) (at size : ℕ)
+    (there : extent_at at (extents_in (state_of word heap)) ≡ Some (extent at size Used)) where
+  abbrev segments : List Segment
+  segments = segments_of word heap
+
+  abbrev words : ℕ → ℕ
+  words = word heap.system
+
+  abbrev chunk : Extent
+  chunk = extent at size Used
+
+  abbrev pub one : IsRunOf words segments at (at + size) (chunk ∷ [])
+  one = run_of (regions heap.system) words segments sound.segments chunk there
+
+  abbrev pub next : HasNext one.last
+  next = has_next (regions heap.system) words segments sound.segments at (at + size) (chunk ∷ []) one refl
+
+  module _ (length : ℕ) (kind : Kind) (is : next.next ≡ extent (at + size) length kind) where
+    abbrev behind : Extent
+    behind = extent (at + size) length kind
+
+    pub two : IsRunOf words segments at (at + size + length) (chunk ∷ behind ∷ [])
+    two = subst (λ (e : Extent). IsRunOf words segments at (at + size + e.size) (chunk ∷ e ∷ [])) is (with_next (regions heap.system) words segments sound.segments at (at + size) (chunk ∷ []) one next)
+
+    pub low : two.segment.base ≤ at
+    low = tiles_le words Used two.segment.base two.first at two.first_stand
+
+    pub high : at + size + length ≤ two.segment.base + two.segment.size
+    high = tiles_le words kind (at + size + length) two.last (two.segment.base + two.segment.size) two.last_stand
+
+    pub end_small : two.segment.base + two.segment.size < 2 ^ 64
+    end_small = (run_part (regions heap.system) words segments sound.segments at (at + size + length) (chunk ∷ behind ∷ []) two).high
+
+    pub head_there : (k : ℕ) → at ≤ k → k + 16 ≤ two.segment.base + two.segment.size → k % 8 ≡ 0 → HasHead (regions heap.system) k
+    head_there k above below m = record {
+      aligned = m;
+      small = omega (arith, end_small, below);
+      granted = run_word (regions heap.system) words segments sound.segments at (at + size + length) (chunk ∷ behind ∷ []) two (k + 8) (omega (arith, low, above)) (omega arith) (omega (arith, m));
+    }
+
+    -- what a step leaves, in which the chunk takes bytes
+    module _ (n whole : ℕ) (system : A) (same : regions system ≡ regions heap.system) (top top_size victim victim_size : ℕ) where
+      abbrev after : Dlmalloc A
+      after = record heap { system = system; top = top; top_size = top_size; victim = victim; victim_size = victim_size }
+
+      pub enlarged : (less more others : List Extent) (step : IsStep regions word heap after less more) →
+          step.front ++ step.now ∷ step.back ≡ two.front ++ with_extents two.segment (two.first ++ (others ++ two.last)) ∷ two.back → cut n (joined chunk behind) ≡ others →
+          extent_at at more ≡ Some (extent at whole Used) →
+          ((used : Extent) → used.kind ≡ Used → used.at ≢ at → extent_at used.at less ≡ Some used → extent_at used.at more ≡ Some used) →
+          ((used : Extent) → used.kind ≡ Used → used.at ≢ at → extent_at used.at more ≡ Some used → extent_at used.at less ≡ Some used) →
+          (victim_size ≡ 0 → victim ≡ 0) → (victim_size ≢ 0 → extent_at victim (extents_in (state_of word after)) ≡ Some (extent victim victim_size Free)) →
+          victim ≡ (grown_into (state_of word heap) chunk behind n).victim → IsEnlarged regions word heap chunk behind n whole after
+      enlarged less more others step now parts held kept only none named left = record {
+        state = (
+            let segments_are = read regions word heap after sound less more step ∙ (now ∙ (ap (λ (es : List Extent). two.front ++ with_extents two.segment (two.first ++ (es ++ two.last)) ∷ two.back) (sym parts)
+            ∙ sym (both_run (regions heap.system) words segments sound.segments sound.apart chunk behind (at + size + length) (λ one behind. cut n (joined one behind)) two))) in
+            λ i. record { segments = segments_are i; victim = left i; granularity = heap.granularity; rate = heap.rate; countdown = heap.countdown; trim_check = heap.trim_check });
+        held = found_new regions word heap after sound less more step at (extent at whole Used) held;
+        others = record {
+          kept = λ used is other again there. found_again regions word heap after sound less more step used.at used (kept used is other) there;
+          only = λ used is other again there. found_before regions word heap after sound less more step used.at used (only used is other) there;
+        };
+        sound = stays_sound regions word heap after sound less more step same refl refl refl refl none named;
+        words = keeps_words regions word heap after sound less more step;
+      }

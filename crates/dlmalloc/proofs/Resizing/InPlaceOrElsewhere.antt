@@ -1,0 +1,227 @@
+-- A block gets another size: where it stands, or elsewhere with its words.
+use Rattle.dlmalloc.proofs.Names.{◌≡◌, ◌≢◌, ℕ, ◌+◌, ◌-◌, ◌*◌, ◌/◌, ◌%◌, ◌<◌, ◌≤◌, ◌⊎◌, inl, inr, min, Bool, true, false, not, ◌==◌, if◌then◌else◌, List, [], ◌∷◌, Option, Some, IsTrue, refl, sym, ◌∙◌, ap, subst, arith, unwrap_or, option_map, IfSome, Grant, Event, is_granted, AreWordsOf, IsBeside, AreCopied, padded, limit, Extent, Used, extent_at, HeapState, extents_in, size_where, IsBlock, HasOneMore, KeepsBlocks, in_place, HasSameOthers, IndexStays, IsBinned, state_of, IsSound, IsTurned, IsFreed, IsServedAt, words_in, IsSameHeap, IsInPlace, KeepsOrder, Dlmalloc}
+use Rattle.dlmalloc.specs.Moved.{others_at}
+use Rattle.dlmalloc.proofs.Extents.Lookup.{extent, the_extent, found, nat_is, nat_same}
+use Rattle.dlmalloc.proofs.Resizing.Split.{differ}
+use Rattle.dlmalloc.proofs.Blocks.WordsKept.{not_in_free, kept_in, blocks_law}
+use Rattle.dlmalloc.proofs.Laws.{used_inside, used_apart}
+use Rattle.dlmalloc.proofs.Blocks.Chunks.{blocks_apart}
+use Rattle.dlmalloc.proofs.Blocks.Words.{block_words, same_heap, served_block, same_binned}
+
+place_found : (k : ℕ) (extents : List Extent) (one : Extent) → extent_at k extents ≡ Some one → one.at ≡ k
+place_found k extents one there = (found k one extents there).place
+
+-- a block is one of as many bytes as its chunk has room for
+pub widest : (heap : HeapState) (ptr n : ℕ) (block : IsBlock heap ptr n) → IsBlock heap ptr (block.extent.size - 8)
+widest heap ptr n block = let holds = block.holds in record {
+  extent = block.extent;
+  there = block.there;
+  low = block.low;
+  used = block.used;
+  holds = omega arith;
+  little = omega arith;
+}
+
+-- the size that is found at an address
+pub size_at : (heap : HeapState) (at : ℕ) (one : Extent) → extent_at at (extents_in heap) ≡ Some one → size_where (λ extent. extent.at == at) (extents_in heap) ≡ one.size
+size_at heap at one there = ap (λ (o : Option Extent). unwrap_or (option_map (λ (extent : Extent). extent.size) o) 0) there
+
+-- its chunk
+pub chunk_there : (heap : HeapState) (ptr n : ℕ) (block : IsBlock heap ptr n) → extent_at (ptr - 16) (extents_in heap) ≡ Some (extent (ptr - 16) block.extent.size Used)
+chunk_there heap ptr n block = block.there ∙ (λ i. Some (extent ((found (ptr - 16) block.extent (extents_in heap) block.there).place i) block.extent.size (block.used i)))
+
+-- where an address is told, a block is there
+pub block_told : (heap : HeapState) (ptr : Option ℕ) (address : ℕ) → ptr ≡ Some address → IfSome ptr (λ at. (size : ℕ) × IsBlock heap at size) → (size : ℕ) × IsBlock heap address size
+block_told heap ptr address is block = subst (λ (o : Option ℕ). IfSome o (λ at. (size : ℕ) × IsBlock heap at size)) is block
+
+-- what is found among the others is found, and elsewhere
+pub other_there : (at : ℕ) (extents : List Extent) (k : ℕ) (one : Extent) → extent_at k (others_at at extents) ≡ Some one → (one.at ≢ at) × (extent_at k extents ≡ Some one)
+other_there at [] k one there = absurd (cc)
+other_there at (first ∷ extents) k one there = go (first.at == at) (first.at == k) refl refl (λ later. other_there at extents k one later)
+  where
+    go : (here is : Bool) → (first.at == at) ≡ here → (first.at == k) ≡ is → (extent_at k (others_at at extents) ≡ Some one → (one.at ≢ at) × (extent_at k extents ≡ Some one)) →
+        (one.at ≢ at) × (extent_at k (first ∷ extents) ≡ Some one)
+    go true is at_first at_k rest =
+        let later = rest (subst (λ (b : Bool). extent_at k (if not b then first ∷ others_at at extents else others_at at extents) ≡ Some one) at_first there) in
+        let apart : (first.at == k) ≡ false = differ first.at k (λ same. later.0 (place_found k extents one later.1 ∙ (sym same ∙ nat_is at_first))) in
+        (later.0, rw apart later.1)
+    go false true at_first at_k rest =
+        let with_first : extent_at k (first ∷ others_at at extents) ≡ Some one = subst (λ (b : Bool). extent_at k (if not b then first ∷ others_at at extents else others_at at extents) ≡ Some one) at_first there in
+        let same : Some first ≡ Some one = subst (λ (b : Bool). (if b then Some first else extent_at k (others_at at extents)) ≡ Some one) at_k with_first in (
+          (λ place. (
+              let is : first.at ≡ at = ap (λ (e : Extent). e.at) (the_extent same) ∙ place in
+              let yes : (first.at == at) ≡ true = rw is (nat_same at) in
+              let no : true ≡ false = sym yes ∙ at_first in cc)),
+          rw at_k same,
+        )
+    go false false at_first at_k rest =
+        let with_first : extent_at k (first ∷ others_at at extents) ≡ Some one = subst (λ (b : Bool). extent_at k (if not b then first ∷ others_at at extents else others_at at extents) ≡ Some one) at_first there in
+        let later = rest (subst (λ (b : Bool). (if b then Some first else extent_at k (others_at at extents)) ≡ Some one) at_k with_first) in
+        (later.0, rw at_k later.1)
+
+-- ---- where it stands
+
+pub stays_there : {A : Type 0} (regions : A → List Grant) (word : A → ℕ → ℕ) (follows : A → List Event → A → Type 0) (old new : Dlmalloc A) (ptr n held size whole : ℕ) → IsSound regions word old → (block : IsBlock (state_of word old) ptr n) → held + 8 ≤ block.extent.size → size < limit old.granularity →
+    size + 8 ≤ padded size → padded size ≤ size + 32 → padded size ≤ whole → whole < padded size + 32 →
+    in_place (state_of word old) (ptr - 16) (padded size) ≡ Some (state_of word new) → extent_at (ptr - 16) (extents_in (state_of word new)) ≡ Some (extent (ptr - 16) whole Used) →
+    HasSameOthers (state_of word old) (state_of word new) (ptr - 16) (ptr - 16) → IsTurned regions word follows old new → KeepsOrder regions word old new → IsInPlace regions word follows old ptr held size new
+stays_there regions word follows old new ptr n held size whole sound block kept_bytes small holds near fits little state there others moved order = record {
+  order = order;
+  small = small;
+  state = state;
+  block = record { extent = chunk; there = there; low = block.low; used = refl; holds = omega (arith, holds, fits); little = omega (arith, near, little) };
+  others = others;
+  contents = λ k less m.
+      let inside = used_inside regions word new moved.sound chunk refl there in
+      let low = block.low in
+      kept_in regions word old new moved.sound moved.words chunk there refl (ptr + k) (omega (arith, low)) (omega (arith, low, less, holds, fits)) (record {
+        granted = subst (λ (rs : List Grant). IsTrue (is_granted rs (ptr + k))) moved.regions_same (inside.granted (ptr + k) (omega (arith, low)) (omega (arith, low, less, holds, fits)));
+        aligned = omega (arith, low, m, inside.whole);
+      })
+      (let place = (found (ptr - 16) block.extent (extents_in (state_of word old)) block.there).place in
+      not_in_free regions word old sound block.extent (ap (λ (a : ℕ). extent_at a (extents_in (state_of word old))) place ∙ block.there) block.used (ptr + k) (omega (arith, low, place)) (omega (arith, low, place, less, kept_bytes)));
+  kept = blocks_law regions word old new sound moved.sound moved.words (others_at (ptr - 16) (extents_in (state_of word old)))
+      (λ other there used.
+      let is = other_there (ptr - 16) (extents_in (state_of word old)) other.at other there in
+      (is.1, others.kept other used is.0 is.0 is.1));
+  moved = moved;
+}
+  where
+    chunk : Extent
+    chunk = extent (ptr - 16) whole Used
+
+-- ---- elsewhere
+
+-- what is held of a block is in its chunk
+pub held_there : (heap : HeapState) (ptr n held : ℕ) (block : IsBlock heap ptr n) → held + 8 ≤ size_where (λ extent. extent.at == ptr - 16) (extents_in heap) → held + 8 ≤ block.extent.size
+held_there heap ptr n held block fits = omega (arith, fits, size_at heap (ptr - 16) block.extent block.there)
+
+module _ {A : Type 0} (regions : A → List Grant) (word : A → ℕ → ℕ) (zeros : A → Bool) (follows : A → List Event → A → Type 0) (old : Dlmalloc A) (ptr held align size address n : ℕ) (sound : IsSound regions word old) (block : IsBlock (state_of word old) ptr n)
+    (fits : held + 8 ≤ size_where (λ extent. extent.at == ptr - 16) (extents_in (state_of word old))) (middle : Dlmalloc A) (served : IsServedAt regions word zeros follows old size align address middle) where
+  more : HasOneMore (state_of word old) (state_of word middle) (address - 16)
+  more = elim served [ inl few ↦ few.1.more | inr many ↦ many.1.more ]
+
+  first_kept : KeepsBlocks (extents_in (state_of word old)) (word old.system) (word middle.system)
+  first_kept = elim served [ inl few ↦ few.1.kept | inr many ↦ many.1.kept ]
+
+  pub new_block : IsSound regions word middle × IsBlock (state_of word middle) address size
+  new_block = served_block regions word zeros follows old size align address middle served
+
+  place : block.extent.at ≡ ptr - 16
+  place = (found (ptr - 16) block.extent (extents_in (state_of word old)) block.there).place
+
+  there : extent_at block.extent.at (extents_in (state_of word old)) ≡ Some block.extent
+  there = ap (λ (a : ℕ). extent_at a (extents_in (state_of word old))) place ∙ block.there
+
+  -- the old one is there still
+  still : IsBlock (state_of word middle) ptr (block.extent.size - 8)
+  still = widest (state_of word middle) ptr n (record {
+    extent = block.extent;
+    there = ap (λ (a : ℕ). extent_at a (extents_in (state_of word middle))) (sym place) ∙ more.kept block.extent block.used there;
+    low = block.low;
+    used = block.used;
+    holds = block.holds;
+    little = block.little;
+  })
+
+  few_from : min held size ≤ block.extent.size - 8
+  few_from = omega (arith, fits, size_at (state_of word old) (ptr - 16) block.extent block.there)
+
+  pub few_to : min held size ≤ size
+  few_to = omega arith
+
+  pub from_words : AreWordsOf (regions middle.system) ptr (words_in (min held size))
+  from_words = block_words regions word middle new_block.0 ptr (block.extent.size - 8) still (min held size) few_from
+
+  pub to_words : AreWordsOf (regions middle.system) address (words_in (min held size))
+  to_words = block_words regions word middle new_block.0 address size new_block.1 (min held size) few_to
+
+  pub words_apart : (ptr + 8 * words_in (min held size) ≤ address) ⊎ (address + 8 * words_in (min held size) ≤ ptr)
+  words_apart =
+      let low = block.low in let new_low = new_block.1.low in let few = few_from in
+      elim (blocks_apart regions word middle new_block.0 ptr (block.extent.size - 8) address size still new_block.1 (λ same. more.new block.extent block.used there (omega (arith, place, same)))) [
+        | inl before ↦ inl (omega (arith, few, before))
+        | inr behind ↦ inr (omega (arith, behind))
+      ]
+
+  module _ (system : A) (same : regions system ≡ regions middle.system) (followed : follows middle.system [] system)
+      (copied : AreCopied (regions middle.system) (word middle.system) ptr address (words_in (min held size)) (word system)) where
+    abbrev filled : Dlmalloc A
+    filled = record middle { system = system }
+
+    pub copied_heap : IsSameHeap regions word follows middle filled
+    copied_heap = same_heap regions word middle new_block.0 address size new_block.1 follows (min held size) few_to system same followed copied.elsewhere
+
+    abbrev pub copied_binned : IndexStays → IsBinned regions word middle → IsBinned regions word filled
+    copied_binned stays = same_binned regions word middle new_block.0 address size new_block.1 stays (min held size) few_to system same copied.elsewhere
+
+    pub copied_block : IsBlock (state_of word filled) ptr (block.extent.size - 8)
+    copied_block = subst (λ (s : HeapState). IsBlock s ptr (block.extent.size - 8)) (sym copied_heap.state) still
+
+    -- ---- and the old one was freed
+
+    module _ (frees parts : Bool) (unit : ℕ) (new : Dlmalloc A) (freed : IsFreed regions word follows frees parts unit filled ptr new) where
+      abbrev cut : Extent
+      cut = new_block.1.extent
+
+      cut_place : cut.at ≡ address - 16
+      cut_place = place_found (address - 16) (extents_in (state_of word middle)) cut new_block.1.there
+
+      cut_there : extent_at cut.at (extents_in (state_of word middle)) ≡ Some cut
+      cut_there = ap (λ (a : ℕ). extent_at a (extents_in (state_of word middle))) cut_place ∙ new_block.1.there
+
+      -- what is in use then, elsewhere, is in use in the end
+      ends : (used : Extent) → used.kind ≡ Used → extent_at used.at (extents_in (state_of word middle)) ≡ Some used → used.at ≢ ptr - 16 → extent_at used.at (extents_in (state_of word new)) ≡ Some used
+      ends used is found other = freed.less.only used is (ap (λ (s : HeapState). extent_at used.at (extents_in s)) copied_heap.state ∙ found) other
+
+      cut_new : extent_at cut.at (extents_in (state_of word new)) ≡ Some cut
+      cut_new = ends cut new_block.1.used cut_there (λ same. more.new block.extent block.used there (place ∙ (sym same ∙ cut_place)))
+
+      pub moved_block : IsBlock (state_of word new) address size
+      moved_block = record {
+        extent = cut;
+        there = ap (λ (a : ℕ). extent_at a (extents_in (state_of word new))) (sym cut_place) ∙ cut_new;
+        low = new_block.1.low;
+        used = new_block.1.used;
+        holds = new_block.1.holds;
+        little = new_block.1.little;
+      }
+
+      -- it has the bytes
+      pub moved_contents : (k : ℕ) → k < min held size → k % 8 ≡ 0 → word new.system (address + k) ≡ word old.system (ptr + k)
+      moved_contents k less m =
+          let low = block.low in let new_low = new_block.1.low in let holds = new_block.1.holds in let few = few_from in let old_holds = block.holds in
+          let whole = (used_inside regions word middle new_block.0 cut new_block.1.used cut_there).whole in
+          let old_whole = (used_inside regions word old sound block.extent block.used there).whole in
+          freed.kept.words cut cut_new new_block.1.used (address + k) (omega (arith, cut_place, new_low)) (omega (arith, cut_place, new_low, holds, less)) (omega (arith, cut_place, new_low, whole, m))
+          ∙ (copied.here k (omega (arith, less)) m
+          ∙ first_kept.words block.extent there block.used (ptr + k) (omega (arith, place, low)) (omega (arith, place, low, few, old_holds, less)) (omega (arith, place, low, old_whole, m)))
+
+      -- every other block keeps its words
+      pub moved_kept : KeepsBlocks (others_at (ptr - 16) (extents_in (state_of word old))) (word old.system) (word new.system)
+      moved_kept = record {
+        words = λ other found used k low high m.
+            let is = other_there (ptr - 16) (extents_in (state_of word old)) other.at other found in
+            let then_there = more.kept other used is.1 in
+            let inside = used_inside regions word middle new_block.0 other used then_there in
+            freed.kept.words other (ends other used then_there is.0) used k low high m
+            ∙ (copied.elsewhere k (record { granted = inside.granted k (omega (arith, low)) (omega (arith, high)); aligned = m }) (beside other used is.1 k (omega (arith, low)) high)
+            ∙ first_kept.words other is.1 used k low high m);
+        heads = λ other found used.
+            let is = other_there (ptr - 16) (extents_in (state_of word old)) other.at other found in
+            let then_there = more.kept other used is.1 in
+            let inside = used_inside regions word middle new_block.0 other used then_there in
+            freed.kept.heads other (ends other used then_there is.0) used
+            ∙ (ap (λ (w : ℕ). w / 2) (copied.elsewhere (other.at + 8) (record { granted = inside.granted (other.at + 8) (omega arith) (omega arith); aligned = omega (arith, inside.whole) })
+            (beside other used is.1 (other.at + 8) (omega arith) (omega (arith, inside.long))))
+            ∙ first_kept.heads other is.1 used);
+      }
+        where
+          beside : (other : Extent) → other.kind ≡ Used → extent_at other.at (extents_in (state_of word old)) ≡ Some other → (k : ℕ) → other.at + 8 ≤ k → k < other.at + other.size + 8 → IsBeside address (words_in (min held size)) k
+          beside other used found k low high =
+              let new_low = new_block.1.low in let holds = new_block.1.holds in
+              let size_whole = (used_inside regions word middle new_block.0 cut new_block.1.used cut_there).size_whole in
+              elim (used_apart regions word middle new_block.0 other cut (more.kept other used found) cut_there (λ same. more.new other used found (same ∙ cut_place))) [
+                | inl before ↦ inl (omega (arith, cut_place, new_low, high, before))
+                | inr behind ↦ inr (omega (arith, cut_place, new_low, holds, size_whole, low, behind))
+              ]

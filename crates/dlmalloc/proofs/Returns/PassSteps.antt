@@ -1,0 +1,31 @@
+-- How many segments a heap has after a call, and so what a release pass takes then.
+use Rattle.dlmalloc.proofs.Names.{◌≡◌, ◌≢◌, ℕ, ◌*◌, inl, inr, Bool, true, false, if◌then◌else◌, List, [], ◌∷◌, None, refl, sym, ◌∙◌, ap, length, Grant, Event, HeapState, Segment, chosen, freed, freed_in, cut_of, cut_top, is_cut, after_cut, IsFound, spans, pass_steps}
+use Rattle.std.proofs.lemmas.List.{length-map}
+
+-- a freed chunk leaves the segments
+pub freed_pass : (old : HeapState) (at : ℕ) (new : HeapState) → new ≡ freed old at → pass_steps new ≡ pass_steps old
+freed_pass old at new is = ap pass_steps is
+    ∙ ap (λ (n : ℕ). 512 * n) (length-map old.segments (λ (segment : Segment). record segment { extents = freed_in at segment.extents }))
+
+-- so does a cut of the top
+cut_pass : (less : ℕ) (segments : List Segment) (victim granularity rate countdown trim_check : ℕ) →
+    pass_steps (cut_top less (record { segments = segments; victim = victim; granularity = granularity; rate = rate; countdown = countdown; trim_check = trim_check })) ≡ 512 * length segments
+cut_pass less [] victim granularity rate countdown trim_check = refl
+cut_pass less (head ∷ rest) victim granularity rate countdown trim_check = refl
+
+pub after_cut_pass : (parts : Bool) (unit pad : ℕ) (old new : HeapState) → new ≡ after_cut parts unit pad old → pass_steps new ≡ pass_steps old
+after_cut_pass parts unit pad old new is = ap pass_steps is ∙ go (is_cut parts unit pad old)
+  where
+    go : (b : Bool) → pass_steps (if b then cut_top (cut_of old pad) old else old) ≡ pass_steps old
+    go true = cut_pass (cut_of old pad) old.segments old.victim old.granularity old.rate old.countdown old.trim_check
+    go false = refl
+
+-- and what is cut from an extent that is chosen
+pub found_pass : {A : Type 0} (follows : A → List Event → A → Type 0) (regions : A → List Grant) (system : A) (old : HeapState) (n : ℕ) (system' : A) (new : HeapState) →
+    IsFound follows regions system old n system' new → chosen old n ≢ None → pass_steps new ≡ pass_steps old
+found_pass follows regions system old n system' new (inl here) some =
+    ap (λ (k : ℕ). 512 * k) (sym (many new) ∙ (ap length here.0 ∙ many old))
+  where
+    many : (heap : HeapState) → length (spans heap) ≡ length heap.segments
+    many heap = length-map heap.segments (λ (segment : Segment). record segment { extents = [] })
+found_pass follows regions system old n system' new (inr there) some = absurd (some there.1)

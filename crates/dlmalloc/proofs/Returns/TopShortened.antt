@@ -1,0 +1,284 @@
+-- The end of the head segment goes back to the system: the heap stays sound, and its top is shorter.
+use Rattle.dlmalloc.proofs.Names.{◌≡◌, ◌≢◌, ℕ, ◌+◌, ◌-◌, ◌%◌, ◌<◌, ◌≤◌, ◌⊎◌, inl, inr, Bool, true, false, ◌==◌, if◌then◌else◌, List, [], ◌∷◌, ◌++◌, map, Option, Some, None, IsTrue, refl, sym, ◌∙◌, ap, subst, arith, append_assoc, unwrap_or, AllByRecursion, map-append, Grant, Event, Released, IsWordOf, IsWhole, IsGivenRun, without, Extent, Used, Free, Top, Record, Foot, ends_segment, extent_at, Tiles, last_kind, Segment, extents_in, trim_threshold, cut_top, IsShortened, KeepsBlocks, OnlyBoundariesChange, HasSameUsed, IsRunOf, used_of, AreChunks, IsRun, IsSegment, AreSegments, IsApartFrom, AreApart, FreeMoves, segments_of, state_of, AreTold, IsSound, Dlmalloc}
+use Rattle.heap_memory.specs.Regions.{are_whole}
+use Rattle.heap_memory.specs.RunLaws.{run_aligned}
+use Rattle.dlmalloc.specs.Trimmed.{shrunk, shortened}
+use Rattle.dlmalloc.proofs.Extents.Lookup.{extent, nat_same, found_later}
+use Rattle.dlmalloc.proofs.Extents.Tiling.{tiles_kept, tiles_append}
+use Rattle.dlmalloc.proofs.Moves.OfLists.{last_append}
+use Rattle.dlmalloc.proofs.Extents.OneMoreUsed.{AreDistinct, none_outside, used_append}
+use Rattle.dlmalloc.proofs.Extents.FromWords.{are_chunks}
+use Rattle.dlmalloc.proofs.Segments.HeadTold.{IsHead}
+use Rattle.dlmalloc.proofs.Segments.Among.{extents_all, all_distinct, back_apart}
+use Rattle.dlmalloc.proofs.Segments.ToldAnew.{KeepsIts, IsOutside, parts_stay, records_stay, apart_stay, retold, distinct, all_retold, retold_sound, same_used, replaced_found, head_tags}
+use Rattle.dlmalloc.proofs.Segments.HeadTop.{top_run, top_part, top_segment, top_front, top_last, top_low, top_whole, top_sizes, ends, end_whole, top_stands}
+use Rattle.dlmalloc.proofs.Blocks.WordsKept.{blocks_law_still}
+use Rattle.dlmalloc.proofs.Segments.RegionsLess.{given_run, run_shortened, segments_beside}
+
+-- chunks stay as they are
+map_shrunk : (less : ℕ) (chunks : List Extent) → AreChunks chunks → map (shrunk less) chunks ≡ chunks
+map_shrunk less [] are = refl
+map_shrunk less (chunk ∷ chunks) are = λ i. same are.0 i ∷ map_shrunk less chunks are.1 i
+  where
+    same : (chunk.kind ≡ Used) ⊎ (chunk.kind ≡ Free) → shrunk less chunk ≡ chunk
+    same (inl is) = rw is refl
+    same (inr is) = rw is refl
+
+-- a top and a foot are no other extent
+no_end : (top size foot : ℕ) (one : Extent) → one.kind ≢ Top → one.kind ≢ Foot → (b d : Bool) → (if b then Some (extent top size Top) else if d then Some (extent foot 80 Foot) else None) ≡ Some one → ⊥
+no_end top size foot one no_top no_foot true d found = no_top (sym (ap (λ (o : Option Extent). (unwrap_or o one).kind) found))
+no_end top size foot one no_top no_foot false true found = no_foot (sym (ap (λ (o : Option Extent). (unwrap_or o one).kind) found))
+no_end top size foot one no_top no_foot false false found = cc
+
+module _ {A : Type 0} (regions : A → List Grant) (word : A → ℕ → ℕ) (heap : Dlmalloc A) (sound : IsSound regions word heap) (some : 0 < heap.size) where
+  abbrev run : IsRunOf (word heap.system) (segments_of word heap) heap.top (heap.top + heap.top_size) (extent heap.top heap.top_size Top ∷ [])
+  run = top_run regions word heap sound some
+
+  part : IsSegment (regions heap.system) (word heap.system) run.segment
+  part = top_part regions word heap sound some
+
+  was : IsHead heap run.segment
+  was = top_segment regions word heap sound some
+
+  segments_are : segments_of word heap ≡ run.segment ∷ run.back
+  segments_are = run.is ∙ ap (λ (front : List Segment). front ++ run.segment ∷ run.back) (top_front regions word heap sound some)
+
+  parts : AreSegments (regions heap.system) (word heap.system) (run.segment ∷ run.back)
+  parts = subst (AreSegments (regions heap.system) (word heap.system)) segments_are sound.segments
+
+  apart : AreApart (run.segment ∷ run.back)
+  apart = subst AreApart segments_are sound.apart
+
+  told : AreTold (word heap.system) heap (run.segment ∷ run.back)
+  told = subst (AreTold (word heap.system) heap) segments_are sound.told
+
+  last_is : (run.last ≡ extent (run.segment.base + run.segment.size - 80) 80 Foot ∷ []) × (heap.top + heap.top_size + 80 ≡ run.segment.base + run.segment.size)
+  last_is = top_last regions word heap sound some
+
+  sizes : (heap.top_size % 16 ≡ 0) × (16 ≤ heap.top_size)
+  sizes = top_sizes regions word heap sound some
+
+  closes : heap.top + heap.top_size + 80 ≡ heap.base + heap.size
+  closes = ends regions word heap sound some
+
+  low : heap.base ≤ heap.top
+  low = top_low regions word heap sound some
+
+  head_run : IsRun (regions heap.system) heap.base heap.size heap.flags
+  head_run = subst (λ (f : ℕ). IsRun (regions heap.system) heap.base heap.size f) (sym was.flags) (subst (λ (n : ℕ). IsRun (regions heap.system) heap.base n run.segment.flags) (sym was.size) (subst (λ (b : ℕ). IsRun (regions heap.system) b run.segment.size run.segment.flags) (sym was.base) part.run))
+
+  -- its bytes can be given back
+  pub head_given : IsGivenRun (regions heap.system) heap.base (heap.base + heap.size)
+  head_given = given_run (regions heap.system) heap.base heap.size heap.flags head_run some
+
+  module _ (less : ℕ) (units : less % 16 ≡ 0) (room : less + 80 < heap.top_size) (all : AllByRecursion IsWhole (regions heap.system)) where
+    pub within : less ≤ heap.size
+    within = omega (arith, closes, low, room)
+
+    -- what is left is some bytes, in units of 16
+    pub rest_some : 0 < heap.size - less
+    rest_some = omega (arith, closes, low, room)
+
+    pub rest_whole : IsTrue (are_whole (regions heap.system)) → (heap.size - less) % 16 ≡ 0
+    rest_whole tests = omega (arith, run_aligned heap.base (heap.base + heap.size) (regions heap.system) head_given tests, end_whole regions word heap sound some, units, within)
+
+    -- ---- when they are given back
+
+    module _ (system : A) (gone : regions system ≡ without (heap.base + (heap.size - less)) (heap.base + heap.size) (regions heap.system)) where
+      rest_run : IsRun (regions system) heap.base (heap.size - less) heap.flags
+      rest_run = subst (λ (rs : List Grant). IsRun rs heap.base (heap.size - less) heap.flags) (sym gone) (run_shortened (regions heap.system) heap.base heap.size heap.flags head_run less within all)
+
+      -- a word of what is left
+      pub still_word : (k : ℕ) → heap.base ≤ k → k < heap.base + (heap.size - less) → k % 8 ≡ 0 → IsWordOf (regions system) k
+      still_word k above below m = record { granted = rest_run.covered k above below; aligned = m }
+
+      pub top_still : IsWordOf (regions system) (heap.top + 8)
+      top_still = still_word (heap.top + 8) (omega (arith, low)) (omega (arith, closes, room)) (omega (arith, top_whole regions word heap sound some))
+
+      pub foot_still : IsWordOf (regions system) (heap.base + (heap.size - less) - 72)
+      foot_still = still_word (heap.base + (heap.size - less) - 72) (omega (arith, closes, low, room)) (omega (arith, closes, low, room)) (omega (arith, end_whole regions word heap sound some, units, within, closes, low, room))
+
+      module _ (head : word system (heap.top + 8) ≡ heap.base + (heap.size - less) - 80 - heap.top + 1) (foot : word system (heap.base + (heap.size - less) - 72) ≡ 80)
+          (kept : (k : ℕ) → IsWordOf (regions system) k → k ≢ heap.top + 8 → k ≢ heap.base + (heap.size - less) - 72 → word system k ≡ word heap.system k) where
+        abbrev pub after : Dlmalloc A
+        after = record heap { system = system; size = heap.size - less; top_size = heap.base + (heap.size - less) - 80 - heap.top; trim_check = trim_threshold }
+
+        abbrev length_now : ℕ
+        length_now = heap.top_size - less
+
+        length_is : length_now ≡ heap.base + (heap.size - less) - 80 - heap.top
+        length_is = omega (arith, closes, low, room)
+
+        abbrev old : List Extent
+        old = extent heap.top heap.top_size Top ∷ extent (heap.top + heap.top_size) 80 Foot ∷ []
+
+        abbrev more : List Extent
+        more = extent heap.top length_now Top ∷ extent (heap.top + length_now) 80 Foot ∷ []
+
+        abbrev now : Segment
+        now = record { base = run.segment.base; size = run.segment.size - less; flags = run.segment.flags; extents = run.first ++ more }
+
+        now_end : heap.top + length_now + 80 ≡ run.segment.base + (run.segment.size - less)
+        now_end = omega (arith, last_is.1, room, was.base, was.size, closes, low)
+
+        now_run : IsRun (regions system) run.segment.base (run.segment.size - less) run.segment.flags
+        now_run = subst (λ (f : ℕ). IsRun (regions system) run.segment.base (run.segment.size - less) f) was.flags
+            (subst (λ (n : ℕ). IsRun (regions system) run.segment.base (n - less) heap.flags) was.size (subst (λ (b : ℕ). IsRun (regions system) b (heap.size - less) heap.flags) was.base rest_run))
+
+        -- words of the chunks before the top stay, and so do those of other segments
+        first_kept : (k : ℕ) → IsWordOf (regions system) k → k ≤ heap.top → word system k ≡ word heap.system k
+        first_kept k inside below = kept k inside (λ is. omega (arith, is, below)) (λ is. omega (arith, is, below, closes, low, room))
+
+        outside_kept : (k : ℕ) → IsWordOf (regions system) k → IsOutside run.segment k → IsOutside run.segment k → word system k ≡ word heap.system k
+        outside_kept k inside first second = kept k inside
+            (λ is. elim first [
+              | inl below ↦ omega (arith, is, below, was.base, low)
+              | inr above ↦ omega (arith, is, above, last_is.1)
+            ])
+            (λ is. elim first [
+              | inl below ↦ omega (arith, is, below, was.base, closes, low, room)
+              | inr above ↦ omega (arith, is, above, was.base, was.size, closes, low, room)
+            ])
+
+        more_stand : Tiles (word system) (last_kind Used run.first) heap.top more (run.segment.base + (run.segment.size - less))
+        more_stand =
+            let place : heap.top + length_now + 8 ≡ heap.base + (heap.size - less) - 72 = omega (arith, closes, low, room) in
+            subst (λ (end : ℕ). Tiles (word system) (last_kind Used run.first) heap.top more end) now_end
+            (top_stands (word system) (last_kind Used run.first) heap.top length_now run.here.1.kind (top_whole regions word heap sound some) (omega (arith, sizes.0, units, room)) (omega (arith, room)) (head ∙ ap (λ (n : ℕ). n + 1) (sym length_is)) (ap (word system) place ∙ foot))
+
+        is_now : IsSegment (regions system) (word system) now
+        is_now = record {
+          run = now_run;
+          low = part.low;
+          high = omega (arith, part.high);
+          long = omega (arith, now_end, room, was.base, low);
+          extents = tiles_append (word system) Used run.segment.base run.first more heap.top (run.segment.base + (run.segment.size - less))
+              (tiles_kept (word heap.system) (word system) Used run.segment.base run.first heap.top run.first_stand
+              (λ k above below m free. first_kept k (still_word k (omega (arith, above, was.base)) (omega (arith, below, closes, room)) m) below)) more_stand;
+          tail = ap ends_segment (last_append Used run.first more);
+        }
+
+        back_parts : AreSegments (regions system) (word heap.system) run.back
+        back_parts = subst (λ (rs : List Grant). AreSegments rs (word heap.system) run.back) (sym gone)
+            (segments_beside (regions heap.system) heap.base heap.size heap.flags head_run less within (word heap.system) run.segment run.back (sym was.base) (sym was.size) parts.1 apart.0)
+
+        back_keeps : AllByRecursion (KeepsIts (word heap.system) (word system)) run.back
+        back_keeps = apart_stay (regions system) (word heap.system) (word system) run.segment run.segment run.back back_parts apart.0 (back_apart [] run.segment run.back apart) outside_kept
+
+        parts_now : AreSegments (regions system) (word system) (now ∷ run.back)
+        parts_now = (is_now, parts_stay (regions system) (word heap.system) (word system) run.back back_parts back_keeps)
+
+        apart_now : AreApart (now ∷ run.back)
+        apart_now = (shorter run.back apart.0, apart.1)
+          where
+            shorter : (others : List Segment) → AllByRecursion (IsApartFrom run.segment) others → AllByRecursion (IsApartFrom now) others
+            shorter [] all = tt
+            shorter (other ∷ others) all = (elim (all.0) [ inl before ↦ inl (omega (arith, before)) | inr behind ↦ inr behind ], shorter others all.1)
+
+        where_top : extent_at heap.top now.extents ≡ Some (extent heap.top after.top_size Top)
+        where_top =
+            let here : (heap.top == heap.top) ≡ true = nat_same heap.top in
+            found_later heap.top run.first more (none_outside (word heap.system) Used run.segment.base run.first heap.top heap.top (inr (omega arith)) run.first_stand)
+            ∙ (rw here refl ∙ (λ i. Some (extent heap.top (length_is i) Top)))
+
+        told_now : AreTold (word system) after (now ∷ run.back)
+        told_now = (
+          rest_some,
+          was.base,
+          ap (λ (n : ℕ). n - less) was.size,
+          was.flags,
+          where_top,
+          records_stay (regions system) (word heap.system) (word system) run.back back_parts back_keeps heap.next told.5,
+        )
+
+        extents_were : extents_in (state_of word heap) ≡ run.first ++ (old ++ extents_all run.back)
+        extents_were =
+            ap extents_all segments_are
+            ∙ (ap (λ (es : List Extent). es ++ extents_all run.back) (run.extents ∙ ap (λ (es : List Extent). run.first ++ extent heap.top heap.top_size Top ∷ es) (last_is.0 ∙ (λ i. extent (foot_at i) 80 Foot ∷ [])))
+            ∙ append_assoc run.first old (extents_all run.back))
+          where
+            foot_at : run.segment.base + run.segment.size - 80 ≡ heap.top + heap.top_size
+            foot_at = omega (arith, last_is.1)
+
+        extents_are : extents_all (now ∷ run.back) ≡ run.first ++ (more ++ extents_all run.back)
+        extents_are = append_assoc run.first more (extents_all run.back)
+
+        distinct_now : AreDistinct (extents_all (now ∷ run.back))
+        distinct_now = distinct regions word after (now ∷ run.back) parts_now apart_now told_now
+
+        shortened_used : HasSameUsed (state_of word heap) (state_of word after)
+        shortened_used = same_used (state_of word heap) (state_of word after) (all_distinct (regions heap.system) (word heap.system) (segments_of word heap) sound.segments sound.apart)
+            (subst AreDistinct (sym (all_retold regions word after (now ∷ run.back) parts_now apart_now told_now)) distinct_now)
+            (ap used_of extents_were ∙ (used_append run.first (old ++ extents_all run.back) ∙ (sym (used_append run.first (more ++ extents_all run.back))
+            ∙ ap used_of (sym (all_retold regions word after (now ∷ run.back) parts_now apart_now told_now ∙ extents_are)))))
+
+        -- what is found, and is neither the top nor the foot, is found in both
+        still_found : (one : Extent) → one.kind ≢ Top → one.kind ≢ Foot → (k : ℕ) → extent_at k (extents_in (state_of word heap)) ≡ Some one → extent_at k (extents_all (now ∷ run.back)) ≡ Some one
+        still_found one no_top no_foot k there = replaced_found (extents_all (now ∷ run.back)) k one run.first old more (extents_all run.back) extents_are distinct_now
+            (λ found. absurd (no_end heap.top heap.top_size (heap.top + heap.top_size) one no_top no_foot (heap.top == k) (heap.top + heap.top_size == k) found)) (ap (extent_at k) (sym extents_were) ∙ there)
+
+        was_found : (one : Extent) → one.kind ≢ Top → one.kind ≢ Foot → (k : ℕ) → extent_at k (extents_all (now ∷ run.back)) ≡ Some one → extent_at k (extents_in (state_of word heap)) ≡ Some one
+        was_found one no_top no_foot k there = replaced_found (extents_in (state_of word heap)) k one run.first more old (extents_all run.back) extents_were (all_distinct (regions heap.system) (word heap.system) (segments_of word heap) sound.segments sound.apart)
+            (λ found. absurd (no_end heap.top length_now (heap.top + length_now) one no_top no_foot (heap.top == k) (heap.top + length_now == k) found)) (ap (extent_at k) (sym extents_are) ∙ there)
+
+        shortened_sound : IsSound regions word after
+        shortened_sound = retold_sound regions word after (now ∷ run.back) parts_now apart_now told_now sound.granularity rest_some sound.no_victim
+            (λ there. still_found (extent heap.victim heap.victim_size Free) (λ is. cc) (λ is. cc) heap.victim (sound.victim there))
+
+        shortened_records : (one : Extent) → one.kind ≡ Record → extent_at one.at (extents_in (state_of word after)) ≡ Some one → extent_at one.at (extents_in (state_of word heap)) ≡ Some one
+        shortened_records one is there = was_found one (λ top. let no : Record ≡ Top = sym is ∙ top in cc) (λ foot. let no : Record ≡ Foot = sym is ∙ foot in cc) one.at
+            (ap (extent_at one.at) (sym (all_retold regions word after (now ∷ run.back) parts_now apart_now told_now)) ∙ there)
+
+        shortened_free : FreeMoves (state_of word heap) (state_of word after) [] []
+        shortened_free = record {
+          stays = λ k size free out. (ap (extent_at k) (all_retold regions word after (now ∷ run.back) parts_now apart_now told_now) ∙ still_found (extent k size Free) (λ is. cc) (λ is. cc) k free, λ none. none);
+          was = λ k size free out. (was_found (extent k size Free) (λ is. cc) (λ is. cc) k (ap (extent_at k) (sym (all_retold regions word after (now ∷ run.back) parts_now apart_now told_now)) ∙ free), λ none. none);
+        }
+
+        shortened_state : state_of word after ≡ cut_top less (state_of word heap)
+        shortened_state =
+            (λ i. record { segments = segments_now i; victim = heap.victim; granularity = heap.granularity; rate = heap.rate; countdown = heap.countdown; trim_check = trim_threshold })
+            ∙ ap (λ (ss : List Segment). cut_top less (record { segments = ss; victim = heap.victim; granularity = heap.granularity; rate = heap.rate; countdown = heap.countdown; trim_check = heap.trim_check })) (sym segments_are)
+          where
+            chunks : AreChunks run.first
+            chunks = are_chunks (word heap.system) Used run.segment.base run.first (extent heap.top heap.top_size Top) run.last (run.segment.base + run.segment.size) (λ is. cc)
+                (subst (λ (es : List Extent). Tiles (word heap.system) Used run.segment.base es (run.segment.base + run.segment.size)) run.extents part.extents)
+
+            shrunk_are : map (shrunk less) run.segment.extents ≡ run.first ++ more
+            shrunk_are =
+                let place : run.segment.base + run.segment.size - 80 - less ≡ heap.top + length_now = omega (arith, last_is.1, room) in
+                ap (map (shrunk less)) (run.extents ∙ ap (λ (es : List Extent). run.first ++ extent heap.top heap.top_size Top ∷ es) last_is.0)
+                ∙ (map-append (shrunk less) run.first (extent heap.top heap.top_size Top ∷ extent (run.segment.base + run.segment.size - 80) 80 Foot ∷ [])
+                ∙ (λ i. map_shrunk less run.first chunks i ++ (extent heap.top length_now Top ∷ extent (place i) 80 Foot ∷ [])))
+
+            segments_now : segments_of word after ≡ shortened less run.segment ∷ run.back
+            segments_now = retold regions word after (now ∷ run.back) parts_now apart_now told_now
+                ∙ (λ i. (record { base = run.segment.base; size = run.segment.size - less; flags = run.segment.flags; extents = (sym shrunk_are) i }) ∷ run.back)
+
+        shortened_words : (k : ℕ) → IsWordOf (regions system) k → k ≢ after.top + 8 → k ≢ after.top + after.top_size + 8 → word system k ≡ word heap.system k
+        shortened_words k inside at_top at_foot = kept k inside at_top (λ is. at_foot (omega (arith, is, closes, low, room)))
+
+        -- the heads of the top and of its foot are at boundaries
+        shortened_boundaries : OnlyBoundariesChange (regions system) (state_of word after) (word heap.system) (word system)
+        shortened_boundaries k inside boundary = let tags = head_tags regions word after shortened_sound rest_some k boundary in shortened_words k inside tags.0 tags.1
+
+        shortened_kept : KeepsBlocks (extents_in (state_of word heap)) (word heap.system) (word system)
+        shortened_kept = blocks_law_still regions word heap after sound shortened_sound (λ k inside was own recorded. shortened_boundaries k inside (λ boundary. own (inl boundary))) (extents_in (state_of word heap))
+            (λ block there used. (there, shortened_used.still block used there))
+
+        pub is_shortened : (follows : A → List Event → A → Type 0) → follows heap.system (Released heap.base heap.size (heap.size - less) ∷ []) system → IsShortened regions word follows heap less after
+        is_shortened follows followed = record {
+          state = shortened_state;
+          stays = record {
+            sound = shortened_sound;
+            used = shortened_used;
+            kept = shortened_kept;
+            free = shortened_free;
+            victim_same = refl;
+            bins_same = refl;
+            records = shortened_records;
+            words = shortened_words;
+          };
+          regions_are = gone;
+          followed = followed;
+        }

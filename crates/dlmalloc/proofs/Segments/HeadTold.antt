@@ -1,0 +1,58 @@
+-- The head segment is told by fields, after a move too.
+use Rattle.dlmalloc.proofs.Names.{◌≡◌, ℕ, ◌<◌, List, [], ◌∷◌, ◌++◌, Some, sym, ◌∙◌, ap, subst, Grant, Top, extent_at, Segment, AreSegments, AreApart, AreRecords, segments_of, AreTold, Dlmalloc}
+use Rattle.dlmalloc.proofs.Extents.Lookup.{extent}
+use Rattle.dlmalloc.proofs.Segments.OneReplaced.{IsChanged, records_after, records_behind}
+
+-- the fields tell a segment
+pub record IsHead {A : Type 0} (heap : Dlmalloc A) (segment : Segment) : Type 0 where
+  pub some : 0 < heap.size
+  pub base : heap.base ≡ segment.base
+  pub size : heap.size ≡ segment.size
+  pub flags : heap.flags ≡ segment.flags
+  pub top : extent_at heap.top segment.extents ≡ Some (extent heap.top heap.top_size Top)
+
+-- they tell the same as before
+pub record HasSameHead {A : Type 0} (heap new : Dlmalloc A) : Type 0 where
+  pub base : new.base ≡ heap.base
+  pub size : new.size ≡ heap.size
+  pub flags : new.flags ≡ heap.flags
+  pub top : new.top ≡ heap.top
+  pub top_size : new.top_size ≡ heap.top_size
+
+module _ {A : Type 0} (regions regions' : List Grant) (old words : ℕ → ℕ) (heap new : Dlmalloc A) (segment segment' : Segment) (changed : IsChanged regions regions' old words segment segment') (next : new.next ≡ heap.next) where
+  -- the head segment changed
+  pub told_head : (front back : List Segment) → front ≡ [] → AreApart (front ++ segment ∷ back) → AreSegments regions old (front ++ segment ∷ back) → AreTold old heap (front ++ segment ∷ back) → IsHead new segment' → AreTold words new (front ++ segment' ∷ back)
+  told_head [] back none apart parts h head = (
+    head.some,
+    head.base,
+    head.size,
+    head.flags,
+    head.top,
+    subst (λ (p : ℕ). AreRecords words p back) (sym next) (records_behind regions regions' old words segment segment' changed back apart.0 parts.1 heap.next h.5),
+  )
+  told_head (first ∷ front) back none apart parts h head = absurd (cc)
+
+  -- what the fields tell stayed
+  pub told_same : (front back : List Segment) → AreApart (front ++ segment ∷ back) → AreSegments regions old (front ++ segment ∷ back) → AreTold old heap (front ++ segment ∷ back) → HasSameHead heap new → segment'.base ≡ segment.base → segment'.size ≡ segment.size → segment'.flags ≡ segment.flags →
+      (extent_at heap.top segment.extents ≡ Some (extent heap.top heap.top_size Top) → extent_at heap.top segment'.extents ≡ Some (extent heap.top heap.top_size Top)) → AreTold words new (front ++ segment' ∷ back)
+  told_same [] back apart parts h same base size flags top = (
+    subst (λ (n : ℕ). 0 < n) (sym same.size) h.0,
+    same.base ∙ (h.1 ∙ sym base),
+    same.size ∙ (h.2 ∙ sym size),
+    same.flags ∙ (h.3 ∙ sym flags),
+    ap (λ (t : ℕ). extent_at t segment'.extents) same.top ∙ (top h.4 ∙ (λ i. Some (extent ((sym same.top) i) ((sym same.top_size) i) Top))),
+    subst (λ (p : ℕ). AreRecords words p back) (sym next) (records_behind regions regions' old words segment segment' changed back apart.0 parts.1 heap.next h.5),
+  )
+  told_same (first ∷ front) back apart parts h same base size flags top = (
+    subst (λ (n : ℕ). 0 < n) (sym same.size) h.0,
+    same.base ∙ h.1,
+    same.size ∙ h.2,
+    same.flags ∙ h.3,
+    ap (λ (t : ℕ). extent_at t first.extents) same.top ∙ (h.4 ∙ (λ i. Some (extent ((sym same.top) i) ((sym same.top_size) i) Top))),
+    subst (λ (p : ℕ). AreRecords words p (front ++ segment' ∷ back)) (sym next) (records_after regions regions' old words segment segment' changed front back apart.1 parts.1 heap.next h.5),
+  )
+
+-- the first of the segments is told by the fields
+pub head_is : {A : Type 0} (word : A → ℕ → ℕ) (heap : Dlmalloc A) (front : List Segment) (segment : Segment) (back : List Segment) → front ≡ [] → segments_of word heap ≡ front ++ segment ∷ back → AreTold (word heap.system) heap (segments_of word heap) → IsHead heap segment
+head_is word heap [] segment back none is told = let h = subst (AreTold (word heap.system) heap) is told in record { some = h.0; base = h.1; size = h.2; flags = h.3; top = h.4 }
+head_is word heap (first ∷ front) segment back none is told = absurd (cc)

@@ -1,0 +1,104 @@
+-- The head segment ends with the top and its foot.
+use Rattle.dlmalloc.proofs.Names.{◌≡◌, ℕ, ◌+◌, ◌-◌, ◌%◌, ◌^◌, ◌<◌, ◌≤◌, inr, true, false, ◌==◌, List, [], ◌∷◌, Some, refl, sym, ◌∙◌, ap, arith, dec_lt, nat_tests, Grant, IsWordOf, Extent, Kind, Used, Top, Foot, head_of, ends_segment, extent_at, is_used, Tiles, last_kind, Segment, granted, IsSegment, segments_of, IsSound, Dlmalloc, IsRunOf}
+use Rattle.dlmalloc.proofs.Extents.Lookup.{extent, nat_same, found_later}
+use Rattle.dlmalloc.proofs.Extents.Tiling.{sized, tiles_le}
+use Rattle.dlmalloc.proofs.Moves.OfLists.{last_append}
+use Rattle.dlmalloc.proofs.Extents.OneMoreUsed.{none_outside}
+use Rattle.dlmalloc.proofs.Extents.FromWords.{behind_top}
+use Rattle.dlmalloc.proofs.Segments.HeadTold.{IsHead, head_is}
+use Rattle.dlmalloc.proofs.Segments.Among.{extents_all}
+use Rattle.dlmalloc.proofs.Extents.RunReplaced.{run_of, run_part}
+use Rattle.dlmalloc.proofs.Extents.Top.{is_top, top_among}
+
+-- a heap with no segment
+pub no_segments : {A : Type 0} (word : A → ℕ → ℕ) (heap : Dlmalloc A) → heap.size ≡ 0 → segments_of word heap ≡ []
+no_segments word heap none = let test : (heap.size == 0) ≡ true = grind (arith, nat_tests) in rw test refl
+
+-- where an extent is found, there is one
+pub some_segment : {A : Type 0} (word : A → ℕ → ℕ) (heap : Dlmalloc A) (k : ℕ) (one : Extent) → extent_at k (extents_all (segments_of word heap)) ≡ Some one → 0 < heap.size
+some_segment word heap k one there = elim (dec_lt 0 heap.size) [
+  | yes some ↦ some
+  | no none ↦ absurd (let gone : extent_at k [] ≡ Some one = ap (λ (segments : List Segment). extent_at k (extents_all segments)) (sym (no_segments word heap (omega (arith, none)))) ∙ there in cc)
+]
+
+-- a top and its foot, as their heads tell them
+pub top_stands : (words : ℕ → ℕ) (before : Kind) (at size : ℕ) → before ≡ Used → at % 16 ≡ 0 → size % 16 ≡ 0 → 16 ≤ size → words (at + 8) ≡ size + 1 → words (at + size + 8) ≡ 80 →
+    Tiles words before at (extent at size Top ∷ extent (at + size) 80 Foot ∷ []) (at + size + 80)
+top_stands words before at size used place whole long head foot = (
+  refl,
+  record {
+    whole = place;
+    size = (whole, long);
+    kind = used;
+    head = head ∙ (omega arith ∙ ap (λ (k : Kind). head_of size (is_used k) false) (sym used));
+    foot = λ free. absurd (cc);
+    fence = λ is. absurd (cc);
+  },
+  (
+    refl,
+    record {
+      whole = omega arith;
+      size = refl;
+      kind = refl;
+      head = foot;
+      foot = λ free. absurd (cc);
+      fence = λ is. absurd (cc);
+    },
+    refl,
+  ),
+)
+
+-- ---- the head segment
+
+module _ {A : Type 0} (regions : A → List Grant) (word : A → ℕ → ℕ) (heap : Dlmalloc A) (sound : IsSound regions word heap) (some : 0 < heap.size) where
+  abbrev pub top_run : IsRunOf (word heap.system) (segments_of word heap) heap.top (heap.top + heap.top_size) (extent heap.top heap.top_size Top ∷ [])
+  top_run = run_of (regions heap.system) (word heap.system) (segments_of word heap) sound.segments (extent heap.top heap.top_size Top) (top_among regions word heap sound some)
+
+  pub top_part : IsSegment (regions heap.system) (word heap.system) top_run.segment
+  top_part = run_part (regions heap.system) (word heap.system) (segments_of word heap) sound.segments heap.top (heap.top + heap.top_size) (extent heap.top heap.top_size Top ∷ []) top_run
+
+  pub top_front : top_run.front ≡ []
+  top_front = (is_top regions word heap sound top_run.front top_run.segment top_run.back top_run.is heap.top heap.top_size
+      (ap (extent_at heap.top) top_run.extents ∙ (found_later heap.top top_run.first (extent heap.top heap.top_size Top ∷ top_run.last) (none_outside (word heap.system) Used top_run.segment.base top_run.first heap.top heap.top (inr (omega arith)) top_run.first_stand)
+      ∙ (let here = nat_same heap.top in rw here refl)))).0
+
+  pub top_segment : IsHead heap top_run.segment
+  top_segment = head_is word heap top_run.front top_run.segment top_run.back top_front top_run.is sound.told
+
+  tail_behind : ends_segment (last_kind Top top_run.last) ≡ true
+  tail_behind = ap ends_segment (sym (last_append (last_kind Used top_run.first) (extent heap.top heap.top_size Top ∷ []) top_run.last)) ∙ (ap ends_segment (sym (last_append Used top_run.first (extent heap.top heap.top_size Top ∷ top_run.last)))
+      ∙ (ap (λ (es : List Extent). ends_segment (last_kind Used es)) (sym top_run.extents) ∙ top_part.tail))
+
+  pub top_last : (top_run.last ≡ extent (top_run.segment.base + top_run.segment.size - 80) 80 Foot ∷ []) × (heap.top + heap.top_size + 80 ≡ top_run.segment.base + top_run.segment.size)
+  top_last = behind_top (word heap.system) (heap.top + heap.top_size) top_run.last (top_run.segment.base + top_run.segment.size) top_run.last_stand tail_behind
+
+  pub low_top : top_run.segment.base ≤ heap.top
+  low_top = tiles_le (word heap.system) Used top_run.segment.base top_run.first heap.top top_run.first_stand
+
+  pub top_low : heap.base ≤ heap.top
+  top_low = omega (arith, low_top, top_segment.base)
+
+  pub top_whole : heap.top % 16 ≡ 0
+  top_whole = top_run.here.1.whole
+
+  pub top_sizes : (heap.top_size % 16 ≡ 0) × (16 ≤ heap.top_size)
+  top_sizes = sized Top heap.top_size top_run.here.1.size
+
+  pub ends : heap.top + heap.top_size + 80 ≡ heap.base + heap.size
+  ends = omega (arith, top_last.1, top_segment.base, top_segment.size)
+
+  pub top_word : IsWordOf (regions heap.system) (heap.top + 8)
+  top_word = record { granted = top_part.run.covered (heap.top + 8) (omega (arith, low_top)) (omega (arith, top_last.1)); aligned = omega (arith, top_whole) }
+
+  pub head_low : 4096 ≤ heap.base
+  head_low = omega (arith, top_part.low, top_segment.base)
+
+  pub head_small : heap.base + heap.size < 2 ^ 64
+  head_small = omega (arith, top_part.high, top_segment.base, top_segment.size)
+
+  -- a word of the head segment
+  pub head_word : (k : ℕ) → heap.base ≤ k → k < heap.base + heap.size → k % 8 ≡ 0 → IsWordOf (regions heap.system) k
+  head_word k low high m = record { granted = top_part.run.covered k (omega (arith, low, top_segment.base)) (omega (arith, high, top_segment.base, top_segment.size)); aligned = m }
+
+  pub end_whole : (heap.base + heap.size) % 16 ≡ 0
+  end_whole = omega (arith, ends, top_whole, top_sizes.0)

@@ -1,0 +1,129 @@
+-- One segment of a heap gives way to another, and the regions may grow.
+use Rattle.dlmalloc.proofs.Names.{◌≡◌, ℕ, ◌+◌, ◌-◌, ◌%◌, ◌<◌, ◌≤◌, inl, inr, Bool, true, false, ◌==◌, if◌then◌else◌, List, [], ◌∷◌, ◌++◌, Some, None, IsTrue, refl, sym, ◌∙◌, ap, subst, arith, dec_lt, AllByRecursion, Grant, IsWordOf, Extent, Kind, Used, Free, Victim, Top, Record, Foot, extent_at, last_kind, HeapState, Segment, extents_in, is_free_below_top, IsBoundary, IsSpared, AllSpare, IsRun, IsSegment, AreSegments, IsApartFrom, AreApart, record_of, AreRecords}
+use Rattle.dlmalloc.proofs.Extents.Lookup.{found_here, nat_is}
+use Rattle.dlmalloc.proofs.Extents.Tiling.{tiles_kept}
+use Rattle.dlmalloc.proofs.Words.Spared.{spared_before, spared_behind, inner_spared}
+use Rattle.dlmalloc.proofs.Moves.OfLists.{no_plain}
+use Rattle.dlmalloc.proofs.Extents.OneMoreUsed.{AreDistinct}
+use Rattle.dlmalloc.proofs.Segments.Among.{all_at, apart_back, IsIn, in_part}
+
+-- All granted words stay but those at boundaries of the new segment; what was apart from the old one is apart from the new one,
+-- and a run still; and if a record told the old one, it tells the new one.
+pub record IsChanged (regions regions' : List Grant) (old new : ℕ → ℕ) (segment segment' : Segment) : Type 0 where
+  pub now : IsSegment regions' new segment'
+  pub kept : (k : ℕ) → IsWordOf regions k → AllSpare segment'.extents k → new k ≡ old k
+  pub others : (other : Segment) → IsSegment regions old other → IsApartFrom other segment → IsRun regions' other.base other.size other.flags × IsApartFrom other segment'
+  pub records : (at : ℕ) → extent_at at segment.extents ≡ Some (record_of at (segment.base + segment.size)) →
+      (segment'.base ≡ segment.base) × (segment'.size ≡ segment.size) × (segment'.flags ≡ segment.flags) × (extent_at at segment'.extents ≡ Some (record_of at (segment.base + segment.size)))
+
+-- an extent that is found is spared by what is no boundary
+found_spared : (heap : HeapState) (k : ℕ) (extent : Extent) → extent_at extent.at (extents_in heap) ≡ Some extent → (IsBoundary heap k → ⊥) → (kind : Kind) → extent.kind ≡ kind → IsSpared k kind extent.at extent.size
+found_spared heap k extent there apart Used is = λ e. apart (record { extent = extent; there = there; is = inl e })
+found_spared heap k extent there apart Free is =
+    ((λ e. apart (record { extent = extent; there = there; is = inl e })), (λ e. apart (record { extent = extent; there = there; is = inr (ap is_free_below_top is, e) })))
+found_spared heap k extent there apart Victim is =
+    ((λ e. apart (record { extent = extent; there = there; is = inl e })), (λ e. apart (record { extent = extent; there = there; is = inr (ap is_free_below_top is, e) })))
+found_spared heap k extent there apart Top is = λ e. apart (record { extent = extent; there = there; is = inl e })
+found_spared heap k extent there apart Record is = λ e. apart (record { extent = extent; there = there; is = inl e })
+found_spared heap k extent there apart Foot is = λ e. apart (record { extent = extent; there = there; is = inl e })
+
+-- and so are all
+pub all_spared : (heap : HeapState) (k : ℕ) (extents : List Extent) → AreDistinct extents → ((extent : Extent) → extent_at extent.at extents ≡ Some extent → extent_at extent.at (extents_in heap) ≡ Some extent) →
+    (IsBoundary heap k → ⊥) → AllSpare extents k
+all_spared heap k [] distinct there apart = tt
+all_spared heap k (extent ∷ extents) distinct there apart = (
+  found_spared heap k extent (there extent (found_here extent extents)) apart extent.kind refl,
+  all_spared heap k extents distinct.1 (λ other found. there other (go other found (extent.at == other.at) refl)) apart,
+)
+  where
+    go : (other : Extent) → extent_at other.at extents ≡ Some other → (b : Bool) → (extent.at == other.at) ≡ b → (if b then Some extent else extent_at other.at extents) ≡ Some other
+    go other found true same = absurd (let none = subst (λ (a : ℕ). extent_at a extents ≡ None) (nat_is same) distinct.0 in let some = found in cc)
+    go other found false isnt = found
+
+module _ (regions regions' : List Grant) (old new : ℕ → ℕ) (segment segment' : Segment) (changed : IsChanged regions regions' old new segment segment') where
+  -- a word of another segment stays
+  beside : (other : Segment) → IsSegment regions old other → IsApartFrom other segment → (k : ℕ) → other.base < k → k < other.base + other.size → k % 8 ≡ 0 → new k ≡ old k
+  beside other part apart k low high whole =
+      changed.kept k (record { granted = part.run.covered k (omega arith) high; aligned = whole }) (elim ((changed.others other part apart).1) [
+        | inl before ↦ spared_before new Used segment'.base segment'.extents (segment'.base + segment'.size) k changed.now.extents (omega arith)
+        | inr behind ↦ spared_behind new Used segment'.base segment'.extents (segment'.base + segment'.size) k changed.now.extents (omega arith)
+      ])
+
+  other_kept : (other : Segment) → IsApartFrom other segment → IsSegment regions old other → IsSegment regions' new other
+  other_kept other apart part = record {
+    run = (changed.others other part apart).0;
+    low = part.low;
+    high = part.high;
+    long = part.long;
+    extents = tiles_kept old new Used other.base other.extents (other.base + other.size) part.extents (λ k low high m free. beside other part apart k low (within k high free) m);
+    tail = part.tail;
+  }
+    where
+      within : (k : ℕ) → k ≤ other.base + other.size → (k ≡ other.base + other.size → IsTrue (is_free_below_top (last_kind Used other.extents))) → k < other.base + other.size
+      within k high free = elim (dec_lt k (other.base + other.size)) [ yes below ↦ below | no beyond ↦ absurd (no_plain (last_kind Used other.extents) part.tail (free (omega arith))) ]
+
+  behind_kept : (back : List Segment) → AllByRecursion (IsApartFrom segment) back → AreSegments regions old back → AreSegments regions' new back
+  behind_kept [] apart parts = tt
+  behind_kept (other ∷ back) apart parts = (other_kept other (apart_back segment other apart.0) parts.0, behind_kept back apart.1 parts.1)
+
+  -- all are segments again, and apart
+  pub segments_after : (front back : List Segment) → AreApart (front ++ segment ∷ back) → AreSegments regions old (front ++ segment ∷ back) → AreSegments regions' new (front ++ segment' ∷ back)
+  segments_after [] back apart parts = (changed.now, behind_kept back apart.0 parts.1)
+  segments_after (other ∷ front) back apart parts = (other_kept other (all_at (IsApartFrom other) front segment back apart.0) parts.0, segments_after front back apart.1 parts.1)
+
+  behind_apart : (back : List Segment) → AllByRecursion (IsApartFrom segment) back → AreSegments regions old back → AllByRecursion (IsApartFrom segment') back
+  behind_apart [] apart parts = tt
+  behind_apart (other ∷ back) apart parts = (apart_back other segment' (changed.others other parts.0 (apart_back segment other apart.0)).1, behind_apart back apart.1 parts.1)
+
+  among_apart : (other : Segment) → IsSegment regions old other → (front back : List Segment) → AllByRecursion (IsApartFrom other) (front ++ segment ∷ back) → AllByRecursion (IsApartFrom other) (front ++ segment' ∷ back)
+  among_apart other part [] back apart = ((changed.others other part apart.0).1, apart.1)
+  among_apart other part (first ∷ front) back apart = (apart.0, among_apart other part front back apart.1)
+
+  pub apart_after : (front back : List Segment) → AreApart (front ++ segment ∷ back) → AreSegments regions old (front ++ segment ∷ back) → AreApart (front ++ segment' ∷ back)
+  apart_after [] back apart parts = (behind_apart back apart.0 parts.1, apart.1)
+  apart_after (other ∷ front) back apart parts = (among_apart other parts.0 front back apart.0, apart_after front back apart.1 parts.1)
+
+  -- ---- the payload of a record stays
+
+  record_told : (other : Segment) → IsSegment regions' new other → ((k : ℕ) → other.base < k → k < other.base + other.size → k % 8 ≡ 0 → AllSpare other.extents k → new k ≡ old k) → (others : List Segment) (payload : ℕ) → 16 < payload →
+      old payload ≡ other.base → old (payload + 8) ≡ other.size → old (payload + 24) ≡ other.flags →
+      extent_at (payload - 16) other.extents ≡ Some (record_of (payload - 16) (other.base + other.size)) → AreRecords new (old (payload + 16)) others → AreRecords new payload (other ∷ others)
+  record_told other part same others payload some base size flags there rest = (
+    some,
+    at payload (omega arith) (omega arith) whole ∙ base,
+    at (payload + 8) (omega arith) (omega arith) (omega (arith, whole)) ∙ size,
+    at (payload + 24) (omega arith) (omega arith) (omega (arith, whole)) ∙ flags,
+    there,
+    subst (λ (p : ℕ). AreRecords new p others) (sym (at (payload + 16) (omega arith) (omega arith) (omega (arith, whole)))) rest,
+  )
+    where
+      r : IsIn new other.base (other.base + other.size) (record_of (payload - 16) (other.base + other.size))
+      r = in_part new Used other.base other.extents (other.base + other.size) (record_of (payload - 16) (other.base + other.size)) part.extents there
+
+      whole : payload % 8 ≡ 0
+      whole = omega (arith, r.stands.whole, some)
+
+      long : 80 ≤ other.base + other.size - (payload - 16)
+      long = elim (r.stands.size) [ inl short ↦ omega arith | inr longer ↦ omega arith ]
+
+      at : (k : ℕ) → payload ≤ k → k < payload + 32 → k % 8 ≡ 0 → new k ≡ old k
+      at k low high m = same k (omega (arith, r.low, low, some)) (omega (arith, r.high, long, high, some)) m
+          (inner_spared new Used other.base other.extents (other.base + other.size) (record_of (payload - 16) (other.base + other.size)) part.extents there refl k (omega (arith, low, some)) (omega (arith, long, high, some)))
+
+  pub records_behind : (back : List Segment) → AllByRecursion (IsApartFrom segment) back → AreSegments regions old back → (payload : ℕ) → AreRecords old payload back → AreRecords new payload back
+  records_behind [] apart parts payload h = h
+  records_behind (other ∷ back) apart parts payload h =
+      let beyond = apart_back segment other apart.0 in
+      record_told other (other_kept other beyond parts.0) (λ k low high m spared. beside other parts.0 beyond k low high m) back payload h.0 h.1 h.2 h.3 h.4 (records_behind back apart.1 parts.1 (old (payload + 16)) h.5)
+
+  -- and so the records tell them
+  pub records_after : (front back : List Segment) → AreApart (front ++ segment ∷ back) → AreSegments regions old (front ++ segment ∷ back) → (payload : ℕ) → AreRecords old payload (front ++ segment ∷ back) → AreRecords new payload (front ++ segment' ∷ back)
+  records_after [] back apart parts payload h =
+      let is = changed.records (payload - 16) h.4 in
+      record_told segment' changed.now (λ k low high m spared. changed.kept k (record { granted = parts.0.run.covered k (omega (arith, is.0)) (omega (arith, is.0, is.1)); aligned = m }) spared) back payload h.0
+      (h.1 ∙ sym is.0) (h.2 ∙ sym is.1) (h.3 ∙ sym is.2) (is.3 ∙ (λ i. Some (record_of (payload - 16) (sym is.0 i + sym is.1 i))))
+      (records_behind back apart.0 parts.1 (old (payload + 16)) h.5)
+  records_after (other ∷ front) back apart parts payload h =
+      let beyond = all_at (IsApartFrom other) front segment back apart.0 in
+      record_told other (other_kept other beyond parts.0) (λ k low high m spared. beside other parts.0 beyond k low high m) (front ++ segment' ∷ back) payload h.0 h.1 h.2 h.3 h.4
+      (records_after front back apart.1 parts.1 (old (payload + 16)) h.5)

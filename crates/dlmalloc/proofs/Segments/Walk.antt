@@ -1,0 +1,175 @@
+-- Passing over the segments of a heap.
+use Rattle.dlmalloc.proofs.Names.{◌≡◌, ◌≢◌, ℕ, ◌+◌, ◌-◌, ◌%◌, ◌^◌, ◌<◌, ◌≤◌, inl, inr, List, [], ◌∷◌, ◌++◌, Some, refl, sym, ◌∙◌, ap, subst, arith, append_assoc, length-append, length, append-nil, Grant, IsWordOf, Extent, Used, Top, Foot, extent_at, Segment, IsSegment, AreSegments, record_of, records_from, AreRecords, chunks_between, IsChunkRun, segments_of, AreTold, IsSound, Dlmalloc}
+use Rattle.dlmalloc.proofs.Extents.Lookup.{extent}
+use Rattle.dlmalloc.proofs.Extents.FromWords.{told, records_read}
+use Rattle.dlmalloc.proofs.Segments.Among.{extents_all, all_among, IsIn, in_part}
+use Rattle.dlmalloc.proofs.Moves.OfHeaps.{segments_few}
+use Rattle.dlmalloc.proofs.Extents.Walk.{HasTail, top_tail, record_tail}
+
+-- ---- the segments of a heap
+
+-- the segments up to a record's, of which something is known
+pub record PassedSegments {A : Type 0} (word : A → ℕ → ℕ) (heap : Dlmalloc A) (payload : ℕ) (known : List Segment → Type 0) : Type 0 where
+  pub passed : List Segment
+  pub rest : List Segment
+  pub is : segments_of word heap ≡ passed ++ rest
+  pub some : 0 < length passed
+  pub told : AreRecords (word heap.system) payload rest
+  pub so_far : known passed
+
+-- the segment that a record tells, and those behind it
+pub record NextSegment (regions : List Grant) (words : ℕ → ℕ) (payload : ℕ) (rest : List Segment) : Type 0 where
+  pub segment : Segment
+  pub others : List Segment
+  pub is : rest ≡ segment ∷ others
+  pub some : 16 < payload
+  pub base : words payload ≡ segment.base
+  pub size : words (payload + 8) ≡ segment.size
+  pub told : AreRecords words (words (payload + 16)) others
+  pub part : IsSegment regions words segment
+  pub there : extent_at (payload - 16) segment.extents ≡ Some (record_of (payload - 16) (segment.base + segment.size))
+
+-- the words of a record's payload are granted, and its segment ends below 2 ^ 64 and behind it
+pub record SpanFits (regions : List Grant) (words : ℕ → ℕ) (payload : ℕ) : Type 0 where
+  pub low : 16 < payload
+  pub high : payload + 16 < 2 ^ 64
+  pub base : IsWordOf regions payload
+  pub size : IsWordOf regions (payload + 8)
+  pub next : IsWordOf regions (payload + 16)
+  pub ends : words payload + words (payload + 8) < 2 ^ 64
+  pub within : payload ≤ words payload + words (payload + 8)
+
+next_segment : (regions : List Grant) (words : ℕ → ℕ) (payload : ℕ) (rest : List Segment) → payload ≢ 0 → AreSegments regions words rest → AreRecords words payload rest → NextSegment regions words payload rest
+next_segment regions words payload [] some parts h = absurd (some h)
+next_segment regions words payload (segment ∷ others) some parts h = record { segment = segment; others = others; is = refl; some = h.0; base = h.1; size = h.2; told = h.5; part = parts.0; there = h.4 }
+
+rest_segments : (regions : List Grant) (words : ℕ → ℕ) (front back : List Segment) → AreSegments regions words (front ++ back) → AreSegments regions words back
+rest_segments regions words [] back parts = parts
+rest_segments regions words (first ∷ front) back parts = rest_segments regions words front back parts.1
+
+-- the head is passed
+pub head_passed : {A : Type 0} (regions : A → List Grant) (word : A → ℕ → ℕ) (heap : Dlmalloc A) → IsSound regions word heap → 0 < heap.size → (known : List Segment → Type 0) →
+    ((segment : Segment) → segment.base ≡ heap.base → HasTail (regions heap.system) (word heap.system) segment heap.top (extent heap.top heap.top_size Top ∷ extent (heap.top + heap.top_size) 80 Foot ∷ []) → known (segment ∷ [])) →
+    PassedSegments word heap heap.next known
+head_passed regions word heap sound some known holds = go (segments_of word heap) refl sound.segments sound.told
+  where
+    go : (segments : List Segment) → segments_of word heap ≡ segments → AreSegments (regions heap.system) (word heap.system) segments → AreTold (word heap.system) heap segments → PassedSegments word heap heap.next known
+    go [] is parts h = absurd (omega (arith, some, h))
+    go (segment ∷ segments) is parts h = record {
+      passed = segment ∷ [];
+      rest = segments;
+      is = is;
+      some = omega arith;
+      told = h.5;
+      so_far = holds segment (sym h.1) (top_tail (regions heap.system) (word heap.system) segment parts.0 heap.top heap.top_size h.4);
+    }
+
+module _ {A : Type 0} (regions : A → List Grant) (word : A → ℕ → ℕ) (heap : Dlmalloc A) (sound : IsSound regions word heap) where
+  -- the run of chunks of the head segment
+  pub head_run : 0 < heap.size → IsChunkRun (regions heap.system) (word heap.system) heap.base heap.top
+  head_run some = go (segments_of word heap) sound.segments sound.told
+    where
+      go : (segments : List Segment) → AreSegments (regions heap.system) (word heap.system) segments → AreTold (word heap.system) heap segments → IsChunkRun (regions heap.system) (word heap.system) heap.base heap.top
+      go [] parts h = absurd (omega (arith, some, h))
+      go (segment ∷ segments) parts h = subst (λ (base : ℕ). IsChunkRun (regions heap.system) (word heap.system) base heap.top) (sym h.1) (top_tail (regions heap.system) (word heap.system) segment parts.0 heap.top heap.top_size h.4).run
+
+  module _ (payload : ℕ) (known : List Segment → Type 0) (p : PassedSegments word heap payload known) where
+    parts_left : AreSegments (regions heap.system) (word heap.system) p.rest
+    parts_left = rest_segments (regions heap.system) (word heap.system) p.passed p.rest (subst (AreSegments (regions heap.system) (word heap.system)) p.is sound.segments)
+
+    few_left : length p.rest ≤ 2 ^ 64
+    few_left = let all = segments_few word heap in let sum = ap length p.is ∙ length-append p.passed p.rest in let some = p.some in omega arith
+
+    left_read : records_from (word heap.system) (2 ^ 64) payload ≡ p.rest
+    left_read = records_read (regions heap.system) (word heap.system) (2 ^ 64) payload p.rest few_left parts_left p.told
+
+    -- all are passed where no record is left
+    pub all_segments : payload ≡ 0 → known (segments_of word heap)
+    all_segments none = subst known (sym (p.is ∙ (ap (λ (ss : List Segment). p.passed ++ ss) (empty p.rest p.told) ∙ append-nil p.passed))) p.so_far
+      where
+        empty : (rest : List Segment) → AreRecords (word heap.system) payload rest → rest ≡ []
+        empty [] h = refl
+        empty (segment ∷ rest) h = absurd (let some = h.0 in omega arith)
+
+    module _ (some : payload ≢ 0) where
+      pub ahead_segment : NextSegment (regions heap.system) (word heap.system) payload p.rest
+      ahead_segment = next_segment (regions heap.system) (word heap.system) payload p.rest some parts_left p.told
+
+      abbrev pub segment_end : ℕ
+      segment_end = ahead_segment.segment.base + ahead_segment.segment.size
+
+      pub tail_there : HasTail (regions heap.system) (word heap.system) ahead_segment.segment (payload - 16) (record_of (payload - 16) segment_end ∷ [])
+      tail_there = record_tail (regions heap.system) (word heap.system) ahead_segment.segment ahead_segment.part (payload - 16) ahead_segment.there
+
+      abbrev segment : Segment
+      segment = ahead_segment.segment
+
+      abbrev words : ℕ → ℕ
+      words = word heap.system
+
+      at_in : IsIn words segment.base segment_end (record_of (payload - 16) segment_end)
+      at_in = in_part words Used segment.base segment.extents segment_end (record_of (payload - 16) segment_end) ahead_segment.part.extents ahead_segment.there
+
+      long : 80 ≤ segment_end - (payload - 16)
+      long = elim (at_in.stands.size) [ inl short ↦ omega arith | inr longer ↦ omega arith ]
+
+      -- the words of the payload
+      pub payload_word : (k : ℕ) → payload ≤ k → k ≤ payload + 16 → k % 8 ≡ payload % 8 → IsWordOf (regions heap.system) k
+      payload_word k low high m = record {
+        granted = ahead_segment.part.run.covered k (omega (arith, at_in.low, ahead_segment.some, low)) (omega (arith, long, ahead_segment.some, high));
+        aligned = omega (arith, at_in.stands.whole, ahead_segment.some, m);
+      }
+
+      pub payload_high : payload + 16 < 2 ^ 64
+      payload_high = omega (arith, long, ahead_segment.some, ahead_segment.part.high)
+
+      pub payload_ends : words payload + words (payload + 8) < 2 ^ 64
+      payload_ends = omega (arith, ahead_segment.base, ahead_segment.size, ahead_segment.part.high)
+
+      pub payload_within : payload ≤ words payload + words (payload + 8)
+      payload_within = omega (arith, ahead_segment.base, ahead_segment.size, long, ahead_segment.some)
+
+      -- what a look at it wants
+      pub span_fits : SpanFits (regions heap.system) words payload
+      span_fits = record {
+        low = ahead_segment.some;
+        high = payload_high;
+        base = payload_word payload (omega arith) (omega arith) refl;
+        size = payload_word (payload + 8) (omega arith) (omega arith) (omega (arith, at_in.stands.whole, ahead_segment.some));
+        next = payload_word (payload + 16) (omega arith) (omega arith) (omega (arith, at_in.stands.whole, ahead_segment.some));
+        ends = payload_ends;
+        within = payload_within;
+      }
+
+      -- its run of chunks
+      pub payload_run : IsChunkRun (regions heap.system) words (words payload) (payload - 16)
+      payload_run = subst (λ (base : ℕ). IsChunkRun (regions heap.system) words base (payload - 16)) (sym ahead_segment.base) tail_there.run
+
+      -- it is passed
+      pub onward_segment : (known' : List Segment → Type 0) → known' (p.passed ++ segment ∷ []) → PassedSegments word heap (words (payload + 16)) known'
+      onward_segment known' holds = record {
+        passed = p.passed ++ segment ∷ [];
+        rest = ahead_segment.others;
+        is = p.is ∙ (ap (λ (ss : List Segment). p.passed ++ ss) ahead_segment.is ∙ sym (append_assoc p.passed (segment ∷ []) ahead_segment.others));
+        some = (let sum = length-append p.passed (segment ∷ []) in omega arith);
+        told = ahead_segment.told;
+        so_far = holds;
+      }
+
+      -- its extents
+      pub extents_told : segment.extents ≡ chunks_between words (words payload) (payload - 16) ++ record_of (payload - 16) (words payload + words (payload + 8)) ∷ []
+      extents_told = tail_there.is ∙ (λ i. chunks_between words ((sym ahead_segment.base) i) (payload - 16) ++ record_of (payload - 16) ((sym ahead_segment.base) i + (sym ahead_segment.size) i) ∷ [])
+
+      pub passed_more : extents_all (p.passed ++ segment ∷ []) ≡ extents_all p.passed ++ (chunks_between words (words payload) (payload - 16) ++ record_of (payload - 16) (words payload + words (payload + 8)) ∷ [])
+      passed_more = all_among p.passed segment [] ∙ ap (λ (es : List Extent). extents_all p.passed ++ es) (append-nil segment.extents ∙ extents_told)
+
+      -- and fewer are left
+      pub fewer_left : length (records_from words (2 ^ 64) (words (payload + 16))) < length (records_from words (2 ^ 64) payload)
+      fewer_left =
+          let rest = left_read ∙ ahead_segment.is in
+          let parts = subst (AreSegments (regions heap.system) words) ahead_segment.is parts_left in
+          let few = few_left in
+          let as_many = ap length ahead_segment.is in
+          let behind = records_read (regions heap.system) words (2 ^ 64) (words (payload + 16)) ahead_segment.others (omega arith) parts.1 ahead_segment.told in
+          let one = ap length rest in let two = ap length behind in
+          omega arith

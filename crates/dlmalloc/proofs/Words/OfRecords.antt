@@ -1,0 +1,58 @@
+-- The payload of a segment's record: its words are granted, and the extents do not rest on them.
+use Rattle.dlmalloc.proofs.Names.{◌≡◌, ℕ, ◌+◌, ◌-◌, ◌%◌, ◌<◌, ◌≤◌, ◌⊎◌, inl, inr, List, ◌∷◌, Some, sym, ◌∙◌, subst, arith, Grant, IsWordOf, Extent, Used, Record, extent_at, Tiles, Segment, IsSegment, record_of}
+use Rattle.dlmalloc.proofs.Extents.Lookup.{found}
+use Rattle.dlmalloc.proofs.Extents.Tiling.{tiles_kept, tiles_split, tiles_append, tiles_le}
+use Rattle.dlmalloc.proofs.Extents.FromWords.{nothing, none_behind_record}
+use Rattle.dlmalloc.proofs.Segments.Among.{IsIn, in_part}
+
+module _ (regions : List Grant) (old : ℕ → ℕ) (segment : Segment) (part : IsSegment regions old segment) (payload : ℕ) (some : 16 < payload)
+    (there : extent_at (payload - 16) segment.extents ≡ Some (record_of (payload - 16) (segment.base + segment.size))) where
+  abbrev end : ℕ
+  end = segment.base + segment.size
+
+  record_in : IsIn old segment.base end (record_of (payload - 16) end)
+  record_in = in_part old Used segment.base segment.extents end (record_of (payload - 16) end) part.extents there
+
+  long : 80 ≤ end - (payload - 16)
+  long = elim (record_in.stands.size) [ inl short ↦ omega arith | inr longer ↦ omega arith ]
+
+  pub payload_whole : payload % 16 ≡ 0
+  payload_whole = omega (arith, record_in.stands.whole, some)
+
+  pub payload_low : segment.base + 16 ≤ payload
+  payload_low = omega (arith, record_in.low, some)
+
+  pub payload_high : payload + 64 ≤ segment.base + segment.size
+  payload_high = omega (arith, long, some)
+
+  -- its words are granted
+  pub payload_word : (k : ℕ) → payload ≤ k → k < payload + 32 → k % 8 ≡ 0 → IsWordOf regions k
+  payload_word k low high m = record { granted = part.run.covered k (omega (arith, payload_low, low)) (omega (arith, payload_high, high)); aligned = m }
+
+  -- and the segment is one still, where others stay
+  module _ (new : ℕ → ℕ) (kept : (k : ℕ) → segment.base < k → k < segment.base + segment.size → k % 8 ≡ 0 → (k < payload) ⊎ (payload + 32 ≤ k) → new k ≡ old k) where
+    pub recorded_tiles : Tiles new Used segment.base segment.extents (segment.base + segment.size)
+    recorded_tiles =
+        let f = found (payload - 16) (record_of (payload - 16) end) segment.extents there in
+        let s = tiles_split old Used segment.base f.front (record_of (payload - 16) end ∷ f.back) end (subst (λ (es : List Extent). Tiles old Used segment.base es end) f.is part.extents) in
+        let at : payload - 16 ≡ s.middle = s.second.0 in
+        let low = tiles_le old Used segment.base f.front s.middle s.first in
+        let last = nothing old Record (s.middle + (end - (payload - 16))) f.back end none_behind_record s.second.2 in
+        subst (λ (es : List Extent). Tiles new Used segment.base es end) (sym f.is)
+        (tiles_append new Used segment.base f.front (record_of (payload - 16) end ∷ f.back) s.middle end
+        (tiles_kept old new Used segment.base f.front s.middle s.first
+        (λ k above below m free. kept k above (omega (arith, below, at, long, some)) m (inl (omega (arith, below, at, some))))) (
+          at,
+          record {
+            whole = s.second.1.whole;
+            size = s.second.1.size;
+            kind = s.second.1.kind;
+            head = kept (payload - 16 + 8) (omega (arith, at, low)) (omega (arith, long, some)) (omega (arith, payload_whole, some)) (inl (omega (arith, some))) ∙ s.second.1.head;
+            foot = λ free. absurd (cc);
+            fence = λ is k above below m. kept k (omega (arith, above, at, low)) (omega (arith, below, long)) m (inr (omega (arith, above, some))) ∙ s.second.1.fence is k above below m;
+          },
+          subst (λ (es : List Extent). Tiles new Record (s.middle + (end - (payload - 16))) es end) (sym last.0) last.1,
+        ))
+
+    pub recorded_stays : IsSegment regions new segment
+    recorded_stays = record { run = part.run; low = part.low; high = part.high; long = part.long; extents = recorded_tiles; tail = part.tail }
