@@ -52,6 +52,7 @@ impl Bins {
     ///
     /// Of the granted words only link words change: those of the chunk and of the chunks of the index. At most 129 words
     /// are loaded or stored.
+    #[inline(always)]
     pub fn insert<M: Links, L: Ledger>(
         &mut self,
         memory: &mut M,
@@ -78,6 +79,7 @@ impl Bins {
     /// Takes a chunk out of the index, and no other. It is binned with this size.
     ///
     /// Of the granted words only link words of the chunks of the index change. At most 196 words are loaded or stored.
+    #[inline(always)]
     pub fn unlink<M: Links, L: Ledger>(
         &mut self,
         memory: &mut M,

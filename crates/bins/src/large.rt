@@ -60,6 +60,7 @@ impl Bins {
     }
 
     /// Takes a chunk of a size of at least 256 out of its trie.
+    #[inline(never)]
     pub(crate) fn unlink_large<M: Links, L: Ledger>(
         &mut self,
         memory: &mut M,
@@ -96,6 +97,7 @@ impl Bins {
     }
 
     /// Puts a chunk of a size of at least 256 into its trie, as the newest of its size.
+    #[inline(never)]
     pub(crate) fn insert_large<M: Links, L: Ledger>(
         &mut self,
         memory: &mut M,
@@ -155,6 +157,7 @@ impl Bins {
     }
 
     /// The oldest chunk of the least size that is at least `size`, which is 256 or more.
+    #[inline(always)]
     pub(crate) fn least_large<M: Links, L: Ledger>(
         &self,
         memory: &M,

@@ -123,6 +123,7 @@ fn give_to_leaf<M: Links, L: Ledger>(
 }
 
 /// Takes a chunk out of the ring of a node of its size. Answers the node that stands there then.
+#[inline(always)]
 fn unlink_here<M: Links, L: Ledger>(
     memory: &mut M,
     at: u64,

@@ -55,6 +55,7 @@ pub(crate) fn pull<M: Links, L: Ledger>(
 
 impl Bins {
     /// Puts a chunk of a size below 256 into its ring, as the newest.
+    #[inline(always)]
     pub(crate) fn insert_small<M: Links, L: Ledger>(
         &mut self,
         memory: &mut M,
@@ -92,6 +93,7 @@ impl Bins {
     }
 
     /// Takes a chunk of a size below 256 out of its ring.
+    #[inline(always)]
     pub(crate) fn unlink_small<M: Links, L: Ledger>(
         &mut self,
         memory: &mut M,
