@@ -12,6 +12,7 @@ use step_count::Steps;
 
 impl<A: Allocator> Dlmalloc<A> {
     /// Puts a free chunk that is neither the top nor the victim into its bin.
+    #[inline(always)]
     pub(crate) fn bin<L: Ledger>(&mut self, at: u64, size: u64, steps: &mut Steps<L>)
         requires sound { IsSound A.regions A.word self.old }
         requires free { IsFreeAt (state_of A.word self.old) at size }
@@ -25,6 +26,7 @@ impl<A: Allocator> Dlmalloc<A> {
     }
 
     /// Takes a free chunk, not the top, out of its bin, if it is in one: the victim is in none.
+    #[inline(always)]
     pub(crate) fn unbin<L: Ledger>(&mut self, at: u64, size: u64, steps: &mut Steps<L>)
         requires sound { IsSound A.regions A.word self.old }
         requires free { IsFreeAt (state_of A.word self.old) at size }

@@ -73,6 +73,7 @@ impl<A: Allocator> Dlmalloc<A> {
 
     /// Frees a chunk in use, with the free chunks beside it: they become the top where it follows, else one free chunk,
     /// which is the victim where one of them was, and else goes into its bin. Answers where that begins.
+    #[inline(always)]
     pub(crate) fn dispose_chunk<L: Ledger>(
         &mut self,
         at: u64,
@@ -103,6 +104,7 @@ impl<A: Allocator> Dlmalloc<A> {
 
     /// Makes one free chunk of a chunk in use and of the free ones beside it, which reach from an address up to another: the
     /// top where it follows; else one that is the victim where one of them was. None of them is in a bin.
+    #[inline(always)]
     fn join_free<L: Ledger>(&mut self, at: u64, size: u64, from: u64, to: u64, steps: &mut Steps<L>)
         requires sound { IsSound A.regions A.word self.old }
         requires chunk { extent_at at (extents_in (state_of A.word self.old)) ≡ Some (record { at = at; size = size; kind = Used }) }
