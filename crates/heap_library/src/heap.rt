@@ -189,13 +189,15 @@ impl<A: Allocator + Memory> Heap<A> {
         self.heap.allocator().load(address + offset)
     }
 
-    /// Puts a word at an offset of a block, and changes nothing else.
+    /// Puts a word at an offset of a block, and changes nothing else: each block is there still.
     pub fn store(&mut self, address: u64, offset: u64, value: u64)
         requires block { HasBlock (state_of A.word self.old) address }
         requires within { offset + 8 ≤ usable (state_of A.word self.old) address }
         requires aligned { offset % 8 ≡ 0 }
         ensures stored { IsStored (A.regions self.old.system) (A.word self.old.system) (address + offset) value (A.word self.new.system) }
         ensures state { state_of A.word self.new ≡ state_of A.word self.old }
+        ensures block { HasBlock (state_of A.word self.new) address }
+        ensures usable { usable (state_of A.word self.new) address ≡ usable (state_of A.word self.old) address }
         ensures regions { A.regions self.new.system ≡ A.regions self.old.system }
         ensures follows { A.follows self.old.system [] self.new.system }
     {

@@ -15,4 +15,6 @@ pub use heap::Heap;
 pub use heap_error::HeapError;
 
 #[cfg(test)]
+mod heap_tests;
+#[cfg(test)]
 mod tests;

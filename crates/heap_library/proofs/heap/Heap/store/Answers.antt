@@ -27,8 +27,9 @@ invariant_of-self g c =
     (still_intact g.A.Links.regions g.A.Links.word c.self.inside.heap c.self.invariant.sound c.args.address block c.rests_outside.ensures c.self.invariant.linked
     c.args.offset c.args.value c.store.new.self within c.requires.aligned (c.store.ensures.regions ∙ ap g.A.Links.regions value) stored).0
 
-pub returns-clause-state : goal.returns-clause-state
-returns-clause-state g c =
+-- the heap is in the same state
+same_state : goal.returns-clause-state
+same_state g c =
     let block = subst (λ heap. HasBlock (state_of g.A.Links.word heap) c.args.address) (sym c.self.view_is) c.requires.block in
     let within = subst (λ heap. c.args.offset + 8 ≤ usable (state_of g.A.Links.word heap) c.args.address) (sym c.self.view_is) c.requires.within in
     let value = c.allocator_mut.ensures.value in
@@ -36,3 +37,12 @@ returns-clause-state g c =
     (still_intact g.A.Links.regions g.A.Links.word c.self.inside.heap c.self.invariant.sound c.args.address block c.rests_outside.ensures c.self.invariant.linked
     c.args.offset c.args.value c.store.new.self within c.requires.aligned (c.store.ensures.regions ∙ ap g.A.Links.regions value) stored).1
     ∙ ap (λ heap. state_of g.A.Links.word heap) c.self.view_is
+
+pub returns-clause-state : goal.returns-clause-state
+returns-clause-state g c = same_state g c
+
+pub returns-clause-block : goal.returns-clause-block
+returns-clause-block g c = subst (λ heap. HasBlock heap c.args.address) (sym (same_state g c)) c.requires.block
+
+pub returns-clause-usable : goal.returns-clause-usable
+returns-clause-usable g c = ap (λ heap. usable heap c.args.address) (same_state g c)
