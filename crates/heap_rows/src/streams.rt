@@ -1,8 +1,9 @@
 // Sources and sinks: pieces, flushes, and calls that fail.
-use crate::tests::{ROWS, strings};
+use crate::tests::ROWS;
 use heap_program::{
     Failed, MemorySink, MemorySource, ReaderSource, SinkFault, WriterSink, heap_main,
 };
+use program_runs::strings;
 use std::alloc::{AllocError, Global};
 use std::io;
 use std::io::Write;

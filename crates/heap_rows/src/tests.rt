@@ -1,16 +1,11 @@
-use heap_program::{Ended, SureSink, SureSource, end_text, heap_main, parse_call, text_of};
+use heap_program::{Ended, end_text, parse_call, text_of};
 use kernel_heap::{
     Answer, AnswerList, Call, CallList, Config, Extent, ExtentList, Kind, Machine, Refusal, Reply,
     RunError, run_calls,
 };
+use program_runs::{Row, outcome};
 use std::alloc::{AllocError, Global};
 use std::test::Fail;
-
-/// What the command `run` prints for an input. Each run ends with status 0.
-pub(crate) struct Row {
-    pub(crate) input: &'static str,
-    pub(crate) output: &'static str,
-}
 
 pub(crate) const ROWS: [Row; 21] = [
     Row {
@@ -114,26 +109,6 @@ pub(crate) const ROWS: [Row; 21] = [
         output: "block 0 0x400010\nheap 0x400000+16\nblock 1 0x400400\nblock 2 0x400420\nblock 3 0x400680\ndone\ndone\nblock 4 0x400420\nregion 0x400000+16 heap\nframes 1004 tables 4\n",
     },
 ];
-
-pub(crate) fn strings(alloc: Global, words: &[&str]) -> Result<Vec<String>, AllocError> {
-    let mut strings = Vec::new(alloc);
-    for word in words {
-        strings.push(String::from_str(alloc, word)?)?;
-    }
-    Ok(strings)
-}
-
-/// Runs a command over an input in memory.
-pub(crate) fn outcome(
-    alloc: Global,
-    words: &[&str],
-    input: &[u8],
-) -> Result<(Ended, SureSink), AllocError> {
-    let mut source = SureSource::new(input.to_vec(alloc)?);
-    let mut sink = SureSink::new(alloc);
-    let ended = heap_main(alloc, &strings(alloc, words)?, &mut source, &mut sink);
-    Ok((ended, sink))
-}
 
 #[test]
 fn rows_are_printed(rt: HostRuntime) -> Result<(), Fail> {

@@ -1,6 +1,7 @@
 // What runs out: frames, input and output.
-use crate::tests::{ROWS, outcome, strings};
+use crate::tests::ROWS;
 use heap_program::{MemorySink, MemorySource, heap_main};
+use program_runs::{outcome, strings};
 use std::alloc::{AllocError, Global};
 use std::test::Fail;
 

@@ -1,6 +1,6 @@
 //! Memory that goes back, the settings of the heap, and a heap that begins anew.
 use crate::commands::Command;
-use crate::tests::{Row, outcome};
+use program_runs::{Row, outcome};
 use std::test::Fail;
 
 /// Pages are granted one by one.

@@ -1,5 +1,5 @@
 //! Probes of the heap's pages and of pages that are not mapped.
-use crate::tests::{Row, outcome};
+use program_runs::{Row, outcome};
 use std::test::Fail;
 
 const ROWS: [Row; 4] = [

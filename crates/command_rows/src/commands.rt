@@ -1,6 +1,6 @@
 // The words of the program: configurations, and commands that are refused.
-use crate::tests::{Row, outcome, strings};
 use heap_program::{MemorySink, MemorySource, SureSink, heap_main, status_text};
+use program_runs::{Row, outcome, strings};
 use std::test::Fail;
 
 /// What a command prints for an input. Each run ends with status 0.

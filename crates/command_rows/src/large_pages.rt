@@ -1,6 +1,6 @@
 //! Slots of 2 MiB that one entry maps, as large pages: when they come, how they leave, and how they are cut.
 use crate::commands::Command;
-use crate::tests::{Row, outcome};
+use program_runs::{Row, outcome};
 use std::test::Fail;
 
 /// A window of 4 MiB, and frames in which there are three free runs for large pages.

@@ -1,5 +1,5 @@
 //! Requests at alignments, for cleared bytes, and for other sizes.
-use crate::tests::{Row, outcome};
+use program_runs::{Row, outcome};
 use std::test::Fail;
 
 const ROWS: [Row; 11] = [

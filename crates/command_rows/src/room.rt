@@ -1,6 +1,6 @@
 //! Requests that the heap serves though the system could not, those that it refuses for want of room, and what refusals leave.
 use crate::commands::Command;
-use crate::tests::{Row, outcome};
+use program_runs::{Row, outcome};
 use std::test::Fail;
 
 /// A window of 24 pages, which are granted one by one.

@@ -1,5 +1,5 @@
 //! Regions of the user: mapped, unmapped, and refused.
-use crate::tests::{Row, outcome};
+use program_runs::{Row, outcome};
 use std::test::Fail;
 
 const ROWS: [Row; 6] = [
