@@ -23,7 +23,10 @@ use Rattle.kernel_heap.specs.Follows.{still_none}
 use Rattle.kernel_heap.specs.Words.{heap_regions, grants_of}
 use Rattle.kernel_heap.specs.System.{paged}
 use Rattle.kernel_heap.specs.Heap.{regions, word, heap_state}
-use Rattle.kernel_heap.specs.Machine.{seen_of, live_at, refuse_live, HasBytes, IsLaidOut, IsStill}
+use Rattle.kernel_heap.specs.Machine.{seen_of}
+use Rattle.kernel_heap.specs.Numbered.{live_at, refuse_live, HasBytes}
+use Rattle.kernel_heap.specs.LaidOut.{IsLaidOut}
+use Rattle.kernel_heap.specs.Moves.{IsStill}
 use Rattle.kernel_heap.specs.Written.{AreInside, AreRead, IsWritten}
 use Rattle.kernel_heap.specs.declared.paged_system.PagedSystem.{PagedSystem}
 use Rattle.kernel_heap.proofs.BlockPlaces.{bytes_within}

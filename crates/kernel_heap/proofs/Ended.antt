@@ -31,7 +31,9 @@ use Rattle.kernel_heap.specs.System.{paged, pageless_frames}
 use Rattle.kernel_heap.specs.Words.{heap_regions}
 use Rattle.kernel_heap.specs.Heap.{regions, word, follows, heap_state}
 use Rattle.dlmalloc.specs.Blocks.{ArePlaced}
-use Rattle.kernel_heap.specs.Machine.{seen_of, live_at, IsLaidOut}
+use Rattle.kernel_heap.specs.Machine.{seen_of}
+use Rattle.kernel_heap.specs.Numbered.{live_at}
+use Rattle.kernel_heap.specs.LaidOut.{IsLaidOut}
 use Rattle.kernel_heap.specs.declared.paged_system.PagedSystem.{PagedSystem}
 use Rattle.kernel_heap.proofs.Numbers.{same_or_other}
 use Rattle.kernel_heap.proofs.BlockPlaces.{byte_kept}

@@ -44,7 +44,9 @@ use Rattle.kernel_heap.specs.Layout.{IsGrantedFor}
 use Rattle.kernel_heap.specs.Words.{heap_regions}
 use Rattle.kernel_heap.specs.System.{paged, pageless_frames}
 use Rattle.kernel_heap.specs.Heap.{regions, follows, heap_state}
-use Rattle.kernel_heap.specs.Machine.{seen_of, AreRunsUsedFor, IsLaidOut}
+use Rattle.kernel_heap.specs.Machine.{seen_of}
+use Rattle.kernel_heap.specs.LaidOut.{IsLaidOut}
+use Rattle.kernel_heap.specs.Kept.{AreRunsUsedFor}
 use Rattle.kernel_heap.specs.declared.paged_system.PagedSystem.{PagedSystem}
 use Rattle.kernel_heap.proofs.Full.{no_room}
 use Rattle.kernel_heap.proofs.HeapRegions.{all_more, granted_same, heap_joined, joined_state}

@@ -17,7 +17,9 @@ use Rattle.heap_model.proofs.Placed.{behind_outline, outline_at}
 use Rattle.kernel_heap.specs.Words.{heap_regions, grant_of}
 use Rattle.kernel_heap.specs.System.{paged}
 use Rattle.kernel_heap.specs.Heap.{heap_state}
-use Rattle.kernel_heap.specs.Machine.{seen_of, live_at, has_region, IsLaidOut}
+use Rattle.kernel_heap.specs.Machine.{seen_of}
+use Rattle.kernel_heap.specs.Numbered.{live_at}
+use Rattle.kernel_heap.specs.LaidOut.{has_region, IsLaidOut}
 use Rattle.kernel_heap.specs.declared.paged_system.PagedSystem.{PagedSystem}
 use Rattle.kernel_heap.proofs.HeapRegions.{heap_of_all}
 use Rattle.kernel_heap.proofs.SegmentRegions.{has_bounds}

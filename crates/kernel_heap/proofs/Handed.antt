@@ -32,7 +32,11 @@ use Rattle.heap_model.proofs.Placed.{outline_of, outline_push, length_outline, k
 use Rattle.kernel_heap.specs.System.{paged, pageless_frames}
 use Rattle.kernel_heap.specs.Words.{heap_regions}
 use Rattle.kernel_heap.specs.Heap.{regions, word, follows, heap_state}
-use Rattle.kernel_heap.specs.Machine.{seen_of, live_at, lasting_pages, AreRunsUsedFor, IsLaidOut, AreZero, request}
+use Rattle.kernel_heap.specs.Machine.{seen_of}
+use Rattle.kernel_heap.specs.Numbered.{live_at}
+use Rattle.kernel_heap.specs.LaidOut.{IsLaidOut}
+use Rattle.kernel_heap.specs.Blocks.{AreZero, request}
+use Rattle.kernel_heap.specs.Kept.{lasting_pages, AreRunsUsedFor}
 use Rattle.kernel_heap.specs.declared.paged_system.PagedSystem.{PagedSystem}
 use Rattle.kernel_heap.proofs.BlockPlaces.{byte_kept, bytes_within}
 use Rattle.kernel_heap.proofs.Bytes.{zero_reached}

@@ -8,7 +8,7 @@ use Rattle.dlmalloc.specs.Written.{IsServedCleared}
 use Rattle.dlmalloc.specs.Moved.{IsGivenSize}
 use Rattle.dlmalloc.specs.declared.heap.Dlmalloc.{Dlmalloc}
 use Rattle.kernel_heap.specs.Heap.{regions, word, zeros, follows}
-use Rattle.kernel_heap.specs.Machine.{AreZero}
+use Rattle.kernel_heap.specs.Blocks.{AreZero}
 use Rattle.kernel_heap.specs.declared.paged_system.PagedSystem.{PagedSystem}
 
 -- a block that was cleared

@@ -1,4 +1,5 @@
 -- The blocks of a machine and the extents of its heap, before and after a call of the heap.
+use Rattle.std.specs.Prelude.{Result, Ok, Err, OnErr}
 use Rattle.std.proofs.Common.{◌≡◌, ◌≢◌, ℕ, ◌+◌, ◌-◌, ◌^◌, inl, inr, Bool, true, false, ◌==◌, if◌then◌else◌, List, [], ◌∷◌, ◌++◌, length, map, slice_set, refl, sym, ap, ◌∙◌, subst, arith, Option, Some, None}
 use Rattle.std.specs.List.{AllByRecursion}
 use Rattle.std.specs.Int.{IsPowerOfTwo}
@@ -24,7 +25,10 @@ use Rattle.dlmalloc.specs.Requested.{asked, IsHandedOut}
 use Rattle.dlmalloc.specs.Moved.{IsGivenSize}
 use Rattle.dlmalloc.specs.AfterFree.{after_free, IsFreed}
 use Rattle.dlmalloc.specs.Served.{IsRefusedWith, regions_in, KeepsRegions, OnlyBlocksChange, RestsOutside, OrderRestsOutside}
-use Rattle.kernel_heap.specs.Machine.{seen_of, live_at, HaveRegions, IsLive, IsLaidOut, IsStill}
+use Rattle.kernel_heap.specs.Machine.{seen_of}
+use Rattle.kernel_heap.specs.Numbered.{live_at}
+use Rattle.kernel_heap.specs.LaidOut.{HaveRegions, IsLive, IsLaidOut}
+use Rattle.kernel_heap.specs.Moves.{IsStill}
 use Rattle.kernel_heap.specs.declared.paged_system.PagedSystem.{PagedSystem}
 use Rattle.kernel_heap.proofs.Numbers.{same_or_other}
 use Rattle.kernel_heap.proofs.SegmentRegions.{have_found}
@@ -299,6 +303,11 @@ still_beside heap sound system beside rests order = ((heap_beside heap sound sys
 -- one stay behind another
 pub still_none : (heap : Dlmalloc PagedSystem) → IsStill heap heap
 still_none heap = (refl, λ before. (before, λ n. refl))
+
+-- also where a call ends for want of memory
+pub still_err : {T E : Type 0} (result : Result T E) (heap : Dlmalloc PagedSystem) → OnErr result (IsStill heap heap)
+still_err (Ok value) heap = tt
+still_err (Err error) heap = still_none heap
 
 pub still_on : (old middle new : Dlmalloc PagedSystem) → IsStill old middle → IsStill middle new → IsStill old new
 still_on old middle new first second = (

@@ -9,7 +9,8 @@ use Rattle.heap_model.specs.declared.answer.Refusal.{Refusal}
 use Rattle.heap_model.specs.State.{State}
 use Rattle.heap_model.specs.Answer.{new_pages}
 use Rattle.heap_model.specs.Machine.{Paged}
-use Rattle.kernel_heap.specs.Machine.{lasting_pages, AreRunsUsedFor, IsRefusal}
+use Rattle.kernel_heap.specs.Refusing.{IsRefusal}
+use Rattle.kernel_heap.specs.Kept.{lasting_pages, AreRunsUsedFor}
 use Rattle.kernel_heap.proofs.Refused.{refused_with}
 
 -- the call asks for no page

@@ -18,7 +18,8 @@ use Rattle.heap_model.specs.Machine.{Seen, Stands, IsStep, outline}
 use Rattle.heap_model.proofs.Placed.{outline_of}
 use Rattle.kernel_heap.specs.Heap.{word, heap_state}
 use Rattle.dlmalloc.specs.Served.{IsListed}
-use Rattle.kernel_heap.specs.Machine.{seen_of, IsLaidOut}
+use Rattle.kernel_heap.specs.Machine.{seen_of}
+use Rattle.kernel_heap.specs.LaidOut.{IsLaidOut}
 use Rattle.kernel_heap.specs.declared.paged_system.PagedSystem.{PagedSystem}
 use Rattle.kernel_heap.proofs.Full.{behind}
 use Rattle.kernel_heap.proofs.Laid.{block_place, block_there, block_is}

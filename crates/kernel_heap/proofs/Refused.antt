@@ -31,7 +31,10 @@ use Rattle.heap_model.proofs.Added.{missing_same}
 use Rattle.kernel_heap.specs.Words.{heap_regions}
 use Rattle.kernel_heap.specs.System.{paged}
 use Rattle.kernel_heap.specs.Heap.{regions, word, follows, refuses, denies, heap_state}
-use Rattle.kernel_heap.specs.Machine.{IsLaidOut, seen_of, refusal_of, IsRefusalOf, request}
+use Rattle.kernel_heap.specs.Machine.{seen_of}
+use Rattle.kernel_heap.specs.LaidOut.{IsLaidOut}
+use Rattle.kernel_heap.specs.Refusing.{refusal_of, IsRefusalOf}
+use Rattle.kernel_heap.specs.Blocks.{request}
 use Rattle.kernel_heap.specs.declared.paged_system.PagedSystem.{PagedSystem}
 use Rattle.kernel_heap.proofs.HeapRegions.{heap_of_all}
 use Rattle.kernel_heap.proofs.Full.{no_room}

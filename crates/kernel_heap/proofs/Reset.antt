@@ -34,7 +34,9 @@ use Rattle.kernel_heap.specs.Config.{IsGoodWindow}
 use Rattle.kernel_heap.specs.System.{paged}
 use Rattle.kernel_heap.specs.Words.{heap_regions, grant_of}
 use Rattle.kernel_heap.specs.Heap.{regions, word, follows, heap_state, IsHeap, HasBins}
-use Rattle.kernel_heap.specs.Machine.{seen_of, live_at, HaveRegions, fresh_heap, IsLaidOut}
+use Rattle.kernel_heap.specs.Machine.{seen_of, fresh_heap}
+use Rattle.kernel_heap.specs.Numbered.{live_at}
+use Rattle.kernel_heap.specs.LaidOut.{HaveRegions, IsLaidOut}
 use Rattle.kernel_heap.specs.declared.paged_system.PagedSystem.{PagedSystem}
 use Rattle.kernel_heap.proofs.HeapRegions.{all_more}
 use Rattle.kernel_heap.proofs.Numbers.{same_or_other}

@@ -43,7 +43,12 @@ use Rattle.kernel_heap.specs.System.{paged, pageless_frames}
 use Rattle.kernel_heap.specs.Words.{heap_regions}
 use Rattle.mapped_regions.specs.Mapped.{word_reached}
 use Rattle.kernel_heap.specs.Heap.{regions, word, follows, refuses, denies, heap_state}
-use Rattle.kernel_heap.specs.Machine.{seen_of, live_at, IsLaidOut, IsRefusalOf, IsToldFrom, resizing, align_kept, IsResizedTo, HeapMoves}
+use Rattle.kernel_heap.specs.Machine.{seen_of}
+use Rattle.kernel_heap.specs.Numbered.{live_at}
+use Rattle.kernel_heap.specs.LaidOut.{IsLaidOut}
+use Rattle.kernel_heap.specs.Refusing.{IsRefusalOf}
+use Rattle.kernel_heap.specs.Blocks.{resizing, align_kept, IsResizedTo}
+use Rattle.kernel_heap.specs.Moves.{IsToldFrom, HeapMoves}
 use Rattle.kernel_heap.specs.declared.numbered_heap.NumberedHeap.{NumberedHeap}
 use Rattle.kernel_heap.specs.declared.paged_system.PagedSystem.{PagedSystem}
 use Rattle.kernel_heap.proofs.BlockPlaces.{byte_kept, bytes_within}

@@ -13,7 +13,7 @@ use Rattle.dlmalloc.specs.Taken.{in_segments}
 use Rattle.dlmalloc.specs.declared.heap.Dlmalloc.{Dlmalloc}
 use Rattle.heap_model.proofs.Booleans.{or_left, or_right, or_cases}
 use Rattle.kernel_heap.specs.Heap.{follows, regions, heap_state}
-use Rattle.kernel_heap.specs.Machine.{has_region, HaveRegions}
+use Rattle.kernel_heap.specs.LaidOut.{has_region, HaveRegions}
 use Rattle.kernel_heap.specs.declared.paged_system.PagedSystem.{PagedSystem}
 use Rattle.kernel_heap.proofs.HeapRegions.{all_more}
 

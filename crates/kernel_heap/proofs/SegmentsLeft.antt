@@ -16,7 +16,7 @@ use Rattle.heap_model.specs.State.{end_of}
 use Rattle.heap_model.proofs.Booleans.{or_left, or_right, or_cases}
 use Rattle.region_tree.specs.Regions.{AreLaid}
 use Rattle.kernel_heap.specs.Words.{heap_regions, grant_of}
-use Rattle.kernel_heap.specs.Machine.{has_region, HaveRegions}
+use Rattle.kernel_heap.specs.LaidOut.{has_region, HaveRegions}
 use Rattle.kernel_heap.proofs.HeapRegions.{all_more}
 use Rattle.kernel_heap.proofs.SegmentRegions.{has_bounds, have_changed}
 use Rattle.kernel_heap.proofs.Releasing.{heap_grants}

@@ -7,7 +7,9 @@ use Rattle.heap_model.specs.Answer.{NewPages}
 use Rattle.heap_model.specs.Machine.{Paged, IsStep}
 use Rattle.heap_model.proofs.Moved.{stands_taken}
 use Rattle.kernel_heap.specs.System.{paged}
-use Rattle.kernel_heap.specs.Machine.{system_of, seen_with, AreRunsUsedFor, IsToldFrom}
+use Rattle.kernel_heap.specs.Machine.{system_of, seen_with}
+use Rattle.kernel_heap.specs.Kept.{AreRunsUsedFor}
+use Rattle.kernel_heap.specs.Moves.{IsToldFrom}
 use Rattle.kernel_heap.specs.declared.numbered_heap.NumberedHeap.{NumberedHeap}
 use Rattle.kernel_heap.proofs.Numbers.{same_or_other}
 

@@ -28,7 +28,9 @@ use Rattle.heap_model.proofs.Slots.{settled_same}
 use Rattle.kernel_heap.specs.System.{paged, pageless_frames}
 use Rattle.kernel_heap.specs.Words.{heap_regions}
 use Rattle.kernel_heap.specs.Heap.{regions, word, follows, heap_state, HasBins}
-use Rattle.kernel_heap.specs.Machine.{seen_of, live_at, has_region, HaveRegions, IsLive, IsLaidOut}
+use Rattle.kernel_heap.specs.Machine.{seen_of}
+use Rattle.kernel_heap.specs.Numbered.{live_at}
+use Rattle.kernel_heap.specs.LaidOut.{has_region, HaveRegions, IsLive, IsLaidOut}
 use Rattle.kernel_heap.specs.declared.paged_system.PagedSystem.{PagedSystem}
 use Rattle.kernel_heap.proofs.BlockPlaces.{byte_kept}
 use Rattle.kernel_heap.proofs.Ended.{trim_gives_back}

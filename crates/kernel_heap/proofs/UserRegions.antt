@@ -35,7 +35,8 @@ use Rattle.dlmalloc.specs.Served.{RestsOutside}
 use Rattle.kernel_heap.specs.Beside.{IsBeside}
 use Rattle.kernel_heap.specs.System.{paged}
 use Rattle.kernel_heap.specs.Heap.{regions, word}
-use Rattle.kernel_heap.specs.Machine.{map_refusal, unmap_refusal, IsRefusal, IsLaidOut}
+use Rattle.kernel_heap.specs.LaidOut.{IsLaidOut}
+use Rattle.kernel_heap.specs.Refusing.{map_refusal, unmap_refusal, IsRefusal}
 use Rattle.kernel_heap.specs.declared.paged_system.PagedSystem.{PagedSystem}
 use Rattle.kernel_heap.proofs.Refused.{refused_with, step_refused}
 use Rattle.kernel_heap.proofs.Laid.{laid_outside}

@@ -15,7 +15,12 @@ use Rattle.heap_model.specs.declared.answer.Refusal.TheVariants.{TooLarge as IsT
 use Rattle.heap_model.specs.declared.answer.Reply.{Reply}
 use Rattle.heap_model.specs.declared.answer.Reply.TheVariants.{Refused}
 use Rattle.kernel_heap.specs.Heap.{regions, word, follows, refuses, denies, heap_state}
-use Rattle.kernel_heap.specs.Machine.{heap_of, live_at, refusal_of, error_of, request, resizing, align_kept, is_for_room, HasNoneFor, HasNoneBeside, leaves_all, IsSeenAsBefore, IsLeft, HeapMoves}
+use Rattle.kernel_heap.specs.Machine.{heap_of}
+use Rattle.kernel_heap.specs.Numbered.{live_at}
+use Rattle.kernel_heap.specs.Refusing.{refusal_of, error_of, is_for_room, HasNoneFor, HasNoneBeside}
+use Rattle.kernel_heap.specs.Blocks.{request, resizing, align_kept}
+use Rattle.kernel_heap.specs.Kept.{leaves_all, IsSeenAsBefore}
+use Rattle.kernel_heap.specs.Moves.{IsLeft, HeapMoves}
 use Rattle.kernel_heap.specs.declared.paged_system.PagedSystem.{PagedSystem}
 use Rattle.kernel_heap.specs.declared.numbered_heap.NumberedHeap.{NumberedHeap}
 

@@ -17,7 +17,7 @@ use Rattle.heap_model.proofs.Regions.{within_bounds}
 use Rattle.kernel_heap.specs.Words.{heap_regions, grant_of}
 use Rattle.kernel_heap.specs.System.{paged}
 use Rattle.kernel_heap.specs.Heap.{regions, word, heap_state, IsHeap}
-use Rattle.kernel_heap.specs.Machine.{has_region, HaveRegions}
+use Rattle.kernel_heap.specs.LaidOut.{has_region, HaveRegions}
 use Rattle.kernel_heap.specs.declared.paged_system.PagedSystem.{PagedSystem}
 use Rattle.kernel_heap.proofs.HeapRegions.{granted_same}
 use Rattle.kernel_heap.proofs.SegmentRegions.{has_bounds}

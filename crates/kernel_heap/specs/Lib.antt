@@ -10,6 +10,12 @@ pub mod Heap
 pub mod Parts
 pub mod Registers
 pub mod Machine
+pub mod Numbered
+pub mod LaidOut
+pub mod Refusing
+pub mod Blocks
+pub mod Kept
+pub mod Moves
 pub mod Written
 pub mod Runs
 pub mod FlatWindow

@@ -5,7 +5,11 @@ ghost use Rattle.heap_model.specs.State.{State};
 ghost use Rattle.heap_model.specs.Run.{IsGood};
 ghost use Rattle.heap_model.specs.Machine.{Stands, IsStep};
 ghost use Rattle.kernel_heap.specs.Heap.{regions};
-ghost use Rattle.kernel_heap.specs.Machine.{seen_with, system_of, heap_of, live_at, refuse_live, HasBytes, IsStill, IsSeenAsBefore, IsSound};
+ghost use Rattle.kernel_heap.specs.Machine.{seen_with, system_of, heap_of};
+ghost use Rattle.kernel_heap.specs.Numbered.{live_at, refuse_live, HasBytes};
+ghost use Rattle.kernel_heap.specs.LaidOut.{IsSound};
+ghost use Rattle.kernel_heap.specs.Kept.{IsSeenAsBefore};
+ghost use Rattle.kernel_heap.specs.Moves.{IsStill};
 
 use crate::numbered_heap::{NumberedHeap, refused};
 use heap_model::{Answer, Call, Refusal, Reply};

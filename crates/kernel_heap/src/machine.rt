@@ -70,7 +70,7 @@ impl Model for Machine {
 
     ghost coded = { coded_parts numbered_heap.the_row.coded registers.the_row.coded };
 
-    ghost use Rattle.kernel_heap.specs.Machine.{IsSound};
+    ghost use Rattle.kernel_heap.specs.LaidOut.{IsSound};
 
     ghost view = { λ machine. record { heap = machine.heap; cpu = machine.cpu } };
 
@@ -79,7 +79,9 @@ impl Model for Machine {
 
 impl Machine {
     ghost use Rattle.kernel_heap.specs.System.{paged};
-    ghost use Rattle.kernel_heap.specs.Machine.{seen, system_of, heap_of, fresh_heap, lasting_pages, AreRunsUsedFor, HeapMoves, leaves_all, IsReachedByte};
+    ghost use Rattle.kernel_heap.specs.Machine.{seen, system_of, heap_of, fresh_heap};
+    ghost use Rattle.kernel_heap.specs.Kept.{lasting_pages, AreRunsUsedFor, leaves_all, IsReachedByte};
+    ghost use Rattle.kernel_heap.specs.Moves.{HeapMoves, IsStill};
 
     /// A machine with the configuration's window, granularity and frames. A configuration from which none can be
     /// made is refused before any memory is taken.
@@ -126,7 +128,7 @@ impl Machine {
         ensures ok { (s : State) → IsGood s → Stands (seen self.old) s → IfOk result (λ answer. IsStep s call.now answer (seen self.new)) }
         ensures err { OnErr result (seen self.new ≡ seen self.old) }
         ensures heap { IfOk result (λ answer. HeapMoves self.old.heap call.now answer.reply self.new.heap) }
-        ensures heap_err { OnErr result (heap_of self.new.heap ≡ heap_of self.old.heap) }
+        ensures heap_err { OnErr result (IsStill self.old.heap.heap self.new.heap.heap) }
         // A refused call, one that only looks, a fault and a setting that is not accepted leave each byte, block and region as it was.
         ensures kept { IfOk result (λ answer. IsTrue (leaves_all answer.reply) → seen self.new ≡ seen self.old) }
         // After a map, or a block that was granted new pages, each slot that lies whole among the new pages and had no table is

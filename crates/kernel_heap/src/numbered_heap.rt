@@ -4,7 +4,8 @@ ghost use Rattle.heap_model.specs.State.{State};
 ghost use Rattle.heap_model.specs.Run.{IsGood};
 ghost use Rattle.heap_model.specs.Machine.{Stands, IsStep};
 ghost use Rattle.heap_model.specs.Slots.{listed_slots};
-ghost use Rattle.kernel_heap.specs.Machine.{refusal_of, IsRefusalOf, align_kept};
+ghost use Rattle.kernel_heap.specs.Refusing.{refusal_of, IsRefusalOf};
+ghost use Rattle.kernel_heap.specs.Blocks.{align_kept};
 
 use crate::heap_calls;
 use crate::paged_system::PagedSystem;
@@ -71,7 +72,12 @@ pub(crate) struct NumberedHeap {
 impl NumberedHeap {
     ghost use Rattle.kernel_heap.specs.Words.{heap_regions};
     ghost use Rattle.kernel_heap.specs.System.{paged, pageless_frames};
-    ghost use Rattle.kernel_heap.specs.Machine.{seen_with, system_of, heap_of, live_at, request, resizing, lasting_pages, AreRunsUsedFor, HeapMoves, IsStill, IsSeenAsBefore, IsSound};
+    ghost use Rattle.kernel_heap.specs.Machine.{seen_with, system_of};
+    ghost use Rattle.kernel_heap.specs.Numbered.{live_at};
+    ghost use Rattle.kernel_heap.specs.LaidOut.{IsSound};
+    ghost use Rattle.kernel_heap.specs.Blocks.{request, resizing};
+    ghost use Rattle.kernel_heap.specs.Kept.{lasting_pages, AreRunsUsedFor, IsSeenAsBefore};
+    ghost use Rattle.kernel_heap.specs.Moves.{HeapMoves, IsStill};
 
     /// Hands out a block of `size` bytes at a multiple of `align`, of value 0 where that is asked for. The answer and the
     /// block have their places before anything changes.
@@ -88,7 +94,7 @@ impl NumberedHeap {
         ensures runs { (top : ℕ) (s : State) → IsGood s → Stands (seen_with top self.old) s → IfOk result (λ answer. AreRunsUsedFor (paged (system_of self.old)) (paged (system_of self.new)) (lasting_pages s (request cleared size align) answer)) }
         ensures heap { IfOk result (λ answer. HeapMoves self.old (request cleared size align) answer.reply self.new) }
         ensures kept { IfOk result (λ answer. IsSeenAsBefore answer.reply self.old self.new) }
-        ensures heap_err { OnErr result (heap_of self.new ≡ heap_of self.old) }
+        ensures heap_err { OnErr result (IsStill self.old.heap self.new.heap) }
     {
         if !align.is_power_of_two() {
             return Ok(refused(Refusal::BadAlign));
@@ -122,7 +128,7 @@ impl NumberedHeap {
         ensures err { (top : ℕ) → OnErr result (seen_with top self.new ≡ seen_with top self.old) }
         ensures heap { IfOk result (λ answer. HeapMoves self.old (resizing keeps_alignment number size) answer.reply self.new) }
         ensures kept { IfOk result (λ answer. IsSeenAsBefore answer.reply self.old self.new) }
-        ensures heap_err { OnErr result (heap_of self.new ≡ heap_of self.old) }
+        ensures heap_err { OnErr result (IsStill self.old.heap self.new.heap) }
     {
         let Some(live) = self.live(number) else {
             return Ok(refused(Refusal::UnknownBlock));
@@ -250,7 +256,7 @@ impl NumberedHeap {
         ensures err { (top : ℕ) → OnErr result (seen_with top self.new ≡ seen_with top self.old) }
         ensures heap { IfOk result (λ answer. HeapMoves self.old (Call.Free number) answer.reply self.new) }
         ensures kept { IfOk result (λ answer. IsSeenAsBefore answer.reply self.old self.new) }
-        ensures heap_err { OnErr result (heap_of self.new ≡ heap_of self.old) }
+        ensures heap_err { OnErr result (IsStill self.old.heap self.new.heap) }
     {
         let Some(live) = self.live(number) else {
             return Ok(refused(Refusal::UnknownBlock));

@@ -5,7 +5,10 @@ ghost use Rattle.heap_model.specs.State.{State};
 ghost use Rattle.heap_model.specs.Run.{IsGood};
 ghost use Rattle.heap_model.specs.Machine.{Stands, IsStep};
 ghost use Rattle.kernel_heap.specs.System.{paged};
-ghost use Rattle.kernel_heap.specs.Machine.{seen_with, system_of, heap_of, lasting_pages, AreRunsUsedFor, HeapMoves, IsSeenAsBefore, IsReachedByte, IsSound};
+ghost use Rattle.kernel_heap.specs.Machine.{seen_with, system_of};
+ghost use Rattle.kernel_heap.specs.LaidOut.{IsSound};
+ghost use Rattle.kernel_heap.specs.Kept.{lasting_pages, AreRunsUsedFor, IsSeenAsBefore, IsReachedByte};
+ghost use Rattle.kernel_heap.specs.Moves.{HeapMoves, IsStill};
 
 use crate::numbered_heap::NumberedHeap;
 use heap_model::{Answer, Call};
@@ -21,7 +24,7 @@ impl NumberedHeap {
         ensures runs { (top : ℕ) (s : State) → IsGood s → Stands (seen_with top self.old) s → IfOk result (λ answer. AreRunsUsedFor (paged (system_of self.old)) (paged (system_of self.new)) (lasting_pages s call.now answer)) }
         ensures heap { IfOk result (λ answer. HeapMoves self.old call.now answer.reply self.new) }
         ensures kept { IfOk result (λ answer. IsSeenAsBefore answer.reply self.old self.new) }
-        ensures heap_err { OnErr result (heap_of self.new ≡ heap_of self.old) }
+        ensures heap_err { OnErr result (IsStill self.old.heap self.new.heap) }
         ensures reached { IfOk result (λ answer. IsReachedByte (paged (system_of self.new)) call.now answer.reply) }
         ensures write { (number offset : ℕ) (bytes : List ℕ) → call.now ≡ Call.Write number offset bytes → IsOk result }
         ensures unmap { (start pages : ℕ) → call.now ≡ Call.Unmap start pages → IsOk result }

@@ -3,7 +3,10 @@ ghost use Rattle.std.specs.Prelude.{ℕ};
 ghost use Rattle.heap_model.specs.State.{State};
 ghost use Rattle.heap_model.specs.Run.{IsGood};
 ghost use Rattle.heap_model.specs.Machine.{Stands, IsStep};
-ghost use Rattle.kernel_heap.specs.Machine.{seen_with, HeapMoves, IsSeenAsBefore, IsSound};
+ghost use Rattle.kernel_heap.specs.Machine.{seen_with};
+ghost use Rattle.kernel_heap.specs.LaidOut.{IsSound};
+ghost use Rattle.kernel_heap.specs.Kept.{IsSeenAsBefore};
+ghost use Rattle.kernel_heap.specs.Moves.{HeapMoves};
 
 use crate::numbered_heap::NumberedHeap;
 use heap_model::{Answer, Call, Reply};

@@ -3,7 +3,10 @@ ghost use Rattle.std.specs.Prelude.{◌≡◌, ℕ, None, IfOk, OnErr, length, r
 ghost use Rattle.heap_model.specs.State.{State};
 ghost use Rattle.heap_model.specs.Run.{IsGood};
 ghost use Rattle.heap_model.specs.Machine.{Stands, IsStep};
-ghost use Rattle.kernel_heap.specs.Machine.{seen_with, heap_of, HeapMoves, IsSeenAsBefore, IsSound};
+ghost use Rattle.kernel_heap.specs.Machine.{seen_with};
+ghost use Rattle.kernel_heap.specs.LaidOut.{IsSound};
+ghost use Rattle.kernel_heap.specs.Kept.{IsSeenAsBefore};
+ghost use Rattle.kernel_heap.specs.Moves.{HeapMoves, IsStill};
 
 use crate::heap_calls;
 use crate::numbered_heap::NumberedHeap;
@@ -23,7 +26,7 @@ impl NumberedHeap {
         ensures err { (top : ℕ) → OnErr result (seen_with top self.new ≡ seen_with top self.old) }
         ensures heap { IfOk result (λ answer. HeapMoves self.old (Call.Trim pad) answer.reply self.new) }
         ensures kept { IfOk result (λ answer. IsSeenAsBefore answer.reply self.old self.new) }
-        ensures heap_err { OnErr result (heap_of self.new ≡ heap_of self.old) }
+        ensures heap_err { OnErr result (IsStill self.old.heap self.new.heap) }
     {
         let count = self.heap.allocator().region_count();
         self.list.clear();
@@ -47,7 +50,7 @@ impl NumberedHeap {
         ensures err { (top : ℕ) → OnErr result (seen_with top self.new ≡ seen_with top self.old) }
         ensures heap { IfOk result (λ answer. HeapMoves self.old Call.Reset answer.reply self.new) }
         ensures kept { IfOk result (λ answer. IsSeenAsBefore answer.reply self.old self.new) }
-        ensures heap_err { OnErr result (heap_of self.new ≡ heap_of self.old) }
+        ensures heap_err { OnErr result (IsStill self.old.heap self.new.heap) }
     {
         let other = PagedSystem::new(self.alloc, Size4KiB::SIZE, 1, 1)?;
         let free = self.heap.allocator().free_frames();

@@ -4,7 +4,11 @@ ghost use Rattle.heap_model.specs.State.{State};
 ghost use Rattle.kernel_heap.specs.System.{paged};
 ghost use Rattle.heap_model.specs.Run.{IsGood};
 ghost use Rattle.heap_model.specs.Machine.{Stands, IsStep};
-ghost use Rattle.kernel_heap.specs.Machine.{seen_with, system_of, lasting_pages, AreRunsUsedFor, map_refusal, unmap_refusal, IsRefusal, IsStill, IsSeenAsBefore, IsSound};
+ghost use Rattle.kernel_heap.specs.Machine.{seen_with, system_of};
+ghost use Rattle.kernel_heap.specs.LaidOut.{IsSound};
+ghost use Rattle.kernel_heap.specs.Refusing.{map_refusal, unmap_refusal, IsRefusal};
+ghost use Rattle.kernel_heap.specs.Kept.{lasting_pages, AreRunsUsedFor, IsSeenAsBefore};
+ghost use Rattle.kernel_heap.specs.Moves.{IsStill};
 
 use crate::numbered_heap::{NumberedHeap, refused};
 use heap_model::{Answer, Call, Refusal, Reply, Rights};

@@ -3,8 +3,10 @@ use Rattle.std.proofs.lemmas.Result.{IfOk-weaker}
 use Rattle.x86_registers.specs.Cr3.{root_of}
 use Rattle.heap_model.specs.Machine.{Stands}
 use Rattle.kernel_heap.specs.Parts.{Parts}
-use Rattle.kernel_heap.specs.Machine.{seen, seen_with, system_of, lasting_pages, AreRunsUsedFor}
-use Rattle.std.specs.Prelude.{IfOk}
+use Rattle.kernel_heap.specs.Machine.{seen, seen_with, system_of}
+use Rattle.kernel_heap.specs.Kept.{lasting_pages, AreRunsUsedFor}
+use Rattle.std.specs.Prelude.{IfOk, OnErr}
+use Rattle.kernel_heap.specs.Moves.{IsStill}
 use Rattle.kernel_heap.specs.System.{paged}
 use Rattle.kernel_heap.proofs.machine.Machine.step.Goals as goal
 
@@ -25,3 +27,7 @@ returns-in-Ok-clause-kept c =
     rw c.note_fault.ensures.root
     (subst (λ (parts : Parts). seen_with (root_of c.self.inside.cpu.cr3) c.serve-served.new.self ≡ seen parts) c.self.view_is (kept told (root_of c.self.inside.cpu.cr3))))
     c.serve-served.ensures.kept
+
+pub returns-in_default-clause-heap_err : goal.returns-in_default-clause-heap_err
+returns-in_default-clause-heap_err c =
+    subst (λ (parts : Parts). OnErr c.serve-served.result (IsStill parts.heap.heap c.serve-served.new.self.heap)) c.self.view_is c.serve-served.ensures.heap_err

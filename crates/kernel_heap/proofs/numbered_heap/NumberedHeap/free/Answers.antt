@@ -1,12 +1,13 @@
 use Rattle.std.proofs.Common.{rules, arith, ◌≤◌, vec_capacity, ◌≡◌, ◌∙◌, ap, sym, length, None}
 use Rattle.heap_model.proofs.Shortened.{length_cut}
 use Rattle.kernel_heap.specs.System.{paged}
-use Rattle.kernel_heap.proofs.Laid.{laid_ended}
+use Rattle.kernel_heap.proofs.Laid.{laid_ended, still_err}
 use Rattle.kernel_heap.proofs.Ended.{free_shortened, step_ended}
 use Rattle.heap_model.specs.declared.call.Call.TheVariants.{Free}
 use Rattle.heap_model.specs.declared.answer.Refusal.TheVariants.{UnknownBlock}
 use Rattle.heap_model.specs.Refusal.{refuse_block}
-use Rattle.kernel_heap.specs.Machine.{seen_with, live_at}
+use Rattle.kernel_heap.specs.Machine.{seen_with}
+use Rattle.kernel_heap.specs.Numbered.{live_at}
 use Rattle.kernel_heap.proofs.BlockBytes.{unknown_same}
 use Rattle.kernel_heap.proofs.Refused.{step_refused}
 use Rattle.kernel_heap.proofs.numbered_heap.NumberedHeap.free.Goals as goal
@@ -43,3 +44,6 @@ pub returns-in_default-clause-ok : goal.returns-in_default-clause-ok
 returns-in_default-clause-ok c = λ top s good stands.
     let none : live_at c.args.self.now.blocks.items c.args.number ≡ None = search rules in
     rw c.refused.ensures (step_refused (seen_with top c.args.self.now) s (Free c.args.number) UnknownBlock (ap refuse_block (unknown_same (seen_with top c.args.self.now) s c.args.number stands none)) good stands)
+
+pub returns-in_err-reserve-clause-heap_err : goal.returns-in_err-reserve-clause-heap_err
+returns-in_err-reserve-clause-heap_err c = still_err c.from_residual.result c.args.self.now.heap

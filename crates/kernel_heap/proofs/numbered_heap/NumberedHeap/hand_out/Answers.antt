@@ -14,11 +14,14 @@ use Rattle.heap_model.specs.Machine.{IsStep}
 use Rattle.kernel_heap.specs.System.{paged, pageless_frames}
 use Rattle.kernel_heap.specs.Words.{heap_regions}
 use Rattle.kernel_heap.specs.Heap.{regions, word}
-use Rattle.kernel_heap.specs.Machine.{system_of, seen_with, request, lasting_pages, AreRunsUsedFor, IsServedFor, IsToldFrom, leaves_all, HeapMoves}
+use Rattle.kernel_heap.specs.Machine.{system_of, seen_with}
+use Rattle.kernel_heap.specs.Blocks.{request, IsServedFor}
+use Rattle.kernel_heap.specs.Kept.{lasting_pages, AreRunsUsedFor, leaves_all}
+use Rattle.kernel_heap.specs.Moves.{IsToldFrom, HeapMoves}
 use Rattle.kernel_heap.specs.declared.numbered_heap.NumberedHeap.{NumberedHeap}
 use Rattle.kernel_heap.specs.declared.paged_system.PagedSystem.{PagedSystem}
 use Rattle.kernel_heap.proofs.LastingPages.{runs_refused}
-use Rattle.kernel_heap.proofs.Laid.{laid_handed, laid_denied}
+use Rattle.kernel_heap.proofs.Laid.{laid_handed, laid_denied, still_err}
 use Rattle.kernel_heap.proofs.Found.{few_regions}
 use Rattle.kernel_heap.proofs.Handed.{step_request}
 use Rattle.kernel_heap.proofs.Told.{AreTold, step_told, runs_told, told_from}
@@ -172,7 +175,7 @@ returns-in-Err-clause-heap c =
     c.refused_by.ensures.ok
 
 pub returns-in-Err-clause-heap_err : goal.returns-in-Err-clause-heap_err
-returns-in-Err-clause-heap_err c = on_err_weaker c.refused_by.result (λ none. c.in-Err.ensures.err.same.state) c.refused_by.ensures.err
+returns-in-Err-clause-heap_err c = on_err_weaker c.refused_by.result (λ none. (c.in-Err.ensures.err.same.state, c.in-Err.ensures.err.same.index)) c.refused_by.ensures.err
 
 pub returns-then-not-is_power_of_two-clause-heap : goal.returns-then-not-is_power_of_two-clause-heap
 returns-then-not-is_power_of_two-clause-heap c =
@@ -186,3 +189,9 @@ returns-in-Err-clause-kept c =
     IfOk-weaker c.refused_by.result _ _ (λ answer given told top.
     rw c.in_ok-reserve.ensures.items (seen_denied c.args.self.now.heap c.hand_out.new.heap c.args.self.now.blocks.items (asked c.args.size c.args.align) c.in-Err.error c.in-Err.ensures.err top))
     c.refused_by.ensures.ok
+
+pub returns-in_err-reserve-clause-heap_err : goal.returns-in_err-reserve-clause-heap_err
+returns-in_err-reserve-clause-heap_err c = still_err c.from_residual.result c.args.self.now.heap
+
+pub returns-in_err-reserve-2-clause-heap_err : goal.returns-in_err-reserve-2-clause-heap_err
+returns-in_err-reserve-2-clause-heap_err c = still_err c.from_residual-in_err-reserve-2.result c.args.self.now.heap

@@ -2,6 +2,7 @@ use Rattle.std.proofs.Common.{◌≡◌, ◌-◌, ◌∙◌, ap, arith, Some}
 use Rattle.paging_core.specs.Pool.{free_count}
 use Rattle.kernel_heap.specs.System.{paged}
 use Rattle.kernel_heap.proofs.Reset.{laid_reset, more_free, step_reset, spare_window}
+use Rattle.kernel_heap.proofs.Laid.{still_err}
 use Rattle.kernel_heap.proofs.numbered_heap.NumberedHeap.reset.Goals as goal
 use Rattle.kernel_heap.proofs.numbered_heap.NumberedHeap.reset.Goals.{then-frames-eq0, else-frames-eq0}
 
@@ -39,3 +40,6 @@ returns-clause-ok c = λ top s good stands.
       | then-frames-eq0 w ↦ absurd (some w.if-frames-eq0.true)
       | else-frames-eq0 w ↦ w.result-is ∙ ap Some w.new-else-frames-eq0.ensures
     ]))
+
+pub returns-in_err-other-clause-heap_err : goal.returns-in_err-other-clause-heap_err
+returns-in_err-other-clause-heap_err c = still_err c.from_residual.result c.args.self.now.heap

@@ -7,8 +7,11 @@ use Rattle.heap_model.specs.declared.answer.Reply.TheVariants.{Block as Placed}
 use Rattle.heap_model.specs.Slots.{listed_slots}
 use Rattle.heap_model.specs.Machine.{IsStep}
 use Rattle.kernel_heap.specs.System.{paged}
-use Rattle.kernel_heap.specs.Machine.{seen_with, live_at, resizing, align_kept, HeapMoves, IsToldFrom}
-use Rattle.kernel_heap.proofs.Laid.{laid_resized, laid_denied}
+use Rattle.kernel_heap.specs.Machine.{seen_with}
+use Rattle.kernel_heap.specs.Numbered.{live_at}
+use Rattle.kernel_heap.specs.Blocks.{resizing, align_kept}
+use Rattle.kernel_heap.specs.Moves.{HeapMoves, IsToldFrom}
+use Rattle.kernel_heap.proofs.Laid.{laid_resized, laid_denied, still_err}
 use Rattle.kernel_heap.proofs.Found.{few_regions}
 use Rattle.kernel_heap.proofs.Resized.{step_resized, step_not_resized, step_unknown, kept_power, moves_resizing, moved_shortened}
 use Rattle.kernel_heap.proofs.Told.{AreTold, step_told, told_from}
@@ -110,7 +113,7 @@ returns-in-Err-clause-heap c =
     c.refused_by.ensures.ok
 
 pub returns-in-Err-clause-heap_err : goal.returns-in-Err-clause-heap_err
-returns-in-Err-clause-heap_err c = on_err_weaker c.refused_by.result (λ none. c.in-Err.ensures.err.same.state) c.refused_by.ensures.err
+returns-in-Err-clause-heap_err c = on_err_weaker c.refused_by.result (λ none. (c.in-Err.ensures.err.same.state, c.in-Err.ensures.err.same.index)) c.refused_by.ensures.err
 
 pub returns-in_default-clause-heap : goal.returns-in_default-clause-heap
 returns-in_default-clause-heap c =
@@ -122,3 +125,6 @@ returns-in-Err-clause-kept c =
     IfOk-weaker c.refused_by.result _ _
     (λ answer given told top. seen_denied c.args.self.now.heap c.resize.new.heap c.args.self.now.blocks.items (asked c.args.size (align_kept c.args.keeps_alignment c.in-Some.live)) c.in-Err.error c.in-Err.ensures.err top)
     c.refused_by.ensures.ok
+
+pub returns-in_err-reserve-clause-heap_err : goal.returns-in_err-reserve-clause-heap_err
+returns-in_err-reserve-clause-heap_err c = still_err c.from_residual.result c.args.self.now.heap

@@ -3,7 +3,7 @@ use Rattle.std.proofs.lemmas.Result.{IfOk-weaker}
 use Rattle.heap_model.specs.declared.call.Call.TheVariants as Called
 use Rattle.kernel_heap.specs.System.{paged}
 use Rattle.kernel_heap.specs.Machine.{system_of}
-use Rattle.kernel_heap.proofs.Laid.{still_none}
+use Rattle.kernel_heap.proofs.Laid.{still_none, still_err}
 use Rattle.kernel_heap.proofs.LastingPages.{runs_none}
 use Rattle.kernel_heap.proofs.numbered_heap.NumberedHeap.serve.Goals as goal
 
@@ -107,3 +107,9 @@ returns-in-Read-clause-heap c = rw c.in-Read.is (always c.read.result (λ answer
 
 pub returns-in-Probe-clause-heap : goal.returns-in-Probe-clause-heap
 returns-in-Probe-clause-heap c = rw c.in-Probe.is (still_none c.args.self.now.heap)
+
+pub returns-in-Read-clause-heap_err : goal.returns-in-Read-clause-heap_err
+returns-in-Read-clause-heap_err c = still_err c.read.result c.args.self.now.heap
+
+pub returns-in-Extents-clause-heap_err : goal.returns-in-Extents-clause-heap_err
+returns-in-Extents-clause-heap_err c = still_err c.extents.result c.args.self.now.heap

@@ -1,6 +1,7 @@
 use Rattle.std.proofs.Common.{rules, arith, ◌≤◌, vec_capacity, ◌≡◌, ◌∙◌, ap, sym, length}
 use Rattle.kernel_heap.specs.System.{paged}
 use Rattle.kernel_heap.proofs.Trimmed.{laid_trimmed, few_left, step_trimmed}
+use Rattle.kernel_heap.proofs.Laid.{still_err}
 use Rattle.kernel_heap.proofs.numbered_heap.NumberedHeap.trim.Goals as goal
 
 -- the list has a place for each region that is left
@@ -26,3 +27,6 @@ returns-clause-ok c = λ top s good stands.
 
 pub returns-clause-heap : goal.returns-clause-heap
 returns-clause-heap c = rw c.changed_regions-regions.ensures.heap (c.trim.result, c.trim.ensures.trimmed)
+
+pub returns-in_err-reserve-clause-heap_err : goal.returns-in_err-reserve-clause-heap_err
+returns-in_err-reserve-clause-heap_err c = still_err c.from_residual.result c.args.self.now.heap

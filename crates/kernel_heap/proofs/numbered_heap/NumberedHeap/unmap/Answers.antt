@@ -5,7 +5,8 @@ use Rattle.mapped_regions.specs.Mapped.{IsLeft}
 use Rattle.mapped_regions.specs.UserRegions.{IsUnmapRefused, CanUnmap}
 use Rattle.kernel_heap.specs.Beside.{IsBeside}
 use Rattle.kernel_heap.specs.System.{paged}
-use Rattle.kernel_heap.specs.Machine.{seen_with, unmap_refusal}
+use Rattle.kernel_heap.specs.Machine.{seen_with}
+use Rattle.kernel_heap.specs.Refusing.{unmap_refusal}
 use Rattle.kernel_heap.proofs.Refused.{refused_with}
 use Rattle.kernel_heap.proofs.Laid.{still_beside}
 use Rattle.kernel_heap.proofs.UserRegions.{step_unmap, unmap_denied, laid_beside}

@@ -1,0 +1,46 @@
+-- The block that a call is served, or gives another size.
+use Rattle.std.specs.Prelude.{◌≡◌, ℕ, ◌+◌, ◌-◌, ◌==◌, ◌%◌, ◌<◌, ◌≤◌, Bool, true, false}
+use Rattle.dlmalloc.specs.Requested.{IsServedAt}
+use Rattle.dlmalloc.specs.State.{HeapState, extents_in, size_where}
+use Rattle.dlmalloc.specs.Written.{IsServedCleared}
+use Rattle.dlmalloc.specs.Moved.{IsResized}
+use Rattle.dlmalloc.specs.declared.heap.Dlmalloc.{Dlmalloc}
+use Rattle.heap_model.specs.declared.live.Live.{Live}
+use Rattle.heap_model.specs.declared.call.Call.{Call}
+use Rattle.heap_model.specs.declared.call.Call.TheVariants.{Malloc, Calloc, Realloc, CRealloc}
+use Rattle.kernel_heap.specs.Heap.{regions, word, follows, zeros, heap_state}
+use Rattle.kernel_heap.specs.declared.paged_system.PagedSystem.{PagedSystem}
+
+-- a block is handed out, and is cleared then where that is asked for
+abbrev pub IsServedFor : Bool → Dlmalloc PagedSystem → ℕ → ℕ → ℕ → Dlmalloc PagedSystem → Type 0
+IsServedFor false old size align address new = IsServedAt regions word zeros follows old size align address new
+IsServedFor true old size align address new = IsServedCleared regions word zeros follows old size align address new
+
+-- the words that hold so many bytes from an address on are 0
+abbrev pub AreZero : (ℕ → ℕ) → ℕ → ℕ → Type 0
+AreZero words address size = (k : ℕ) → address ≤ k → k < address + size → k % 8 ≡ 0 → words k ≡ 0
+
+-- the call that asks for a block, of value 0 or not
+abbrev pub request : Bool → ℕ → ℕ → Call
+request false size align = Malloc size align
+request true size align = Calloc size align
+
+-- the call that gives a block another size, with its own alignment or the least
+abbrev pub resizing : Bool → ℕ → ℕ → Call
+resizing true number size = Realloc number size
+resizing false number size = CRealloc number size
+
+-- the alignment that a live block has then
+abbrev pub align_kept : Bool → Live → ℕ
+align_kept true live = live.align
+align_kept false live = 16
+
+-- how many of its bytes are copied then at most: as many as it has, or as many as its chunk holds
+abbrev pub bytes_kept : Bool → HeapState → Live → ℕ
+bytes_kept true heap live = live.size
+bytes_kept false heap live = size_where (λ extent. extent.at == live.address - 16) (extents_in heap) - 8
+
+-- So a live block gets that size. The system takes back whole runs, and ends of runs in pages.
+abbrev pub IsResizedTo : Bool → Dlmalloc PagedSystem → Live → ℕ → ℕ → Dlmalloc PagedSystem → Type 0
+IsResizedTo keeps old live size address new =
+    IsResized regions word zeros follows true true 4096 old live.address (bytes_kept keeps (heap_state old) live) (align_kept keeps live) size address new
