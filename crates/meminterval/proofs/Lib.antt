@@ -6,3 +6,5 @@ pub mod Trees
 pub mod Places
 pub mod Search
 pub mod Cursor
+pub mod Descents
+pub mod Depth

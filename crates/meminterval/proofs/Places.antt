@@ -15,7 +15,8 @@ use Rattle.meminterval.specs.declared.node.Subtree.{Subtree}
 use Rattle.meminterval.specs.declared.node.Subtree.TheVariants.{Empty, Fork, Fork'}
 use Rattle.meminterval.specs.Entries.{AllItems, IsOrdered}
 use Rattle.meminterval.specs.Interval.{by_ends}
-use Rattle.meminterval.specs.Place.{map_at, with_value, put_value}
+use Rattle.meminterval.specs.Place.{map_at, with_value, put_last, put_value}
+use Rattle.meminterval.specs.QueryMut.{map_last}
 use Rattle.meminterval.specs.Subtree.{tree_of, raised, greatest_end, IsRecorded, IsSound}
 use Rattle.meminterval.specs.Tree as tree
 use Rattle.meminterval.specs.Tree.{Tree, Leaf, entries, levels, visited, IsBalanced}
@@ -155,6 +156,14 @@ module _ {T V : Type 0} (w : V) where
       ordered = rw (tree_of-put w t k) (ordered_keys (by_ends cmp) (entries (tree_of t)) (entries (map_at (with_value w) (tree_of t) k)) (sym (keys_at w (tree_of t) k)) a.ordered);
       few = let few = a.few in rw (tree_of-put w t k, length_at w (tree_of t) k) few;
     }
+
+    pub sound_put_last : (t : Subtree T V) (n : ℕ) → IsSound cmp t → IsSound cmp (put_last w t n)
+    sound_put_last t zero a = a
+    sound_put_last t (suc k) a = sound_put t k a
+
+  pub tree_of-put_last : (t : Subtree T V) (n : ℕ) → tree_of (put_last w t n) ≡ map_last (with_value w) (tree_of t) n
+  tree_of-put_last t zero = refl
+  tree_of-put_last t (suc k) = tree_of-put w t k
 
 module _ {T V : Type 0} (w : V) (b : Box (Node T V) Global) (k : ℕ) where
   pub put_right : k < length (visited (tree_of b.value.right)) → put_value w (Fork b) (suc k) ≡ Fork (record b { value = record b.value { right = put_value w b.value.right k } })

@@ -30,7 +30,7 @@ fibonacci_step n =
     let one : n + 1 ≡ suc n = omega arith in
     rw (two, one) refl
 
-fibonacci_grows : (n : ℕ) → fibonacci (n + 1) ≤ fibonacci (n + 2)
+pub fibonacci_grows : (n : ℕ) → fibonacci (n + 1) ≤ fibonacci (n + 2)
 fibonacci_grows n = omega (arith, fibonacci_step n)
 
 regroup : (n : ℕ) → fibonacci (n + 1 + 1) ≡ fibonacci (n + 2)

@@ -1,3 +1,5 @@
+pub mod Descent
+pub mod DescentLending
 pub mod Entries
 pub mod Entry
 pub mod Insertion

@@ -30,3 +30,8 @@ abbrev pub put_value : {T V : Type 0} → V → Subtree T V → ℕ → Subtree 
 put_value w Empty k = Empty
 put_value w (Fork' p l i v g n s r) zero = Fork' p l i w g n s r
 put_value w (Fork' p l i v g n s r) (suc k) = cond (nat_lt k (length (visited (tree_of r)))) (Fork' p l i v g n s (put_value w r k)) (Fork' p (put_value w l (k - length (visited (tree_of r)))) i v g n s r)
+
+-- the nodes with another value at the last of the first n places
+abbrev pub put_last : {T V : Type 0} → V → Subtree T V → ℕ → Subtree T V
+put_last w t zero = t
+put_last w t (suc k) = put_value w t k

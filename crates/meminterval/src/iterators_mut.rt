@@ -5,7 +5,7 @@ ghost use Rattle.std.specs.Borrow.{sem};
 ghost use Rattle.meminterval.specs.Entries.{IsOrdered};
 ghost use Rattle.meminterval.specs.Entry.{pair_of};
 ghost use Rattle.meminterval.specs.Interval.{by_ends, overlaps};
-ghost use Rattle.meminterval.specs.Lending.{ends_moved};
+ghost use Rattle.meminterval.specs.Lending.{LendsLast, ends_moved};
 ghost use Rattle.meminterval.specs.Place.{place_from};
 ghost use Rattle.meminterval.specs.Query.{IsSoundNode};
 ghost use Rattle.meminterval.specs.QueryMut.{last_passed, left_of, moved, with_value_there};
@@ -84,6 +84,17 @@ impl<'a, T: Ord + Clone, V> IntervalTreeIteratorMut<'a, T, V> {
             Some(place) => self.tree.pair_at(place),
             None => None,
         }
+    }
+
+    /// The value of the pair that was answered last, to be changed in its place, and None before the
+    /// first pair. The same pairs are left whatever it becomes.
+    pub fn value_mut(&mut self) -> Option<&mut V>
+        ensures* lends { sem 𝓛 (LendsLast T.row V.row (record { eq = T.eq; partial_cmp = T.partial_cmp; cmp = T.cmp; is_clone = T.is_clone; is_infallible = T.is_infallible }) self.entry result) }
+        ensures value { option_map (λ v. v.now) result ≡ option_map (λ e. e.1) (last_passed self.old) }
+    {
+        let passed = self.passed;
+        let tree = &mut *self.tree;
+        tree.last_value_mut(passed)
     }
 
     /// Puts `value` in place of the one of the pair that was answered last, and answers that one.

@@ -2,6 +2,7 @@
 #![tactic(auto)]
 
 mod deletion;
+mod descent;
 mod entry;
 mod insertion;
 mod interval;

@@ -10,6 +10,7 @@ ghost use Rattle.meminterval.specs.Query.{overlapping};
 ghost use Rattle.meminterval.specs.Tree.{Leaf, entries, fibonacci, height, levels, map_pairs, visited, IsBalanced};
 
 use crate::deletion::{delete_below, take_greatest, take_least};
+use crate::descent::last_value_below;
 use crate::entry::Entry;
 use crate::insertion::{Insertion, insert_below};
 use crate::interval::Interval;
@@ -50,7 +51,9 @@ impl<T: Ord + Clone, V> Model for IntervalTree<T, V> {
 }
 
 impl<T: Ord + Clone, V> IntervalTree<T, V> {
-    ghost use Rattle.meminterval.specs.QueryMut.{left_of};
+    ghost use Rattle.std.specs.Borrow.{sem};
+    ghost use Rattle.meminterval.specs.Lending.{LendsLastOf};
+    ghost use Rattle.meminterval.specs.QueryMut.{last_of, left_of};
 
     /// Makes the empty tree.
     pub fn new() -> Self
@@ -207,6 +210,15 @@ impl<T: Ord + Clone, V> IntervalTree<T, V> {
             }
         }
         None
+    }
+
+    /// The value of the last of the first `passed` pairs, in the order of a query, if there is such a
+    /// pair.
+    pub(crate) fn last_value_mut(&mut self, passed: usize) -> Option<&mut V>
+        ensures* lends { sem 𝓛 (LendsLastOf T.row V.row (record { eq = T.eq; partial_cmp = T.partial_cmp; cmp = T.cmp; is_clone = T.is_clone; is_infallible = T.is_infallible }) self.entry passed result) }
+        ensures value { option_map (λ v. v.now) result ≡ option_map (λ e. e.1) (last_of (visited self.old) passed) }
+    {
+        last_value_below(&mut self.root, passed)
     }
 
     /// Puts `value` in place of the one at a place, in the order of a query, and answers that one.

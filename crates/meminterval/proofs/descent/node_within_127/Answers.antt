@@ -1,0 +1,39 @@
+use Rattle.std.proofs.Common.{◌≡◌, suc, ◌-◌, sym, ◌∙◌, refl, arith, inl}
+use Rattle.meminterval.proofs.Descents.{ends, further, nothing, put_back, read_same, recorded_at, recorded_turn, turn_back}
+use Rattle.meminterval.proofs.descent.node_within_127.Goals as goal
+
+pub returns-in_err-node : goal.returns-in_err-node
+returns-in_err-node g c =
+    let none = nothing 63 127 c.args.tree.now c.args.place (omega arith) (sym c.in_err-node.ensures.value) in
+    rw c.from_residual.ensures (refl, record { lends = tt; value = sym none.0 })
+
+pub returns-then-left-eq0 : goal.returns-then-left-eq0
+returns-then-left-eq0 g c =
+    let over = ends 63 127 c.args.tree.now c.args.place (omega arith) (sym c.left_after-left.ensures ∙ c.if-left-eq0.true) in
+    (λ i. inl (c.in_ok-node.node.ghost_name, λ w. sym (over.1 w) i), record { lends = tt; value = c.in_ok-node.ensures.value ∙ sym over.0 })
+
+pub rest-rest-requires : goal.rest-rest-requires
+rest-rest-requires g c = (recorded_at g.T.Ord.cmp 63 c.args.tree.now c.args.place c.requires c.in_ok-node.node.now (sym c.in_ok-node.ensures.value)).1
+
+pub turn-requires : goal.turn-requires
+turn-requires g c = (recorded_at g.T.Ord.cmp 63 c.args.tree.now c.args.place c.requires c.in_ok-node.node.now (sym c.in_ok-node.ensures.value)).1
+
+pub returns : goal.returns
+returns g c =
+    let node = c.in_ok-node.node.now in
+    let left = c.left_after-left.result in
+    let more : left ≡ suc (left - 1) = omega (arith, c.if-left-eq0.false) in
+    let there = sym c.in_ok-node.ensures.value in
+    let on = further 63 63 127 c.args.tree.now c.args.place (omega arith) node (left - 1) there
+    (sym c.left_after-left.ensures ∙ more) in
+    let found = rw (c.turn.ensures.value, c.rest-rest.ensures) at c.node_within_63-2.ensures.value in
+    let back = put_back 63 c.args.tree.now c.args.place node there in (
+      read_same _ (λ w. rw (c.turn.ensures.value, c.rest-rest.ensures) (sym (on.1 w)))
+          (rw (c.turn.ensures.value, turn_back node (left - 1)) back),
+      record { lends = tt; value = found ∙ sym on.0 },
+    )
+
+pub node_within_63-requires-2 : goal.node_within_63-requires-2
+node_within_63-requires-2 g c =
+    let parts = recorded_at g.T.Ord.cmp 63 c.args.tree.now c.args.place c.requires c.in_ok-node.node.now (sym c.in_ok-node.ensures.value) in
+    rw c.turn.ensures.value (recorded_turn g.T.Ord.cmp c.in_ok-node.node.now (c.left_after-left.result - 1) parts.0 parts.1)
