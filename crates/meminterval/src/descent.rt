@@ -1,12 +1,12 @@
 //! The way down to a place, at whose end a value is lent.
 //!
-//! The prover says what a tree ends as after a `&mut` that a fixed chain of calls lent, and says
-//! nothing of one that a loop or a recursion lent. So each way is a function of its own: one of 127
-//! turns is two of 63 with a turn between them, and so on down to the way of no turn. A tree of at
-//! most 2^63 pairs has at most 128 levels, so a way of 127 turns reaches each pair. The place that is
-//! left at a joint is found by a look ahead along the way, so each turn is looked at up to seven
-//! times.
-ghost use Rattle.std.specs.Prelude.{◌≡◌, ◌≤◌};
+//! The prover says what a tree ends as after a `&mut` that a chain of calls lent, each of a function of its
+//! own, and says nothing of one that a loop or a recursion lent. So a way down is a type, and its length
+//! is fixed: [`Twice`] a way of 63 turns, with a turn between, is one of 127, and so on down to [`Here`], the
+//! way of no turn. A tree of at most 2^63 pairs has at most 128 levels, so [`Longest`] reaches each pair. The
+//! place that is left at a joint is found by a look ahead along the way, so each turn is looked at up to
+//! seven times.
+ghost use Rattle.std.specs.Prelude.{◌≡◌, ◌≤◌, ◌+◌, ℕ, suc};
 ghost use Rattle.std.specs.List.{slice_get};
 ghost use Rattle.std.specs.Option.{option_map};
 ghost use Rattle.std.specs.Borrow.{sem};
@@ -41,125 +41,70 @@ fn value_below<T: Ord, V>(tree: &mut Subtree<T, V>, place: usize) -> Option<&mut
     if place >= tree.size() {
         return None;
     }
-    let node = node_within_127(tree, place)?;
+    let node = Longest::node_within(tree, place, 127)?;
     Some(&mut node.value)
 }
 
-// The node at a place, or the one on the way to it after 127 turns.
-fn node_within_127<T: Ord, V>(tree: &mut Subtree<T, V>, place: usize) -> Option<&mut Node<T, V>>
-    requires { IsRecorded T.cmp tree.old }
-    ensures* lends { sem 𝓛 (LendsReached T.row V.row tree.entry 127 place result) }
-    ensures value { option_map (λ n. n.now) result ≡ reached 127 tree.old place }
-{
-    let left = left_after(tree, place, 63);
-    let node = node_within_63(tree, place)?;
-    if left == 0 {
-        return Some(node);
-    }
-    let rest = rest(node, left - 1);
-    node_within_63(turn(node, left - 1), rest)
+/// A way down of so many turns.
+trait Way {
+    ghost turns: { ℕ };
+
+    /// The node at a place, or the one on the way to it after all the turns; `length` is their number.
+    fn node_within<T: Ord, V>(
+        tree: &mut Subtree<T, V>,
+        place: usize,
+        length: u64,
+    ) -> Option<&mut Node<T, V>>
+        requires length { length ≡ turns }
+        requires recorded { IsRecorded T.cmp tree.old }
+        ensures* lends { sem 𝓛 (LendsReached T.row V.row tree.entry length place result) }
+        ensures value { option_map (λ n. n.now) result ≡ reached length tree.old place };
 }
 
-// The node at a place, or the one on the way to it after 63 turns.
-fn node_within_63<T: Ord, V>(tree: &mut Subtree<T, V>, place: usize) -> Option<&mut Node<T, V>>
-    requires { IsRecorded T.cmp tree.old }
-    ensures* lends { sem 𝓛 (LendsReached T.row V.row tree.entry 63 place result) }
-    ensures value { option_map (λ n. n.now) result ≡ reached 63 tree.old place }
-{
-    let left = left_after(tree, place, 31);
-    let node = node_within_31(tree, place)?;
-    if left == 0 {
-        return Some(node);
+/// The way of no turn: to the node at the top.
+struct Here;
+
+impl Way for Here {
+    ghost turns = { 0 };
+
+    fn node_within<T: Ord, V>(
+        tree: &mut Subtree<T, V>,
+        _place: usize,
+        _length: u64,
+    ) -> Option<&mut Node<T, V>> {
+        match tree {
+            Subtree::Empty => None,
+            Subtree::Fork(node) => Some(&mut **node),
+        }
     }
-    let rest = rest(node, left - 1);
-    node_within_31(turn(node, left - 1), rest)
 }
 
-// The node at a place, or the one on the way to it after 31 turns.
-fn node_within_31<T: Ord, V>(tree: &mut Subtree<T, V>, place: usize) -> Option<&mut Node<T, V>>
-    requires { IsRecorded T.cmp tree.old }
-    ensures* lends { sem 𝓛 (LendsReached T.row V.row tree.entry 31 place result) }
-    ensures value { option_map (λ n. n.now) result ≡ reached 31 tree.old place }
-{
-    let left = left_after(tree, place, 15);
-    let node = node_within_15(tree, place)?;
-    if left == 0 {
-        return Some(node);
-    }
-    let rest = rest(node, left - 1);
-    node_within_15(turn(node, left - 1), rest)
+/// A way, a turn, and the way again.
+struct Twice<W> {
+    way: W,
 }
 
-// The node at a place, or the one on the way to it after 15 turns.
-fn node_within_15<T: Ord, V>(tree: &mut Subtree<T, V>, place: usize) -> Option<&mut Node<T, V>>
-    requires { IsRecorded T.cmp tree.old }
-    ensures* lends { sem 𝓛 (LendsReached T.row V.row tree.entry 15 place result) }
-    ensures value { option_map (λ n. n.now) result ≡ reached 15 tree.old place }
-{
-    let left = left_after(tree, place, 7);
-    let node = node_within_7(tree, place)?;
-    if left == 0 {
-        return Some(node);
+impl<W: Way> Way for Twice<W> {
+    ghost turns = { suc (W.turns + W.turns) };
+
+    fn node_within<T: Ord, V>(
+        tree: &mut Subtree<T, V>,
+        place: usize,
+        length: u64,
+    ) -> Option<&mut Node<T, V>> {
+        let half = length / 2;
+        let left = left_after(tree, place, half);
+        let node = W::node_within(tree, place, half)?;
+        if left == 0 {
+            return Some(node);
+        }
+        let rest = rest(node, left - 1);
+        W::node_within(turn(node, left - 1), rest, half)
     }
-    let rest = rest(node, left - 1);
-    node_within_7(turn(node, left - 1), rest)
 }
 
-// The node at a place, or the one on the way to it after 7 turns.
-fn node_within_7<T: Ord, V>(tree: &mut Subtree<T, V>, place: usize) -> Option<&mut Node<T, V>>
-    requires { IsRecorded T.cmp tree.old }
-    ensures* lends { sem 𝓛 (LendsReached T.row V.row tree.entry 7 place result) }
-    ensures value { option_map (λ n. n.now) result ≡ reached 7 tree.old place }
-{
-    let left = left_after(tree, place, 3);
-    let node = node_within_3(tree, place)?;
-    if left == 0 {
-        return Some(node);
-    }
-    let rest = rest(node, left - 1);
-    node_within_3(turn(node, left - 1), rest)
-}
-
-// The node at a place, or the one on the way to it after 3 turns.
-fn node_within_3<T: Ord, V>(tree: &mut Subtree<T, V>, place: usize) -> Option<&mut Node<T, V>>
-    requires { IsRecorded T.cmp tree.old }
-    ensures* lends { sem 𝓛 (LendsReached T.row V.row tree.entry 3 place result) }
-    ensures value { option_map (λ n. n.now) result ≡ reached 3 tree.old place }
-{
-    let left = left_after(tree, place, 1);
-    let node = node_within_1(tree, place)?;
-    if left == 0 {
-        return Some(node);
-    }
-    let rest = rest(node, left - 1);
-    node_within_1(turn(node, left - 1), rest)
-}
-
-// The node at a place, or the one on the way to it after 1 turn.
-fn node_within_1<T: Ord, V>(tree: &mut Subtree<T, V>, place: usize) -> Option<&mut Node<T, V>>
-    requires { IsRecorded T.cmp tree.old }
-    ensures* lends { sem 𝓛 (LendsReached T.row V.row tree.entry 1 place result) }
-    ensures value { option_map (λ n. n.now) result ≡ reached 1 tree.old place }
-{
-    let left = left_after(tree, place, 0);
-    let node = node_within_0(tree, place)?;
-    if left == 0 {
-        return Some(node);
-    }
-    let rest = rest(node, left - 1);
-    node_within_0(turn(node, left - 1), rest)
-}
-
-// The node at a place, or the one on the way to it after no turn: that at the top.
-fn node_within_0<T: Ord, V>(tree: &mut Subtree<T, V>, place: usize) -> Option<&mut Node<T, V>>
-    ensures* lends { sem 𝓛 (LendsReached T.row V.row tree.entry 0 place result) }
-    ensures value { option_map (λ n. n.now) result ≡ reached 0 tree.old place }
-{
-    match tree {
-        Subtree::Empty => None,
-        Subtree::Fork(node) => Some(&mut **node),
-    }
-}
+/// The way of 127 turns: of 63, of 31, of 15, of 7, of 3 and of one, each twice with a turn between.
+type Longest = Twice<Twice<Twice<Twice<Twice<Twice<Twice<Here>>>>>>>;
 
 // The place that is left below the node that a way of so many turns reaches.
 fn left_after<T: Ord, V>(tree: &Subtree<T, V>, place: usize, turns: u64) -> usize
