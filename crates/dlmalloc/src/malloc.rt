@@ -26,6 +26,7 @@ impl<A: Allocator> Dlmalloc<A> {
     /// `Dlmalloc::malloc`). It writes words at boundaries of extents and in free ones alone, and so no byte of another block.
     /// Where an extent is chosen, at most 8192 words are loaded or stored, however many extents there are, and for a refusal
     /// at most 512. A request that is too large leaves the heap as it was.
+    #[inline(always)]
     pub fn malloc<L: Ledger>(
         &mut self,
         size: u64,
@@ -137,6 +138,7 @@ impl<A: Allocator> Dlmalloc<A> {
     }
 
     /// Cuts a chunk of `n` bytes from a new region, since no free extent serves.
+    #[inline(never)]
     fn cut_new<L: Ledger>(&mut self, n: u64, steps: &mut Steps<L>) -> Result<u64, GrantFault>
         requires sound { IsSound A.regions A.word self.old }
         requires linked { IsBinned A.regions A.word self.old }

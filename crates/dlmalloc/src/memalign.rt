@@ -51,6 +51,7 @@ fn aligned_place(at: u64, align: u64) -> u64
 impl<A: Allocator> Dlmalloc<A> {
     /// Asks for a block at a multiple of an alignment above 16 (dlmalloc: `memalign`): a greater one is found, and what
     /// is before the aligned place in it, and behind the block there, is freed.
+    #[inline(never)]
     pub(crate) fn memalign<L: Ledger>(
         &mut self,
         size: u64,

@@ -159,11 +159,12 @@ impl<A: Allocator> Dlmalloc<A> {
         ensures member { (place : Place) → result ≡ Some (Chunk place) → place.at ≢ self.now.victim → IsMember A.regions A.word self.now n place.at }
         ensures counted { steps.new ≤ steps.old + 367 }
     {
+        let fit = self.find_free(n, steps);
         let victim = Place {
             at: self.victim,
             size: self.victim_size,
         };
-        match self.find_free(n, steps) {
+        match fit {
             Some(place) if self.goes_first(n, place.size) => Some(Choice::Chunk(place)),
             Some(_) => Some(Choice::Chunk(victim)),
             None if n <= victim.size => Some(Choice::Chunk(victim)),
