@@ -130,6 +130,8 @@ class Sources:
         self.imports[of] = imports_of("\n".join(lines))
         if path.name == "tests.rt":
             return
+        # Only this file can name a trait that is not public, so its functions are private.
+        private = set(re.findall(r"^trait (\w+)", "\n".join(lines), re.M))
         owner = trait = ""
         in_tests = False
         for n, line in enumerate(lines):
@@ -145,14 +147,16 @@ class Sources:
             if found:
                 self.types[crate, found[2]] = Item(found[2], crate, of, n + 1, "\n".join(lines[top_of(lines, n) : end_of(lines, n) + 1]))
             found = MEMBER.match(line)
-            if found and trait and trait != "Model":
+            if found and trait and trait not in {"Model", *private}:
                 self.members[crate].append(Member(found[1], owner, trait, of, n + 1, braced(lines, n)))
             found = MODEL.match(line)
             if found and (crate, found[1]) in self.types:
                 self.types[crate, found[1]].model = "\n".join(lines[n : end_of(lines, n) + 1])
             found = FUNCTION.match(line)
             if found:
-                self.functions[crate].append(read_function(crate, of, lines, n, found, owner, trait))
+                made = read_function(crate, of, lines, n, found, owner, trait)
+                made.is_public = made.is_public and trait not in private
+                self.functions[crate].append(made)
 
     def read_edit(self, crate, path):
         said = [it.partition(": ") for it in path.read_text().splitlines()]
