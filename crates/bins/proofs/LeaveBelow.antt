@@ -80,42 +80,32 @@ module _ (regions : List Grant) (old : ℕ → ℕ) (index : ℕ → List ℕ) (
       | inr far ↦ far (one_size regions old old index m q.node.size c held.chunks (in_without q.node.size index m c c_in) (subst (λ x. IsIn x (index q.node.size)) (sym same) d_in))
     ]
 
-    -- the word that names the child stays where nothing above the child is stored
+    -- the words that name the children stay where nothing above the child is stored
+    pub kids_kept : (mid : ℕ → ℕ) → OnlyHeldChanges regions (without q.node.size index) (low_at side low half) (low_at side low half + width (levels - 1)) old mid → (b : Bool) → mid (at + slot b) ≡ old (at + slot b)
+    kids_kept mid words b =
+        let s = slot_at b in
+        words (at + slot b) (t_slot regions old index bin parent low levels at some held b).word (λ n c above below c_in.
+            let is_in = in_without q.node.size index n c c_in in
+            let ln = held.large n c is_in in let la = held.large q.node.size at at_in in
+            elim (held.chunks.apart n c q.node.size at is_in at_in (of_child n c at c_in at_in)) [
+              | inl before ↦ inr (inl (omega (arith, s.1.1.1, s.1.1.0)))
+              | inr behind ↦ inl (omega (arith, s.1.1.1, s.1.1.0))
+            ])
+
     pub b_kept : (mid : ℕ → ℕ) (low' : ℕ) → low' ≡ low_at side low half →
         ((index' : ℕ → List ℕ) → IsHeld regions old index' bin at low' (levels - 1) child → IsIn chunk (index' size) → OnlyHeldChanges regions index' low' (low' + width (levels - 1)) old mid) → IsStored regions mid place child mid
     b_kept mid low' low_is words =
-        let s = slot_at side in
         let there = subst (λ l. IsHeld regions old (without q.node.size index) bin at l (levels - 1) child) (sym low_is) b_held in
-        let word = subst (λ p. IsWordOf regions p) (sym place_is) (t_slot regions old index bin parent low levels at some held side).word in record {
-          here = words (without q.node.size index) there b_in place word (λ n c a b c_in.
-              let is_in = in_without q.node.size index n c c_in in
-              let ln = held.large n c is_in in let la = held.large q.node.size at at_in in
-              elim (held.chunks.apart n c q.node.size at is_in at_in (of_child n c at c_in at_in)) [
-                | inl before ↦ inr (inl (omega (arith, place_is, s.1.1.1, s.1.1.0)))
-                | inr behind ↦ inl (omega (arith, place_is, s.1.1.1, s.1.1.0))
-              ]) ∙ sym child_is;
+        let own = subst (λ l. OnlyHeldChanges regions (without q.node.size index) l (l + width (levels - 1)) old mid) low_is (words (without q.node.size index) there b_in) in record {
+          here = ap mid place_is ∙ (kids_kept mid own side ∙ sym child_at);
           elsewhere = λ p is far. refl;
         }
 
-    module _ (mid new : ℕ → ℕ) (low' left : ℕ) (low_is : low' ≡ low_at side low half)
-        (trie : (index' : ℕ → List ℕ) → IsHeld regions old index' bin at low' (levels - 1) child → IsIn chunk (index' size) → IsTrie mid (without_chunk size chunk index') bin at low' (levels - 1) left)
-        (words : (index' : ℕ → List ℕ) → IsHeld regions old index' bin at low' (levels - 1) child → IsIn chunk (index' size) → OnlyHeldChanges regions index' low' (low' + width (levels - 1)) old mid)
-        (stored' : IsStored regions mid place left new) where
-      stored : IsStored regions mid (at + slot side) left new
-      stored = subst (λ p. IsStored regions mid p left new) place_is stored'
-
-      low_same : low' ≡ low_at side low (width (levels - 1))
-      low_same = low_is ∙ ap (λ h. low_at side low h) half_is
-
-      held_there : IsHeld regions old (without q.node.size index) bin at low' (levels - 1) child
-      held_there = subst (λ l. IsHeld regions old (without q.node.size index) bin at l (levels - 1) child) (sym low_is) b_held
-
-      trie_there : IsTrie mid (without_chunk size chunk (without q.node.size index)) bin at (low_at side low (width (levels - 1))) (levels - 1) left
-      trie_there = subst (λ l. IsTrie mid (without_chunk size chunk (without q.node.size index)) bin at l (levels - 1) left) low_same (trie (without q.node.size index) held_there b_in)
-
-      words_there : OnlyHeldChanges regions (without q.node.size index) (low_at side low (width (levels - 1))) (low_at side low (width (levels - 1)) + width (levels - 1)) old mid
-      words_there = subst (λ l. OnlyHeldChanges regions (without q.node.size index) l (l + width (levels - 1)) old mid) low_same (words (without q.node.size index) held_there b_in)
-
+    -- the node and what stands below it, where the trie of the child has changed for its own index
+    module _ (mid new : ℕ → ℕ) (left : ℕ)
+        (trie_there : IsTrie mid (without_chunk size chunk (without q.node.size index)) bin at (low_at side low (width (levels - 1))) (levels - 1) left)
+        (words_there : OnlyHeldChanges regions (without q.node.size index) (low_at side low (width (levels - 1))) (low_at side low (width (levels - 1)) + width (levels - 1)) old mid)
+        (stored : IsStored regions mid (at + slot side) left new) where
       word_in : (m c k : ℕ) → IsIn c (index m) → 0 < k → 8 * k < 64 → IsWordOf regions (c + 8 * k)
       word_in m c k c_in some' few = let h = held.chunks.each m c c_in in let l = held.large m c c_in in h.granted (c + 8 * k) (omega arith) (omega arith) (omega (arith, h.aligned))
 
@@ -170,11 +160,11 @@ module _ (regions : List Grant) (old : ℕ → ℕ) (index : ℕ → List ℕ) (
           (λ c c_in k few. not_place s c k (subst (λ (cs : List ℕ). IsIn c cs) (sym q.node.chunks) (inr c_in)) (λ e. once.0 (subst (λ y. IsIn y q.node.others) e c_in)) few)
           (λ m c c_in k few. not_place m c k (in_without s index m c c_in) (of_child m c at c_in at_in) few)
 
-      pub b_trie : IsTrie new (without_chunk size chunk index) bin parent low levels at
-      b_trie = closed new (without_chunk size chunk index) bin parent low levels at (t_levels regions old index bin parent low levels at some held) opened_new
+      pub one_trie : IsTrie new (without_chunk size chunk index) bin parent low levels at
+      one_trie = closed new (without_chunk size chunk index) bin parent low levels at (t_levels regions old index bin parent low levels at some held) opened_new
 
-      pub b_words : OnlyHeldChanges regions index low (low + width levels) old new
-      b_words p word out =
+      pub one_words : OnlyHeldChanges regions index low (low + width levels) old new
+      one_words p word out =
           let n = levels - 1 in
           let w = wide levels (t_levels regions old index bin parent low levels at some held) in
           let la = held.large q.node.size at at_in in
@@ -189,3 +179,28 @@ module _ (regions : List Grant) (old : ℕ → ℕ) (index : ℕ → List ℕ) (
             slot_low : (b : Bool) → 32 ≤ slot b
             slot_low false = omega arith
             slot_low true = omega arith
+
+    module _ (mid new : ℕ → ℕ) (low' left : ℕ) (low_is : low' ≡ low_at side low half)
+        (trie : (index' : ℕ → List ℕ) → IsHeld regions old index' bin at low' (levels - 1) child → IsIn chunk (index' size) → IsTrie mid (without_chunk size chunk index') bin at low' (levels - 1) left)
+        (words : (index' : ℕ → List ℕ) → IsHeld regions old index' bin at low' (levels - 1) child → IsIn chunk (index' size) → OnlyHeldChanges regions index' low' (low' + width (levels - 1)) old mid)
+        (stored' : IsStored regions mid place left new) where
+      stored : IsStored regions mid (at + slot side) left new
+      stored = subst (λ p. IsStored regions mid p left new) place_is stored'
+
+      low_same : low' ≡ low_at side low (width (levels - 1))
+      low_same = low_is ∙ ap (λ h. low_at side low h) half_is
+
+      held_there : IsHeld regions old (without q.node.size index) bin at low' (levels - 1) child
+      held_there = subst (λ l. IsHeld regions old (without q.node.size index) bin at l (levels - 1) child) (sym low_is) b_held
+
+      trie_there : IsTrie mid (without_chunk size chunk (without q.node.size index)) bin at (low_at side low (width (levels - 1))) (levels - 1) left
+      trie_there = subst (λ l. IsTrie mid (without_chunk size chunk (without q.node.size index)) bin at l (levels - 1) left) low_same (trie (without q.node.size index) held_there b_in)
+
+      words_there : OnlyHeldChanges regions (without q.node.size index) (low_at side low (width (levels - 1))) (low_at side low (width (levels - 1)) + width (levels - 1)) old mid
+      words_there = subst (λ l. OnlyHeldChanges regions (without q.node.size index) l (l + width (levels - 1)) old mid) low_same (words (without q.node.size index) held_there b_in)
+
+      pub b_trie : IsTrie new (without_chunk size chunk index) bin parent low levels at
+      b_trie = one_trie mid new left trie_there words_there stored
+
+      pub b_words : OnlyHeldChanges regions index low (low + width levels) old new
+      b_words = one_words mid new left trie_there words_there stored

@@ -1,6 +1,6 @@
 // The bins, and the calls on chunks of all sizes.
 ghost use Rattle.std.specs.Prelude.{◌≡◌, ℕ, ◌+◌, ◌^◌, ◌≤◌, List, [], MatchOption};
-ghost use Rattle.bins.specs.Index.{IsIn, IsNone, IsLeastFit, with_chunk, without_chunk};
+ghost use Rattle.bins.specs.Index.{IsIn, IsNone, IsLeastFit, first_or, with_chunk, without_chunk};
 
 use crate::words::{LEAST_LARGE, SMALL_TAG};
 use heap_memory::Links;
@@ -100,6 +100,33 @@ impl Bins {
             self.unlink_small(memory, chunk, size, steps);
         } else {
             self.unlink_large(memory, chunk, size, steps);
+        }
+    }
+
+    /// Takes out a chunk that `least_fit` names, which from 256 on is the oldest of its size. It is binned with this size.
+    ///
+    /// The same changes as in `unlink`, with no walk down a trie from its root: such a chunk's own words tell where it is.
+    #[inline(always)]
+    pub fn unlink_fit<M: Links, L: Ledger>(
+        &mut self,
+        memory: &mut M,
+        chunk: u64,
+        size: u64,
+        steps: &mut Steps<L>,
+    )
+        requires linked { (index : ℕ → List ℕ) × IsLinked (M.regions memory.old) (M.word memory.old) self.old index × IsIn chunk (index size) × (256 ≤ size → chunk ≡ first_or 0 (index size)) }
+        ensures linked { (index : ℕ → List ℕ) → IsLinked (M.regions memory.old) (M.word memory.old) self.old index → IsIn chunk (index size) →
+            IsLinked (M.regions memory.new) (M.word memory.new) self.new (without_chunk size chunk index) }
+        ensures words { (index : ℕ → List ℕ) → IsLinked (M.regions memory.old) (M.word memory.old) self.old index → IsIn chunk (index size) →
+            OnlyLinksChange (M.regions memory.old) index size chunk (M.word memory.old) (M.word memory.new) }
+        ensures regions { M.regions memory.new ≡ M.regions memory.old }
+        ensures follows { M.follows memory.old [] memory.new }
+        ensures counted { steps.new ≤ steps.old + 196 }
+    {
+        if size < LEAST_LARGE {
+            self.unlink_small(memory, chunk, size, steps);
+        } else {
+            self.unlink_node(memory, chunk, steps);
         }
     }
 

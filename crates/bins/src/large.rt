@@ -2,16 +2,16 @@
 ghost use Rattle.std.specs.Prelude.{◌≡◌, ◌≢◌, ℕ, ◌+◌, ◌*◌, ◌^◌, ◌<◌, ◌≤◌, List, [], MatchOption, slice_index};
 ghost use Rattle.std.specs.Int.{bit_at};
 ghost use Rattle.dlmalloc_chunks.specs.Bins.{least_size};
-ghost use Rattle.bins.specs.Index.{IsIn, IsNone, IsLeastFit, with_chunk, without_chunk};
+ghost use Rattle.bins.specs.Index.{IsIn, IsNone, IsLeastFit, first_or, with_chunk, without_chunk};
 ghost use Rattle.bins.specs.Linked.{IsLinked, IsFresh, OnlyLinksChange, low_of, levels_of};
 ghost use Rattle.bins.specs.Stores.{HasRoot};
 
 use crate::bins::Bins;
-use crate::leave::unlink_below;
+use crate::leave::{replace_node, swap_child, unlink_below};
 use crate::map;
 use crate::search::{fit_below, least_of};
 use crate::trie::{path_bits, plant};
-use crate::words::TREE_TAG;
+use crate::words::{INDEX, LEAST_ADDRESS, PARENT, TREE_TAG};
 use dlmalloc_chunks::compute_tree_index;
 use heap_memory::Links;
 use std::sync::ledger::Ledger;
@@ -28,19 +28,35 @@ pub(crate) fn bin_low(bin: usize) -> u64
     (2 + bin as u64 % 2) << (bin / 2 + 7)
 }
 
+/// The levels of the last tree bin, which has the most.
+const MOST_LEVELS: u32 = 61;
+
 /// The levels of a tree bin.
 pub(crate) fn bin_levels(bin: usize) -> u32
     requires { bin < 32 }
     ensures { result ≡ levels_of bin }
 {
     if bin == 31 {
-        return 61;
+        return MOST_LEVELS;
     }
     bin as u32 / 2 + 4
 }
 
 impl Bins {
-    /// Names the root of a tree bin, 0 where it is empty. Nothing is written where it is the one before.
+    /// Names the root of a tree bin, 0 where it is empty.
+    fn name_root(&mut self, bin: usize, root: u64)
+        requires { bin < 32 }
+        ensures { HasRoot self.old bin root self.new }
+    {
+        self.roots[bin] = root;
+        if root == 0 {
+            self.tree_map = map::without_bit(self.tree_map, bin);
+        } else {
+            self.tree_map = map::with_bit(self.tree_map, bin);
+        }
+    }
+
+    /// The same. Nothing is written where it is the one before.
     fn set_root(&mut self, bin: usize, before: u64, root: u64)
         requires within { bin < 32 }
         requires before { before ≡ slice_index self.old.roots bin }
@@ -51,12 +67,7 @@ impl Bins {
         if root == before {
             return;
         }
-        self.roots[bin] = root;
-        if root == 0 {
-            self.tree_map = map::without_bit(self.tree_map, bin);
-        } else {
-            self.tree_map = map::with_bit(self.tree_map, bin);
-        }
+        self.name_root(bin, root);
     }
 
     /// Takes a chunk of a size of at least 256 out of its trie.
@@ -94,6 +105,34 @@ impl Bins {
             steps,
         );
         self.set_root(bin, root, left);
+    }
+
+    /// Takes a node out of the trie of its bin: the oldest chunk of a size of at least 256. Its words name its parent and the
+    /// bin, so that nothing is searched.
+    #[inline(never)]
+    pub(crate) fn unlink_node<M: Links, L: Ledger>(
+        &mut self,
+        memory: &mut M,
+        chunk: u64,
+        steps: &mut Steps<L>,
+    )
+        requires linked { (index : ℕ → List ℕ) × ((size : ℕ) × ((256 ≤ size) × (IsLinked (M.regions memory.old) (M.word memory.old) self.old index × (IsIn chunk (index size) × (chunk ≡ first_or 0 (index size)))))) }
+        ensures linked { (index : ℕ → List ℕ) (size : ℕ) → 256 ≤ size → IsLinked (M.regions memory.old) (M.word memory.old) self.old index → IsIn chunk (index size) → chunk ≡ first_or 0 (index size) →
+            IsLinked (M.regions memory.new) (M.word memory.new) self.new (without_chunk size chunk index) }
+        ensures words { (index : ℕ → List ℕ) (size : ℕ) → 256 ≤ size → IsLinked (M.regions memory.old) (M.word memory.old) self.old index → IsIn chunk (index size) → chunk ≡ first_or 0 (index size) →
+            OnlyLinksChange (M.regions memory.old) index size chunk (M.word memory.old) (M.word memory.new) }
+        ensures regions { M.regions memory.new ≡ M.regions memory.old }
+        ensures follows { M.follows memory.old [] memory.new }
+        ensures counted { steps.new ≤ steps.old + 196 }
+    {
+        let parent = memory.load_counted(chunk + PARENT, steps);
+        let bin = memory.load_counted(chunk + INDEX, steps);
+        let left = replace_node(memory, chunk, MOST_LEVELS, parent, bin, steps);
+        if parent < LEAST_ADDRESS {
+            self.name_root(bin as usize, left);
+        } else {
+            swap_child(memory, parent, chunk, left, steps);
+        }
     }
 
     /// Puts a chunk of a size of at least 256 into its trie, as the newest of its size.

@@ -81,7 +81,7 @@ pub(crate) fn place_node<M: Links, L: Ledger>(
     adopt(memory, child1, chunk, steps);
 }
 
-/// Takes a leaf out from below a node, on the way that begins with this child of it.
+/// Takes a leaf out from below a node, on the way that begins with this child of it. The trie has at most so many levels.
 ///
 /// Nothing is done on the way back, so the walk is a loop.
 fn take_under<M: Links, L: Ledger>(
@@ -95,9 +95,9 @@ fn take_under<M: Links, L: Ledger>(
     requires some { 0 < at }
     requires real { 0 < child }
     requires child { child ≡ M.word memory.old (at + slot is_upper) }
-    requires held { (index : ℕ → List ℕ) × ((bin : ℕ) × ((parent : ℕ) × ((low : ℕ) × IsHeld (M.regions memory.old) (M.word memory.old) index bin parent low levels at))) }
-    ensures taken { (index : ℕ → List ℕ) (bin parent low : ℕ) → IsHeld (M.regions memory.old) (M.word memory.old) index bin parent low levels at →
-        IsTakenOut (M.regions memory.old) (M.word memory.old) (M.word memory.new) index bin parent low levels at result }
+    requires held { (index : ℕ → List ℕ) × ((bin : ℕ) × ((parent : ℕ) × ((low : ℕ) × ((deep : ℕ) × ((deep ≤ levels) × IsHeld (M.regions memory.old) (M.word memory.old) index bin parent low deep at))))) }
+    ensures taken { (index : ℕ → List ℕ) (bin parent low deep : ℕ) → deep ≤ levels → IsHeld (M.regions memory.old) (M.word memory.old) index bin parent low deep at →
+        IsTakenOut (M.regions memory.old) (M.word memory.old) (M.word memory.new) index bin parent low deep at result }
     ensures other { result ≢ at }
     ensures regions { M.regions memory.new ≡ M.regions memory.old }
     ensures follows { M.follows memory.old [] memory.new }
@@ -111,7 +111,7 @@ fn take_under<M: Links, L: Ledger>(
     take_under(memory, child, next.is_upper, next.at, levels - 1, steps)
 }
 
-/// Takes a leaf out of a trie that is not empty.
+/// Takes a leaf out of a trie that is not empty, of at most so many levels.
 pub(crate) fn take_leaf<M: Links, L: Ledger>(
     memory: &mut M,
     at: u64,
@@ -119,9 +119,9 @@ pub(crate) fn take_leaf<M: Links, L: Ledger>(
     steps: &mut Steps<L>,
 ) -> u64
     requires some { 0 < at }
-    requires held { (index : ℕ → List ℕ) × ((bin : ℕ) × ((parent : ℕ) × ((low : ℕ) × IsHeld (M.regions memory.old) (M.word memory.old) index bin parent low levels at))) }
-    ensures taken { (index : ℕ → List ℕ) (bin parent low : ℕ) → IsHeld (M.regions memory.old) (M.word memory.old) index bin parent low levels at →
-        IsTakenOut (M.regions memory.old) (M.word memory.old) (M.word memory.new) index bin parent low levels at result }
+    requires held { (index : ℕ → List ℕ) × ((bin : ℕ) × ((parent : ℕ) × ((low : ℕ) × ((deep : ℕ) × ((deep ≤ levels) × IsHeld (M.regions memory.old) (M.word memory.old) index bin parent low deep at))))) }
+    ensures taken { (index : ℕ → List ℕ) (bin parent low deep : ℕ) → deep ≤ levels → IsHeld (M.regions memory.old) (M.word memory.old) index bin parent low deep at →
+        IsTakenOut (M.regions memory.old) (M.word memory.old) (M.word memory.new) index bin parent low deep at result }
     ensures regions { M.regions memory.new ≡ M.regions memory.old }
     ensures follows { M.follows memory.old [] memory.new }
     ensures counted { steps.new ≤ steps.old + 3 * levels }

@@ -1,8 +1,9 @@
 // A chunk leaves a trie.
-ghost use Rattle.std.specs.Prelude.{◌≡◌, ◌≢◌, ℕ, ◌+◌, ◌-◌, ◌*◌, ◌%◌, ◌^◌, ◌<◌, ◌≤◌, ◌⊎◌, Bool, List, [], ◌∷◌};
+ghost use Rattle.std.specs.Prelude.{◌≡◌, ◌≢◌, ℕ, ◌+◌, ◌-◌, ◌*◌, ◌%◌, ◌^◌, ◌<◌, ◌≤◌, ◌⊎◌, Bool, not, List, [], ◌∷◌};
+ghost use Rattle.heap_memory.specs.Words.{IsStored};
 ghost use Rattle.dlmalloc_chunks.specs.Head.{size_of};
 ghost use Rattle.bins.specs.Index.{IsIn, without, without_chunk};
-ghost use Rattle.bins.specs.Tries.{both, width, IsTrie};
+ghost use Rattle.bins.specs.Tries.{both, slot, width, IsTrie};
 ghost use Rattle.bins.specs.Below.{IsHeld, OnlyHeldChanges};
 ghost use Rattle.bins.specs.Stores.{IsPlace, HasPulled, HasHeirLinks, HasPlaced};
 
@@ -90,7 +91,8 @@ fn rest_of(leaf: u64, child: u64) -> u64
     if leaf == child { 0 } else { child }
 }
 
-/// Puts a leaf from below in the place of a node that is alone in its ring. Answers 0 where nothing is below.
+/// Puts a leaf from below in the place of a node that is alone in its ring. Answers 0 where nothing is below. The trie has
+/// at most so many levels.
 fn give_to_leaf<M: Links, L: Ledger>(
     memory: &mut M,
     at: u64,
@@ -100,14 +102,14 @@ fn give_to_leaf<M: Links, L: Ledger>(
     steps: &mut Steps<L>,
 ) -> u64
     requires some { 0 < at }
-    requires held { (index : ℕ → List ℕ) × ((low : ℕ) × IsHeld (M.regions memory.old) (M.word memory.old) index bin parent low levels at) }
-    ensures trie { (index : ℕ → List ℕ) (low : ℕ) → IsHeld (M.regions memory.old) (M.word memory.old) index bin parent low levels at →
-        (size : ℕ) → index size ≡ at ∷ [] → IsTrie (M.word memory.new) (without size index) bin parent low levels result }
-    ensures words { (index : ℕ → List ℕ) (low : ℕ) → IsHeld (M.regions memory.old) (M.word memory.old) index bin parent low levels at →
-        OnlyHeldChanges (M.regions memory.old) index low (low + width levels) (M.word memory.old) (M.word memory.new) }
+    requires held { (index : ℕ → List ℕ) × ((low : ℕ) × ((deep : ℕ) × ((deep ≤ levels) × IsHeld (M.regions memory.old) (M.word memory.old) index bin parent low deep at))) }
+    ensures trie { (index : ℕ → List ℕ) (low deep : ℕ) → deep ≤ levels → IsHeld (M.regions memory.old) (M.word memory.old) index bin parent low deep at →
+        (size : ℕ) → index size ≡ at ∷ [] → IsTrie (M.word memory.new) (without size index) bin parent low deep result }
+    ensures words { (index : ℕ → List ℕ) (low deep : ℕ) → deep ≤ levels → IsHeld (M.regions memory.old) (M.word memory.old) index bin parent low deep at →
+        OnlyHeldChanges (M.regions memory.old) index low (low + width deep) (M.word memory.old) (M.word memory.new) }
     ensures regions { M.regions memory.new ≡ M.regions memory.old }
     ensures follows { M.follows memory.old [] memory.new }
-    ensures counted { steps.new ≤ steps.old + 3 * levels + 9 }
+    ensures counted { steps.new ≤ steps.old + 3 * levels + 6 }
 {
     let child = first_child(memory, at, steps);
     if child.at == 0 {
@@ -120,6 +122,55 @@ fn give_to_leaf<M: Links, L: Ledger>(
     let child1 = pick(child.is_upper, other, rest);
     place_node(memory, leaf, child0, child1, parent, bin, steps);
     leaf
+}
+
+/// Takes a node out of a trie of at most so many levels, and puts its heir in its place: the next of its ring, or else a
+/// leaf from below. Answers the heir, or 0 where there is none.
+#[inline(always)]
+pub(crate) fn replace_node<M: Links, L: Ledger>(
+    memory: &mut M,
+    at: u64,
+    levels: u32,
+    parent: u64,
+    bin: u64,
+    steps: &mut Steps<L>,
+) -> u64
+    requires some { 0 < at }
+    requires held { (index : ℕ → List ℕ) × ((low : ℕ) × ((deep : ℕ) × ((size : ℕ) × ((deep ≤ levels) × (IsHeld (M.regions memory.old) (M.word memory.old) index bin parent low deep at × IsIn at (index size)))))) }
+    ensures trie { (index : ℕ → List ℕ) (low deep size : ℕ) → deep ≤ levels → IsHeld (M.regions memory.old) (M.word memory.old) index bin parent low deep at →
+        IsIn at (index size) → IsTrie (M.word memory.new) (without_chunk size at index) bin parent low deep result }
+    ensures words { (index : ℕ → List ℕ) (low deep size : ℕ) → deep ≤ levels → IsHeld (M.regions memory.old) (M.word memory.old) index bin parent low deep at →
+        IsIn at (index size) → OnlyHeldChanges (M.regions memory.old) index low (low + width deep) (M.word memory.old) (M.word memory.new) }
+    ensures regions { M.regions memory.new ≡ M.regions memory.old }
+    ensures follows { M.follows memory.old [] memory.new }
+    ensures counted { steps.new ≤ steps.old + 3 * levels + 9 }
+{
+    let heir = memory.load_counted(at + NEXT, steps);
+    if heir == at {
+        return give_to_leaf(memory, at, levels, parent, bin, steps);
+    }
+    give_to_heir(memory, at, heir, parent, bin, steps);
+    heir
+}
+
+/// Names a node, or 0, as a child of another, in the place of one that was its child.
+pub(crate) fn swap_child<M: Links, L: Ledger>(
+    memory: &mut M,
+    parent: u64,
+    was: u64,
+    child: u64,
+    steps: &mut Steps<L>,
+)
+    requires places { (side : Bool) → IsPlace (M.regions memory.old) (parent + slot side) }
+    requires was { (side : Bool) × ((M.word memory.old (parent + slot side) ≡ was) × (M.word memory.old (parent + slot (not side)) ≢ was)) }
+    ensures stored { (side : Bool) → M.word memory.old (parent + slot side) ≡ was → M.word memory.old (parent + slot (not side)) ≢ was →
+        IsStored (M.regions memory.old) (M.word memory.old) (parent + slot side) child (M.word memory.new) }
+    ensures regions { M.regions memory.new ≡ M.regions memory.old }
+    ensures follows { M.follows memory.old [] memory.new }
+    ensures counted { steps.new ≡ steps.old + 2 }
+{
+    let lower = memory.load_counted(parent + CHILD0, steps);
+    memory.store_counted(slot_of(parent, lower != was), child, steps);
 }
 
 /// Takes a chunk out of the ring of a node of its size. Answers the node that stands there then.
@@ -147,12 +198,7 @@ fn unlink_here<M: Links, L: Ledger>(
         leave_ring(memory, chunk, steps);
         return at;
     }
-    let heir = memory.load_counted(at + NEXT, steps);
-    if heir == at {
-        return give_to_leaf(memory, at, levels, parent, bin, steps);
-    }
-    give_to_heir(memory, at, heir, parent, bin, steps);
-    heir
+    replace_node(memory, at, levels, parent, bin, steps)
 }
 
 /// Takes a chunk out of the trie under a node of another size, which stays.

@@ -26,3 +26,6 @@ pub(crate) const TREE_TAG: u64 = 128;
 
 /// The sizes from here on are in tree bins.
 pub(crate) const LEAST_LARGE: u64 = 256;
+
+/// No chunk is below this address, and each tag is.
+pub(crate) const LEAST_ADDRESS: u64 = 4096;
