@@ -37,5 +37,7 @@ pub mod LeaveBelow
 pub mod TreeRanges
 pub mod TreeBins
 pub mod TreeEntry
+pub mod ByParent
+pub mod NodeLeaves
 pub mod RootLeaf
 pub mod LeastLarge

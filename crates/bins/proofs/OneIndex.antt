@@ -36,7 +36,7 @@ distinct_if true chunks h = tt
 distinct_if false chunks h = h
 
 -- the half of a range that has a number
-half_with : (low half n : ℕ) → low ≤ n → n < low + 2 * half → (side : Bool) × (low_at side low half ≤ n) × (n < low_at side low half + half)
+pub half_with : (low half n : ℕ) → low ≤ n → n < low + 2 * half → (side : Bool) × (low_at side low half ≤ n) × (n < low_at side low half + half)
 half_with low half n above below = elim (cases_lt n (low + half)) [
   | inl lower ↦ (false, above, lower)
   | inr upper ↦ (true, upper, omega arith)
@@ -69,7 +69,7 @@ module _ (words : ℕ → ℕ) (bin : ℕ) where
       ]
 
 -- each size from 256 on has a bin
-bin_of : (n bin : ℕ) → bin < 32 → (bin < 31 → n < least_size (bin + 1)) → 256 ≤ n → (b : ℕ) × IsTreeIndex n b
+pub bin_of : (n bin : ℕ) → bin < 32 → (bin < 31 → n < least_size (bin + 1)) → 256 ≤ n → (b : ℕ) × IsTreeIndex n b
 bin_of n zero within last large = (zero, record { within = within; reached = large; last = last })
 bin_of n (suc b) within last large = elim (cases_lt n (least_size (suc b))) [
   | inr reached ↦ (suc b, record { within = within; reached = reached; last = last })

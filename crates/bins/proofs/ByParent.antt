@@ -1,0 +1,148 @@
+-- Where a node stands in a trie: at its root, or at the word of its parent.
+use Rattle.std.proofs.Common.{◌≡◌, ◌≢◌, ℕ, zero, suc, ◌+◌, ◌-◌, ◌*◌, ◌<◌, ◌≤◌, ◌⊎◌, inl, inr, Bool, not, List, ◌∷◌, refl, sym, ap, subst, ◌∙◌, arith}
+use Rattle.heap_memory.specs.declared.grant.Grant.{Grant}
+use Rattle.heap_memory.specs.Words.{IsStored}
+use Rattle.dlmalloc_chunks.specs.Head.{size_of}
+use Rattle.bins.specs.Index.{IsIn, first_or, without_chunk, without}
+use Rattle.bins.specs.Tries.{slot, low_at, width, IsTrie}
+use Rattle.bins.specs.Stores.{IsPlace}
+use Rattle.bins.specs.Below.{IsHeld, OnlyHeldChanges}
+use Rattle.bins.proofs.Frame.{in_without}
+use Rattle.bins.proofs.Lists.{without_other}
+use Rattle.bins.proofs.Chunks.{same_or_not, one_size}
+use Rattle.bins.proofs.Opened.{Opened, opened, levels_some, halves_apart}
+use Rattle.bins.proofs.Widths.{wide}
+use Rattle.bins.proofs.Taking.{t_slot}
+use Rattle.bins.proofs.OneIndex.{half_with}
+use Rattle.bins.proofs.LeaveBelow.{q, b_in, b_real, b_held, kids_kept, one_trie, one_words}
+
+-- A node stands below the root of a trie: it is a child of a node, and the trie from it on holds an index of its own. Where that
+-- trie loses the node, and the word of the parent is given the one that takes its place, the whole trie has lost it.
+pub record IsBelow (regions : List Grant) (old : ℕ → ℕ) (index : ℕ → List ℕ) (bin parent low levels at size chunk up : ℕ) : Type 0 where
+  pub own : ℕ → List ℕ
+  pub from : ℕ
+  pub deep : ℕ
+  pub side : Bool
+  pub held : IsHeld regions old own bin up from deep chunk
+  pub is_in : IsIn chunk (own size)
+  pub less : deep ≤ levels
+  pub up_low : 4096 ≤ up
+  pub places : (b : Bool) → IsPlace regions (up + slot b)
+  pub here : old (up + slot side) ≡ chunk
+  pub there : old (up + slot (not side)) ≢ chunk
+  pub kept : (mid : ℕ → ℕ) → OnlyHeldChanges regions own from (from + width deep) old mid → (b : Bool) → mid (up + slot b) ≡ old (up + slot b)
+  pub trie : (mid new : ℕ → ℕ) (left : ℕ) → IsTrie mid (without_chunk size chunk own) bin up from deep left → OnlyHeldChanges regions own from (from + width deep) old mid → IsStored regions mid (up + slot side) left new →
+      IsTrie new (without_chunk size chunk index) bin parent low levels at
+  pub words : (mid new : ℕ → ℕ) (left : ℕ) → IsTrie mid (without_chunk size chunk own) bin up from deep left → OnlyHeldChanges regions own from (from + width deep) old mid → IsStored regions mid (up + slot side) left new →
+      OnlyHeldChanges regions index low (low + width levels) old new
+
+module _ (regions : List Grant) (old : ℕ → ℕ) (bin size chunk : ℕ) (others : List ℕ) where
+  -- one step down from a node of another size
+  module _ (index : ℕ → List ℕ) (parent low levels at : ℕ) (some : 0 < at) (held : IsHeld regions old index bin parent low levels at) (first : index size ≡ chunk ∷ others)
+      (other : size_of (old (at + 8)) ≢ size) (side : Bool) (above : low_at side low (width (levels - 1)) ≤ size) (below : size < low_at side low (width (levels - 1)) + width (levels - 1)) where
+    chunk_in : IsIn chunk (index size)
+    chunk_in = subst (λ (cs : List ℕ). IsIn chunk cs) (sym first) (inl refl)
+
+    abbrev node : Opened old index bin parent low (levels - 1) at
+    node = q regions old index bin parent low levels at size chunk some held chunk_in
+
+    not_same : node.node.size ≢ size
+    not_same is = other (node.node.head ∙ is)
+
+    abbrev rest : ℕ → List ℕ
+    rest = without node.node.size index
+
+    rest_first : rest size ≡ chunk ∷ others
+    rest_first = without_other node.node.size index size (λ e. not_same (sym e)) ∙ first
+
+    at_in : IsIn at (index node.node.size)
+    at_in = subst (λ (cs : List ℕ). IsIn at cs) (sym node.node.chunks) (inl refl)
+
+    real : 0 < old (at + slot side)
+    real = b_real regions old index bin parent low levels at size chunk some held chunk_in other side (width (levels - 1)) (at + slot side) (old (at + slot side)) refl refl refl above below
+
+    child_held : IsHeld regions old rest bin at (low_at side low (width (levels - 1))) (levels - 1) (old (at + slot side))
+    child_held = b_held regions old index bin parent low levels at size chunk some held chunk_in other side (width (levels - 1)) (at + slot side) (old (at + slot side)) refl refl refl above below
+
+    kids : (mid : ℕ → ℕ) → OnlyHeldChanges regions rest (low_at side low (width (levels - 1))) (low_at side low (width (levels - 1)) + width (levels - 1)) old mid → (b : Bool) → mid (at + slot b) ≡ old (at + slot b)
+    kids = kids_kept regions old index bin parent low levels at size chunk some held chunk_in other side (width (levels - 1)) (at + slot side) (old (at + slot side)) refl refl refl above below
+
+    up_trie : (mid new : ℕ → ℕ) (left : ℕ) → IsTrie mid (without_chunk size chunk rest) bin at (low_at side low (width (levels - 1))) (levels - 1) left →
+        OnlyHeldChanges regions rest (low_at side low (width (levels - 1))) (low_at side low (width (levels - 1)) + width (levels - 1)) old mid → IsStored regions mid (at + slot side) left new → IsTrie new (without_chunk size chunk index) bin parent low levels at
+    up_trie = one_trie regions old index bin parent low levels at size chunk some held chunk_in other side (width (levels - 1)) (at + slot side) (old (at + slot side)) refl refl refl above below
+
+    up_words : (mid new : ℕ → ℕ) (left : ℕ) → IsTrie mid (without_chunk size chunk rest) bin at (low_at side low (width (levels - 1))) (levels - 1) left →
+        OnlyHeldChanges regions rest (low_at side low (width (levels - 1))) (low_at side low (width (levels - 1)) + width (levels - 1)) old mid → IsStored regions mid (at + slot side) left new → OnlyHeldChanges regions index low (low + width levels) old new
+    up_words = one_words regions old index bin parent low levels at size chunk some held chunk_in other side (width (levels - 1)) (at + slot side) (old (at + slot side)) refl refl refl above below
+
+    -- the other child is not the chunk, whose size is in this half
+    not_there : old (at + slot (not side)) ≢ chunk
+    not_there is =
+        let n = levels - 1 in
+        let c = held.chunks.each size chunk chunk_in in
+        let t = subst (λ x. IsTrie old rest bin at (low_at (not side) low (width n)) n x) (sym (node.node.child_is (not side)) ∙ is) (node.children (not side)) in
+        let some' : 0 < chunk = let l = c.low in omega arith in
+        let o = opened old rest bin at (low_at (not side) low (width n)) n chunk some' t in
+        let w = wide n (levels_some old rest bin at (low_at (not side) low (width n)) n chunk some' t) in
+        let in_rest : IsIn chunk (rest o.node.size) = subst (λ (cs : List ℕ). IsIn chunk cs) (sym o.node.chunks) (inl refl) in
+        let one : o.node.size ≡ size = one_size regions old old index o.node.size size chunk held.chunks (in_without node.node.size index o.node.size chunk in_rest) chunk_in in
+        halves_apart side low (width n) size (subst (λ s. low_at (not side) low (width n) ≤ s) one o.node.above)
+        (let b = o.node.below in omega (arith, b, one, w)) above below
+
+    here_below : old (at + slot side) ≡ chunk → IsBelow regions old index bin parent low levels at size chunk at
+    here_below is = record {
+      own = rest;
+      from = low_at side low (width (levels - 1));
+      deep = levels - 1;
+      side = side;
+      held = subst (λ x. IsHeld regions old rest bin at (low_at side low (width (levels - 1))) (levels - 1) x) is child_held;
+      is_in = subst (λ (cs : List ℕ). IsIn chunk cs) (sym rest_first) (inl refl);
+      less = omega arith;
+      up_low = (held.chunks.each node.node.size at at_in).low;
+      places = t_slot regions old index bin parent low levels at some held;
+      here = is;
+      there = not_there;
+      kept = kids;
+      trie = up_trie;
+      words = up_words;
+    }
+
+    more_below : (up : ℕ) → IsBelow regions old rest bin at (low_at side low (width (levels - 1))) (levels - 1) (old (at + slot side)) size chunk up → IsBelow regions old index bin parent low levels at size chunk up
+    more_below up b =
+        let same : (new : ℕ → ℕ) → OnlyHeldChanges regions rest (low_at side low (width (levels - 1))) (low_at side low (width (levels - 1)) + width (levels - 1)) old new → IsStored regions new (at + slot side) (old (at + slot side)) new =
+        λ new w. record { here = kids new w side; elsewhere = λ p is far. refl } in
+        record {
+          own = b.own;
+          from = b.from;
+          deep = b.deep;
+          side = b.side;
+          held = b.held;
+          is_in = b.is_in;
+          less = let l = b.less in omega arith;
+          up_low = b.up_low;
+          places = b.places;
+          here = b.here;
+          there = b.there;
+          kept = b.kept;
+          trie = λ mid new left t w stored. let w' = b.words mid new left t w stored in up_trie new new (old (at + slot side)) (b.trie mid new left t w stored) w' (same new w');
+          words = λ mid new left t w stored. let w' = b.words mid new left t w stored in up_words new new (old (at + slot side)) (b.trie mid new left t w stored) w' (same new w');
+        }
+
+  -- the oldest chunk of a size is the root of its trie, or stands below it
+  pub by_parent : (fuel : ℕ) (index : ℕ → List ℕ) (parent low levels at : ℕ) → levels ≤ fuel → 0 < at → IsHeld regions old index bin parent low levels at → index size ≡ chunk ∷ others →
+      low ≤ size → size < low + width levels → (chunk ≡ at) ⊎ ((up : ℕ) × IsBelow regions old index bin parent low levels at size chunk up)
+  by_parent zero index parent low levels at few some held first above below = absurd (let l = levels_some old index bin parent low levels at some held.trie in omega arith)
+  by_parent (suc fuel) index parent low levels at few some held first above below =
+      let o = opened old index bin parent low levels at some held.trie in
+      elim (same_or_not (size_of (old (at + 8))) size) [
+        | inl same ↦ inl (ap (λ (cs : List ℕ). first_or 0 cs) (sym first ∙ (ap index (sym same ∙ o.node.head) ∙ o.node.chunks)))
+        | inr other ↦
+            let w = wide levels (levels_some old index bin parent low levels at some held.trie) in
+            let h = half_with low (width (levels - 1)) size above (omega (arith, w, below)) in
+            let c = real index parent low levels at some held first other h.0 h.1 h.2 in
+            elim (by_parent fuel (rest index parent low levels at some held first other h.0 h.1 h.2) at (low_at h.0 low (width (levels - 1))) (levels - 1) (old (at + slot h.0)) (omega arith) c
+            (child_held index parent low levels at some held first other h.0 h.1 h.2) (rest_first index parent low levels at some held first other h.0 h.1 h.2) h.1 h.2) [
+              | inl is ↦ inr (at, here_below index parent low levels at some held first other h.0 h.1 h.2 (sym is))
+              | inr (up, b) ↦ inr (up, more_below index parent low levels at some held first other h.0 h.1 h.2 up b)
+            ]
+      ]
