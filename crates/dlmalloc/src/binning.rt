@@ -1,7 +1,7 @@
 // Free chunks in bins.
 ghost use Rattle.std.specs.Prelude.{◌≡◌, ◌≢◌, ℕ, ◌+◌, ◌-◌, ◌<◌, ◌≤◌, List, ◌∷◌};
 ghost use Rattle.bins.specs.Index.{IsIn, with_chunk, without_chunk};
-ghost use Rattle.dlmalloc.specs.Binned.{IsFreeAt, IsBinnedBut, IsRebinned};
+ghost use Rattle.dlmalloc.specs.Binned.{IsFreeAt, IsBinnedBut, IsMember, IsRebinned};
 ghost use Rattle.dlmalloc.specs.Order.{IsLessened, IsAdded};
 ghost use Rattle.dlmalloc.specs.Heap.{state_of, IsSound};
 
@@ -39,6 +39,21 @@ impl<A: Allocator> Dlmalloc<A> {
             return;
         }
         self.bins.unlink(&mut self.system, at, size, steps);
+    }
+
+    /// Takes a chunk that a search of the bins named out of its bin.
+    #[inline(always)]
+    pub(crate) fn unbin_fit<L: Ledger>(&mut self, at: u64, size: u64, steps: &mut Steps<L>)
+        requires sound { IsSound A.regions A.word self.old }
+        requires free { IsFreeAt (state_of A.word self.old) at size }
+        requires other { at ≢ self.old.victim }
+        requires member { (n : ℕ) × IsMember A.regions A.word self.old n at }
+        requires binned { (loose : List ℕ) × IsBinnedBut loose A.regions A.word self.old × (IsIn at loose → ⊥) }
+        ensures loose { (loose : List ℕ) → (before : IsBinnedBut loose A.regions A.word self.old) → (IsIn at loose → ⊥) → (after : IsBinnedBut (at ∷ loose) A.regions A.word self.new) × ((n : ℕ) → after.index n ≡ without_chunk size at before.index n) }
+        ensures same { IsRebinned A.regions A.word A.follows self.old self.new }
+        ensures counted { steps.new ≤ steps.old + 196 }
+    {
+        self.bins.unlink_fit(&mut self.system, at, size, steps);
     }
 
     /// Takes the free chunk between two addresses out of its bin, if there is one.

@@ -7,7 +7,7 @@ ghost use Rattle.dlmalloc.specs.Blocks.{HasOneMore};
 ghost use Rattle.dlmalloc.specs.Taken.{taken};
 ghost use Rattle.dlmalloc.specs.Heap.{state_of, IsSound};
 ghost use Rattle.dlmalloc.specs.Served.{IsMoved, IsTurned};
-ghost use Rattle.dlmalloc.specs.Binned.{IsFreeAt, IsBinned, FreeMoves};
+ghost use Rattle.dlmalloc.specs.Binned.{IsFreeAt, IsBinned, IsMember, FreeMoves};
 ghost use Rattle.dlmalloc.specs.Order.{KeepsOrder};
 
 use crate::heap::Dlmalloc;
@@ -19,7 +19,7 @@ use std::sync::ledger::Ledger;
 use step_count::Steps;
 
 impl<A: Allocator> Dlmalloc<A> {
-    /// Cuts `n` bytes from a free chunk other than the top. A rest of less than 32 bytes stays with them. The rest of the
+    /// Cuts `n` bytes from a free chunk other than the top: the victim, or the one that a search of the bins names. A rest of less than 32 bytes stays with them. The rest of the
     /// victim is the victim. A binned chunk leaves its bin; for less than 256 bytes its rest is the victim, and the old one
     /// goes into its bin; else the rest goes into its own.
     pub(crate) fn take<L: Ledger>(&mut self, at: u64, size: u64, n: u64, steps: &mut Steps<L>)
@@ -29,6 +29,7 @@ impl<A: Allocator> Dlmalloc<A> {
         requires whole { n % 16 ≡ 0 }
         requires least { 32 ≤ n }
         requires fits { n ≤ size }
+        requires member { at ≢ self.old.victim → IsMember A.regions A.word self.old n at }
         ensures state { state_of A.word self.new ≡ taken (state_of A.word self.old) (record { at = at; size = size; kind = Free }) n }
         ensures more { HasOneMore (state_of A.word self.old) (state_of A.word self.new) at }
         ensures moved { IsTurned A.regions A.word A.follows self.old self.new }
@@ -44,12 +45,13 @@ impl<A: Allocator> Dlmalloc<A> {
         self.take_binned(at, size, n, steps);
     }
 
-    /// Cuts `n` bytes from a binned chunk.
+    /// Cuts `n` bytes from the binned chunk that a search for so many names.
     fn take_binned<L: Ledger>(&mut self, at: u64, size: u64, n: u64, steps: &mut Steps<L>)
         requires sound { IsSound A.regions A.word self.old }
         requires linked { IsBinned A.regions A.word self.old }
         requires chunk { extent_at at (extents_in (state_of A.word self.old)) ≡ Some (record { at = at; size = size; kind = Free }) }
         requires other { at ≢ self.old.victim }
+        requires member { IsMember A.regions A.word self.old n at }
         requires whole { n % 16 ≡ 0 }
         requires least { 32 ≤ n }
         requires fits { n ≤ size }
@@ -62,7 +64,7 @@ impl<A: Allocator> Dlmalloc<A> {
     {
         let victim = self.victim;
         let victim_size = self.victim_size;
-        self.unbin(at, size, steps);
+        self.unbin_fit(at, size, steps);
         index_stays();
         self.cut_chunk(at, size, n, steps);
         let rest = size - n;

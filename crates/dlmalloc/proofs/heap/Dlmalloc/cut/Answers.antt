@@ -68,3 +68,6 @@ pub returns-in-Some-Top-clause-order : goal.returns-in-Some-Top-clause-order
 returns-in-Some-Top-clause-order g c = λ b.
     let e = c.take_top.ensures in
     (binned_beside c.index_stays.ensures g.A.Links.regions g.A.Links.word g.A.Links.follows c.args.self.now c.take_top.new.self c.requires.sound e.moved e.bins e.free (ap (λ (s : HeapState). s.victim) e.state) b, order_same b.index)
+
+pub take-requires-clause-member : goal.take-requires-clause-member
+take-requires-clause-member g c = c.in-Some-Chunk.ensures.member c.in-Some-Chunk.place (ap Some c.in-Some-Chunk.field-0-is)

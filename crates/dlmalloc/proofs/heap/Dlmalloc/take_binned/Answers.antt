@@ -7,14 +7,17 @@ use Rattle.dlmalloc.proofs.Bins.Order.{lessened_as, added_as, order_less, in_ord
 use Rattle.dlmalloc.proofs.Cuts.BinsMeanwhile.{whole_taken, rest_came, small_taken, small_other, large_taken, large_other, old_victim_free, old_victim_none}
 use Rattle.dlmalloc.proofs.heap.Dlmalloc.take_binned.Goals as goal
 
-pub unbin-requires-clause-binned : goal.unbin-requires-clause-binned
-unbin-requires-clause-binned g c = ([], c.requires.linked, λ none. none)
+pub unbin_fit-requires-clause-binned : goal.unbin_fit-requires-clause-binned
+unbin_fit-requires-clause-binned g c = ([], c.requires.linked, λ none. none)
 
 pub cut_chunk-requires-clause-sound : goal.cut_chunk-requires-clause-sound
-cut_chunk-requires-clause-sound g c = c.unbin.ensures.same.sound
+cut_chunk-requires-clause-sound g c = c.unbin_fit.ensures.same.sound
 
 pub cut_chunk-requires-clause-chunk : goal.cut_chunk-requires-clause-chunk
-cut_chunk-requires-clause-chunk g c = ap (λ (s : HeapState). extent_at c.args.at (extents_in s)) c.unbin.ensures.same.state ∙ c.requires.chunk
+cut_chunk-requires-clause-chunk g c = ap (λ (s : HeapState). extent_at c.args.at (extents_in s)) c.unbin_fit.ensures.same.state ∙ c.requires.chunk
+
+pub unbin_fit-requires-clause-member : goal.unbin_fit-requires-clause-member
+unbin_fit-requires-clause-member g c = (c.args.n, c.requires.member)
 
 -- ---- no rest
 
@@ -23,9 +26,9 @@ returns-then-rest-lt-LEAST_CHUNK g c =
     let regions = g.A.Links.regions in
     let word = g.A.Links.word in
     let old = c.args.self.now in
-    let middle = c.unbin.new.self in
+    let middle = c.unbin_fit.new.self in
     let new = c.cut_chunk.new.self in
-    let one = c.unbin.ensures in
+    let one = c.unbin_fit.ensures in
     let e = c.cut_chunk.ensures in
     let less = c.if-rest-lt-LEAST_CHUNK.true in
     let fits = c.requires.fits in
@@ -48,44 +51,44 @@ bin_some-requires-clause-sound g c = c.cut_chunk.ensures.moved.sound
 
 pub bin_some-requires-clause-free : goal.bin_some-requires-clause-free
 bin_some-requires-clause-free g c = λ some.
-    let same = c.unbin.ensures.same in
+    let same = c.unbin_fit.ensures.same in
     let e = c.cut_chunk.ensures in
     let at = ap (λ h. h.victim) same.fields in
     let size = ap (λ h. h.victim_size) same.fields in
     subst (λ (v : ℕ). extent_at v (extents_in (state_of g.A.Links.word c.cut_chunk.new.self)) ≡ Some (extent v c.args.self.now.victim_size Free)) at
-    (subst (λ (n : ℕ). extent_at c.unbin.new.self.victim (extents_in (state_of g.A.Links.word c.cut_chunk.new.self)) ≡ Some (extent c.unbin.new.self.victim n Free)) size
-    (old_victim_free c.index_stays.ensures g.A.Links.regions g.A.Links.word g.A.Links.follows c.unbin.new.self c.cut_chunk.new.self same.sound e.moved e.bins c.args.at (c.args.at + c.args.n) _ e.free (λ is. c.requires.other (is ∙ at)) (λ none. some (sym size ∙ none))))
+    (subst (λ (n : ℕ). extent_at c.unbin_fit.new.self.victim (extents_in (state_of g.A.Links.word c.cut_chunk.new.self)) ≡ Some (extent c.unbin_fit.new.self.victim n Free)) size
+    (old_victim_free c.index_stays.ensures g.A.Links.regions g.A.Links.word g.A.Links.follows c.unbin_fit.new.self c.cut_chunk.new.self same.sound e.moved e.bins c.args.at (c.args.at + c.args.n) _ e.free (λ is. c.requires.other (is ∙ at)) (λ none. some (sym size ∙ none))))
 
 pub bin_some-requires-clause-none : goal.bin_some-requires-clause-none
 bin_some-requires-clause-none g c = λ none n free.
-    let same = c.unbin.ensures.same in
+    let same = c.unbin_fit.ensures.same in
     let e = c.cut_chunk.ensures in
     let at = ap (λ h. h.victim) same.fields in
     let size = ap (λ h. h.victim_size) same.fields in
-    old_victim_none c.index_stays.ensures g.A.Links.regions g.A.Links.word g.A.Links.follows c.unbin.new.self c.cut_chunk.new.self same.sound e.moved e.bins c.args.at (c.args.at + c.args.n) (size ∙ none) n
+    old_victim_none c.index_stays.ensures g.A.Links.regions g.A.Links.word g.A.Links.follows c.unbin_fit.new.self c.cut_chunk.new.self same.sound e.moved e.bins c.args.at (c.args.at + c.args.n) (size ∙ none) n
     (subst (λ (v : ℕ). extent_at v (extents_in (state_of g.A.Links.word c.cut_chunk.new.self)) ≡ Some (extent v n Free)) (sym at) free)
 
 pub bin_some-requires-clause-other : goal.bin_some-requires-clause-other
 bin_some-requires-clause-other g c = λ some is.
-    let same = c.unbin.ensures.same in
+    let same = c.unbin_fit.ensures.same in
     let e = c.cut_chunk.ensures in
     let at = ap (λ h. h.victim) same.fields in
     let size = ap (λ h. h.victim_size) same.fields in
     let more = c.if-rest-lt-LEAST_CHUNK.false in
     let fits = c.requires.fits in
-    small_other c.index_stays.ensures g.A.Links.regions g.A.Links.word g.A.Links.follows c.unbin.new.self c.cut_chunk.new.self same.sound c.args.at c.args.size c.args.n e.moved e.state e.free e.bins (λ is. c.requires.other (is ∙ at)) (omega arith) c.if-n-lt-LEAST_LARGE.true
+    small_other c.index_stays.ensures g.A.Links.regions g.A.Links.word g.A.Links.follows c.unbin_fit.new.self c.cut_chunk.new.self same.sound c.args.at c.args.size c.args.n e.moved e.state e.free e.bins (λ is. c.requires.other (is ∙ at)) (omega arith) c.if-n-lt-LEAST_LARGE.true
     (λ none. some (sym size ∙ none)) (at ∙ is)
 
 pub bin_some-requires-clause-loose : goal.bin_some-requires-clause-loose
 bin_some-requires-clause-loose g c =
-    let one = c.unbin.ensures in
+    let one = c.unbin_fit.ensures in
     let e = c.cut_chunk.ensures in
     let at = ap (λ h. h.victim) one.same.fields in
     let more = c.if-rest-lt-LEAST_CHUNK.false in
     let fits = c.requires.fits in (
       [],
-      renamed g.A.Links.regions g.A.Links.word c.cut_chunk.new.self c.unbin.new.self.victim c.args.self.now.victim at
-          (small_taken c.index_stays.ensures g.A.Links.regions g.A.Links.word g.A.Links.follows c.unbin.new.self c.cut_chunk.new.self one.same.sound c.args.at c.args.size c.args.n e.moved e.state e.free e.bins (λ is. c.requires.other (is ∙ at)) (omega arith) c.if-n-lt-LEAST_LARGE.true
+      renamed g.A.Links.regions g.A.Links.word c.cut_chunk.new.self c.unbin_fit.new.self.victim c.args.self.now.victim at
+          (small_taken c.index_stays.ensures g.A.Links.regions g.A.Links.word g.A.Links.follows c.unbin_fit.new.self c.cut_chunk.new.self one.same.sound c.args.at c.args.size c.args.n e.moved e.state e.free e.bins (λ is. c.requires.other (is ∙ at)) (omega arith) c.if-n-lt-LEAST_LARGE.true
           (one.loose [] c.requires.linked (λ none. none)).0),
     )
 
@@ -93,10 +96,10 @@ pub returns-then-n-lt-LEAST_LARGE : goal.returns-then-n-lt-LEAST_LARGE
 returns-then-n-lt-LEAST_LARGE g c =
     let regions = g.A.Links.regions in
     let word = g.A.Links.word in
-    let middle = c.unbin.new.self in
+    let middle = c.unbin_fit.new.self in
     let cut = c.cut_chunk.new.self in
     let new = c.bin_some.new.self in
-    let one = c.unbin.ensures in
+    let one = c.unbin_fit.ensures in
     let e = c.cut_chunk.ensures in
     let last = c.bin_some.ensures in
     let at = ap (λ h. h.victim) one.same.fields in
@@ -132,21 +135,21 @@ bin-requires-clause-free g c = c.cut_chunk.ensures.rest (let more = c.if-rest-lt
 
 pub bin-requires-clause-other : goal.bin-requires-clause-other
 bin-requires-clause-other g c =
-    let one = c.unbin.ensures in
+    let one = c.unbin_fit.ensures in
     let e = c.cut_chunk.ensures in
     let more = c.if-rest-lt-LEAST_CHUNK.false in
     let fits = c.requires.fits in
-    large_other c.index_stays.ensures g.A.Links.regions g.A.Links.word g.A.Links.follows c.unbin.new.self c.cut_chunk.new.self one.same.sound c.args.at c.args.size c.args.n e.moved e.state e.free e.bins
+    large_other c.index_stays.ensures g.A.Links.regions g.A.Links.word g.A.Links.follows c.unbin_fit.new.self c.cut_chunk.new.self one.same.sound c.args.at c.args.size c.args.n e.moved e.state e.free e.bins
     (λ is. c.requires.other (is ∙ ap (λ h. h.victim) one.same.fields)) (omega arith) c.if-n-lt-LEAST_LARGE.false
 
 pub bin-requires-clause-loose : goal.bin-requires-clause-loose
 bin-requires-clause-loose g c =
-    let one = c.unbin.ensures in
+    let one = c.unbin_fit.ensures in
     let e = c.cut_chunk.ensures in
     let more = c.if-rest-lt-LEAST_CHUNK.false in
     let fits = c.requires.fits in (
       [],
-      large_taken c.index_stays.ensures g.A.Links.regions g.A.Links.word g.A.Links.follows c.unbin.new.self c.cut_chunk.new.self one.same.sound c.args.at c.args.size c.args.n e.moved e.state e.free e.bins
+      large_taken c.index_stays.ensures g.A.Links.regions g.A.Links.word g.A.Links.follows c.unbin_fit.new.self c.cut_chunk.new.self one.same.sound c.args.at c.args.size c.args.n e.moved e.state e.free e.bins
           (λ is. c.requires.other (is ∙ ap (λ h. h.victim) one.same.fields)) (omega arith) c.if-n-lt-LEAST_LARGE.false (one.loose [] c.requires.linked (λ none. none)).0,
     )
 
@@ -154,10 +157,10 @@ pub returns : goal.returns
 returns g c =
     let regions = g.A.Links.regions in
     let word = g.A.Links.word in
-    let middle = c.unbin.new.self in
+    let middle = c.unbin_fit.new.self in
     let cut = c.cut_chunk.new.self in
     let new = c.bin.new.self in
-    let one = c.unbin.ensures in
+    let one = c.unbin_fit.ensures in
     let e = c.cut_chunk.ensures in
     let last = c.bin.ensures in
     let more = c.if-rest-lt-LEAST_CHUNK.false in
