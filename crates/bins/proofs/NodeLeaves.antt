@@ -1,6 +1,7 @@
 -- A node leaves the trie of its bin, by the words that name its parent and the bin.
 use Rattle.std.proofs.Common.{◌≡◌, ◌≢◌, ℕ, ◌+◌, ◌*◌, ◌^◌, ◌<◌, ◌≤◌, ◌⊎◌, inl, inr, Bool, not, List, [], ◌∷◌, refl, sym, ap, subst, ◌∙◌, arith}
 use Rattle.std.specs.Prelude.{slice_index}
+use Rattle.std.specs.Int.{bit_at}
 use Rattle.heap_memory.specs.declared.grant.Grant.{Grant}
 use Rattle.heap_memory.specs.Words.{IsStored}
 use Rattle.dlmalloc_chunks.specs.Bins.{least_size, IsTreeIndex}
@@ -109,6 +110,9 @@ module _ (regions : List Grant) (old : ℕ → ℕ) (bins : Bins) (index : ℕ �
       | inl is ↦ (from (least_size bin) index, (low_of bin, (levels_of bin, (size, (few, (root_held is, root_in))))))
       | inr below ↦ (below.own, (below.from, (below.deep, (size, (let l = below.less in let f = few in omega arith, (below.held, below.is_in))))))
     ]
+
+    pub n_marked : parent < 4096 → bit_at bins.tree_map bin ≡ 1
+    n_marked low = (linked.large bin n_bin.within).marked (subst (λ x. 0 < x) (root_at low) n_some)
 
     module _ (mid : ℕ → ℕ) (left : ℕ)
         (trie : (own : ℕ → List ℕ) (low deep size : ℕ) → deep ≤ 61 → IsHeld regions old own bin parent low deep chunk → IsIn chunk (own size) → IsTrie mid (without_chunk size chunk own) bin parent low deep left)

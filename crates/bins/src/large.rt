@@ -43,20 +43,7 @@ pub(crate) fn bin_levels(bin: usize) -> u32
 }
 
 impl Bins {
-    /// Names the root of a tree bin, 0 where it is empty.
-    fn name_root(&mut self, bin: usize, root: u64)
-        requires { bin < 32 }
-        ensures { HasRoot self.old bin root self.new }
-    {
-        self.roots[bin] = root;
-        if root == 0 {
-            self.tree_map = map::without_bit(self.tree_map, bin);
-        } else {
-            self.tree_map = map::with_bit(self.tree_map, bin);
-        }
-    }
-
-    /// The same. Nothing is written where it is the one before.
+    /// Names the root of a tree bin, 0 where it is empty. Nothing is written where it is the one before.
     fn set_root(&mut self, bin: usize, before: u64, root: u64)
         requires within { bin < 32 }
         requires before { before ≡ slice_index self.old.roots bin }
@@ -67,7 +54,24 @@ impl Bins {
         if root == before {
             return;
         }
-        self.name_root(bin, root);
+        self.roots[bin] = root;
+        if root == 0 {
+            self.tree_map = map::without_bit(self.tree_map, bin);
+        } else {
+            self.tree_map = map::with_bit(self.tree_map, bin);
+        }
+    }
+
+    /// Names another root of a tree bin that has one, or 0. Its bit is set, and stays where there is a root.
+    fn swap_root(&mut self, bin: usize, root: u64)
+        requires within { bin < 32 }
+        requires marked { bit_at self.old.tree_map bin ≡ 1 }
+        ensures { HasRoot self.old bin root self.new }
+    {
+        self.roots[bin] = root;
+        if root == 0 {
+            self.tree_map = map::without_bit(self.tree_map, bin);
+        }
     }
 
     /// Takes a chunk of a size of at least 256 out of its trie.
@@ -129,7 +133,7 @@ impl Bins {
         let bin = memory.load_counted(chunk + INDEX, steps);
         let left = replace_node(memory, chunk, MOST_LEVELS, parent, bin, steps);
         if parent < LEAST_ADDRESS {
-            self.name_root(bin as usize, left);
+            self.swap_root(bin as usize, left);
         } else {
             swap_child(memory, parent, chunk, left, steps);
         }

@@ -91,8 +91,43 @@ fn rest_of(leaf: u64, child: u64) -> u64
     if leaf == child { 0 } else { child }
 }
 
+/// Puts a leaf from below in the place of a node that is alone in its ring and has this first child. The trie has at most so
+/// many levels.
+#[inline(never)]
+fn raise_leaf<M: Links, L: Ledger>(
+    memory: &mut M,
+    at: u64,
+    is_upper: bool,
+    child: u64,
+    levels: u32,
+    parent: u64,
+    bin: u64,
+    steps: &mut Steps<L>,
+) -> u64
+    requires some { 0 < at }
+    requires real { 0 < child }
+    requires child { child ≡ M.word memory.old (at + slot is_upper) }
+    requires held { (index : ℕ → List ℕ) × ((low : ℕ) × ((deep : ℕ) × ((deep ≤ levels) × IsHeld (M.regions memory.old) (M.word memory.old) index bin parent low deep at))) }
+    ensures trie { (index : ℕ → List ℕ) (low deep : ℕ) → deep ≤ levels → IsHeld (M.regions memory.old) (M.word memory.old) index bin parent low deep at →
+        (size : ℕ) → index size ≡ at ∷ [] → IsTrie (M.word memory.new) (without size index) bin parent low deep result }
+    ensures words { (index : ℕ → List ℕ) (low deep : ℕ) → deep ≤ levels → IsHeld (M.regions memory.old) (M.word memory.old) index bin parent low deep at →
+        OnlyHeldChanges (M.regions memory.old) index low (low + width deep) (M.word memory.old) (M.word memory.new) }
+    ensures regions { M.regions memory.new ≡ M.regions memory.old }
+    ensures follows { M.follows memory.old [] memory.new }
+    ensures counted { steps.new ≤ steps.old + 3 * levels + 4 }
+{
+    let other = memory.load_counted(slot_of(at, !is_upper), steps);
+    let leaf = take_leaf(memory, child, levels - 1, steps);
+    let rest = rest_of(leaf, child);
+    let child0 = pick(is_upper, rest, other);
+    let child1 = pick(is_upper, other, rest);
+    place_node(memory, leaf, child0, child1, parent, bin, steps);
+    leaf
+}
+
 /// Puts a leaf from below in the place of a node that is alone in its ring. Answers 0 where nothing is below. The trie has
 /// at most so many levels.
+#[inline(always)]
 fn give_to_leaf<M: Links, L: Ledger>(
     memory: &mut M,
     at: u64,
@@ -115,13 +150,16 @@ fn give_to_leaf<M: Links, L: Ledger>(
     if child.at == 0 {
         return 0;
     }
-    let other = memory.load_counted(slot_of(at, !child.is_upper), steps);
-    let leaf = take_leaf(memory, child.at, levels - 1, steps);
-    let rest = rest_of(leaf, child.at);
-    let child0 = pick(child.is_upper, rest, other);
-    let child1 = pick(child.is_upper, other, rest);
-    place_node(memory, leaf, child0, child1, parent, bin, steps);
-    leaf
+    raise_leaf(
+        memory,
+        at,
+        child.is_upper,
+        child.at,
+        levels,
+        parent,
+        bin,
+        steps,
+    )
 }
 
 /// Takes a node out of a trie of at most so many levels, and puts its heir in its place: the next of its ring, or else a

@@ -1,5 +1,5 @@
 use Rattle.std.proofs.Common.{arith}
-use Rattle.bins.proofs.NodeLeaves.{n_place, n_some, n_bin, n_held, n_root, n_root_words, n_places, n_was, n_below, n_below_words}
+use Rattle.bins.proofs.NodeLeaves.{n_place, n_some, n_bin, n_held, n_marked, n_root, n_root_words, n_places, n_was, n_below, n_below_words}
 use Rattle.bins.proofs.bins.Bins.unlink_node.Goals as goal
 
 pub overflow_add-chunk : goal.overflow_add-chunk
@@ -21,9 +21,13 @@ pub replace_node-left-requires-clause-held : goal.replace_node-left-requires-cla
 replace_node-left-requires-clause-held g c = let r = c.requires.linked in n_held (g.M.Links.regions c.args.memory.now) (g.M.Links.word c.args.memory.now) c.args.self.now r.0 r.1.0 c.args.chunk r.1.1.0 r.1.1.1.0 r.1.1.1.1.0 r.1.1.1.1.1
     c.load_counted-parent.result c.load_counted-bin.result c.load_counted-parent.ensures.value c.load_counted-bin.ensures.value
 
-pub name_root-requires : goal.name_root-requires
-name_root-requires g c = let r = c.requires.linked in (n_bin (g.M.Links.regions c.args.memory.now) (g.M.Links.word c.args.memory.now) c.args.self.now r.0 r.1.0 c.args.chunk r.1.1.0 r.1.1.1.0 r.1.1.1.1.0 r.1.1.1.1.1
+pub swap_root-requires-clause-within : goal.swap_root-requires-clause-within
+swap_root-requires-clause-within g c = let r = c.requires.linked in (n_bin (g.M.Links.regions c.args.memory.now) (g.M.Links.word c.args.memory.now) c.args.self.now r.0 r.1.0 c.args.chunk r.1.1.0 r.1.1.1.0 r.1.1.1.1.0 r.1.1.1.1.1
     c.load_counted-parent.result c.load_counted-bin.result c.load_counted-parent.ensures.value c.load_counted-bin.ensures.value).within
+
+pub swap_root-requires-clause-marked : goal.swap_root-requires-clause-marked
+swap_root-requires-clause-marked g c = let r = c.requires.linked in n_marked (g.M.Links.regions c.args.memory.now) (g.M.Links.word c.args.memory.now) c.args.self.now r.0 r.1.0 c.args.chunk r.1.1.0 r.1.1.1.0 r.1.1.1.1.0 r.1.1.1.1.1
+    c.load_counted-parent.result c.load_counted-bin.result c.load_counted-parent.ensures.value c.load_counted-bin.ensures.value c.if-parent-lt-LEAST_ADDRESS.true
 
 pub swap_child-requires-clause-places : goal.swap_child-requires-clause-places
 swap_child-requires-clause-places g c = let r = c.requires.linked in rw c.replace_node-left.ensures.regions (n_places (g.M.Links.regions c.args.memory.now) (g.M.Links.word c.args.memory.now) c.args.self.now r.0 r.1.0 c.args.chunk r.1.1.0 r.1.1.1.0 r.1.1.1.1.0 r.1.1.1.1.1
@@ -35,11 +39,11 @@ swap_child-requires-clause-was g c = let r = c.requires.linked in n_was (g.M.Lin
 
 pub returns-then-parent-lt-LEAST_ADDRESS-clause-linked : goal.returns-then-parent-lt-LEAST_ADDRESS-clause-linked
 returns-then-parent-lt-LEAST_ADDRESS-clause-linked g c = λ index size large linked is_in oldest. rw c.replace_node-left.ensures.regions (n_root (g.M.Links.regions c.args.memory.now) (g.M.Links.word c.args.memory.now) c.args.self.now index size c.args.chunk large linked is_in oldest
-    c.load_counted-parent.result c.load_counted-bin.result c.load_counted-parent.ensures.value c.load_counted-bin.ensures.value (g.M.Links.word c.replace_node-left.new.memory) c.replace_node-left.result c.replace_node-left.ensures.trie c.replace_node-left.ensures.words c.if-parent-lt-LEAST_ADDRESS.true c.name_root.new.self c.name_root.ensures)
+    c.load_counted-parent.result c.load_counted-bin.result c.load_counted-parent.ensures.value c.load_counted-bin.ensures.value (g.M.Links.word c.replace_node-left.new.memory) c.replace_node-left.result c.replace_node-left.ensures.trie c.replace_node-left.ensures.words c.if-parent-lt-LEAST_ADDRESS.true c.swap_root.new.self c.swap_root.ensures)
 
 pub returns-then-parent-lt-LEAST_ADDRESS-clause-words : goal.returns-then-parent-lt-LEAST_ADDRESS-clause-words
 returns-then-parent-lt-LEAST_ADDRESS-clause-words g c = λ index size large linked is_in oldest. n_root_words (g.M.Links.regions c.args.memory.now) (g.M.Links.word c.args.memory.now) c.args.self.now index size c.args.chunk large linked is_in oldest
-    c.load_counted-parent.result c.load_counted-bin.result c.load_counted-parent.ensures.value c.load_counted-bin.ensures.value (g.M.Links.word c.replace_node-left.new.memory) c.replace_node-left.result c.replace_node-left.ensures.trie c.replace_node-left.ensures.words c.if-parent-lt-LEAST_ADDRESS.true c.name_root.new.self c.name_root.ensures
+    c.load_counted-parent.result c.load_counted-bin.result c.load_counted-parent.ensures.value c.load_counted-bin.ensures.value (g.M.Links.word c.replace_node-left.new.memory) c.replace_node-left.result c.replace_node-left.ensures.trie c.replace_node-left.ensures.words c.if-parent-lt-LEAST_ADDRESS.true c.swap_root.new.self c.swap_root.ensures
 
 pub returns-else-parent-lt-LEAST_ADDRESS-clause-linked : goal.returns-else-parent-lt-LEAST_ADDRESS-clause-linked
 returns-else-parent-lt-LEAST_ADDRESS-clause-linked g c = λ index size large linked is_in oldest. let stored = rw c.replace_node-left.ensures.regions at c.swap_child.ensures.stored in
