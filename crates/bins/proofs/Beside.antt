@@ -8,9 +8,10 @@ use Rattle.heap_memory.specs.Regions.{IsWordOf, is_granted}
 use Rattle.heap_memory.specs.Words.{IsStored}
 use Rattle.dlmalloc_chunks.specs.Head.{size_of}
 use Rattle.bins.specs.declared.bins.Bins.{Bins}
-use Rattle.bins.specs.Index.{IsIn, AreDistinct, removed, with_chunk, without_chunk}
+use Rattle.bins.specs.Index.{IsIn, AreDistinct, IsLeastFit, first_or, removed, with_chunk, without_chunk}
 use Rattle.bins.specs.Linked.{IsLinked, IsFresh}
 use Rattle.bins.specs.Plain.{index_of, is_apart, HasPlace, AreBeside}
+use Rattle.bins.proofs.Chunks.{one_size}
 use Rattle.bins.proofs.Stays.{index_stays}
 
 same_true : (a b : ℕ) → (a == b) ≡ true → a ≡ b
@@ -157,6 +158,12 @@ module _ (regions : List Grant) (old : ℕ → ℕ) (bins : Bins) (entries : Lis
     linked = (let e : without_chunk entry.0 entry.1 (index_of entries) ≡ index_of (take place entries ++ drop (suc place) entries) = λ i n. sym (index_less entries place entry entry within is (beside.linked.chunks.once entry.0) n) i in
         subst (λ (index : ℕ → List ℕ). IsLinked regions new bins' index) e linked);
   }
+
+  -- where a search names the entry's chunk, that is the oldest of its size from 256 on
+  pub fit_oldest : (n chunk : ℕ) → entry.1 ≡ chunk → IsLeastFit (index_of entries) n chunk → 256 ≤ entry.0 → entry.1 ≡ first_or 0 (index_of entries entry.0)
+  fit_oldest n chunk same fit large =
+      let size : fit.size ≡ entry.0 = one_size regions old old (index_of entries) fit.size entry.0 chunk beside.linked.chunks fit.binned (subst (λ c. IsIn c (index_of entries entry.0)) same (entry_in entries place entry entry within is)) in
+      same ∙ (fit.oldest (subst (λ m. 256 ≤ m) (sym size) large) ∙ ap (λ m. first_or 0 (index_of entries m)) size)
 
 -- ---- what holds of regions and lists holds of those equal to them
 pub linked_at : (regions regions' : List Grant) (words : ℕ → ℕ) (bins : Bins) (index : ℕ → List ℕ) → regions' ≡ regions → IsLinked regions words bins index → IsLinked regions' words bins index

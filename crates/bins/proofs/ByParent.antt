@@ -1,5 +1,5 @@
 -- Where a node stands in a trie: at its root, or at the word of its parent.
-use Rattle.std.proofs.Common.{◌≡◌, ◌≢◌, ℕ, zero, suc, ◌+◌, ◌-◌, ◌*◌, ◌<◌, ◌≤◌, ◌⊎◌, inl, inr, Bool, not, List, ◌∷◌, refl, sym, ap, subst, ◌∙◌, arith}
+use Rattle.std.proofs.Common.{◌≡◌, ◌≢◌, ℕ, zero, suc, ◌+◌, ◌-◌, ◌<◌, ◌≤◌, ◌⊎◌, inl, inr, Bool, not, List, ◌∷◌, refl, sym, ap, subst, ◌∙◌, arith}
 use Rattle.heap_memory.specs.declared.grant.Grant.{Grant}
 use Rattle.heap_memory.specs.Words.{IsStored}
 use Rattle.dlmalloc_chunks.specs.Head.{size_of}
@@ -14,7 +14,7 @@ use Rattle.bins.proofs.Opened.{Opened, opened, levels_some, halves_apart}
 use Rattle.bins.proofs.Widths.{wide}
 use Rattle.bins.proofs.Taking.{t_slot}
 use Rattle.bins.proofs.OneIndex.{half_with}
-use Rattle.bins.proofs.LeaveBelow.{q, b_in, b_real, b_held, kids_kept, one_trie, one_words}
+use Rattle.bins.proofs.LeaveBelow.{q, b_real, b_held, kids_kept, one_trie, one_words}
 
 -- A node stands below the root of a trie: it is a child of a node, and the trie from it on holds an index of its own. Where that
 -- trie loses the node, and the word of the parent is given the one that takes its place, the whole trie has lost it.

@@ -85,12 +85,12 @@ module _ (regions : List Grant) (old : ℕ → ℕ) (index : ℕ → List ℕ) (
     kids_kept mid words b =
         let s = slot_at b in
         words (at + slot b) (t_slot regions old index bin parent low levels at some held b).word (λ n c above below c_in.
-            let is_in = in_without q.node.size index n c c_in in
-            let ln = held.large n c is_in in let la = held.large q.node.size at at_in in
-            elim (held.chunks.apart n c q.node.size at is_in at_in (of_child n c at c_in at_in)) [
-              | inl before ↦ inr (inl (omega (arith, s.1.1.1, s.1.1.0)))
-              | inr behind ↦ inl (omega (arith, s.1.1.1, s.1.1.0))
-            ])
+        let is_in = in_without q.node.size index n c c_in in
+        let ln = held.large n c is_in in let la = held.large q.node.size at at_in in
+        elim (held.chunks.apart n c q.node.size at is_in at_in (of_child n c at c_in at_in)) [
+          | inl before ↦ inr (inl (omega (arith, s.1.1.1, s.1.1.0)))
+          | inr behind ↦ inl (omega (arith, s.1.1.1, s.1.1.0))
+        ])
 
     pub b_kept : (mid : ℕ → ℕ) (low' : ℕ) → low' ≡ low_at side low half →
         ((index' : ℕ → List ℕ) → IsHeld regions old index' bin at low' (levels - 1) child → IsIn chunk (index' size) → OnlyHeldChanges regions index' low' (low' + width (levels - 1)) old mid) → IsStored regions mid place child mid

@@ -11,8 +11,7 @@ use Rattle.bins.specs.Tries.{slot, width, IsTrie}
 use Rattle.bins.specs.Linked.{IsLinked, OnlyLinksChange, low_of, levels_of}
 use Rattle.bins.specs.Stores.{IsPlace, HasRoot}
 use Rattle.bins.specs.Below.{IsHeld, OnlyHeldChanges}
-use Rattle.bins.proofs.Chunks.{one_size}
-use Rattle.bins.proofs.Opened.{Opened, opened}
+use Rattle.bins.proofs.Opened.{opened}
 use Rattle.bins.proofs.TreeRanges.{levels_few, from_same}
 use Rattle.bins.proofs.TreeEntry.{t_above, t_below, t_held, t_in, t_real, t_unlinked, t_unlinked_words}
 use Rattle.bins.proofs.OneIndex.{bin_of}

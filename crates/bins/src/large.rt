@@ -113,7 +113,7 @@ impl Bins {
 
     /// Takes a node out of the trie of its bin: the oldest chunk of a size of at least 256. Its words name its parent and the
     /// bin, so that nothing is searched.
-    #[inline(never)]
+    #[inline(always)]
     pub(crate) fn unlink_node<M: Links, L: Ledger>(
         &mut self,
         memory: &mut M,

@@ -1,4 +1,4 @@
-ghost use Rattle.std.specs.Prelude.{◌≡◌, ℕ, ◌+◌, ◌^◌, ◌<◌, ◌≤◌, IsTrue, vec_len};
+ghost use Rattle.std.specs.Prelude.{◌≡◌, ℕ, ◌+◌, ◌^◌, ◌<◌, ◌≤◌, IfSome, IsTrue, get_or, length, vec_len};
 ghost use Rattle.std.specs.List.{list_all};
 ghost use Rattle.heap_memory.specs.Regions.{is_granted};
 ghost use Rattle.bins.specs.Plain.{is_apart, HasPlace, AreBeside};
@@ -87,6 +87,35 @@ fn unlink<L: Ledger>(
     bins.unlink(memory, entry.1, entry.0, steps);
 }
 
+/// The place of a chunk in a list.
+fn place_of(list: &[(u64, u64)], at: u64) -> Option<usize>
+    ensures within { IfSome result (λ place. place < length list.now) }
+    ensures is { (default : ℕ × ℕ) → IfSome result (λ place. (get_or list.now place default).1 ≡ at) }
+{
+    list.iter().position(|entry| entry.1 == at)
+}
+
+/// Takes the least fit for a size out of the bins and the list, where there is one.
+fn take_fit<L: Ledger>(
+    bins: &mut Bins,
+    memory: &mut FlatSystem,
+    list: &mut Vec<(u64, u64)>,
+    size: u64,
+    steps: &mut Steps<L>,
+)
+    requires { AreBeside (⟦<FlatSystem as Links>⟧.regions memory.old) (⟦<FlatSystem as Links>⟧.word memory.old) bins.old list.old.items }
+    ensures { AreBeside (⟦<FlatSystem as Links>⟧.regions memory.new) (⟦<FlatSystem as Links>⟧.word memory.new) bins.new list.new.items }
+{
+    let Some(chunk) = bins.least_fit(memory, size, steps) else {
+        return;
+    };
+    let Some(place) = place_of(list, chunk) else {
+        return;
+    };
+    let entry = list.remove(place);
+    bins.unlink_fit(memory, entry.1, entry.0, steps);
+}
+
 /// The least fit of a plain list: the newest below 256, the oldest from 256 on.
 fn least_in(list: &[(u64, u64)], size: u64) -> Option<u64> {
     let mut best: Option<(u64, u64)> = None;
@@ -158,7 +187,44 @@ fn worked_answers<L: Ledger, R: Abort>(
     Ok(())
 }
 
-/// One of 2,000 turns: an insert or an unlink, and a search.
+/// An insert, an unlink, or an unlink of what a search for a size names.
+fn change<L: Ledger>(
+    bins: &mut Bins,
+    memory: &mut FlatSystem,
+    list: &mut Vec<(u64, u64)>,
+    random: u64,
+    asked: u64,
+    steps: &mut Steps<L>,
+) -> Result<(), AllocError>
+    requires { AreBeside (⟦<FlatSystem as Links>⟧.regions memory.old) (⟦<FlatSystem as Links>⟧.word memory.old) bins.old list.old.items }
+    ensures { AreBeside (⟦<FlatSystem as Links>⟧.regions memory.new) (⟦<FlatSystem as Links>⟧.word memory.new) bins.new list.new.items }
+{
+    if random >> 20 & 7 == 0 {
+        take_fit(bins, memory, list, asked, steps);
+        return Ok(());
+    }
+    if random >> 20 & 7 == 4 && !list.is_empty() {
+        unlink(
+            bins,
+            memory,
+            list,
+            (random >> 30) as usize % list.len(),
+            steps,
+        );
+        return Ok(());
+    }
+    let size = size_by(random >> 40);
+    insert(
+        bins,
+        memory,
+        list,
+        size,
+        place_by(random >> 24, size),
+        steps,
+    )
+}
+
+/// One of 2,000 turns: a change, and a search.
 fn turn<L: Ledger, R: Abort>(
     rt: &R,
     bins: &mut Bins,
@@ -170,28 +236,10 @@ fn turn<L: Ledger, R: Abort>(
     requires { AreBeside (⟦<FlatSystem as Links>⟧.regions memory.old) (⟦<FlatSystem as Links>⟧.word memory.old) bins.old list.old.items }
     ensures { AreBeside (⟦<FlatSystem as Links>⟧.regions memory.new) (⟦<FlatSystem as Links>⟧.word memory.new) bins.new list.new.items }
 {
-    let size = size_by(random >> 40);
-    if random >> 20 & 3 == 0 && !list.is_empty() {
-        unlink(
-            bins,
-            memory,
-            list,
-            (random >> 30) as usize % list.len(),
-            steps,
-        );
-    } else {
-        insert(
-            bins,
-            memory,
-            list,
-            size,
-            place_by(random >> 24, size),
-            steps,
-        )?;
-    }
     let asked = size_by(random >> 50)
         .wrapping_add(random >> 10 & 31)
         .wrapping_sub(16);
+    change(bins, memory, list, random, asked, steps)?;
     assert_eq!(rt;
         bins.least_fit(memory, asked, steps),
         least_in(list, asked),
