@@ -3,54 +3,144 @@ use Rattle.bins.proofs.NodeLeaves.{n_place, n_some, n_bin, n_held, n_marked, n_r
 use Rattle.bins.proofs.bins.Bins.unlink_node.Goals as goal
 
 pub overflow_add-chunk : goal.overflow_add-chunk
-overflow_add-chunk g c = let r = c.requires.linked in let p = (n_place (g.M.Links.regions c.args.memory.now) (g.M.Links.word c.args.memory.now) c.args.self.now r.0 r.1.0 c.args.chunk r.1.1.0 r.1.1.1.0 r.1.1.1.1.0 r.1.1.1.1.1 6 (omega arith) (omega arith)).small in omega (arith, p)
+overflow_add-chunk g c =
+    let regions = g.M.Links.regions c.args.memory.now in
+    let word = g.M.Links.word c.args.memory.now in
+    let bins = c.args.self.now in
+    let r = c.requires.linked in
+    let p = (n_place regions word bins r.0 r.1.0 c.args.chunk r.1.1.0 r.1.1.1.0 r.1.1.1.1.0 r.1.1.1.1.1 6 (omega arith) (omega arith)).small in omega (arith, p)
 
 pub load_counted-parent-requires : goal.load_counted-parent-requires
-load_counted-parent-requires g c = let r = c.requires.linked in (n_place (g.M.Links.regions c.args.memory.now) (g.M.Links.word c.args.memory.now) c.args.self.now r.0 r.1.0 c.args.chunk r.1.1.0 r.1.1.1.0 r.1.1.1.1.0 r.1.1.1.1.1 6 (omega arith) (omega arith)).word
+load_counted-parent-requires g c =
+    let regions = g.M.Links.regions c.args.memory.now in
+    let word = g.M.Links.word c.args.memory.now in
+    let bins = c.args.self.now in
+    let r = c.requires.linked in
+    (n_place regions word bins r.0 r.1.0 c.args.chunk r.1.1.0 r.1.1.1.0 r.1.1.1.1.0 r.1.1.1.1.1 6 (omega arith) (omega arith)).word
 
 pub overflow_add-chunk-2 : goal.overflow_add-chunk-2
-overflow_add-chunk-2 g c = let r = c.requires.linked in let p = (n_place (g.M.Links.regions c.args.memory.now) (g.M.Links.word c.args.memory.now) c.args.self.now r.0 r.1.0 c.args.chunk r.1.1.0 r.1.1.1.0 r.1.1.1.1.0 r.1.1.1.1.1 7 (omega arith) (omega arith)).small in omega (arith, p)
+overflow_add-chunk-2 g c =
+    let regions = g.M.Links.regions c.args.memory.now in
+    let word = g.M.Links.word c.args.memory.now in
+    let bins = c.args.self.now in
+    let r = c.requires.linked in
+    let p = (n_place regions word bins r.0 r.1.0 c.args.chunk r.1.1.0 r.1.1.1.0 r.1.1.1.1.0 r.1.1.1.1.1 7 (omega arith) (omega arith)).small in omega (arith, p)
 
 pub load_counted-bin-requires : goal.load_counted-bin-requires
-load_counted-bin-requires g c = let r = c.requires.linked in (n_place (g.M.Links.regions c.args.memory.now) (g.M.Links.word c.args.memory.now) c.args.self.now r.0 r.1.0 c.args.chunk r.1.1.0 r.1.1.1.0 r.1.1.1.1.0 r.1.1.1.1.1 7 (omega arith) (omega arith)).word
+load_counted-bin-requires g c =
+    let regions = g.M.Links.regions c.args.memory.now in
+    let word = g.M.Links.word c.args.memory.now in
+    let bins = c.args.self.now in
+    let r = c.requires.linked in
+    (n_place regions word bins r.0 r.1.0 c.args.chunk r.1.1.0 r.1.1.1.0 r.1.1.1.1.0 r.1.1.1.1.1 7 (omega arith) (omega arith)).word
 
 pub replace_node-left-requires-clause-some : goal.replace_node-left-requires-clause-some
-replace_node-left-requires-clause-some g c = let r = c.requires.linked in n_some (g.M.Links.regions c.args.memory.now) (g.M.Links.word c.args.memory.now) c.args.self.now r.0 r.1.0 c.args.chunk r.1.1.0 r.1.1.1.0 r.1.1.1.1.0 r.1.1.1.1.1
+replace_node-left-requires-clause-some g c =
+    let regions = g.M.Links.regions c.args.memory.now in
+    let word = g.M.Links.word c.args.memory.now in
+    let bins = c.args.self.now in
+    let r = c.requires.linked in
+    n_some regions word bins r.0 r.1.0 c.args.chunk r.1.1.0 r.1.1.1.0 r.1.1.1.1.0 r.1.1.1.1.1
 
 pub replace_node-left-requires-clause-held : goal.replace_node-left-requires-clause-held
-replace_node-left-requires-clause-held g c = let r = c.requires.linked in n_held (g.M.Links.regions c.args.memory.now) (g.M.Links.word c.args.memory.now) c.args.self.now r.0 r.1.0 c.args.chunk r.1.1.0 r.1.1.1.0 r.1.1.1.1.0 r.1.1.1.1.1
-    c.load_counted-parent.result c.load_counted-bin.result c.load_counted-parent.ensures.value c.load_counted-bin.ensures.value
+replace_node-left-requires-clause-held g c =
+    let regions = g.M.Links.regions c.args.memory.now in
+    let word = g.M.Links.word c.args.memory.now in
+    let bins = c.args.self.now in
+    let r = c.requires.linked in
+    let parent = c.load_counted-parent in
+    let bin = c.load_counted-bin in
+    n_held regions word bins r.0 r.1.0 c.args.chunk r.1.1.0 r.1.1.1.0 r.1.1.1.1.0 r.1.1.1.1.1
+    parent.result bin.result parent.ensures.value bin.ensures.value
 
 pub swap_root-requires-clause-within : goal.swap_root-requires-clause-within
-swap_root-requires-clause-within g c = let r = c.requires.linked in (n_bin (g.M.Links.regions c.args.memory.now) (g.M.Links.word c.args.memory.now) c.args.self.now r.0 r.1.0 c.args.chunk r.1.1.0 r.1.1.1.0 r.1.1.1.1.0 r.1.1.1.1.1
-    c.load_counted-parent.result c.load_counted-bin.result c.load_counted-parent.ensures.value c.load_counted-bin.ensures.value).within
+swap_root-requires-clause-within g c =
+    let regions = g.M.Links.regions c.args.memory.now in
+    let word = g.M.Links.word c.args.memory.now in
+    let bins = c.args.self.now in
+    let r = c.requires.linked in
+    let parent = c.load_counted-parent in
+    let bin = c.load_counted-bin in
+    (n_bin regions word bins r.0 r.1.0 c.args.chunk r.1.1.0 r.1.1.1.0 r.1.1.1.1.0 r.1.1.1.1.1
+    parent.result bin.result parent.ensures.value bin.ensures.value).within
 
 pub swap_root-requires-clause-marked : goal.swap_root-requires-clause-marked
-swap_root-requires-clause-marked g c = let r = c.requires.linked in n_marked (g.M.Links.regions c.args.memory.now) (g.M.Links.word c.args.memory.now) c.args.self.now r.0 r.1.0 c.args.chunk r.1.1.0 r.1.1.1.0 r.1.1.1.1.0 r.1.1.1.1.1
-    c.load_counted-parent.result c.load_counted-bin.result c.load_counted-parent.ensures.value c.load_counted-bin.ensures.value c.if-parent-lt-LEAST_ADDRESS.true
+swap_root-requires-clause-marked g c =
+    let regions = g.M.Links.regions c.args.memory.now in
+    let word = g.M.Links.word c.args.memory.now in
+    let bins = c.args.self.now in
+    let r = c.requires.linked in
+    let parent = c.load_counted-parent in
+    let bin = c.load_counted-bin in
+    n_marked regions word bins r.0 r.1.0 c.args.chunk r.1.1.0 r.1.1.1.0 r.1.1.1.1.0 r.1.1.1.1.1
+    parent.result bin.result parent.ensures.value bin.ensures.value c.if-parent-lt-LEAST_ADDRESS.true
 
 pub swap_child-requires-clause-places : goal.swap_child-requires-clause-places
-swap_child-requires-clause-places g c = let r = c.requires.linked in rw c.replace_node-left.ensures.regions (n_places (g.M.Links.regions c.args.memory.now) (g.M.Links.word c.args.memory.now) c.args.self.now r.0 r.1.0 c.args.chunk r.1.1.0 r.1.1.1.0 r.1.1.1.1.0 r.1.1.1.1.1
-    c.load_counted-parent.result c.load_counted-bin.result c.load_counted-parent.ensures.value c.load_counted-bin.ensures.value (g.M.Links.word c.replace_node-left.new.memory) c.replace_node-left.result c.replace_node-left.ensures.trie c.replace_node-left.ensures.words c.if-parent-lt-LEAST_ADDRESS.false)
+swap_child-requires-clause-places g c =
+    let regions = g.M.Links.regions c.args.memory.now in
+    let word = g.M.Links.word c.args.memory.now in
+    let bins = c.args.self.now in
+    let r = c.requires.linked in
+    let parent = c.load_counted-parent in
+    let bin = c.load_counted-bin in
+    let left = c.replace_node-left in
+    rw left.ensures.regions (n_places regions word bins r.0 r.1.0 c.args.chunk r.1.1.0 r.1.1.1.0 r.1.1.1.1.0 r.1.1.1.1.1
+    parent.result bin.result parent.ensures.value bin.ensures.value (g.M.Links.word left.new.memory) left.result left.ensures.trie left.ensures.words c.if-parent-lt-LEAST_ADDRESS.false)
 
 pub swap_child-requires-clause-was : goal.swap_child-requires-clause-was
-swap_child-requires-clause-was g c = let r = c.requires.linked in n_was (g.M.Links.regions c.args.memory.now) (g.M.Links.word c.args.memory.now) c.args.self.now r.0 r.1.0 c.args.chunk r.1.1.0 r.1.1.1.0 r.1.1.1.1.0 r.1.1.1.1.1
-    c.load_counted-parent.result c.load_counted-bin.result c.load_counted-parent.ensures.value c.load_counted-bin.ensures.value (g.M.Links.word c.replace_node-left.new.memory) c.replace_node-left.result c.replace_node-left.ensures.trie c.replace_node-left.ensures.words c.if-parent-lt-LEAST_ADDRESS.false
+swap_child-requires-clause-was g c =
+    let regions = g.M.Links.regions c.args.memory.now in
+    let word = g.M.Links.word c.args.memory.now in
+    let bins = c.args.self.now in
+    let r = c.requires.linked in
+    let parent = c.load_counted-parent in
+    let bin = c.load_counted-bin in
+    let left = c.replace_node-left in
+    n_was regions word bins r.0 r.1.0 c.args.chunk r.1.1.0 r.1.1.1.0 r.1.1.1.1.0 r.1.1.1.1.1
+    parent.result bin.result parent.ensures.value bin.ensures.value (g.M.Links.word left.new.memory) left.result left.ensures.trie left.ensures.words c.if-parent-lt-LEAST_ADDRESS.false
 
 pub returns-then-parent-lt-LEAST_ADDRESS-clause-linked : goal.returns-then-parent-lt-LEAST_ADDRESS-clause-linked
-returns-then-parent-lt-LEAST_ADDRESS-clause-linked g c = λ index size large linked is_in oldest. rw c.replace_node-left.ensures.regions (n_root (g.M.Links.regions c.args.memory.now) (g.M.Links.word c.args.memory.now) c.args.self.now index size c.args.chunk large linked is_in oldest
-    c.load_counted-parent.result c.load_counted-bin.result c.load_counted-parent.ensures.value c.load_counted-bin.ensures.value (g.M.Links.word c.replace_node-left.new.memory) c.replace_node-left.result c.replace_node-left.ensures.trie c.replace_node-left.ensures.words c.if-parent-lt-LEAST_ADDRESS.true c.swap_root.new.self c.swap_root.ensures)
+returns-then-parent-lt-LEAST_ADDRESS-clause-linked g c = λ index size large linked is_in oldest.
+    let regions = g.M.Links.regions c.args.memory.now in
+    let word = g.M.Links.word c.args.memory.now in
+    let bins = c.args.self.now in
+    let parent = c.load_counted-parent in
+    let bin = c.load_counted-bin in
+    let left = c.replace_node-left in
+    rw left.ensures.regions (n_root regions word bins index size c.args.chunk large linked is_in oldest
+    parent.result bin.result parent.ensures.value bin.ensures.value (g.M.Links.word left.new.memory) left.result left.ensures.trie left.ensures.words c.if-parent-lt-LEAST_ADDRESS.true c.swap_root.new.self c.swap_root.ensures)
 
 pub returns-then-parent-lt-LEAST_ADDRESS-clause-words : goal.returns-then-parent-lt-LEAST_ADDRESS-clause-words
-returns-then-parent-lt-LEAST_ADDRESS-clause-words g c = λ index size large linked is_in oldest. n_root_words (g.M.Links.regions c.args.memory.now) (g.M.Links.word c.args.memory.now) c.args.self.now index size c.args.chunk large linked is_in oldest
-    c.load_counted-parent.result c.load_counted-bin.result c.load_counted-parent.ensures.value c.load_counted-bin.ensures.value (g.M.Links.word c.replace_node-left.new.memory) c.replace_node-left.result c.replace_node-left.ensures.trie c.replace_node-left.ensures.words c.if-parent-lt-LEAST_ADDRESS.true c.swap_root.new.self c.swap_root.ensures
+returns-then-parent-lt-LEAST_ADDRESS-clause-words g c = λ index size large linked is_in oldest.
+    let regions = g.M.Links.regions c.args.memory.now in
+    let word = g.M.Links.word c.args.memory.now in
+    let bins = c.args.self.now in
+    let parent = c.load_counted-parent in
+    let bin = c.load_counted-bin in
+    let left = c.replace_node-left in
+    n_root_words regions word bins index size c.args.chunk large linked is_in oldest
+    parent.result bin.result parent.ensures.value bin.ensures.value (g.M.Links.word left.new.memory) left.result left.ensures.trie left.ensures.words c.if-parent-lt-LEAST_ADDRESS.true c.swap_root.new.self c.swap_root.ensures
 
 pub returns-else-parent-lt-LEAST_ADDRESS-clause-linked : goal.returns-else-parent-lt-LEAST_ADDRESS-clause-linked
-returns-else-parent-lt-LEAST_ADDRESS-clause-linked g c = λ index size large linked is_in oldest. let stored = rw c.replace_node-left.ensures.regions at c.swap_child.ensures.stored in
-    rw (c.swap_child.ensures.regions, c.replace_node-left.ensures.regions) (n_below (g.M.Links.regions c.args.memory.now) (g.M.Links.word c.args.memory.now) c.args.self.now index size c.args.chunk large linked is_in oldest
-    c.load_counted-parent.result c.load_counted-bin.result c.load_counted-parent.ensures.value c.load_counted-bin.ensures.value (g.M.Links.word c.replace_node-left.new.memory) c.replace_node-left.result c.replace_node-left.ensures.trie c.replace_node-left.ensures.words c.if-parent-lt-LEAST_ADDRESS.false (g.M.Links.word c.swap_child.new.memory) stored)
+returns-else-parent-lt-LEAST_ADDRESS-clause-linked g c = λ index size large linked is_in oldest.
+    let regions = g.M.Links.regions c.args.memory.now in
+    let word = g.M.Links.word c.args.memory.now in
+    let bins = c.args.self.now in
+    let parent = c.load_counted-parent in
+    let bin = c.load_counted-bin in
+    let left = c.replace_node-left in
+    let stored = rw left.ensures.regions at c.swap_child.ensures.stored in
+    rw (c.swap_child.ensures.regions, left.ensures.regions) (n_below regions word bins index size c.args.chunk large linked is_in oldest
+    parent.result bin.result parent.ensures.value bin.ensures.value (g.M.Links.word left.new.memory) left.result left.ensures.trie left.ensures.words c.if-parent-lt-LEAST_ADDRESS.false (g.M.Links.word c.swap_child.new.memory) stored)
 
 pub returns-else-parent-lt-LEAST_ADDRESS-clause-words : goal.returns-else-parent-lt-LEAST_ADDRESS-clause-words
-returns-else-parent-lt-LEAST_ADDRESS-clause-words g c = λ index size large linked is_in oldest. let stored = rw c.replace_node-left.ensures.regions at c.swap_child.ensures.stored in
-    n_below_words (g.M.Links.regions c.args.memory.now) (g.M.Links.word c.args.memory.now) c.args.self.now index size c.args.chunk large linked is_in oldest
-    c.load_counted-parent.result c.load_counted-bin.result c.load_counted-parent.ensures.value c.load_counted-bin.ensures.value (g.M.Links.word c.replace_node-left.new.memory) c.replace_node-left.result c.replace_node-left.ensures.trie c.replace_node-left.ensures.words c.if-parent-lt-LEAST_ADDRESS.false (g.M.Links.word c.swap_child.new.memory) stored
+returns-else-parent-lt-LEAST_ADDRESS-clause-words g c = λ index size large linked is_in oldest.
+    let regions = g.M.Links.regions c.args.memory.now in
+    let word = g.M.Links.word c.args.memory.now in
+    let bins = c.args.self.now in
+    let parent = c.load_counted-parent in
+    let bin = c.load_counted-bin in
+    let left = c.replace_node-left in
+    let stored = rw left.ensures.regions at c.swap_child.ensures.stored in
+    n_below_words regions word bins index size c.args.chunk large linked is_in oldest
+    parent.result bin.result parent.ensures.value bin.ensures.value (g.M.Links.word left.new.memory) left.result left.ensures.trie left.ensures.words c.if-parent-lt-LEAST_ADDRESS.false (g.M.Links.word c.swap_child.new.memory) stored
