@@ -19,9 +19,9 @@ use std::sync::ledger::Ledger;
 use step_count::Steps;
 
 impl<A: Allocator> Dlmalloc<A> {
-    /// Cuts `n` bytes from a free chunk other than the top: the victim, or the one that a search of the bins names. A rest of less than 32 bytes stays with them. The rest of the
-    /// victim is the victim. A binned chunk leaves its bin; for less than 256 bytes its rest is the victim, and the old one
-    /// goes into its bin; else the rest goes into its own.
+    /// Cuts `n` bytes from a free chunk other than the top: the victim, or the one that a search of the bins names. A rest of
+    /// less than 32 bytes stays with them. The rest of the victim is the victim. A binned chunk leaves its bin; for less than
+    /// 256 bytes its rest is the victim, and the old one goes into its bin; else the rest goes into its own.
     pub(crate) fn take<L: Ledger>(&mut self, at: u64, size: u64, n: u64, steps: &mut Steps<L>)
         requires sound { IsSound A.regions A.word self.old }
         requires linked { IsBinned A.regions A.word self.old }
