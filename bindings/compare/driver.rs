@@ -3,6 +3,7 @@
 //!
 //! Of 2,000 live blocks, an operation replaces a random one. Mix 0 has 16 to 527 bytes. In mix 1 a quarter of the operations
 //! give a block another size. Mix 2 has 16 to 8,191 bytes, of each power of two as many. Mix 3 allocates and frees at once.
+//! Mix 4 has the calls that `./heap gen` draws, over the last 64 blocks; a block that is not among these any more is freed.
 use std::alloc::Layout;
 use std::cell::Cell;
 use std::ptr;
@@ -13,7 +14,10 @@ const LIVE: usize = 2000;
 /// The bytes that each heap but glibc's has.
 const MEMORY: usize = 64 << 20;
 
-/// What blocks are aligned to.
+/// Of the last blocks in the mix that draws as `gen` does.
+const LAST: usize = 64;
+
+/// What blocks are aligned to, but for some of that mix.
 const ALIGN: usize = 16;
 
 #[repr(C)]
@@ -24,10 +28,13 @@ struct Handle {
 extern "C" {
     fn limzhur_init(room: *mut u8, memory: *mut u64, count: usize, address: u64);
     fn limzhur_malloc(heap: *mut Handle, size: u64, align: u64) -> u64;
+    fn limzhur_calloc(heap: *mut Handle, size: u64, align: u64) -> u64;
     fn limzhur_realloc(heap: *mut Handle, address: u64, size: u64) -> u64;
     fn limzhur_free(heap: *mut Handle, address: u64) -> bool;
 
     fn malloc(size: usize) -> *mut u8;
+    fn aligned_alloc(align: usize, size: usize) -> *mut u8;
+    fn calloc(count: usize, size: usize) -> *mut u8;
     fn free(block: *mut u8);
     fn realloc(block: *mut u8, size: usize) -> *mut u8;
     fn clock_gettime(clock: i32, time: *mut [i64; 2]) -> i32;
@@ -42,7 +49,8 @@ fn now() -> u64 {
 }
 
 trait Heap {
-    fn malloc(&mut self, size: usize) -> usize;
+    fn malloc(&mut self, size: usize, align: usize) -> usize;
+    fn calloc(&mut self, size: usize) -> usize;
     fn free(&mut self, block: usize, size: usize);
     fn realloc(&mut self, block: usize, size: usize, to: usize) -> usize;
     /// Where places are counted from; none if they are not compared.
@@ -66,8 +74,12 @@ impl Proved {
 }
 
 impl Heap for Proved {
-    fn malloc(&mut self, size: usize) -> usize {
-        unsafe { limzhur_malloc(&mut self.handle, size as u64, ALIGN as u64) as usize }
+    fn malloc(&mut self, size: usize, align: usize) -> usize {
+        unsafe { limzhur_malloc(&mut self.handle, size as u64, align as u64) as usize }
+    }
+
+    fn calloc(&mut self, size: usize) -> usize {
+        unsafe { limzhur_calloc(&mut self.handle, size as u64, ALIGN as u64) as usize }
     }
 
     fn free(&mut self, block: usize, _: usize) {
@@ -143,8 +155,13 @@ impl Upstream {
 
 impl Heap for Upstream {
     #[inline(never)]
-    fn malloc(&mut self, size: usize) -> usize {
-        unsafe { self.heap.malloc(size, ALIGN) as usize }
+    fn malloc(&mut self, size: usize, align: usize) -> usize {
+        unsafe { self.heap.malloc(size, align) as usize }
+    }
+
+    #[inline(never)]
+    fn calloc(&mut self, size: usize) -> usize {
+        unsafe { self.heap.calloc(size, ALIGN) as usize }
     }
 
     #[inline(never)]
@@ -166,8 +183,12 @@ impl Heap for Upstream {
 struct Glibc;
 
 impl Heap for Glibc {
-    fn malloc(&mut self, size: usize) -> usize {
-        unsafe { malloc(size) as usize }
+    fn malloc(&mut self, size: usize, align: usize) -> usize {
+        unsafe { (if align <= ALIGN { malloc(size) } else { aligned_alloc(align, size) }) as usize }
+    }
+
+    fn calloc(&mut self, size: usize) -> usize {
+        unsafe { calloc(1, size) as usize }
     }
 
     fn free(&mut self, block: usize, _: usize) {
@@ -175,7 +196,8 @@ impl Heap for Glibc {
     }
 
     fn realloc(&mut self, block: usize, _: usize, to: usize) -> usize {
-        unsafe { realloc(block as *mut u8, to) as usize }
+        // To 0 bytes it would free.
+        unsafe { realloc(block as *mut u8, to.max(1)) as usize }
     }
 
     fn base(&self) -> Option<usize> {
@@ -188,7 +210,12 @@ struct NoHeap(usize);
 
 impl Heap for NoHeap {
     #[inline(never)]
-    fn malloc(&mut self, _: usize) -> usize {
+    fn malloc(&mut self, _: usize, _: usize) -> usize {
+        self.0
+    }
+
+    #[inline(never)]
+    fn calloc(&mut self, _: usize) -> usize {
         self.0
     }
 
@@ -234,13 +261,14 @@ struct Run {
     places: u64,
 }
 
+/// Calls over so many live blocks, each of which replaces one.
 fn run(heap: &mut dyn Heap, mix: u64, operations: u64) -> Run {
     let mut random = Random(0x9E37_79B9_7F4A_7C15);
     let base = heap.base();
     let mut live = Vec::with_capacity(LIVE);
     for _ in 0..LIVE {
         let size = random.size(mix);
-        live.push((heap.malloc(size), size));
+        live.push((heap.malloc(size, ALIGN), size));
     }
     let (mut calls, mut places) = (0, 0u64);
     let begin = now();
@@ -250,7 +278,7 @@ fn run(heap: &mut dyn Heap, mix: u64, operations: u64) -> Run {
         let size = random.size(mix);
         let (block, old_size) = live[index];
         let new = if mix == 3 {
-            let new = heap.malloc(size);
+            let new = heap.malloc(size, ALIGN);
             unsafe { *(new as *mut u64) = size as u64 };
             heap.free(new, size);
             calls += 2;
@@ -261,7 +289,7 @@ fn run(heap: &mut dyn Heap, mix: u64, operations: u64) -> Run {
         } else {
             heap.free(block, old_size);
             calls += 2;
-            heap.malloc(size)
+            heap.malloc(size, ALIGN)
         };
         assert!(new != 0, "a request was refused");
         if mix != 3 {
@@ -272,6 +300,55 @@ fn run(heap: &mut dyn Heap, mix: u64, operations: u64) -> Run {
     }
     let nanoseconds = (now() - begin) as f64 / calls as f64;
     for (block, size) in live {
+        heap.free(block, size);
+    }
+    Run { nanoseconds, calls, places: if base.is_some() { places } else { 0 } }
+}
+
+/// The calls that `gen` draws.
+fn run_drawn(heap: &mut dyn Heap, operations: u64) -> Run {
+    let mut random = Random(7);
+    let base = heap.base();
+    let mut live = [(0, 0); LAST];
+    let (mut given, mut calls, mut places) = (0, 0, 0u64);
+    let begin = now();
+    for _ in 0..operations {
+        let [a, b, c] = [0; 3].map(|_| random.next());
+        let size = (b % 4096) as usize;
+        let (block, old_size) = live[(c >> 8) as usize % LAST];
+        let new = match a % 8 {
+            0 => heap.malloc(size, ALIGN),
+            1 => heap.malloc(size, 1 << (c % 16)),
+            2 => heap.calloc(size),
+            _ if block == 0 => continue,
+            3 => heap.realloc(block, old_size, size),
+            4 => {
+                unsafe { *(block as *mut u8) = b as u8 };
+                continue;
+            }
+            _ => {
+                heap.free(block, old_size);
+                calls += 1;
+                live[(c >> 8) as usize % LAST] = (0, 0);
+                continue;
+            }
+        };
+        assert!(new != 0, "a request was refused");
+        calls += 1;
+        places = places.wrapping_mul(31).wrapping_add((new - base.unwrap_or(0)) as u64);
+        if a % 8 == 3 {
+            live[(c >> 8) as usize % LAST] = (new, size);
+            continue;
+        }
+        let (oldest, its_size) = std::mem::replace(&mut live[given % LAST], (new, size));
+        given += 1;
+        if oldest != 0 {
+            heap.free(oldest, its_size);
+            calls += 1;
+        }
+    }
+    let nanoseconds = (now() - begin) as f64 / calls as f64;
+    for (block, size) in live.into_iter().filter(|it| it.0 != 0) {
         heap.free(block, size);
     }
     Run { nanoseconds, calls, places: if base.is_some() { places } else { 0 } }
@@ -291,7 +368,7 @@ fn run_peer(peer: &str, mix: u64, operations: u64) -> Run {
             "none" => Box::new(NoHeap(at as usize)),
             _ => panic!("no heap is called {peer}"),
         };
-        let run = run(&mut *heap, mix, operations);
+        let run = if mix == 4 { run_drawn(&mut *heap, operations) } else { run(&mut *heap, mix, operations) };
         drop(heap);
         std::alloc::dealloc(at, memory);
         run

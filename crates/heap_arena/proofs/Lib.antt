@@ -1,1 +1,2 @@
 mod GrantLemmas
+mod Runs

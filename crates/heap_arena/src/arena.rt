@@ -139,6 +139,36 @@ impl<'a> Links for Arena<'a> {
         self.store(at, value);
         steps.tick()
     }
+
+    fn fill_counted<L: Ledger>(&mut self, at: u64, count: u64, value: u64, steps: &mut Steps<L>) {
+        if count == 0 {
+            return;
+        }
+        let place = ((at - self.base) / 8) as usize;
+        self.words[place..place + count as usize].fill(value);
+        count_steps(steps, count)
+    }
+
+    fn copy_counted<L: Ledger>(&mut self, from: u64, to: u64, count: u64, steps: &mut Steps<L>) {
+        if count == 0 {
+            return;
+        }
+        let place = ((from - self.base) / 8) as usize;
+        self.words.copy_within(
+            place..place + count as usize,
+            ((to - self.base) / 8) as usize,
+        );
+        count_steps(steps, 2 * count)
+    }
+}
+
+/// Counts so many steps.
+fn count_steps<L: Ledger>(steps: &mut Steps<L>, count: u64)
+    ensures { steps.new ≡ steps.old + count }
+{
+    for _ in 0..count {
+        steps.tick();
+    }
 }
 
 impl<'a> Memory for Arena<'a> {

@@ -1,0 +1,39 @@
+-- Words of an arena in a row.
+use Rattle.std.specs.Prelude.{◌≡◌, ℕ, ◌+◌, ◌-◌, ◌*◌, ◌/◌, ◌<◌, ◌≤◌, ◌⊎◌, List, ◌++◌, length}
+use Rattle.std.proofs.Common.{◌∙◌, ap, arith, inl, inr, get_or, take, drop}
+use borrow.Rule.Slice.PartMut.{post_of, put_mid}
+use Rattle.std.proofs.lemmas.List.{get_or-take, get_or-drop, get_or_append_left, get_or-append_right, length-take-le}
+use Rattle.heap_memory.specs.Words.{AreWordsOf}
+use Rattle.heap_arena.specs.Arena.{regions_of}
+use Rattle.heap_arena.specs.declared.arena.Arena.{Arena}
+use Rattle.heap_arena.proofs.GrantLemmas.{granted_between}
+
+-- granted words stand among those of the arena
+module _ (arena : Arena) (at count : ℕ) (some : 0 < count) (run : AreWordsOf (regions_of arena) at count) where
+  pub begins_above : arena.base ≤ at
+  begins_above = (granted_between arena.base arena.top (regions_of arena) at arena.between (run.granted at (omega arith) (omega (arith, some)))).0
+
+  pub ends_within : (at - arena.base) / 8 + count ≤ length arena.words.now
+  ends_within =
+      let low = begins_above in
+      let last = granted_between arena.base arena.top (regions_of arena) (at + 8 * count - 1) arena.between (run.granted (at + 8 * count - 1) (omega (arith, some)) (omega (arith, some))) in
+      let end = arena.ends in
+      let whole = run.aligned in
+      let begin = arena.aligned in
+      omega (arith, low, last.1, end, whole, begin, some)
+
+-- a list in which a part was put in the place of as many
+module _ (xs ys : List ℕ) (a n i : ℕ) (fits : a + n ≤ length xs) (many : length ys ≡ n) where
+  pub inside : a ≤ i → i < a + n → get_or (put_mid a n xs ys) i 0 ≡ get_or ys (i - a) 0
+  inside low high =
+      get_or-append_right (take a xs) (ys ++ post_of a n xs) a i 0 (length-take-le a xs (omega (arith, fits))) low
+      ∙ get_or_append_left ys (post_of a n xs) 0 (i - a) (omega (arith, low, high, many))
+
+  pub outside : (i < a) ⊎ (a + n ≤ i) → get_or (put_mid a n xs ys) i 0 ≡ get_or xs i 0
+  outside (inl low) =
+      let front = length-take-le a xs (omega (arith, fits)) in
+      get_or_append_left (take a xs) (ys ++ post_of a n xs) 0 i (omega (arith, front, low)) ∙ get_or-take a xs i 0 low
+  outside (inr high) =
+      get_or-append_right (take a xs) (ys ++ post_of a n xs) a i 0 (length-take-le a xs (omega (arith, fits))) (omega (arith, high))
+      ∙ (get_or-append_right ys (post_of a n xs) n (i - a) 0 many (omega (arith, high))
+      ∙ (get_or-drop n (drop a xs) (i - a - n) 0 ∙ (get_or-drop a xs (n + (i - a - n)) 0 ∙ ap (λ (k : ℕ). get_or xs k 0) (omega (arith, high)))))
