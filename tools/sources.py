@@ -130,7 +130,7 @@ class Sources:
         self.imports[of] = imports_of("\n".join(lines))
         if path.name == "tests.rt":
             return
-        # Only this file can name a trait that is not public, so its functions are private.
+        # The functions of a trait that is not public are private.
         private = set(re.findall(r"^trait (\w+)", "\n".join(lines), re.M))
         owner = trait = ""
         in_tests = False
