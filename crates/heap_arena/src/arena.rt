@@ -146,7 +146,7 @@ impl<'a> Links for Arena<'a> {
         }
         let place = ((at - self.base) / 8) as usize;
         self.words[place..place + count as usize].fill(value);
-        count_steps(steps, count)
+        steps.tick_each(count)
     }
 
     fn copy_counted<L: Ledger>(&mut self, from: u64, to: u64, count: u64, steps: &mut Steps<L>) {
@@ -158,16 +158,7 @@ impl<'a> Links for Arena<'a> {
             place..place + count as usize,
             ((to - self.base) / 8) as usize,
         );
-        count_steps(steps, 2 * count)
-    }
-}
-
-/// Counts so many steps.
-fn count_steps<L: Ledger>(steps: &mut Steps<L>, count: u64)
-    ensures { steps.new ≡ steps.old + count }
-{
-    for _ in 0..count {
-        steps.tick();
+        steps.tick_each(2 * count)
     }
 }
 

@@ -3,7 +3,6 @@ ghost use Rattle.std.specs.Prelude.{◌≡◌, ℕ, ◌+◌, ◌*◌, ◌%◌, �
 ghost use Rattle.kernel_heap.specs.System.{paged};
 
 use crate::paged_system::PagedSystem;
-use crate::paged_words::count_steps;
 use heap_memory::{Links, Memory};
 use std::sync::ledger::Ledger;
 use step_count::Steps;
@@ -38,12 +37,12 @@ impl Links for PagedSystem {
 
     fn fill_counted<L: Ledger>(&mut self, at: u64, count: u64, value: u64, steps: &mut Steps<L>) {
         self.fill_words(at, count, value);
-        count_steps(steps, count)
+        steps.tick_each(count)
     }
 
     fn copy_counted<L: Ledger>(&mut self, from: u64, to: u64, count: u64, steps: &mut Steps<L>) {
         self.copy_words(from, to, count);
-        count_steps(steps, 2 * count)
+        steps.tick_each(2 * count)
     }
 }
 

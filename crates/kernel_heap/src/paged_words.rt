@@ -8,8 +8,6 @@ ghost use Rattle.kernel_heap.specs.Words.{grants_of};
 
 use crate::paged_system::PagedSystem;
 use paging_core::{PageSize, Size4KiB};
-use std::sync::ledger::Ledger;
-use step_count::Steps;
 
 /// How many words are put by one walk at most.
 const RUN_WORDS: usize = 64;
@@ -23,15 +21,6 @@ fn run_of(at: u64, left: u64) -> u64
 {
     let in_page = (Size4KiB::SIZE - at % Size4KiB::SIZE).div_ceil(8);
     in_page.min(RUN_WORDS as u64).min(left)
-}
-
-/// Counts so many steps.
-pub(crate) fn count_steps<L: Ledger>(steps: &mut Steps<L>, count: u64)
-    ensures { steps.new ≡ steps.old + count }
-{
-    for _ in 0..count {
-        steps.tick();
-    }
 }
 
 impl PagedSystem {

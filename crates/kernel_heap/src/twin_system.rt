@@ -8,7 +8,6 @@ ghost use Rattle.kernel_heap.specs.Twin.{IsTwin, IsTwin-prop};
 
 use crate::flat_window::FlatWindow;
 use crate::paged_system::{PagedSystem, pages_in};
-use crate::paged_words::count_steps;
 use heap_memory::{Allocator, Grant, GrantFault, Links, Memory};
 use paging_core::{PageSize, Size4KiB};
 use std::alloc::{AllocError, Global};
@@ -195,7 +194,7 @@ impl Links for TwinSystem {
         ensures counted { steps.new ≡ steps.old + count }
     {
         self.fill_words(at, count, value);
-        count_steps(steps, count)
+        steps.tick_each(count)
     }
 
     /// Copies `count` words from one place to another, apart from it, in both, and changes nothing else. Each is two
@@ -211,7 +210,7 @@ impl Links for TwinSystem {
         ensures counted { steps.new ≡ steps.old + 2 * count }
     {
         self.copy_words(from, to, count);
-        count_steps(steps, 2 * count)
+        steps.tick_each(2 * count)
     }
 }
 

@@ -9,7 +9,7 @@ ghost use Rattle.std.specs.Prelude.{◌≡◌, ℕ, ◌+◌, ◌<◌};
 use std::marker::Model;
 use std::sync::ledger::{Blank, Book, Ledger, Share};
 
-/// How many steps were taken, as a whole number. It takes no bytes, and only `tick` changes it.
+/// How many steps were taken, as a whole number. It takes no bytes, and only `tick` and `tick_each` change it.
 #[derive(Drop)]
 pub struct Steps<L: Ledger> {
     book: Book<L>,
@@ -40,6 +40,13 @@ impl<L: Ledger> Steps<L> {
     pub fn tick(&mut self)
         ensures { self.new ≡ self.old + 1 }
     {
-        self.book.add(&mut self.share, 1);
+        self.tick_each(1);
+    }
+
+    /// Counts so many steps.
+    pub fn tick_each(&mut self, count: u64)
+        ensures { self.new ≡ self.old + count }
+    {
+        self.book.add(&mut self.share, count);
     }
 }
