@@ -1,5 +1,5 @@
 -- Grants of a table, as it changes.
-use Rattle.std.specs.Prelude.{◌≡◌, ◌≢◌, ℕ, zero, suc, ◌+◌, ◌<◌, ◌≤◌, ◌⊎◌, Bool, true, false, not, if◌then◌else◌, List, [], ◌∷◌, ◌++◌, IsTrue, map, cond}
+use Rattle.std.specs.Prelude.{◌≡◌, ◌≢◌, ℕ, zero, suc, ◌+◌, ◌-◌, ◌<◌, ◌≤◌, ◌⊎◌, max, Bool, true, false, ◌&&◌, ◌==◌, nat_le, nat_lt, not, if◌then◌else◌, List, [], ◌∷◌, ◌++◌, IsTrue, map, cond}
 use Rattle.std.specs.List.{AllByRecursion, filter}
 use Rattle.std.proofs.Common.{◌∙◌, ap, sym, subst, refl, inl, inr, arith}
 use Rattle.std.proofs.lemmas.Bool.Decides.{nat_tests}
@@ -98,9 +98,25 @@ whole_more low top grant regions behind between here whole =
 pub run_within : (base top low high : ℕ) (regions : List Grant) → IsTrue (are_between base top regions) → IsRun regions low high → base ≤ low
 run_within base top low high regions between run = (granted_between base top regions low between (run.granted low (omega arith) run.some)).0
 
--- what is given back at the end leaves grants up to there, and else up to the same address
-pub between_without : (base top low high end : ℕ) (regions : List Grant) → IsTrue (are_whole regions) → IsTrue (are_between base top regions) → ((high ≡ top) × (end ≡ low)) ⊎ (end ≡ top) →
+-- what is given back up to the end leaves grants up to where it begins, and else up to the same address
+pub between_without : (base top low high end : ℕ) (regions : List Grant) → IsTrue (are_whole regions) → IsTrue (are_between base top regions) → ((low ≤ end) × (top ≤ high)) ⊎ (end ≡ top) →
     IsTrue (are_between base end (without low high regions))
 between_without base top low high end [] whole between how = refl
-between_without base top low high end (region ∷ regions) whole between (inl same) = grind (arith, nat_tests, between_without base top low high end regions)
+between_without base top low high end (region ∷ regions) whole between (inl reaches) = grind (arith, nat_tests, between_without base top low high end regions)
 between_without base top low high end (region ∷ regions) whole between (inr same) = grind (arith, nat_tests, between_without base top low high end regions)
+
+-- what is given back of a run, which ends below the top or there
+pub top_after : (base top low high : ℕ) → base ≤ low → low ≤ high → high ≤ top → (if nat_lt low top && nat_le top high then max low base else top) ≡ (if high == top then low else top)
+top_after base top low high within some ends = grind (arith, nat_tests)
+
+pub run_below : (base top low high : ℕ) (regions : List Grant) → IsTrue (are_between base top regions) → IsRun regions low high → high ≤ top
+run_below base top low high regions between run = let last = (granted_between base top regions (high - 1) between (run.granted (high - 1) (let some = run.some in omega (arith, some)) (let some = run.some in omega (arith, some)))).1 in omega (arith, last)
+
+-- there is a grant where there are some
+pub grants_some : (words : List ℕ) (count : ℕ) → 0 < count → grants words count ≢ []
+grants_some words zero some = absurd (omega (arith, some))
+grants_some words (suc count) some = λ none. no (grants words count) (grant_at words count) (sym (grants_suc words count) ∙ none)
+  where
+    no : (gs : List Grant) (g : Grant) → gs ++ g ∷ [] ≡ [] → ⊥
+    no [] g is = cc
+    no (x ∷ gs) g is = cc

@@ -1,2 +1,3 @@
+mod ArenaLists
 mod GrantLemmas
 mod Runs

@@ -1,10 +1,10 @@
 -- Words of an arena in a row.
-use Rattle.std.specs.Prelude.{◌≡◌, ℕ, ◌+◌, ◌-◌, ◌*◌, ◌/◌, ◌<◌, ◌≤◌, ◌⊎◌, List, ◌++◌, length}
+use Rattle.std.specs.Prelude.{◌≡◌, ℕ, ◌+◌, ◌-◌, ◌*◌, ◌/◌, ◌<◌, ◌≤◌, ◌⊎◌, List, [], ◌++◌, length}
 use Rattle.std.proofs.Common.{◌∙◌, ap, arith, inl, inr, get_or, take, drop}
 use borrow.Rule.Slice.PartMut.{post_of, put_mid}
 use Rattle.std.proofs.lemmas.List.{get_or-take, get_or-drop, get_or_append_left, get_or-append_right, length-take-le}
 use Rattle.heap_memory.specs.Words.{AreWordsOf}
-use Rattle.heap_arena.specs.Arena.{regions_of}
+use Rattle.heap_arena.specs.Arena.{regions_of, IsSameArena, IsArenaAfter, KeepsOthers}
 use Rattle.heap_arena.specs.declared.arena.Arena.{Arena}
 use Rattle.heap_arena.proofs.GrantLemmas.{granted_between}
 
@@ -20,7 +20,24 @@ module _ (arena : Arena) (at count : ℕ) (some : 0 < count) (run : AreWordsOf (
       let end = arena.ends in
       let whole = run.aligned in
       let begin = arena.aligned in
-      omega (arith, low, last.1, end, whole, begin, some)
+      let risen = arena.risen in
+      omega (arith, low, last.1, risen, end, whole, begin, some)
+
+  pub ends_below : at + 8 * count ≤ arena.top
+  ends_below =
+      let last = granted_between arena.base arena.top (regions_of arena) (at + 8 * count - 1) arena.between (run.granted (at + 8 * count - 1) (omega (arith, some)) (omega (arith, some))) in
+      omega (arith, last.1, some)
+
+-- a call that changes no words but some below the top leaves an arena as it was
+pub kept_after : (old new : Arena) (at count : ℕ) → IsSameArena old new → new.top ≡ old.top → new.peak ≡ old.peak → at + 8 * count ≤ old.top → KeepsOthers at count old new → IsArenaAfter old [] new
+kept_after old new at count same top peak below others =
+    let risen = old.risen in
+    record {
+      same = same;
+      top = omega (arith, top);
+      peak = inl peak;
+      untouched = λ i behind. let base = same.base in others i (inr (omega (arith, below, risen, peak, base, behind)));
+    }
 
 -- a list in which a part was put in the place of as many
 module _ (xs ys : List ℕ) (a n i : ℕ) (fits : a + n ≤ length xs) (many : length ys ≡ n) where

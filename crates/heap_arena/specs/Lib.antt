@@ -1,2 +1,5 @@
 pub mod Arena
+pub mod ArenaLaws
+pub mod Arenas
+pub mod ArenasLaws
 pub mod Grants

@@ -1,5 +1,5 @@
 // A system over words that the caller gives.
-ghost use Rattle.std.specs.Prelude.{◌≡◌, ℕ, ◌+◌, ◌-◌, ◌*◌, ◌/◌, ◌%◌, ◌^◌, ◌<◌, ◌≤◌, ◌==◌, if◌then◌else◌, true, [], IsTrue, length, slice_set};
+ghost use Rattle.std.specs.Prelude.{◌≡◌, ◌≢◌, ℕ, ◌+◌, ◌-◌, ◌*◌, ◌/◌, ◌%◌, ◌^◌, ◌<◌, ◌≤◌, ◌⊎◌, ◌==◌, if◌then◌else◌, true, false, [], IsTrue, length, slice_set};
 ghost use Rattle.heap_memory.specs.Regions.{are_whole, are_ordered};
 ghost use Rattle.heap_arena.specs.Grants.{grants, are_between};
 
@@ -21,11 +21,15 @@ pub struct Arena<'a> {
     pub(crate) base: u64,
     /// The address behind the last grant, where the next one begins.
     pub(crate) top: u64,
+    /// The highest address that the top ever was: the words from there on were never touched.
+    pub(crate) peak: u64,
     ghost aligned: { base % 16 ≡ 0 },
     ghost low: { 4096 ≤ base },
     ghost begins: { base ≤ top },
     ghost top_aligned: { top % 16 ≡ 0 },
-    ghost ends: { top ≤ base + 8 * length words.now },
+    ghost peak_aligned: { peak % 16 ≡ 0 },
+    ghost risen: { top ≤ peak },
+    ghost ends: { peak ≤ base + 8 * length words.now },
     ghost high: { base + 8 * length words.now < 2 ^ 64 },
     ghost whole: { IsTrue (are_whole (grants table.words.now table.count)) },
     ghost ordered: { IsTrue (are_ordered (grants table.words.now table.count)) },
@@ -34,7 +38,7 @@ pub struct Arena<'a> {
 
 impl<'a> Arena<'a> {
     ghost use Rattle.heap_memory.specs.Runs.{without};
-    ghost use Rattle.heap_arena.specs.Arena.{regions_of, IsAbove, AreInside};
+    ghost use Rattle.heap_arena.specs.Arena.{regions_of, end_of, has_room, IsAbove, AreInside, IsTakenBack};
 
     /// A system over these words, the first of them at the address `base`, of which none is granted yet. The table has a
     /// place for each two of its words.
@@ -47,12 +51,14 @@ impl<'a> Arena<'a> {
         ensures table { result.table.words.now ≡ table.entry.now }
         ensures base { result.base ≡ base }
         ensures top { result.top ≡ base }
+        ensures peak { result.peak ≡ base }
     {
         Arena {
             words,
             table: Table::new(table),
             base,
             top: base,
+            peak: base,
         }
     }
 
@@ -63,6 +69,13 @@ impl<'a> Arena<'a> {
         ensures above { IsAbove self.now (self.now.base + 8 * result) }
     {
         ((self.top - self.base) / 8) as usize
+    }
+
+    /// How many words from the front were ever in use: those behind them were never touched, by loads neither.
+    pub fn touched(&self) -> usize
+        ensures { self.now.base + 8 * result ≡ self.now.peak }
+    {
+        ((self.peak - self.base) / 8) as usize
     }
 
     /// The address of the first word.
@@ -79,35 +92,61 @@ impl<'a> Arena<'a> {
         ensures aligned { self.now.base % 16 ≡ 0 }
     {}
 
-    /// The bytes behind all grants.
-    pub(crate) fn rest(&self) -> u64
-        ensures { self.now.top + result ≡ self.now.base + 8 * length self.now.words.now }
+    /// The address behind the last word.
+    pub fn end(&self) -> u64
+        ensures { result ≡ end_of self.now }
     {
-        self.base + 8 * self.words.len() as u64 - self.top
+        self.base + 8 * self.words.len() as u64
     }
 
-    /// Takes the bytes from `low` on and below `high`, the end of a run, back. They are granted anew where they end at the
-    /// top.
-    pub(crate) fn take_back(&mut self, low: u64, high: u64)
-        requires whole { low % 16 ≡ 0 }
-        requires within { self.old.base ≤ low }
-        requires some { low ≤ high }
-        ensures regions { regions_of self.new ≡ without low high (regions_of self.old) }
-        ensures words { self.new.words.now ≡ self.old.words.now }
-        ensures base { self.new.base ≡ self.old.base }
-        ensures top { self.new.top ≡ (if high == self.old.top then low else self.old.top) }
+    /// The bytes behind all grants.
+    pub(crate) fn rest(&self) -> u64
+        ensures { self.now.top + result ≡ end_of self.now }
     {
+        self.end() - self.top
+    }
+
+    /// Whether any bytes are granted.
+    pub fn has_grants(&self) -> bool
+        ensures none { result ≡ false → regions_of self.now ≡ [] }
+        ensures some { result ≡ true → regions_of self.now ≢ [] }
+    {
+        self.table.count > 0
+    }
+
+    /// Whether a request for so many bytes is granted.
+    pub(crate) fn has_room(&self, size: u64) -> bool
+        ensures { result ≡ has_room self.now size }
+    {
+        size <= self.rest() && self.table.has_room()
+    }
+
+    /// Takes the bytes from `low` on and below `high`, the end of a run, back: those that are its own. They are granted
+    /// anew where they reach the top.
+    pub(crate) fn take_back(&mut self, low: u64, high: u64)
+        requires { low % 16 ≡ 0 }
+        ensures { IsTakenBack low high self.old self.new }
+    {
+        let reaches_top = low < self.top && self.top <= high;
         self.table.give_back(low, high);
-        if high == self.top {
-            self.top = low;
+        if reaches_top {
+            self.top = low.max(self.base);
         }
+    }
+}
+
+/// An arena of no words, which grants nothing.
+impl<'a> Default for Arena<'a> {
+    fn default() -> Arena<'a> {
+        Arena::new(&mut [], &mut [], 4096)
     }
 }
 
 impl<'a> Links for Arena<'a> {
     ghost use Rattle.heap_memory.specs.Regions.{IsWordOf};
-    ghost use Rattle.heap_memory.specs.Words.{IsStored};
-    ghost use Rattle.heap_arena.specs.Arena.{regions_of, word_of, IsSameArena, same_none, same_on};
+    ghost use Rattle.heap_memory.specs.Words.{AreCopied, AreFilled, AreWordsOf, IsStored};
+    ghost use Rattle.heap_arena.specs.Arena.{regions_of, word_of, KeepsOthers, IsArenaAfter};
+    ghost use Rattle.heap_arena.specs.ArenaLaws.{after_none, after_on};
 
     ghost regions = { λ arena. regions_of arena };
 
@@ -115,11 +154,11 @@ impl<'a> Links for Arena<'a> {
 
     ghost whole = { λ arena. arena.whole };
 
-    ghost follows = { λ old events new. IsSameArena old new };
+    ghost follows = { λ old events new. IsArenaAfter old events new };
 
-    ghost follows_none = { λ x. same_none x };
+    ghost follows_none = { λ x. after_none x };
 
-    ghost follows_on = { λ x y z a b c first second is. same_on x y z first second };
+    ghost follows_on = { λ x y z a b c first second is. after_on x y z a b c first second is };
 
     fn load_counted<L: Ledger>(&self, at: u64, steps: &mut Steps<L>) -> u64 {
         steps.tick();
@@ -131,16 +170,28 @@ impl<'a> Links for Arena<'a> {
         requires { IsWordOf (regions_of self.old) at }
         ensures stored { IsStored (regions_of self.old) (word_of self.old) at value (word_of self.new) }
         ensures regions { regions_of self.new ≡ regions_of self.old }
-        ensures follows { IsSameArena self.old self.new }
+        ensures follows { IsArenaAfter self.old [] self.new }
         ensures words { self.new.words.now ≡ slice_set self.old.words.now ((at - self.old.base) / 8) value }
+        ensures others { KeepsOthers at 1 self.old self.new }
         ensures top { self.new.top ≡ self.old.top }
+        ensures peak { self.new.peak ≡ self.old.peak }
         ensures counted { steps.new ≡ steps.old + 1 }
     {
         self.store(at, value);
         steps.tick()
     }
 
-    fn fill_counted<L: Ledger>(&mut self, at: u64, count: u64, value: u64, steps: &mut Steps<L>) {
+    /// Puts the same word at each of `count` places, from an address on, and changes no other, granted or not.
+    fn fill_counted<L: Ledger>(&mut self, at: u64, count: u64, value: u64, steps: &mut Steps<L>)
+        requires { AreWordsOf (regions_of self.old) at count }
+        ensures filled { AreFilled (regions_of self.old) (word_of self.old) at count value (word_of self.new) }
+        ensures others { KeepsOthers at count self.old self.new }
+        ensures regions { regions_of self.new ≡ regions_of self.old }
+        ensures follows { IsArenaAfter self.old [] self.new }
+        ensures top { self.new.top ≡ self.old.top }
+        ensures peak { self.new.peak ≡ self.old.peak }
+        ensures counted { steps.new ≡ steps.old + count }
+    {
         if count == 0 {
             return;
         }
@@ -149,7 +200,19 @@ impl<'a> Links for Arena<'a> {
         steps.tick_each(count)
     }
 
-    fn copy_counted<L: Ledger>(&mut self, from: u64, to: u64, count: u64, steps: &mut Steps<L>) {
+    /// Copies `count` words from one place to another, apart from it, and changes no other, granted or not.
+    fn copy_counted<L: Ledger>(&mut self, from: u64, to: u64, count: u64, steps: &mut Steps<L>)
+        requires from { AreWordsOf (regions_of self.old) from count }
+        requires to { AreWordsOf (regions_of self.old) to count }
+        requires apart { (from + 8 * count ≤ to) ⊎ (to + 8 * count ≤ from) }
+        ensures copied { AreCopied (regions_of self.old) (word_of self.old) from to count (word_of self.new) }
+        ensures others { KeepsOthers to count self.old self.new }
+        ensures regions { regions_of self.new ≡ regions_of self.old }
+        ensures follows { IsArenaAfter self.old [] self.new }
+        ensures top { self.new.top ≡ self.old.top }
+        ensures peak { self.new.peak ≡ self.old.peak }
+        ensures counted { steps.new ≡ steps.old + 2 * count }
+    {
         if count == 0 {
             return;
         }
@@ -165,7 +228,7 @@ impl<'a> Links for Arena<'a> {
 impl<'a> Memory for Arena<'a> {
     ghost use Rattle.heap_memory.specs.Regions.{IsWordOf};
     ghost use Rattle.heap_memory.specs.Words.{IsStored};
-    ghost use Rattle.heap_arena.specs.Arena.{regions_of, word_of, IsSameArena};
+    ghost use Rattle.heap_arena.specs.Arena.{regions_of, word_of, KeepsOthers, IsArenaAfter};
 
     #[tactic(auto, using(crate::proofs::GrantLemmas::granted_between))]
     fn load(&self, at: u64) -> u64 {
@@ -178,9 +241,11 @@ impl<'a> Memory for Arena<'a> {
         requires { IsWordOf (regions_of self.old) at }
         ensures stored { IsStored (regions_of self.old) (word_of self.old) at value (word_of self.new) }
         ensures regions { regions_of self.new ≡ regions_of self.old }
-        ensures follows { IsSameArena self.old self.new }
+        ensures follows { IsArenaAfter self.old [] self.new }
         ensures words { self.new.words.now ≡ slice_set self.old.words.now ((at - self.old.base) / 8) value }
+        ensures others { KeepsOthers at 1 self.old self.new }
         ensures top { self.new.top ≡ self.old.top }
+        ensures peak { self.new.peak ≡ self.old.peak }
     {
         put_word(self.words, (at - self.base) as usize, value);
     }

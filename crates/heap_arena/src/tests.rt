@@ -31,3 +31,77 @@ fn grants_come_from_the_front(rt: HostRuntime) -> Result<(), Fail> {
     assert_eq!(rt; arena.page_size(), 4096);
     Ok(())
 }
+
+#[test]
+fn words_behind_the_peak_were_never_touched(rt: HostRuntime) -> Result<(), Fail> {
+    let mut words = [0u64; 64];
+    let mut table = [0u64; 4];
+    let mut arena = Arena::new(&mut words, &mut table, 0x10000);
+    assert_eq!(rt; arena.touched(), 0);
+    assert!(rt; arena.alloc(256).is_ok());
+    assert_eq!(rt; arena.touched(), 32);
+    // What came back was touched still.
+    assert!(rt; arena.free(0x10000, 256));
+    assert_eq!(rt; (arena.used(), arena.touched()), (0, 32));
+    assert!(rt; arena.alloc(128).is_ok());
+    assert_eq!(rt; (arena.used(), arena.touched()), (16, 32));
+    Ok(())
+}
+
+#[test]
+fn several_arenas_are_one_system(rt: HostRuntime) -> Result<(), Fail> {
+    let mut high = [0u64; 64];
+    let mut high_table = [0u64; 4];
+    let mut low = [0u64; 32];
+    let mut low_table = [0u64; 4];
+    let mut over = [0u64; 16];
+    let mut taken = [0u64; 16];
+    let mut taken_table = [0u64; 2];
+    let mut third = [0u64; 16];
+    let mut arenas = Arenas::<'_, 2>::new();
+    assert_eq!(rt; arenas.alloc(16), Err(GrantFault::NoSpace));
+    assert!(rt;
+        arenas
+            .add(Arena::new(&mut high, &mut high_table, 0x10000))
+            .is_ok()
+    );
+    assert_eq!(rt; arenas.alloc(16), granted(0x10000, 16));
+    assert!(rt;
+        arenas
+            .add(Arena::new(&mut low, &mut low_table, 0x8000))
+            .is_ok()
+    );
+    assert_eq!(rt; arenas.len(), 2);
+    let rows = [
+        ("the lower has room", 208, granted(0x8000, 208)),
+        ("48 bytes are left in it", 64, granted(0x10010, 64)),
+        (
+            "432 bytes are left in the higher",
+            448,
+            Err(GrantFault::NoSpace),
+        ),
+        ("the last places of the tables", 48, granted(0x80d0, 48)),
+        ("no place in a table", 16, Err(GrantFault::NoSpace)),
+    ];
+    for (rule, size, answer) in rows {
+        assert_eq!(rt; arenas.alloc(size), answer, "{rule}");
+    }
+    // Another arena is not taken: over the words of one, in use, or where there are two.
+    let overlapping = Arena::new(&mut over, &mut [], 0x10180);
+    assert_eq!(rt; reason(&arenas.add(overlapping)), Some(AddFault::Overlaps));
+    let mut in_use = Arena::new(&mut taken, &mut taken_table, 0x20000);
+    assert!(rt; in_use.alloc(16).is_ok());
+    assert_eq!(rt; reason(&arenas.add(in_use)), Some(AddFault::InUse));
+    let one_too_many = Arena::new(&mut third, &mut [], 0x20000);
+    assert_eq!(rt; reason(&arenas.add(one_too_many)), Some(AddFault::NoPlace));
+    assert_eq!(rt; arenas.len(), 2);
+    Ok(())
+}
+
+/// Why an arena was not taken.
+fn reason(answer: &Result<(), (AddFault, Arena<'_>)>) -> Option<AddFault> {
+    match answer {
+        Ok(()) => None,
+        Err((fault, _)) => Some(*fault),
+    }
+}

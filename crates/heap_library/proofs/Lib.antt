@@ -1,3 +1,4 @@
+mod Adding
 mod BlockWords
 mod Cleared
 mod Counting

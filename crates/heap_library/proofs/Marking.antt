@@ -11,7 +11,7 @@ use Rattle.dlmalloc.specs.Shortened.{IsTrimmed}
 use Rattle.dlmalloc.specs.declared.heap.Dlmalloc.{Dlmalloc}
 use Rattle.dlmalloc.proofs.Extents.Lookup.{found}
 use Rattle.heap_arena.specs.declared.arena.Arena.{Arena}
-use Rattle.heap_arena.specs.Arena.{regions_of, word_of, IsSameArena, same_on}
+use Rattle.heap_arena.specs.Arena.{regions_of, word_of, IsSameArena}
 use Rattle.heap_library.specs.declared.heap_error.HeapError.{HeapError}
 use Rattle.heap_library.specs.declared.heap_error.HeapError.TheVariants.{BadAlign, NoBlock, Refused}
 use Rattle.heap_library.specs.Library.{HasBlock, IsRequestRefused, IsResizeRefused}
@@ -40,6 +40,10 @@ carried old new a block moves =
       },
     )
 
+-- a block of one heap is one of another that has the same extents
+pub same_blocks : (old new : HeapState) → extents_in new ≡ extents_in old → (a : ℕ) → HasBlock old a → HasBlock new a
+same_blocks old new same a block = carried old new a block (λ there. ap (extent_at block.1.extent.at) same ∙ there)
+
 -- two blocks whose extents begin at one address are one
 apart : (heap : HeapState) (a address : ℕ) (block : HasBlock heap a) → 16 ≤ address → a ≢ address → block.1.extent.at ≢ address - 16
 apart heap a address block low differ = λ same. differ (omega (arith, same, at_place heap a block, block.1.low, low))
@@ -47,17 +51,17 @@ apart heap a address block low differ = λ same. differ (omega (arith, same, at_
 -- ---- what the arena keeps
 
 found_same : (old new : Dlmalloc Arena) (size align address : ℕ) → IsHandedOut regions_of word_of follows old size align address new → IsSameArena old.system new.system
-found_same old new size align address out = elim out.found [ inl same ↦ same.1 | inr fresh ↦ fresh.4 ]
+found_same old new size align address out = elim out.found [ inl same ↦ same.1.same | inr fresh ↦ fresh.4.same ]
 
 pub resized_same : (old new : Dlmalloc Arena) (from held size to : ℕ) → IsGivenSize regions_of word_of follows true true 1 old from held 16 size to new → IsSameArena old.system new.system
 resized_same old new from held size to given = go (cases_eq to from)
   where
     before : IsSameArena old.system given.middle.system
-    before = elim given.found [ inl same ↦ same.1 | inr fresh ↦ fresh.4 ]
+    before = elim given.found [ inl same ↦ same.1.same | inr fresh ↦ fresh.4.same ]
 
     go : (to ≡ from) ⊎ (to ≡ from → ⊥) → IsSameArena old.system new.system
-    go (inl same) = (given.here same).1
-    go (inr differ) = same_on old.system given.middle.system new.system before (given.elsewhere differ).followed
+    go (inl same) = (given.here same).1.same
+    go (inr differ) = let after = (given.elsewhere differ).followed.same in record { base = after.base ∙ before.base; len = after.len ∙ before.len; table = after.table ∙ before.table }
 
 -- ---- marks
 
@@ -79,16 +83,16 @@ module _ (base : ℕ) (marks : List ℕ) (count : ℕ) (old new : Dlmalloc Arena
   pub unserved_marked : (size align : ℕ) (error : HeapError) → IsRequestRefused regions_of word_of follows refuses denies old size align error new → IsMarked base marks count new
   unserved_marked size align BadAlign refused = subst (IsMarked base marks count) (sym refused.1) is
   unserved_marked size align NoBlock refused = absurd refused
-  unserved_marked size align (Refused error) refused = same_marked refused.1.same.followed refused.1.same.state
+  unserved_marked size align (Refused error) refused = same_marked refused.1.same.followed.same refused.1.same.state
 
   pub unresized_marked : (address size : ℕ) (error : HeapError) → IsResizeRefused regions_of word_of follows refuses denies old address size error new → IsMarked base marks count new
   unresized_marked address size BadAlign refused = absurd refused
   unresized_marked address size NoBlock refused = subst (IsMarked base marks count) (sym refused.1) is
-  unresized_marked address size (Refused error) refused = same_marked refused.0.same.followed refused.0.same.state
+  unresized_marked address size (Refused error) refused = same_marked refused.0.same.followed.same refused.0.same.state
 
   pub trimmed_marked : (pad : ℕ) (answer : _) → IsTrimmed regions_of word_of follows true true 1 old pad answer new → IsMarked base marks count new
   trimmed_marked pad answer trimmed =
-      kept_marked trimmed.followed (λ a block. carried (heap_state old) (heap_state new) a block (trimmed.used.still block.1.extent block.1.used))
+      kept_marked trimmed.followed.same (λ a block. carried (heap_state old) (heap_state new) a block (trimmed.used.still block.1.extent block.1.used))
       (λ a block. carried (heap_state new) (heap_state old) a block (trimmed.used.before block.1.extent block.1.used))
 
   -- where a block comes there was no mark
@@ -141,8 +145,8 @@ module _ (base : ℕ) (marks : List ℕ) (count : ℕ) (old new : Dlmalloc Arena
     freed_marked address was freed here others = record {
       some = omega (arith, base_same, is.some);
       count_is = counted_now;
-      base_is = freed.followed.base ∙ (is.base_is ∙ sym base_same);
-      room = omega (arith, freed.followed.len, is.room, len_same);
+      base_is = freed.followed.same.base ∙ (is.base_is ∙ sym base_same);
+      room = omega (arith, freed.followed.same.len, is.room, len_same);
       blocks = λ a marked. elim (cases_eq a address) [
         | inl same ↦ absurd (let none : is_marked base' marks' a ≡ false = ap (is_marked base' marks') same ∙ here in cc)
         | inr differ ↦ (let block = is.blocks a (sym (others a differ) ∙ marked) in

@@ -6,7 +6,7 @@ use Rattle.dlmalloc.specs.State.{HeapState}
 use Rattle.dlmalloc.specs.Heap.{state_of}
 use Rattle.dlmalloc.specs.declared.heap.Dlmalloc.{Dlmalloc}
 use Rattle.heap_arena.specs.declared.arena.Arena.{Arena}
-use Rattle.heap_arena.specs.Arena.{word_of, IsSameArena, IsDenied}
+use Rattle.heap_arena.specs.Arena.{word_of, IsArenaAfter, IsDenied}
 use Rattle.heap_library.specs.Library.{HasBlock}
 use Rattle.heap_library.specs.Marks.{is_marked}
 use Rattle.heap_library.specs.Counted.{counted}
@@ -15,9 +15,10 @@ use Rattle.heap_library.specs.Counted.{counted}
 abbrev pub zeros : Arena → Bool
 zeros arena = false
 
--- what a heap over an arena says of the time between two moments
+-- what a heap over an arena says of the time between two moments: the words behind its peak are as they were, and the peak
+-- rose by no more than was granted
 abbrev pub follows : Arena → List Event → Arena → Type 0
-follows old events new = IsSameArena old new
+follows old events new = IsArenaAfter old events new
 
 abbrev pub refuses : Arena → Arena → Type 0
 refuses old new = new ≡ old

@@ -10,7 +10,7 @@ use std::sync::ledger::Blank;
 /// A heap over a system. That it is sound is a condition of the type.
 #[derive(Drop)]
 pub struct Heap<A: Allocator> {
-    heap: Dlmalloc<A>,
+    pub(crate) heap: Dlmalloc<A>,
 }
 
 impl<A: Allocator> Model for Heap<A> {

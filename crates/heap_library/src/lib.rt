@@ -7,6 +7,7 @@
 mod calls;
 mod checked;
 mod heap;
+mod heap_arenas;
 mod heap_error;
 mod marks;
 
@@ -14,6 +15,8 @@ pub use checked::CheckedHeap;
 pub use heap::Heap;
 pub use heap_error::HeapError;
 
+#[cfg(test)]
+mod arenas_tests;
 #[cfg(test)]
 mod heap_tests;
 #[cfg(test)]

@@ -1,7 +1,7 @@
-use Rattle.std.proofs.Common.{ℕ, ◌≡◌, ◌+◌, ◌-◌, ◌*◌, ◌/◌, ◌<◌, ◌≤◌, inl, inr, ap, ◌∙◌, arith, get_or}
+use Rattle.std.proofs.Common.{rules, refl, ℕ, ◌+◌, ◌-◌, ◌/◌, ◌<◌, inl, inr, ap, ◌∙◌, arith, get_or}
 use Rattle.heap_arena.specs.Arena.{regions_of}
 use Rattle.heap_arena.proofs.GrantLemmas.{granted_between}
-use Rattle.heap_arena.proofs.Runs.{begins_above, ends_within}
+use Rattle.heap_arena.proofs.Runs.{begins_above, ends_within, ends_below, kept_after}
 use Rattle.heap_arena.proofs.arena.ArenaLinks.copy_counted.Goals as goal
 
 pub overflow_sub-place : goal.overflow_sub-place
@@ -45,3 +45,20 @@ returns-clause-copied g c =
             | inr behind ↦ moved.2 ((other - base) / 8) 0 (omega (arith, behind, to_low, other_low, begin, to_whole, other_whole))
           ];
     }
+
+pub returns-clause-others : goal.returns-clause-others
+returns-clause-others g c = λ i beside.
+    let arena = c.args.self.now in
+    let to_low = begins_above arena c.args.to c.args.count (omega (arith, c.if-count-eq0.false)) c.requires.to in
+    let begin = arena.aligned in
+    let to_whole = c.requires.to.aligned in
+    elim beside [
+      | inl before ↦ c.copy_within.ensures.by_index.1 i 0 (omega (arith, before, to_low, begin, to_whole))
+      | inr behind ↦ c.copy_within.ensures.by_index.2 i 0 (omega (arith, behind, to_low, begin, to_whole))
+    ]
+
+pub returns-clause-follows : goal.returns-clause-follows
+returns-clause-follows g c =
+    let arena = c.args.self.now in
+    let below = ends_below arena c.args.to c.args.count (omega (arith, c.if-count-eq0.false)) c.requires.to in
+    kept_after arena _ c.args.to c.args.count (record { base = refl; len = search rules; table = refl }) refl refl below (returns-clause-others g c)

@@ -1,8 +1,8 @@
-use Rattle.std.proofs.Common.{ℕ, ◌≡◌, ◌+◌, ◌-◌, ◌*◌, ◌/◌, ◌<◌, ◌≤◌, ◌⊎◌, inl, inr, List, ap, ◌∙◌, refl, arith, length, length-drop, replicate, get_or, take, drop}
+use Rattle.std.proofs.Common.{ℕ, ◌≡◌, ◌+◌, ◌-◌, ◌/◌, ◌<◌, ◌≤◌, ◌⊎◌, inl, inr, List, ap, ◌∙◌, refl, rules, arith, length, length-drop, replicate, get_or, drop}
 use Rattle.std.proofs.lemmas.List.{get_or-replicate, length-take-le}
 use Rattle.heap_arena.specs.Arena.{regions_of}
 use Rattle.heap_arena.proofs.GrantLemmas.{granted_between}
-use Rattle.heap_arena.proofs.Runs.{begins_above, ends_within, inside, outside}
+use Rattle.heap_arena.proofs.Runs.{begins_above, ends_within, ends_below, kept_after, inside, outside}
 use Rattle.heap_arena.proofs.arena.ArenaLinks.fill_counted.Goals as goal
 
 pub overflow_sub-place : goal.overflow_sub-place
@@ -44,3 +44,27 @@ returns-clause-filled g c =
           ] in
           outside words part place n ((other - base) / 8) within many apart;
     }
+
+pub returns-clause-others : goal.returns-clause-others
+returns-clause-others g c = λ i beside.
+    let arena = c.args.self.now in
+    let words : List ℕ = arena.words.now in
+    let place : ℕ = (c.args.at - arena.base) / 8 in
+    let n : ℕ = place + c.args.count - place in
+    let some : 0 < c.args.count = omega (arith, c.if-count-eq0.false) in
+    let low = begins_above arena c.args.at c.args.count some c.requires in
+    let fits = ends_within arena c.args.at c.args.count some c.requires in
+    let begin = arena.aligned in
+    let whole = c.requires.aligned in
+    let many : length c.fill.new.self ≡ n = c.fill.ensures.len ∙ length-take-le n (drop place words) (omega (arith, length-drop place words, fits)) in
+    let apart : (i < place) ⊎ (place + n ≤ i) = elim beside [
+      | inl before ↦ inl (omega (arith, before, low, whole, begin))
+      | inr behind ↦ inr (omega (arith, behind, low, whole, begin))
+    ] in
+    outside words c.fill.new.self place n i (omega (arith, fits)) many apart
+
+pub returns-clause-follows : goal.returns-clause-follows
+returns-clause-follows g c =
+    let arena = c.args.self.now in
+    let below = ends_below arena c.args.at c.args.count (omega (arith, c.if-count-eq0.false)) c.requires in
+    kept_after arena _ c.args.at c.args.count (record { base = refl; len = search rules; table = refl }) refl refl below (returns-clause-others g c)

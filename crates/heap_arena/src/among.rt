@@ -1,0 +1,109 @@
+// Calls of several arenas, by ascending address: each is of the first arena that has to do with it, or of all.
+ghost use Rattle.std.specs.Prelude.{◌≡◌, ℕ, ◌+◌, ◌%◌, ◌<◌, ◌≤◌, true, [], ◌∷◌, Some, None, IfOk, IfErr, IfSome, IfNone, OnErr, IsTrue, false, length, insert, take, drop};
+ghost use Rattle.std.specs.List.{AllByRecursion, AllZip, list_all, list_any};
+ghost use Rattle.heap_memory.specs.Events.{Granted};
+ghost use Rattle.heap_memory.specs.Regions.{IsWordOf, IsApart, IsGoodGrant, with_grant};
+ghost use Rattle.heap_memory.specs.Runs.{without};
+ghost use Rattle.heap_memory.specs.Words.{IsStored};
+ghost use Rattle.heap_arena.specs.Arena.{IsSameArena, IsTakenBack};
+ghost use Rattle.heap_arena.specs.Arenas.{are_in_order, regions_of_all, word_among, place_for, overlaps, AreAfter, AreUnwritten, IsGrantedByOne, IsOnlyWritten, IsDeniedByAll};
+
+use crate::arena::Arena;
+use heap_memory::{Allocator, Grant, GrantFault, Memory};
+
+/// The word at an address.
+pub(crate) fn load_among<'a>(arenas: &[Arena<'a>], at: u64) -> u64
+    requires word { IsWordOf (regions_of_all arenas.now) at }
+    requires order { IsTrue (are_in_order arenas.now) }
+    ensures { result ≡ word_among arenas.now at }
+{
+    match arenas {
+        [] => 0,
+        [first, rest @ ..] => {
+            if at < first.end() {
+                first.load(at)
+            } else {
+                load_among(rest, at)
+            }
+        }
+    }
+}
+
+/// Puts a word at an address, and changes no other, granted or not.
+pub(crate) fn store_among<'a>(arenas: &mut [Arena<'a>], at: u64, value: u64)
+    requires word { IsWordOf (regions_of_all arenas.old) at }
+    requires order { IsTrue (are_in_order arenas.old) }
+    ensures stored { IsStored (regions_of_all arenas.old) (word_among arenas.old) at value (word_among arenas.new) }
+    ensures only { IsOnlyWritten at arenas.old arenas.new }
+    ensures regions { regions_of_all arenas.new ≡ regions_of_all arenas.old }
+    ensures after { AreAfter arenas.old [] arenas.new }
+{
+    if arenas.is_empty() {
+        return;
+    }
+    if at < arenas[0].end() {
+        arenas[0].store(at, value)
+    } else {
+        store_among(&mut arenas[1..], at, value)
+    }
+}
+
+/// Grants so many bytes, by the first arena that has room for them.
+pub(crate) fn alloc_among<'a>(arenas: &mut [Arena<'a>], size: u64) -> Result<Grant, GrantFault>
+    requires some { 0 < size }
+    requires whole { size % 16 ≡ 0 }
+    requires order { IsTrue (are_in_order arenas.old) }
+    ensures place { IfOk result (λ grant. (place_for arenas.old size ≡ Some grant.base) × (grant.size ≡ size) × (grant.flags ≡ 0)) }
+    ensures by_one { IfOk result (λ grant. IsGrantedByOne grant.base size arenas.old arenas.new) }
+    ensures unwritten { AreUnwritten arenas.old arenas.new }
+    ensures arenas { AllZip (λ x y. IsSameArena x y) arenas.old arenas.new }
+    ensures good { IfOk result (λ grant. IsGoodGrant size grant) }
+    ensures apart { IfOk result (λ grant. AllByRecursion (IsApart grant.base (grant.base + grant.size)) (regions_of_all arenas.old)) }
+    ensures regions { IfOk result (λ grant. regions_of_all arenas.new ≡ with_grant grant (regions_of_all arenas.old)) }
+    ensures after { IfOk result (λ grant. AreAfter arenas.old (Granted size grant ∷ []) arenas.new) }
+    ensures same { OnErr result (arenas.new ≡ arenas.old) }
+    ensures denied { IfErr result (λ fault. IsDeniedByAll arenas.old size fault) }
+{
+    if arenas.is_empty() {
+        return Err(GrantFault::NoSpace);
+    }
+    match arenas[0].alloc(size) {
+        Ok(grant) => Ok(grant),
+        Err(_) => alloc_among(&mut arenas[1..], size),
+    }
+}
+
+/// Takes the bytes from `low` on and below `high`, the end of a run, back: each arena those that are its own.
+pub(crate) fn take_back_among<'a>(arenas: &mut [Arena<'a>], low: u64, high: u64)
+    requires { low % 16 ≡ 0 }
+    ensures taken { AllZip (λ x y. IsTakenBack low high x y) arenas.old arenas.new }
+    ensures regions { regions_of_all arenas.new ≡ without low high (regions_of_all arenas.old) }
+{
+    if !arenas.is_empty() {
+        arenas[0].take_back(low, high);
+        take_back_among(&mut arenas[1..], low, high);
+    }
+}
+
+/// The place among them of an arena that has the addresses from `low` on and below `high`; None where one of them has
+/// an address of these.
+pub(crate) fn gap_among<'a>(arenas: &[Arena<'a>], arena: &Arena<'a>) -> Option<usize>
+    requires { IsTrue (are_in_order arenas.now) }
+    ensures within { IfSome result (λ place. place ≤ length arenas.now) }
+    ensures order { IfSome result (λ place. IsTrue (are_in_order (insert arenas.now place arena.now))) }
+    ensures apart { IfSome result (λ place. list_any (λ other. overlaps arena.now other) arenas.now ≡ false) }
+    ensures overlaps { IfNone result (IsTrue (list_any (λ other. overlaps arena.now other) arenas.now)) }
+{
+    match arenas {
+        [] => Some(0),
+        [first, rest @ ..] => {
+            if first.end() <= arena.base() {
+                Some(gap_among(rest, arena)? + 1)
+            } else if first.base() < arena.end() {
+                None
+            } else {
+                Some(0)
+            }
+        }
+    }
+}

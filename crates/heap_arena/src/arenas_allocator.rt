@@ -1,0 +1,105 @@
+// What several arenas grant and take back.
+ghost use Rattle.std.specs.Prelude.{◌≡◌, ◌≢◌, ℕ, ◌+◌, ◌%◌, ◌<◌, ◌≤◌, true, false, [], ◌∷◌, Some, IfOk, IfErr, OnErr, IsTrue, refl};
+ghost use Rattle.std.specs.Int.{is_power_of_two};
+ghost use Rattle.std.specs.List.{AllByRecursion, AllZip};
+ghost use Rattle.heap_memory.specs.Events.{Granted, Refused, Released};
+ghost use Rattle.heap_memory.specs.Regions.{IsWordOf, IsApart, IsGoodGrant, with_grant};
+ghost use Rattle.heap_memory.specs.Runs.{IsRun, is_in_units, without};
+
+use crate::among::{alloc_among, take_back_among};
+use crate::arenas::Arenas;
+use heap_memory::{Allocator, Grant, GrantFault};
+
+impl<'a, const N: usize> Allocator for Arenas<'a, N> {
+    ghost use Rattle.heap_arena.specs.Arena.{IsTakenBack};
+    ghost use Rattle.heap_arena.specs.Arenas.{regions_of_all, word_among, place_for, AreAfter, AreUnwritten, IsGrantedByOne, IsDeniedByAll};
+    ghost use Rattle.heap_arena.specs.ArenasLaws.{all_ordered};
+
+    ghost denies = { λ a size fault. IsDeniedByAll a.arenas.items size fault };
+
+    ghost zeros = { λ a. false };
+
+    ghost frees = { λ a. true };
+
+    ghost unit = { λ a. 1 };
+
+    ghost parts = { λ a. true };
+
+    ghost refuses = { λ old new. new.arenas.items ≡ old.arenas.items };
+
+    ghost refuses_none = { λ a. refl };
+
+    ghost ordered = { λ a. all_ordered a.arenas.items a.in_order };
+
+    ghost fixed = { λ x y events follows. record { zeros_same = refl; frees_same = refl; parts_same = refl; unit_same = refl } };
+
+    /// As many bytes as are asked for, behind the grants of the first arena that has room for them. A denial changes
+    /// nothing.
+    fn alloc(&mut self, size: u64) -> Result<Grant, GrantFault>
+        requires some { 0 < size }
+        requires whole { size % 16 ≡ 0 }
+        ensures place { IfOk result (λ grant. (place_for self.old.arenas.items size ≡ Some grant.base) × (grant.size ≡ size) × (grant.flags ≡ 0)) }
+        ensures by_one { IfOk result (λ grant. IsGrantedByOne grant.base size self.old.arenas.items self.new.arenas.items) }
+        ensures unwritten { AreUnwritten self.old.arenas.items self.new.arenas.items }
+        ensures good { IfOk result (λ grant. IsGoodGrant size grant) }
+        ensures apart { IfOk result (λ grant. AllByRecursion (IsApart grant.base (grant.base + grant.size)) (regions_of_all self.old.arenas.items)) }
+        ensures regions { IfOk result (λ grant. regions_of_all self.new.arenas.items ≡ with_grant grant (regions_of_all self.old.arenas.items)) }
+        ensures zeros { IfOk result (λ grant. false ≡ true → (at : ℕ) → grant.base ≤ at → at < grant.base + grant.size → at % 8 ≡ 0 → word_among self.new.arenas.items at ≡ 0) }
+        ensures follows { IfOk result (λ grant. AreAfter self.old.arenas.items (Granted size grant ∷ []) self.new.arenas.items) }
+        ensures words { (at : ℕ) → IsWordOf (regions_of_all self.old.arenas.items) at → word_among self.new.arenas.items at ≡ word_among self.old.arenas.items at }
+        ensures same { OnErr result (self.new.arenas.items ≡ self.old.arenas.items) }
+        ensures err { OnErr result (regions_of_all self.new.arenas.items ≡ regions_of_all self.old.arenas.items) }
+        ensures err_follows { IfErr result (λ fault. AreAfter self.old.arenas.items (Refused size fault ∷ []) self.new.arenas.items) }
+        ensures refused { IfErr result (λ fault. IsDeniedByAll self.old.arenas.items size fault) }
+        ensures denied { IfErr result (λ fault. fault ≢ GrantFault.OutOfMemory → IsDeniedByAll self.old.arenas.items size fault) }
+    {
+        alloc_among(self.arenas.as_mut_slice(), size)
+    }
+
+    /// Takes the end of a run back, whatever its size: each arena the bytes that are its own.
+    fn free_part(&mut self, at: u64, old_size: u64, new_size: u64) -> bool
+        requires run { IsRun (regions_of_all self.old.arenas.items) at (at + old_size) }
+        requires some { 0 < new_size }
+        requires within { new_size ≤ old_size }
+        requires whole { new_size % 16 ≡ 0 }
+        ensures answer { result ≡ is_in_units 1 new_size }
+        ensures regions { regions_of_all self.new.arenas.items ≡ without (at + new_size) (at + old_size) (regions_of_all self.old.arenas.items) }
+        ensures words { (k : ℕ) → IsWordOf (regions_of_all self.new.arenas.items) k → word_among self.new.arenas.items k ≡ word_among self.old.arenas.items k }
+        ensures taken { AllZip (λ x y. IsTakenBack (at + new_size) (at + old_size) x y) self.old.arenas.items self.new.arenas.items }
+        ensures follows { AreAfter self.old.arenas.items (Released at old_size new_size ∷ []) self.new.arenas.items }
+        ensures same { result ≡ false → self.new ≡ self.old }
+    {
+        take_back_among(self.arenas.as_mut_slice(), at + new_size, at + old_size);
+        true
+    }
+
+    /// Takes a run back: each arena the bytes that are its own.
+    fn free(&mut self, at: u64, size: u64) -> bool
+        requires { IsRun (regions_of_all self.old.arenas.items) at (at + size) }
+        ensures answer { result ≡ true }
+        ensures regions { regions_of_all self.new.arenas.items ≡ without at (at + size) (regions_of_all self.old.arenas.items) }
+        ensures words { (k : ℕ) → IsWordOf (regions_of_all self.new.arenas.items) k → word_among self.new.arenas.items k ≡ word_among self.old.arenas.items k }
+        ensures taken { AllZip (λ x y. IsTakenBack at (at + size) x y) self.old.arenas.items self.new.arenas.items }
+        ensures follows { AreAfter self.old.arenas.items (Released at size 0 ∷ []) self.new.arenas.items }
+        ensures same { result ≡ false → self.new ≡ self.old }
+    {
+        take_back_among(self.arenas.as_mut_slice(), at, at + size);
+        true
+    }
+
+    fn can_release_part(&self, flags: u32) -> bool {
+        true
+    }
+
+    fn allocates_zeros(&self) -> bool {
+        false
+    }
+
+    /// No page is of a size of its own: what is granted is told by what is asked.
+    fn page_size(&self) -> u64
+        ensures page { result ≡ 4096 }
+        ensures power { IsTrue (is_power_of_two result) }
+    {
+        4096
+    }
+}
