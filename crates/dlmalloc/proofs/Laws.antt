@@ -25,9 +25,9 @@ module _ {A : Type 0} (regions : A → List Grant) (word : A → ℕ → ℕ) (h
   -- an extent in use stands in granted bytes, in whole units of 16 bytes
   pub used_inside : (used : Extent) → used.kind ≡ Used → extent_at used.at (extents_in (state_of word heap)) ≡ Some used → IsInside (regions heap.system) used
   used_inside used is there =
-      let l = located used.at used (segments_of word heap) there in
-      let p = of_located (IsSegment (regions heap.system) (word heap.system)) used.at used (segments_of word heap) l sound.segments in
-      let s = standing (word heap.system) Used l.segment.base l.segment.extents (l.segment.base + l.segment.size) used p.extents p.tail l.there is in
+      let l = located used.at (segments_of word heap) there in
+      let p = of_located (IsSegment (regions heap.system) (word heap.system)) l sound.segments in
+      let s = standing (word heap.system) Used l.segment.base l.segment.extents (l.segment.base + l.segment.size) p.extents p.tail l.there is in
       let base = p.low in let end = p.high in let low = s.low in let high = s.high in
       record {
         granted = λ k above below. p.run.covered k (omega arith) (omega arith);
@@ -40,7 +40,7 @@ module _ {A : Type 0} (regions : A → List Grant) (word : A → ℕ → ℕ) (h
 
   -- two extents in use have no byte in common
   pub used_apart : (a b : Extent) → extent_at a.at (extents_in (state_of word heap)) ≡ Some a → extent_at b.at (extents_in (state_of word heap)) ≡ Some b → a.at ≢ b.at → (a.at + a.size ≤ b.at) ⊎ (b.at + b.size ≤ a.at)
-  used_apart a b there_a there_b other = beside (regions heap.system) (word heap.system) (segments_of word heap) sound.segments sound.apart a b there_a there_b other
+  used_apart a b there_a there_b other = beside (regions heap.system) (word heap.system) (segments_of word heap) sound.segments sound.apart there_a there_b other
 
   -- a system with the same regions has those of the segments
   pub same_regions : (system : A) → regions system ≡ regions heap.system → KeepsRegions (segments_of word heap) (regions heap.system) (regions system)
@@ -56,12 +56,12 @@ module _ {A : Type 0} (regions : A → List Grant) (word : A → ℕ → ℕ) (h
   as_it_was stays follows refuses events system same words followed denied = record {
     followed = followed;
     refused = denied;
-    state = still_state regions word heap sound system (same_regions system same) (λ k inside there apart. words k inside);
-    sound = still_sound regions word heap sound system (same_regions system same) (λ k inside there apart. words k inside);
+    state = still_state sound system (same_regions system same) (λ k inside there apart. words k inside);
+    sound = still_sound sound system (same_regions system same) (λ k inside there apart. words k inside);
     regions_same = same;
     words = words;
-    index = λ b. (still_binned regions word heap sound system (same_regions system same) (λ k inside there apart. words k inside) stays b, λ n. refl);
+    index = λ b. (still_binned sound system (same_regions system same) (λ k inside there apart. words k inside) stays b, λ n. refl);
   }
 
   abbrev pub as_binned : IndexStays → (system : A) → regions system ≡ regions heap.system → ((k : ℕ) → IsWordOf (regions heap.system) k → word system k ≡ word heap.system k) → IsBinned regions word heap → IsBinned regions word (record heap { system = system })
-  as_binned stays system same words = still_binned regions word heap sound system (same_regions system same) (λ k inside there apart. words k inside) stays
+  as_binned stays system same words = still_binned sound system (same_regions system same) (λ k inside there apart. words k inside) stays

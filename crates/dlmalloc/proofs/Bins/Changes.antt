@@ -7,11 +7,11 @@ use Rattle.dlmalloc.proofs.Words.OfLinks.{OthersStay, is_chunk, same_or_beside, 
 
 -- ---- links are stored
 
-module _ {A : Type 0} (regions : A → List Grant) (word : A → ℕ → ℕ) (follows : A → List Event → A → Type 0) (heap : Dlmalloc A) (sound : IsSound regions word heap) (system : A) (bins : Bins)
+module _ {A : Type 0} {regions : A → List Grant} {word : A → ℕ → ℕ} (follows : A → List Event → A → Type 0) {heap : Dlmalloc A} (sound : IsSound regions word heap) (system : A) (bins : Bins)
     (same : regions system ≡ regions heap.system) (only : OnlyFreeChange (regions heap.system) (state_of word heap) (word heap.system) (word system)) (followed : follows heap.system [] system) where
   -- the words that tell the heap's extents stay
   telling : (one : Extent) → extent_at one.at (extents_in (state_of word heap)) ≡ Some one → (k : ℕ) → IsTelling k one → IsWordOf (regions heap.system) k → IsTrue (list_any (has_byte_in k) (segments_of word heap)) → word system k ≡ word heap.system k
-  telling one there k tells granted inside = only k granted (λ at size free. out at size (same_or_beside regions word heap sound at size free one there))
+  telling one there k tells granted inside = only k granted (λ at size free. out at size (same_or_beside sound free there))
     where
       out : (at size : ℕ) → (one ≡ record { at = at; size = size; kind = Free }) ⊎ ((one.at + one.size ≤ at) ⊎ (at + size ≤ one.at)) → (k < at + 16) ⊎ (at + size ≤ k)
       out at size (inl is) =
@@ -30,8 +30,8 @@ module _ {A : Type 0} (regions : A → List Grant) (word : A → ℕ → ℕ) (f
 
   pub rebinned : IsRebinned regions word follows heap (record heap { system = system; bins = bins })
   rebinned = record {
-    sound = sound_told regions word heap sound system bins (runs (segments_of word heap)) telling;
-    state = state_told regions word heap sound system bins (runs (segments_of word heap)) telling;
+    sound = sound_told sound system bins (runs (segments_of word heap)) telling;
+    state = state_told sound system bins (runs (segments_of word heap)) telling;
     fields = refl;
     words = only;
     regions_same = same;
@@ -40,80 +40,80 @@ module _ {A : Type 0} (regions : A → List Grant) (word : A → ℕ → ℕ) (f
 
 -- ---- one chunk
 
-module _ {A : Type 0} (regions : A → List Grant) (word : A → ℕ → ℕ) (heap : Dlmalloc A) (sound : IsSound regions word heap) (at size : ℕ) (free : IsFreeAt (state_of word heap) at size) where
-  module _ (loose : List ℕ) (b : IsBinnedBut (at ∷ loose) regions word heap) where
+module _ {A : Type 0} {regions : A → List Grant} {word : A → ℕ → ℕ} {heap : Dlmalloc A} (sound : IsSound regions word heap) {at size : ℕ} (free : IsFreeAt (state_of word heap) at size) where
+  module _ {loose : List ℕ} (b : IsBinnedBut (at ∷ loose) regions word heap) where
     -- it shares no byte with one of the index
     pub fresh : IsFresh (regions heap.system) (word heap.system) b.index size at
     fresh = record {
-      is = is_chunk regions word heap sound at size free;
-      apart = λ n other is. free_apart regions word heap sound at size other n free (b.holds.free other n is) (λ same. b.holds.not_loose other n is (inl (sym same)));
+      is = is_chunk sound free;
+      apart = λ n other is. free_apart regions word heap sound free (b.holds.free other n is) (λ same. b.holds.not_loose other n is (inl (sym same)));
     }
 
     -- it went into its bin
-    abbrev pub now_binned : (system : A) (bins : Bins) → IsLinked (regions system) (word system) bins (with_chunk size at b.index) → state_of word (record heap { system = system; bins = bins }) ≡ state_of word heap →
+    abbrev pub now_binned : (system : A) {bins : Bins} → IsLinked (regions system) (word system) bins (with_chunk size at b.index) → state_of word (record heap { system = system; bins = bins }) ≡ state_of word heap →
         at ≢ heap.victim → (IsIn at loose → ⊥) → IsBinnedBut loose regions word (record heap { system = system; bins = bins })
-    now_binned system bins linked same other apart = record {
+    now_binned system linked same other apart = record {
       index = with_chunk size at b.index;
       linked = linked;
       holds = subst (λ (s : HeapState). HoldsBut loose s (with_chunk size at b.index)) (sym same) (binned_one loose (state_of word heap) b.index at size b.holds free other apart);
     }
 
     pub links_insert : (new : ℕ → ℕ) → OnlyLinksChange (regions heap.system) b.index size at (word heap.system) new → OnlyFreeChange (regions heap.system) (state_of word heap) (word heap.system) new
-    links_insert new links = only_free (regions heap.system) (word heap.system) (state_of word heap) b.index size at (word heap.system) new b.linked.chunks b.holds.free free (is_chunk regions word heap sound at size free).long links
+    links_insert new links = only_free (state_of word heap) at (word heap.system) new b.linked.chunks b.holds.free free (is_chunk sound free).long links
 
-  module _ (loose : List ℕ) (b : IsBinnedBut loose regions word heap) where
+  module _ {loose : List ℕ} (b : IsBinnedBut loose regions word heap) where
     -- it is in its bin
     pub is_binned : at ≢ heap.victim → (IsIn at loose → ⊥) → IsIn at (b.index size)
     is_binned other apart = b.holds.all at size free other apart
 
     -- it left it
-    abbrev pub now_loose : (system : A) (bins : Bins) → IsLinked (regions system) (word system) bins (without_chunk size at b.index) → state_of word (record heap { system = system; bins = bins }) ≡ state_of word heap →
+    abbrev pub now_loose : (system : A) {bins : Bins} → IsLinked (regions system) (word system) bins (without_chunk size at b.index) → state_of word (record heap { system = system; bins = bins }) ≡ state_of word heap →
         IsBinnedBut (at ∷ loose) regions word (record heap { system = system; bins = bins })
-    now_loose system bins linked same = record {
+    now_loose system linked same = record {
       index = without_chunk size at b.index;
       linked = linked;
       holds = subst (λ (s : HeapState). HoldsBut (at ∷ loose) s (without_chunk size at b.index)) (sym same) (unbinned_one loose (state_of word heap) b.index at size b.holds b.linked.chunks.once free);
     }
 
     pub links_unlink : (new : ℕ → ℕ) → OnlyLinksChange (regions heap.system) b.index size at (word heap.system) new → OnlyFreeChange (regions heap.system) (state_of word heap) (word heap.system) new
-    links_unlink new links = only_free (regions heap.system) (word heap.system) (state_of word heap) b.index size at (word heap.system) new b.linked.chunks b.holds.free free (is_chunk regions word heap sound at size free).long links
+    links_unlink new links = only_free (state_of word heap) at (word heap.system) new b.linked.chunks b.holds.free free (is_chunk sound free).long links
 
     -- the victim is in none
     abbrev pub victim_loose : at ≡ heap.victim → IsBinnedBut (at ∷ loose) regions word heap
     victim_loose is = record { index = b.index; linked = b.linked; holds = looser loose (state_of word heap) b.index at b.holds (λ n there. b.holds.no_victim at n there is) }
 
 -- an address where no chunk is free needs be in no bin, and may be named so
-abbrev pub none_loose : {A : Type 0} (regions : A → List Grant) (word : A → ℕ → ℕ) (heap : Dlmalloc A) (at : ℕ) (loose : List ℕ) → IsBinnedBut loose regions word heap → ((n : ℕ) → IsFreeAt (state_of word heap) at n → ⊥) → IsBinnedBut (at ∷ loose) regions word heap
-none_loose regions word heap at loose b none = record { index = b.index; linked = b.linked; holds = looser loose (state_of word heap) b.index at b.holds (λ n is. none n (b.holds.free at n is)) }
+abbrev pub none_loose : {A : Type 0} {regions : A → List Grant} {word : A → ℕ → ℕ} {heap : Dlmalloc A} (at : ℕ) (loose : List ℕ) → IsBinnedBut loose regions word heap → ((n : ℕ) → IsFreeAt (state_of word heap) at n → ⊥) → IsBinnedBut (at ∷ loose) regions word heap
+none_loose {word} {heap} at loose b none = record { index = b.index; linked = b.linked; holds = looser loose (state_of word heap) b.index at b.holds (λ n is. none n (b.holds.free at n is)) }
 
-abbrev pub none_binned : {A : Type 0} (regions : A → List Grant) (word : A → ℕ → ℕ) (heap : Dlmalloc A) (at : ℕ) (loose : List ℕ) → IsBinnedBut (at ∷ loose) regions word heap → ((n : ℕ) → IsFreeAt (state_of word heap) at n → at ≡ heap.victim) → IsBinnedBut loose regions word heap
-none_binned regions word heap at loose b none = record { index = b.index; linked = b.linked; holds = tighter loose (state_of word heap) b.index at b.holds none }
+abbrev pub none_binned : {A : Type 0} {regions : A → List Grant} {word : A → ℕ → ℕ} {heap : Dlmalloc A} {at : ℕ} {loose : List ℕ} → IsBinnedBut (at ∷ loose) regions word heap → ((n : ℕ) → IsFreeAt (state_of word heap) at n → at ≡ heap.victim) → IsBinnedBut loose regions word heap
+none_binned {word} {heap} {at} {loose} b none = record { index = b.index; linked = b.linked; holds = tighter loose (state_of word heap) b.index at b.holds none }
 
 -- the address that is in no bin has another name
-abbrev pub renamed : {A : Type 0} (regions : A → List Grant) (word : A → ℕ → ℕ) (heap : Dlmalloc A) (at other : ℕ) → at ≡ other → IsBinnedBut (at ∷ []) regions word heap → IsBinnedBut (other ∷ []) regions word heap
-renamed regions word heap at other same b = record { index = b.index; linked = b.linked; holds = subst (λ (k : ℕ). HoldsBut (k ∷ []) (state_of word heap) b.index) same b.holds }
+abbrev pub renamed : {A : Type 0} {regions : A → List Grant} {word : A → ℕ → ℕ} {heap : Dlmalloc A} {at other : ℕ} → at ≡ other → IsBinnedBut (at ∷ []) regions word heap → IsBinnedBut (other ∷ []) regions word heap
+renamed {word} {heap} same b = record { index = b.index; linked = b.linked; holds = subst (λ (k : ℕ). HoldsBut (k ∷ []) (state_of word heap) b.index) same b.holds }
 
 -- nothing is done
-pub not_rebinned : {A : Type 0} (regions : A → List Grant) (word : A → ℕ → ℕ) (follows : A → List Event → A → Type 0) (heap : Dlmalloc A) → IsSound regions word heap → follows heap.system [] heap.system → IsRebinned regions word follows heap heap
-not_rebinned regions word follows heap sound followed = record { sound = sound; state = refl; fields = refl; words = λ k granted out. refl; regions_same = refl; followed = followed }
+pub not_rebinned : {A : Type 0} {regions : A → List Grant} {word : A → ℕ → ℕ} (follows : A → List Event → A → Type 0) {heap : Dlmalloc A} → IsSound regions word heap → follows heap.system [] heap.system → IsRebinned regions word follows heap heap
+not_rebinned follows sound followed = record { sound = sound; state = refl; fields = refl; words = λ k granted out. refl; regions_same = refl; followed = followed }
 
 -- ---- the heap moves
 
-abbrev pub binned_moved : IndexStays → {A : Type 0} (regions : A → List Grant) (word : A → ℕ → ℕ) (old new : Dlmalloc A) → IsSound regions word old → IsSound regions word new → OthersStay regions word old new → new.bins ≡ old.bins →
+abbrev pub binned_moved : IndexStays → {A : Type 0} {regions : A → List Grant} {word : A → ℕ → ℕ} {old new : Dlmalloc A} → IsSound regions word old → IsSound regions word new → OthersStay regions word old new → new.bins ≡ old.bins →
     (loose loose' less more : List ℕ) → FreeMoves (state_of word old) (state_of word new) less more → AreAccounted (state_of word old) (state_of word new) loose loose' less more →
     IsBinnedBut loose regions word old → IsBinnedBut loose' regions word new
-binned_moved stays regions word old new sound sound' others same loose loose' less more moves are b = record {
+binned_moved stays {regions} {word} {old} {new} sound sound' others same loose loose' less more moves are b = record {
   index = b.index;
   linked = subst (λ (bins : Bins). IsLinked (regions new.system) (word new.system) bins b.index) (sym same)
       (stays (regions old.system) (regions new.system) (word old.system) (word new.system) old.bins b.index b.linked
-      (kept regions word old new sound sound' others b.index b.holds.free (λ at size is. (still_free (state_of word old) (state_of word new) loose loose' less more b.index b.holds moves are at size is).0)));
-  holds = holds_moved (state_of word old) (state_of word new) loose loose' less more b.index b.holds moves are;
+      (kept regions word old new sound sound' others b.index b.holds.free (λ at size is. (still_free b.holds moves are at size is).0)));
+  holds = holds_moved b.holds moves are;
 }
 
 -- the bins stay, where no free extent but the top changes, and the victim stays
-abbrev pub binned_same : IndexStays → {A : Type 0} (regions : A → List Grant) (word : A → ℕ → ℕ) (old new : Dlmalloc A) → IsSound regions word old → IsSound regions word new → OthersStay regions word old new → new.bins ≡ old.bins →
+abbrev pub binned_same : IndexStays → {A : Type 0} {regions : A → List Grant} {word : A → ℕ → ℕ} {old new : Dlmalloc A} → IsSound regions word old → IsSound regions word new → OthersStay regions word old new → new.bins ≡ old.bins →
     FreeMoves (state_of word old) (state_of word new) [] [] → new.victim ≡ old.victim → IsBinned regions word old → IsBinned regions word new
-binned_same stays regions word old new sound sound' others same moves victim b = binned_moved stays regions word old new sound sound' others same [] [] [] [] moves (record {
+binned_same stays sound sound' others same moves victim b = binned_moved stays sound sound' others same [] [] [] [] moves (record {
   gone = λ k none n free other. none;
   come = λ k none n free other. none;
   still = λ k out which n free other. elim which [ inl is ↦ absurd (other (is ∙ sym victim)) | inr none ↦ none ];
@@ -121,13 +121,13 @@ binned_same stays regions word old new sound sound' others same moves victim b =
 }) b
 
 -- so they do where the heap moved with no region more
-abbrev pub binned_beside : IndexStays → {A : Type 0} (regions : A → List Grant) (word : A → ℕ → ℕ) (follows : A → List Event → A → Type 0) (old new : Dlmalloc A) → IsSound regions word old → IsMoved regions word follows old new → new.bins ≡ old.bins →
+abbrev pub binned_beside : IndexStays → {A : Type 0} {regions : A → List Grant} {word : A → ℕ → ℕ} {follows : A → List Event → A → Type 0} {old new : Dlmalloc A} → IsSound regions word old → IsMoved regions word follows old new → new.bins ≡ old.bins →
     FreeMoves (state_of word old) (state_of word new) [] [] → new.victim ≡ old.victim → IsBinned regions word old → IsBinned regions word new
-binned_beside stays regions word follows old new sound moved = binned_same stays regions word old new sound moved.sound (λ k was is boundary tag tag'. moved.words k was boundary)
+binned_beside stays sound moved = binned_same stays sound moved.sound (λ k was is boundary tag tag'. moved.words k was boundary)
 
 -- the countdown and the trim check do not matter
-abbrev pub same_bins : {A : Type 0} (regions : A → List Grant) (word : A → ℕ → ℕ) (heap : Dlmalloc A) (countdown : ℕ) → IsBinned regions word heap → IsBinned regions word (record heap { countdown = countdown })
-same_bins regions word heap countdown b = record { index = b.index; linked = b.linked; holds = record { all = b.holds.all; free = b.holds.free; no_victim = b.holds.no_victim; not_loose = b.holds.not_loose } }
+abbrev pub same_bins : {A : Type 0} {regions : A → List Grant} {word : A → ℕ → ℕ} {heap : Dlmalloc A} (countdown : ℕ) → IsBinned regions word heap → IsBinned regions word (record heap { countdown = countdown })
+same_bins countdown b = record { index = b.index; linked = b.linked; holds = record { all = b.holds.all; free = b.holds.free; no_victim = b.holds.no_victim; not_loose = b.holds.not_loose } }
 
-abbrev pub same_check : {A : Type 0} (regions : A → List Grant) (word : A → ℕ → ℕ) (heap : Dlmalloc A) (check : ℕ) → IsBinned regions word heap → IsBinned regions word (record heap { trim_check = check })
-same_check regions word heap check b = record { index = b.index; linked = b.linked; holds = record { all = b.holds.all; free = b.holds.free; no_victim = b.holds.no_victim; not_loose = b.holds.not_loose } }
+abbrev pub same_check : {A : Type 0} {regions : A → List Grant} {word : A → ℕ → ℕ} {heap : Dlmalloc A} (check : ℕ) → IsBinned regions word heap → IsBinned regions word (record heap { trim_check = check })
+same_check check b = record { index = b.index; linked = b.linked; holds = record { all = b.holds.all; free = b.holds.free; no_victim = b.holds.no_victim; not_loose = b.holds.not_loose } }

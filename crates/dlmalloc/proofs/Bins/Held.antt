@@ -87,8 +87,8 @@ module _ (size chunk : ℕ) (index : ℕ → List ℕ) where
       go false test there = (let no : (n == size) ≡ true = (let e = same in grind (arith, nat_tests)) in cc)
 
 -- a free extent has one size
-pub one_size : (heap : HeapState) (at size other : ℕ) → IsFreeAt heap at size → IsFreeAt heap at other → size ≡ other
-one_size heap at size other one two = ap (λ (e : Extent). e.size) (the_extent (sym one ∙ two))
+pub one_size : (heap : HeapState) {at size other : ℕ} → IsFreeAt heap at size → IsFreeAt heap at other → size ≡ other
+one_size heap one two = ap (λ (e : Extent). e.size) (the_extent (sym one ∙ two))
 
 -- ---- which extents are in no bin
 
@@ -131,7 +131,7 @@ module _ (loose : List ℕ) (heap : HeapState) (index : ℕ → List ℕ) (at : 
       go : (k n : ℕ) → IsFreeAt heap k n → k ≢ heap.victim → (IsIn k loose → ⊥) → (b : Bool) → (k == at) ≡ b → IsIn k (with_chunk size at index n)
       go k n free other apart true test =
           let same = nat_is test in
-          subst (λ (a : ℕ). IsIn a (with_chunk size at index n)) (sym same) (with_it size at index n (one_size heap at n size (subst (λ (a : ℕ). IsFreeAt heap a n) same free) is_free))
+          subst (λ (a : ℕ). IsIn a (with_chunk size at index n)) (sym same) (with_it size at index n (one_size heap (subst (λ (a : ℕ). IsFreeAt heap a n) same free) is_free))
       go k n free other apart false test = in_with size at index k n (h.all k n free other out)
         where
           out : (k ≡ at) ⊎ IsIn k loose → ⊥
@@ -150,7 +150,7 @@ module _ (loose : List ℕ) (heap : HeapState) (index : ℕ → List ℕ) (at : 
       apart : (k n : ℕ) → IsIn k (without_chunk size at index n) → (k ≡ at) ⊎ IsIn k loose → ⊥
       apart k n is (inl same) =
           let here = subst (λ (a : ℕ). IsIn a (without_chunk size at index n)) same is in
-          none_without size at index n (distinct n) here (one_size heap at n size (h.free at n (of_without size at index at n here)) is_free)
+          none_without size at index n (distinct n) here (one_size heap (h.free at n (of_without size at index at n here)) is_free)
       apart k n is (inr later) = h.not_loose k n (of_without size at index k n is) later
 
 -- ---- the heap moves
@@ -162,7 +162,7 @@ pub record AreAccounted (old new : HeapState) (loose loose' less more : List ℕ
   pub still : (k : ℕ) → (IsIn k less → ⊥) → (k ≡ old.victim) ⊎ IsIn k loose → (size : ℕ) → IsFreeAt new k size → k ≢ new.victim → IsIn k loose'
   pub from : (k : ℕ) → (IsIn k more → ⊥) → (k ≡ new.victim) ⊎ IsIn k loose' → (size : ℕ) → IsFreeAt old k size → k ≢ old.victim → IsIn k loose
 
-module _ (old new : HeapState) (loose loose' less more : List ℕ) (index : ℕ → List ℕ) (h : HoldsBut loose old index) (moves : FreeMoves old new less more) (are : AreAccounted old new loose loose' less more) where
+module _ {old new : HeapState} {loose loose' less more : List ℕ} {index : ℕ → List ℕ} (h : HoldsBut loose old index) (moves : FreeMoves old new less more) (are : AreAccounted old new loose loose' less more) where
   -- what the index has is free as before
   pub still_free : (at size : ℕ) → IsIn at (index size) → IsFreeAt new at size × (IsIn at more → ⊥)
   still_free at size is = moves.stays at size (h.free at size is) (λ left. h.not_loose at size is (are.gone at left size (h.free at size is) (h.no_victim at size is)))

@@ -50,9 +50,9 @@ least_none n sizes few = go (least_from n sizes) (least_of n sizes)
 
 -- ---- the sizes of binned extents
 
-found_among : (k : ℕ) (extents : List Extent) (one : Extent) → extent_at k extents ≡ Some one → IsAmong one extents
-found_among k [] one there = absurd (cc)
-found_among k (first ∷ extents) one there = go (first.at == k) there (found_among k extents one)
+found_among : (k : ℕ) (extents : List Extent) {one : Extent} → extent_at k extents ≡ Some one → IsAmong one extents
+found_among k [] there = absurd (cc)
+found_among k (first ∷ extents) {one} there = go (first.at == k) there (found_among k extents)
   where
     go : (b : Bool) → (if b then Some first else extent_at k extents) ≡ Some one → (extent_at k extents ≡ Some one → IsAmong one extents) → (first ≡ one) ⊎ IsAmong one extents
     go true is rest = inl (the_extent is)
@@ -108,7 +108,7 @@ and_second true true is = sym is
 and_second true false is = refl
 and_second false b is = absurd (cc)
 
-module _ {A : Type 0} (regions : A → List Grant) (word : A → ℕ → ℕ) (heap : Dlmalloc A) (sound : IsSound regions word heap) (b : IsBinned regions word heap) (n : ℕ) where
+module _ {A : Type 0} {regions : A → List Grant} {word : A → ℕ → ℕ} {heap : Dlmalloc A} (sound : IsSound regions word heap) (b : IsBinned regions word heap) (n : ℕ) where
   abbrev state : HeapState
   state = state_of word heap
 
@@ -120,7 +120,7 @@ module _ {A : Type 0} (regions : A → List Grant) (word : A → ℕ → ℕ) (h
   of_index size is =
       let o = of_sizes state (extents_in state) size is in
       let there = among_found o.one (extents_in state) distinct o.among in
-      let s = stands_there (regions heap.system) (word heap.system) (segments_of word heap) sound.segments o.one there in
+      let s = stands_there (regions heap.system) (word heap.system) (segments_of word heap) sound.segments there in
       let free : o.one.kind ≡ Free = plain_free s.0 o.one.kind s.1.kind (and_first (is_free_below_top o.one.kind) (not (o.one.at == heap.victim)) o.binned) in
       let test : (o.one.at == heap.victim) ≡ false = and_second (is_free_below_top o.one.kind) (o.one.at == heap.victim) o.binned in
       let found : IsFreeAt state o.one.at size = there ∙ (λ i. Some (extent o.one.at (o.is i) (free i))) in
@@ -131,7 +131,7 @@ module _ {A : Type 0} (regions : A → List Grant) (word : A → ℕ → ℕ) (h
   none_in (first ∷ chunks) at none is = (let no = none in cc)
 
   -- a least fit of the index is the least binned extent
-  module _ (chunk : ℕ) (fit : IsLeastFit b.index n chunk) where
+  module _ {chunk : ℕ} (fit : IsLeastFit b.index n chunk) where
     pub fit_free : IsFreeAt state chunk fit.size
     fit_free = b.holds.free chunk fit.size fit.binned
 
@@ -142,7 +142,7 @@ module _ {A : Type 0} (regions : A → List Grant) (word : A → ℕ → ℕ) (h
     fit_least =
         let test : (chunk == heap.victim) ≡ false = (let o = fit_other in grind (arith, nat_tests)) in
         let binned : is_binned state (extent chunk fit.size Free) ≡ true = rw test refl in
-        least_is n (binned_sizes state (extents_in state)) fit.size (in_sizes state (extents_in state) (extent chunk fit.size Free) (found_among chunk (extents_in state) (extent chunk fit.size Free) fit_free) binned) fit.enough
+        least_is n (binned_sizes state (extents_in state)) fit.size (in_sizes state (extents_in state) (extent chunk fit.size Free) (found_among chunk (extents_in state) fit_free) binned) fit.enough
         (λ other is enough. elim (dec_lt other fit.size) [
           | yes less ↦ absurd (let i = of_index other is in none_in (b.index other) i.0 (fit.least other enough less) i.1)
           | no more ↦ omega arith
@@ -152,5 +152,5 @@ module _ {A : Type 0} (regions : A → List Grant) (word : A → ℕ → ℕ) (h
   pub fit_none : IsNone b.index n (2 ^ 64) → least_fit state n ≡ None
   fit_none none = least_none n (binned_sizes state (extents_in state)) (λ size is. elim (dec_lt size n) [
     | yes less ↦ less
-    | no more ↦ absurd (let i = of_index size is in let c = is_chunk regions word heap sound i.0 size (b.holds.free i.0 size i.1) in let high = c.high in none_in (b.index size) i.0 (none size (omega arith) (omega arith)) i.1)
+    | no more ↦ absurd (let i = of_index size is in let c = is_chunk sound (b.holds.free i.0 size i.1) in let high = c.high in none_in (b.index size) i.0 (none size (omega arith) (omega arith)) i.1)
   ])

@@ -15,8 +15,8 @@ module _ {A : Type 0} (regions : A → List Grant) (word : A → ℕ → ℕ) (h
   none_member n none (Err e) = tt
 
   -- a block behind its chunk's head
-  pub member_behind : (n size chunk : ℕ) → n ≡ padded size → IsMemberChosen regions word heap n chunk → IsMemberChosen regions word heap (padded size) (chunk + 16 - 16)
-  member_behind n size chunk is member fit chosen_is =
+  pub member_behind : {n : ℕ} (size chunk : ℕ) → n ≡ padded size → IsMemberChosen regions word heap n chunk → IsMemberChosen regions word heap (padded size) (chunk + 16 - 16)
+  member_behind size chunk is member fit chosen_is =
       let back : chunk ≡ chunk + 16 - 16 = omega arith in
       subst (λ (a : ℕ). IsMember regions word heap (padded size) a) back
       (subst (λ (m : ℕ). IsMember regions word heap m chunk) is (member fit (subst (λ (m : ℕ). chosen (state_of word heap) m ≡ Some (OfBins fit)) (sym is) chosen_is)))
@@ -33,8 +33,8 @@ module _ {A : Type 0} (regions : A → List Grant) (word : A → ℕ → ℕ) (h
       )
 
   -- above it, at the aligned place in it
-  pub member_high : (size align n block place : ℕ) → 16 < align → n ≡ enlarged size align → place ≡ aligned_place (block - 16) align → IsMemberChosen regions word heap (padded n) (block - 16) → IsMemberServed regions word heap size align (place + 16)
-  member_high size align n block place many is aligned_is member fit chosen_is =
+  pub member_high : (size align : ℕ) {n : ℕ} (block : ℕ) {place : ℕ} → 16 < align → n ≡ enlarged size align → place ≡ aligned_place (block - 16) align → IsMemberChosen regions word heap (padded n) (block - 16) → IsMemberServed regions word heap size align (place + 16)
+  member_high size align block many is aligned_is member fit chosen_is =
       let same = sym (asked_high size align many) ∙ sym is in (
         block - 16,
         subst (λ (m : ℕ). IsMember regions word heap (padded m) (block - 16)) (sym same) (member fit (subst (λ (m : ℕ). chosen (state_of word heap) (padded m) ≡ Some (OfBins fit)) same chosen_is)),

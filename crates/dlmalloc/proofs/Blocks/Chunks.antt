@@ -34,19 +34,19 @@ module _ {A : Type 0} (regions : A → List Grant) (word : A → ℕ → ℕ) (h
   -- its head tells the chunk's size
   pub block_chunk : (told : ℕ) → told ≡ size_of (word heap.system (ptr - 16 + 8)) → extent_at (ptr - 16) (extents_in (state_of word heap)) ≡ Some (extent (ptr - 16) told Used)
   block_chunk told is =
-      let l = located block.extent.at block.extent (segments_of word heap) there in
-      let p = of_located (IsSegment (regions heap.system) (word heap.system)) block.extent.at block.extent (segments_of word heap) l sound.segments in
-      let s = standing (word heap.system) Used l.segment.base l.segment.extents (l.segment.base + l.segment.size) block.extent p.extents p.tail l.there block.used in
+      let l = located block.extent.at (segments_of word heap) there in
+      let p = of_located (IsSegment (regions heap.system) (word heap.system)) l sound.segments in
+      let s = standing (word heap.system) Used l.segment.base l.segment.extents (l.segment.base + l.segment.size) p.extents p.tail l.there block.used in
       let sizes : told ≡ block.extent.size = is ∙ (ap (λ (a : ℕ). size_of (word heap.system (a + 8))) (sym place) ∙ (ap size_of s.head ∙ size_of-head_of block.extent.size s.before true (omega (arith, s.size_whole)))) in
       block.there ∙ (λ i. Some (same_extent {at = block.extent.at} {at' = ptr - 16} {size = block.extent.size} {size' = told} {kind = block.extent.kind} {kind' = Used} place (sym sizes) block.used i))
 
 -- a block was freed
-pub freed_block : {A : Type 0} (regions : A → List Grant) (word : A → ℕ → ℕ) (follows : A → List Event → A → Type 0) (old new : Dlmalloc A) (ptr : ℕ) → IsSound regions word old → state_of word new ≡ freed (state_of word old) (ptr - 16) →
+pub freed_block : {A : Type 0} {regions : A → List Grant} {word : A → ℕ → ℕ} {follows : A → List Event → A → Type 0} {old new : Dlmalloc A} (ptr : ℕ) → IsSound regions word old → state_of word new ≡ freed (state_of word old) (ptr - 16) →
     HasOneMore (state_of word new) (state_of word old) (ptr - 16) → IsTurned regions word follows old new → KeepsOrder regions word old new → IsDisposed regions word follows old ptr new
-freed_block regions word follows old new ptr sound state less moved order = record {
+freed_block {word} {new} ptr sound state less moved order = record {
   state = state;
   less = less;
-  kept = blocks_law regions word old new sound moved.sound moved.words (extents_in (state_of word new)) (λ block there used. (less.kept block used there, there));
+  kept = blocks_law sound moved.sound moved.words (extents_in (state_of word new)) (λ block there used. (less.kept block used there, there));
   words = moved.words;
   sound = moved.sound;
   regions_same = moved.regions_same;
@@ -55,8 +55,8 @@ freed_block regions word follows old new ptr sound state less moved order = reco
 }
 
 -- two blocks are apart, and from each other's head
-pub blocks_apart : {A : Type 0} (regions : A → List Grant) (word : A → ℕ → ℕ) (heap : Dlmalloc A) → IsSound regions word heap → BlocksAreApart (state_of word heap)
-blocks_apart regions word heap sound a m b n one two differ =
+pub blocks_apart : {A : Type 0} {regions : A → List Grant} {word : A → ℕ → ℕ} {heap : Dlmalloc A} → IsSound regions word heap → BlocksAreApart (state_of word heap)
+blocks_apart {regions} {word} {heap} sound a m b n one two differ =
     let at_a = place regions word heap sound a m one in
     let at_b = place regions word heap sound b n two in
     let long_a = (inside regions word heap sound a m one).long in

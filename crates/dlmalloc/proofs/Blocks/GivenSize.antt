@@ -8,8 +8,8 @@ use Rattle.dlmalloc.proofs.Blocks.HandedOut.{spans_changed, asked_low, handed_lo
 
 -- ---- resizing in place leaves the segments where they are
 
-spans_resized : (heap new : HeapState) (at n : ℕ) → in_place heap at n ≡ Some new → (spans new ≡ spans heap) × (new.granularity ≡ heap.granularity)
-spans_resized heap new at n is = first (extent_at at (extents_in heap)) refl
+spans_resized : (heap : HeapState) {new : HeapState} (at n : ℕ) → in_place heap at n ≡ Some new → (spans new ≡ spans heap) × (new.granularity ≡ heap.granularity)
+spans_resized heap {new} at n is = first (extent_at at (extents_in heap)) refl
   where
     told : (state : HeapState) → in_place heap at n ≡ Some state → (spans state ≡ spans heap) × (state.granularity ≡ heap.granularity) → (spans new ≡ spans heap) × (new.granularity ≡ heap.granularity)
     told state that h = let one : state ≡ new = (let both : Some state ≡ Some new = sym that ∙ is in cc) in subst (λ (s : HeapState). (spans s ≡ spans heap) × (s.granularity ≡ heap.granularity)) one h
@@ -56,14 +56,14 @@ module _ {A : Type 0} (regions : A → List Grant) (word : A → ℕ → ℕ) (h
 
 -- ---- a block with another size
 
-module _ {A : Type 0} (regions : A → List Grant) (word : A → ℕ → ℕ) (zeros : A → Bool) (follows : A → List Event → A → Type 0) (on : (x y z : A) (a b c : List Event) → follows x a y → follows y b z → a ++ b ≡ c → follows x c z) (frees parts : Bool) (unit : ℕ)
-    (old new : Dlmalloc A) (from held align size address n : ℕ) (sound : IsSound regions word old) (power : IsPowerOfTwo align) (block : IsBlock (state_of word old) from n) where
+module _ {A : Type 0} {regions : A → List Grant} {word : A → ℕ → ℕ} (zeros : A → Bool) (follows : A → List Event → A → Type 0) (on : (x y z : A) (a b c : List Event) → follows x a y → follows y b z → a ++ b ≡ c → follows x c z) (frees parts : Bool) (unit : ℕ)
+    {old : Dlmalloc A} (new : Dlmalloc A) {from : ℕ} (held align size address : ℕ) {n : ℕ} (sound : IsSound regions word old) (power : IsPowerOfTwo align) (block : IsBlock (state_of word old) from n) where
   given_here : align ≤ 16 → address ≡ from → IsInPlace regions word follows old from held size new → IsGivenSize regions word follows frees parts unit old from held align size address new
   given_here few same out = record {
     middle = new;
     found = inl (still.0, out.moved.followed, out.moved.regions_same);
     between = out.moved.sound;
-    still = λ grant with_it. absurd (with_other grant (regions old.system) (sym with_it ∙ out.moved.regions_same));
+    still = λ grant with_it. absurd (with_other grant (sym with_it ∙ out.moved.regions_same));
     here = λ is. (refl, out.moved.followed);
     elsewhere = λ differs. absurd (differs same);
     granularity = still.1;
@@ -88,7 +88,7 @@ module _ {A : Type 0} (regions : A → List Grant) (word : A → ℕ → ℕ) (z
       there_now = subst (λ (a : ℕ). IsBlock (state_of word new) a size) (sym same) out.block
 
       still : (spans (state_of word new) ≡ spans (state_of word old)) × (new.granularity ≡ old.granularity)
-      still = spans_resized (state_of word old) (state_of word new) (from - 16) (padded size) out.state
+      still = spans_resized (state_of word old) (from - 16) (padded size) out.state
 
   module _ (out : IsElsewhere regions word zeros follows frees parts unit old from held align size address new) where
     handed : IsHandedOut regions word follows old size align address out.middle
@@ -98,11 +98,11 @@ module _ {A : Type 0} (regions : A → List Grant) (word : A → ℕ → ℕ) (z
     ]
 
     -- what is in use as the block is handed out is what is in use as its words are filled
-    filled : (k : ℕ) (one : Extent) → extent_at k (extents_in (state_of word out.middle)) ≡ Some one → extent_at k (extents_in (state_of word out.filled)) ≡ Some one
-    filled k one is = ap (λ (s : HeapState). extent_at k (extents_in s)) out.same.state ∙ is
+    filled : (k : ℕ) {one : Extent} → extent_at k (extents_in (state_of word out.middle)) ≡ Some one → extent_at k (extents_in (state_of word out.filled)) ≡ Some one
+    filled k is = ap (λ (s : HeapState). extent_at k (extents_in s)) out.same.state ∙ is
 
-    unfilled : (k : ℕ) (one : Extent) → extent_at k (extents_in (state_of word out.filled)) ≡ Some one → extent_at k (extents_in (state_of word out.middle)) ≡ Some one
-    unfilled k one is = ap (λ (s : HeapState). extent_at k (extents_in s)) (sym out.same.state) ∙ is
+    unfilled : (k : ℕ) {one : Extent} → extent_at k (extents_in (state_of word out.filled)) ≡ Some one → extent_at k (extents_in (state_of word out.middle)) ≡ Some one
+    unfilled k is = ap (λ (s : HeapState). extent_at k (extents_in s)) (sym out.same.state) ∙ is
 
     there_before : extent_at block.extent.at (extents_in (state_of word old)) ≡ Some block.extent
     there_before = there regions word old sound from n block
@@ -118,7 +118,7 @@ module _ {A : Type 0} (regions : A → List Grant) (word : A → ℕ → ℕ) (z
         | inr there ↦ inr (there.0, there.1, there.2, ap spans out.same.state ∙ there.3, on old.system out.middle.system out.filled.system _ [] _ there.4 out.same.followed refl, out.same.regions_same ∙ there.5)
       ];
       between = out.same.sound;
-      still = still_granted regions word zeros follows frees parts unit old new from held align size address n sound power block out;
+      still = still_granted sound power block out;
       here = λ same. absurd (handed.more.new block.extent block.used there_before (omega (arith, place_before, same)));
       elsewhere = λ differs. out.freed;
       granularity = out.freed.granularity ∙ (ap (λ (h : HeapState). h.granularity) out.same.state ∙ handed.granularity);
@@ -129,8 +129,8 @@ module _ {A : Type 0} (regions : A → List Grant) (word : A → ℕ → ℕ) (z
       aligned = handed.aligned;
       granted = bytes_granted regions word new out.freed.sound address size out.block;
       moved = record {
-        kept = λ used is other there. out.freed.less.only used is (filled used.at used (handed.more.kept used is there)) other;
-        only = λ used is other there. handed.more.only used is (unfilled used.at used (out.freed.less.kept used is there)) other;
+        kept = λ used is other there. out.freed.less.only used is (filled used.at (handed.more.kept used is there)) other;
+        only = λ used is other there. handed.more.only used is (unfilled used.at (out.freed.less.kept used is there)) other;
         apart = λ used is other there. handed.more.new used is there;
         gone = λ used is other there. out.freed.less.new used is there;
       };
@@ -146,10 +146,10 @@ module _ {A : Type 0} (regions : A → List Grant) (word : A → ℕ → ℕ) (z
 -- ---- a block that is cleared
 
 -- A block is handed out still, where no word but its own is written.
-pub handed_written : {A : Type 0} (regions : A → List Grant) (word : A → ℕ → ℕ) (follows : A → List Event → A → Type 0) → ((x y z : A) (a b c : List Event) → follows x a y → follows y b z → a ++ b ≡ c → follows x c z) →
-    (old middle new : Dlmalloc A) (size align address : ℕ) → IsHandedOut regions word follows old size align address middle → IsSameHeap regions word follows middle new →
+pub handed_written : {A : Type 0} {regions : A → List Grant} {word : A → ℕ → ℕ} {follows : A → List Event → A → Type 0} → ((x y z : A) (a b c : List Event) → follows x a y → follows y b z → a ++ b ≡ c → follows x c z) →
+    {old : Dlmalloc A} (middle : Dlmalloc A) {new : Dlmalloc A} {size align address : ℕ} → IsHandedOut regions word follows old size align address middle → IsSameHeap regions word follows middle new →
     ((k : ℕ) → IsWordOf (regions middle.system) k → IsBeside address (words_in size) k → word new.system k ≡ word middle.system k) → IsHandedOut regions word follows old size align address new
-handed_written {A} regions word follows on old middle new size align address handed same elsewhere = record {
+handed_written {regions} {word} on {old} middle {new} {size} {address} handed same elsewhere = record {
   found = elim handed.found [
     | inl here ↦ inl (ap spans same.state ∙ here.0, on old.system middle.system new.system [] [] [] here.1 same.followed refl, same.regions_same ∙ here.2)
     | inr there ↦ inr (there.0, there.1, there.2, ap spans same.state ∙ there.3, on old.system middle.system new.system _ [] _ there.4 same.followed refl, same.regions_same ∙ there.5)

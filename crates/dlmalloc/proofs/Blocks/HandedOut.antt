@@ -88,15 +88,15 @@ asked_high size align many = let test : nat_le align 16 ≡ false = grind (arith
 
 module _ {A : Type 0} (regions : A → List Grant) (word : A → ℕ → ℕ) (zeros : A → Bool) (follows : A → List Event → A → Type 0) (old new : Dlmalloc A) (size align address : ℕ) where
   -- where a region was granted, they are those that it makes
-  pub spans_new : (n at : ℕ) (grant : Grant) (new : HeapState) → IsTakenFromGrant (state_of word old) n at grant new → spans new ≡ spans (granted grant n (state_of word old))
-  spans_new n at grant new is = go (is_put_before grant (state_of word old).segments) refl
+  pub spans_new : {n at : ℕ} {grant : Grant} {new : HeapState} → IsTakenFromGrant (state_of word old) n at grant new → spans new ≡ spans (granted grant n (state_of word old))
+  spans_new {n} {grant} {new} is = go (is_put_before grant (state_of word old).segments) refl
     where
       go : (b : Bool) → is_put_before grant (state_of word old).segments ≡ b → spans new ≡ spans (granted grant n (state_of word old))
       go true before = ap spans (is.of_grant before).1
       go false apart = let top = is.of_top apart in ap spans top.state ∙ spans_changed (replaced top.top.at (cut n)) (granted grant n (state_of word old)).segments
 
-  granularity_new : (n at : ℕ) (grant : Grant) (new : HeapState) → IsTakenFromGrant (state_of word old) n at grant new → new.granularity ≡ old.granularity
-  granularity_new n at grant new is = go (is_put_before grant (state_of word old).segments) refl
+  granularity_new : {n at : ℕ} (grant : Grant) {new : HeapState} → IsTakenFromGrant (state_of word old) n at grant new → new.granularity ≡ old.granularity
+  granularity_new {n} grant {new} is = go (is_put_before grant (state_of word old).segments) refl
     where
       granted_same : (granted grant n (state_of word old)).granularity ≡ old.granularity
       granted_same = let h = state_of word old in granularity_granted h.segments h.victim h.granularity h.rate h.countdown h.trim_check grant n
@@ -105,22 +105,22 @@ module _ {A : Type 0} (regions : A → List Grant) (word : A → ℕ → ℕ) (z
       go true before = ap (λ (h : HeapState). h.granularity) (is.of_grant before).1 ∙ granted_same
       go false apart = ap (λ (h : HeapState). h.granularity) (is.of_top apart).state ∙ granted_same
 
-  found_served : (n : ℕ) (at : ℕ) (middle : Dlmalloc A) → IsServed regions word zeros follows old n at middle → IsFound follows regions old.system (state_of word old) (padded n) middle.system (state_of word middle)
-  found_served n at middle served = elim served.cut [
+  found_served : {n : ℕ} {at : ℕ} {middle : Dlmalloc A} → IsServed regions word zeros follows old n at middle → IsFound follows regions old.system (state_of word old) (padded n) middle.system (state_of word middle)
+  found_served {n} served = elim served.cut [
     | inl here ↦ inl (ap spans here.0.state ∙ spans_changed (replaced here.0.extent.at (cut (padded n))) (state_of word old).segments, here.1, here.2)
-    | inr there ↦ inr (there.0, there.1.none_chosen, there.1.full, spans_new (padded n) (at - 16) there.0 (state_of word middle) there.1, there.2, there.3)
+    | inr there ↦ inr (there.0, there.1.none_chosen, there.1.full, spans_new there.1, there.2, there.3)
   ]
 
-  granularity_served : (n : ℕ) (at : ℕ) (middle : Dlmalloc A) → IsServed regions word zeros follows old n at middle → middle.granularity ≡ old.granularity
-  granularity_served n at middle served = elim served.cut [
+  granularity_served : {n : ℕ} {at : ℕ} {middle : Dlmalloc A} → IsServed regions word zeros follows old n at middle → middle.granularity ≡ old.granularity
+  granularity_served served = elim served.cut [
     | inl here ↦ ap (λ (h : HeapState). h.granularity) here.0.state
-    | inr there ↦ granularity_new (padded n) (at - 16) there.0 (state_of word middle) there.1
+    | inr there ↦ granularity_new there.0 there.1
   ]
 
   pub handed_low : IsPowerOfTwo align → align ≤ 16 → IsServed regions word zeros follows old size address new → IsHandedOut regions word follows old size align address new
   handed_low power few served = record {
-    found = subst (λ (n : ℕ). IsFound follows regions old.system (state_of word old) (padded n) new.system (state_of word new)) (asked_low size align few) (found_served size address new served);
-    granularity = granularity_served size address new served;
+    found = subst (λ (n : ℕ). IsFound follows regions old.system (state_of word old) (padded n) new.system (state_of word new)) (asked_low size align few) (found_served served);
+    granularity = granularity_served served;
     small = subst (λ (n : ℕ). n < limit old.granularity) (asked_low size align few) served.small;
     low = served.low;
     block = served.block;
@@ -135,7 +135,7 @@ module _ {A : Type 0} (regions : A → List Grant) (word : A → ℕ → ℕ) (z
   pub handed_high : 16 < align → ((x y z : A) (a b c : List Event) → follows x a y → follows y b z → a ++ b ≡ c → follows x c z) → IsServedAligned regions word zeros follows old size align address new → IsHandedOut regions word follows old size align address new
   handed_high many on out = record {
     found = subst (λ (n : ℕ). IsFound follows regions old.system (state_of word old) (padded n) new.system (state_of word new)) (asked_high size align many) found;
-    granularity = ap (λ (h : HeapState). h.granularity) out.state ∙ (granularity_aligned (state_of word out.middle) (out.greater - 16) align (padded size) ∙ granularity_served (enlarged size align) out.greater out.middle out.served);
+    granularity = ap (λ (h : HeapState). h.granularity) out.state ∙ (granularity_aligned (state_of word out.middle) (out.greater - 16) align (padded size) ∙ granularity_served out.served);
     small = subst (λ (n : ℕ). n < limit old.granularity) (asked_high size align many) out.served.small;
     low = out.low;
     block = out.block;
@@ -151,7 +151,7 @@ module _ {A : Type 0} (regions : A → List Grant) (word : A → ℕ → ℕ) (z
       stay = ap spans out.state ∙ spans_aligned (state_of word out.middle) (out.greater - 16) align (padded size)
 
       found : IsFound follows regions old.system (state_of word old) (padded (enlarged size align)) new.system (state_of word new)
-      found = elim (found_served (enlarged size align) out.greater out.middle out.served) [
+      found = elim (found_served out.served) [
         | inl here ↦ inl (stay ∙ here.0, on old.system out.middle.system new.system [] [] [] here.1 out.followed refl, out.regions_same ∙ here.2)
         | inr there ↦ inr (there.0, there.1, there.2, stay ∙ there.3, on old.system out.middle.system new.system _ [] _ there.4 out.followed refl, out.regions_same ∙ there.5)
       ]

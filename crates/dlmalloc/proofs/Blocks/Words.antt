@@ -4,7 +4,7 @@ use Rattle.dlmalloc.proofs.Extents.Lookup.{found}
 use Rattle.dlmalloc.proofs.Laws.{used_inside, same_regions}
 use Rattle.dlmalloc.proofs.Blocks.WordsOutside.{still_sound, still_state, still_binned}
 
-module _ {A : Type 0} (regions : A → List Grant) (word : A → ℕ → ℕ) (heap : Dlmalloc A) (sound : IsSound regions word heap) (address size : ℕ) (block : IsBlock (state_of word heap) address size) where
+module _ {A : Type 0} {regions : A → List Grant} {word : A → ℕ → ℕ} {heap : Dlmalloc A} (sound : IsSound regions word heap) {address size : ℕ} (block : IsBlock (state_of word heap) address size) where
   place : block.extent.at ≡ address - 16
   place = (found (address - 16) block.extent (extents_in (state_of word heap)) block.there).place
 
@@ -40,15 +40,15 @@ module _ {A : Type 0} (regions : A → List Grant) (word : A → ℕ → ℕ) (h
       let outside = only_block n less (word system) elsewhere in
       let stay = same_regions regions word heap sound system same in
       record {
-        state = still_state regions word heap sound system stay outside;
-        sound = still_sound regions word heap sound system stay outside;
+        state = still_state sound system stay outside;
+        sound = still_sound sound system stay outside;
         regions_same = same;
         followed = followed;
       }
 
   abbrev pub same_binned : IndexStays → (n : ℕ) → n ≤ size → (system : A) → regions system ≡ regions heap.system →
       ((other : ℕ) → IsWordOf (regions heap.system) other → IsBeside address (words_in n) other → word system other ≡ word heap.system other) → IsBinned regions word heap → IsBinned regions word (record heap { system = system })
-  same_binned stays n less system same elsewhere = still_binned regions word heap sound system (same_regions regions word heap sound system same) (only_block n less (word system) elsewhere) stays
+  same_binned stays n less system same elsewhere = still_binned sound system (same_regions regions word heap sound system same) (only_block n less (word system) elsewhere) stays
 
 -- a block that was handed out is one of a sound heap
 pub served_block : {A : Type 0} (regions : A → List Grant) (word : A → ℕ → ℕ) (zeros : A → Bool) (follows : A → List Event → A → Type 0) (old : Dlmalloc A) (size align address : ℕ) (new : Dlmalloc A) →

@@ -45,13 +45,13 @@ others_apart segment (region ∷ regions) all = go (meets segment region) refl a
     go true test all rest = (all.0, rest all.1)
     go false test all rest = (inl (grind (arith, nat_tests)), rest all)
 
-run_kept : (segment : Segment) (old new : List Grant) → regions_in segment new ≡ regions_in segment old → IsRun old segment.base segment.size segment.flags → IsRun new segment.base segment.size segment.flags
-run_kept segment old new same run = record {
+run_kept : (segment : Segment) {old : List Grant} (new : List Grant) → regions_in segment new ≡ regions_in segment old → IsRun old segment.base segment.size segment.flags → IsRun new segment.base segment.size segment.flags
+run_kept segment {old} new same run = record {
   covered = λ k low high. sym (granted_in segment new k low high) ∙ (ap (λ (rs : List Grant). is_granted rs k) same ∙ (granted_in segment old k low high ∙ run.covered k low high));
   whole = others_apart segment new (subst (AllByRecursion (λ (region : Grant). IsOfRun segment region)) (sym same) (those_in (IsOfRun segment) segment old run.whole));
 }
 
-module _ {A : Type 0} (regions : A → List Grant) (word : A → ℕ → ℕ) (heap : Dlmalloc A) (sound : IsSound regions word heap) (system : A)
+module _ {A : Type 0} {regions : A → List Grant} {word : A → ℕ → ℕ} {heap : Dlmalloc A} (sound : IsSound regions word heap) (system : A)
     (stay : KeepsRegions (segments_of word heap) (regions heap.system) (regions system))
     (outside : OnlyBlocksChange (regions heap.system) (state_of word heap) (word heap.system) (word system)) where
   -- a word that an extent rests on stays
@@ -74,8 +74,8 @@ module _ {A : Type 0} (regions : A → List Grant) (word : A → ℕ → ℕ) (h
       go used used_is found true test = of_used used used_is (the_extent (sym found ∙ (ap (λ (a : ℕ). extent_at a (extents_all (segments_of word heap))) (nat_is test) ∙ there)))
       go used used_is found false other =
           let above = tells.0 in let below = tells.1 in let m = tells.2 in
-          let whole = (stands_there (regions heap.system) (word heap.system) (segments_of word heap) sound.segments one there).1.whole in
-          elim (beside (regions heap.system) (word heap.system) (segments_of word heap) sound.segments sound.apart used one found there (λ same. (let t : (used.at == one.at) ≡ true = grind (arith, nat_tests) in cc))) [
+          let whole = (stands_there (regions heap.system) (word heap.system) (segments_of word heap) sound.segments there).1.whole in
+          elim (beside (regions heap.system) (word heap.system) (segments_of word heap) sound.segments sound.apart found there (λ same. (let t : (used.at == one.at) ≡ true = grind (arith, nat_tests) in cc))) [
             | inl before ↦ inr (omega arith)
             | inr behind ↦ inl (omega arith)
           ]
@@ -83,25 +83,25 @@ module _ {A : Type 0} (regions : A → List Grant) (word : A → ℕ → ℕ) (h
   runs : (segments : List Segment) → KeepsRegions segments (regions heap.system) (regions system) →
       AllByRecursion (λ (segment : Segment). IsRun (regions heap.system) segment.base segment.size segment.flags → IsRun (regions system) segment.base segment.size segment.flags) segments
   runs [] stay = tt
-  runs (segment ∷ segments) stay = ((λ run. run_kept segment (regions heap.system) (regions system) stay.0 run), runs segments stay.1)
+  runs (segment ∷ segments) stay = ((λ run. run_kept segment (regions system) stay.0 run), runs segments stay.1)
 
   pub still_sound : IsSound regions word (record heap { system = system })
-  still_sound = sound_told regions word heap sound system heap.bins (runs (segments_of word heap) stay) same
+  still_sound = sound_told sound system heap.bins (runs (segments_of word heap) stay) same
 
   pub still_state : state_of word (record heap { system = system }) ≡ state_of word heap
-  still_state = state_told regions word heap sound system heap.bins (runs (segments_of word heap) stay) same
+  still_state = state_told sound system heap.bins (runs (segments_of word heap) stay) same
 
   -- ---- and so its bins
 
   -- the words of a free chunk stay
-  pub chunk_stays : (size chunk k : ℕ) → IsFreeAt (state_of word heap) chunk size → chunk + 8 ≤ k → k < chunk + size → IsWordOf (regions heap.system) k → word system k ≡ word heap.system k
-  chunk_stays size chunk k free low high granted =
-      let l = located chunk (record { at = chunk; size = size; kind = Free }) (segments_of word heap) free in
-      let p = of_located (IsSegment (regions heap.system) (word heap.system)) chunk (record { at = chunk; size = size; kind = Free }) (segments_of word heap) l sound.segments in
-      let is = in_part (word heap.system) Used l.segment.base l.segment.extents (l.segment.base + l.segment.size) (record { at = chunk; size = size; kind = Free }) p.extents l.there in
+  pub chunk_stays : {size : ℕ} (chunk k : ℕ) → IsFreeAt (state_of word heap) chunk size → chunk + 8 ≤ k → k < chunk + size → IsWordOf (regions heap.system) k → word system k ≡ word heap.system k
+  chunk_stays chunk k free low high granted =
+      let l = located chunk (segments_of word heap) free in
+      let p = of_located (IsSegment (regions heap.system) (word heap.system)) l sound.segments in
+      let is = in_part (word heap.system) Used l.segment.base l.segment.extents (l.segment.base + l.segment.size) p.extents l.there in
       let above = is.low in let below = is.high in
       outside k granted (ap (list_any (has_byte_in k)) l.is ∙ any_among (has_byte_in k) l.front l.segment l.back (has_its l.segment k (omega arith) (omega arith)))
-      (λ used used_is found. elim (same_or_beside regions word heap sound chunk size free used found) [
+      (λ used used_is found. elim (same_or_beside sound free found) [
         | inl same ↦ absurd (let no : Used ≡ Free = sym used_is ∙ ap (λ (e : Extent). e.kind) same in cc)
         | inr beside ↦ elim beside [ inl before ↦ inr (omega arith) | inr behind ↦ inl (omega arith) ]
       ])
@@ -111,8 +111,8 @@ module _ {A : Type 0} (regions : A → List Grant) (word : A → ℕ → ℕ) (h
     index = b.index;
     linked = stays (regions heap.system) (regions system) (word heap.system) (word system) heap.bins b.index b.linked (record {
       granted = λ size chunk k is low high inside.
-          (is_chunk regions word (record heap { system = system }) still_sound chunk size (subst (λ (s : HeapState). IsFreeAt s chunk size) (sym still_state) (b.holds.free chunk size is))).granted k low high inside.aligned;
-      words = λ size chunk k is low high near inside. chunk_stays size chunk k (b.holds.free chunk size is) low high inside;
+          (is_chunk still_sound (subst (λ (s : HeapState). IsFreeAt s chunk size) (sym still_state) (b.holds.free chunk size is))).granted k low high inside.aligned;
+      words = λ size chunk k is low high near inside. chunk_stays chunk k (b.holds.free chunk size is) low high inside;
     });
     holds = subst (λ (s : HeapState). HoldsBinned s b.index) (sym still_state) b.holds;
   }

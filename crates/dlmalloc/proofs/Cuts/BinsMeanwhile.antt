@@ -7,10 +7,10 @@ use Rattle.dlmalloc.proofs.Bins.Changes.{binned_moved}
 use Rattle.dlmalloc.proofs.Bins.Order.{order_same}
 
 -- The chunk at an address gave way, and left `more` free, or nothing.
-module _ {A : Type 0} (regions : A → List Grant) (word : A → ℕ → ℕ) (old new : Dlmalloc A) (sound : IsSound regions word old) (at : ℕ) (more : List ℕ) (moves : FreeMoves (state_of word old) (state_of word new) (at ∷ []) more) where
+module _ {A : Type 0} {regions : A → List Grant} {word : A → ℕ → ℕ} {old : Dlmalloc A} (new : Dlmalloc A) (sound : IsSound regions word old) {at : ℕ} {more : List ℕ} (moves : FreeMoves (state_of word old) (state_of word new) (at ∷ []) more) where
   -- nothing begins at address 0
-  none_at_zero : (k n : ℕ) → IsFreeAt (state_of word old) k n → k ≢ 0
-  none_at_zero k n free zero = (let low = free_low regions word old sound (extent k n Free) free in omega arith)
+  none_at_zero : {k n : ℕ} → IsFreeAt (state_of word old) k n → k ≢ 0
+  none_at_zero free zero = (let low = free_low sound free in omega arith)
 
   -- it was the victim, and its rest is, if it has one
   pub victim_cut : at ≡ old.victim → (IsIn new.victim more) ⊎ (new.victim ≡ 0) → ((k : ℕ) → IsIn k more → k ≡ new.victim) → AreAccounted (state_of word old) (state_of word new) [] [] (at ∷ []) more
@@ -21,15 +21,15 @@ module _ {A : Type 0} (regions : A → List Grant) (word : A → ℕ → ℕ) (o
     from = λ k out which n free other. elim which [
       | inl victim ↦ elim now [
         | inl there ↦ absurd (out (subst (λ (a : ℕ). IsIn a more) (sym victim) there))
-        | inr zero ↦ absurd (none_at_zero k n free (victim ∙ zero))
+        | inr zero ↦ absurd (none_at_zero free (victim ∙ zero))
       ]
       | inr none ↦ none
     ];
   }
 
   -- it was in no bin, and its rest is the victim: the old victim is in no bin
-  pub rest_victim : (rest : ℕ) → more ≡ rest ∷ [] → new.victim ≡ rest → AreAccounted (state_of word old) (state_of word new) (at ∷ []) (old.victim ∷ []) (at ∷ []) more
-  rest_victim rest is now = record {
+  pub rest_victim : {rest : ℕ} → more ≡ rest ∷ [] → new.victim ≡ rest → AreAccounted (state_of word old) (state_of word new) (at ∷ []) (old.victim ∷ []) (at ∷ []) more
+  rest_victim is now = record {
     gone = λ k is n free other. is;
     come = λ k there n free other. absurd (elim (subst (IsIn k) is there) [ inl same ↦ other (same ∙ sym now) | inr none ↦ none ]);
     still = λ k out which n free other. elim which [ inl victim ↦ inl victim | inr loose ↦ absurd (out loose) ];
@@ -49,65 +49,65 @@ module _ {A : Type 0} (regions : A → List Grant) (word : A → ℕ → ℕ) (o
   }
 
   -- what came is not the old victim, where that is another chunk
-  pub rest_other : (rest size : ℕ) → IsIn rest more → IsFreeAt (state_of word old) old.victim size → at ≢ old.victim → rest ≢ old.victim
-  rest_other rest size there free other same =
+  pub rest_other : (rest : ℕ) {size : ℕ} → IsIn rest more → IsFreeAt (state_of word old) old.victim size → at ≢ old.victim → rest ≢ old.victim
+  rest_other rest {size} there free other same =
       (moves.stays old.victim size free (λ is. elim is [ inl victim ↦ other (sym victim) | inr none ↦ none ])).1 (subst (λ (a : ℕ). IsIn a more) same there)
 
   -- and that is free still
-  pub victim_free : (size : ℕ) → IsFreeAt (state_of word old) old.victim size → at ≢ old.victim → IsFreeAt (state_of word new) old.victim size
-  victim_free size free other = (moves.stays old.victim size free (λ is. elim is [ inl victim ↦ other (sym victim) | inr none ↦ none ])).0
+  pub victim_free : {size : ℕ} → IsFreeAt (state_of word old) old.victim size → at ≢ old.victim → IsFreeAt (state_of word new) old.victim size
+  victim_free {size} free other = (moves.stays old.victim size free (λ is. elim is [ inl victim ↦ other (sym victim) | inr none ↦ none ])).0
 
 -- no free extent begins at address 0
-pub none_free_at_zero : {A : Type 0} (regions : A → List Grant) (word : A → ℕ → ℕ) (heap : Dlmalloc A) → IsSound regions word heap → (n : ℕ) → IsFreeAt (state_of word heap) 0 n → ⊥
-none_free_at_zero regions word heap sound n free = (let low = free_low regions word heap sound (extent 0 n Free) free in omega arith)
+pub none_free_at_zero : {A : Type 0} {regions : A → List Grant} {word : A → ℕ → ℕ} {heap : Dlmalloc A} → IsSound regions word heap → {n : ℕ} → IsFreeAt (state_of word heap) 0 n → ⊥
+none_free_at_zero sound free = (let low = free_low sound free in omega arith)
 
 -- ---- the bins of a heap in which a chunk gave way
 
 -- The free chunk at an address gave way. A rest at another address stays free, if there is one.
-module _ (stays : IndexStays) {A : Type 0} (regions : A → List Grant) (word : A → ℕ → ℕ) (follows : A → List Event → A → Type 0) (old new : Dlmalloc A) (sound : IsSound regions word old) (moved : IsMoved regions word follows old new) (bins : new.bins ≡ old.bins)
+module _ (stays : IndexStays) {A : Type 0} {regions : A → List Grant} {word : A → ℕ → ℕ} {follows : A → List Event → A → Type 0} {old new : Dlmalloc A} (sound : IsSound regions word old) (moved : IsMoved regions word follows old new) (bins : new.bins ≡ old.bins)
     (at rest : ℕ) where
   abbrev on : (loose loose' less more : List ℕ) → FreeMoves (state_of word old) (state_of word new) less more → AreAccounted (state_of word old) (state_of word new) loose loose' less more → IsBinnedBut loose regions word old → IsBinnedBut loose' regions word new
-  on = binned_moved stays regions word old new sound moved.sound (λ k was is boundary tag tag'. moved.words k was boundary) bins
+  on = binned_moved stays sound moved.sound (λ k was is boundary tag tag'. moved.words k was boundary) bins
 
   -- the rest is the victim
   abbrev pub victim_rest : FreeMoves (state_of word old) (state_of word new) (at ∷ []) (rest ∷ []) → at ≡ old.victim → new.victim ≡ rest → IsBinned regions word old → IsBinned regions word new
-  victim_rest moves was now = on [] [] (at ∷ []) (rest ∷ []) moves (victim_cut regions word old new sound at (rest ∷ []) moves was (inl (inl now)) (λ k there. elim there [ inl same ↦ same ∙ sym now | inr none ↦ absurd none ]))
+  victim_rest moves was now = on [] [] (at ∷ []) (rest ∷ []) moves (victim_cut new sound moves was (inl (inl now)) (λ k there. elim there [ inl same ↦ same ∙ sym now | inr none ↦ absurd none ]))
 
   abbrev pub victim_gone : FreeMoves (state_of word old) (state_of word new) (at ∷ []) [] → at ≡ old.victim → new.victim ≡ 0 → IsBinned regions word old → IsBinned regions word new
-  victim_gone moves was now = on [] [] (at ∷ []) [] moves (victim_cut regions word old new sound at [] moves was (inr now) (λ k none. absurd none))
+  victim_gone moves was now = on [] [] (at ∷ []) [] moves (victim_cut new sound moves was (inr now) (λ k none. absurd none))
 
   -- the victim stays
   abbrev pub binned_gone : FreeMoves (state_of word old) (state_of word new) (at ∷ []) [] → new.victim ≡ old.victim → IsBinnedBut (at ∷ []) regions word old → IsBinned regions word new
-  binned_gone moves same = on (at ∷ []) [] (at ∷ []) [] moves (victim_stays regions word old new sound at [] moves same)
+  binned_gone moves same = on (at ∷ []) [] (at ∷ []) [] moves (victim_stays new sound moves same)
 
   abbrev pub binned_rest : FreeMoves (state_of word old) (state_of word new) (at ∷ []) (rest ∷ []) → new.victim ≡ old.victim → IsBinnedBut (at ∷ []) regions word old → IsBinnedBut (rest ∷ []) regions word new
-  binned_rest moves same = on (at ∷ []) (rest ∷ []) (at ∷ []) (rest ∷ []) moves (victim_stays regions word old new sound at (rest ∷ []) moves same)
+  binned_rest moves same = on (at ∷ []) (rest ∷ []) (at ∷ []) (rest ∷ []) moves (victim_stays new sound moves same)
 
   pub rest_no_victim : FreeMoves (state_of word old) (state_of word new) (at ∷ []) (rest ∷ []) → at ≢ old.victim → new.victim ≡ old.victim → 0 < rest → rest ≢ new.victim
   rest_no_victim moves other same some is = go (old.victim_size == 0) refl
     where
       go : (t : Bool) → (old.victim_size == 0) ≡ t → ⊥
       go true test = (let zero = sound.no_victim (nat_is test) in let sum : rest ≡ 0 = is ∙ (same ∙ zero) in omega (arith, sum, some))
-      go false test = rest_other regions word old new sound at (rest ∷ []) moves rest old.victim_size (inl refl)
+      go false test = rest_other new sound moves rest (inl refl)
           (sound.victim (λ none. (let t : (old.victim_size == 0) ≡ true = (let e = none in grind (arith, nat_tests)) in cc))) other (is ∙ same)
 
   -- the rest became the victim
   abbrev pub small_rest : FreeMoves (state_of word old) (state_of word new) (at ∷ []) (rest ∷ []) → new.victim ≡ rest → IsBinnedBut (at ∷ []) regions word old → IsBinnedBut (old.victim ∷ []) regions word new
-  small_rest moves now = on (at ∷ []) (old.victim ∷ []) (at ∷ []) (rest ∷ []) moves (rest_victim regions word old new sound at (rest ∷ []) moves rest refl now)
+  small_rest moves now = on (at ∷ []) (old.victim ∷ []) (at ∷ []) (rest ∷ []) moves (rest_victim new sound moves refl now)
 
   pub old_victim_other : FreeMoves (state_of word old) (state_of word new) (at ∷ []) (rest ∷ []) → at ≢ old.victim → new.victim ≡ rest → old.victim_size ≢ 0 → old.victim ≢ new.victim
-  old_victim_other moves other now some same = rest_other regions word old new sound at (rest ∷ []) moves rest old.victim_size (inl refl) (sound.victim some) other (sym now ∙ sym same)
+  old_victim_other moves other now some same = rest_other new sound moves rest (inl refl) (sound.victim some) other (sym now ∙ sym same)
 
-  pub old_victim_free : (more : List ℕ) → FreeMoves (state_of word old) (state_of word new) (at ∷ []) more → at ≢ old.victim → old.victim_size ≢ 0 → IsFreeAt (state_of word new) old.victim old.victim_size
-  old_victim_free more moves other some = victim_free regions word old new sound at more moves old.victim_size (sound.victim some) other
+  pub old_victim_free : {more : List ℕ} → FreeMoves (state_of word old) (state_of word new) (at ∷ []) more → at ≢ old.victim → old.victim_size ≢ 0 → IsFreeAt (state_of word new) old.victim old.victim_size
+  old_victim_free moves other some = victim_free new sound moves (sound.victim some) other
 
   pub old_victim_none : old.victim_size ≡ 0 → (bytes : ℕ) → IsFreeAt (state_of word new) old.victim bytes → ⊥
-  old_victim_none none bytes free = none_free_at_zero regions word new moved.sound bytes (subst (λ (a : ℕ). IsFreeAt (state_of word new) a bytes) (sound.no_victim none) free)
+  old_victim_none none bytes free = none_free_at_zero moved.sound (subst (λ (a : ℕ). IsFreeAt (state_of word new) a bytes) (sound.no_victim none) free)
 
 -- ---- the two ways of a cut
 
 -- where a rest stays free, and where none does
-module _ (old new : HeapState) (at rest n size : ℕ) (moves : FreeMoves old new (at ∷ []) (if nat_le (n + 32) size then rest ∷ [] else [])) where
+module _ {old new : HeapState} {at : ℕ} (rest n size : ℕ) (moves : FreeMoves old new (at ∷ []) (if nat_le (n + 32) size then rest ∷ [] else [])) where
   pub moves_rest : n + 32 ≤ size → FreeMoves old new (at ∷ []) (rest ∷ [])
   moves_rest room = (let test : nat_le (n + 32) size ≡ true = grind (arith, nat_tests) in subst (λ (b : Bool). FreeMoves old new (at ∷ []) (if b then rest ∷ [] else [])) test moves)
 
@@ -141,7 +141,7 @@ module _ (heap : HeapState) (at size n : ℕ) where
 
 -- ---- a chunk is taken
 
-module _ (stays : IndexStays) {A : Type 0} (regions : A → List Grant) (word : A → ℕ → ℕ) (follows : A → List Event → A → Type 0) (old new : Dlmalloc A) (sound : IsSound regions word old) (at size n : ℕ)
+module _ (stays : IndexStays) {A : Type 0} {regions : A → List Grant} {word : A → ℕ → ℕ} {follows : A → List Event → A → Type 0} {old new : Dlmalloc A} (sound : IsSound regions word old) {at : ℕ} (size n : ℕ)
     (moved : IsMoved regions word follows old new) (state : state_of word new ≡ taken (state_of word old) (extent at size Free) n)
     (moves : FreeMoves (state_of word old) (state_of word new) (at ∷ []) (if nat_le (n + 32) size then (at + n) ∷ [] else [])) (bins : new.bins ≡ old.bins) where
   pub victim_is : new.victim ≡ victim_after (state_of word old) n (extent at size Free)
@@ -153,12 +153,12 @@ module _ (stays : IndexStays) {A : Type 0} (regions : A → List Grant) (word : 
     where
       go : (t : Bool) → nat_le (n + 32) size ≡ t → (after : IsBinned regions word new) × AreInOrder b.index after.index
       go true test = (
-        victim_rest stays regions word follows old new sound moved bins at (at + n) (moves_rest (state_of word old) (state_of word new) at (at + n) n size moves (grind (arith, nat_tests))) is
+        victim_rest stays sound moved bins at (at + n) (moves_rest (at + n) n size moves (grind (arith, nat_tests))) is
             (victim_is ∙ (victim_of_victim (state_of word old) at size n is ∙ rw test refl)) b,
         order_same b.index,
       )
       go false test = (
-        victim_gone stays regions word follows old new sound moved bins at (at + n) (moves_whole (state_of word old) (state_of word new) at (at + n) n size moves (grind (arith, nat_tests))) is
+        victim_gone stays sound moved bins at (at + n) (moves_whole (at + n) n size moves (grind (arith, nat_tests))) is
             (victim_is ∙ (victim_of_victim (state_of word old) at size n is ∙ rw test refl)) b,
         order_same b.index,
       )
@@ -166,12 +166,12 @@ module _ (stays : IndexStays) {A : Type 0} (regions : A → List Grant) (word : 
   module _ (other : at ≢ old.victim) where
     -- of another, with no rest
     abbrev pub whole_taken : IsBinnedBut (at ∷ []) regions word old → size < n + 32 → IsBinned regions word new
-    whole_taken loose little = binned_gone stays regions word follows old new sound moved bins at (at + n) (moves_whole (state_of word old) (state_of word new) at (at + n) n size moves little)
+    whole_taken loose little = binned_gone stays sound moved bins at (at + n) (moves_whole (at + n) n size moves little)
         (victim_is ∙ victim_of_whole (state_of word old) at size n other little) loose
 
     module _ (room : n + 32 ≤ size) where
       abbrev parts : FreeMoves (state_of word old) (state_of word new) (at ∷ []) ((at + n) ∷ [])
-      parts = moves_rest (state_of word old) (state_of word new) at (at + n) n size moves room
+      parts = moves_rest (at + n) n size moves room
 
       -- what came was no free chunk
       pub rest_came : (m : ℕ) → IsFreeAt (state_of word old) (at + n) m → 0 < n → ⊥
@@ -179,21 +179,21 @@ module _ (stays : IndexStays) {A : Type 0} (regions : A → List Grant) (word : 
 
       -- with a rest that is the victim
       abbrev pub small_taken : n < 256 → IsBinnedBut (at ∷ []) regions word old → IsBinnedBut (old.victim ∷ []) regions word new
-      small_taken small = small_rest stays regions word follows old new sound moved bins at (at + n) parts (victim_is ∙ victim_of_small (state_of word old) at size n other room small)
+      small_taken small = small_rest stays sound moved bins at (at + n) parts (victim_is ∙ victim_of_small (state_of word old) at size n other room small)
 
       pub small_other : n < 256 → old.victim_size ≢ 0 → old.victim ≢ new.victim
-      small_other small = old_victim_other stays regions word follows old new sound moved bins at (at + n) parts other (victim_is ∙ victim_of_small (state_of word old) at size n other room small)
+      small_other small = old_victim_other stays sound moved bins at (at + n) parts other (victim_is ∙ victim_of_small (state_of word old) at size n other room small)
 
       -- with a rest that is not
       abbrev pub large_taken : 256 ≤ n → IsBinnedBut (at ∷ []) regions word old → IsBinnedBut ((at + n) ∷ []) regions word new
-      large_taken many = binned_rest stays regions word follows old new sound moved bins at (at + n) parts (victim_is ∙ victim_of_large (state_of word old) at size n other room many)
+      large_taken many = binned_rest stays sound moved bins at (at + n) parts (victim_is ∙ victim_of_large (state_of word old) at size n other room many)
 
       pub large_other : 256 ≤ n → at + n ≢ new.victim
-      large_other many = rest_no_victim stays regions word follows old new sound moved bins at (at + n) parts other (victim_is ∙ victim_of_large (state_of word old) at size n other room many) (omega (arith, many))
+      large_other many = rest_no_victim stays sound moved bins at (at + n) parts other (victim_is ∙ victim_of_large (state_of word old) at size n other room many) (omega (arith, many))
 
 -- ---- a chunk takes the free one behind it, or bytes of it
 
-module _ (stays : IndexStays) {A : Type 0} (regions : A → List Grant) (word : A → ℕ → ℕ) (follows : A → List Event → A → Type 0) (old new : Dlmalloc A) (sound : IsSound regions word old) (at size free n : ℕ)
+module _ (stays : IndexStays) {A : Type 0} {regions : A → List Grant} {word : A → ℕ → ℕ} {follows : A → List Event → A → Type 0} {old new : Dlmalloc A} (sound : IsSound regions word old) (at size free n : ℕ)
     (moved : IsMoved regions word follows old new) (state : state_of word new ≡ grown_into (state_of word old) (extent at size Used) (extent (at + size) free Free) n)
     (moves : FreeMoves (state_of word old) (state_of word new) ((at + size) ∷ []) (if nat_le (n + 32) (size + free) then (at + n) ∷ [] else [])) (bins : new.bins ≡ old.bins) where
   victim_grown : new.victim ≡ (grown_into (state_of word old) (extent at size Used) (extent (at + size) free Free) n).victim
@@ -207,22 +207,22 @@ module _ (stays : IndexStays) {A : Type 0} (regions : A → List Grant) (word : 
       mine = (let e = is in grind (arith, nat_tests))
 
       go : (t : Bool) → nat_le (n + 32) (size + free) ≡ t → (after : IsBinned regions word new) × ((k : ℕ) → after.index k ≡ b.index k)
-      go true test = (victim_rest stays regions word follows old new sound moved bins (at + size) (at + n) (moves_rest (state_of word old) (state_of word new) (at + size) (at + n) n (size + free) moves (grind (arith, nat_tests))) is (victim_grown ∙ rw (mine, test) refl) b, λ k. refl)
-      go false test = (victim_gone stays regions word follows old new sound moved bins (at + size) (at + n) (moves_whole (state_of word old) (state_of word new) (at + size) (at + n) n (size + free) moves (grind (arith, nat_tests))) is (victim_grown ∙ rw (mine, test) refl) b, λ k. refl)
+      go true test = (victim_rest stays sound moved bins (at + size) (at + n) (moves_rest (at + n) n (size + free) moves (grind (arith, nat_tests))) is (victim_grown ∙ rw (mine, test) refl) b, λ k. refl)
+      go false test = (victim_gone stays sound moved bins (at + size) (at + n) (moves_whole (at + n) n (size + free) moves (grind (arith, nat_tests))) is (victim_grown ∙ rw (mine, test) refl) b, λ k. refl)
 
   module _ (other : at + size ≢ old.victim) where
     pub same_victim : new.victim ≡ old.victim
     same_victim = (let test : (at + size == old.victim) ≡ false = (let o = other in grind (arith, nat_tests)) in victim_grown ∙ rw test refl)
 
     abbrev pub into_whole : IsBinnedBut ((at + size) ∷ []) regions word old → size + free < n + 32 → IsBinned regions word new
-    into_whole loose little = binned_gone stays regions word follows old new sound moved bins (at + size) (at + n) (moves_whole (state_of word old) (state_of word new) (at + size) (at + n) n (size + free) moves little) same_victim loose
+    into_whole loose little = binned_gone stays sound moved bins (at + size) (at + n) (moves_whole (at + n) n (size + free) moves little) same_victim loose
 
     abbrev pub into_part : IsBinnedBut ((at + size) ∷ []) regions word old → n + 32 ≤ size + free → IsBinnedBut ((at + n) ∷ []) regions word new
-    into_part loose room = binned_rest stays regions word follows old new sound moved bins (at + size) (at + n) (moves_rest (state_of word old) (state_of word new) (at + size) (at + n) n (size + free) moves room) same_victim loose
+    into_part loose room = binned_rest stays sound moved bins (at + size) (at + n) (moves_rest (at + n) n (size + free) moves room) same_victim loose
 
     pub part_other : n + 32 ≤ size + free → 0 < n → at + n ≢ new.victim
-    part_other room some = rest_no_victim stays regions word follows old new sound moved bins (at + size) (at + n) (moves_rest (state_of word old) (state_of word new) (at + size) (at + n) n (size + free) moves room) other same_victim (omega arith)
+    part_other room some = rest_no_victim stays sound moved bins (at + size) (at + n) (moves_rest (at + n) n (size + free) moves room) other same_victim (omega arith)
 
     -- what came was no free chunk
-    pub part_came : n + 32 ≤ size + free → size < n → (m : ℕ) → IsFreeAt (state_of word old) (at + n) m → ⊥
-    part_came room more m is_free = ((moves_rest (state_of word old) (state_of word new) (at + size) (at + n) n (size + free) moves room).stays (at + n) m is_free (λ is. elim is [ inl same ↦ (let e = same in omega arith) | inr none ↦ none ])).1 (inl refl)
+    pub part_came : n + 32 ≤ size + free → size < n → {m : ℕ} → IsFreeAt (state_of word old) (at + n) m → ⊥
+    part_came room more {m} is_free = ((moves_rest (at + n) n (size + free) moves room).stays (at + n) m is_free (λ is. elim is [ inl same ↦ (let e = same in omega arith) | inr none ↦ none ])).1 (inl refl)

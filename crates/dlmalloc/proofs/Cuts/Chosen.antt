@@ -11,14 +11,14 @@ use Rattle.dlmalloc.proofs.Segments.Among.{extents_all, located, of_located, in_
 use Rattle.dlmalloc.proofs.Extents.Top.{top_among, foot_among}
 use Rattle.dlmalloc.proofs.Extents.Walk.{run_read, top_tail}
 
-and_false : (a b : Bool) → b ≡ false → (a && b) ≡ false
-and_false true b is = is
-and_false false b is = refl
+and_false : (a : Bool) {b : Bool} → b ≡ false → (a && b) ≡ false
+and_false true is = is
+and_false false is = refl
 
 -- the first victim is the extent that begins where the victim does, if that is free
-find_victim : (heap : HeapState) (extents : List Extent) (victim : Extent) → extent_at heap.victim extents ≡ Some victim → is_free_below_top victim.kind ≡ true → find (is_victim heap) extents ≡ Some victim
-find_victim heap [] victim there plain = absurd (cc)
-find_victim heap (first ∷ extents) victim there plain = at_first (first.at == heap.victim) refl (λ rest. find_victim heap extents victim rest plain)
+find_victim : (heap : HeapState) (extents : List Extent) {victim : Extent} → extent_at heap.victim extents ≡ Some victim → is_free_below_top victim.kind ≡ true → find (is_victim heap) extents ≡ Some victim
+find_victim heap [] there plain = absurd (cc)
+find_victim heap (first ∷ extents) {victim} there plain = at_first (first.at == heap.victim) refl (λ rest. find_victim heap extents rest plain)
   where
     at_first : (b : Bool) → (first.at == heap.victim) ≡ b → (extent_at heap.victim extents ≡ Some victim → find (is_victim heap) extents ≡ Some victim) → find (is_victim heap) (first ∷ extents) ≡ Some victim
     at_first true test later =
@@ -28,7 +28,7 @@ find_victim heap (first ∷ extents) victim there plain = at_first (first.at == 
         rw (free, test) is
     at_first false test later =
         let rest = later (subst (λ (b : Bool). (if b then Some first else extent_at heap.victim extents) ≡ Some victim) test there) in
-        let isnt : is_victim heap first ≡ false = and_false (is_free_below_top first.kind) (first.at == heap.victim) test in
+        let isnt : is_victim heap first ≡ false = and_false (is_free_below_top first.kind) test in
         rw isnt rest
 
 -- there is no victim where no extent begins there
@@ -41,7 +41,7 @@ no_victim heap (first ∷ extents) none = at_first (first.at == heap.victim) ref
         absurd (let is : Some first ≡ None = subst (λ (b : Bool). (if b then Some first else extent_at heap.victim extents) ≡ None) test none in cc)
     at_first false test later =
         let rest = later (subst (λ (b : Bool). (if b then Some first else extent_at heap.victim extents) ≡ None) test none) in
-        let isnt : is_victim heap first ≡ false = and_false (is_free_below_top first.kind) (first.at == heap.victim) test in
+        let isnt : is_victim heap first ≡ false = and_false (is_free_below_top first.kind) test in
         rw isnt rest
 
 -- no chunk is the top
@@ -61,31 +61,31 @@ none_at_zero regions words (segment ∷ segments) parts =
     found_later 0 segment.extents (extents_all segments) (none_outside words Used segment.base segment.extents (segment.base + segment.size) 0 (inl (omega arith)) parts.0.extents) ∙ none_at_zero regions words segments parts.1
 
 -- an extent of a heap begins at 4096 at least, and below 2 ^ 64 - 16
-pub free_low : {A : Type 0} (regions : A → List Grant) (word : A → ℕ → ℕ) (heap : Dlmalloc A) → IsSound regions word heap → (one : Extent) → extent_at one.at (extents_in (state_of word heap)) ≡ Some one → 4096 ≤ one.at
-free_low regions word heap sound one there =
-    let l = located one.at one (segments_of word heap) there in
-    let p = of_located (IsSegment (regions heap.system) (word heap.system)) one.at one (segments_of word heap) l sound.segments in
-    let is = in_part (word heap.system) Used l.segment.base l.segment.extents (l.segment.base + l.segment.size) one p.extents l.there in
+pub free_low : {A : Type 0} {regions : A → List Grant} {word : A → ℕ → ℕ} {heap : Dlmalloc A} → IsSound regions word heap → {one : Extent} → extent_at one.at (extents_in (state_of word heap)) ≡ Some one → 4096 ≤ one.at
+free_low {regions} {word} {heap} sound {one} there =
+    let l = located one.at (segments_of word heap) there in
+    let p = of_located (IsSegment (regions heap.system) (word heap.system)) l sound.segments in
+    let is = in_part (word heap.system) Used l.segment.base l.segment.extents (l.segment.base + l.segment.size) p.extents l.there in
     let low = is.low in let base = p.low in
     omega arith
 
-pub free_below : {A : Type 0} (regions : A → List Grant) (word : A → ℕ → ℕ) (heap : Dlmalloc A) → IsSound regions word heap → (one : Extent) → extent_at one.at (extents_in (state_of word heap)) ≡ Some one → one.at + 16 < 2 ^ 64
-free_below regions word heap sound one there =
-    let l = located one.at one (segments_of word heap) there in
-    let p = of_located (IsSegment (regions heap.system) (word heap.system)) one.at one (segments_of word heap) l sound.segments in
-    let is = in_part (word heap.system) Used l.segment.base l.segment.extents (l.segment.base + l.segment.size) one p.extents l.there in
+pub free_below : {A : Type 0} {regions : A → List Grant} {word : A → ℕ → ℕ} {heap : Dlmalloc A} → IsSound regions word heap → {one : Extent} → extent_at one.at (extents_in (state_of word heap)) ≡ Some one → one.at + 16 < 2 ^ 64
+free_below {regions} {word} {heap} sound {one} there =
+    let l = located one.at (segments_of word heap) there in
+    let p = of_located (IsSegment (regions heap.system) (word heap.system)) l sound.segments in
+    let is = in_part (word heap.system) Used l.segment.base l.segment.extents (l.segment.base + l.segment.size) p.extents l.there in
     let long = (sized one.kind one.size is.stands.size).1 in
     let low = is.low in let high = is.high in let end = p.high in
     omega arith
 
-pub top_below : {A : Type 0} (regions : A → List Grant) (word : A → ℕ → ℕ) (heap : Dlmalloc A) → IsSound regions word heap → 0 < heap.size → heap.top + 16 < 2 ^ 64
-top_below regions word heap sound some = free_below regions word heap sound (extent heap.top heap.top_size Top) (top_among regions word heap sound some)
+pub top_below : {A : Type 0} {regions : A → List Grant} {word : A → ℕ → ℕ} {heap : Dlmalloc A} → IsSound regions word heap → 0 < heap.size → heap.top + 16 < 2 ^ 64
+top_below sound some = free_below sound (top_among sound some)
 
 -- the top ends below 2 ^ 64
-pub top_end : {A : Type 0} (regions : A → List Grant) (word : A → ℕ → ℕ) (heap : Dlmalloc A) → IsSound regions word heap → 0 < heap.size → heap.top + heap.top_size < 2 ^ 64
-top_end regions word heap sound some = let below = free_below regions word heap sound (extent (heap.top + heap.top_size) 80 Foot) (foot_among regions word heap sound some) in omega arith
+pub top_end : {A : Type 0} {regions : A → List Grant} {word : A → ℕ → ℕ} {heap : Dlmalloc A} → IsSound regions word heap → 0 < heap.size → heap.top + heap.top_size < 2 ^ 64
+top_end sound some = let below = free_below sound (foot_among sound some) in omega arith
 
-module _ {A : Type 0} (regions : A → List Grant) (word : A → ℕ → ℕ) (heap : Dlmalloc A) (sound : IsSound regions word heap) (some : 0 < heap.size) where
+module _ {A : Type 0} {regions : A → List Grant} {word : A → ℕ → ℕ} {heap : Dlmalloc A} (sound : IsSound regions word heap) (some : 0 < heap.size) where
   abbrev pub state : HeapState
   state = state_of word heap
 
@@ -101,11 +101,11 @@ module _ {A : Type 0} (regions : A → List Grant) (word : A → ℕ → ℕ) (h
           (no_victim state (extents_in state) (ap (λ (a : ℕ). extent_at a (extents_in state)) at ∙ none_at_zero (regions heap.system) (word heap.system) (segments_of word heap) sound.segments)) ∙ sym zero
       by_size false test =
           let some : heap.victim_size ≢ 0 = grind (arith, nat_tests) in
-          ap (λ (o : Option Extent). unwrap_or (option_map (λ (extent : Extent). extent.size) o) 0) (find_victim state (extents_in state) (extent heap.victim heap.victim_size Free) (sound.victim some) refl)
+          ap (λ (o : Option Extent). unwrap_or (option_map (λ (extent : Extent). extent.size) o) 0) (find_victim state (extents_in state) (sound.victim some) refl)
 
   -- the top is one of the extents
   pub top_there : extent_at heap.top (extents_in state) ≡ Some (extent heap.top heap.top_size Top)
-  top_there = top_among regions word heap sound some
+  top_there = top_among sound some
 
   -- the size of the top
   pub top_size_is : size_where (λ extent. is_top extent.kind) (extents_in state) ≡ heap.top_size
@@ -114,26 +114,26 @@ module _ {A : Type 0} (regions : A → List Grant) (word : A → ℕ → ℕ) (h
       go : (segments : List Segment) → AreSegments (regions heap.system) (word heap.system) segments → AreTold (word heap.system) heap segments → size_where (λ extent. is_top extent.kind) (extents_all segments) ≡ heap.top_size
       go [] parts h = absurd (omega (arith, some, h))
       go (segment ∷ segments) parts h =
-          let t = top_tail (regions heap.system) (word heap.system) segment parts.0 heap.top heap.top_size h.4 in
+          let t = top_tail parts.0 h.4 in
           let chunks = t.run.chunks in
           let tail = extent heap.top heap.top_size Top ∷ extent (heap.top + heap.top_size) 80 Foot ∷ [] in
           ap (λ (o : Option Extent). unwrap_or (option_map (λ (extent : Extent). extent.size) o) 0)
           (find-append (λ (extent : Extent). is_top extent.kind) segment.extents (extents_all segments)
           ∙ ap (λ (o : Option Extent). option_or o (find (λ (extent : Extent). is_top extent.kind) (extents_all segments)))
-          (ap (find (λ (extent : Extent). is_top extent.kind)) (t.is ∙ ap (λ (es : List Extent). es ++ tail) (run_read (regions heap.system) (word heap.system) segment.base heap.top t.run))
+          (ap (find (λ (extent : Extent). is_top extent.kind)) (t.is ∙ ap (λ (es : List Extent). es ++ tail) (run_read t.run))
           ∙ (find-append (λ (extent : Extent). is_top extent.kind) chunks tail
           ∙ ap (λ (o : Option Extent). option_or o (find (λ (extent : Extent). is_top extent.kind) tail)) (no_top chunks t.run.are))))
 
   module _ (n : ℕ) where
-    pub chosen_is : (fit : Option ℕ) → least_fit state n ≡ fit → chosen state n ≡ choose n fit heap.victim_size heap.top_size
-    chosen_is fit is = λ i. choose n (is i) (victim_size_is i) (top_size_is i)
+    pub chosen_is : {fit : Option ℕ} → least_fit state n ≡ fit → chosen state n ≡ choose n fit heap.victim_size heap.top_size
+    chosen_is is = λ i. choose n (is i) (victim_size_is i) (top_size_is i)
 
     -- a binned chunk goes first
-    pub bins_chosen : (at size : ℕ) → least_fit state n ≡ Some size → goes_first n heap.victim_size size ≡ true →
+    pub bins_chosen : (at : ℕ) {size : ℕ} → least_fit state n ≡ Some size → goes_first n heap.victim_size size ≡ true →
         extent_at at (extents_in state) ≡ Some (record { at = at; size = size; kind = Free }) → at ≢ heap.victim → IsChosen state n (record { at = at; size = size; kind = Free })
-    bins_chosen at size fit first there other = record {
+    bins_chosen at {size} fit first there other = record {
       choice = OfBins size;
-      is = chosen_is (Some size) fit ∙ rw first refl;
+      is = chosen_is fit ∙ rw first refl;
       there = there;
       one = (let apart : (at == heap.victim) ≡ false = (let o = other in grind (arith, nat_tests)) in let same = nat_same size in rw (apart, same) refl);
     }
@@ -157,28 +157,28 @@ module _ {A : Type 0} (regions : A → List Grant) (word : A → ℕ → ℕ) (h
         by_test true test = absurd (let first : goes_first n heap.victim_size size ≡ true = rw test refl in cc)
         by_test false test = grind (arith, nat_tests)
 
-    pub victim_first : (size : ℕ) → least_fit state n ≡ Some size → goes_first n heap.victim_size size ≡ false → 0 < n → IsChosen state n victim
-    victim_first size fit last more = of_victim (chosen_is (Some size) fit ∙ rw last refl) (victim_fits size last) more
+    pub victim_first : {size : ℕ} → least_fit state n ≡ Some size → goes_first n heap.victim_size size ≡ false → 0 < n → IsChosen state n victim
+    victim_first {size} fit last more = of_victim (chosen_is fit ∙ rw last refl) (victim_fits size last) more
 
     pub victim_alone : least_fit state n ≡ None → n ≤ heap.victim_size → 0 < n → IsChosen state n victim
-    victim_alone fit fits more = of_victim (chosen_is None fit ∙ (let test : nat_le n heap.victim_size ≡ true = grind (arith, nat_tests) in rw test refl)) fits more
+    victim_alone fit fits more = of_victim (chosen_is fit ∙ (let test : nat_le n heap.victim_size ≡ true = grind (arith, nat_tests) in rw test refl)) fits more
 
     -- the top
     pub top_chosen : least_fit state n ≡ None → heap.victim_size < n → n < heap.top_size → IsChosen state n (record { at = heap.top; size = heap.top_size; kind = Top })
     top_chosen fit small fits = record {
       choice = TheTop;
-      is = chosen_is None fit ∙ (let one : nat_le n heap.victim_size ≡ false = grind (arith, nat_tests) in let two : nat_lt n heap.top_size ≡ true = grind (arith, nat_tests) in rw (one, two) refl);
+      is = chosen_is fit ∙ (let one : nat_le n heap.victim_size ≡ false = grind (arith, nat_tests) in let two : nat_lt n heap.top_size ≡ true = grind (arith, nat_tests) in rw (one, two) refl);
       there = top_there;
       one = refl;
     }
 
     -- nothing
     pub none_chosen : least_fit state n ≡ None → heap.victim_size < n → heap.top_size ≤ n → chosen state n ≡ None
-    none_chosen fit small few = chosen_is None fit ∙ (let one : nat_le n heap.victim_size ≡ false = grind (arith, nat_tests) in let two : nat_lt n heap.top_size ≡ false = grind (arith, nat_tests) in rw (one, two) refl)
+    none_chosen fit small few = chosen_is fit ∙ (let one : nat_le n heap.victim_size ≡ false = grind (arith, nat_tests) in let two : nat_lt n heap.top_size ≡ false = grind (arith, nat_tests) in rw (one, two) refl)
 
 -- a binned one is not the victim
-pub bins_no_victim : (heap : HeapState) (n size : ℕ) (extent : Extent) → IsChosen heap n extent → chosen heap n ≡ Some (OfBins size) → extent.at ≢ heap.victim
-bins_no_victim heap n size extent h is same = go h.choice (the_choice (sym h.is ∙ is)) h.one
+pub bins_no_victim : {heap : HeapState} {n : ℕ} (size : ℕ) {extent : Extent} → IsChosen heap n extent → chosen heap n ≡ Some (OfBins size) → extent.at ≢ heap.victim
+bins_no_victim {heap} size {extent} h is same = go h.choice (the_choice (sym h.is ∙ is)) h.one
   where
     the_choice : {one other : Choice} → Some one ≡ Some other → one ≡ other
     the_choice {one} {other} e = ap (λ (o : Option Choice). unwrap_or o one) e
@@ -195,8 +195,8 @@ bins_no_victim heap n size extent h is same = go h.choice (the_choice (sym h.is 
         victim_binned (is_free_below_top extent.kind) (extent.at == heap.victim) (extent.size == size) test binned
 
 -- and the top is in no bin
-pub top_no_bins : (heap : HeapState) (n size : ℕ) (extent : Extent) → IsChosen heap n extent → extent.kind ≡ Top → chosen heap n ≡ Some (OfBins size) → ⊥
-top_no_bins heap n size extent h top is = go h.choice (ap (λ (o : Option Choice). unwrap_or o h.choice) (sym h.is ∙ is)) h.one
+pub top_no_bins : {heap : HeapState} {n : ℕ} (size : ℕ) {extent : Extent} → IsChosen heap n extent → extent.kind ≡ Top → chosen heap n ≡ Some (OfBins size) → ⊥
+top_no_bins {heap} size {extent} h top is = go h.choice (ap (λ (o : Option Choice). unwrap_or o h.choice) (sym h.is ∙ is)) h.one
   where
     no_plain : (plain victim sized : Bool) → plain ≡ false → ((plain && not victim) && sized) ≡ true → ⊥
     no_plain true victim sized is test = (cc)

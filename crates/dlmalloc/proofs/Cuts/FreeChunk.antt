@@ -23,14 +23,14 @@ pub record IsFreeTake {A : Type 0} (regions : A → List Grant) (word : A → �
   pub rest : n + 32 ≤ chunk.size → IsFreeAt (state_of word new) (chunk.at + n) (chunk.size - n)
 
 -- what is found in one
-pub found_one : (k : ℕ) (one tail : Extent) → extent_at k (one ∷ []) ≡ Some tail → one ≡ tail
-found_one k one tail there = go (one.at == k) there
+pub found_one : (k : ℕ) (one : Extent) {tail : Extent} → extent_at k (one ∷ []) ≡ Some tail → one ≡ tail
+found_one k one {tail} there = go (one.at == k) there
   where
     go : (b : Bool) → (if b then Some one else None) ≡ Some tail → one ≡ tail
     go true is = ap (λ (o : Option Extent). unwrap_or o one) is
     go false is = absurd (cc)
 
-module _ {A : Type 0} (regions : A → List Grant) (word : A → ℕ → ℕ) (heap : Dlmalloc A) (sound : IsSound regions word heap) (at size n : ℕ)
+module _ {A : Type 0} {regions : A → List Grant} {word : A → ℕ → ℕ} {heap : Dlmalloc A} (sound : IsSound regions word heap) {at size : ℕ} (n : ℕ)
     (there : extent_at at (extents_in (state_of word heap)) ≡ Some (extent at size Free)) where
   abbrev segments : List Segment
   segments = segments_of word heap
@@ -39,7 +39,7 @@ module _ {A : Type 0} (regions : A → List Grant) (word : A → ℕ → ℕ) (h
   chunk = extent at size Free
 
   abbrev pub run : IsRunOf (word heap.system) segments at (at + size) (chunk ∷ [])
-  run = run_of (regions heap.system) (word heap.system) segments sound.segments chunk there
+  run = run_of (regions heap.system) (word heap.system) segments sound.segments there
 
   pub stands : HasChunk (word heap.system) (last_kind Used run.first) chunk
   stands = run.here.1
@@ -52,21 +52,21 @@ module _ {A : Type 0} (regions : A → List Grant) (word : A → ℕ → ℕ) (h
     Took victim victim_size = IsFreeTake regions word heap chunk n (after victim victim_size)
 
     -- what a step leaves, in which the chunk is cut so
-    take : (less more new : List Extent) (victim victim_size : ℕ) (step : IsStep regions word heap (after victim victim_size) less more) →
+    take : {less more : List Extent} (new : List Extent) {victim : ℕ} (victim_size : ℕ) (step : IsStep regions word heap (after victim victim_size) less more) →
         step.front ++ step.now ∷ step.back ≡ run.front ++ with_extents run.segment (run.first ++ (new ++ run.last)) ∷ run.back → cut n chunk ≡ new →
         (one : Extent) → one.at ≡ at → HasMore less more one →
         (victim_size ≢ 0 → extent_at victim (extents_in (state_of word (after victim victim_size))) ≡ Some (extent victim victim_size Free)) → (victim_size ≡ 0 → victim ≡ 0) →
         victim ≡ victim_after (state_of word heap) n chunk → FreeMoves (state_of word heap) (state_of word (after victim victim_size)) (at ∷ []) (if nat_le (n + 32) size then (at + n) ∷ [] else []) →
         (n + 32 ≤ size → IsFreeAt (state_of word (after victim victim_size)) (at + n) (size - n)) → Took victim victim_size
-    take less more new victim victim_size step now is one place h named none left free rest = record {
+    take new {victim} victim_size step now is one place h named none left free rest = record {
       take = record {
         state = (
-            let segments_are = read regions word heap (after victim victim_size) sound less more step ∙ (now ∙ (ap (λ (es : List Extent). run.front ++ with_extents run.segment (run.first ++ (es ++ run.last)) ∷ run.back) (sym is)
-            ∙ sym (replaced_run (regions heap.system) (word heap.system) segments sound.segments sound.apart chunk (cut n) run))) in
+            let segments_are = read sound step ∙ (now ∙ (ap (λ (es : List Extent). run.front ++ with_extents run.segment (run.first ++ (es ++ run.last)) ∷ run.back) (sym is)
+            ∙ sym (replaced_run (regions heap.system) sound.segments sound.apart (cut n) run))) in
             λ i. record { segments = segments_are i; victim = left i; granularity = heap.granularity; rate = heap.rate; countdown = heap.countdown; trim_check = heap.trim_check });
-        more = subst (λ (k : ℕ). HasOneMore (state_of word heap) (state_of word (after victim victim_size)) k) place (has_more regions word heap (after victim victim_size) sound less more step one h);
-        sound = stays_sound regions word heap (after victim victim_size) sound less more step same refl refl refl refl none named;
-        words = keeps_words regions word heap (after victim victim_size) sound less more step;
+        more = subst (λ (k : ℕ). HasOneMore (state_of word heap) (state_of word (after victim victim_size)) k) place (has_more sound step one h);
+        sound = stays_sound sound step same refl refl refl refl none named;
+        words = keeps_words sound step;
       };
       free = free;
       rest = rest;
@@ -79,23 +79,23 @@ module _ {A : Type 0} (regions : A → List Grant) (word : A → ℕ → ℕ) (h
       abbrev halves : List Extent
       halves = extent at n Used ∷ extent (at + n) (size - n) Free ∷ []
 
-      free_one : (k : ℕ) (tail : Extent) → extent_at k (chunk ∷ []) ≡ Some tail → Free ≡ tail.kind
-      free_one k tail found = ap (λ (e : Extent). e.kind) (found_one k chunk tail found)
+      free_one : (k : ℕ) {tail : Extent} → extent_at k (chunk ∷ []) ≡ Some tail → Free ≡ tail.kind
+      free_one k found = ap (λ (e : Extent). e.kind) (found_one k chunk found)
 
       abbrev split_step : (victim victim_size : ℕ) → IsStep regions word heap (after victim victim_size) (chunk ∷ []) halves
-      split_step victim victim_size = step_beside regions word heap (after victim victim_size) sound same at (at + size) (chunk ∷ []) halves run
-          (cut_split (regions heap.system) (word heap.system) (word system) (last_kind Used run.first) at size stands n multiple least room stored) refl
-          (λ k tail found is. absurd (let no : Free ≡ Record = free_one k tail found ∙ is in cc)) refl (record { base = refl; size = refl; flags = refl; top = refl; top_size = refl })
-          (λ k tail found is. absurd (let no : Free ≡ Top = free_one k tail found ∙ is in cc))
+      split_step victim victim_size = step_beside (after victim victim_size) sound same run
+          (cut_split (regions heap.system) (word system) stands n multiple least room stored) refl
+          (λ k tail found is. absurd (let no : Free ≡ Record = free_one k found ∙ is in cc)) refl (record { base = refl; size = refl; flags = refl; top = refl; top_size = refl })
+          (λ k tail found is. absurd (let no : Free ≡ Top = free_one k found ∙ is in cc))
 
       has_rest : nat_le (n + 32) size ≡ true
       has_rest = grind (arith, nat_tests)
 
       split : (victim victim_size : ℕ) → (victim_size ≢ 0 → extent_at victim (extents_in (state_of word (after victim victim_size))) ≡ Some (extent victim victim_size Free)) → (victim_size ≡ 0 → victim ≡ 0) →
           victim ≡ victim_after (state_of word heap) n chunk → Took victim victim_size
-      split victim victim_size named none left = take (chunk ∷ []) halves halves victim victim_size (split_step victim victim_size) refl (rw has_rest refl) (extent at n Used) refl (record { front = []; back = []; fewer = refl; further = refl }) named none left
+      split victim victim_size named none left = take halves victim_size (split_step victim victim_size) refl (rw has_rest refl) (extent at n Used) refl (record { front = []; back = []; fewer = refl; further = refl }) named none left
           (subst (λ (b : Bool). FreeMoves (state_of word heap) (state_of word (after victim victim_size)) (at ∷ []) (if b then (at + n) ∷ [] else [])) (sym has_rest) split_free)
-          (λ more. found_new regions word heap (after victim victim_size) sound (chunk ∷ []) halves (split_step victim victim_size) (at + n) (extent (at + n) (size - n) Free) rest_there)
+          (λ more. found_new sound (split_step victim victim_size) (at + n) (extent (at + n) (size - n) Free) rest_there)
         where
           rest_there : extent_at (at + n) halves ≡ Some (extent (at + n) (size - n) Free)
           rest_there =
@@ -104,14 +104,14 @@ module _ {A : Type 0} (regions : A → List Grant) (word : A → ℕ → ℕ) (h
               rw (first, second) refl
 
           in_rest : (k bytes : ℕ) → extent_at k halves ≡ Some (extent k bytes Free) → IsIn k ((at + n) ∷ [])
-          in_rest k bytes found = elim (found_either k (extent at n Used ∷ []) (extent (at + n) (size - n) Free ∷ []) (extent k bytes Free) found) [
-            | inl first ↦ absurd (let no : Used ≡ Free = ap (λ (e : Extent). e.kind) (found_one k (extent at n Used) (extent k bytes Free) first) in cc)
-            | inr later ↦ inl (sym (ap (λ (e : Extent). e.at) (found_one k (extent (at + n) (size - n) Free) (extent k bytes Free) later.1)))
+          in_rest k bytes found = elim (found_either k (extent at n Used ∷ []) (extent (at + n) (size - n) Free ∷ []) found) [
+            | inl first ↦ absurd (let no : Used ≡ Free = ap (λ (e : Extent). e.kind) (found_one k (extent at n Used) first) in cc)
+            | inr later ↦ inl (sym (ap (λ (e : Extent). e.at) (found_one k (extent (at + n) (size - n) Free) later.1)))
           ]
 
           split_free : FreeMoves (state_of word heap) (state_of word (after victim victim_size)) (at ∷ []) ((at + n) ∷ [])
-          split_free = free_moves regions word heap (after victim victim_size) sound (chunk ∷ []) halves (split_step victim victim_size) (at ∷ []) ((at + n) ∷ [])
-              (λ k bytes found. inl (sym (ap (λ (e : Extent). e.at) (found_one k chunk (extent k bytes Free) found)))) in_rest
+          split_free = free_moves sound (split_step victim victim_size) (at ∷ []) ((at + n) ∷ [])
+              (λ k bytes found. inl (sym (ap (λ (e : Extent). e.at) (found_one k chunk found)))) in_rest
               (λ k is. elim is [ inl same ↦ inr (chunk, subst (λ (a : ℕ). extent_at a (chunk ∷ []) ≡ Some chunk) (sym same) (found_here chunk [])) | inr none ↦ absurd none ])
               (λ k is. elim is [ inl same ↦ inr (extent (at + n) (size - n) Free, subst (λ (a : ℕ). extent_at a halves ≡ Some (extent (at + n) (size - n) Free)) (sym same) rest_there) | inr none ↦ absurd none ])
 
@@ -121,7 +121,7 @@ module _ {A : Type 0} (regions : A → List Grant) (word : A → ℕ → ℕ) (h
           (λ more.
           let first : (at == at + n) ≡ false = nat_isnt (inl (omega arith)) in
           let second : (at + n == at + n) ≡ true = nat_same (at + n) in
-          found_new regions word heap (after (at + n) (size - n)) sound (chunk ∷ []) halves (split_step (at + n) (size - n)) (at + n) (extent (at + n) (size - n) Free) (rw (first, second) refl))
+          found_new sound (split_step (at + n) (size - n)) (at + n) (extent (at + n) (size - n) Free) (rw (first, second) refl))
           (λ none. absurd (omega (arith, none))) (left why)
         where
           left : (at ≡ heap.victim) ⊎ (n < 256) → at + n ≡ victim_after (state_of word heap) n chunk
@@ -138,8 +138,8 @@ module _ {A : Type 0} (regions : A → List Grant) (word : A → ℕ → ℕ) (h
           let test : (at == heap.victim) ≡ false = (let e = isnt in grind (arith, nat_tests)) in
           let large : nat_lt n 256 ≡ false = (let m = many in grind (arith, nat_tests)) in
           split heap.victim heap.victim_size
-          (λ more. found_again regions word heap (after heap.victim heap.victim_size) sound (chunk ∷ []) halves (split_step heap.victim heap.victim_size)
-          heap.victim (extent heap.victim heap.victim_size Free) (λ here. absurd (isnt (ap (λ (e : Extent). e.at) (found_one heap.victim chunk (extent heap.victim heap.victim_size Free) here)))) (sound.victim more))
+          (λ more. found_again sound (split_step heap.victim heap.victim_size)
+          heap.victim (λ here. absurd (isnt (ap (λ (e : Extent). e.at) (found_one heap.victim chunk here)))) (sound.victim more))
           sound.no_victim (rw (test, has_rest, large) refl)
 
     -- ---- nothing stays free
@@ -147,10 +147,10 @@ module _ {A : Type 0} (regions : A → List Grant) (word : A → ℕ → ℕ) (h
     module _ (small : size < n + 32)
         (stored : AreStored (regions heap.system) (word heap.system) ((at + 8, head_of size true true) ∷ (at + size + 8, with_pinuse (if size == 0 then head_of size true true else word heap.system (at + size + 8))) ∷ []) (word system)) where
       abbrev next : HasNext run.last
-      next = has_next (regions heap.system) (word heap.system) segments sound.segments at (at + size) (chunk ∷ []) run refl
+      next = has_next (regions heap.system) sound.segments run refl
 
       abbrev run_two : IsRunOf (word heap.system) segments at (at + size + next.next.size) (chunk ∷ next.next ∷ [])
-      run_two = with_next (regions heap.system) (word heap.system) segments sound.segments at (at + size) (chunk ∷ []) run next
+      run_two = with_next (regions heap.system) sound.segments run next
 
       abbrev both : List Extent
       both = chunk ∷ next.next ∷ []
@@ -160,15 +160,15 @@ module _ {A : Type 0} (regions : A → List Grant) (word : A → ℕ → ℕ) (h
 
       move_two : IsMove (regions heap.system) (word heap.system) (word system) (last_kind Used run.first) at (at + size + next.next.size) (at + size + next.next.size) both all
       move_two =
-          let b = behind (regions heap.system) (word heap.system) segments sound.segments at (at + size) (chunk ∷ []) run next in
+          let b = behind (regions heap.system) sound.segments run next in
           let long = stands.size.1 in
           let some : (size == 0) ≡ false = nat_isnt (inr (omega arith)) in
           let low = tiles_le (word heap.system) Used run.segment.base run.first at run.first_stand in
           let place = b.0 in
           let high = tiles_le (word heap.system) next.next.kind (at + size + next.next.size) next.rest (run.segment.base + run.segment.size) b.2 in
-          cut_whole (regions heap.system) (word heap.system) (word system) (last_kind Used run.first) at size stands next.next b.1 b.0
+          cut_whole (regions heap.system) (word system) stands b.1 b.0
           (subst (λ (t : Bool). AreStored (regions heap.system) (word heap.system) ((at + 8, head_of size true true) ∷ (at + size + 8, with_pinuse (if t then head_of size true true else word heap.system (at + size + 8))) ∷ []) (word system)) some stored)
-          (λ k above below m. run_word (regions heap.system) (word heap.system) segments sound.segments at (at + size) (chunk ∷ []) run k (omega arith) (omega arith) m)
+          (λ k above below m. run_word (regions heap.system) sound.segments run k (omega arith) (omega arith) m)
 
       -- what begins elsewhere is found as before
       beside : (k : ℕ) → at ≢ k → (tail : Extent) → extent_at k both ≡ Some tail → extent_at k all ≡ Some tail
@@ -177,31 +177,31 @@ module _ {A : Type 0} (regions : A → List Grant) (word : A → ℕ → ℕ) (h
           rw test (subst (λ (b : Bool). (if b then Some chunk else extent_at k (next.next ∷ [])) ≡ Some tail) test found)
 
       -- and so is what is no free extent
-      still : (k : ℕ) (tail : Extent) → extent_at k both ≡ Some tail → (Free ≡ tail.kind → ⊥) → extent_at k all ≡ Some tail
-      still k tail found other = go (at == k) refl
+      still : (k : ℕ) {tail : Extent} → extent_at k both ≡ Some tail → (Free ≡ tail.kind → ⊥) → extent_at k all ≡ Some tail
+      still k {tail} found other = go (at == k) refl
         where
           go : (b : Bool) → (at == k) ≡ b → extent_at k all ≡ Some tail
           go true here = absurd (other (ap (λ (o : Option Extent). (unwrap_or o chunk).kind) (subst (λ (b : Bool). (if b then Some chunk else extent_at k (next.next ∷ [])) ≡ Some tail) here found)))
           go false apart = beside k (λ is. absurd (let t : (at == k) ≡ true = (let e = is in grind (arith, nat_tests)) in cc)) tail found
 
       abbrev whole_step : (victim victim_size : ℕ) → IsStep regions word heap (after victim victim_size) both all
-      whole_step victim victim_size = step_beside regions word heap (after victim victim_size) sound same at (at + size + next.next.size) both all run_two move_two refl
-          (λ k tail found is. still k tail found (λ free. (let no : Free ≡ Record = free ∙ is in cc))) refl (record { base = refl; size = refl; flags = refl; top = refl; top_size = refl })
-          (λ k tail found is. still k tail found (λ free. (let no : Free ≡ Top = free ∙ is in cc)))
+      whole_step victim victim_size = step_beside (after victim victim_size) sound same run_two move_two refl
+          (λ k tail found is. still k found (λ free. (let no : Free ≡ Record = free ∙ is in cc))) refl (record { base = refl; size = refl; flags = refl; top = refl; top_size = refl })
+          (λ k tail found is. still k found (λ free. (let no : Free ≡ Top = free ∙ is in cc)))
 
       no_rest : nat_le (n + 32) size ≡ false
       no_rest = grind (arith, nat_tests)
 
       whole : (victim victim_size : ℕ) → (victim_size ≢ 0 → extent_at victim (extents_in (state_of word (after victim victim_size))) ≡ Some (extent victim victim_size Free)) → (victim_size ≡ 0 → victim ≡ 0) →
           victim ≡ victim_after (state_of word heap) n chunk → Took victim victim_size
-      whole victim victim_size named none left = take both all (extent at size Used ∷ []) victim victim_size (whole_step victim victim_size)
+      whole victim victim_size named none left = take (extent at size Used ∷ []) victim_size (whole_step victim victim_size)
           (ap (λ (es : List Extent). run.front ++ with_extents run.segment (run.first ++ (extent at size Used ∷ es)) ∷ run.back) (sym next.is)) (rw no_rest refl)
           (extent at size Used) refl (record { front = []; back = used_of (next.next ∷ []); fewer = refl; further = refl }) named none left
           (subst (λ (b : Bool). FreeMoves (state_of word heap) (state_of word (after victim victim_size)) (at ∷ []) (if b then (at + n) ∷ [] else [])) (sym no_rest) whole_free)
           (λ more. absurd (omega (arith, more, small)))
         where
           next_kind : (next.next.kind ≡ Used) ⊎ (next.next.kind ≡ Record)
-          next_kind = behind_free next.next.kind (behind (regions heap.system) (word heap.system) segments sound.segments at (at + size) (chunk ∷ []) run next).1.kind
+          next_kind = behind_free next.next.kind (behind (regions heap.system) sound.segments run next).1.kind
 
           next_used : (bytes k : ℕ) → next.next ≡ extent k bytes Free → ⊥
           next_used bytes k is =
@@ -209,19 +209,19 @@ module _ {A : Type 0} (regions : A → List Grant) (word : A → ℕ → ℕ) (h
               elim next_kind [ inl used ↦ (let no : Used ≡ Free = sym used ∙ kind in cc) | inr tail ↦ (let no : Record ≡ Free = sym tail ∙ kind in cc) ]
 
           in_both : (k bytes : ℕ) → extent_at k both ≡ Some (extent k bytes Free) → IsIn k (at ∷ [])
-          in_both k bytes found = elim (found_either k (chunk ∷ []) (next.next ∷ []) (extent k bytes Free) found) [
-            | inl first ↦ inl (sym (ap (λ (e : Extent). e.at) (found_one k chunk (extent k bytes Free) first)))
-            | inr later ↦ absurd (next_used bytes k (found_one k next.next (extent k bytes Free) later.1))
+          in_both k bytes found = elim (found_either k (chunk ∷ []) (next.next ∷ []) found) [
+            | inl first ↦ inl (sym (ap (λ (e : Extent). e.at) (found_one k chunk first)))
+            | inr later ↦ absurd (next_used bytes k (found_one k next.next later.1))
           ]
 
           in_all : (k bytes : ℕ) → extent_at k all ≡ Some (extent k bytes Free) → IsIn k []
-          in_all k bytes found = elim (found_either k (extent at size Used ∷ []) (next.next ∷ []) (extent k bytes Free) found) [
-            | inl first ↦ (let no : Used ≡ Free = ap (λ (e : Extent). e.kind) (found_one k (extent at size Used) (extent k bytes Free) first) in cc)
-            | inr later ↦ next_used bytes k (found_one k next.next (extent k bytes Free) later.1)
+          in_all k bytes found = elim (found_either k (extent at size Used ∷ []) (next.next ∷ []) found) [
+            | inl first ↦ (let no : Used ≡ Free = ap (λ (e : Extent). e.kind) (found_one k (extent at size Used) first) in cc)
+            | inr later ↦ next_used bytes k (found_one k next.next later.1)
           ]
 
           whole_free : FreeMoves (state_of word heap) (state_of word (after victim victim_size)) (at ∷ []) []
-          whole_free = free_moves regions word heap (after victim victim_size) sound both all (whole_step victim victim_size) (at ∷ []) [] in_both in_all
+          whole_free = free_moves sound (whole_step victim victim_size) (at ∷ []) [] in_both in_all
               (λ k is. elim is [ inl same ↦ inr (chunk, subst (λ (a : ℕ). extent_at a both ≡ Some chunk) (sym same) (found_here chunk (next.next ∷ []))) | inr none ↦ absurd none ])
               (λ k is. absurd is)
 
@@ -236,16 +236,16 @@ module _ {A : Type 0} (regions : A → List Grant) (word : A → ℕ → ℕ) (h
       whole_other isnt =
           let test : (at == heap.victim) ≡ false = (let e = isnt in grind (arith, nat_tests)) in
           whole heap.victim heap.victim_size
-          (λ more. found_again regions word heap (after heap.victim heap.victim_size) sound both all (whole_step heap.victim heap.victim_size)
-          heap.victim (extent heap.victim heap.victim_size Free) (beside heap.victim isnt (extent heap.victim heap.victim_size Free)) (sound.victim more))
+          (λ more. found_again sound (whole_step heap.victim heap.victim_size)
+          heap.victim (beside heap.victim isnt (extent heap.victim heap.victim_size Free)) (sound.victim more))
           sound.no_victim (rw (test, no_rest) refl)
 
   -- ---- what the calls on the chunk want
 
   head_room : at + size + 16 ≤ run.segment.base + run.segment.size
   head_room =
-      let n = has_next (regions heap.system) (word heap.system) segments sound.segments at (at + size) (chunk ∷ []) run refl in
-      let b = behind (regions heap.system) (word heap.system) segments sound.segments at (at + size) (chunk ∷ []) run n in
+      let n = has_next (regions heap.system) sound.segments run refl in
+      let b = behind (regions heap.system) sound.segments run n in
       let long = (sized n.next.kind n.next.size b.1.size).1 in
       let high = tiles_le (word heap.system) n.next.kind (at + size + n.next.size) n.rest (run.segment.base + run.segment.size) b.2 in
       omega arith
@@ -260,20 +260,20 @@ module _ {A : Type 0} (regions : A → List Grant) (word : A → ℕ → ℕ) (h
   size_whole = stands.size.0
 
   pub end_small : at + size + 16 < 2 ^ 64
-  end_small = omega (arith, head_room, (run_part (regions heap.system) (word heap.system) segments sound.segments at (at + size) (chunk ∷ []) run).high)
+  end_small = omega (arith, head_room, (run_part (regions heap.system) sound.segments run).high)
 
   pub head_there : (k : ℕ) → at ≤ k → k ≤ at + size → k % 8 ≡ 0 → HasHead (regions heap.system) k
   head_there k low high m = record {
     aligned = m;
     small = omega (arith, end_small, high);
-    granted = run_word (regions heap.system) (word heap.system) segments sound.segments at (at + size) (chunk ∷ []) run (k + 8) (omega (arith, low_room, low)) (omega (arith, head_room, high)) (omega (arith, m));
+    granted = run_word (regions heap.system) sound.segments run (k + 8) (omega (arith, low_room, low)) (omega (arith, head_room, high)) (omega (arith, m));
   }
 
   pub foot_there : (k : ℕ) → at ≤ k → k ≤ at + size → k % 8 ≡ 0 → HasFoot (regions heap.system) k
   foot_there k low high m = record {
     aligned = m;
     small = omega (arith, end_small, high);
-    granted = run_word (regions heap.system) (word heap.system) segments sound.segments at (at + size) (chunk ∷ []) run k (omega (arith, low_room, low)) (omega (arith, head_room, high)) m;
+    granted = run_word (regions heap.system) sound.segments run k (omega (arith, low_room, low)) (omega (arith, head_room, high)) m;
   }
 
   -- the stores of two calls, as one
@@ -282,6 +282,6 @@ module _ {A : Type 0} (regions : A → List Grant) (word : A → ℕ → ℕ) (h
       AreStored (regions middle) (word middle) ((at + n + 8, head_of (size - n) true false) ∷ (at + n + (size - n), size - n) ∷ []) (word system) →
       AreStored (regions heap.system) (word heap.system) ((at + 8, head_of n true true) ∷ (at + n + 8, head_of (size - n) true false) ∷ (at + n + (size - n), size - n) ∷ []) (word system)
   stores middle system same fits first second =
-      stored_then (regions heap.system) (word heap.system) (word middle) (word system) (at + 8) (head_of n true true) ((at + n + 8, head_of (size - n) true false) ∷ (at + n + (size - n), size - n) ∷ [])
+      stored_then
       (head_there at (omega arith) (omega arith) (omega (arith, at_whole))).granted first
       (subst (λ (rs : List Grant). AreStored rs (word middle) ((at + n + 8, head_of (size - n) true false) ∷ (at + n + (size - n), size - n) ∷ []) (word system)) same second)

@@ -3,25 +3,25 @@ use Rattle.dlmalloc.proofs.Names.{◌≡◌, ◌≢◌, ℕ, ◌+◌, ◌-◌, �
 use Rattle.dlmalloc.proofs.Extents.Lookup.{extent}
 
 -- one store, and others behind it
-pub stored_then : (regions : List Grant) (old middle new : ℕ → ℕ) (at value : ℕ) (stores : List (ℕ × ℕ)) → IsWordOf regions at → IsStored regions old at value middle → AreStored regions middle stores new → AreStored regions old ((at, value) ∷ stores) new
-stored_then regions old middle new at value stores word first second = record {
+pub stored_then : {regions : List Grant} {old middle new : ℕ → ℕ} {at value : ℕ} {stores : List (ℕ × ℕ)} → IsWordOf regions at → IsStored regions old at value middle → AreStored regions middle stores new → AreStored regions old ((at, value) ∷ stores) new
+stored_then {at} word first second = record {
   here = ((λ apart. second.elsewhere at word apart ∙ first.here), second.here);
   elsewhere = λ k is apart. second.elsewhere k is apart.1 ∙ first.elsewhere k is apart.0;
 }
 
 -- two stores, and another over the second
-pub stored_over : (regions : List Grant) (old middle new : ℕ → ℕ) (first second value other last : ℕ) → IsWordOf regions first → AreStored regions old ((first, value) ∷ (second, other) ∷ []) middle → IsStored regions middle second last new →
+pub stored_over : {regions : List Grant} {old middle new : ℕ → ℕ} {first second : ℕ} (value other : ℕ) {last : ℕ} → IsWordOf regions first → AreStored regions old ((first, value) ∷ (second, other) ∷ []) middle → IsStored regions middle second last new →
     AreStored regions old ((first, value) ∷ (second, last) ∷ []) new
-stored_over regions old middle new first second value other last word before after = record {
+stored_over {first} value other word before after = record {
   here = ((λ apart. after.elsewhere first word apart.0 ∙ before.here.0 apart), ((λ apart. after.here), tt));
   elsewhere = λ k is apart. after.elsewhere k is apart.1.0 ∙ before.elsewhere k is apart;
 }
 
 -- An extent in use or a record, behind one of another kind: bit 0 of its head alone tells of it.
-pub rehung : (words words' : ℕ → ℕ) (before before' : Kind) (next : Extent) → HasChunk words before next → (next.kind ≡ Used) ⊎ (next.kind ≡ Record) → MayStand before' next.kind →
+pub rehung : {words : ℕ → ℕ} (words' : ℕ → ℕ) {before : Kind} (before' : Kind) {next : Extent} → HasChunk words before next → (next.kind ≡ Used) ⊎ (next.kind ≡ Record) → MayStand before' next.kind →
     words' (next.at + 8) ≡ head_of (told_size next.kind next.size) (is_used before') (is_used next.kind) →
     ((k : ℕ) → next.at + 56 ≤ k → k < next.at + next.size → k % 8 ≡ 0 → words' k ≡ words k) → HasChunk words' before' next
-rehung words words' before before' next h kind may head same = record {
+rehung words' before' {next} h kind may head same = record {
   whole = h.whole;
   size = h.size;
   kind = may;
@@ -66,7 +66,7 @@ behind_free Top h = absurd (cc)
 behind_free Record h = inr refl
 behind_free Foot h = absurd (cc)
 
-module _ (regions : List Grant) (old new : ℕ → ℕ) (before : Kind) (at size : ℕ) (stands : HasChunk old before (extent at size Free)) where
+module _ (regions : List Grant) {old : ℕ → ℕ} (new : ℕ → ℕ) {before : Kind} {at size : ℕ} (stands : HasChunk old before (extent at size Free)) where
   -- a rest stays free
   pub cut_split : (n : ℕ) → n % 16 ≡ 0 → 32 ≤ n → n + 32 ≤ size →
       AreStored regions old ((at + 8, head_of n true true) ∷ (at + n + 8, head_of (size - n) true false) ∷ (at + n + (size - n), size - n) ∷ []) new →
@@ -103,7 +103,7 @@ module _ (regions : List Grant) (old new : ℕ → ℕ) (before : Kind) (at size
       }
 
   -- nothing stays free
-  module _ (next : Extent) (behind : HasChunk old Free next) (touch : next.at ≡ at + size) where
+  module _ {next : Extent} (behind : HasChunk old Free next) (touch : next.at ≡ at + size) where
     pub cut_whole : AreStored regions old ((at + 8, head_of size true true) ∷ (at + size + 8, with_pinuse (old (at + size + 8))) ∷ []) new →
         ((k : ℕ) → next.at < k → k < next.at + next.size → k % 8 ≡ 0 → IsWordOf regions k) →
         IsMove regions old new before at (at + size + next.size) (at + size + next.size) (extent at size Free ∷ next ∷ []) (extent at size Used ∷ next ∷ [])
@@ -124,7 +124,7 @@ module _ (regions : List Grant) (old new : ℕ → ℕ) (before : Kind) (at size
             },
             (
               touch,
-              rehung old new Free Used next behind kind (may_stand next.kind Used kind (inl refl))
+              rehung new Used behind kind (may_stand next.kind Used kind (inl refl))
                   (subst (λ (a : ℕ). new (a + 8) ≡ head_of (told_size next.kind next.size) true (is_used next.kind)) (sym touch)
                   (stored.here.1.0 tt ∙ (ap (λ (a : ℕ). with_pinuse (old (a + 8))) (sym touch)
                   ∙ (ap with_pinuse behind.head ∙ with_pinuse-head_of (told_size next.kind next.size) false (is_used next.kind) (told_whole next.kind next.size behind.size)))))
@@ -136,10 +136,10 @@ module _ (regions : List Grant) (old new : ℕ → ℕ) (before : Kind) (at size
         }
 
 -- the top is cut
-pub cut_top : (regions : List Grant) (old new : ℕ → ℕ) (before : Kind) (at size n : ℕ) → HasChunk old before (extent at size Top) → n % 16 ≡ 0 → 32 ≤ n → n + 16 ≤ size →
+pub cut_top : {regions : List Grant} {old new : ℕ → ℕ} {before : Kind} {at size : ℕ} (n : ℕ) → HasChunk old before (extent at size Top) → n % 16 ≡ 0 → 32 ≤ n → n + 16 ≤ size →
     AreStored regions old ((at + 8, head_of n true true) ∷ (at + n + 8, size - n + 1) ∷ []) new →
     IsMove regions old new before at (at + size) (at + size) (extent at size Top ∷ []) (extent at n Used ∷ extent (at + n) (size - n) Top ∷ [])
-cut_top regions old new before at size n stands whole least room stored =
+cut_top n stands whole least room stored =
     let place = stands.whole in
     let units = stands.size.0 in
     record {

@@ -12,7 +12,7 @@ use Rattle.dlmalloc.proofs.Moves.OfFreeExtents.{free_moves}
 use Rattle.dlmalloc.proofs.Cuts.FreeChunk.{IsTake, found_one}
 use Rattle.dlmalloc.proofs.Extents.Top.{is_top, top_among, foot_among}
 
-module _ {A : Type 0} (regions : A → List Grant) (word : A → ℕ → ℕ) (heap : Dlmalloc A) (sound : IsSound regions word heap) (some : 0 < heap.size) (n : ℕ) (multiple : n % 16 ≡ 0) (least : 32 ≤ n) (fits : n < heap.top_size) where
+module _ {A : Type 0} {regions : A → List Grant} {word : A → ℕ → ℕ} {heap : Dlmalloc A} (sound : IsSound regions word heap) (some : 0 < heap.size) (n : ℕ) (multiple : n % 16 ≡ 0) (least : 32 ≤ n) (fits : n < heap.top_size) where
   abbrev segments : List Segment
   segments = segments_of word heap
 
@@ -20,13 +20,13 @@ module _ {A : Type 0} (regions : A → List Grant) (word : A → ℕ → ℕ) (h
   chunk = extent heap.top heap.top_size Top
 
   abbrev run : IsRunOf (word heap.system) segments heap.top (heap.top + heap.top_size) (chunk ∷ [])
-  run = run_of (regions heap.system) (word heap.system) segments sound.segments chunk (top_among regions word heap sound some)
+  run = run_of (regions heap.system) (word heap.system) segments sound.segments (top_among sound some)
 
   stands : HasChunk (word heap.system) (last_kind Used run.first) chunk
   stands = run.here.1
 
   head_segment : run.front ≡ []
-  head_segment = (is_top regions word heap sound run.front run.segment run.back run.is heap.top heap.top_size
+  head_segment = (is_top sound run.front run.segment run.back run.is
       (ap (extent_at heap.top) run.extents ∙ (found_later heap.top run.first (chunk ∷ run.last) (none_outside (word heap.system) Used run.segment.base run.first heap.top heap.top (inr (omega arith)) run.first_stand)
       ∙ found_here chunk run.last))).0
 
@@ -40,16 +40,16 @@ module _ {A : Type 0} (regions : A → List Grant) (word : A → ℕ → ℕ) (h
   room = omega (arith, multiple, fits, stands.size.0)
 
   pub end_small : heap.top + heap.top_size < 2 ^ 64
-  end_small = omega (arith, high, (run_part (regions heap.system) (word heap.system) segments sound.segments heap.top (heap.top + heap.top_size) (chunk ∷ []) run).high)
+  end_small = omega (arith, high, (run_part (regions heap.system) sound.segments run).high)
 
   pub top_low : 4096 ≤ heap.top
-  top_low = omega (arith, low, (run_part (regions heap.system) (word heap.system) segments sound.segments heap.top (heap.top + heap.top_size) (chunk ∷ []) run).low)
+  top_low = omega (arith, low, (run_part (regions heap.system) sound.segments run).low)
 
   pub head_there : (k : ℕ) → heap.top ≤ k → k + 16 ≤ heap.top + heap.top_size → k % 8 ≡ 0 → HasHead (regions heap.system) k
   head_there k above below m = record {
     aligned = m;
     small = omega (arith, end_small, below);
-    granted = run_word (regions heap.system) (word heap.system) segments sound.segments heap.top (heap.top + heap.top_size) (chunk ∷ []) run (k + 8) (omega (arith, low, above)) (omega (arith, high, below)) (omega (arith, m));
+    granted = run_word (regions heap.system) sound.segments run (k + 8) (omega (arith, low, above)) (omega (arith, high, below)) (omega (arith, m));
   }
 
   pub top_head : HasHead (regions heap.system) heap.top
@@ -66,8 +66,8 @@ module _ {A : Type 0} (regions : A → List Grant) (word : A → ℕ → ℕ) (h
     abbrev halves : List Extent
     halves = extent heap.top n Used ∷ extent (heap.top + n) (heap.top_size - n) Top ∷ []
 
-    top_one : (k : ℕ) (tail : Extent) → extent_at k (chunk ∷ []) ≡ Some tail → Top ≡ tail.kind
-    top_one k tail found = ap (λ (e : Extent). e.kind) (found_one k chunk tail found)
+    top_one : (k : ℕ) {tail : Extent} → extent_at k (chunk ∷ []) ≡ Some tail → Top ≡ tail.kind
+    top_one k found = ap (λ (e : Extent). e.kind) (found_one k chunk found)
 
     where_top : extent_at (heap.top + n) (run.first ++ (halves ++ run.last)) ≡ Some (extent (heap.top + n) (heap.top_size - n) Top)
     where_top =
@@ -78,53 +78,53 @@ module _ {A : Type 0} (regions : A → List Grant) (word : A → ℕ → ℕ) (h
     abbrev cut_step : IsStep regions word heap after (chunk ∷ []) halves
     cut_step =
         let head = head_is word heap run.front run.segment run.back head_segment run.is sound.told in
-        step_top regions word heap after sound same heap.top (heap.top + heap.top_size) (chunk ∷ []) halves run
-        (cut_top (regions heap.system) (word heap.system) (word system) (last_kind Used run.first) heap.top heap.top_size n stands multiple least room stored) refl
-        (λ k tail found is. absurd (let no : Top ≡ Record = top_one k tail found ∙ is in cc)) refl head_segment
+        step_top after sound same run
+        (cut_top n stands multiple least room stored) refl
+        (λ k tail found is. absurd (let no : Top ≡ Record = top_one k found ∙ is in cc)) refl head_segment
         (record { some = head.some; base = head.base; size = head.size; flags = head.flags; top = where_top })
 
     -- the top is cut, and the victim stays
     pub top_taken : IsTake regions word heap chunk n after
     top_taken = record {
       state = (
-          let segments_are = read regions word heap after sound (chunk ∷ []) halves cut_step
-          ∙ sym (replaced_run (regions heap.system) (word heap.system) segments sound.segments sound.apart chunk (cut n) run) in
+          let segments_are = read sound cut_step
+          ∙ sym (replaced_run (regions heap.system) sound.segments sound.apart (cut n) run) in
           λ i. record { segments = segments_are i; victim = heap.victim; granularity = heap.granularity; rate = heap.rate; countdown = heap.countdown; trim_check = heap.trim_check });
-      more = has_more regions word heap after sound (chunk ∷ []) halves cut_step (extent heap.top n Used) (record { front = []; back = []; fewer = refl; further = refl });
-      sound = stays_sound regions word heap after sound (chunk ∷ []) halves cut_step same refl refl refl refl sound.no_victim
-          (λ more. found_again regions word heap after sound (chunk ∷ []) halves cut_step heap.victim (extent heap.victim heap.victim_size Free)
-          (λ found. absurd (let no : Top ≡ Free = top_one heap.victim (extent heap.victim heap.victim_size Free) found in cc)) (sound.victim more));
-      words = keeps_words regions word heap after sound (chunk ∷ []) halves cut_step;
+      more = has_more sound cut_step (extent heap.top n Used) (record { front = []; back = []; fewer = refl; further = refl });
+      sound = stays_sound sound cut_step same refl refl refl refl sound.no_victim
+          (λ more. found_again sound cut_step heap.victim
+          (λ found. absurd (let no : Top ≡ Free = top_one heap.victim found in cc)) (sound.victim more));
+      words = keeps_words sound cut_step;
     }
 
     -- no free extent but the top changes
     pub top_free : FreeMoves (state_of word heap) (state_of word after) [] []
-    top_free = free_moves regions word heap after sound (chunk ∷ []) halves cut_step [] []
-        (λ k bytes found. (let no : Top ≡ Free = top_one k (extent k bytes Free) found in cc))
-        (λ k bytes found. elim (found_either k (extent heap.top n Used ∷ []) (extent (heap.top + n) (heap.top_size - n) Top ∷ []) (extent k bytes Free) found) [
-          | inl first ↦ (let no : Used ≡ Free = ap (λ (e : Extent). e.kind) (found_one k (extent heap.top n Used) (extent k bytes Free) first) in cc)
-          | inr later ↦ (let no : Top ≡ Free = ap (λ (e : Extent). e.kind) (found_one k (extent (heap.top + n) (heap.top_size - n) Top) (extent k bytes Free) later.1) in cc)
+    top_free = free_moves sound cut_step [] []
+        (λ k bytes found. (let no : Top ≡ Free = top_one k found in cc))
+        (λ k bytes found. elim (found_either k (extent heap.top n Used ∷ []) (extent (heap.top + n) (heap.top_size - n) Top ∷ []) found) [
+          | inl first ↦ (let no : Used ≡ Free = ap (λ (e : Extent). e.kind) (found_one k (extent heap.top n Used) first) in cc)
+          | inr later ↦ (let no : Top ≡ Free = ap (λ (e : Extent). e.kind) (found_one k (extent (heap.top + n) (heap.top_size - n) Top) later.1) in cc)
         ])
         (λ k none. absurd none) (λ k none. absurd none)
 
     -- all others are found as before
     pub others_still : (one : Extent) → one.at ≢ heap.top → extent_at one.at (extents_in (state_of word heap)) ≡ Some one → extent_at one.at (extents_in (state_of word after)) ≡ Some one
-    others_still one other there = found_again regions word heap after sound (chunk ∷ []) halves cut_step one.at one
-        (λ found. absurd (other (ap (λ (e : Extent). e.at) (sym (found_one one.at chunk one found))))) there
+    others_still one other there = found_again sound cut_step one.at
+        (λ found. absurd (other (ap (λ (e : Extent). e.at) (sym (found_one one.at chunk found))))) there
 
     -- the heads that the top and its foot had are boundaries still
     pub head_boundary : IsBoundary (state_of word after) (heap.top + 8)
     head_boundary = record {
       extent = extent heap.top n Used;
-      there = found_new regions word heap after sound (chunk ∷ []) halves cut_step heap.top (extent heap.top n Used) (let here = nat_same heap.top in rw here refl);
+      there = found_new sound cut_step heap.top (extent heap.top n Used) (let here = nat_same heap.top in rw here refl);
       is = inl refl;
     }
 
     pub foot_boundary : IsBoundary (state_of word after) (heap.top + heap.top_size + 8)
     foot_boundary = record {
       extent = extent (heap.top + heap.top_size) 80 Foot;
-      there = found_again regions word heap after sound (chunk ∷ []) halves cut_step (heap.top + heap.top_size) (extent (heap.top + heap.top_size) 80 Foot)
-          (λ found. absurd (let no : Top ≡ Foot = top_one (heap.top + heap.top_size) (extent (heap.top + heap.top_size) 80 Foot) found in cc)) (foot_among regions word heap sound some);
+      there = found_again sound cut_step (heap.top + heap.top_size)
+          (λ found. absurd (let no : Top ≡ Foot = top_one (heap.top + heap.top_size) found in cc)) (foot_among sound some);
       is = inl refl;
     }
 
@@ -133,6 +133,6 @@ module _ {A : Type 0} (regions : A → List Grant) (word : A → ℕ → ℕ) (h
       IsStored (regions middle) (word middle) (heap.top + n + 8) (heap.top_size - n + 1) (word system) →
       AreStored (regions heap.system) (word heap.system) ((heap.top + 8, head_of n true true) ∷ (heap.top + n + 8, heap.top_size - n + 1) ∷ []) (word system)
   stores middle system same first second =
-      stored_then (regions heap.system) (word heap.system) (word middle) (word system) (heap.top + 8) (head_of n true true) ((heap.top + n + 8, heap.top_size - n + 1) ∷ []) top_head.granted first
+      stored_then top_head.granted first
       (subst (λ (rs : List Grant). AreStored rs (word middle) ((heap.top + n + 8, heap.top_size - n + 1) ∷ []) (word system)) same
       (record { here = ((λ apart. second.here), tt); elsewhere = λ k word apart. second.elsewhere k word apart.0 }))

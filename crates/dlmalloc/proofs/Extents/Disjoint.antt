@@ -14,11 +14,11 @@ beside_in words before from extents to h one other there there_other apart =
     let f = found one.at one extents there in
     let s = tiles_split words before from f.front (one ∷ f.back) to (subst (λ (es : List Extent). Tiles words before from es to) f.is h) in
     let place : one.at ≡ s.middle = s.second.0 in
-    elim (found_either other.at f.front (one ∷ f.back) other (ap (extent_at other.at) (sym f.is) ∙ there_other)) [
-      | inl first ↦ (let is = in_part words before from f.front s.middle other s.first first in let high = is.high in inr (omega arith))
-      | inr later ↦ elim (found_either other.at (one ∷ []) f.back other later.1) [
+    elim (found_either other.at f.front (one ∷ f.back) (ap (extent_at other.at) (sym f.is) ∙ there_other)) [
+      | inl first ↦ (let is = in_part words before from f.front s.middle s.first first in let high = is.high in inr (omega arith))
+      | inr later ↦ elim (found_either other.at (one ∷ []) f.back later.1) [
         | inl here ↦ absurd (apart (at_one other.at other one here))
-        | inr behind ↦ (let is = in_part words one.kind (s.middle + one.size) f.back to other s.second.2 behind.1 in let low = is.low in inl (omega arith))
+        | inr behind ↦ (let is = in_part words one.kind (s.middle + one.size) f.back to s.second.2 behind.1 in let low = is.low in inl (omega arith))
       ]
     ]
   where
@@ -30,34 +30,34 @@ beside_in words before from extents to h one other there there_other apart =
         go false test same = absurd (cc)
 
 -- in some segments, apart from another
-within : (regions : List Grant) (words : ℕ → ℕ) (segment : Segment) (segments : List Segment) → AreSegments regions words segments → AllByRecursion (IsApartFrom segment) segments → (one : Extent) → extent_at one.at (extents_all segments) ≡ Some one →
+within : (regions : List Grant) (words : ℕ → ℕ) (segment : Segment) (segments : List Segment) → AreSegments regions words segments → AllByRecursion (IsApartFrom segment) segments → {one : Extent} → extent_at one.at (extents_all segments) ≡ Some one →
     (one.at + one.size ≤ segment.base) ⊎ (segment.base + segment.size ≤ one.at)
-within regions words segment segments parts apart one there =
-    let l = located one.at one segments there in
-    let p = of_located (IsSegment regions words) one.at one segments l parts in
-    let is = in_part words Used l.segment.base l.segment.extents (l.segment.base + l.segment.size) one p.extents l.there in
+within regions words segment segments parts apart {one} there =
+    let l = located one.at segments there in
+    let p = of_located (IsSegment regions words) l parts in
+    let is = in_part words Used l.segment.base l.segment.extents (l.segment.base + l.segment.size) p.extents l.there in
     let low = is.low in let high = is.high in
-    elim (of_located (IsApartFrom segment) one.at one segments l apart) [ inl before ↦ inr (omega arith) | inr behind ↦ inl (omega arith) ]
+    elim (of_located (IsApartFrom segment) l apart) [ inl before ↦ inr (omega arith) | inr behind ↦ inl (omega arith) ]
 
 -- in all
-pub beside : (regions : List Grant) (words : ℕ → ℕ) (segments : List Segment) → AreSegments regions words segments → AreApart segments → (one other : Extent) → extent_at one.at (extents_all segments) ≡ Some one → extent_at other.at (extents_all segments) ≡ Some other → one.at ≢ other.at → AreBeside one other
-beside regions words [] parts apart one other there there_other differ = absurd (cc)
-beside regions words (segment ∷ segments) parts apart one other there there_other differ =
-    both (found_either one.at segment.extents (extents_all segments) one there) (found_either other.at segment.extents (extents_all segments) other there_other)
-    (λ a b. beside regions words segments parts.1 apart.1 one other a b differ)
+pub beside : (regions : List Grant) (words : ℕ → ℕ) (segments : List Segment) → AreSegments regions words segments → AreApart segments → {one other : Extent} → extent_at one.at (extents_all segments) ≡ Some one → extent_at other.at (extents_all segments) ≡ Some other → one.at ≢ other.at → AreBeside one other
+beside regions words [] parts apart there there_other differ = absurd (cc)
+beside regions words (segment ∷ segments) parts apart {one} {other} there there_other differ =
+    both (found_either one.at segment.extents (extents_all segments) there) (found_either other.at segment.extents (extents_all segments) there_other)
+    (λ a b. beside regions words segments parts.1 apart.1 a b differ)
   where
     both : (extent_at one.at segment.extents ≡ Some one) ⊎ ((extent_at one.at segment.extents ≡ None) × (extent_at one.at (extents_all segments) ≡ Some one)) →
         (extent_at other.at segment.extents ≡ Some other) ⊎ ((extent_at other.at segment.extents ≡ None) × (extent_at other.at (extents_all segments) ≡ Some other)) →
         (extent_at one.at (extents_all segments) ≡ Some one → extent_at other.at (extents_all segments) ≡ Some other → AreBeside one other) → AreBeside one other
     both (inl a) (inl b) later = beside_in words Used segment.base segment.extents (segment.base + segment.size) parts.0.extents one other a b differ
     both (inl a) (inr b) later =
-        let is = in_part words Used segment.base segment.extents (segment.base + segment.size) one parts.0.extents a in
+        let is = in_part words Used segment.base segment.extents (segment.base + segment.size) parts.0.extents a in
         let low = is.low in let high = is.high in
-        elim (within regions words segment segments parts.1 apart.0 other b.1) [ inl before ↦ inr (omega arith) | inr behind ↦ inl (omega arith) ]
+        elim (within regions words segment segments parts.1 apart.0 b.1) [ inl before ↦ inr (omega arith) | inr behind ↦ inl (omega arith) ]
     both (inr a) (inl b) later =
-        let is = in_part words Used segment.base segment.extents (segment.base + segment.size) other parts.0.extents b in
+        let is = in_part words Used segment.base segment.extents (segment.base + segment.size) parts.0.extents b in
         let low = is.low in let high = is.high in
-        elim (within regions words segment segments parts.1 apart.0 one a.1) [ inl before ↦ inl (omega arith) | inr behind ↦ inr (omega arith) ]
+        elim (within regions words segment segments parts.1 apart.0 a.1) [ inl before ↦ inl (omega arith) | inr behind ↦ inr (omega arith) ]
     both (inr a) (inr b) later = later a.1 b.1
 
 -- behind an extent that ends no segment stands another
@@ -79,9 +79,9 @@ room_behind words before from extents to one h tail there inner =
         omega arith
 
 -- how an extent stands
-pub stands_there : (regions : List Grant) (words : ℕ → ℕ) (segments : List Segment) → AreSegments regions words segments → (one : Extent) → extent_at one.at (extents_all segments) ≡ Some one → (before : Kind) × HasChunk words before one
-stands_there regions words segments parts one there =
-    let l = located one.at one segments there in
-    let p = of_located (IsSegment regions words) one.at one segments l parts in
-    let is = in_part words Used l.segment.base l.segment.extents (l.segment.base + l.segment.size) one p.extents l.there in
+pub stands_there : (regions : List Grant) (words : ℕ → ℕ) (segments : List Segment) → AreSegments regions words segments → {one : Extent} → extent_at one.at (extents_all segments) ≡ Some one → (before : Kind) × HasChunk words before one
+stands_there regions words segments parts {one} there =
+    let l = located one.at segments there in
+    let p = of_located (IsSegment regions words) l parts in
+    let is = in_part words Used l.segment.base l.segment.extents (l.segment.base + l.segment.size) p.extents l.there in
     (is.before, is.stands)

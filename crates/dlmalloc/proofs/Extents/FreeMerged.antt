@@ -15,8 +15,8 @@ pub before_free : (extent next : Extent) (extents : List Extent) → is_free ext
     before extent (next ∷ extents) ≡ (record { at = extent.at; size = extent.size + next.size; kind = next.kind }) ∷ extents
 before_free extent next extents first second = rw (first, second) refl
 
-inside : (plain : Bool) (low high at : ℕ) → plain ≡ true → low ≤ at → at < high → (plain && nat_le low at && nat_lt at high) ≡ true
-inside plain low high at is above below =
+inside : {plain : Bool} (low high at : ℕ) → plain ≡ true → low ≤ at → at < high → (plain && nat_le low at && nat_lt at high) ≡ true
+inside low high at is above below =
     let one : nat_le low at ≡ true = grind (arith, nat_tests) in
     let two : nat_lt at high ≡ true = grind (arith, nat_tests) in
     rw (is, one, two) refl
@@ -24,5 +24,5 @@ inside plain low high at is above below =
 -- a free chunk has its bytes
 pub has_here : (chunk : Extent) (rest : List Extent) (at : ℕ) → chunk.kind ≡ Free → chunk.at ≤ at → at < chunk.at + chunk.size → find (has at) (chunk ∷ rest) ≡ Some chunk
 has_here chunk rest at free low high =
-    let test : has at chunk ≡ true = inside (is_free_below_top chunk.kind) chunk.at (chunk.at + chunk.size) at (ap is_free_below_top free) low high in
+    let test : has at chunk ≡ true = inside chunk.at (chunk.at + chunk.size) at (ap is_free_below_top free) low high in
     rw test refl

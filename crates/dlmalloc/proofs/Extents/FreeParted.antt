@@ -28,8 +28,8 @@ none_behind words before from [] to ends h = refl
 none_behind words before from (next ∷ back) to ends h = absurd (let inner = (pair before next.kind h.1.kind).inner in cc)
 
 -- the one of one
-at_one : (k : ℕ) (one other : Extent) → extent_at k (one ∷ []) ≡ Some other → (one ≡ other) × (one.at ≡ k)
-at_one k one other there = go (one.at == k) refl there
+at_one : (k : ℕ) (one : Extent) {other : Extent} → extent_at k (one ∷ []) ≡ Some other → (one ≡ other) × (one.at ≡ k)
+at_one k one {other} there = go (one.at == k) refl there
   where
     go : (b : Bool) → (one.at == k) ≡ b → (if b then Some one else None) ≡ Some other → (one ≡ other) × (one.at ≡ k)
     go true test is = (the_extent is, nat_is test)
@@ -37,10 +37,10 @@ at_one k one other there = go (one.at == k) refl there
 
 pub parted : (words : ℕ → ℕ) (before : Kind) (from : ℕ) (extents : List Extent) (to : ℕ) → Tiles words before from extents to → AreParted extents
 parted words before from extents to h first second there there' free free' less =
-    elim (found_either second.at f.front (first ∷ f.back) second (ap (extent_at second.at) (sym f.is) ∙ there')) [
-      | inl early ↦ absurd (let is = in_part words before from f.front s.middle second s.first early in let high = is.high in let place = s.second.0 in omega arith)
-      | inr later ↦ elim (found_either second.at (first ∷ []) f.back second later.1) [
-        | inl here ↦ absurd (let same = (at_one second.at first second here).1 in omega arith)
+    elim (found_either second.at f.front (first ∷ f.back) (ap (extent_at second.at) (sym f.is) ∙ there')) [
+      | inl early ↦ absurd (let is = in_part words before from f.front s.middle s.first early in let high = is.high in let place = s.second.0 in omega arith)
+      | inr later ↦ elim (found_either second.at (first ∷ []) f.back later.1) [
+        | inl here ↦ absurd (let same = (at_one second.at first here).1 in omega arith)
         | inr behind ↦ go f.back s.second.2 behind.1 (subst AreDistinct f.is (tiles_distinct words before from extents to h)) f.is
       ]
     ]
@@ -55,15 +55,15 @@ parted words before from extents to h first second there there' free free' less 
         HasUsedBetween extents (first.at + first.size) second.at
     go [] tiles there distinct is = absurd (cc)
     go (next ∷ back) tiles there distinct is = elim (behind_free first.kind next.kind free tiles.1.kind) [
-      | inl used ↦ elim (found_either second.at (next ∷ []) back second there) [
-        | inl here ↦ absurd (let same = ap (λ (e : Extent). is_free e.kind) (at_one second.at next second here).0 in let not = ap is_free used in cc)
+      | inl used ↦ elim (found_either second.at (next ∷ []) back there) [
+        | inl here ↦ absurd (let same = ap (λ (e : Extent). is_free e.kind) (at_one second.at next here).0 in let not = ap is_free used in cc)
         | inr behind ↦ (
             let place = s.second.0 in let at = tiles.0 in
-            let later = in_part words next.kind (s.middle + first.size + next.size) back to second tiles.2 behind.1 in let low = later.low in
+            let later = in_part words next.kind (s.middle + first.size + next.size) back to tiles.2 behind.1 in let low = later.low in
             let all = is ∙ sym (append_assoc f.front (first ∷ []) (next ∷ back)) in
             record {
               used = next;
-              there = ap (extent_at next.at) all ∙ distinct_later (f.front ++ first ∷ []) (next ∷ back) next.at next (subst AreDistinct all (tiles_distinct words before from extents to h)) (found_here next back);
+              there = ap (extent_at next.at) all ∙ distinct_later (f.front ++ first ∷ []) (next ∷ back) next.at (subst AreDistinct all (tiles_distinct words before from extents to h)) (found_here next back);
               is = used;
               behind = omega arith;
               before = omega arith;
@@ -71,7 +71,7 @@ parted words before from extents to h first second there there' free free' less 
       ]
       | inr ends ↦ absurd (
           let none = none_behind words next.kind (s.middle + first.size + next.size) back to ends tiles.2 in
-          let same = ap (λ (e : Extent). is_free e.kind) (at_one second.at next second (ap (λ (es : List Extent). extent_at second.at (next ∷ es)) (sym none) ∙ there)).0 in
+          let same = ap (λ (e : Extent). is_free e.kind) (at_one second.at next (ap (λ (es : List Extent). extent_at second.at (next ∷ es)) (sym none) ∙ there)).0 in
           let not = (pair first.kind next.kind tiles.1.kind).apart in
           let no : is_free next.kind ≡ false = ap (λ (b : Bool). b && is_free next.kind) (sym free) ∙ not in cc)
     ]
@@ -82,7 +82,7 @@ all_parted regions words (segment ∷ segments) parts = (parted words Used segme
 
 -- ---- no extent is in use
 
-module _ (regions : List Grant) (words : ℕ → ℕ) (segment : Segment) (part : IsSegment regions words segment) (unused : (one : Extent) → extent_at one.at segment.extents ≡ Some one → one.kind ≢ Used) where
+module _ {regions : List Grant} {words : ℕ → ℕ} {segment : Segment} (part : IsSegment regions words segment) (unused : (one : Extent) → extent_at one.at segment.extents ≡ Some one → one.kind ≢ Used) where
   -- a free extent, and what ends the segment
   pub record IsBare : Type 0 where
     pub one : Extent
@@ -105,7 +105,7 @@ module _ (regions : List Grant) (words : ℕ → ℕ) (segment : Segment) (part 
               behind [] is h tail = absurd (elim kind [ inl a ↦ (let no = ap ends_segment a in cc) | inr a ↦ (let no = ap ends_segment a in cc) ])
               behind (last ∷ rest) is h tail = elim (behind_free one.kind last.kind test h.1.kind) [
                 | inl used ↦ absurd (unused last (ap (extent_at last.at) is
-                    ∙ distinct_later (one ∷ []) (last ∷ rest) last.at last (subst AreDistinct is (tiles_distinct words Used segment.base segment.extents (segment.base + segment.size) part.extents)) (found_here last rest)) used)
+                    ∙ distinct_later (one ∷ []) (last ∷ rest) last.at (subst AreDistinct is (tiles_distinct words Used segment.base segment.extents (segment.base + segment.size) part.extents)) (found_here last rest)) used)
                 | inr ends ↦ record {
                   one = one;
                   last = last;
@@ -127,8 +127,8 @@ module _ (regions : List Grant) (words : ℕ → ℕ) (segment : Segment) (part 
               elim (subst (λ (kind : Kind). IsSize kind one.size) same size) [ inl short ↦ omega (arith, end) | inr longer ↦ omega (arith, end) ])
           by_kind Foot same may size = absurd (let no = subst (MayStand Used) same may in cc)
 
-  one_free : (kind : Kind) → bare.one.kind ≡ kind → HasOneFree kind segment.extents
-  one_free kind is = record { extent = bare.one; only = ap (filter (λ (e : Extent). is_free e.kind)) bare.is ∙ rw (free, other) refl; is = is }
+  one_free : {kind : Kind} → bare.one.kind ≡ kind → HasOneFree kind segment.extents
+  one_free {kind} is = record { extent = bare.one; only = ap (filter (λ (e : Extent). is_free e.kind)) bare.is ∙ rw (free, other) refl; is = is }
     where
       free : is_free bare.one.kind ≡ true
       free = elim bare.free [ inl a ↦ ap is_free a | inr a ↦ ap is_free a ]
@@ -145,36 +145,36 @@ module _ (regions : List Grant) (words : ℕ → ℕ) (segment : Segment) (part 
           go Foot ends = refl
 
   -- what is found is one of the two
-  pub either : (k : ℕ) (other : Extent) → extent_at k segment.extents ≡ Some other → (bare.one ≡ other) ⊎ (bare.last ≡ other)
-  either k other there = elim (found_either k (bare.one ∷ []) (bare.last ∷ []) other (ap (extent_at k) (sym bare.is) ∙ there)) [
-    | inl here ↦ inl (at_one k bare.one other here).0
-    | inr later ↦ inr (at_one k bare.last other later.1).0
+  pub either : (k : ℕ) {other : Extent} → extent_at k segment.extents ≡ Some other → (bare.one ≡ other) ⊎ (bare.last ≡ other)
+  either k there = elim (found_either k (bare.one ∷ []) (bare.last ∷ []) (ap (extent_at k) (sym bare.is) ∙ there)) [
+    | inl here ↦ inl (at_one k bare.one here).0
+    | inr later ↦ inr (at_one k bare.last later.1).0
   ]
 
   -- a segment with the top
-  pub head_free : (at size : ℕ) → extent_at at segment.extents ≡ Some (extent at size Top) → HasOneFree Top segment.extents
-  head_free at size there = elim (either at (extent at size Top) there) [
-    | inl one ↦ one_free Top (ap (λ (e : Extent). e.kind) one)
+  pub head_free : {at size : ℕ} → extent_at at segment.extents ≡ Some (extent at size Top) → HasOneFree Top segment.extents
+  head_free {at} there = elim (either at there) [
+    | inl one ↦ one_free (ap (λ (e : Extent). e.kind) one)
     | inr last ↦ absurd (let ends = bare.ends in let no = ap (λ (e : Extent). ends_segment e.kind) last in cc)
   ]
 
   -- a segment with a record
   pub record_free : (at : ℕ) → extent_at at segment.extents ≡ Some (record_of at (segment.base + segment.size)) → HasOneFree Free segment.extents
   record_free at there = elim bare.free [
-    | inl free ↦ one_free Free free
-    | inr top ↦ absurd (no_record regions words segment part bare.one.at bare.one.size at
+    | inl free ↦ one_free free
+    | inr top ↦ absurd (no_record part at
         (ap (extent_at bare.one.at) bare.is ∙ (found_here bare.one (bare.last ∷ []) ∙ ap (λ (kind : Kind). Some (extent bare.one.at bare.one.size kind)) top)) there)
   ]
 
-module _ {A : Type 0} (regions : A → List Grant) (word : A → ℕ → ℕ) (heap : Dlmalloc A) (sound : IsSound regions word heap) (unused : IsUnused (state_of word heap)) where
+module _ {A : Type 0} {regions : A → List Grant} {word : A → ℕ → ℕ} {heap : Dlmalloc A} (sound : IsSound regions word heap) (unused : IsUnused (state_of word heap)) where
   in_segment : (front : List Segment) (segment : Segment) (back : List Segment) → segments_of word heap ≡ front ++ segment ∷ back → (one : Extent) → extent_at one.at segment.extents ≡ Some one → one.kind ≢ Used
-  in_segment front segment back is one there = unused one (among_all (regions heap.system) (word heap.system) (segments_of word heap) sound.segments sound.apart front segment back is one.at one there)
+  in_segment front segment back is one there = unused one (among_all (regions heap.system) (word heap.system) sound.segments sound.apart front segment back is one.at there)
 
   in_records : (front segments : List Segment) → segments_of word heap ≡ front ++ segments → AreSegments (regions heap.system) (word heap.system) segments → (payload : ℕ) → AreRecords (word heap.system) payload segments →
       AllByRecursion (λ (segment : Segment). HasOneFree Free segment.extents) segments
   in_records front [] is parts payload h = tt
   in_records front (segment ∷ segments) is parts payload h = (
-    record_free (regions heap.system) (word heap.system) segment parts.0 (in_segment front segment segments is) (payload - 16) h.4,
+    record_free parts.0 (in_segment front segment segments is) (payload - 16) h.4,
     in_records (front ++ segment ∷ []) segments (is ∙ sym (append_assoc front (segment ∷ []) segments)) parts.1 (word heap.system (payload + 16)) h.5,
   )
 
@@ -184,6 +184,6 @@ module _ {A : Type 0} (regions : A → List Grant) (word : A → ℕ → ℕ) (h
       go : (segments : List Segment) → segments_of word heap ≡ segments → AreSegments (regions heap.system) (word heap.system) segments → AreTold (word heap.system) heap segments → EachHasOneFree segments
       go [] is parts h = tt
       go (segment ∷ segments) is parts h = (
-        head_free (regions heap.system) (word heap.system) segment parts.0 (in_segment [] segment segments is) heap.top heap.top_size h.4,
+        head_free parts.0 (in_segment [] segment segments is) h.4,
         in_records (segment ∷ []) segments is parts.1 heap.next h.5,
       )

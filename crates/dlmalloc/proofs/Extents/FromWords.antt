@@ -40,8 +40,8 @@ kind_told Top before size whole is h = elim is [ inl a ↦ absurd (cc) | inr a �
 kind_told Record before size whole is h = elim is [ inl a ↦ absurd (cc) | inr a ↦ absurd (cc) ]
 kind_told Foot before size whole is h = elim is [ inl a ↦ absurd (cc) | inr a ↦ absurd (cc) ]
 
-pub told : (words : ℕ → ℕ) (before : Kind) (chunk : Extent) → IsChunkKind chunk.kind → HasChunk words before chunk → extent chunk.at (size_of (words (chunk.at + 8))) (kind_of (words (chunk.at + 8))) ≡ chunk
-told words before chunk is h =
+pub told : {words : ℕ → ℕ} {before : Kind} {chunk : Extent} → IsChunkKind chunk.kind → HasChunk words before chunk → extent chunk.at (size_of (words (chunk.at + 8))) (kind_of (words (chunk.at + 8))) ≡ chunk
+told {words} {before} {chunk} is h =
     let s = sized chunk.kind chunk.size h.size in
     let units = s.0 in
     let whole : chunk.size % 8 ≡ 0 = omega arith in
@@ -63,7 +63,7 @@ chunks_read words before (suc most) at (chunk ∷ chunks) end few h are =
     let long = (sized chunk.kind chunk.size h.1.size).1 in
     let later = tiles_le words chunk.kind (at + chunk.size) chunks end h.2 in
     let one : extent at (size_of (words (at + 8))) (kind_of (words (at + 8))) ≡ chunk =
-    subst (λ (a : ℕ). extent a (size_of (words (a + 8))) (kind_of (words (a + 8))) ≡ chunk) h.0 (told words before chunk are.0 h.1) in
+    subst (λ (a : ℕ). extent a (size_of (words (a + 8))) (kind_of (words (a + 8))) ≡ chunk) h.0 (told are.0 h.1) in
     let rest : chunks_from words most (at + size_of (words (at + 8))) end ≡ chunks =
     ap (λ (e : Extent). chunks_from words most (at + e.size) end) one ∙ chunks_read words chunk.kind most (at + chunk.size) chunks end (omega arith) h.2 are.1 in
     rw (lt-ltb at end (omega arith)) (λ i. one i ∷ rest i)
@@ -107,15 +107,15 @@ behind_top words from (foot ∷ back) end h tail =
     let ends = rest.1 in
     (λ i. same_extent {at = foot.at} {at' = end - 80} {size = foot.size} {size' = 80} {kind = foot.kind} {kind' = Foot} (omega arith) size kind i ∷ rest.0 i, omega arith)
 
-module _ (regions : List Grant) (words : ℕ → ℕ) (segment : Segment) (h : IsSegment regions words segment) where
+module _ {regions : List Grant} {words : ℕ → ℕ} {segment : Segment} (h : IsSegment regions words segment) where
   abbrev end : ℕ
   end = segment.base + segment.size
 
   -- what is read of a segment whose tail stands at an address
-  read : (last : Extent) → last.kind ≢ Foot → extent_at last.at segment.extents ≡ Some last → (tail : List Extent) →
+  read : {last : Extent} → last.kind ≢ Foot → extent_at last.at segment.extents ≡ Some last → (tail : List Extent) →
       ((back : List Extent) → Tiles words last.kind (last.at + last.size) back end → ends_segment (last_kind last.kind back) ≡ true → last ∷ back ≡ tail) →
       chunks_from words (segment.size / 16) segment.base last.at ++ tail ≡ segment.extents
-  read last other there tail rest =
+  read {last} other there tail rest =
       let f = found last.at last segment.extents there in
       let s = tiles_split words Used segment.base f.front (last ∷ f.back) end (subst (λ (es : List Extent). Tiles words Used segment.base es end) f.is h.extents) in
       let place : last.at ≡ s.middle = s.second.0 in
@@ -129,13 +129,13 @@ module _ (regions : List Grant) (words : ℕ → ℕ) (segment : Segment) (h : I
       (ap ends_segment (sym (last_append Used f.front (last ∷ f.back))) ∙ (ap (λ (es : List Extent). ends_segment (last_kind Used es)) (sym f.is) ∙ h.tail)) in
       (λ i. chunks i ++ (sym is) i) ∙ sym f.is
 
-  pub read_top : (top size : ℕ) → extent_at top segment.extents ≡ Some (extent top size Top) → chunks_from words (segment.size / 16) segment.base top ++ top_and_foot top end ≡ segment.extents
-  read_top top size there = read (extent top size Top) (λ is. cc) there (top_and_foot top end)
+  pub read_top : {top size : ℕ} → extent_at top segment.extents ≡ Some (extent top size Top) → chunks_from words (segment.size / 16) segment.base top ++ top_and_foot top end ≡ segment.extents
+  read_top {top} {size} there = read (λ is. cc) there (top_and_foot top end)
       (λ back tiles tail. let b = behind_top words (top + size) back end tiles tail in let ends = b.1 in
       λ i. same_extent {at = top} {at' = top} {size = size} {size' = end - 80 - top} {kind = Top} {kind' = Top} refl (omega arith) refl i ∷ b.0 i)
 
   pub read_record : (at : ℕ) → extent_at at segment.extents ≡ Some (record_of at end) → chunks_from words (segment.size / 16) segment.base at ++ record_of at end ∷ [] ≡ segment.extents
-  read_record at there = read (record_of at end) (λ is. cc) there (record_of at end ∷ [])
+  read_record at there = read (λ is. cc) there (record_of at end ∷ [])
       (λ back tiles tail. ap (λ (b : List Extent). record_of at end ∷ b) (nothing words Record (at + (end - at)) back end none_behind_record tiles).0)
 
 pub records_read : (regions : List Grant) (words : ℕ → ℕ) (most payload : ℕ) (segments : List Segment) → length segments ≤ most → AreSegments regions words segments → AreRecords words payload segments →
@@ -146,7 +146,7 @@ records_read regions words (suc most) payload [] few parts h = (let none : (payl
 records_read regions words zero payload (segment ∷ segments) few parts h = absurd (omega (arith, few))
 records_read regions words (suc most) payload (segment ∷ segments) few parts h =
     let some : (payload == 0) ≡ false = nat_isnt (inr (let l = h.0 in omega arith)) in
-    let extents = read_record regions words segment parts.0 (payload - 16) h.4 in
+    let extents = read_record parts.0 (payload - 16) h.4 in
     let whole : chunks_from words (words (payload + 8) / 16) (words payload) (payload - 16) ++ record_of (payload - 16) (words payload + words (payload + 8)) ∷ [] ≡ segment.extents =
     (λ i. chunks_from words (h.2 i / 16) (h.1 i) (payload - 16) ++ record_of (payload - 16) (h.1 i + h.2 i) ∷ []) ∙ extents in
     rw some (λ i. (record { base = h.1 i; size = h.2 i; flags = h.3 i; extents = whole i }) ∷ records_read regions words most (words (payload + 16)) segments (omega (arith, few)) parts.1 h.5 i)

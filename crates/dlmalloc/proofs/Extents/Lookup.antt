@@ -13,17 +13,17 @@ abbrev pub end_of : (ℕ → ℕ) → ℕ → ℕ
 end_of words at = if free_of (words (at + 8)) then at + size_of (words (at + 8)) else at
 
 pub nat_is : {m n : ℕ} → (m == n) ≡ true → m ≡ n
-nat_is {m} {n} test = grind (arith, nat_tests)
+nat_is test = grind (arith, nat_tests)
 
 pub nat_same : (n : ℕ) → (n == n) ≡ true
 nat_same n = grind (arith, nat_tests)
 
 pub nat_isnt : {m n : ℕ} → (m < n) ⊎ (n < m) → (m == n) ≡ false
-nat_isnt {m} {n} apart = grind (arith, nat_tests)
+nat_isnt apart = grind (arith, nat_tests)
 
 -- an extent that is found is the one there
 pub the_extent : {one other : Extent} → Some one ≡ Some other → one ≡ other
-the_extent {one} {other} h = ap (λ (o : Option Extent). unwrap_or o one) h
+the_extent {one} h = ap (λ (o : Option Extent). unwrap_or o one) h
 
 -- an extent with those before and behind it
 pub record Found (at : ℕ) (extent : Extent) (extents : List Extent) : Type 0 where
@@ -50,13 +50,13 @@ pub found_here : (extent : Extent) (rest : List Extent) → extent_at extent.at 
 found_here extent rest = rw (nat_same extent.at) refl
 
 -- an extent that is found is found with more behind
-pub found_more : (at : ℕ) (extents more : List Extent) (extent : Extent) → extent_at at extents ≡ Some extent → extent_at at (extents ++ more) ≡ Some extent
-found_more at extents more extent there = find-append (λ extent. extent.at == at) extents more ∙ ap (λ (o : Option Extent). option_or o (extent_at at more)) there
+pub found_more : (at : ℕ) (extents more : List Extent) {extent : Extent} → extent_at at extents ≡ Some extent → extent_at at (extents ++ more) ≡ Some extent
+found_more at extents more {extent} there = find-append (λ extent. extent.at == at) extents more ∙ ap (λ (o : Option Extent). option_or o (extent_at at more)) there
 
 -- an extent that is found in two lists is found in the first, or in the second alone
-pub found_either : (at : ℕ) (front back : List Extent) (extent : Extent) → extent_at at (front ++ back) ≡ Some extent →
+pub found_either : (at : ℕ) (front back : List Extent) {extent : Extent} → extent_at at (front ++ back) ≡ Some extent →
     (extent_at at front ≡ Some extent) ⊎ ((extent_at at front ≡ None) × (extent_at at back ≡ Some extent))
-found_either at front back extent there = go (extent_at at front) (sym (find-append (λ extent. extent.at == at) front back) ∙ there)
+found_either at front back {extent} there = go (extent_at at front) (sym (find-append (λ extent. extent.at == at) front back) ∙ there)
   where
     go : (first : Option Extent) → option_or first (extent_at at back) ≡ Some extent → (first ≡ Some extent) ⊎ ((first ≡ None) × (extent_at at back ≡ Some extent))
     go None later = inr (refl, later)

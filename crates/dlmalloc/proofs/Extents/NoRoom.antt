@@ -93,7 +93,7 @@ module _ (words : ℕ → ℕ) (n from : ℕ) where
   meets_one before at [] end h distinct near short = inr (let most = last_near before in omega (arith, h))
   meets_one before at (first ∷ extents) end h distinct near short =
       by_kind first.kind refl h.1.kind h.1.size (λ near. meets_one first.kind (at + first.size) extents end h.2 distinct.1 near
-      (λ other there. short other (distinct_later (first ∷ []) extents other.at other distinct there)))
+      (λ other there. short other (distinct_later (first ∷ []) extents other.at distinct there)))
     where
       place : first.at ≡ at
       place = h.0
@@ -101,7 +101,7 @@ module _ (words : ℕ → ℕ) (n from : ℕ) where
       -- one that is met behind it is met among all
       later : Outcome extents end → Outcome (first ∷ extents) end
       later (inr past) = inr past
-      later (inl met) = inl (record { used = met.used; there = distinct_later (first ∷ []) extents met.used.at met.used distinct met.there; is = met.is; begins = met.begins; ends = met.ends })
+      later (inl met) = inl (record { used = met.used; there = distinct_later (first ∷ []) extents met.used.at distinct met.there; is = met.is; begins = met.begins; ends = met.ends })
 
       behind_used : (kind : Kind) → kind ≡ Used → at ≤ from + 63 + further kind → at ≤ from + 63
       behind_used kind is close = let c = subst (λ (k : Kind). at ≤ from + 63 + further k) is close in omega arith
@@ -139,10 +139,10 @@ module _ (words : ℕ → ℕ) (n from : ℕ) where
           let bytes : first.size ≡ 80 = subst (λ (k : Kind). IsSize k first.size) is size in
           on Foot is rest (omega arith)
 
-module _ {A : Type 0} (regions : A → List Grant) (word : A → ℕ → ℕ) (heap : Dlmalloc A) (sound : IsSound regions word heap) (some : 0 < heap.size) (n : ℕ)
+module _ {A : Type 0} {regions : A → List Grant} {word : A → ℕ → ℕ} {heap : Dlmalloc A} (sound : IsSound regions word heap) (some : 0 < heap.size) (n : ℕ)
     (none : chosen (state_of word heap) n ≡ None) where
   small : IsTooSmall n (least_fit (state_of word heap) n) heap.victim_size heap.top_size
-  small = too_small n (least_fit (state_of word heap) n) heap.victim_size heap.top_size (sym (chosen_is regions word heap sound some n (least_fit (state_of word heap) n) refl) ∙ none)
+  small = too_small n (least_fit (state_of word heap) n) heap.victim_size heap.top_size (sym (chosen_is sound some n {fit = (least_fit (state_of word heap) n)} refl) ∙ none)
 
   free_less : (one : Extent) → extent_at one.at (extents_in (state_of word heap)) ≡ Some one → one.kind ≡ Free → one.size < n
   free_less one there free = go (one.at == heap.victim) refl
@@ -150,7 +150,7 @@ module _ {A : Type 0} (regions : A → List Grant) (word : A → ℕ → ℕ) (h
       no_victim : heap.victim_size ≡ 0 → one.at ≡ heap.victim → ⊥
       no_victim zero same =
           let gone = sound.no_victim zero in
-          let low = free_low regions word heap sound one there in
+          let low = free_low sound there in
           omega arith
 
       go : (b : Bool) → (one.at == heap.victim) ≡ b → one.size < n
@@ -183,14 +183,14 @@ module _ {A : Type 0} (regions : A → List Grant) (word : A → ℕ → ℕ) (h
       part = all_at (IsSegment (regions heap.system) (word heap.system)) front segment back (subst (AreSegments (regions heap.system) (word heap.system)) is sound.segments)
 
       all : (one : Extent) → extent_at one.at segment.extents ≡ Some one → extent_at one.at (extents_in (state_of word heap)) ≡ Some one
-      all one there = among_all (regions heap.system) (word heap.system) (segments_of word heap) sound.segments sound.apart front segment back is one.at one there
+      all one there = among_all (regions heap.system) (word heap.system) sound.segments sound.apart front segment back is one.at there
 
       short : (one : Extent) → extent_at one.at segment.extents ≡ Some one → (one.kind ≡ Free) ⊎ (one.kind ≡ Top) → one.size ≤ n
       short one there (inl free) = let less = free_less one (all one there) free in omega arith
       short one there (inr top) =
           let here = ap (λ (k : Kind). Some (extent one.at one.size k)) top in
-          let place = (is_top regions word heap sound front segment back is one.at one.size (there ∙ here)).1 in
-          let same = the_extent (sym (all one there) ∙ (ap (λ (a : ℕ). extent_at a (extents_in (state_of word heap))) place ∙ top_there regions word heap sound some)) in
+          let place = (is_top sound front segment back is (there ∙ here)).1 in
+          let same = the_extent (sym (all one there) ∙ (ap (λ (a : ℕ). extent_at a (extents_in (state_of word heap))) place ∙ top_there sound some)) in
           let size : one.size ≡ heap.top_size = ap (λ (e : Extent). e.size) same in
           let most = small.top_most in
           omega arith
@@ -199,13 +199,13 @@ module _ {A : Type 0} (regions : A → List Grant) (word : A → ℕ → ℕ) (h
 abbrev AreMet : HeapState → ℕ → List Segment → Type 0
 AreMet heap bytes segments = AllByRecursion (λ (segment : Segment). (from : ℕ) → segment.base ≤ from → from + bytes ≤ segment.base + segment.size → IsMet heap from (from + bytes)) segments
 
-pub full : {A : Type 0} (regions : A → List Grant) (word : A → ℕ → ℕ) (heap : Dlmalloc A) → IsSound regions word heap → (n : ℕ) → chosen (state_of word heap) n ≡ None → IsFull (state_of word heap) (n + 256)
-full {A} regions word heap sound n none = go (segments_of word heap) refl sound.told
+pub full : {A : Type 0} {regions : A → List Grant} {word : A → ℕ → ℕ} {heap : Dlmalloc A} → IsSound regions word heap → (n : ℕ) → chosen (state_of word heap) n ≡ None → IsFull (state_of word heap) (n + 256)
+full {word} {heap} sound n none = go (segments_of word heap) refl sound.told
   where
     each : 0 < heap.size → (front segments : List Segment) → segments_of word heap ≡ front ++ segments → AreMet (state_of word heap) (n + 256) segments
     each some front [] is = tt
     each some front (segment ∷ segments) is = (
-      run_met regions word heap sound some n none front segment segments is,
+      run_met sound some n none front segment segments is,
       each some (front ++ segment ∷ []) segments (is ∙ sym (append_assoc front (segment ∷ []) segments)),
     )
 

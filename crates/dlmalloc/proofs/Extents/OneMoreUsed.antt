@@ -8,8 +8,8 @@ pub used_append : (front back : List Extent) → used_of (front ++ back) ≡ use
 used_append front back = filter-append (λ (extent : Extent). is_used extent.kind) front back
 
 -- so it is between others
-pub more_between : (front less more back : List Extent) (one : Extent) → HasMore less more one → HasMore (front ++ (less ++ back)) (front ++ (more ++ back)) one
-more_between front less more back one h = record {
+pub more_between : (front : List Extent) {less more : List Extent} (back : List Extent) {one : Extent} → HasMore less more one → HasMore (front ++ (less ++ back)) (front ++ (more ++ back)) one
+more_between front {less} {more} back h = record {
   front = used_of front ++ h.front;
   back = h.back ++ used_of back;
   fewer = used_append front (less ++ back) ∙ (ap (λ (l : List Extent). used_of front ++ l) (used_append less back ∙ ap (λ (l : List Extent). l ++ used_of back) h.fewer) ∙ simp append_assoc);
@@ -45,8 +45,8 @@ module _ (k : ℕ) (extent : Extent) (extents : List Extent) where
   later = used_of extents
 
   -- the first of them is used or not, and begins there or not
-  passed : (found : Option Extent) → (extent.at == k) ≡ false → extent_at k later ≡ found → extent_at k (used_of (extent ∷ extents)) ≡ found
-  passed found other is = go (is_used extent.kind)
+  passed : {found : Option Extent} → (extent.at == k) ≡ false → extent_at k later ≡ found → extent_at k (used_of (extent ∷ extents)) ≡ found
+  passed {found} other is = go (is_used extent.kind)
     where
       go : (b : Bool) → extent_at k (if b then extent ∷ later else later) ≡ found
       go true = rw other is
@@ -67,18 +67,18 @@ module _ (k : ℕ) (extent : Extent) (extents : List Extent) where
       go false is = is
 
 the_extent : {one other : Extent} → Some one ≡ Some other → one ≡ other
-the_extent {one} {other} is = ap (λ (o : Option Extent). unwrap_or o one) is
+the_extent {one} is = ap (λ (o : Option Extent). unwrap_or o one) is
 
-pub used_there : (k : ℕ) (extents : List Extent) (used : Extent) → used.kind ≡ Used → extent_at k extents ≡ Some used → extent_at k (used_of extents) ≡ Some used
-used_there k [] used is there = there
-used_there k (extent ∷ extents) used is there = go (extent.at == k) refl (step k extent extents _ refl there) (used_there k extents used is)
+pub used_there : (k : ℕ) (extents : List Extent) {used : Extent} → used.kind ≡ Used → extent_at k extents ≡ Some used → extent_at k (used_of extents) ≡ Some used
+used_there k [] is there = there
+used_there k (extent ∷ extents) {used} is there = go (extent.at == k) refl (step k extent extents _ refl there) (used_there k extents is)
   where
     go : (b : Bool) → (extent.at == k) ≡ b → (if b then Some extent else extent_at k extents) ≡ Some used → (extent_at k extents ≡ Some used → extent_at k (used_of extents) ≡ Some used) →
         extent_at k (used_of (extent ∷ extents)) ≡ Some used
     go true here found later =
         let same = the_extent found in
         met k extent extents here (ap (λ (e : Extent). is_used e.kind) same ∙ ap is_used is) ∙ found
-    go false other found later = passed k extent extents (Some used) other (later found)
+    go false other found later = passed k extent extents other (later found)
 
 none_used : (k : ℕ) (extents : List Extent) → extent_at k extents ≡ None → extent_at k (used_of extents) ≡ None
 none_used k [] none = none
@@ -86,12 +86,12 @@ none_used k (extent ∷ extents) none = go (extent.at == k) refl (step k extent 
   where
     go : (b : Bool) → (extent.at == k) ≡ b → (if b then Some extent else extent_at k extents) ≡ None → (extent_at k extents ≡ None → extent_at k (used_of extents) ≡ None) → extent_at k (used_of (extent ∷ extents)) ≡ None
     go true here found later = absurd (cc)
-    go false other found later = passed k extent extents None other (later found)
+    go false other found later = passed k extent extents other (later found)
 
 -- and the other way round
-pub used_back : (k : ℕ) (extents : List Extent) (used : Extent) → AreDistinct extents → extent_at k (used_of extents) ≡ Some used → extent_at k extents ≡ Some used
-used_back k [] used apart there = there
-used_back k (extent ∷ extents) used apart there = go (extent.at == k) refl (is_used extent.kind) refl (step_used k extent extents _ _ refl refl there) (used_back k extents used apart.1)
+pub used_back : (k : ℕ) (extents : List Extent) {used : Extent} → AreDistinct extents → extent_at k (used_of extents) ≡ Some used → extent_at k extents ≡ Some used
+used_back k [] apart there = there
+used_back k (extent ∷ extents) {used} apart there = go (extent.at == k) refl (is_used extent.kind) refl (step_used k extent extents _ _ refl refl there) (used_back k extents apart.1)
   where
     go : (b : Bool) → (extent.at == k) ≡ b → (u : Bool) → is_used extent.kind ≡ u → (if u then (if b then Some extent else extent_at k (used_of extents)) else extent_at k (used_of extents)) ≡ Some used →
         (extent_at k (used_of extents) ≡ Some used → extent_at k extents ≡ Some used) → extent_at k (extent ∷ extents) ≡ Some used
@@ -134,15 +134,15 @@ found_beside : (k : ℕ) (front back : List Extent) (one : Extent) → one.at �
 found_beside k [] back one apart = (let test : (one.at == k) ≡ false = grind (arith, nat_tests) in rw test refl)
 found_beside k (first ∷ front) back one apart = ap (λ (o : Option Extent). if first.at == k then Some first else o) (found_beside k front back one apart)
 
-pub one_more : (fewer further : HeapState) (one : Extent) → AreDistinct (extents_in fewer) → AreDistinct (extents_in further) → HasMore (extents_in fewer) (extents_in further) one → HasOneMore fewer further one.at
-one_more fewer further one apart apart' h = record {
+pub one_more : (fewer further : HeapState) {one : Extent} → AreDistinct (extents_in fewer) → AreDistinct (extents_in further) → HasMore (extents_in fewer) (extents_in further) one → HasOneMore fewer further one.at
+one_more fewer further {one} apart apart' h = record {
   kept = λ used is there.
-      let among = ap (extent_at used.at) (sym h.fewer) ∙ used_there used.at (extents_in fewer) used is there in
-      used_back used.at (extents_in further) used apart' (ap (extent_at used.at) h.further ∙ (found_beside used.at h.front h.back one (λ same. none used.at same used among) ∙ among));
+      let among = ap (extent_at used.at) (sym h.fewer) ∙ used_there used.at (extents_in fewer) is there in
+      used_back used.at (extents_in further) apart' (ap (extent_at used.at) h.further ∙ (found_beside used.at h.front h.back one (λ same. none used.at same used among) ∙ among));
   only = λ used is there other.
-      let among = ap (extent_at used.at) (sym h.further) ∙ used_there used.at (extents_in further) used is there in
-      used_back used.at (extents_in fewer) used apart (ap (extent_at used.at) h.fewer ∙ (sym (found_beside used.at h.front h.back one (λ same. other (sym same))) ∙ among));
-  new = λ used is there same. none used.at (sym same) used (ap (extent_at used.at) (sym h.fewer) ∙ used_there used.at (extents_in fewer) used is there);
+      let among = ap (extent_at used.at) (sym h.further) ∙ used_there used.at (extents_in further) is there in
+      used_back used.at (extents_in fewer) apart (ap (extent_at used.at) h.fewer ∙ (sym (found_beside used.at h.front h.back one (λ same. other (sym same))) ∙ among));
+  new = λ used is there same. none used.at (sym same) used (ap (extent_at used.at) (sym h.fewer) ∙ used_there used.at (extents_in fewer) is there);
 }
   where
     none : (k : ℕ) → one.at ≡ k → (used : Extent) → extent_at k (h.front ++ h.back) ≡ Some used → ⊥

@@ -11,11 +11,11 @@ use Rattle.dlmalloc.proofs.Segments.HeadTold.{IsHead, HasSameHead, told_head, to
 use Rattle.dlmalloc.proofs.Moves.OfHeaps.{IsStep}
 
 -- an extent that is found is a run
-pub run_of : (regions : List Grant) (words : ℕ → ℕ) (segments : List Segment) → AreSegments regions words segments → (extent : Extent) → extent_at extent.at (extents_all segments) ≡ Some extent →
+pub run_of : (regions : List Grant) (words : ℕ → ℕ) (segments : List Segment) → AreSegments regions words segments → {extent : Extent} → extent_at extent.at (extents_all segments) ≡ Some extent →
     IsRunOf words segments extent.at (extent.at + extent.size) (extent ∷ [])
-run_of regions words segments parts extent there =
-    let l = located extent.at extent segments there in
-    let p = of_located (IsSegment regions words) extent.at extent segments l parts in
+run_of regions words segments parts {extent} there =
+    let l = located extent.at segments there in
+    let p = of_located (IsSegment regions words) l parts in
     let f = found extent.at extent l.segment.extents l.there in
     let end = l.segment.base + l.segment.size in
     let s = tiles_split words Used l.segment.base f.front (extent ∷ f.back) end (subst (λ (es : List Extent). Tiles words Used l.segment.base es end) f.is p.extents) in
@@ -36,8 +36,8 @@ run_of regions words segments parts extent there =
 
 -- ---- a run in a segment gives way to others that are as long
 
-module _ {A : Type 0} (regions : A → List Grant) (word : A → ℕ → ℕ) (heap new : Dlmalloc A) (sound : IsSound regions word heap) (same : regions new.system ≡ regions heap.system)
-    (from to : ℕ) (less more : List Extent) (run : IsRunOf (word heap.system) (segments_of word heap) from to less)
+module _ {A : Type 0} {regions : A → List Grant} {word : A → ℕ → ℕ} {heap : Dlmalloc A} (new : Dlmalloc A) (sound : IsSound regions word heap) (same : regions new.system ≡ regions heap.system)
+    {from to : ℕ} {less more : List Extent} (run : IsRunOf (word heap.system) (segments_of word heap) from to less)
     (move : IsMove (regions heap.system) (word heap.system) (word new.system) (last_kind Used run.first) from to to less more)
     (kind : last_kind (last_kind Used run.first) more ≡ last_kind (last_kind Used run.first) less)
     (tails : (k : ℕ) (tail : Extent) → extent_at k less ≡ Some tail → tail.kind ≡ Record → extent_at k more ≡ Some tail) where
@@ -57,12 +57,12 @@ module _ {A : Type 0} (regions : A → List Grant) (word : A → ℕ → ℕ) (h
   part = all_at (IsSegment (regions heap.system) (word heap.system)) run.front run.segment run.back parts
 
   -- what is found in the segment still is, where it is found among the new ones too
-  pub stays : (k : ℕ) (one : Extent) → (extent_at k less ≡ Some one → extent_at k more ≡ Some one) → extent_at k run.segment.extents ≡ Some one → extent_at k run_extents ≡ Some one
-  stays k one still there =
-      elim (found_either k run.first (less ++ run.last) one (ap (extent_at k) (sym run.extents) ∙ there)) [
-        | inl first ↦ found_more k run.first (more ++ run.last) one first
-        | inr later ↦ found_later k run.first (more ++ run.last) later.0 ∙ elim (found_either k less run.last one later.1) [
-          | inl here ↦ found_more k more run.last one (still here)
+  pub stays : (k : ℕ) {one : Extent} → (extent_at k less ≡ Some one → extent_at k more ≡ Some one) → extent_at k run.segment.extents ≡ Some one → extent_at k run_extents ≡ Some one
+  stays k {one} still there =
+      elim (found_either k run.first (less ++ run.last) (ap (extent_at k) (sym run.extents) ∙ there)) [
+        | inl first ↦ found_more k run.first (more ++ run.last) first
+        | inr later ↦ found_later k run.first (more ++ run.last) later.0 ∙ elim (found_either k less run.last later.1) [
+          | inl here ↦ found_more k more run.last (still here)
           | inr behind ↦ found_later k more run.last (none_outside (word new.system) (last_kind Used run.first) from more to k (inr (beyond behind.1)) move.more_stand) ∙ behind.1
         ]
       ]
@@ -83,7 +83,7 @@ module _ {A : Type 0} (regions : A → List Grant) (word : A → ℕ → ℕ) (h
     low = part.low;
     high = part.high;
     long = part.long;
-    extents = moved (regions heap.system) (word heap.system) (word new.system) Used run.segment.base from to to (run.segment.base + run.segment.size) (run.segment.base + run.segment.size) run.first less more run.last run.first_stand move run.last_stand
+    extents = moved Used run.segment.base (run.segment.base + run.segment.size) (run.segment.base + run.segment.size) run.first run.last run.first_stand move run.last_stand
         (λ k low high m. record { granted = part.run.covered k (omega arith) high; aligned = m }) run.some refl kind tail_kind;
     tail = ap ends_segment (last_append Used run.first (more ++ run.last)) ∙ (ap ends_segment (last_append (last_kind Used run.first) more run.last)
         ∙ (ap (λ (k : Kind). ends_segment (last_kind k run.last)) kind ∙ tail_kind));
@@ -94,7 +94,7 @@ module _ {A : Type 0} (regions : A → List Grant) (word : A → ℕ → ℕ) (h
     now = subst (λ (rs : List Grant). IsSegment rs (word new.system) run_now) (sym same) is_now;
     kept = λ k inside spared. move.kept k inside (spared_first more run.last k (spared_second run.first (more ++ run.last) k spared));
     others = λ other is beyond. (subst (λ (rs : List Grant). IsRun rs other.base other.size other.flags) (sym same) is.run, beyond);
-    records = λ at there. (refl, refl, refl, stays at (record_of at (run.segment.base + run.segment.size)) (λ here. tails at (record_of at (run.segment.base + run.segment.size)) here refl) there);
+    records = λ at there. (refl, refl, refl, stays at (λ here. tails at (record_of at (run.segment.base + run.segment.size)) here refl) there);
   }
 
   abbrev step : AreTold (word new.system) new (run.front ++ run_now ∷ run.back) → IsStep regions word heap new less more
@@ -102,13 +102,13 @@ module _ {A : Type 0} (regions : A → List Grant) (word : A → ℕ → ℕ) (h
 
   -- the top stays
   abbrev pub step_beside : new.next ≡ heap.next → HasSameHead heap new → ((k : ℕ) (tail : Extent) → extent_at k less ≡ Some tail → tail.kind ≡ Top → extent_at k more ≡ Some tail) → IsStep regions word heap new less more
-  step_beside next head top = step (told_same (regions heap.system) (regions new.system) (word heap.system) (word new.system) heap new run.segment run_now changed next run.front run.back apart parts
+  step_beside next head top = step (told_same heap new changed next run.front run.back apart parts
       (subst (AreTold (word heap.system) heap) run.is sound.told) head refl refl refl
-      (λ there. stays heap.top (extent heap.top heap.top_size Top) (λ here. top heap.top (extent heap.top heap.top_size Top) here refl) there))
+      (λ there. stays heap.top (λ here. top heap.top (extent heap.top heap.top_size Top) here refl) there))
 
   -- the head segment has another top
   abbrev pub step_top : new.next ≡ heap.next → run.front ≡ [] → IsHead new run_now → IsStep regions word heap new less more
-  step_top next none head = step (told_head (regions heap.system) (regions new.system) (word heap.system) (word new.system) heap new run.segment run_now changed next run.front run.back none apart parts
+  step_top next none head = step (told_head heap new changed next run.front run.back none apart parts
       (subst (AreTold (word heap.system) heap) run.is sound.told) head)
 
 -- ---- a run and what stands beside it
@@ -118,7 +118,7 @@ pub record HasNext (last : List Extent) : Type 0 where
   pub rest : List Extent
   pub is : last ≡ next ∷ rest
 
-module _ (regions : List Grant) (words : ℕ → ℕ) (segments : List Segment) (parts : AreSegments regions words segments) (from to : ℕ) (less : List Extent) (run : IsRunOf words segments from to less) where
+module _ (regions : List Grant) {words : ℕ → ℕ} {segments : List Segment} (parts : AreSegments regions words segments) {from to : ℕ} {less : List Extent} (run : IsRunOf words segments from to less) where
   abbrev pub run_end : ℕ
   run_end = run.segment.base + run.segment.size
 

@@ -35,9 +35,9 @@ tiles_split words before at (extent ∷ front) back end h =
 -- ---- what extents rest on
 
 -- the words that an extent may write
-stands_kept : (words words' : ℕ → ℕ) (before : Kind) (extent : Extent) → HasChunk words before extent →
+stands_kept : {words : ℕ → ℕ} (words' : ℕ → ℕ) {before : Kind} {extent : Extent} → HasChunk words before extent →
     ((k : ℕ) → extent.at < k → k ≤ extent.at + extent.size → k % 8 ≡ 0 → (k ≡ extent.at + extent.size → IsTrue (is_free_below_top extent.kind)) → words' k ≡ words k) → HasChunk words' before extent
-stands_kept words words' before extent h same =
+stands_kept words' {extent} h same =
     let s = sized extent.kind extent.size h.size in
     let whole = h.whole in
     let size = s.0 in let long = s.1 in
@@ -57,7 +57,7 @@ tiles_kept words words' before at [] end h same = h
 tiles_kept words words' before at (extent ∷ []) end h same =
     let place = h.0 in let ends = h.2 in (
       h.0,
-      stands_kept words words' before extent h.1 (λ k low high m free. same k (omega arith) (omega arith) m (λ is. free (omega arith))),
+      stands_kept words' h.1 (λ k low high m free. same k (omega arith) (omega arith) m (λ is. free (omega arith))),
       h.2,
     )
 tiles_kept words words' before at (extent ∷ next ∷ extents) end h same =
@@ -67,6 +67,6 @@ tiles_kept words words' before at (extent ∷ next ∷ extents) end h same =
     let long = s.1 in let more = n.1 in
     let later = tiles_le words next.kind (at + extent.size + next.size) extents end h.2.2 in (
       h.0,
-      stands_kept words words' before extent h.1 (λ k low high m free. same k (omega arith) (omega arith) m (λ is. absurd (omega arith))),
+      stands_kept words' h.1 (λ k low high m free. same k (omega arith) (omega arith) m (λ is. absurd (omega arith))),
       tiles_kept words words' extent.kind (at + extent.size) (next ∷ extents) end h.2 (λ k low high m free. same k (omega arith) high m free),
     )

@@ -10,9 +10,9 @@ use Rattle.dlmalloc.proofs.Segments.Among.{extents_all, all_among, all_at, all_d
 use Rattle.dlmalloc.proofs.Extents.OneMoreUsed.{AreDistinct, tiles_distinct}
 
 -- a chunk is no top
-no_top : (extents : List Extent) → AreChunks extents → (k : ℕ) (one : Extent) → extent_at k extents ≡ Some one → one.kind ≡ Top → ⊥
-no_top [] are k one there is = cc
-no_top (extent ∷ extents) are k one there is = go (extent.at == k) there (λ later. no_top extents are.1 k one later is)
+no_top : (extents : List Extent) → AreChunks extents → (k : ℕ) {one : Extent} → extent_at k extents ≡ Some one → one.kind ≡ Top → ⊥
+no_top [] are k there is = cc
+no_top (extent ∷ extents) are k {one} there is = go (extent.at == k) there (λ later. no_top extents are.1 k later is)
   where
     go : (b : Bool) → (if b then Some extent else extent_at k extents) ≡ Some one → (extent_at k extents ≡ Some one → ⊥) → ⊥
     go true same later =
@@ -20,7 +20,7 @@ no_top (extent ∷ extents) are k one there is = go (extent.at == k) there (λ l
         elim are.0 [ inl used ↦ (let no : Used ≡ Top = sym used ∙ kind in cc) | inr free ↦ (let no : Free ≡ Top = sym free ∙ kind in cc) ]
     go false found later = later found
 
-module _ (regions : List Grant) (words : ℕ → ℕ) (segment : Segment) (part : IsSegment regions words segment) where
+module _ {regions : List Grant} {words : ℕ → ℕ} {segment : Segment} (part : IsSegment regions words segment) where
   abbrev end : ℕ
   end = segment.base + segment.size
 
@@ -32,8 +32,8 @@ module _ (regions : List Grant) (words : ℕ → ℕ) (segment : Segment) (part 
     pub ends : at + size + 80 ≡ end
     pub foot : last_kind Used segment.extents ≡ Foot
 
-  pub topped : (at size : ℕ) → extent_at at segment.extents ≡ Some (extent at size Top) → Topped at size
-  topped at size there =
+  pub topped : {at size : ℕ} → extent_at at segment.extents ≡ Some (extent at size Top) → Topped at size
+  topped {at} {size} there =
       let f = found at (extent at size Top) segment.extents there in
       let tiles = subst (λ (es : List Extent). Tiles words Used segment.base es end) f.is part.extents in
       let s = tiles_split words Used segment.base f.front (extent at size Top ∷ f.back) end tiles in
@@ -51,33 +51,33 @@ module _ (regions : List Grant) (words : ℕ → ℕ) (segment : Segment) (part 
       }
 
   -- its foot is behind it
-  pub foot_there : (at size : ℕ) → extent_at at segment.extents ≡ Some (extent at size Top) → extent_at (at + size) segment.extents ≡ Some (extent (at + size) 80 Foot)
-  foot_there at size there =
-      let t = topped at size there in
+  pub foot_there : {at size : ℕ} → extent_at at segment.extents ≡ Some (extent at size Top) → extent_at (at + size) segment.extents ≡ Some (extent (at + size) 80 Foot)
+  foot_there {at} {size} there =
+      let t = topped there in
       let ends = t.ends in
       let foot = extent (end - 80) 80 Foot in
       let is : segment.extents ≡ (t.front ++ extent at size Top ∷ []) ++ foot ∷ [] = t.is ∙ sym (append_assoc t.front (extent at size Top ∷ []) (foot ∷ [])) in
       let here : (end - 80 == at + size) ≡ true = (let e : end - 80 ≡ at + size = omega arith in grind (arith, nat_tests)) in
       ap (extent_at (at + size)) is
-      ∙ (distinct_later (t.front ++ extent at size Top ∷ []) (foot ∷ []) (at + size) foot (subst AreDistinct is (tiles_distinct words Used segment.base segment.extents end part.extents)) (rw here refl)
+      ∙ (distinct_later (t.front ++ extent at size Top ∷ []) (foot ∷ []) (at + size) {extent = foot} (subst AreDistinct is (tiles_distinct words Used segment.base segment.extents end part.extents)) (rw here refl)
       ∙ (λ i. Some (same_extent {at = end - 80} {at' = at + size} {size = 80} {size' = 80} {kind = Foot} {kind' = Foot} (omega arith) refl refl i)))
 
   -- no record is there
-  pub no_record : (at size record_at : ℕ) → extent_at at segment.extents ≡ Some (extent at size Top) → extent_at record_at segment.extents ≡ Some (record_of record_at end) → ⊥
-  no_record at size record_at there record_there =
+  pub no_record : {at size : ℕ} (record_at : ℕ) → extent_at at segment.extents ≡ Some (extent at size Top) → extent_at record_at segment.extents ≡ Some (record_of record_at end) → ⊥
+  no_record record_at there record_there =
       let f = found record_at (record_of record_at end) segment.extents record_there in
       let s = tiles_split words Used segment.base f.front (record_of record_at end ∷ f.back) end (subst (λ (es : List Extent). Tiles words Used segment.base es end) f.is part.extents) in
       let none = (nothing words Record (s.middle + (end - record_at)) f.back end none_behind_record s.second.2).0 in
       let kind : last_kind Used segment.extents ≡ Record = ap (last_kind Used) (f.is ∙ ap (λ (es : List Extent). f.front ++ record_of record_at end ∷ es) none) ∙ last_append Used f.front (record_of record_at end ∷ []) in
-      let no : Foot ≡ Record = sym (topped at size there).foot ∙ kind in
+      let no : Foot ≡ Record = sym (topped there).foot ∙ kind in
       cc
 
   -- there is one
-  one_top : (at size other other_size : ℕ) → extent_at at segment.extents ≡ Some (extent at size Top) → extent_at other segment.extents ≡ Some (extent other other_size Top) → at ≡ other
-  one_top at size other other_size there other_there =
-      let t = topped at size there in
-      elim (found_either other t.front (extent at size Top ∷ extent (end - 80) 80 Foot ∷ []) (extent other other_size Top) (ap (extent_at other) (sym t.is) ∙ other_there)) [
-        | inl first ↦ absurd (no_top t.front t.chunks other (extent other other_size Top) first refl)
+  one_top : (at size : ℕ) {other other_size : ℕ} → extent_at at segment.extents ≡ Some (extent at size Top) → extent_at other segment.extents ≡ Some (extent other other_size Top) → at ≡ other
+  one_top at size {other} {other_size} there other_there =
+      let t = topped there in
+      elim (found_either other t.front (extent at size Top ∷ extent (end - 80) 80 Foot ∷ []) (ap (extent_at other) (sym t.is) ∙ other_there)) [
+        | inl first ↦ absurd (no_top t.front t.chunks other first refl)
         | inr later ↦ go (at == other) refl later.1
       ]
     where
@@ -95,48 +95,48 @@ record_there : (words : ℕ → ℕ) (payload : ℕ) (front : List Segment) (seg
 record_there words payload [] segment back h = (payload - 16, h.4)
 record_there words payload (first ∷ front) segment back h = record_there words (words (payload + 16)) front segment back h.5
 
-module _ {A : Type 0} (regions : A → List Grant) (word : A → ℕ → ℕ) (heap : Dlmalloc A) (sound : IsSound regions word heap)
+module _ {A : Type 0} {regions : A → List Grant} {word : A → ℕ → ℕ} {heap : Dlmalloc A} (sound : IsSound regions word heap)
     (front : List Segment) (segment : Segment) (back : List Segment) (is : segments_of word heap ≡ front ++ segment ∷ back) where
   part : IsSegment (regions heap.system) (word heap.system) segment
   part = all_at (IsSegment (regions heap.system) (word heap.system)) front segment back (subst (AreSegments (regions heap.system) (word heap.system)) is sound.segments)
 
   -- the top stands in the head segment, where the field says
-  pub is_top : (at size : ℕ) → extent_at at segment.extents ≡ Some (extent at size Top) → (front ≡ []) × (at ≡ heap.top)
-  is_top at size there = go front (subst (AreTold (word heap.system) heap) is sound.told)
+  pub is_top : {at size : ℕ} → extent_at at segment.extents ≡ Some (extent at size Top) → (front ≡ []) × (at ≡ heap.top)
+  is_top {at} {size} there = go front (subst (AreTold (word heap.system) heap) is sound.told)
     where
       go : (front : List Segment) → AreTold (word heap.system) heap (front ++ segment ∷ back) → (front ≡ []) × (at ≡ heap.top)
-      go [] h = (refl, one_top (regions heap.system) (word heap.system) segment part at size heap.top heap.top_size there h.4)
+      go [] h = (refl, one_top part at size there h.4)
       go (first ∷ front) h =
           let r = record_there (word heap.system) heap.next front segment back h.5 in
-          absurd (no_record (regions heap.system) (word heap.system) segment part at size r.0 there r.1)
+          absurd (no_record part r.0 there r.1)
 
   -- what is found in the segment at the place of the top is the top
-  pub the_top : (one : Extent) → extent_at one.at segment.extents ≡ Some one → one.at ≡ heap.top → one ≡ extent heap.top heap.top_size Top
-  the_top one there place =
+  pub the_top : {one : Extent} → extent_at one.at segment.extents ≡ Some one → one.at ≡ heap.top → one ≡ extent heap.top heap.top_size Top
+  the_top {one} there place =
       let all = all_distinct (regions heap.system) (word heap.system) (front ++ segment ∷ back) (subst (AreSegments (regions heap.system) (word heap.system)) is sound.segments) (subst AreApart is sound.apart) in
       let one_all : extent_at one.at (extents_all (front ++ segment ∷ back)) ≡ Some one =
       ap (extent_at one.at) (all_among front segment back)
-      ∙ distinct_later (extents_all front) (segment.extents ++ extents_all back) one.at one (subst AreDistinct (all_among front segment back) all) (found_more one.at segment.extents (extents_all back) one there) in
+      ∙ distinct_later (extents_all front) (segment.extents ++ extents_all back) one.at (subst AreDistinct (all_among front segment back) all) (found_more one.at segment.extents (extents_all back) there) in
       let top_all : extent_at heap.top (extents_all (front ++ segment ∷ back)) ≡ Some (extent heap.top heap.top_size Top) = head_top front (subst (AreTold (word heap.system) heap) is sound.told) in
       ap (λ (o : Option Extent). unwrap_or o one) (sym one_all ∙ (ap (λ (k : ℕ). extent_at k (extents_all (front ++ segment ∷ back))) place ∙ top_all))
     where
       head_top : (front : List Segment) → AreTold (word heap.system) heap (front ++ segment ∷ back) → extent_at heap.top (extents_all (front ++ segment ∷ back)) ≡ Some (extent heap.top heap.top_size Top)
-      head_top [] h = found_more heap.top segment.extents (extents_all back) (extent heap.top heap.top_size Top) h.4
-      head_top (first ∷ front) h = found_more heap.top first.extents (extents_all (front ++ segment ∷ back)) (extent heap.top heap.top_size Top) h.4
+      head_top [] h = found_more heap.top segment.extents (extents_all back) h.4
+      head_top (first ∷ front) h = found_more heap.top first.extents (extents_all (front ++ segment ∷ back)) h.4
 
 -- it is found among all, where there is a segment
-pub top_among : {A : Type 0} (regions : A → List Grant) (word : A → ℕ → ℕ) (heap : Dlmalloc A) → IsSound regions word heap → 0 < heap.size → extent_at heap.top (extents_all (segments_of word heap)) ≡ Some (extent heap.top heap.top_size Top)
-top_among regions word heap sound some = go (segments_of word heap) sound.told
+pub top_among : {A : Type 0} {regions : A → List Grant} {word : A → ℕ → ℕ} {heap : Dlmalloc A} → IsSound regions word heap → 0 < heap.size → extent_at heap.top (extents_all (segments_of word heap)) ≡ Some (extent heap.top heap.top_size Top)
+top_among {word} {heap} sound some = go (segments_of word heap) sound.told
   where
     go : (segments : List Segment) → AreTold (word heap.system) heap segments → extent_at heap.top (extents_all segments) ≡ Some (extent heap.top heap.top_size Top)
     go [] h = absurd (omega (arith, some, h))
-    go (segment ∷ segments) h = found_more heap.top segment.extents (extents_all segments) (extent heap.top heap.top_size Top) h.4
+    go (segment ∷ segments) h = found_more heap.top segment.extents (extents_all segments) h.4
 
 -- and so is its foot
-pub foot_among : {A : Type 0} (regions : A → List Grant) (word : A → ℕ → ℕ) (heap : Dlmalloc A) → IsSound regions word heap → 0 < heap.size → extent_at (heap.top + heap.top_size) (extents_all (segments_of word heap)) ≡ Some (extent (heap.top + heap.top_size) 80 Foot)
-foot_among regions word heap sound some = go (segments_of word heap) sound.segments sound.told
+pub foot_among : {A : Type 0} {regions : A → List Grant} {word : A → ℕ → ℕ} {heap : Dlmalloc A} → IsSound regions word heap → 0 < heap.size → extent_at (heap.top + heap.top_size) (extents_all (segments_of word heap)) ≡ Some (extent (heap.top + heap.top_size) 80 Foot)
+foot_among {regions} {word} {heap} sound some = go (segments_of word heap) sound.segments sound.told
   where
     go : (segments : List Segment) → AreSegments (regions heap.system) (word heap.system) segments → AreTold (word heap.system) heap segments → extent_at (heap.top + heap.top_size) (extents_all segments) ≡ Some (extent (heap.top + heap.top_size) 80 Foot)
     go [] parts h = absurd (omega (arith, some, h))
-    go (segment ∷ segments) parts h = found_more (heap.top + heap.top_size) segment.extents (extents_all segments) (extent (heap.top + heap.top_size) 80 Foot)
-        (foot_there (regions heap.system) (word heap.system) segment parts.0 heap.top heap.top_size h.4)
+    go (segment ∷ segments) parts h = found_more (heap.top + heap.top_size) segment.extents (extents_all segments)
+        (foot_there parts.0 h.4)

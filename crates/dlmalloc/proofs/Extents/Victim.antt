@@ -35,23 +35,23 @@ has_one words before from extents to one at rest h there free low high =
     let here : find (has at) extents ≡ Some one = ap (find (has at)) f.is ∙ (skip at f.front (one ∷ f.back) (has_none words before from f.front s.middle at (inr (omega arith)) s.first) ∙ has_here one f.back at free low high) in
     find-append (has at) extents rest ∙ ap (λ (o : Option Extent). option_or o (find (has at) rest)) here
 
-pub has_in : (regions : List Grant) (words : ℕ → ℕ) (segments : List Segment) → AreSegments regions words segments → AreApart segments → (one : Extent) (at : ℕ) → extent_at one.at (extents_all segments) ≡ Some one → one.kind ≡ Free →
+pub has_in : (regions : List Grant) (words : ℕ → ℕ) (segments : List Segment) → AreSegments regions words segments → AreApart segments → {one : Extent} (at : ℕ) → extent_at one.at (extents_all segments) ≡ Some one → one.kind ≡ Free →
     one.at ≤ at → at < one.at + one.size → find (has at) (extents_all segments) ≡ Some one
-has_in regions words [] parts apart one at there free low high = absurd (cc)
-has_in regions words (segment ∷ segments) parts apart one at there free low high =
-    elim (found_either one.at segment.extents (extents_all segments) one there) [
+has_in regions words [] parts apart at there free low high = absurd (cc)
+has_in regions words (segment ∷ segments) parts apart {one} at there free low high =
+    elim (found_either one.at segment.extents (extents_all segments) there) [
       | inl here ↦ has_one words Used segment.base segment.extents (segment.base + segment.size) one at (extents_all segments) parts.0.extents here free low high
       | inr later ↦ skip at segment.extents (extents_all segments) (has_none words Used segment.base segment.extents (segment.base + segment.size) at (out later.1) parts.0.extents)
-          ∙ has_in regions words segments parts.1 apart.1 one at later.1 free low high
+          ∙ has_in regions words segments parts.1 apart.1 at later.1 free low high
     ]
   where
     out : extent_at one.at (extents_all segments) ≡ Some one → (at < segment.base) ⊎ (segment.base + segment.size ≤ at)
     out later =
-        let l = located one.at one segments later in
-        let p = of_located (IsSegment regions words) one.at one segments l parts.1 in
-        let is = in_part words Used l.segment.base l.segment.extents (l.segment.base + l.segment.size) one p.extents l.there in
+        let l = located one.at segments later in
+        let p = of_located (IsSegment regions words) l parts.1 in
+        let is = in_part words Used l.segment.base l.segment.extents (l.segment.base + l.segment.size) p.extents l.there in
         let from = is.low in let to = is.high in
-        elim (of_located (λ (s : Segment). IsApartFrom segment s) one.at one segments l apart.0) [ inl before ↦ inr (omega arith) | inr behind ↦ inl (omega arith) ]
+        elim (of_located (λ (s : Segment). IsApartFrom segment s) l apart.0) [ inl before ↦ inr (omega arith) | inr behind ↦ inl (omega arith) ]
 
 pub has_no_zero : (regions : List Grant) (words : ℕ → ℕ) (segments : List Segment) → AreSegments regions words segments → find (has 0) (extents_all segments) ≡ None
 has_no_zero regions words [] parts = refl
@@ -73,7 +73,7 @@ victim_same regions words segments parts apart victim size there none = go (size
         gone ∙ sym (ap at_of (subst (λ (v : ℕ). find (has v) (extents_all segments) ≡ None) (sym gone) (has_no_zero regions words segments parts)))
     go false isnt =
         let some : size ≢ 0 = grind (arith, nat_tests) in
-        sym (ap at_of (has_in regions words segments parts apart (extent victim size Free) victim (there some) refl (omega arith) (omega arith)))
+        sym (ap at_of (has_in regions words segments parts apart victim (there some) refl (omega arith) (omega arith)))
 
 -- none has a byte that lies in a segment apart from all
 pub has_none_beside : (regions : List Grant) (words : ℕ → ℕ) (segment : Segment) (segments : List Segment) → AreSegments regions words segments → AllByRecursion (λ (other : Segment). IsApartFrom other segment) segments →

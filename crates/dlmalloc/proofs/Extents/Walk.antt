@@ -9,8 +9,8 @@ use Rattle.dlmalloc.proofs.Extents.FromWords.{told, are_chunks, chunks_read, beh
 -- ---- the chunks of a range
 
 -- a run of chunks is read off their heads
-pub run_read : (regions : List Grant) (words : ℕ → ℕ) (from to : ℕ) (run : IsChunkRun regions words from to) → chunks_between words from to ≡ run.chunks
-run_read regions words from to run = chunks_read words Used (to / 16) from run.chunks to (whole run.chunks run.stand) run.stand run.are
+pub run_read : {regions : List Grant} {words : ℕ → ℕ} {from to : ℕ} (run : IsChunkRun regions words from to) → chunks_between words from to ≡ run.chunks
+run_read {words} {from} {to} run = chunks_read words Used (to / 16) from run.chunks to (whole run.chunks run.stand) run.stand run.are
   where
     whole : (chunks : List Extent) → Tiles words Used from chunks to → to ≤ from + 16 * (to / 16)
     whole [] h = omega (arith, h)
@@ -46,8 +46,8 @@ next words before at [] to more h are = absurd (omega (arith, h))
 next words before at (chunk ∷ rest) to more h are = record { chunk = chunk; rest = rest; is = refl; place = h.0; stands = h.1; later = h.2; kind = are.0; are = are.1 }
 
 -- nothing is passed at the beginning
-pub begun : (regions : List Grant) (words : ℕ → ℕ) (from to : ℕ) (known : List Extent → Type 0) → IsChunkRun regions words from to → known [] → Passed words from to from known
-begun regions words from to known run so_far = record { front = []; back = run.chunks; is = run_read regions words from to run; before = refl; behind = run.stand; are = run.are; so_far = so_far }
+pub begun : {regions : List Grant} {words : ℕ → ℕ} {from to : ℕ} (known : List Extent → Type 0) → IsChunkRun regions words from to → known [] → Passed words from to from known
+begun known run so_far = record { front = []; back = run.chunks; is = run_read run; before = refl; behind = run.stand; are = run.are; so_far = so_far }
 
 -- where a range ends, no chunk is left
 pub none_left : (words : ℕ → ℕ) (before : Kind) (at : ℕ) (chunks : List Extent) (end : ℕ) → end ≤ at → Tiles words before at chunks end → chunks ≡ []
@@ -56,16 +56,16 @@ none_left words before at (chunk ∷ chunks) end empty h =
     absurd (let long = (sized chunk.kind chunk.size h.1.size).1 in let later = tiles_le words chunk.kind (at + chunk.size) chunks end h.2 in omega arith)
 
 -- all are passed at the end
-pub all_passed : (words : ℕ → ℕ) (from to at : ℕ) (known : List Extent → Type 0) → to ≤ at → Passed words from to at known → known (chunks_between words from to)
-all_passed words from to at known end p = subst known (sym (p.is ∙ (ap (λ (cs : List Extent). p.front ++ cs) (none_left words (last_kind Used p.front) at p.back to end p.behind) ∙ append-nil p.front))) p.so_far
+pub all_passed : {words : ℕ → ℕ} {from to at : ℕ} {known : List Extent → Type 0} → to ≤ at → Passed words from to at known → known (chunks_between words from to)
+all_passed {words} {to} {at} {known} end p = subst known (sym (p.is ∙ (ap (λ (cs : List Extent). p.front ++ cs) (none_left words (last_kind Used p.front) at p.back to end p.behind) ∙ append-nil p.front))) p.so_far
 
-module _ (words : ℕ → ℕ) (from to at : ℕ) (known : List Extent → Type 0) (more : at < to) (p : Passed words from to at known) where
+module _ {words : ℕ → ℕ} {from to at : ℕ} {known : List Extent → Type 0} (more : at < to) (p : Passed words from to at known) where
   pub ahead : Next words (last_kind Used p.front) at p.back to
   ahead = next words (last_kind Used p.front) at p.back to more p.behind p.are
 
   -- it is what its head tells
   pub is_told : chunk_told words at ≡ ahead.chunk
-  is_told = subst (λ (a : ℕ). chunk_told words a ≡ ahead.chunk) ahead.place (told words (last_kind Used p.front) ahead.chunk ahead.kind ahead.stands)
+  is_told = subst (λ (a : ℕ). chunk_told words a ≡ ahead.chunk) ahead.place (told ahead.kind ahead.stands)
 
   pub at_low : from ≤ at
   at_low = tiles_le words Used from p.front at p.before
@@ -74,14 +74,14 @@ module _ (words : ℕ → ℕ) (from to at : ℕ) (known : List Extent → Type 
   at_whole = let place = ahead.place in let w = ahead.stands.whole in omega arith
 
   -- so its head is granted
-  pub head_there : (regions : List Grant) → IsChunkRun regions words from to → HasHead regions at
-  head_there regions run = record {
+  pub head_there : {regions : List Grant} → IsChunkRun regions words from to → HasHead regions at
+  head_there run = record {
     aligned = omega (arith, at_whole);
     small = omega (arith, run.small, more);
     granted = record { granted = run.granted (at + 8) (omega (arith, at_low)) (omega (arith, more)); aligned = omega (arith, at_whole) };
   }
 
-  module _ (chunk : Extent) (same : chunk ≡ chunk_told words at) where
+  module _ {chunk : Extent} (same : chunk ≡ chunk_told words at) where
     is_chunk : ahead.chunk ≡ chunk
     is_chunk = sym (same ∙ is_told)
 
@@ -120,9 +120,9 @@ pub record HasTail (regions : List Grant) (words : ℕ → ℕ) (segment : Segme
   pub is : segment.extents ≡ chunks_between words segment.base at ++ tail
   pub above : segment.base ≤ at
 
-has_tail : (regions : List Grant) (words : ℕ → ℕ) (segment : Segment) → IsSegment regions words segment → (last : Extent) → last.kind ≢ Foot → extent_at last.at segment.extents ≡ Some last → (tail : List Extent) →
+has_tail : {regions : List Grant} {words : ℕ → ℕ} {segment : Segment} → IsSegment regions words segment → {last : Extent} → last.kind ≢ Foot → extent_at last.at segment.extents ≡ Some last → (tail : List Extent) →
     ((back : List Extent) → Tiles words last.kind (last.at + last.size) back (segment.base + segment.size) → ends_segment (last_kind last.kind back) ≡ true → last ∷ back ≡ tail) → HasTail regions words segment last.at tail
-has_tail regions words segment part last other there tail rest =
+has_tail {regions} {words} {segment} part {last} other there tail rest =
     let f = found last.at last segment.extents there in
     let end = segment.base + segment.size in
     let tiles = subst (λ (es : List Extent). Tiles words Used segment.base es end) f.is part.extents in
@@ -140,28 +140,28 @@ has_tail regions words segment part last other there tail rest =
     } in
     record {
       run = run;
-      is = f.is ∙ (λ i. (sym (run_read regions words segment.base last.at run)) i ++ rest f.back (subst (λ (a : ℕ). Tiles words last.kind (a + last.size) f.back end) (sym place) s.second.2)
+      is = f.is ∙ (λ i. (sym (run_read run)) i ++ rest f.back (subst (λ (a : ℕ). Tiles words last.kind (a + last.size) f.back end) (sym place) s.second.2)
           (ap ends_segment (sym (last_append Used f.front (last ∷ f.back))) ∙ (ap (λ (es : List Extent). ends_segment (last_kind Used es)) (sym f.is) ∙ part.tail)) i);
       above = omega arith;
     }
 
-pub top_tail : (regions : List Grant) (words : ℕ → ℕ) (segment : Segment) → IsSegment regions words segment → (top size : ℕ) → extent_at top segment.extents ≡ Some (extent top size Top) →
+pub top_tail : {regions : List Grant} {words : ℕ → ℕ} {segment : Segment} → IsSegment regions words segment → {top size : ℕ} → extent_at top segment.extents ≡ Some (extent top size Top) →
     HasTail regions words segment top (extent top size Top ∷ extent (top + size) 80 Foot ∷ [])
-top_tail regions words segment part top size there = has_tail regions words segment part (extent top size Top) (λ is. cc) there (extent top size Top ∷ extent (top + size) 80 Foot ∷ [])
+top_tail {words} {segment} part {top} {size} there = has_tail part (λ is. cc) there (extent top size Top ∷ extent (top + size) 80 Foot ∷ [])
     (λ back tiles tail. let b = behind_top words (top + size) back (segment.base + segment.size) tiles tail in let ends = b.1 in
     ap (λ (es : List Extent). extent top size Top ∷ es) (b.0 ∙ (λ i. same_extent {at = segment.base + segment.size - 80} {at' = top + size} {size = 80} {size' = 80} {kind = Foot} {kind' = Foot} (omega arith) refl refl i ∷ [])))
 
-pub record_tail : (regions : List Grant) (words : ℕ → ℕ) (segment : Segment) → IsSegment regions words segment → (at : ℕ) → extent_at at segment.extents ≡ Some (record_of at (segment.base + segment.size)) →
+pub record_tail : {regions : List Grant} {words : ℕ → ℕ} {segment : Segment} → IsSegment regions words segment → (at : ℕ) → extent_at at segment.extents ≡ Some (record_of at (segment.base + segment.size)) →
     HasTail regions words segment at (record_of at (segment.base + segment.size) ∷ [])
-record_tail regions words segment part at there = has_tail regions words segment part (record_of at (segment.base + segment.size)) (λ is. cc) there (record_of at (segment.base + segment.size) ∷ [])
+record_tail {words} {segment} part at there = has_tail part (λ is. cc) there (record_of at (segment.base + segment.size) ∷ [])
     (λ back tiles tail. ap (λ (b : List Extent). record_of at (segment.base + segment.size) ∷ b) (nothing words Record (at + (segment.base + segment.size - at)) back (segment.base + segment.size) none_behind_record tiles).0)
 
 -- ---- lists of what is passed
 
 -- what is made of each extent, when one is added
-pub mapped_more : (each : Extent → Extent) (old new start front : List Extent) (extent item : Extent) → old ≡ start ++ map each front → item ≡ each extent → new ≡ old ++ item ∷ [] →
+pub mapped_more : (each : Extent → Extent) {old new : List Extent} (start front : List Extent) (extent : Extent) {item : Extent} → old ≡ start ++ map each front → item ≡ each extent → new ≡ old ++ item ∷ [] →
     new ≡ start ++ map each (front ++ extent ∷ [])
-mapped_more each old new start front extent item was is added =
+mapped_more each start front extent was is added =
     added ∙ (λ i. was i ++ is i ∷ []) ∙ append_assoc start (map each front) (each extent ∷ []) ∙ ap (λ (es : List Extent). start ++ es) (sym (map-append each front (extent ∷ [])))
 
 -- and when some chunks and one extent that is shown as it is are

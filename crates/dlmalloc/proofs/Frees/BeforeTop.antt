@@ -19,7 +19,7 @@ use Rattle.dlmalloc.proofs.Extents.Top.{is_top}
 use Rattle.dlmalloc.proofs.Frees.OfChunk.{IsFree, run_one, begins_whole}
 use Rattle.dlmalloc.proofs.Moves.OfHeaps.{IsStep, read, segments_now, apart_now, found_new, found_again, keeps_words, stays_sound, has_less}
 
-module _ {A : Type 0} (regions : A → List Grant) (word : A → ℕ → ℕ) (heap : Dlmalloc A) (sound : IsSound regions word heap) (at size : ℕ)
+module _ {A : Type 0} {regions : A → List Grant} {word : A → ℕ → ℕ} {heap : Dlmalloc A} (sound : IsSound regions word heap) {at size : ℕ}
     (there : extent_at at (extents_in (state_of word heap)) ≡ Some (extent at size Used)) where
   abbrev segments : List Segment
   segments = segments_of word heap
@@ -31,12 +31,12 @@ module _ {A : Type 0} (regions : A → List Grant) (word : A → ℕ → ℕ) (h
   chunk = extent at size Used
 
   abbrev pub one : IsRunOf words segments at (at + size) (chunk ∷ [])
-  one = run_one regions word heap sound at size there
+  one = run_one sound there
 
   abbrev pub next : HasNext one.last
-  next = has_next (regions heap.system) words segments sound.segments at (at + size) (chunk ∷ []) one refl
+  next = has_next (regions heap.system) sound.segments one refl
 
-  module _ (next_is : next.next ≡ extent heap.top heap.top_size Top) (from : ℕ) (from_is : from ≡ (if pinuse_of (words (at + 8)) then at else at - words at)) where
+  module _ (next_is : next.next ≡ extent heap.top heap.top_size Top) {from : ℕ} (from_is : from ≡ (if pinuse_of (words (at + 8)) then at else at - words at)) where
     abbrev top : Extent
     top = next.next
 
@@ -44,22 +44,22 @@ module _ {A : Type 0} (regions : A → List Grant) (word : A → ℕ → ℕ) (h
     kind = ap (λ (e : Extent). e.kind) next_is
 
     stand : Tiles words Used (at + size) (next.next ∷ next.rest) (one.segment.base + one.segment.size)
-    stand = behind (regions heap.system) words segments sound.segments at (at + size) (chunk ∷ []) one next
+    stand = behind (regions heap.system) sound.segments one next
 
     abbrev two : IsRunOf words segments at (at + size + top.size) (chunk ∷ top ∷ [])
-    two = with_next (regions heap.system) words segments sound.segments at (at + size) (chunk ∷ []) one next
+    two = with_next (regions heap.system) sound.segments one next
 
     foot : HasNext two.last
-    foot = has_next (regions heap.system) words segments sound.segments at (at + size + top.size) (chunk ∷ top ∷ []) two (ap ends_segment kind)
+    foot = has_next (regions heap.system) sound.segments two (ap ends_segment kind)
 
     stand_foot : Tiles words top.kind (at + size + top.size) (foot.next ∷ foot.rest) (one.segment.base + one.segment.size)
-    stand_foot = behind (regions heap.system) words segments sound.segments at (at + size + top.size) (chunk ∷ top ∷ []) two foot
+    stand_foot = behind (regions heap.system) sound.segments two foot
 
     foot_kind : foot.next.kind ≡ Foot
     foot_kind = only_foot foot.next.kind (subst (λ (k : Kind). MayStand k foot.next.kind) kind stand_foot.1.kind)
 
     abbrev three : IsRunOf words segments at (at + size + top.size + foot.next.size) (chunk ∷ top ∷ foot.next ∷ [])
-    three = with_next (regions heap.system) words segments sound.segments at (at + size + top.size) (chunk ∷ top ∷ []) two foot
+    three = with_next (regions heap.system) sound.segments two foot
 
     stands : HasChunk words (last_kind Used one.first) chunk
     stands = one.here.1
@@ -78,10 +78,10 @@ module _ {A : Type 0} (regions : A → List Grant) (word : A → ℕ → ℕ) (h
     less = left.lefts ++ chunk ∷ top ∷ []
 
     abbrev run : IsRunOf words segments from end less
-    run = with_left (regions heap.system) words segments at end (chunk ∷ top ∷ []) two from left
+    run = with_left (regions heap.system) words segments two left
 
     abbrev wide : IsRunOf words segments from (end + foot.next.size) (left.lefts ++ chunk ∷ (top ∷ foot.next ∷ []))
-    wide = with_left (regions heap.system) words segments at (end + foot.next.size) (chunk ∷ top ∷ foot.next ∷ []) three from left
+    wide = with_left (regions heap.system) words segments three left
 
     from_at : from ≤ at
     from_at = tiles_le words Used from left.lefts at left.lefts_stand
@@ -101,7 +101,7 @@ module _ {A : Type 0} (regions : A → List Grant) (word : A → ℕ → ℕ) (h
       arith,
       sum,
       tiles_le words (last_kind (last_kind Used run.first) less) end run.last (run.segment.base + run.segment.size) run.last_stand,
-      (run_part (regions heap.system) words segments sound.segments at (at + size) (chunk ∷ []) one).high,
+      (run_part (regions heap.system) sound.segments one).high,
     )
 
     long : 16 ≤ top.size
@@ -122,11 +122,11 @@ module _ {A : Type 0} (regions : A → List Grant) (word : A → ℕ → ℕ) (h
     last_less : last_kind (last_kind Used run.first) less ≡ Top
     last_less = last_append (last_kind Used run.first) left.lefts (chunk ∷ top ∷ []) ∙ kind
 
-    in_run : (k : ℕ) (one : Extent) → extent_at k less ≡ Some one → ((one.kind ≡ Free) × (from ≤ k) × (k < at)) ⊎ ((one.kind ≡ Used) ⊎ (one.kind ≡ Top))
-    in_run k one found =
-        elim (found_either k left.lefts (chunk ∷ top ∷ []) one found) [
+    in_run : (k : ℕ) {one : Extent} → extent_at k less ≡ Some one → ((one.kind ≡ Free) × (from ≤ k) × (k < at)) ⊎ ((one.kind ≡ Used) ⊎ (one.kind ≡ Top))
+    in_run k {one} found =
+        elim (found_either k left.lefts (chunk ∷ top ∷ []) found) [
           | inl first ↦ inl (left.free k one first, above first, below first)
-          | inr later ↦ inr (elim (found_either k (chunk ∷ []) (top ∷ []) one later.1) [ inl here ↦ inl (kind_of chunk here) | inr behind ↦ inr (kind_of top behind.1 ∙ kind) ])
+          | inr later ↦ inr (elim (found_either k (chunk ∷ []) (top ∷ []) later.1) [ inl here ↦ inl (kind_of chunk here) | inr behind ↦ inr (kind_of top behind.1 ∙ kind) ])
         ]
       where
         kind_of : (first : Extent) → extent_at k (first ∷ []) ≡ Some one → one.kind ≡ first.kind
@@ -144,7 +144,7 @@ module _ {A : Type 0} (regions : A → List Grant) (word : A → ℕ → ℕ) (h
 
     tails : (k : ℕ) (tail : Extent) → extent_at k less ≡ Some tail → tail.kind ≡ Record → extent_at k more ≡ Some tail
     tails k tail found is =
-        elim (in_run k tail found) [
+        elim (in_run k found) [
           | inl free ↦ absurd (let no : Free ≡ Record = sym free.0 ∙ is in cc)
           | inr other ↦ elim other [ inl used ↦ absurd (let no : Used ≡ Record = sym used ∙ is in cc) | inr a_top ↦ absurd (let no : Top ≡ Record = sym a_top ∙ is in cc) ]
         ]
@@ -159,16 +159,16 @@ module _ {A : Type 0} (regions : A → List Grant) (word : A → ℕ → ℕ) (h
     }
 
     in_less : (k bytes : ℕ) → extent_at k less ≡ Some (extent k bytes Free) → IsIn k (from ∷ (at + size) ∷ [])
-    in_less k bytes found = elim (found_either k left.lefts (chunk ∷ top ∷ []) (extent k bytes Free) found) [
-      | inl first ↦ inl (beside_place words Used from left.lefts at left.beside left.lefts_stand k (extent k bytes Free) first)
-      | inr later ↦ elim (found_either k (chunk ∷ []) (top ∷ []) (extent k bytes Free) later.1) [
-        | inl here ↦ absurd (let no : Used ≡ Free = ap (λ (e : Extent). e.kind) (the_one k chunk (extent k bytes Free) here) in cc)
-        | inr last ↦ absurd (let no : Top ≡ Free = sym kind ∙ ap (λ (e : Extent). e.kind) (the_one k top (extent k bytes Free) last.1) in cc)
+    in_less k bytes found = elim (found_either k left.lefts (chunk ∷ top ∷ []) found) [
+      | inl first ↦ inl (beside_place words Used from left.lefts at left.beside left.lefts_stand k first)
+      | inr later ↦ elim (found_either k (chunk ∷ []) (top ∷ []) later.1) [
+        | inl here ↦ absurd (let no : Used ≡ Free = ap (λ (e : Extent). e.kind) (the_one k chunk here) in cc)
+        | inr last ↦ absurd (let no : Top ≡ Free = sym kind ∙ ap (λ (e : Extent). e.kind) (the_one k top last.1) in cc)
       ]
     ]
 
     in_more : (k bytes : ℕ) → extent_at k more ≡ Some (extent k bytes Free) → IsIn k (from ∷ [])
-    in_more k bytes found = absurd (let no : Top ≡ Free = ap (λ (e : Extent). e.kind) (the_one k joint (extent k bytes Free) found) in cc)
+    in_more k bytes found = absurd (let no : Top ≡ Free = ap (λ (e : Extent). e.kind) (the_one k joint found) in cc)
 
     right_there : IsThere (at + size) less
     right_there =
@@ -179,7 +179,7 @@ module _ {A : Type 0} (regions : A → List Grant) (word : A → ℕ → ℕ) (h
         )
 
     head_segment : (run.front ≡ []) × (at + size ≡ heap.top)
-    head_segment = is_top regions word heap sound run.front run.segment run.back run.is (at + size) top.size
+    head_segment = is_top sound run.front run.segment run.back run.is {at = (at + size)} {size = top.size}
         (ap (extent_at (at + size)) (one.extents ∙ ap (λ (l : List Extent). one.first ++ (chunk ∷ l)) next.is)
         ∙ (found_later (at + size) one.first (chunk ∷ top ∷ next.rest) (none_outside words Used one.segment.base one.first at (at + size) (inr (omega arith)) one.first_stand)
         ∙ (let first : (at == at + size) ≡ false = nat_isnt (inl (let s = one.some in omega arith)) in
@@ -194,7 +194,7 @@ module _ {A : Type 0} (regions : A → List Grant) (word : A → ℕ → ℕ) (h
     module _ (system : A) (same : regions system ≡ regions heap.system) (stored : IsStored (regions heap.system) words (from + 8) (new_size + 1) (word system)) where
       move : IsMove (regions heap.system) words (word system) (last_kind Used run.first) from end end less more
       move = subst (λ (k : Kind). IsMove (regions heap.system) words (word system) k from end end less more) (sym left.used)
-          (join_top (regions heap.system) words (word system) from less from_whole new_size end end_whole sum (omega (arith, long, top_size)) (subst (λ (k : Kind). Tiles words k from less end) left.used run.here) stored)
+          (join_top (regions heap.system) words (word system) from less from_whole new_size end_whole sum (omega (arith, long, top_size)) (subst (λ (k : Kind). Tiles words k from less end) left.used run.here) stored)
 
       abbrev after : ℕ → ℕ → Dlmalloc A
       after victim victim_size = record heap { system = system; top = from; top_size = new_size; victim = victim; victim_size = victim_size }
@@ -202,14 +202,14 @@ module _ {A : Type 0} (regions : A → List Grant) (word : A → ℕ → ℕ) (h
       abbrev step : (victim victim_size : ℕ) → IsStep regions word heap (after victim victim_size) less more
       step victim victim_size =
           let head = head_is word heap run.front run.segment run.back head_segment.0 run.is sound.told in
-          step_top regions word heap (after victim victim_size) sound same from end less more run move (sym last_less) tails refl head_segment.0
+          step_top (after victim victim_size) sound same run move (sym last_less) tails refl head_segment.0
           (record { some = head.some; base = head.base; size = head.size; flags = head.flags; top = where_top })
 
       state_segments : in_segments (freed_in at) segments ≡ run.front ++ with_extents run.segment (run.first ++ (more ++ run.last)) ∷ run.back
       state_segments =
           let is : extent from (foot.next.at - from) (joint_kind (top ∷ [])) ≡ joint = same_extent refl (omega (arith, stand_foot.0, sum)) kind in
           let free : is_free foot.next.kind ≡ false = ap is_free foot_kind in
-          freed_run (regions heap.system) words (word system) segments sound.segments sound.apart at size from (end + foot.next.size) left.lefts (top ∷ []) foot.next left.beside (ap is_free kind) free wide
+          freed_run (regions heap.system) (word system) sound.segments sound.apart at size left.lefts (top ∷ []) foot.next left.beside (ap is_free kind) free wide
           (subst (λ (e : Extent). Tiles (word system) Used run.segment.base (run.first ++ (e ∷ foot.next ∷ foot.rest)) (run.segment.base + run.segment.size)) (sym is)
           (subst (λ (es : List Extent). Tiles (word system) Used run.segment.base (run.first ++ (joint ∷ es)) (run.segment.base + run.segment.size)) foot.is (step 0 0).changed.now.extents))
           ∙ ((λ i. run.front ++ with_extents run.segment (run.first ++ (is i ∷ foot.next ∷ foot.rest)) ∷ run.back)
@@ -219,32 +219,32 @@ module _ {A : Type 0} (regions : A → List Grant) (word : A → ℕ → ℕ) (h
       Topped victim victim_size = IsFree regions word heap at size from (at + size) (after victim victim_size)
 
       topped_free : (victim victim_size : ℕ) → FreeMoves (state_of word heap) (state_of word (after victim victim_size)) (from ∷ (at + size) ∷ []) (from ∷ [])
-      topped_free victim victim_size = free_moves regions word heap (after victim victim_size) sound less more (step victim victim_size) (from ∷ (at + size) ∷ []) (from ∷ []) in_less in_more
+      topped_free victim victim_size = free_moves sound (step victim victim_size) (from ∷ (at + size) ∷ []) (from ∷ []) in_less in_more
           (λ k is. elim is [ inl same ↦ inl (inl same) | inr later ↦ elim later [ inl same ↦ inr (subst (λ (a : ℕ). IsThere a less) (sym same) right_there) | inr none ↦ absurd none ] ])
           (λ k is. elim is [ inl same ↦ inl (inl same) | inr none ↦ absurd none ])
 
       -- the top begins there
       top_there : (victim victim_size : ℕ) → extent_at from (extents_in (state_of word (after victim victim_size))) ≡ Some joint
-      top_there victim victim_size = let test : (from == from) ≡ true = nat_same from in found_new regions word heap (after victim victim_size) sound less more (step victim victim_size) from joint (rw test refl)
+      top_there victim victim_size = let test : (from == from) ≡ true = nat_same from in found_new sound (step victim victim_size) from joint (rw test refl)
 
-      done : (victim victim_size : ℕ) → (victim_size ≢ 0 → extent_at victim (extents_in (state_of word (after victim victim_size))) ≡ Some (extent victim victim_size Free)) → (victim_size ≡ 0 → victim ≡ 0) →
+      done : {victim : ℕ} (victim_size : ℕ) → (victim_size ≢ 0 → extent_at victim (extents_in (state_of word (after victim victim_size))) ≡ Some (extent victim victim_size Free)) → (victim_size ≡ 0 → victim ≡ 0) →
           victim ≡ victim_in heap.victim (extents_in (state_of word (after victim victim_size))) → Topped victim victim_size
-      done victim victim_size named none left =
-          let segments_are = read regions word heap (after victim victim_size) sound less more (step victim victim_size) ∙ sym state_segments in
+      done {victim} victim_size named none left =
+          let segments_are = read sound (step victim victim_size) ∙ sym state_segments in
           let whole : victim ≡ victim_in heap.victim (extents_all (in_segments (freed_in at) segments)) = left ∙ ap (λ (ss : List Segment). victim_in heap.victim (extents_all ss)) segments_are in
           record {
             state = λ i. record { segments = segments_are i; victim = whole i; granularity = heap.granularity; rate = heap.rate; countdown = heap.countdown; trim_check = heap.trim_check };
-            less = has_less regions word heap (after victim victim_size) sound less more (step victim victim_size) chunk fewer;
-            sound = stays_sound regions word heap (after victim victim_size) sound less more (step victim victim_size) same refl refl refl refl none named;
-            words = keeps_words regions word heap (after victim victim_size) sound less more (step victim victim_size);
-            records = λ one is there. found_again regions word heap (after victim victim_size) sound less more (step victim victim_size) one.at one (λ found. tails one.at one found is) there;
+            less = has_less sound (step victim victim_size) fewer;
+            sound = stays_sound sound (step victim victim_size) same refl refl refl refl none named;
+            words = keeps_words sound (step victim victim_size);
+            records = λ one is there. found_again sound (step victim victim_size) one.at (λ found. tails one.at one found is) there;
             free = topped_free victim victim_size;
             joined = inl (refl, λ bytes free. (let no : Top ≡ Free = ap (λ (e : Extent). e.kind) (the_extent (sym (top_there victim victim_size) ∙ free)) in cc));
           }
 
       -- the victim went into it
       pub as_top_victim : from ≤ heap.victim → heap.victim < at + size → Topped 0 0
-      as_top_victim reached within = done 0 0 (λ some. absurd (some refl)) (λ none. refl) (sym (ap (λ (o : Option Extent). unwrap_or (option_map (λ (e : Extent). e.at) o) 0) gone))
+      as_top_victim reached within = done 0 (λ some. absurd (some refl)) (λ none. refl) (sym (ap (λ (o : Option Extent). unwrap_or (option_map (λ (e : Extent). e.at) o) 0) gone))
         where
           low : run.segment.base ≤ from
           low = tiles_le words Used run.segment.base run.first from run.first_stand
@@ -257,7 +257,7 @@ module _ {A : Type 0} (regions : A → List Grant) (word : A → ℕ → ℕ) (h
               ∙ has_none words (last_kind (last_kind Used run.first) less) end run.last (run.segment.base + run.segment.size) heap.victim (inl (omega arith)) run.last_stand
 
           gone : find (has heap.victim) (extents_all (segments_of word (after 0 0))) ≡ None
-          gone = ap (λ (ss : List Segment). find (has heap.victim) (extents_all ss)) (read regions word heap (after 0 0) sound less more (step 0 0))
+          gone = ap (λ (ss : List Segment). find (has heap.victim) (extents_all ss)) (read sound (step 0 0))
               ∙ (ap (λ (front : List Segment). find (has heap.victim) (extents_all (front ++ with_extents run.segment (run.first ++ (more ++ run.last)) ∷ run.back))) head_segment.0
               ∙ (skip heap.victim (run.first ++ (more ++ run.last)) (extents_all run.back) here
               ∙ has_none_beside (regions heap.system) words run.segment run.back (all_back (IsSegment (regions heap.system) words) run.front (run.segment ∷ run.back) (subst (AreSegments (regions heap.system) words) run.is sound.segments)).1
@@ -265,13 +265,13 @@ module _ {A : Type 0} (regions : A → List Grant) (word : A → ℕ → ℕ) (h
 
       -- it stays
       pub as_top_other : (heap.victim < from) ⊎ (at + size ≤ heap.victim) → Topped heap.victim heap.victim_size
-      as_top_other out = done heap.victim heap.victim_size named sound.no_victim
-          (victim_same (regions system) (word system) (segments_of word (after heap.victim heap.victim_size)) (segments_now regions word heap (after heap.victim heap.victim_size) sound less more (step heap.victim heap.victim_size))
-          (apart_now regions word heap (after heap.victim heap.victim_size) sound less more (step heap.victim heap.victim_size)) heap.victim heap.victim_size named sound.no_victim)
+      as_top_other out = done heap.victim_size named sound.no_victim
+          (victim_same (regions system) (word system) (segments_of word (after heap.victim heap.victim_size)) (segments_now sound (step heap.victim heap.victim_size))
+          (apart_now sound (step heap.victim heap.victim_size)) heap.victim heap.victim_size named sound.no_victim)
         where
           named : heap.victim_size ≢ 0 → extent_at heap.victim (extents_in (state_of word (after heap.victim heap.victim_size))) ≡ Some (extent heap.victim heap.victim_size Free)
-          named some = found_again regions word heap (after heap.victim heap.victim_size) sound less more (step heap.victim heap.victim_size)
-              heap.victim (extent heap.victim heap.victim_size Free) (λ found. elim (in_run heap.victim (extent heap.victim heap.victim_size Free) found) [
+          named some = found_again sound (step heap.victim heap.victim_size)
+              heap.victim (λ found. elim (in_run heap.victim found) [
                 | inl free ↦ absurd (let a = free.1 in let b = free.2 in elim out [ inl x ↦ omega arith | inr y ↦ omega arith ])
                 | inr other ↦ elim other [ inl used ↦ absurd (cc) | inr a_top ↦ absurd (cc) ]
               ]) (sound.victim some)

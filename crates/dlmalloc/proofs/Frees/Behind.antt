@@ -5,7 +5,7 @@ use Rattle.dlmalloc.proofs.Extents.OneMoreUsed.{AreDistinct, tiles_distinct}
 use Rattle.dlmalloc.proofs.Segments.Among.{distinct_later, among_all}
 use Rattle.dlmalloc.proofs.Extents.RunReplaced.{run_of, run_part, HasNext, has_next, behind}
 
-module _ {A : Type 0} (regions : A → List Grant) (word : A → ℕ → ℕ) (heap : Dlmalloc A) (sound : IsSound regions word heap) (at size : ℕ)
+module _ {A : Type 0} {regions : A → List Grant} {word : A → ℕ → ℕ} {heap : Dlmalloc A} (sound : IsSound regions word heap) {at size : ℕ}
     (there : extent_at at (extents_in (state_of word heap)) ≡ Some (extent at size Used)) where
   abbrev segments : List Segment
   segments = segments_of word heap
@@ -17,13 +17,13 @@ module _ {A : Type 0} (regions : A → List Grant) (word : A → ℕ → ℕ) (h
   chunk = extent at size Used
 
   abbrev run : IsRunOf words segments at (at + size) (chunk ∷ [])
-  run = run_of (regions heap.system) words segments sound.segments chunk there
+  run = run_of (regions heap.system) words segments sound.segments there
 
   abbrev next : HasNext run.last
-  next = has_next (regions heap.system) words segments sound.segments at (at + size) (chunk ∷ []) run refl
+  next = has_next (regions heap.system) sound.segments run refl
 
   stands : Tiles words Used (at + size) (next.next ∷ next.rest) (run.segment.base + run.segment.size)
-  stands = behind (regions heap.system) words segments sound.segments at (at + size) (chunk ∷ []) run next
+  stands = behind (regions heap.system) sound.segments run next
 
   pub place : next.next.at ≡ at + size
   place = stands.0
@@ -33,14 +33,14 @@ module _ {A : Type 0} (regions : A → List Grant) (word : A → ℕ → ℕ) (h
 
   pub in_segment : extent_at next.next.at run.segment.extents ≡ Some next.next
   in_segment =
-      let part = run_part (regions heap.system) words segments sound.segments at (at + size) (chunk ∷ []) run in
+      let part = run_part (regions heap.system) sound.segments run in
       let other : (at == next.next.at) ≡ false = nat_isnt (inl (let some = run.some in let p = place in omega arith)) in
       let here : extent_at next.next.at (chunk ∷ next.next ∷ next.rest) ≡ Some next.next = rw other (found_here next.next next.rest) in
-      ap (extent_at next.next.at) extents ∙ distinct_later run.first (chunk ∷ next.next ∷ next.rest) next.next.at next.next
+      ap (extent_at next.next.at) extents ∙ distinct_later run.first (chunk ∷ next.next ∷ next.rest) next.next.at
       (subst AreDistinct extents (tiles_distinct words Used run.segment.base run.segment.extents (run.segment.base + run.segment.size) part.extents)) here
 
   pub next_there : extent_at next.next.at (extents_in (state_of word heap)) ≡ Some next.next
-  next_there = among_all (regions heap.system) words segments sound.segments sound.apart run.front run.segment run.back run.is next.next.at next.next in_segment
+  next_there = among_all (regions heap.system) words sound.segments sound.apart run.front run.segment run.back run.is next.next.at in_segment
 
   -- a head does
   pub next_boundary : IsBoundary (state_of word heap) (at + size + 8)

@@ -26,9 +26,9 @@ found_by at (first ∷ extents) one distinct there = go (has at first) refl ther
     go true test same later =
         let is : first ≡ one = the_extent same in
         record { there = subst (λ (e : Extent). extent_at e.at (first ∷ extents) ≡ Some e) is (found_here first extents); has_it = subst (λ (e : Extent). has at e ≡ true) is test }
-    go false test found later = (let l = later found in record { there = distinct_later (first ∷ []) extents one.at one distinct l.there; has_it = l.has_it })
+    go false test found later = (let l = later found in record { there = distinct_later (first ∷ []) extents one.at distinct l.there; has_it = l.has_it })
 
-module _ {A : Type 0} (regions : A → List Grant) (word : A → ℕ → ℕ) (heap : Dlmalloc A) (sound : IsSound regions word heap) (at from : ℕ) (around : IsFreeAround (state_of word heap) at from) where
+module _ {A : Type 0} {regions : A → List Grant} {word : A → ℕ → ℕ} {heap : Dlmalloc A} (sound : IsSound regions word heap) {at from : ℕ} (around : IsFreeAround (state_of word heap) at from) where
   abbrev one : Extent
   one = around.extent
 
@@ -39,16 +39,16 @@ module _ {A : Type 0} (regions : A → List Grant) (word : A → ℕ → ℕ) (h
   there = subst (λ (a : ℕ). extent_at a (extents_all (segments_of word heap)) ≡ Some one) (sym place) around.there
 
   pub some : 0 < heap.size
-  some = some_segment word heap one.at one there
+  some = some_segment word heap one.at there
 
   l : Located one.at one (segments_of word heap)
-  l = located one.at one (segments_of word heap) there
+  l = located one.at (segments_of word heap) there
 
   part : IsSegment (regions heap.system) (word heap.system) l.segment
-  part = of_located (IsSegment (regions heap.system) (word heap.system)) one.at one (segments_of word heap) l sound.segments
+  part = of_located (IsSegment (regions heap.system) (word heap.system)) l sound.segments
 
   is_in : IsIn (word heap.system) l.segment.base (l.segment.base + l.segment.size) one
-  is_in = in_part (word heap.system) Used l.segment.base l.segment.extents (l.segment.base + l.segment.size) one part.extents l.there
+  is_in = in_part (word heap.system) Used l.segment.base l.segment.extents (l.segment.base + l.segment.size) part.extents l.there
 
   long : 16 ≤ one.size
   long = (sized one.kind one.size is_in.stands.size).1
@@ -71,11 +71,11 @@ module _ {A : Type 0} (regions : A → List Grant) (word : A → ℕ → ℕ) (h
   kinds Foot is = absurd (let free = around.free in let no : is_free one.kind ≡ false = ap is_free is in cc)
 
   top_place : one.kind ≡ Top → from ≡ heap.top
-  top_place is = sym place ∙ (is_top regions word heap sound l.front l.segment l.back l.is one.at one.size (l.there ∙ (λ i. Some (extent one.at one.size (is i))))).1
+  top_place is = sym place ∙ (is_top sound l.front l.segment l.back l.is (l.there ∙ (λ i. Some (extent one.at one.size (is i))))).1
 
   not_top : one.kind ≡ Free → from ≢ heap.top
   not_top is same =
-      let top = top_among regions word heap sound some in
+      let top = top_among sound some in
       let both : Some one ≡ Some (extent heap.top heap.top_size Top) = sym there ∙ (ap (λ (a : ℕ). extent_at a (extents_all (segments_of word heap))) (place ∙ same) ∙ top) in
       let no : Free ≡ Top = sym is ∙ ap (λ (e : Extent). e.kind) (the_extent both) in
       cc
@@ -88,7 +88,7 @@ module _ {A : Type 0} (regions : A → List Grant) (word : A → ℕ → ℕ) (h
       go None same = ap (is_large_binned (state_of word heap)) same
       go (Some other) same =
           let f = found_by at (extents_all (segments_of word heap)) other (all_distinct (regions heap.system) (word heap.system) (segments_of word heap) sound.segments sound.apart) same in
-          absurd (elim (beside (regions heap.system) (word heap.system) (segments_of word heap) sound.segments sound.apart one other there f.there (differ other f)) [
+          absurd (elim (beside (regions heap.system) (word heap.system) (segments_of word heap) sound.segments sound.apart there f.there (differ other f)) [
             | inl before ↦ (let low : other.at ≤ at = (let h = f.has_it in grind (arith, nat_tests)) in omega (arith, before, low, around.high, place))
             | inr behind ↦ (let high : at < other.at + other.size = (let h = f.has_it in grind (arith, nat_tests)) in omega (arith, behind, high, around.low, place))
           ])
@@ -101,13 +101,13 @@ module _ {A : Type 0} (regions : A → List Grant) (word : A → ℕ → ℕ) (h
               grind (arith, nat_tests)
 
   -- so its head tells whether it counts
-  counted_told : (b : Bool) → b ≡ (not (from == heap.top) && (not (from == heap.victim) && nat_le 256 (size_of (word heap.system (from + 8))))) → b ≡ is_counted (state_of word heap) at
-  counted_told b b_is = b_is ∙ elim (kinds one.kind refl) [
+  counted_told : {b : Bool} → b ≡ (not (from == heap.top) && (not (from == heap.victim) && nat_le 256 (size_of (word heap.system (from + 8))))) → b ≡ is_counted (state_of word heap) at
+  counted_told b_is = b_is ∙ elim (kinds one.kind refl) [
     | inl is ↦ (let same : (from == heap.top) ≡ true = ap (λ (n : ℕ). n == heap.top) (top_place is) ∙ nat_same heap.top in
         ap (λ (c : Bool). not c && (not (from == heap.victim) && nat_le 256 (size_of (word heap.system (from + 8))))) same ∙ sym (none_plain is))
     | inr is ↦ (let other : (from == heap.top) ≡ false = (let n = not_top is in grind (arith, nat_tests)) in
-        let found = has_in (regions heap.system) (word heap.system) (segments_of word heap) sound.segments sound.apart one at there is (omega (arith, around.low, place)) (omega (arith, around.high, place)) in
-        let size : size_of (word heap.system (from + 8)) ≡ one.size = ap (λ (a : ℕ). size_of (word heap.system (a + 8))) (sym place) ∙ ap (λ (e : Extent). e.size) (told (word heap.system) is_in.before one (inr is) is_in.stands) in
+        let found = has_in (regions heap.system) (word heap.system) (segments_of word heap) sound.segments sound.apart at there is (omega (arith, around.low, place)) (omega (arith, around.high, place)) in
+        let size : size_of (word heap.system (from + 8)) ≡ one.size = ap (λ (a : ℕ). size_of (word heap.system (a + 8))) (sym place) ∙ ap (λ (e : Extent). e.size) (told (inr is) is_in.stands) in
         ap (λ (c : Bool). not c && (not (from == heap.victim) && nat_le 256 (size_of (word heap.system (from + 8))))) other
         ∙ ((λ i. not (sym place i == heap.victim) && nat_le 256 (size i)) ∙ sym (counts_some found is)))
   ]
@@ -117,7 +117,7 @@ module _ {A : Type 0} (regions : A → List Grant) (word : A → ℕ → ℕ) (h
 
   -- not where it is the top, nor where it is the victim
   pub top_told : from ≡ heap.top → false ≡ is_counted (state_of word heap) at
-  top_told is = counted_told false (sym (ap (λ (b : Bool). not b && (not (from == heap.victim) && nat_le 256 (size_of (word heap.system (from + 8))))) same))
+  top_told is = counted_told (sym (ap (λ (b : Bool). not b && (not (from == heap.victim) && nat_le 256 (size_of (word heap.system (from + 8))))) same))
     where
       same : (from == heap.top) ≡ true
       same = ap (λ (n : ℕ). n == heap.top) is ∙ nat_same heap.top
@@ -126,14 +126,14 @@ module _ {A : Type 0} (regions : A → List Grant) (word : A → ℕ → ℕ) (h
   other_top other = grind (arith, nat_tests)
 
   pub victim_told : from ≢ heap.top → from ≡ heap.victim → false ≡ is_counted (state_of word heap) at
-  victim_told other is = counted_told false (sym (λ i. not (other_top other i) && (not (same i) && nat_le 256 (size_of (word heap.system (from + 8))))))
+  victim_told other is = counted_told (sym (λ i. not (other_top other i) && (not (same i) && nat_le 256 (size_of (word heap.system (from + 8))))))
     where
       same : (from == heap.victim) ≡ true
       same = ap (λ (n : ℕ). n == heap.victim) is ∙ nat_same heap.victim
 
   -- else by its size
-  pub size_told : from ≢ heap.top → from ≢ heap.victim → (size : ℕ) → size ≡ size_of (word heap.system (from + 8)) → nat_le 256 size ≡ is_counted (state_of word heap) at
-  size_told other differs size is = counted_told (nat_le 256 size) (ap (λ (n : ℕ). nat_le 256 n) is
+  pub size_told : from ≢ heap.top → from ≢ heap.victim → {size : ℕ} → size ≡ size_of (word heap.system (from + 8)) → nat_le 256 size ≡ is_counted (state_of word heap) at
+  size_told other differs is = counted_told (ap (λ (n : ℕ). nat_le 256 n) is
       ∙ sym (λ i. not (other_top other i) && (not (apart i) && nat_le 256 (size_of (word heap.system (from + 8))))))
     where
       apart : (from == heap.victim) ≡ false
@@ -145,7 +145,7 @@ module _ {A : Type 0} (regions : A → List Grant) (word : A → ℕ → ℕ) (h
 same_words : (blocks : List Extent) (words : ℕ → ℕ) → KeepsBlocks blocks words words
 same_words blocks words = record { words = λ block there used k low high m. refl; heads = λ block there used. refl }
 
-module _ {A : Type 0} (regions : A → List Grant) (word : A → ℕ → ℕ) (follows : A → List Event → A → Type 0) (follows_none : (x : A) → follows x [] x) (frees parts : Bool) (old : Dlmalloc A) (sound : IsSound regions word old) (at : ℕ) where
+module _ {A : Type 0} {regions : A → List Grant} {word : A → ℕ → ℕ} (follows : A → List Event → A → Type 0) (follows_none : (x : A) → follows x [] x) (frees parts : Bool) {old : Dlmalloc A} (sound : IsSound regions word old) (at : ℕ) where
   abbrev counts : Bool
   counts = is_counted (state_of word old) at
 
@@ -173,18 +173,18 @@ module _ {A : Type 0} (regions : A → List Grant) (word : A → ℕ → ℕ) (f
       let gone = gone_none ((λ i. is i && more i)) in
       record {
         state = sym ((λ i. if is i then (if more i then passed frees parts (state_of word old) else record (state_of word old) { countdown = old.countdown - 1 }) else state_of word old));
-        sound = countdown_sound regions word old sound (old.countdown - 1);
+        sound = countdown_sound sound (old.countdown - 1);
         used = record { still = λ used is there. there; before = λ used is there. there };
         kept = same_words (extents_in (state_of word old)) (word old.system);
         words = λ k inside was out. refl;
-        index = λ b. (same_bins regions word old (old.countdown - 1) b, λ n. sym (λ i. (if is i && more i then after_pass frees parts (segments_of word old) b.index else b.index) n));
+        index = λ b. (same_bins (old.countdown - 1) b, λ n. sym (λ i. (if is i && more i then after_pass frees parts (segments_of word old) b.index else b.index) n));
         regions_are = sym (ap (λ (segments : List Segment). regions_without segments (regions old.system)) gone);
         followed = subst (λ (segments : List Segment). follows old.system (releases segments) old.system) (sym gone) (follows_none old.system);
       }
 
   -- it ended, and a pass was made
-  pub counted_pass : counts ≡ true → nat_le old.countdown 1 ≡ true → (bytes : ℕ) (new : Dlmalloc A) → IsPassed regions word follows frees parts old bytes new → IsCounted regions word follows frees parts old at new
-  counted_pass is ends bytes new p =
+  pub counted_pass : counts ≡ true → nat_le old.countdown 1 ≡ true → {bytes : ℕ} {new : Dlmalloc A} → IsPassed regions word follows frees parts old bytes new → IsCounted regions word follows frees parts old at new
+  counted_pass is ends {new} p =
       let gone : left_by_count frees parts (state_of word old) at ≡ taken_back frees (handed_out parts (segments_of word old)) =
       (λ i. if is i && ends i then taken_back frees (handed_out parts (segments_of word old)) else []) in
       record {

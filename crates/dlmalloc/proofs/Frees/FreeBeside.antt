@@ -23,22 +23,22 @@ one_free extent free k one there = go (extent.at == k) there
 
 -- ---- what is found among them
 
-pub the_one : (k : ℕ) (one other : Extent) → extent_at k (one ∷ []) ≡ Some other → one ≡ other
-the_one k one other there = go (one.at == k) there
+pub the_one : (k : ℕ) (one : Extent) {other : Extent} → extent_at k (one ∷ []) ≡ Some other → one ≡ other
+the_one k one {other} there = go (one.at == k) there
   where
     go : (b : Bool) → (if b then Some one else None) ≡ Some other → one ≡ other
     go true is = ap (λ (o : Option Extent). unwrap_or o one) is
     go false is = absurd (cc)
 
 -- one that is joined begins where they do
-pub beside_place : (words : ℕ → ℕ) (before : Kind) (from : ℕ) (extents : List Extent) (to : ℕ) → IsBeside extents → Tiles words before from extents to → (k : ℕ) (one : Extent) → extent_at k extents ≡ Some one → k ≡ from
-beside_place words before from [] to beside h k one there = absurd (cc)
-beside_place words before from (extent ∷ []) to beside h k one there = go (extent.at == k) refl there
+pub beside_place : (words : ℕ → ℕ) (before : Kind) (from : ℕ) (extents : List Extent) (to : ℕ) → IsBeside extents → Tiles words before from extents to → (k : ℕ) {one : Extent} → extent_at k extents ≡ Some one → k ≡ from
+beside_place words before from [] to beside h k there = absurd (cc)
+beside_place words before from (extent ∷ []) to beside h k {one} there = go (extent.at == k) refl there
   where
     go : (b : Bool) → (extent.at == k) ≡ b → (if b then Some extent else None) ≡ Some one → k ≡ from
     go true test is = sym (nat_is test) ∙ h.0
     go false test is = absurd (cc)
-beside_place words before from (extent ∷ next ∷ extents) to beside h k one there = absurd beside
+beside_place words before from (extent ∷ next ∷ extents) to beside h k there = absurd beside
 
 -- where extents begin, one does
 pub first_there : (words : ℕ → ℕ) (before : Kind) (from : ℕ) (extents : List Extent) (next : Extent) (to : ℕ) → Tiles words before from (extents ++ next ∷ []) to → (one : Extent) × (extent_at from (extents ++ next ∷ []) ≡ Some one)
@@ -108,8 +108,8 @@ left_of words base (first ∷ more) at h (inr free) =
 
 module _ (regions : List Grant) (words : ℕ → ℕ) (segments : List Segment) where
   -- what stands before it goes into the run
-  abbrev pub with_left : (at to : ℕ) (run : List Extent) (r : IsRunOf words segments at to run) (from : ℕ) (l : Left words r.segment.base r.first at from) → IsRunOf words segments from to (l.lefts ++ run)
-  with_left at to run r from l = record {
+  abbrev pub with_left : {at to : ℕ} {run : List Extent} (r : IsRunOf words segments at to run) {from : ℕ} (l : Left words r.segment.base r.first at from) → IsRunOf words segments from to (l.lefts ++ run)
+  with_left {at} {to} {run} r {from} l = record {
     front = r.front;
     segment = r.segment;
     back = r.back;
@@ -145,12 +145,12 @@ used_ends : (kind : Kind) → (kind ≡ Used) ⊎ (kind ≡ Record) → is_used 
 used_ends kind (inl is) = ap is_used is
 used_ends kind (inr is) = ap is_used is
 
-module _ (regions : List Grant) (words : ℕ → ℕ) (segments : List Segment) (parts : AreSegments regions words segments) (at size : ℕ) (r : IsRunOf words segments at (at + size) (extent at size Used ∷ [])) where
+module _ (regions : List Grant) {words : ℕ → ℕ} {segments : List Segment} (parts : AreSegments regions words segments) {at size : ℕ} (r : IsRunOf words segments at (at + size) (extent at size Used ∷ [])) where
   abbrev pub next_one : HasNext r.last
-  next_one = has_next regions words segments parts at (at + size) (extent at size Used ∷ []) r refl
+  next_one = has_next regions parts r refl
 
   stand : Tiles words Used (at + size) (next_one.next ∷ next_one.rest) (r.segment.base + r.segment.size)
-  stand = behind regions words segments parts at (at + size) (extent at size Used ∷ []) r next_one
+  stand = behind regions parts r next_one
 
   right_used : (next_one.next.kind ≡ Used) ⊎ (next_one.next.kind ≡ Record) → Right words segments at size (end_of words (at + size))
   right_used kind =
@@ -162,7 +162,7 @@ module _ (regions : List Grant) (words : ℕ → ℕ) (segments : List Segment) 
       subst (λ (t : ℕ). Right words segments at size t) (ap (λ (b : Bool). if b then at + size + size_of (words (at + size + 8)) else at + size) (sym told)) (record {
         rights = [];
         next = next_one.next;
-        run = with_next regions words segments parts at (at + size) (extent at size Used ∷ []) r next_one;
+        run = with_next regions parts r next_one;
         place = stand.0;
         kind = kind;
         beside = tt;
@@ -178,9 +178,9 @@ module _ (regions : List Grant) (words : ℕ → ℕ) (segments : List Segment) 
   right_free : next_one.next.kind ≡ Free → Right words segments at size (end_of words (at + size))
   right_free free =
       let q = next_one.next in
-      let run = with_next regions words segments parts at (at + size) (extent at size Used ∷ []) r next_one in
-      let n = has_next regions words segments parts at (at + size + q.size) (extent at size Used ∷ q ∷ []) run (ap ends_segment free) in
-      let b = behind regions words segments parts at (at + size + q.size) (extent at size Used ∷ q ∷ []) run n in
+      let run = with_next regions parts r next_one in
+      let n = has_next regions parts run (ap ends_segment free) in
+      let b = behind regions parts run n in
       let kind = behind_free n.next.kind (subst (λ (k : Kind). MayStand k n.next.kind) free b.1.kind) in
       let whole = told_whole q.kind q.size stand.1.size in
       let is_size : told_size q.kind q.size ≡ q.size = ap (λ (k : Kind). told_size k q.size) free in
@@ -194,7 +194,7 @@ module _ (regions : List Grant) (words : ℕ → ℕ) (segments : List Segment) 
       subst (λ (t : ℕ). Right words segments at size t) ends (record {
         rights = q ∷ [];
         next = n.next;
-        run = with_next regions words segments parts at (at + size + q.size) (extent at size Used ∷ q ∷ []) run n;
+        run = with_next regions parts run n;
         place = b.0;
         kind = kind;
         beside = ap is_free free;

@@ -6,12 +6,12 @@ use Rattle.dlmalloc.proofs.Cuts.FreeExtent.{rehung, told_whole, no_head, may_sta
 
 module _ (regions : List Grant) (old new : ℕ → ℕ) (from : ℕ) (less : List Extent) (place : from % 16 ≡ 0) where
   -- before an extent in use or a record
-  pub join : (to : ℕ) (kind : Kind) (next : Extent) → to % 16 ≡ 0 → from + 32 ≤ to → next.at ≡ to → HasChunk old kind next → (next.kind ≡ Used) ⊎ (next.kind ≡ Record) →
+  pub join : (to : ℕ) {kind : Kind} (next : Extent) → to % 16 ≡ 0 → from + 32 ≤ to → next.at ≡ to → HasChunk old kind next → (next.kind ≡ Used) ⊎ (next.kind ≡ Record) →
       Tiles old Used from less (to + next.size) →
       AreStored regions old ((from + (to - from) + 8, without_pinuse (old (from + (to - from) + 8))) ∷ (from + 8, head_of (to - from) true false) ∷ (from + (to - from), to - from) ∷ []) new →
       ((k : ℕ) → next.at < k → k < next.at + next.size → k % 8 ≡ 0 → IsWordOf regions k) →
       IsMove regions old new Used from (to + next.size) (to + next.size) less (extent from (to - from) Free ∷ next ∷ [])
-  join to kind next whole room touch behind is less_stand stored granted =
+  join to {kind} next whole room touch behind is less_stand stored granted =
       let sum : from + (to - from) ≡ to = omega arith in
       let heads : new (to + 8) ≡ without_pinuse (old (to + 8)) =
       subst (λ (a : ℕ). new (a + 8) ≡ without_pinuse (old (a + 8))) sum (stored.here.0 ((λ is. omega arith), ((λ is. omega arith), tt))) in
@@ -29,7 +29,7 @@ module _ (regions : List Grant) (old new : ℕ → ℕ) (from : ℕ) (less : Lis
           },
           (
             touch ∙ sym sum,
-            rehung old new kind Free next behind is (may_stand next.kind Free is (inr refl))
+            rehung new Free behind is (may_stand next.kind Free is (inr refl))
                 (subst (λ (a : ℕ). new (a + 8) ≡ head_of (told_size next.kind next.size) false (is_used next.kind)) (sym touch)
                 (heads ∙ (ap (λ (a : ℕ). without_pinuse (old (a + 8))) (sym touch)
                 ∙ (ap without_pinuse behind.head ∙ without_pinuse-head_of (told_size next.kind next.size) (is_used kind) (is_used next.kind) (told_whole next.kind next.size behind.size)))))
@@ -42,9 +42,9 @@ module _ (regions : List Grant) (old new : ℕ → ℕ) (from : ℕ) (less : Lis
       }
 
   -- before the top
-  pub join_top : (size end : ℕ) → end % 16 ≡ 0 → from + size ≡ end → 16 ≤ size → Tiles old Used from less end → IsStored regions old (from + 8) (size + 1) new →
+  pub join_top : (size : ℕ) {end : ℕ} → end % 16 ≡ 0 → from + size ≡ end → 16 ≤ size → Tiles old Used from less end → IsStored regions old (from + 8) (size + 1) new →
       IsMove regions old new Used from end end less (extent from size Top ∷ [])
-  join_top size end whole sum long less_stand stored = record {
+  join_top size whole sum long less_stand stored = record {
     less_stand = less_stand;
     more_stand = (
       refl,

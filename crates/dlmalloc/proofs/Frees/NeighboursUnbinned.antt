@@ -14,17 +14,17 @@ use Rattle.dlmalloc.proofs.Frees.OfChunk.{run_one, right}
 use Rattle.dlmalloc.proofs.Frees.WhatCallsWant.{left_one, no_top, ends_at, from_at}
 
 -- a heap with an extent has a segment
-pub some_size : {A : Type 0} (regions : A → List Grant) (word : A → ℕ → ℕ) (heap : Dlmalloc A) → IsSound regions word heap → (k : ℕ) (one : Extent) → extent_at k (extents_in (state_of word heap)) ≡ Some one → 0 < heap.size
-some_size {A} regions word heap sound k one there = go (segments_of word heap) sound.told there
+pub some_size : {A : Type 0} {regions : A → List Grant} {word : A → ℕ → ℕ} {heap : Dlmalloc A} → IsSound regions word heap → (k : ℕ) {one : Extent} → extent_at k (extents_in (state_of word heap)) ≡ Some one → 0 < heap.size
+some_size {word} {heap} sound k {one} there = go (segments_of word heap) sound.told there
   where
     go : (segments : List Segment) → AreTold (word heap.system) heap segments → extent_at k (extents_all segments) ≡ Some one → 0 < heap.size
     go [] told found = absurd (cc)
     go (segment ∷ segments) told found = told.0
 
 -- the words that tell a chunk in use and what is beside it stay, where those in free chunks alone change
-pub told_stays : {A : Type 0} (regions : A → List Grant) (word : A → ℕ → ℕ) (heap : Dlmalloc A) → IsSound regions word heap → (at size : ℕ) → extent_at at (extents_in (state_of word heap)) ≡ Some (extent at size Used) → (granted : List Grant) (new : ℕ → ℕ) →
+pub told_stays : {A : Type 0} {regions : A → List Grant} (word : A → ℕ → ℕ) (heap : Dlmalloc A) → IsSound regions word heap → (at size : ℕ) → extent_at at (extents_in (state_of word heap)) ≡ Some (extent at size Used) → (granted : List Grant) (new : ℕ → ℕ) →
     OnlyFreeChange granted (state_of word heap) (word heap.system) new → (k : ℕ) → at ≤ k → k ≤ at + size + 8 → IsWordOf granted k → new k ≡ word heap.system k
-told_stays {A} regions word heap sound at size there granted new only k low high inside = only k inside (λ f n free. out f n free (same_or_beside regions word heap sound f n free (extent at size Used) there))
+told_stays word heap sound at size there granted new only k low high inside = only k inside (λ f n free. out f n free (same_or_beside sound free there))
   where
     out : (f n : ℕ) → IsFreeAt (state_of word heap) f n → (extent at size Used ≡ extent f n Free) ⊎ ((at + size ≤ f) ⊎ (f + n ≤ at)) → (k < f + 16) ⊎ (f + n ≤ k)
     out f n free (inl same) = absurd (let no : Used ≡ Free = ap (λ (e : Extent). e.kind) same in cc)
@@ -42,75 +42,75 @@ whole_beside words before from (one ∷ []) to beside free h some =
     here ∙ (λ i. Some (extent (place i) (long i) (kind i)))
 whole_beside words before from (one ∷ next ∷ extents) to beside free h some = absurd beside
 
-module _ {A : Type 0} (regions : A → List Grant) (word : A → ℕ → ℕ) (heap : Dlmalloc A) (sound : IsSound regions word heap) (at size : ℕ)
-    (there : extent_at at (extents_in (state_of word heap)) ≡ Some (extent at size Used)) (from : ℕ) (from_is : from ≡ (if pinuse_of (word heap.system (at + 8)) then at else at - word heap.system at)) where
+module _ {A : Type 0} {regions : A → List Grant} {word : A → ℕ → ℕ} {heap : Dlmalloc A} (sound : IsSound regions word heap) {at size : ℕ}
+    (there : extent_at at (extents_in (state_of word heap)) ≡ Some (extent at size Used)) {from : ℕ} (from_is : from ≡ (if pinuse_of (word heap.system (at + 8)) then at else at - word heap.system at)) where
   abbrev words : ℕ → ℕ
   words = word heap.system
 
   -- the chunk itself is not free
-  pub not_free : (n : ℕ) → IsFreeAt (state_of word heap) at n → ⊥
-  not_free n free = (let no : Used ≡ Free = ap (λ (e : Extent). e.kind) (the_extent (sym there ∙ free)) in cc)
+  pub not_free : {n : ℕ} → IsFreeAt (state_of word heap) at n → ⊥
+  not_free free = (let no : Used ≡ Free = ap (λ (e : Extent). e.kind) (the_extent (sym there ∙ free)) in cc)
 
   pub left_none : at ≤ from → (n : ℕ) → IsFreeAt (state_of word heap) from n → ⊥
-  left_none low n free = (let same : from ≡ at = (let le = from_at regions word heap sound at size there from from_is in omega arith) in not_free n (subst (λ (a : ℕ). IsFreeAt (state_of word heap) a n) same free))
+  left_none low n free = (let same : from ≡ at = (let le = from_at sound there from_is in omega arith) in not_free (subst (λ (a : ℕ). IsFreeAt (state_of word heap) a n) same free))
 
   pub left_free : from < at → IsFreeAt (state_of word heap) from (at - from)
   left_free some =
-      let one = run_one regions word heap sound at size there in
-      let left = left_one regions word heap sound at size there from from_is in
+      let one = run_one sound there in
+      let left = left_one sound there from_is in
       let here = whole_beside words Used from left.lefts at left.beside left.free left.lefts_stand some in
       let first : extent_at from one.first ≡ Some (extent from (at - from) Free) =
       ap (extent_at from) left.is ∙ (found_later from left.front left.lefts (none_outside words Used one.segment.base left.front from from (inr (omega arith)) left.front_stand) ∙ here) in
-      among_all (regions heap.system) words (segments_of word heap) sound.segments sound.apart one.front one.segment one.back one.is from (extent from (at - from) Free)
-      (ap (extent_at from) one.extents ∙ found_more from one.first ((extent at size Used ∷ []) ++ one.last) (extent from (at - from) Free) first)
+      among_all (regions heap.system) words sound.segments sound.apart one.front one.segment one.back one.is from
+      (ap (extent_at from) one.extents ∙ found_more from one.first ((extent at size Used ∷ []) ++ one.last) first)
 
-  module _ (to : ℕ) (to_is : to ≡ (if at + size == heap.top then at + size else if free_of (word heap.system (at + size + 8)) then at + size + size_of (word heap.system (at + size + 8)) else at + size)) where
-    by_top : (b : Bool) → (at + size == heap.top) ≡ b → to ≡ (if b then at + size else end_of words (at + size))
-    by_top b is = to_is ∙ ap (λ (b : Bool). if b then at + size else end_of words (at + size)) is
+  module _ {to : ℕ} (to_is : to ≡ (if at + size == heap.top then at + size else if free_of (word heap.system (at + size + 8)) then at + size + size_of (word heap.system (at + size + 8)) else at + size)) where
+    by_top : {b : Bool} → (at + size == heap.top) ≡ b → to ≡ (if b then at + size else end_of words (at + size))
+    by_top {b} is = to_is ∙ ap (λ (b : Bool). if b then at + size else end_of words (at + size)) is
 
     -- at the top nothing is free behind it
     top_behind : at + size ≡ heap.top → 0 < heap.size → (n : ℕ) → IsFreeAt (state_of word heap) (at + size) n → ⊥
     top_behind is some n free =
-        let top = top_among regions word heap sound some in
+        let top = top_among sound some in
         let here : extent_at heap.top (extents_in (state_of word heap)) ≡ Some (extent (at + size) n Free) = subst (λ (a : ℕ). extent_at a (extents_in (state_of word heap)) ≡ Some (extent (at + size) n Free)) is free in
         (let no : Free ≡ Top = ap (λ (e : Extent). e.kind) (the_extent (sym here ∙ top)) in cc)
 
     module _ (some : 0 < heap.size) (goes_on : at + size ≢ heap.top) where
       abbrev r : Right words (segments_of word heap) at size to
-      r = right regions word heap sound at size there (no_top regions word heap sound at size there goes_on) from from_is to (ends_at regions word heap sound at size there from from_is to to_is goes_on)
+      r = right sound there (no_top sound there goes_on) from_is (ends_at sound there from_is to_is goes_on)
 
       -- what is found behind the chunk in its run is found in the heap
-      behind : (k : ℕ) (one : Extent) → at + size ≤ k → extent_at k (r.rights ++ r.next ∷ []) ≡ Some one → extent_at k (extents_in (state_of word heap)) ≡ Some one
-      behind k one low found =
+      behind : (k : ℕ) {one : Extent} → at + size ≤ k → extent_at k (r.rights ++ r.next ∷ []) ≡ Some one → extent_at k (extents_in (state_of word heap)) ≡ Some one
+      behind k {one} low found =
           let test : (at == k) ≡ false = nat_isnt (inl (let long = r.run.here.1.size.1 in omega arith)) in
-          among_all (regions heap.system) words (segments_of word heap) sound.segments sound.apart r.run.front r.run.segment r.run.back r.run.is k one
+          among_all (regions heap.system) words sound.segments sound.apart r.run.front r.run.segment r.run.back r.run.is k {one = one}
           (ap (extent_at k) r.run.extents ∙ (found_later k r.run.first ((extent at size Used ∷ (r.rights ++ r.next ∷ [])) ++ r.run.last)
-          (none_outside words Used r.run.segment.base r.run.first at k (inr (omega arith)) r.run.first_stand) ∙ found_more k (extent at size Used ∷ (r.rights ++ r.next ∷ [])) r.run.last one (rw test found)))
+          (none_outside words Used r.run.segment.base r.run.first at k (inr (omega arith)) r.run.first_stand) ∙ found_more k (extent at size Used ∷ (r.rights ++ r.next ∷ [])) r.run.last {extent = one} (rw test found)))
 
       behind_free : at + size < to → IsFreeAt (state_of word heap) (at + size) (to - (at + size))
       behind_free more =
           let s = tiles_split words Used (at + size) r.rights (r.next ∷ []) (to + r.next.size) r.run.here.2 in
           let ends : s.middle ≡ to = sym s.second.0 ∙ r.place in
-          behind (at + size) (extent (at + size) (to - (at + size)) Free) (omega arith)
-          (found_more (at + size) r.rights (r.next ∷ []) (extent (at + size) (to - (at + size)) Free)
+          behind (at + size) (omega arith)
+          (found_more (at + size) r.rights (r.next ∷ [])
           (whole_beside words Used (at + size) r.rights to r.beside r.free (subst (λ (m : ℕ). Tiles words Used (at + size) r.rights m) ends s.first) more))
 
       behind_none : to ≤ at + size → (n : ℕ) → IsFreeAt (state_of word heap) (at + size) n → ⊥
       behind_none less n free =
           let f = first_there words Used (at + size) r.rights r.next (to + r.next.size) r.run.here.2 in
-          let same : f.0 ≡ extent (at + size) n Free = the_extent (sym (behind (at + size) f.0 (omega arith) f.1) ∙ free) in
+          let same : f.0 ≡ extent (at + size) n Free = the_extent (sym (behind (at + size) (omega arith) f.1) ∙ free) in
           let s = tiles_split words Used (at + size) r.rights (r.next ∷ []) (to + r.next.size) r.run.here.2 in
           let ends : s.middle ≡ to = sym s.second.0 ∙ r.place in
           let next : extent_at (at + size) (r.next ∷ []) ≡ Some f.0 =
           sym (found_later (at + size) r.rights (r.next ∷ []) (none_outside words Used (at + size) r.rights s.middle (at + size) (inr (omega arith)) s.first)) ∙ f.1 in
-          let kind : r.next.kind ≡ Free = ap (λ (e : Extent). e.kind) (the_one (at + size) r.next f.0 next ∙ same) in
+          let kind : r.next.kind ≡ Free = ap (λ (e : Extent). e.kind) (the_one (at + size) r.next next ∙ same) in
           elim (r.kind) [ inl used ↦ (let no : Used ≡ Free = sym used ∙ kind in cc) | inr tail ↦ (let no : Record ≡ Free = sym tail ∙ kind in cc) ]
 
     pub right_free : 0 < heap.size → at + size < to → IsFreeAt (state_of word heap) (at + size) (to - (at + size))
     right_free some more = go (at + size == heap.top) refl
       where
         go : (b : Bool) → (at + size == heap.top) ≡ b → IsFreeAt (state_of word heap) (at + size) (to - (at + size))
-        go true is = absurd (let t = by_top true is in omega arith)
+        go true is = absurd (let t = by_top is in omega arith)
         go false apart = behind_free some (grind (arith, nat_tests)) more
 
     pub right_none : 0 < heap.size → to ≤ at + size → (n : ℕ) → IsFreeAt (state_of word heap) (at + size) n → ⊥
@@ -125,11 +125,11 @@ module _ {A : Type 0} (regions : A → List Grant) (word : A → ℕ → ℕ) (h
     one_of_two some k n free low high out = right_of_it
       where
         long : 32 ≤ n
-        long = (stands regions word heap sound k n free).1.size.1
+        long = (stands sound free).1.size.1
 
         behind_left : at ≤ k
         behind_left = elim (dec_lt from at) [
-          | yes more ↦ elim (same_or_beside regions word heap sound from (at - from) (left_free more) (extent k n Free) free) [
+          | yes more ↦ elim (same_or_beside sound (left_free more) free) [
             | inl same ↦ absurd (out (inl (ap (λ (e : Extent). e.at) same)))
             | inr beside ↦ elim beside [ inl before ↦ absurd (omega (arith, before, low, long)) | inr after ↦ omega (arith, after, more) ]
           ]
@@ -137,13 +137,13 @@ module _ {A : Type 0} (regions : A → List Grant) (word : A → ℕ → ℕ) (h
         ]
 
         behind_chunk : at + size ≤ k
-        behind_chunk = elim (same_or_beside regions word heap sound k n free (extent at size Used) there) [
+        behind_chunk = elim (same_or_beside sound free there) [
           | inl same ↦ absurd (let no : Used ≡ Free = ap (λ (e : Extent). e.kind) same in cc)
           | inr beside ↦ elim beside [ inl before ↦ before | inr after ↦ absurd (omega (arith, after, behind_left, long)) ]
         ]
 
         right_of_it : ⊥
-        right_of_it = elim (same_or_beside regions word heap sound (at + size) (to - (at + size)) (right_free some (omega (arith, behind_chunk, high))) (extent k n Free) free) [
+        right_of_it = elim (same_or_beside sound (right_free some (omega (arith, behind_chunk, high))) free) [
           | inl same ↦ out (inr (inl (ap (λ (e : Extent). e.at) same)))
           | inr beside ↦ elim beside [ inl before ↦ omega (arith, before, behind_chunk, long) | inr after ↦ omega (arith, after, behind_chunk, high) ]
         ]
@@ -181,7 +181,7 @@ module _ {A : Type 0} (regions : A → List Grant) (word : A → ℕ → ℕ) (h
         gained k n now out free other = elim victim [
           | inl same ↦ other (now ∙ same)
           | inr moved ↦ elim (moved.2) [
-            | inl none ↦ (let low = free_low regions word heap sound (extent k n Free) free in let zero : k ≡ 0 = now ∙ none in omega arith)
+            | inl none ↦ (let low = free_low sound free in let zero : k ≡ 0 = now ∙ none in omega arith)
             | inr begins ↦ out (inl (now ∙ begins))
           ]
         ]

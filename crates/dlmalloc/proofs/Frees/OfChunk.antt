@@ -38,7 +38,7 @@ found_place k one other there = go (one.at == k) refl there
     go true is found = nat_is is
     go false is found = absurd (cc)
 
-module _ {A : Type 0} (regions : A → List Grant) (word : A → ℕ → ℕ) (heap : Dlmalloc A) (sound : IsSound regions word heap) (at size : ℕ)
+module _ {A : Type 0} {regions : A → List Grant} {word : A → ℕ → ℕ} {heap : Dlmalloc A} (sound : IsSound regions word heap) {at size : ℕ}
     (there : extent_at at (extents_in (state_of word heap)) ≡ Some (extent at size Used)) where
   abbrev segments : List Segment
   segments = segments_of word heap
@@ -50,12 +50,12 @@ module _ {A : Type 0} (regions : A → List Grant) (word : A → ℕ → ℕ) (h
   chunk = extent at size Used
 
   abbrev pub run_one : IsRunOf words segments at (at + size) (chunk ∷ [])
-  run_one = run_of (regions heap.system) words segments sound.segments chunk there
+  run_one = run_of (regions heap.system) words segments sound.segments there
 
-  module _ (no_top : (next_one (regions heap.system) words segments sound.segments at size run_one).next.kind ≢ Top) (from : ℕ) (from_is : from ≡ (if pinuse_of (words (at + 8)) then at else at - words at))
-      (to : ℕ) (to_is : to ≡ end_of words (at + size)) where
+  module _ (no_top : (next_one (regions heap.system) sound.segments run_one).next.kind ≢ Top) {from : ℕ} (from_is : from ≡ (if pinuse_of (words (at + 8)) then at else at - words at))
+      {to : ℕ} (to_is : to ≡ end_of words (at + size)) where
     pub right : Right words segments at size to
-    right = subst (λ (t : ℕ). Right words segments at size t) (sym to_is) (right_of (regions heap.system) words segments sound.segments at size run_one no_top)
+    right = subst (λ (t : ℕ). Right words segments at size t) (sym to_is) (right_of (regions heap.system) sound.segments run_one no_top)
 
     stands : HasChunk words (last_kind Used right.run.first) chunk
     stands = right.run.here.1
@@ -77,7 +77,7 @@ module _ {A : Type 0} (regions : A → List Grant) (word : A → ℕ → ℕ) (h
     end = to + right.next.size
 
     abbrev pub run : IsRunOf words segments from end less
-    run = with_left (regions heap.system) words segments at end (chunk ∷ (right.rights ++ next ∷ [])) right.run from left
+    run = with_left (regions heap.system) words segments right.run left
 
     from_at : from ≤ at
     from_at = tiles_le words Used from left.lefts at left.lefts_stand
@@ -111,7 +111,7 @@ module _ {A : Type 0} (regions : A → List Grant) (word : A → ℕ → ℕ) (h
     high = tiles_le words (last_kind (last_kind Used run.first) less) end run.last (run.segment.base + run.segment.size) run.last_stand
 
     pub word_there : (k : ℕ) → from ≤ k → k < end → k % 8 ≡ 0 → IsWordOf (regions heap.system) k
-    word_there k above below m = run_word (regions heap.system) words segments sound.segments from end less run k (omega (arith, low, above)) (omega (arith, high, below)) m
+    word_there k above below m = run_word (regions heap.system) sound.segments run k (omega (arith, low, above)) (omega (arith, high, below)) m
 
     last_less : last_kind (last_kind Used run.first) less ≡ next.kind
     last_less = last_append (last_kind Used run.first) left.lefts (chunk ∷ (right.rights ++ next ∷ [])) ∙ last_append Used right.rights (next ∷ [])
@@ -119,11 +119,11 @@ module _ {A : Type 0} (regions : A → List Grant) (word : A → ℕ → ℕ) (h
     -- what is found in the run
     in_run : (k : ℕ) (one : Extent) → extent_at k less ≡ Some one → ((one.kind ≡ Free) ⊎ (one.kind ≡ Used)) ⊎ (extent_at k more ≡ Some one)
     in_run k one found =
-        elim (found_either k left.lefts (chunk ∷ (right.rights ++ next ∷ [])) one found) [
+        elim (found_either k left.lefts (chunk ∷ (right.rights ++ next ∷ [])) found) [
           | inl first ↦ inl (inl (left.free k one first))
-          | inr later ↦ elim (found_either k (chunk ∷ []) (right.rights ++ next ∷ []) one later.1) [
+          | inr later ↦ elim (found_either k (chunk ∷ []) (right.rights ++ next ∷ []) later.1) [
             | inl here ↦ inl (inr (kind_one here))
-            | inr behind ↦ elim (found_either k right.rights (next ∷ []) one behind.1) [
+            | inr behind ↦ elim (found_either k right.rights (next ∷ []) behind.1) [
               | inl beside ↦ inl (inl (right.free k one beside))
               | inr last ↦ inr (in_more last.1)
             ]
@@ -143,8 +143,8 @@ module _ {A : Type 0} (regions : A → List Grant) (word : A → ℕ → ℕ) (h
             let test : (from == k) ≡ false = nat_isnt (inl (omega (arith, place, right.place, room))) in
             rw test is
 
-    tails : (k : ℕ) (tail : Extent) → extent_at k less ≡ Some tail → (tail.kind ≡ Record → extent_at k more ≡ Some tail) × (tail.kind ≡ Top → extent_at k more ≡ Some tail)
-    tails k tail found = go (in_run k tail found)
+    tails : (k : ℕ) {tail : Extent} → extent_at k less ≡ Some tail → (tail.kind ≡ Record → extent_at k more ≡ Some tail) × (tail.kind ≡ Top → extent_at k more ≡ Some tail)
+    tails k {tail} found = go (in_run k tail found)
       where
         go : ((tail.kind ≡ Free) ⊎ (tail.kind ≡ Used)) ⊎ (extent_at k more ≡ Some tail) → (tail.kind ≡ Record → extent_at k more ≡ Some tail) × (tail.kind ≡ Top → extent_at k more ≡ Some tail)
         go (inl (inl free)) = ((λ is. absurd (let no : Free ≡ Record = sym free ∙ is in cc)), (λ is. absurd (let no : Free ≡ Top = sym free ∙ is in cc)))
@@ -188,17 +188,17 @@ module _ {A : Type 0} (regions : A → List Grant) (word : A → ℕ → ℕ) (h
         let second : (next.at == to) ≡ true = (let p = right.place in grind (arith, nat_tests)) in
         ap (extent_at to) run.extents
         ∙ (found_later to run.first (less ++ run.last) (none_outside words Used run.segment.base run.first from to (inr (omega (arith, room))) run.first_stand)
-        ∙ found_more to less run.last next (beyond to (inr (omega arith)) ∙ rw (first, second) refl))
+        ∙ found_more to less run.last {extent = next} (beyond to (inr (omega arith)) ∙ rw (first, second) refl))
 
     -- so it does not end at the top
     pub below_top : to ≢ heap.top
     below_top is =
-        let top = the_top regions word heap sound run.front run.segment run.back run.is next (ap (λ (k : ℕ). extent_at k run.segment.extents) right.place ∙ next_there) (right.place ∙ is) in
+        let top = the_top sound run.front run.segment run.back run.is (ap (λ (k : ℕ). extent_at k run.segment.extents) right.place ∙ next_there) (right.place ∙ is) in
         let kind : next.kind ≡ Top = ap (λ (e : Extent). e.kind) top in
         elim (right.kind) [ inl used ↦ (let no : Used ≡ Top = sym used ∙ kind in cc) | inr record_kind ↦ (let no : Record ≡ Top = sym record_kind ∙ kind in cc) ]
 
     high_end : end < 2 ^ 64
-    high_end = omega (arith, high, (run_part (regions heap.system) words segments sound.segments from end less run).high)
+    high_end = omega (arith, high, (run_part (regions heap.system) sound.segments run).high)
 
     next_long : 16 ≤ right.next.size
     next_long = (sized right.next.kind right.next.size right.stands.size).1
@@ -229,28 +229,28 @@ module _ {A : Type 0} (regions : A → List Grant) (word : A → ℕ → ℕ) (h
 
     -- ---- the free ones of the run
 
-    no_free_next : (k bytes : ℕ) → next ≡ extent k bytes Free → ⊥
-    no_free_next k bytes is =
+    no_free_next : {k bytes : ℕ} → next ≡ extent k bytes Free → ⊥
+    no_free_next is =
         let kind : next.kind ≡ Free = ap (λ (e : Extent). e.kind) is in
         elim (right.kind) [ inl used ↦ (let no : Used ≡ Free = sym used ∙ kind in cc) | inr tail ↦ (let no : Record ≡ Free = sym tail ∙ kind in cc) ]
 
     in_less : (k bytes : ℕ) → extent_at k less ≡ Some (extent k bytes Free) → IsIn k (from ∷ (at + size) ∷ [])
-    in_less k bytes found = elim (found_either k left.lefts (chunk ∷ (right.rights ++ next ∷ [])) (extent k bytes Free) found) [
-      | inl first ↦ inl (beside_place words Used from left.lefts at left.beside left.lefts_stand k (extent k bytes Free) first)
-      | inr later ↦ elim (found_either k (chunk ∷ []) (right.rights ++ next ∷ []) (extent k bytes Free) later.1) [
-        | inl here ↦ absurd (let no : Used ≡ Free = ap (λ (e : Extent). e.kind) (the_one k chunk (extent k bytes Free) here) in cc)
-        | inr behind ↦ elim (found_either k right.rights (next ∷ []) (extent k bytes Free) behind.1) [
+    in_less k bytes found = elim (found_either k left.lefts (chunk ∷ (right.rights ++ next ∷ [])) found) [
+      | inl first ↦ inl (beside_place words Used from left.lefts at left.beside left.lefts_stand k first)
+      | inr later ↦ elim (found_either k (chunk ∷ []) (right.rights ++ next ∷ []) later.1) [
+        | inl here ↦ absurd (let no : Used ≡ Free = ap (λ (e : Extent). e.kind) (the_one k chunk here) in cc)
+        | inr behind ↦ elim (found_either k right.rights (next ∷ []) behind.1) [
           | inl beside ↦ (let s = tiles_split words Used (at + size) right.rights (next ∷ []) end right.run.here.2 in
-              inr (inl (beside_place words Used (at + size) right.rights s.middle right.beside s.first k (extent k bytes Free) beside)))
-          | inr last ↦ absurd (no_free_next k bytes (the_one k next (extent k bytes Free) last.1))
+              inr (inl (beside_place words Used (at + size) right.rights s.middle right.beside s.first k beside)))
+          | inr last ↦ absurd (no_free_next (the_one k next last.1))
         ]
       ]
     ]
 
     in_more : (k bytes : ℕ) → extent_at k more ≡ Some (extent k bytes Free) → IsIn k (from ∷ [])
-    in_more k bytes found = elim (found_either k (joint ∷ []) (next ∷ []) (extent k bytes Free) found) [
-      | inl first ↦ inl (sym (ap (λ (e : Extent). e.at) (the_one k joint (extent k bytes Free) first)))
-      | inr later ↦ absurd (no_free_next k bytes (the_one k next (extent k bytes Free) later.1))
+    in_more k bytes found = elim (found_either k (joint ∷ []) (next ∷ []) found) [
+      | inl first ↦ inl (sym (ap (λ (e : Extent). e.at) (the_one k joint first)))
+      | inr later ↦ absurd (no_free_next (the_one k next later.1))
     ]
 
     -- something stands behind it
@@ -267,7 +267,7 @@ module _ {A : Type 0} (regions : A → List Grant) (word : A → ℕ → ℕ) (h
       move : IsMove (regions heap.system) words (word system) (last_kind Used run.first) from end end less more
       move =
           subst (λ (k : Kind). IsMove (regions heap.system) words (word system) k from end end less more) (sym left.used)
-          (join (regions heap.system) words (word system) from less from_whole to right.before next to_whole room right.place right.stands right.kind (subst (λ (k : Kind). Tiles words k from less end) left.used run.here) stored
+          (join (regions heap.system) words (word system) from less from_whole to next to_whole room right.place right.stands right.kind (subst (λ (k : Kind). Tiles words k from less end) left.used run.here) stored
           (λ k above below m. word_there k (omega (arith, right.place, room, above)) (omega (arith, right.place, below)) m))
 
       kind_same : last_kind (last_kind Used run.first) more ≡ last_kind (last_kind Used run.first) less
@@ -277,13 +277,13 @@ module _ {A : Type 0} (regions : A → List Grant) (word : A → ℕ → ℕ) (h
       after victim victim_size = record heap { system = system; victim = victim; victim_size = victim_size }
 
       abbrev step : (victim victim_size : ℕ) → IsStep regions word heap (after victim victim_size) less more
-      step victim victim_size = step_beside regions word heap (after victim victim_size) sound same from end less more run move kind_same (λ k tail found. (tails k tail found).0) refl
-          (record { base = refl; size = refl; flags = refl; top = refl; top_size = refl }) (λ k tail found. (tails k tail found).1)
+      step victim victim_size = step_beside (after victim victim_size) sound same run move kind_same (λ k tail found. (tails k found).0) refl
+          (record { base = refl; size = refl; flags = refl; top = refl; top_size = refl }) (λ k tail found. (tails k found).1)
 
       state_segments : in_segments (freed_in at) segments ≡ run.front ++ with_extents run.segment (run.first ++ (more ++ run.last)) ∷ run.back
       state_segments =
           let is : extent from (next.at - from) (joint_kind right.rights) ≡ joint = same_extent refl (ap (λ (a : ℕ). a - from) right.place) right.joint in
-          freed_run (regions heap.system) words (word system) segments sound.segments sound.apart at size from end left.lefts right.rights next left.beside right.beside not_free run
+          freed_run (regions heap.system) (word system) sound.segments sound.apart at size left.lefts right.rights next left.beside right.beside not_free run
           (subst (λ (e : Extent). Tiles (word system) Used run.segment.base (run.first ++ (e ∷ next ∷ run.last)) (run.segment.base + run.segment.size)) (sym is) (step 0 0).changed.now.extents)
           ∙ ap (λ (e : Extent). run.front ++ with_extents run.segment (run.first ++ (e ∷ next ∷ run.last)) ∷ run.back) is
 
@@ -291,29 +291,29 @@ module _ {A : Type 0} (regions : A → List Grant) (word : A → ℕ → ℕ) (h
       Freed victim victim_size = IsFree regions word heap at size from to (after victim victim_size)
 
       joint_there : (victim victim_size : ℕ) → extent_at from (extents_in (state_of word (after victim victim_size))) ≡ Some joint
-      joint_there victim victim_size = let test : (from == from) ≡ true = nat_same from in found_new regions word heap (after victim victim_size) sound less more (step victim victim_size) from joint (rw test refl)
+      joint_there victim victim_size = let test : (from == from) ≡ true = nat_same from in found_new sound (step victim victim_size) from joint (rw test refl)
 
       freed_free : (victim victim_size : ℕ) → FreeMoves (state_of word heap) (state_of word (after victim victim_size)) (from ∷ (at + size) ∷ []) (from ∷ [])
-      freed_free victim victim_size = free_moves regions word heap (after victim victim_size) sound less more (step victim victim_size) (from ∷ (at + size) ∷ []) (from ∷ []) in_less in_more
+      freed_free victim victim_size = free_moves sound (step victim victim_size) (from ∷ (at + size) ∷ []) (from ∷ []) in_less in_more
           (λ k is. elim is [ inl same ↦ inl (inl same) | inr later ↦ elim later [ inl same ↦ inr (subst (λ (a : ℕ). IsThere a less) (sym same) right_there) | inr none ↦ absurd none ] ])
           (λ k is. elim is [ inl same ↦ inl (inl same) | inr none ↦ absurd none ])
 
       done : (victim victim_size : ℕ) → (victim_size ≢ 0 → extent_at victim (extents_in (state_of word (after victim victim_size))) ≡ Some (extent victim victim_size Free)) → (victim_size ≡ 0 → victim ≡ 0) →
           victim ≡ victim_in heap.victim (extents_in (state_of word (after victim victim_size))) → Freed victim victim_size
       done victim victim_size named none left =
-          let segments_are = read regions word heap (after victim victim_size) sound less more (step victim victim_size) ∙ sym state_segments in
+          let segments_are = read sound (step victim victim_size) ∙ sym state_segments in
           let whole : victim ≡ victim_in heap.victim (extents_all (in_segments (freed_in at) segments)) = left ∙ ap (λ (ss : List Segment). victim_in heap.victim (extents_all ss)) segments_are in
           record {
             state = λ i. record { segments = segments_are i; victim = whole i; granularity = heap.granularity; rate = heap.rate; countdown = heap.countdown; trim_check = heap.trim_check };
-            less = has_less regions word heap (after victim victim_size) sound less more (step victim victim_size) chunk fewer;
-            sound = stays_sound regions word heap (after victim victim_size) sound less more (step victim victim_size) same refl refl refl refl none named;
-            words = keeps_words regions word heap (after victim victim_size) sound less more (step victim victim_size);
-            records = λ one is there. found_again regions word heap (after victim victim_size) sound less more (step victim victim_size) one.at one (λ found. (tails one.at one found).0 is) there;
+            less = has_less sound (step victim victim_size) fewer;
+            sound = stays_sound sound (step victim victim_size) same refl refl refl refl none named;
+            words = keeps_words sound (step victim victim_size);
+            records = λ one is there. found_again sound (step victim victim_size) one.at (λ found. (tails one.at found).0 is) there;
             free = freed_free victim victim_size;
             joined = inr (
               λ is.
-                  let top = found_again regions word heap (after victim victim_size) sound less more (step victim victim_size) heap.top (extent heap.top heap.top_size Top) (λ found. (tails heap.top (extent heap.top heap.top_size Top) found).1 refl)
-                  (top_among regions word heap sound (some_there regions word heap (after victim victim_size) sound less more (step victim victim_size))) in
+                  let top = found_again sound (step victim victim_size) heap.top (λ found. (tails heap.top found).1 refl)
+                  (top_among sound (some_there sound (step victim victim_size))) in
                   let here : extent_at heap.top (extents_in (state_of word (after victim victim_size))) ≡ Some joint = subst (λ (a : ℕ). extent_at a (extents_in (state_of word (after victim victim_size))) ≡ Some joint) is (joint_there victim victim_size) in
                   (let no : Free ≡ Top = ap (λ (e : Extent). e.kind) (the_extent (sym here ∙ top)) in cc),
               joint_there victim victim_size,
@@ -324,22 +324,21 @@ module _ {A : Type 0} (regions : A → List Grant) (word : A → ℕ → ℕ) (h
       pub as_victim : from ≤ heap.victim → heap.victim < to → Freed from (to - from)
       as_victim reached within = done from (to - from) (λ some. joint_there from (to - from)) (λ none. absurd (omega (arith, none, room)))
           (sym (ap (λ (o : Option Extent). unwrap_or (option_map (λ (e : Extent). e.at) o) 0)
-          (has_in (regions system) (word system) (segments_of word (after from (to - from))) (segments_now regions word heap (after from (to - from)) sound less more (step from (to - from))) (apart_now regions word heap (after from (to - from)) sound less more (step from (to - from)))
-          joint heap.victim (joint_there from (to - from)) refl reached (omega (arith, within, room)))))
+          (has_in (regions system) (word system) (segments_of word (after from (to - from))) (segments_now sound (step from (to - from))) (apart_now sound (step from (to - from))) heap.victim (joint_there from (to - from)) refl reached (omega (arith, within, room)))))
 
       -- it stays
       pub as_other : (heap.victim < from) ⊎ (to ≤ heap.victim) → Freed heap.victim heap.victim_size
       as_other out = done heap.victim heap.victim_size named sound.no_victim
-          (victim_same (regions system) (word system) (segments_of word (after heap.victim heap.victim_size)) (segments_now regions word heap (after heap.victim heap.victim_size) sound less more (step heap.victim heap.victim_size)) (apart_now regions word heap (after heap.victim heap.victim_size) sound less more (step heap.victim heap.victim_size)) heap.victim heap.victim_size named sound.no_victim)
+          (victim_same (regions system) (word system) (segments_of word (after heap.victim heap.victim_size)) (segments_now sound (step heap.victim heap.victim_size)) (apart_now sound (step heap.victim heap.victim_size)) heap.victim heap.victim_size named sound.no_victim)
         where
           named : heap.victim_size ≢ 0 → extent_at heap.victim (extents_in (state_of word (after heap.victim heap.victim_size))) ≡ Some (extent heap.victim heap.victim_size Free)
-          named some = found_again regions word heap (after heap.victim heap.victim_size) sound less more (step heap.victim heap.victim_size) heap.victim (extent heap.victim heap.victim_size Free) (λ found. sym (beyond heap.victim out) ∙ found) (sound.victim some)
+          named some = found_again sound (step heap.victim heap.victim_size) heap.victim (λ found. sym (beyond heap.victim out) ∙ found) (sound.victim some)
 
       -- the free chunk has the chunk's first byte
       pub around : (victim victim_size : ℕ) → IsFreeAround (state_of word (after victim victim_size)) at from
       around victim victim_size = record {
         extent = joint;
-        there = let test : (from == from) ≡ true = nat_same from in found_new regions word heap (after victim victim_size) sound less more (step victim victim_size) from joint (rw test refl);
+        there = let test : (from == from) ≡ true = nat_same from in found_new sound (step victim victim_size) from joint (rw test refl);
         place = refl;
         free = refl;
         low = from_at;

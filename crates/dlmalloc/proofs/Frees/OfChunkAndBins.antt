@@ -14,34 +14,34 @@ IsFrom words at from = from ≡ (if pinuse_of (words (at + 8)) then at else at -
 abbrev pub IsTo : (ℕ → ℕ) → ℕ → ℕ → ℕ → Type 0
 IsTo words top at to = to ≡ (if at == top then at else if free_of (words (at + 8)) then at + size_of (words (at + 8)) else at)
 
-module _ {A : Type 0} (regions : A → List Grant) (word : A → ℕ → ℕ) (follows : A → List Event → A → Type 0) (heap : Dlmalloc A) (sound : IsSound regions word heap) (at size : ℕ)
+module _ {A : Type 0} {regions : A → List Grant} {word : A → ℕ → ℕ} (follows : A → List Event → A → Type 0) {heap : Dlmalloc A} (sound : IsSound regions word heap) {at size : ℕ}
     (there : extent_at at (extents_in (state_of word heap)) ≡ Some (extent at size Used)) (from to : ℕ) (from_is : IsFrom (word heap.system) at from) (to_is : IsTo (word heap.system) heap.top (at + size) to) where
   pub some : 0 < heap.size
-  some = some_size regions word heap sound at (extent at size Used) there
+  some = some_size sound at there
 
   -- the two begin at addresses of their own
   pub two : IsIn (at + size) (from ∷ []) → ⊥
   two is = elim is [
-    | inl same ↦ (let low = from_at regions word heap sound at size there from from_is in let long = used_long in omega arith)
+    | inl same ↦ (let low = from_at sound there from_is in let long = used_long in omega arith)
     | inr none ↦ none
   ]
     where
       used_long : 0 < size
-      used_long = (let s = (stands_there (regions heap.system) (word heap.system) (segments_of word heap) sound.segments (extent at size Used) there).1.size.1 in omega arith)
+      used_long = (let s = (stands_there (regions heap.system) (word heap.system) (segments_of word heap) sound.segments there).1.size.1 in omega arith)
 
   -- and what they are joined to was no free chunk
   pub joined_other : IsFreeAt (state_of word heap) from (to - from) → ⊥
   joined_other free = elim (dec_lt from at) [
     | yes before ↦
-        let same = one_size (state_of word heap) from (to - from) (at - from) free (left_free regions word heap sound at size there from from_is before) in
+        let same = one_size (state_of word heap) free (left_free sound there from_is before) in
         let long = used_long in
         let end = to_above in
         omega (arith, before)
-    | no here ↦ left_none regions word heap sound at size there from from_is (omega (arith, here)) (to - from) free
+    | no here ↦ left_none sound there from_is (omega (arith, here)) (to - from) free
   ]
     where
       used_long : 0 < size
-      used_long = (let s = (stands_there (regions heap.system) (word heap.system) (segments_of word heap) sound.segments (extent at size Used) there).1.size.1 in omega arith)
+      used_long = (let s = (stands_there (regions heap.system) (word heap.system) (segments_of word heap) sound.segments there).1.size.1 in omega arith)
 
       above : (b c : Bool) (more : ℕ) → at + size ≤ (if b then at + size else if c then at + size + more else at + size)
       above true c more = omega arith
@@ -52,7 +52,7 @@ module _ {A : Type 0} (regions : A → List Grant) (word : A → ℕ → ℕ) (f
       to_above = subst (λ (t : ℕ). at + size ≤ t) (sym to_is) (above (at + size == heap.top) (free_of (word heap.system (at + size + 8))) (size_of (word heap.system (at + size + 8))))
 
   -- the chunks beside it left their bins
-  module _ (middle : Dlmalloc A) (left : IsRebinned regions word follows heap middle) where
+  module _ {middle : Dlmalloc A} (left : IsRebinned regions word follows heap middle) where
     pub still_there : extent_at at (extents_in (state_of word middle)) ≡ Some (extent at size Used)
     still_there = ap (λ (s : HeapState). extent_at at (extents_in s)) left.state ∙ there
 
@@ -60,16 +60,16 @@ module _ {A : Type 0} (regions : A → List Grant) (word : A → ℕ → ℕ) (f
     top_same = ap (λ (h : Dlmalloc A). h.top) left.fields
 
     same : (k : ℕ) → at ≤ k → k ≤ at + size + 8 → IsWordOf (regions heap.system) k → word middle.system k ≡ word heap.system k
-    same = told_stays regions word heap sound at size there (regions heap.system) (word middle.system) left.words
+    same = told_stays word heap sound at size there (regions heap.system) (word middle.system) left.words
 
     head_same : word middle.system (at + 8) ≡ word heap.system (at + 8)
-    head_same = same (at + 8) (omega arith) (omega arith) (head_there regions word heap sound at size there).granted
+    head_same = same (at + 8) (omega arith) (omega arith) (head_there sound there).granted
 
     foot_same : word middle.system at ≡ word heap.system at
-    foot_same = same at (omega arith) (omega arith) (foot_there regions word heap sound at size there).granted
+    foot_same = same at (omega arith) (omega arith) (foot_there sound there).granted
 
     behind_same : word middle.system (at + size + 8) ≡ word heap.system (at + size + 8)
-    behind_same = same (at + size + 8) (omega arith) (omega arith) (behind_there regions word heap sound at size there).granted
+    behind_same = same (at + size + 8) (omega arith) (omega arith) (behind_there sound there).granted
 
     pub from_still : IsFrom (word middle.system) at from
     from_still = from_is ∙ (λ i. if pinuse_of ((sym head_same) i) then at else at - (sym foot_same) i)
@@ -78,9 +78,9 @@ module _ {A : Type 0} (regions : A → List Grant) (word : A → ℕ → ℕ) (f
     to_still = to_is ∙ (λ i. if at + size == (sym top_same) i then at + size else if free_of ((sym behind_same) i) then at + size + size_of ((sym behind_same) i) else at + size)
 
     -- they were joined to it
-    module _ (stays : IndexStays) (loose : IsBinnedBut ((at + size) ∷ from ∷ []) regions word middle) (joined : Dlmalloc A) (moved : IsMoved regions word follows middle joined)
+    module _ (stays : IndexStays) (loose : IsBinnedBut ((at + size) ∷ from ∷ []) regions word middle) {joined : Dlmalloc A} (moved : IsMoved regions word follows middle joined)
         (moves : FreeMoves (state_of word middle) (state_of word joined) (from ∷ (at + size) ∷ []) (from ∷ [])) (victim : IsVictimAfter from to middle.victim joined.victim) (bins : joined.bins ≡ middle.bins) where
       abbrev pub joined_loose : IsBinnedBut (from ∷ []) regions word joined
-      joined_loose = binned_moved stays regions word middle joined left.sound moved.sound (λ k was is boundary tag tag'. moved.words k was boundary) bins
+      joined_loose = binned_moved stays left.sound moved.sound (λ k was is boundary tag tag'. moved.words k was boundary) bins
           ((at + size) ∷ from ∷ []) (from ∷ []) (from ∷ (at + size) ∷ []) (from ∷ []) moves
-          (accounted regions word middle left.sound at size still_there from from_still to to_still (some_size regions word middle left.sound at (extent at size Used) still_there) joined moves victim) loose
+          (accounted left.sound still_there from_still to_still (some_size left.sound at still_there) joined moves victim) loose

@@ -14,11 +14,11 @@ use Rattle.dlmalloc.proofs.Frees.Counted.{top_told, counted_none}
 
 -- ---- the only one of some sort
 
-find_only : (is : Extent → Bool) (extents : List Extent) (one : Extent) → AreDistinct extents → extent_at one.at extents ≡ Some one → is one ≡ true →
+find_only : (is : Extent → Bool) (extents : List Extent) {one : Extent} → AreDistinct extents → extent_at one.at extents ≡ Some one → is one ≡ true →
     ((other : Extent) → extent_at other.at extents ≡ Some other → is other ≡ true → other.at ≡ one.at) → find is extents ≡ Some one
-find_only is [] one distinct there holds only = absurd (cc)
-find_only is (first ∷ extents) one distinct there holds only =
-    go (is first) refl (first.at == one.at) refl there (λ found. find_only is extents one distinct.1 found holds (λ other found' test. only other (distinct_later (first ∷ []) extents other.at other distinct found') test))
+find_only is [] distinct there holds only = absurd (cc)
+find_only is (first ∷ extents) {one} distinct there holds only =
+    go (is first) refl (first.at == one.at) refl there (λ found. find_only is extents distinct.1 found holds (λ other found' test. only other (distinct_later (first ∷ []) extents other.at distinct found') test))
   where
     go : (a : Bool) → is first ≡ a → (b : Bool) → (first.at == one.at) ≡ b → (if b then Some first else extent_at one.at extents) ≡ Some one → (extent_at one.at extents ≡ Some one → find is extents ≡ Some one) →
         (if a then Some first else find is extents) ≡ Some one
@@ -30,7 +30,7 @@ find_only is (first ∷ extents) one distinct there holds only =
 find_none : (is : Extent → Bool) (extents : List Extent) → AreDistinct extents → ((other : Extent) → extent_at other.at extents ≡ Some other → is other ≡ true → ⊥) → find is extents ≡ None
 find_none is [] distinct none = refl
 find_none is (first ∷ extents) distinct none =
-    go (is first) refl (find_none is extents distinct.1 (λ other found holds. none other (distinct_later (first ∷ []) extents other.at other distinct found) holds))
+    go (is first) refl (find_none is extents distinct.1 (λ other found holds. none other (distinct_later (first ∷ []) extents other.at distinct found) holds))
   where
     go : (a : Bool) → is first ≡ a → find is extents ≡ None → (if a then Some first else find is extents) ≡ None
     go true test rest = absurd (none first (found_here first extents) test)
@@ -55,7 +55,7 @@ top_with at one test = go one.kind refl test
     go Record is test = absurd (cc)
     go Foot is test = absurd (cc)
 
-module _ {A : Type 0} (regions : A → List Grant) (word : A → ℕ → ℕ) (heap : Dlmalloc A) (sound : IsSound regions word heap) (at from : ℕ) (around : IsFreeAround (state_of word heap) at from) where
+module _ {A : Type 0} {regions : A → List Grant} {word : A → ℕ → ℕ} {heap : Dlmalloc A} (sound : IsSound regions word heap) {at from : ℕ} (around : IsFreeAround (state_of word heap) at from) where
   abbrev one : Extent
   one = around.extent
 
@@ -66,23 +66,23 @@ module _ {A : Type 0} (regions : A → List Grant) (word : A → ℕ → ℕ) (h
   there = subst (λ (a : ℕ). extent_at a all ≡ Some one) (sym around.place) around.there
 
   some : 0 < heap.size
-  some = some_segment word heap one.at one there
+  some = some_segment word heap one.at there
 
   apart : AreDistinct all
   apart = all_distinct (regions heap.system) (word heap.system) (segments_of word heap) sound.segments sound.apart
 
   -- a top stands where the field says
-  place_of : (other : Extent) → extent_at other.at all ≡ Some other → other.kind ≡ Top → other.at ≡ heap.top
-  place_of other found is =
-      let l = located other.at other (segments_of word heap) found in
-      (is_top regions word heap sound l.front l.segment l.back l.is other.at other.size (l.there ∙ (λ i. Some (extent other.at other.size (is i))))).1
+  place_of : {other : Extent} → extent_at other.at all ≡ Some other → other.kind ≡ Top → other.at ≡ heap.top
+  place_of {other} found is =
+      let l = located other.at (segments_of word heap) found in
+      (is_top sound l.front l.segment l.back l.is (l.there ∙ (λ i. Some (extent other.at other.size (is i))))).1
 
   top_there : extent_at heap.top all ≡ Some (extent heap.top heap.top_size Top)
-  top_there = top_among regions word heap sound some
+  top_there = top_among sound some
 
   pub above_top : from ≡ heap.top → is_above_check (state_of word heap) at ≡ nat_lt heap.trim_check heap.top_size
   above_top is = ap (λ (o : Option Extent). nat_lt heap.trim_check (unwrap_or (option_map (λ (extent : Extent). extent.size) o) 0))
-      (find_only (is_top_with at) all (extent heap.top heap.top_size Top) apart top_there holds (λ other found test. place_of other found (top_with at other test).kind))
+      (find_only (is_top_with at) all apart top_there holds (λ other found test. place_of found (top_with at other test).kind))
     where
       same : one ≡ extent heap.top heap.top_size Top
       same = the_extent (sym there ∙ (ap (λ (a : ℕ). extent_at a all) (around.place ∙ is) ∙ top_there))
@@ -97,7 +97,7 @@ module _ {A : Type 0} (regions : A → List Grant) (word : A → ℕ → ℕ) (h
   above_none differs = ap (λ (o : Option Extent). nat_lt heap.trim_check (unwrap_or (option_map (λ (extent : Extent). extent.size) o) 0))
       (find_none (is_top_with at) all apart (λ other found test.
       (let t = top_with at other test in let low = t.low in let high = t.high in
-      elim (beside (regions heap.system) (word heap.system) (segments_of word heap) sound.segments sound.apart one other there found (λ same. differs (sym around.place ∙ (same ∙ place_of other found t.kind)))) [
+      elim (beside (regions heap.system) (word heap.system) (segments_of word heap) sound.segments sound.apart there found (λ same. differs (sym around.place ∙ (same ∙ place_of found t.kind)))) [
         | inl before ↦ omega (arith, before, low, around.high, around.place)
         | inr behind ↦ omega (arith, behind, high, around.low, around.place)
       ])))
@@ -133,8 +133,8 @@ module _ {A : Type 0} (regions : A → List Grant) (word : A → ℕ → ℕ) (f
         (sym (ap (λ (b : Bool). if b then trim_releases frees parts unit 0 (state_of word old) else releases (left_by_count frees parts (state_of word old) at)) none)) c.followed;
   }
 
-  pub settled_trimmed : is_above_check (state_of word old) at ≡ true → (answer : Bool) → IsTrimmed regions word follows frees parts unit old 0 answer new → IsSettled regions word follows frees parts unit old at new
-  settled_trimmed above answer t = record {
+  pub settled_trimmed : is_above_check (state_of word old) at ≡ true → {answer : Bool} → IsTrimmed regions word follows frees parts unit old 0 answer new → IsSettled regions word follows frees parts unit old at new
+  settled_trimmed above t = record {
     state = t.state ∙ sym (ap (λ (b : Bool). if b then trimmed frees parts unit 0 (state_of word old) else counted frees parts (state_of word old) at) above);
     sound = t.sound;
     used = t.used;
@@ -147,17 +147,17 @@ module _ {A : Type 0} (regions : A → List Grant) (word : A → ℕ → ℕ) (f
   }
 
 -- where the chunk became part of the top
-pub settled_top : {A : Type 0} (regions : A → List Grant) (word : A → ℕ → ℕ) (follows : A → List Event → A → Type 0) (follows_none : (x : A) → follows x [] x) (frees parts : Bool) (unit : ℕ) (old : Dlmalloc A) (sound : IsSound regions word old)
-    (at from : ℕ) (around : IsFreeAround (state_of word old) at from) (is : from ≡ old.top) (new : Dlmalloc A) →
+pub settled_top : {A : Type 0} {regions : A → List Grant} {word : A → ℕ → ℕ} (follows : A → List Event → A → Type 0) (follows_none : (x : A) → follows x [] x) (frees parts : Bool) (unit : ℕ) {old : Dlmalloc A} (sound : IsSound regions word old)
+    (at : ℕ) {from : ℕ} (around : IsFreeAround (state_of word old) at from) (is : from ≡ old.top) (new : Dlmalloc A) →
     (old.trim_check < old.top_size → (answer : Bool) × IsTrimmed regions word follows frees parts unit old 0 answer new) → (old.top_size ≤ old.trim_check → new ≡ old) → IsSettled regions word follows frees parts unit old at new
-settled_top {A} regions word follows follows_none frees parts unit old sound at from around is new above same = elim (dec_lt old.trim_check old.top_size) [
-  | yes more ↦ (let t = above more in settled_trimmed regions word follows frees parts unit old at new (test_is ∙ over more) t.0 t.1)
+settled_top {A} {regions} {word} follows follows_none frees parts unit {old} sound at around is new above same = elim (dec_lt old.trim_check old.top_size) [
+  | yes more ↦ (let t = above more in settled_trimmed regions word follows frees parts unit old at new (test_is ∙ over more) t.1)
   | no less ↦ subst (λ (heap : Dlmalloc A). IsSettled regions word follows frees parts unit old at heap) (sym (same (omega (arith, less))))
-      (settled_counted regions word follows frees parts unit old at old (test_is ∙ under less) (counted_none regions word follows follows_none frees parts old sound at (sym (top_told regions word old sound at from around is))))
+      (settled_counted regions word follows frees parts unit old at old (test_is ∙ under less) (counted_none follows follows_none frees parts sound at (sym (top_told sound around is))))
 ]
   where
     test_is : is_above_check (state_of word old) at ≡ nat_lt old.trim_check old.top_size
-    test_is = above_top regions word old sound at from around is
+    test_is = above_top sound around is
 
     over : old.trim_check < old.top_size → nat_lt old.trim_check old.top_size ≡ true
     over more = grind (arith, nat_tests)

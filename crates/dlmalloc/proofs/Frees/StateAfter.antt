@@ -103,14 +103,14 @@ module _ (words : ℕ → ℕ) (kind : Kind) (at size : ℕ) (next : Extent) (re
 
 -- ---- the state
 
-pub freed_run : (regions : List Grant) (words words' : ℕ → ℕ) (segments : List Segment) → AreSegments regions words segments → AreApart segments → (at size from to : ℕ) (lefts rights : List Extent) (next : Extent) →
+pub freed_run : (regions : List Grant) {words : ℕ → ℕ} (words' : ℕ → ℕ) {segments : List Segment} → AreSegments regions words segments → AreApart segments → (at size : ℕ) {from to : ℕ} (lefts rights : List Extent) (next : Extent) →
     IsBeside lefts → IsBeside rights → is_free next.kind ≡ false →
     (run : IsRunOf words segments from to (lefts ++ extent at size Used ∷ (rights ++ next ∷ []))) →
     Tiles words' Used run.segment.base (run.first ++ (extent from (next.at - from) (joint_kind rights) ∷ next ∷ run.last)) (run.segment.base + run.segment.size) →
     in_segments (freed_in at) segments ≡ run.front ++ with_extents run.segment (run.first ++ (extent from (next.at - from) (joint_kind rights) ∷ next ∷ run.last)) ∷ run.back
-freed_run regions words words' segments parts apart at size from to lefts rights next left right used run now =
+freed_run regions {words} words' parts apart at size {from} {to} lefts rights next left right used run now =
     ap (in_segments (freed_in at)) run.is
-    ∙ in_one regions words (freed_in at) run.front run.segment run.back (run.first ++ after) (subst (AreSegments regions words) run.is parts) (subst AreApart run.is apart)
+    ∙ in_one regions words (freed_in at) run.front run.segment run.back (subst (AreSegments regions words) run.is parts) (subst AreApart run.is apart)
     (λ other part beyond. ap merged (set_free_none words Used other.base other.extents (other.base + other.size) at (out other beyond) part.extents) ∙ merged_same words Used other.base other.extents (other.base + other.size) part.extents)
     (ap (freed_in at) run.extents ∙ (ap merged marked
     ∙ (merged_behind run.first (lefts ++ extent at size Free ∷ (rights ++ next ∷ run.last)) after

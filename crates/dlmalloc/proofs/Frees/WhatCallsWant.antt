@@ -12,7 +12,7 @@ use Rattle.dlmalloc.proofs.Segments.HeadTop.{some_segment}
 use Rattle.dlmalloc.proofs.Frees.BeforeTop.{new_small, as_top_victim, as_top_other}
 use Rattle.dlmalloc.proofs.Frees.OfChunk.{IsFree, run_one, below_top, end_small}
 
-module _ {A : Type 0} (regions : A → List Grant) (word : A → ℕ → ℕ) (heap : Dlmalloc A) (sound : IsSound regions word heap) (at size : ℕ)
+module _ {A : Type 0} {regions : A → List Grant} {word : A → ℕ → ℕ} {heap : Dlmalloc A} (sound : IsSound regions word heap) {at size : ℕ}
     (there : extent_at at (extents_in (state_of word heap)) ≡ Some (extent at size Used)) where
   abbrev segments : List Segment
   segments = segments_of word heap
@@ -24,16 +24,16 @@ module _ {A : Type 0} (regions : A → List Grant) (word : A → ℕ → ℕ) (h
   chunk = extent at size Used
 
   abbrev one : IsRunOf words segments at (at + size) (chunk ∷ [])
-  one = run_one regions word heap sound at size there
+  one = run_one sound there
 
   abbrev next : HasNext one.last
-  next = next_one (regions heap.system) words segments sound.segments at size one
+  next = next_one (regions heap.system) sound.segments one
 
   stands : HasChunk words (last_kind Used one.first) chunk
   stands = one.here.1
 
   stand : Tiles words Used (at + size) (next.next ∷ next.rest) (one.segment.base + one.segment.size)
-  stand = behind (regions heap.system) words segments sound.segments at (at + size) (chunk ∷ []) one next
+  stand = behind (regions heap.system) sound.segments one next
 
   head_room : at + size + 16 ≤ one.segment.base + one.segment.size
   head_room =
@@ -45,13 +45,13 @@ module _ {A : Type 0} (regions : A → List Grant) (word : A → ℕ → ℕ) (h
   low_room = tiles_le words Used one.segment.base one.first at one.first_stand
 
   high : one.segment.base + one.segment.size < 2 ^ 64
-  high = (run_part (regions heap.system) words segments sound.segments at (at + size) (chunk ∷ []) one).high
+  high = (run_part (regions heap.system) sound.segments one).high
 
   base : 4096 ≤ one.segment.base
-  base = (run_part (regions heap.system) words segments sound.segments at (at + size) (chunk ∷ []) one).low
+  base = (run_part (regions heap.system) sound.segments one).low
 
   granted : (k : ℕ) → one.segment.base ≤ k → k < at + size + 16 → k % 8 ≡ 0 → IsWordOf (regions heap.system) k
-  granted k low below m = run_word (regions heap.system) words segments sound.segments at (at + size) (chunk ∷ []) one k low (omega (arith, head_room, below)) m
+  granted k low below m = run_word (regions heap.system) sound.segments one k low (omega (arith, head_room, below)) m
 
   pub head_there : HasHead (regions heap.system) at
   head_there = record { aligned = omega (arith, stands.whole); small = omega (arith, head_room, high); granted = granted (at + 8) (omega (arith, low_room)) (omega arith) (omega (arith, stands.whole)) }
@@ -79,20 +79,20 @@ module _ {A : Type 0} (regions : A → List Grant) (word : A → ℕ → ℕ) (h
       rw (first, second) refl))
 
   pub next_top : at + size ≡ heap.top → next.next ≡ extent heap.top heap.top_size Top
-  next_top is = the_top regions word heap sound one.front one.segment one.back one.is next.next (ap (λ (k : ℕ). extent_at k one.segment.extents) stand.0 ∙ next_found) (stand.0 ∙ is)
+  next_top is = the_top sound one.front one.segment one.back one.is (ap (λ (k : ℕ). extent_at k one.segment.extents) stand.0 ∙ next_found) (stand.0 ∙ is)
 
   pub no_top : at + size ≢ heap.top → next.next.kind ≢ Top
-  no_top isnt kind = isnt (is_top regions word heap sound one.front one.segment one.back one.is (at + size) next.next.size
+  no_top isnt kind = isnt (is_top sound one.front one.segment one.back one.is
       (next_found ∙ (λ i. Some (extent (stand.0 i) next.next.size (kind i))))).1
 
   -- a free chunk behind it ends below 2 ^ 64
   pub end_below : at + size ≢ heap.top → free_of (words (at + size + 8)) ≡ true → at + size + size_of (words (at + size + 8)) < 2 ^ 64
   end_below more free =
       let is : end_of words (at + size) ≡ at + size + size_of (words (at + size + 8)) = ap (λ (b : Bool). if b then at + size + size_of (words (at + size + 8)) else at + size) free in
-      let small = end_small regions word heap sound at size there (no_top more) (if pinuse_of (words (at + 8)) then at else at - words at) refl (end_of words (at + size)) refl in
+      let small = end_small sound there (no_top more) {from = (if pinuse_of (words (at + 8)) then at else at - words at)} refl {to = (end_of words (at + size))} refl in
       omega (arith, is, small)
 
-  module _ (from : ℕ) (from_is : from ≡ (if pinuse_of (words (at + 8)) then at else at - words at)) where
+  module _ {from : ℕ} (from_is : from ≡ (if pinuse_of (words (at + 8)) then at else at - words at)) where
     pub left_one : Left words one.segment.base one.first at from
     left_one =
         let whole : size % 8 ≡ 0 = (let w = stands.size.0 in omega arith) in
@@ -121,7 +121,7 @@ module _ {A : Type 0} (regions : A → List Grant) (word : A → ℕ → ℕ) (h
     pub from_there : HasHead (regions heap.system) from
     from_there = record { aligned = omega (arith, from_whole); small = omega (arith, from_at, behind_small, head_room, high); granted = granted (from + 8) (omega (arith, from_low)) (omega (arith, from_at)) (omega (arith, from_whole)) }
 
-    module _ (to : ℕ) (to_is : to ≡ (if at + size == heap.top then at + size else if free_of (words (at + size + 8)) then at + size + size_of (words (at + size + 8)) else at + size)) where
+    module _ {to : ℕ} (to_is : to ≡ (if at + size == heap.top then at + size else if free_of (words (at + size + 8)) then at + size + size_of (words (at + size + 8)) else at + size)) where
       by_top : (b : Bool) → (at + size == heap.top) ≡ b → to ≡ (if b then at + size else end_of words (at + size))
       by_top b is = to_is ∙ ap (λ (b : Bool). if b then at + size else end_of words (at + size)) is
 
@@ -130,7 +130,7 @@ module _ {A : Type 0} (regions : A → List Grant) (word : A → ℕ → ℕ) (h
         where
           go : (b : Bool) → (at + size == heap.top) ≡ b → at + size ≡ heap.top
           go true same = nat_is same
-          go false apart = absurd (below_top regions word heap sound at size there (no_top (grind (arith, nat_tests))) from from_is to (by_top false apart) is)
+          go false apart = absurd (below_top sound there (no_top (grind (arith, nat_tests))) from_is (by_top false apart) is)
 
       pub goes_on : to ≢ heap.top → at + size ≢ heap.top
       goes_on isnt same = isnt (by_top true (grind (arith, nat_tests)) ∙ same)
@@ -145,7 +145,7 @@ module _ {A : Type 0} (regions : A → List Grant) (word : A → ℕ → ℕ) (h
         to_eq = touches is ∙ sym is
 
         pub small_top : from + (heap.top_size + (to - from)) < 2 ^ 64
-        small_top = subst (λ (t : ℕ). from + (heap.top_size + (t - from)) < 2 ^ 64) to_eq (new_small regions word heap sound at size there (next_top (touches is)) from from_is)
+        small_top = subst (λ (t : ℕ). from + (heap.top_size + (t - from)) < 2 ^ 64) to_eq (new_small sound there (next_top (touches is)) from_is)
 
         pub from_some : 4096 ≤ from
         from_some = omega (arith, from_low, base)
@@ -154,7 +154,7 @@ module _ {A : Type 0} (regions : A → List Grant) (word : A → ℕ → ℕ) (h
         pub around_top : (new : Dlmalloc A) → IsSound regions word new → new.size ≡ heap.size → new.top ≡ from → new.top_size ≡ heap.top_size + (to - from) → IsFreeAround (state_of word new) at from
         around_top new sound' size_same top top_size = record {
           extent = extent new.top new.top_size Top;
-          there = ap (λ (k : ℕ). extent_at k (extents_in (state_of word new))) (sym top) ∙ top_among regions word new sound' (omega (arith, some_segment word heap at chunk there, size_same));
+          there = ap (λ (k : ℕ). extent_at k (extents_in (state_of word new))) (sym top) ∙ top_among sound' (omega (arith, some_segment word heap at there, size_same));
           place = top;
           free = refl;
           low = from_at;
@@ -167,8 +167,8 @@ module _ {A : Type 0} (regions : A → List Grant) (word : A → ℕ → ℕ) (h
 
           pub top_victim : from ≤ heap.victim → heap.victim < to → IsFree regions word heap at size from to (record heap { system = system; top = from; top_size = heap.top_size + (to - from); victim = 0; victim_size = 0 })
           top_victim reached within = subst (λ (t : ℕ). IsFree regions word heap at size from t (record heap { system = system; top = from; top_size = heap.top_size + (t - from); victim = 0; victim_size = 0 })) to_eq
-              (as_top_victim regions word heap sound at size there (next_top (touches is)) from from_is system same stored_at reached (omega (arith, within, to_eq)))
+              (as_top_victim sound there (next_top (touches is)) from_is system same stored_at reached (omega (arith, within, to_eq)))
 
           pub top_other : (heap.victim < from) ⊎ (to ≤ heap.victim) → IsFree regions word heap at size from to (record heap { system = system; top = from; top_size = heap.top_size + (to - from) })
           top_other out = subst (λ (t : ℕ). IsFree regions word heap at size from t (record heap { system = system; top = from; top_size = heap.top_size + (t - from) })) to_eq
-              (as_top_other regions word heap sound at size there (next_top (touches is)) from from_is system same stored_at (subst (λ (t : ℕ). (heap.victim < from) ⊎ (t ≤ heap.victim)) (sym to_eq) out))
+              (as_top_other sound there (next_top (touches is)) from_is system same stored_at (subst (λ (t : ℕ). (heap.victim < from) ⊎ (t ≤ heap.victim)) (sym to_eq) out))

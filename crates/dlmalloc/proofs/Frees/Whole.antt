@@ -71,15 +71,15 @@ granularity_after frees parts unit heap at = above (is_above_check heap at)
 
 -- ---- both steps
 
-module _ {A : Type 0} (regions : A → List Grant) (word : A → ℕ → ℕ) (follows : A → List Event → A → Type 0) (on : (x y z : A) (a b c : List Event) → follows x a y → follows y b z → a ++ b ≡ c → follows x c z) (frees parts : Bool) (unit : ℕ)
-    (old middle new : Dlmalloc A) (address : ℕ) (sound : IsSound regions word old) (disposed : IsDisposed regions word follows old address middle) (from : ℕ) (around : IsFreeAround (state_of word middle) (address - 16) from)
+module _ {A : Type 0} {regions : A → List Grant} {word : A → ℕ → ℕ} {follows : A → List Event → A → Type 0} (on : (x y z : A) (a b c : List Event) → follows x a y → follows y b z → a ++ b ≡ c → follows x c z) {frees parts : Bool} {unit : ℕ}
+    {old middle new : Dlmalloc A} {address : ℕ} (sound : IsSound regions word old) (disposed : IsDisposed regions word follows old address middle) {from : ℕ} (around : IsFreeAround (state_of word middle) (address - 16) from)
     (settled : IsSettled regions word follows frees parts unit middle (address - 16) new) where
   -- there is a head segment, and the merging leaves it where it is
   some : 0 < middle.size
-  some = some_segment word middle from around.extent around.there
+  some = some_segment word middle from around.there
 
   head_merged : (old.base ≡ middle.base) × (old.size ≡ middle.size)
-  head_merged = same_head regions word middle old disposed.sound sound some
+  head_merged = same_head old disposed.sound sound some
       (let same = first_changed (freed_in (address - 16)) (segments_of word old) in let is = ap (λ (heap : HeapState). heap.segments) disposed.state in (sym same.0 ∙ sym (ap first_base is), sym same.1 ∙ sym (ap first_size is)))
 
   -- so does the rest, unless it became part of a top above the trim check
@@ -92,14 +92,14 @@ module _ {A : Type 0} (regions : A → List Grant) (word : A → ℕ → ℕ) (f
           = settled.state ∙ ap (λ (b : Bool). if b then trimmed frees parts unit 0 (state_of word middle) else counted frees parts (state_of word middle) (address - 16)) under in
           let same = first_counted frees parts (state_of word middle) (address - 16) in
           let is = ap (λ (heap : HeapState). heap.segments) state in
-          let left = same_head regions word middle new disposed.sound settled.sound some (ap first_base is ∙ same.0, ap first_size is ∙ same.1) in
+          let left = same_head new disposed.sound settled.sound some (ap first_base is ∙ same.0, ap first_size is ∙ same.1) in
           inl (left.0 ∙ sym head_merged.0, left.1 ∙ sym head_merged.1)
       go true above =
-          let place = top_around regions word middle disposed.sound (address - 16) from around above in
+          let place = top_around disposed.sound around above in
           let low = around.low in
           inr (record {
-            within = omega (arith, place.1, ends regions word middle disposed.sound some, head_merged.0, head_merged.1);
-            behind = λ used is there. elim (beside_top regions word middle disposed.sound some used is (settled.used.before used is there)) [
+            within = omega (arith, place.1, ends disposed.sound some, head_merged.0, head_merged.1);
+            behind = λ used is there. elim (beside_top disposed.sound some is (settled.used.before used is there)) [
               | inl before ↦ inl (omega (arith, before, place.0, low))
               | inr beyond ↦ inr (omega (arith, beyond, head_merged.0, head_merged.1))
             ];
@@ -148,8 +148,8 @@ module _ {A : Type 0} (regions : A → List Grant) (word : A → ℕ → ℕ) (f
 
 module _ {A : Type 0} (zeros frees parts : A → Bool) (unit : A → ℕ) where
   -- so what holds by its rules holds by those that it had before
-  pub by_rules : (old new : A) → IsFixed zeros frees parts unit old new → (Holds : Bool → Bool → ℕ → Type 0) → Holds (frees new) (parts new) (unit new) → Holds (frees old) (parts old) (unit old)
-  by_rules old new same Holds holds =
+  pub by_rules : {old new : A} → IsFixed zeros frees parts unit old new → (Holds : Bool → Bool → ℕ → Type 0) → Holds (frees new) (parts new) (unit new) → Holds (frees old) (parts old) (unit old)
+  by_rules {old} {new} same Holds holds =
       subst (λ (b : Bool). Holds b (parts old) (unit old)) same.frees_same
       (subst (λ (b : Bool). Holds (frees new) b (unit old)) same.parts_same
       (subst (λ (n : ℕ). Holds (frees new) (parts new) n) same.unit_same holds))

@@ -8,21 +8,21 @@ use Rattle.dlmalloc.proofs.Grants.PutBefore.{before_means, front_parts, back_par
 use Rattle.dlmalloc.proofs.Grants.SegmentBehind.{told_around}
 
 -- the heads of the two parts of a grant are granted
-pub part_head : (regions : List Grant) (segments : List Segment) (grant : Grant) → IsFresh regions segments grant → (k : ℕ) → grant.base ≤ k → k + 16 ≤ grant.base + grant.size → k % 16 ≡ 0 → HasHead regions k
-part_head regions segments grant fresh k low high m = record {
+pub part_head : {regions : List Grant} {segments : List Segment} {grant : Grant} → IsFresh regions segments grant → (k : ℕ) → grant.base ≤ k → k + 16 ≤ grant.base + grant.size → k % 16 ≡ 0 → HasHead regions k
+part_head fresh k low high m = record {
   aligned = omega (arith, m);
   small = omega (arith, high, fresh.high);
   granted = record { granted = fresh.run.covered (k + 8) (omega (arith, low)) (omega (arith, high)); aligned = omega (arith, m) };
 }
 
 -- what is found behind the two parts of a grant
-behind_two : (grant : Grant) (n : ℕ) (segment : Segment) (k : ℕ) (one : Extent) → segment.base ≡ grant.base + grant.size → n < grant.size → segment.base ≤ k → extent_at k segment.extents ≡ Some one → extent_at k (put_before grant n segment).extents ≡ Some one
-behind_two grant n segment k one place room low there =
+behind_two : (grant : Grant) (n : ℕ) (segment : Segment) (k : ℕ) {one : Extent} → segment.base ≡ grant.base + grant.size → n < grant.size → segment.base ≤ k → extent_at k segment.extents ≡ Some one → extent_at k (put_before grant n segment).extents ≡ Some one
+behind_two grant n segment k place room low there =
     let first : (grant.base == k) ≡ false = nat_isnt (inl (omega arith)) in
     let second : (grant.base + n == k) ≡ false = nat_isnt (inl (omega arith)) in
     rw (first, second) there
 
-module _ {A : Type 0} (regions : A → List Grant) (word : A → ℕ → ℕ) (follows : A → List Event → A → Type 0) (heap : Dlmalloc A) (sound : IsSound regions word heap) (grant : Grant)
+module _ {A : Type 0} {regions : A → List Grant} {word : A → ℕ → ℕ} (follows : A → List Event → A → Type 0) {heap : Dlmalloc A} (sound : IsSound regions word heap) {grant : Grant}
     (fresh : IsFresh (regions heap.system) (segments_of word heap) grant) (n : ℕ) (multiple : n % 16 ≡ 0) (least : 32 ≤ n) (room : n + 96 ≤ grant.size) (whole : AllByRecursion IsWhole (regions heap.system))
     (system : A) (same : regions system ≡ regions heap.system) (first : word system (grant.base + 8) ≡ head_of n true true) (second : word system (grant.base + n + 8) ≡ head_of (grant.size - n) true true)
     (followed : follows heap.system [] system) where
@@ -46,10 +46,10 @@ module _ {A : Type 0} (regions : A → List Grant) (word : A → ℕ → ℕ) (f
         (λ is. omega (arith, is, low, place_is, fresh.long)) (λ is. omega (arith, is, low, place_is, room))
 
     tiles_now : Tiles (word system) Used b.segment.base b.segment.extents (b.segment.base + b.segment.size)
-    tiles_now = (one_stays (regions heap.system) (word heap.system) (word system) b.segment parts_are.0 keeps_its).extents
+    tiles_now = (one_stays (regions heap.system) (word heap.system) (word system) parts_are.0 keeps_its).extents
 
     top_in : IsIn (word heap.system) b.segment.base (b.segment.base + b.segment.size) (extent heap.top heap.top_size Top)
-    top_in = in_part (word heap.system) Used b.segment.base b.segment.extents (b.segment.base + b.segment.size) (extent heap.top heap.top_size Top) parts_are.0.extents told_are.4
+    top_in = in_part (word heap.system) Used b.segment.base b.segment.extents (b.segment.base + b.segment.size) parts_are.0.extents told_are.4
 
     told_now : AreTold (word system) head_now (put_before grant n b.segment ∷ b.back)
     told_now = (
@@ -57,18 +57,18 @@ module _ {A : Type 0} (regions : A → List Grant) (word : A → ℕ → ℕ) (f
       refl,
       omega (arith, told_are.2),
       told_are.3,
-      behind_two grant n b.segment heap.top (extent heap.top heap.top_size Top) place_is (omega (arith, room)) top_in.low told_are.4,
+      behind_two grant n b.segment heap.top place_is (omega (arith, room)) top_in.low told_are.4,
       records_stay (regions heap.system) (word heap.system) (word system) b.back parts_are.1
-          (back_keeps regions word heap head_now sound grant fresh same n multiple least room [] b.segment b.back b.is b.joins (λ k. ⊤) (λ k out. tt) (λ k inside a c u. kept k inside a c)) heap.next told_are.5,
+          (back_keeps head_now sound fresh same n multiple least room [] b.segment b.back b.is b.joins (λ k. ⊤) (λ k out. tt) (λ k inside a c u. kept k inside a c)) heap.next told_are.5,
     )
 
     pub before_head : IsPrepended regions word follows heap grant n head_now
-    before_head = is_prepended regions word heap head_now sound grant fresh same n multiple least room [] b.segment b.back b.is b.joins (λ k. ⊤) (λ k out. tt) (λ k inside a c u. kept k inside a c)
+    before_head = is_prepended head_now sound fresh same n multiple least room [] b.segment b.back b.is b.joins (λ k. ⊤) (λ k out. tt) (λ k inside a c u. kept k inside a c)
         whole first second tiles_now told_now follows followed (omega (arith, told_are.0)) refl refl refl refl refl refl (λ k tag. tt)
 
   -- ---- before one that a record tells
 
-  module _ (payload : ℕ) (b : IsToldBehind word heap grant payload) (base : word system payload ≡ grant.base) (size : word system (payload + 8) ≡ grant.size + word heap.system (payload + 8))
+  module _ {payload : ℕ} (b : IsToldBehind word heap grant payload) (base : word system payload ≡ grant.base) (size : word system (payload + 8) ≡ grant.size + word heap.system (payload + 8))
       (kept : (k : ℕ) → IsWordOf (regions heap.system) k → k ≢ grant.base + 8 → k ≢ grant.base + n + 8 → k ≢ payload → k ≢ payload + 8 → word system k ≡ word heap.system k) where
     abbrev pub told_new : Dlmalloc A
     told_new = record heap { system = system }
@@ -99,7 +99,7 @@ module _ {A : Type 0} (regions : A → List Grant) (word : A → ℕ → ℕ) (f
     end = b.segment.base + b.segment.size
 
     record_in : IsIn (word heap.system) b.segment.base end (record_of (payload - 16) end)
-    record_in = in_part (word heap.system) Used b.segment.base b.segment.extents end (record_of (payload - 16) end) segment_part.extents b.told.4
+    record_in = in_part (word heap.system) Used b.segment.base b.segment.extents end segment_part.extents b.told.4
 
     record_long : 80 ≤ end - (payload - 16)
     record_long = elim (record_in.stands.size) [ inl short ↦ omega arith | inr longer ↦ omega arith ]
@@ -125,14 +125,14 @@ module _ {A : Type 0} (regions : A → List Grant) (word : A → ℕ → ℕ) (f
         (λ is. omega (arith, is, low, segment_place, fresh.long)) (λ is. omega (arith, is, low, segment_place, room)) not_base not_size
 
     tiles_told : Tiles (word system) Used b.segment.base b.segment.extents end
-    tiles_told = recorded_tiles (regions heap.system) (word heap.system) b.segment segment_part payload payload_some b.told.4 (word system)
+    tiles_told = recorded_tiles segment_part payload payload_some b.told.4 (word system)
         (λ k low high m out. kept_in k low high m (λ is. elim out [ inl below ↦ omega (arith, is, below) | inr above ↦ omega (arith, is, above) ]) (λ is. elim out [ inl below ↦ omega (arith, is, below) | inr above ↦ omega (arith, is, above) ]))
 
     abbrev now_told : Segment
     now_told = put_before grant n b.segment
 
     record_now : extent_at (payload - 16) now_told.extents ≡ Some (record_of (payload - 16) (now_told.base + now_told.size))
-    record_now = behind_two grant n b.segment (payload - 16) (record_of (payload - 16) end) segment_place (omega (arith, room)) record_in.low b.told.4
+    record_now = behind_two grant n b.segment (payload - 16) segment_place (omega (arith, room)) record_in.low b.told.4
         ∙ (λ i. Some (record_of (payload - 16) (same_end i)))
       where
         same_end : end ≡ grant.base + (grant.size + b.segment.size)
@@ -146,15 +146,15 @@ module _ {A : Type 0} (regions : A → List Grant) (word : A → ℕ → ℕ) (f
       kept_in (payload + 24) (omega (arith, record_in.low, payload_some)) (omega (arith, record_long, payload_some)) (omega (arith, payload_whole)) (λ is. omega (arith, is)) (λ is. omega (arith, is)) ∙ b.told.3,
       record_now,
       subst (λ (p : ℕ). AreRecords (word system) p b.back) (sym (kept_in (payload + 16) (omega (arith, record_in.low, payload_some)) (omega (arith, record_long, payload_some)) (omega (arith, payload_whole)) (λ is. omega (arith, is)) (λ is. omega (arith, is))))
-          (records_stay (regions heap.system) (word heap.system) (word system) b.back (back_parts regions word heap told_new sound grant fresh same n multiple least room front b.segment b.back b.is b.joins IsUntold untold_outside kept_untold)
-          (back_keeps regions word heap told_new sound grant fresh same n multiple least room front b.segment b.back b.is b.joins IsUntold untold_outside kept_untold) (word heap.system (payload + 16)) b.told.5),
+          (records_stay (regions heap.system) (word heap.system) (word system) b.back (back_parts told_new sound fresh same n multiple least room front b.segment b.back b.is b.joins IsUntold untold_outside kept_untold)
+          (back_keeps told_new sound fresh same n multiple least room front b.segment b.back b.is b.joins IsUntold untold_outside kept_untold) (word heap.system (payload + 16)) b.told.5),
     )
 
     told_after : AreTold (word system) told_new (front ++ now_told ∷ b.back)
     told_after =
-        let parts = front_parts regions word heap told_new sound grant fresh same n multiple least room front b.segment b.back b.is b.joins IsUntold untold_outside kept_untold in
-        let keeps = front_keeps regions word heap told_new sound grant fresh same n multiple least room front b.segment b.back b.is b.joins IsUntold untold_outside kept_untold in
-        (heap_told.0, heap_told.1, heap_told.2, heap_told.3, heap_told.4, told_around (regions heap.system) (word heap.system) (word system) (b.segment ∷ b.back) (now_told ∷ b.back) b.front payload heap.next b.reached parts.1 keeps.1 heap_told.5 here_told)
+        let parts = front_parts told_new sound fresh same n multiple least room front b.segment b.back b.is b.joins IsUntold untold_outside kept_untold in
+        let keeps = front_keeps told_new sound fresh same n multiple least room front b.segment b.back b.is b.joins IsUntold untold_outside kept_untold in
+        (heap_told.0, heap_told.1, heap_told.2, heap_told.3, heap_told.4, told_around (regions heap.system) (word heap.system) (word system) (b.segment ∷ b.back) (now_told ∷ b.back) b.front heap.next b.reached parts.1 keeps.1 heap_told.5 here_told)
 
     recorded : (k : ℕ) → (IsInRecord (state_of word told_new) k → ⊥) → IsUntold k
     recorded k tag = (
@@ -163,14 +163,14 @@ module _ {A : Type 0} (regions : A → List Grant) (word : A → ℕ → ℕ) (f
     )
       where
         there : extent_at (payload - 16) (extents_in (state_of word told_new)) ≡ Some (record_of (payload - 16) (now_told.base + now_told.size))
-        there = in_now regions word heap told_new sound grant fresh same n multiple least room front b.segment b.back b.is b.joins IsUntold untold_outside kept_untold whole first second tiles_told told_after (payload - 16) (record_of (payload - 16) (now_told.base + now_told.size))
-            (among_new regions word heap told_new sound grant fresh same n multiple least room front b.segment b.back b.is b.joins IsUntold untold_outside kept_untold whole first second tiles_told told_after (payload - 16) (record_of (payload - 16) (now_told.base + now_told.size)) record_now)
+        there = in_now told_new sound fresh same n multiple least room front b.segment b.back b.is b.joins IsUntold untold_outside kept_untold whole first second tiles_told told_after (payload - 16)
+            (among_new told_new sound fresh same n multiple least room front b.segment b.back b.is b.joins IsUntold untold_outside kept_untold whole first second tiles_told told_after (payload - 16) record_now)
 
         in_it : payload - 16 < k → k < end → IsInRecord (state_of word told_new) k
         in_it low high = record { extent = record_of (payload - 16) (now_told.base + now_told.size); there = there; is = refl; low = low; high = omega (arith, high, segment_place, record_long, payload_some) }
 
     pub before_told : IsPrepended regions word follows heap grant n told_new
-    before_told = is_prepended regions word heap told_new sound grant fresh same n multiple least room front b.segment b.back b.is b.joins IsUntold untold_outside kept_untold
+    before_told = is_prepended told_new sound fresh same n multiple least room front b.segment b.back b.is b.joins IsUntold untold_outside kept_untold
         whole first second tiles_told told_after follows followed heap_told.0 refl refl refl refl refl refl recorded
 
 -- where the record is that tells the segment behind
@@ -181,7 +181,7 @@ pub record ToldPlace (regions : List Grant) (words : ℕ → ℕ) (grant : Grant
   pub sum : grant.size + words (payload + 8) < 2 ^ 64
   pub apart : (k : ℕ) → payload ≤ k → k ≤ payload + 8 → grant.base ≤ k → k < grant.base + grant.size → ⊥
 
-module _ {A : Type 0} (regions : A → List Grant) (word : A → ℕ → ℕ) (heap : Dlmalloc A) (sound : IsSound regions word heap) (grant : Grant) where
+module _ {A : Type 0} {regions : A → List Grant} {word : A → ℕ → ℕ} {heap : Dlmalloc A} (sound : IsSound regions word heap) (grant : Grant) where
   -- the head segment ends below 2 ^ 64, with the grant before it
   pub head_ends : IsHeadBehind word heap grant → (grant.base + grant.size ≡ heap.base) × (heap.base + heap.size < 2 ^ 64)
   head_ends b =
@@ -190,12 +190,12 @@ module _ {A : Type 0} (regions : A → List Grant) (word : A → ℕ → ℕ) (h
       let place = (before_means grant b.segment b.joins).0 in
       (omega (arith, place, told.1), omega (arith, part.high, told.1, told.2))
 
-  pub told_place : (payload : ℕ) → IsToldBehind word heap grant payload → ToldPlace (regions heap.system) (word heap.system) grant payload
-  told_place payload b =
+  pub told_place : {payload : ℕ} → IsToldBehind word heap grant payload → ToldPlace (regions heap.system) (word heap.system) grant payload
+  told_place {payload} b =
       let parts = subst (AreSegments (regions heap.system) (word heap.system)) b.is sound.segments in
       let part = all_at (IsSegment (regions heap.system) (word heap.system)) (b.head ∷ b.front) b.segment b.back parts in
       let end = b.segment.base + b.segment.size in
-      let r = in_part (word heap.system) Used b.segment.base b.segment.extents end (record_of (payload - 16) end) part.extents b.told.4 in
+      let r = in_part (word heap.system) Used b.segment.base b.segment.extents end part.extents b.told.4 in
       let long : 80 ≤ end - (payload - 16) = elim (r.stands.size) [ inl short ↦ omega arith | inr longer ↦ omega arith ] in
       let some = b.told.0 in
       let place = (before_means grant b.segment b.joins).0 in

@@ -30,7 +30,7 @@ map_grown more (chunk ∷ chunks) are = λ i. same are.0 i ∷ map_grown more ch
 
 -- ---- a grant at the end of the head segment makes its top longer
 
-module _ {A : Type 0} (regions : A → List Grant) (word : A → ℕ → ℕ) (heap new : Dlmalloc A) (sound : IsSound regions word heap) (grant : Grant)
+module _ {A : Type 0} {regions : A → List Grant} {word : A → ℕ → ℕ} {heap : Dlmalloc A} (new : Dlmalloc A) (sound : IsSound regions word heap) {grant : Grant}
     (fresh : IsFresh (regions heap.system) (segments_of word heap) grant) (same : regions new.system ≡ regions heap.system) (some : 0 < heap.size)
     (begins : grant.base ≡ heap.base + heap.size) (equal : grant.flags ≡ heap.flags) (behind : is_behind grant (record { base = heap.base; size = heap.size; flags = heap.flags; extents = [] }) ≡ true)
     (whole : AllByRecursion IsWhole (regions heap.system)) (base : new.base ≡ heap.base) (size : new.size ≡ heap.size + grant.size) (flags : new.flags ≡ heap.flags) (no_next : new.next ≡ heap.next) (top : new.top ≡ heap.top)
@@ -40,22 +40,22 @@ module _ {A : Type 0} (regions : A → List Grant) (word : A → ℕ → ℕ) (h
     (head : word new.system (heap.top + 8) ≡ heap.base + (heap.size + grant.size) - 80 - heap.top + 1) (foot : word new.system (heap.base + (heap.size + grant.size) - 72) ≡ 80)
     (kept : (k : ℕ) → IsWordOf (regions heap.system) k → k ≢ heap.top + 8 → k ≢ heap.base + (heap.size + grant.size) - 72 → word new.system k ≡ word heap.system k) where
   abbrev old_run : IsRunOf (word heap.system) (segments_of word heap) heap.top (heap.top + heap.top_size) (extent heap.top heap.top_size Top ∷ [])
-  old_run = top_run regions word heap sound some
+  old_run = top_run sound some
 
   old_part : IsSegment (regions heap.system) (word heap.system) old_run.segment
-  old_part = top_part regions word heap sound some
+  old_part = top_part sound some
 
   was : IsHead heap old_run.segment
-  was = top_segment regions word heap sound some
+  was = top_segment sound some
 
   last_is : (old_run.last ≡ extent (old_run.segment.base + old_run.segment.size - 80) 80 Foot ∷ []) × (heap.top + heap.top_size + 80 ≡ old_run.segment.base + old_run.segment.size)
-  last_is = top_last regions word heap sound some
+  last_is = top_last sound some
 
   sizes : (heap.top_size % 16 ≡ 0) × (16 ≤ heap.top_size)
-  sizes = top_sizes regions word heap sound some
+  sizes = top_sizes sound some
 
   closes : heap.top + heap.top_size + 80 ≡ heap.base + heap.size
-  closes = ends regions word heap sound some
+  closes = ends sound some
 
   abbrev less : List Extent
   less = extent heap.top heap.top_size Top ∷ extent (heap.top + heap.top_size) 80 Foot ∷ []
@@ -82,7 +82,7 @@ module _ {A : Type 0} (regions : A → List Grant) (word : A → ℕ → ℕ) (h
   outside_kept : (k : ℕ) → IsWordOf (regions heap.system) k → IsOutside old_run.segment k → IsOutside (opened grant) k → word new.system k ≡ word heap.system k
   outside_kept k inside first second = kept k inside
       (λ is. elim first [
-        | inl below ↦ omega (arith, is, below, was.base, top_low regions word heap sound some)
+        | inl below ↦ omega (arith, is, below, was.base, top_low sound some)
         | inr above ↦ omega (arith, is, above, last_is.1)
       ])
       (λ is. elim second [
@@ -95,12 +95,12 @@ module _ {A : Type 0} (regions : A → List Grant) (word : A → ℕ → ℕ) (h
       let units = fresh.size_aligned in
       let place : heap.top + length_now + 8 ≡ heap.base + (heap.size + grant.size) - 72 = omega (arith, closes) in
       subst (λ (end : ℕ). Tiles (word new.system) (last_kind Used old_run.first) heap.top more end) now_end
-      (top_stands (word new.system) (last_kind Used old_run.first) heap.top length_now old_run.here.1.kind (top_whole regions word heap sound some) (omega (arith, sizes.0, units)) (omega (arith, sizes.1)) (head ∙ ap (λ (n : ℕ). n + 1) (sym length_is)) (ap (word new.system) place ∙ foot))
+      (top_stands (word new.system) heap.top length_now old_run.here.1.kind (top_whole sound some) (omega (arith, sizes.0, units)) (omega (arith, sizes.1)) (head ∙ ap (λ (n : ℕ). n + 1) (sym length_is)) (ap (word new.system) place ∙ foot))
 
   is_now : IsSegment (regions new.system) (word new.system) now
   is_now = record {
     run = subst (λ (rs : List Grant). IsRun rs old_run.segment.base (old_run.segment.size + grant.size) old_run.segment.flags) (sym same)
-        (runs_joined (regions heap.system) old_run.segment.base old_run.segment.size grant.base grant.size old_run.segment.flags (begins ∙ (λ i. was.base i + was.size i)) old_part.run
+        (runs_joined (begins ∙ (λ i. was.base i + was.size i)) old_part.run
         (subst (λ (f : ℕ). IsRun (regions heap.system) grant.base grant.size f) (equal ∙ was.flags) fresh.run) whole);
     low = old_part.low;
     high = omega (arith, fresh.high, begins, was.base, was.size);
@@ -112,7 +112,7 @@ module _ {A : Type 0} (regions : A → List Grant) (word : A → ℕ → ℕ) (h
   }
 
   parts_now : AreSegments (regions new.system) (word new.system) (now ∷ old_run.back)
-  parts_now = (is_now, parts_kept regions word heap new sound grant fresh same some outside_kept)
+  parts_now = (is_now, parts_kept new sound fresh same some outside_kept)
 
   longer_apart : (others : List Segment) → AreSegments (regions heap.system) (word heap.system) others → AllByRecursion (IsApartFrom old_run.segment) others → AllByRecursion (λ (segment : Segment). IsApartFrom segment (opened grant)) others → AllByRecursion (IsApartFrom now) others
   longer_apart [] parts one two = tt
@@ -129,8 +129,8 @@ module _ {A : Type 0} (regions : A → List Grant) (word : A → ℕ → ℕ) (h
 
   apart_now : AreApart (now ∷ old_run.back)
   apart_now =
-      let back = back_apart regions word heap new sound grant fresh same some in
-      (longer_apart old_run.back (back_parts regions word heap new sound grant fresh same some) back.0 (grant_apart regions word heap new sound grant fresh same some).1, back.1)
+      let back = back_apart new sound fresh same some in
+      (longer_apart old_run.back (back_parts new sound fresh same some) back.0 (grant_apart new sound fresh same some).1, back.1)
 
   where_top : extent_at new.top now.extents ≡ Some (extent new.top new.top_size Top)
   where_top =
@@ -148,7 +148,7 @@ module _ {A : Type 0} (regions : A → List Grant) (word : A → ℕ → ℕ) (h
     size ∙ ap (λ (n : ℕ). n + grant.size) was.size,
     flags ∙ was.flags,
     where_top,
-    subst (λ (p : ℕ). AreRecords (word new.system) p old_run.back) (sym no_next) (told_kept regions word heap new sound grant fresh same some outside_kept),
+    subst (λ (p : ℕ). AreRecords (word new.system) p old_run.back) (sym no_next) (told_kept new sound fresh same some outside_kept),
   )
 
   extended_read : segments_of word new ≡ now ∷ old_run.back
@@ -156,7 +156,7 @@ module _ {A : Type 0} (regions : A → List Grant) (word : A → ℕ → ℕ) (h
 
   extents_were : extents_in (state_of word heap) ≡ old_run.first ++ (less ++ extents_all old_run.back)
   extents_were =
-      ap extents_all (segments_are regions word heap new sound grant fresh same some)
+      ap extents_all (segments_are new sound fresh same some)
       ∙ (ap (λ (es : List Extent). es ++ extents_all old_run.back) (old_run.extents ∙ ap (λ (es : List Extent). old_run.first ++ extent heap.top heap.top_size Top ∷ es) (last_is.0 ∙ (λ i. extent (foot_at i) 80 Foot ∷ [])))
       ∙ append_assoc old_run.first less (extents_all old_run.back))
     where
@@ -183,14 +183,14 @@ module _ {A : Type 0} (regions : A → List Grant) (word : A → ℕ → ℕ) (h
       no_free false false found = cc
 
       found_now : extent_at heap.victim (extents_in (state_of word heap)) ≡ Some (extent heap.victim heap.victim_size Free) → extent_at heap.victim (extents_all (now ∷ old_run.back)) ≡ Some (extent heap.victim heap.victim_size Free)
-      found_now there = replaced_found (extents_all (now ∷ old_run.back)) heap.victim (extent heap.victim heap.victim_size Free) old_run.first less more (extents_all old_run.back) extents_are (distinct regions word new (now ∷ old_run.back) parts_now apart_now told_now)
+      found_now there = replaced_found heap.victim old_run.first less more (extents_all old_run.back) extents_are (distinct regions word new (now ∷ old_run.back) parts_now apart_now told_now)
           (λ found. absurd (no_free (heap.top == heap.victim) (heap.top + heap.top_size == heap.victim) found)) (ap (extent_at heap.victim) (sym extents_were) ∙ there)
 
   pub extended_state : (n : ℕ) → state_of word new ≡ granted grant n (state_of word heap)
   extended_state n =
       (λ i. record { segments = segments_now i; victim = victim i; granularity = granularity i; rate = rate i; countdown = countdown i; trim_check = trim_check i })
       ∙ (sym after ∙ ap (λ (ss : List Segment). granted grant n (record { segments = ss; victim = heap.victim; granularity = heap.granularity; rate = heap.rate; countdown = heap.countdown; trim_check = heap.trim_check }))
-      (sym (segments_are regions word heap new sound grant fresh same some)))
+      (sym (segments_are new sound fresh same some)))
     where
       here : is_behind grant old_run.segment ≡ true
       here = (λ i. (grant.base == (sym was.base) i + (sym was.size) i) && (grant.flags % 2 == 0 && grant.flags == (sym was.flags) i)) ∙ behind
@@ -215,7 +215,7 @@ module _ {A : Type 0} (regions : A → List Grant) (word : A → ℕ → ℕ) (h
 
   pub extended_words : OnlyTagsChange (regions heap.system) (state_of word new) (word heap.system) (word new.system)
   extended_words k inside boundary recorded =
-      let tags = head_tags regions word new extended_sound size_some k boundary in
+      let tags = head_tags extended_sound size_some k boundary in
       kept k inside (λ is. tags.0 (omega (arith, is, top))) (λ is. tags.1 (omega (arith, is, top, top_size, closes)))
 
   -- no free extent but the top changes
@@ -227,7 +227,7 @@ module _ {A : Type 0} (regions : A → List Grant) (word : A → ℕ → ℕ) (h
       [] [] (none_free heap.top heap.top_size) (none_free heap.top length_now) (λ k none. absurd none) (λ k none. absurd none)
     where
       none_free : (top bytes k size : ℕ) → extent_at k (extent top bytes Top ∷ extent (top + bytes) 80 Foot ∷ []) ≡ Some (extent k size Free) → ⊥
-      none_free top bytes k size found = elim (found_either k (extent top bytes Top ∷ []) (extent (top + bytes) 80 Foot ∷ []) (extent k size Free) found) [
-        | inl first ↦ (let no : Top ≡ Free = ap (λ (e : Extent). e.kind) (the_one k (extent top bytes Top) (extent k size Free) first) in cc)
-        | inr later ↦ (let no : Foot ≡ Free = ap (λ (e : Extent). e.kind) (the_one k (extent (top + bytes) 80 Foot) (extent k size Free) later.1) in cc)
+      none_free top bytes k size found = elim (found_either k (extent top bytes Top ∷ []) (extent (top + bytes) 80 Foot ∷ []) found) [
+        | inl first ↦ (let no : Top ≡ Free = ap (λ (e : Extent). e.kind) (the_one k (extent top bytes Top) first) in cc)
+        | inr later ↦ (let no : Foot ≡ Free = ap (λ (e : Extent). e.kind) (the_one k (extent (top + bytes) 80 Foot) later.1) in cc)
       ]

@@ -18,17 +18,17 @@ record IsFoundBehind (segments : List Segment) (one : Extent) : Type 0 where
   pub place : next.at ≡ one.at + one.size
   pub there : extent_at next.at (extents_all segments) ≡ Some next
 
-found_behind : (regions : List Grant) (words : ℕ → ℕ) (segments : List Segment) (parts : AreSegments regions words segments) → AreApart segments → (one : Extent) → extent_at one.at (extents_all segments) ≡ Some one → ends_segment one.kind ≡ false → IsFoundBehind segments one
-found_behind regions words segments parts apart one there goes_on =
-    let run = run_of regions words segments parts one there in
-    let part = run_part regions words segments parts one.at (one.at + one.size) (one ∷ []) run in
-    let n = has_next regions words segments parts one.at (one.at + one.size) (one ∷ []) run goes_on in
+found_behind : (regions : List Grant) (words : ℕ → ℕ) (segments : List Segment) (parts : AreSegments regions words segments) → AreApart segments → {one : Extent} → extent_at one.at (extents_all segments) ≡ Some one → ends_segment one.kind ≡ false → IsFoundBehind segments one
+found_behind regions words segments parts apart {one} there goes_on =
+    let run = run_of regions words segments parts there in
+    let part = run_part regions parts run in
+    let n = has_next regions parts run goes_on in
     let is : run.segment.extents ≡ (run.first ++ one ∷ []) ++ n.next ∷ n.rest = run.extents ∙ (ap (λ (es : List Extent). run.first ++ one ∷ es) n.is ∙ sym (append_assoc run.first (one ∷ []) (n.next ∷ n.rest))) in
     record {
       next = n.next;
-      place = (behind regions words segments parts one.at (one.at + one.size) (one ∷ []) run n).0;
-      there = among_all regions words segments parts apart run.front run.segment run.back run.is n.next.at n.next
-          (ap (extent_at n.next.at) is ∙ distinct_later (run.first ++ one ∷ []) (n.next ∷ n.rest) n.next.at n.next
+      place = (behind regions parts run n).0;
+      there = among_all regions words parts apart run.front run.segment run.back run.is n.next.at
+          (ap (extent_at n.next.at) is ∙ distinct_later (run.first ++ one ∷ []) (n.next ∷ n.rest) n.next.at
           (subst AreDistinct is (tiles_distinct words Used run.segment.base run.segment.extents (run.segment.base + run.segment.size) part.extents)) (found_here n.next n.rest));
     }
 
@@ -51,24 +51,24 @@ granted_before grant n heap test = go heap.segments test
 
 -- ---- the free extents of a heap that a grant was put before
 
-module _ {A : Type 0} (regions : A → List Grant) (word : A → ℕ → ℕ) (follows : A → List Event → A → Type 0) (old middle : Dlmalloc A) (grant : Grant) (n : ℕ) (first : IsPrepended regions word follows old grant n middle) where
+module _ {A : Type 0} {regions : A → List Grant} {word : A → ℕ → ℕ} {follows : A → List Event → A → Type 0} {old middle : Dlmalloc A} {grant : Grant} {n : ℕ} (first : IsPrepended regions word follows old grant n middle) where
   -- what is free then was free before
-  was_free : (at size : ℕ) → IsFreeAt (state_of word middle) at size → IsFreeAt (state_of word old) at size
-  was_free at size free = first.before (extent at size Free) (λ same. clash n same first.chunk) (λ same. clash (grant.size - n) same first.rest) free
+  was_free : {at size : ℕ} → IsFreeAt (state_of word middle) at size → IsFreeAt (state_of word old) at size
+  was_free {at} {size} free = first.before (extent at size Free) (λ same. clash n same first.chunk) (λ same. clash (grant.size - n) same first.rest) free
     where
       clash : {place : ℕ} (bytes : ℕ) → at ≡ place → extent_at place (extents_in (state_of word middle)) ≡ Some (extent place bytes Used) → ⊥
       clash {place} bytes same used = (let no : Used ≡ Free = ap (λ (e : Extent). e.kind) (the_extent (sym used ∙ (ap (λ (a : ℕ). extent_at a (extents_in (state_of word middle))) (sym same) ∙ free))) in cc)
 
   pub no_free : (k : ℕ) → (IsInFree (state_of word old) k → ⊥) → IsInFree (state_of word middle) k → ⊥
-  no_free k was f = was (record { at = f.at; size = f.size; free = was_free f.at f.size f.free; low = f.low; high = f.high })
+  no_free k was f = was (record { at = f.at; size = f.size; free = was_free f.free; low = f.low; high = f.high })
 
   -- nothing of the grant is free
   pub none_of_grant : (k : ℕ) → grant.base ≤ k → k < grant.base + grant.size → IsInFree (state_of word middle) k → ⊥
   none_of_grant k low high f =
       let above = f.low in let below = f.high in
-      elim (same_or_beside regions word middle first.sound f.at f.size f.free (extent grant.base n Used) first.chunk) [
+      elim (same_or_beside first.sound f.free first.chunk) [
         | inl same ↦ (let no : Used ≡ Free = ap (λ (e : Extent). e.kind) same in cc)
-        | inr beside ↦ elim (same_or_beside regions word middle first.sound f.at f.size f.free (extent (grant.base + n) (grant.size - n) Used) first.rest) [
+        | inr beside ↦ elim (same_or_beside first.sound f.free first.rest) [
           | inl same ↦ (let no : Used ≡ Free = ap (λ (e : Extent). e.kind) same in cc)
           | inr behind ↦ elim beside [
             | inl after ↦ elim behind [ inl out ↦ omega arith | inr between ↦ omega arith ]
@@ -80,7 +80,7 @@ module _ {A : Type 0} (regions : A → List Grant) (word : A → ℕ → ℕ) (f
   pub prepended_free : FreeMoves (state_of word old) (state_of word middle) [] []
   prepended_free = record {
     stays = λ at size free out. (first.still (extent at size Free) free, λ none. none);
-    was = λ at size free out. (was_free at size free, λ none. none);
+    was = λ at size free out. (was_free free, λ none. none);
   }
 
   pub prepended_tags : OnlyTagsChange (regions old.system) (state_of word middle) (word old.system) (word middle.system)
@@ -96,9 +96,9 @@ module _ {A : Type 0} (regions : A → List Grant) (word : A → ℕ → ℕ) (f
 
   -- the bins stay
   abbrev pub prepended_binned : IndexStays → IsSound regions word old → IsSameBins old middle → IsBinned regions word old → IsBinned regions word middle
-  prepended_binned stays sound same = binned_same stays regions word old middle sound first.sound (λ k was is boundary tag tag'. prepended_tags k was boundary tag') same.bins prepended_free same.victim
+  prepended_binned stays sound same = binned_same stays sound first.sound (λ k was is boundary tag tag'. prepended_tags k was boundary tag') same.bins prepended_free same.victim
 
-module _ {A : Type 0} (regions : A → List Grant) (word : A → ℕ → ℕ) (follows : A → List Event → A → Type 0) (old middle new : Dlmalloc A) (grant : Grant) (n : ℕ) (least : 32 ≤ n) (first : IsPrepended regions word follows old grant n middle)
+module _ {A : Type 0} {regions : A → List Grant} {word : A → ℕ → ℕ} {follows : A → List Event → A → Type 0} {old middle new : Dlmalloc A} {grant : Grant} {n : ℕ} (least : 32 ≤ n) (first : IsPrepended regions word follows old grant n middle)
     (state : state_of word new ≡ freed (state_of word middle) (grant.base + n)) (less : HasOneMore (state_of word new) (state_of word middle) (grant.base + n)) (moved : IsTurned regions word follows middle new)
     (records : (one : Extent) → one.kind ≡ Record → extent_at one.at (extents_in (state_of word middle)) ≡ Some one → extent_at one.at (extents_in (state_of word new)) ≡ Some one)
     (followed : follows old.system [] new.system) where
@@ -106,7 +106,7 @@ module _ {A : Type 0} (regions : A → List Grant) (word : A → ℕ → ℕ) (f
   chunk_there = less.only (extent grant.base n Used) refl first.chunk (λ is. omega (arith, is, least))
 
   rest_there : IsFoundBehind (segments_of word new) (extent grant.base n Used)
-  rest_there = found_behind (regions new.system) (word new.system) (segments_of word new) moved.sound.segments moved.sound.apart (extent grant.base n Used) chunk_there refl
+  rest_there = found_behind (regions new.system) (word new.system) (segments_of word new) moved.sound.segments moved.sound.apart chunk_there refl
 
   into : (k : ℕ) → IsWordOf (regions old.system) k → IsWordOf (regions middle.system) k
   into k inside = subst (λ (rs : List Grant). IsWordOf rs k) (sym first.regions_same) inside
@@ -123,26 +123,26 @@ module _ {A : Type 0} (regions : A → List Grant) (word : A → ℕ → ℕ) (f
       only = λ used is there other. first.before used other (less.new used is there) (less.kept used is there);
       new = λ used is there. (first.apart used there).0;
     };
-    words = λ k inside out was own tag. moved.words k (into k inside) (no_free regions word follows old middle grant n first k was) own ∙ first.words k inside out
+    words = λ k inside out was own tag. moved.words k (into k inside) (no_free first k was) own ∙ first.words k inside out
         (λ r. tag (record { extent = r.extent; there = records r.extent r.is r.there; is = r.is; low = r.low; high = r.high }));
-    new_words = λ k inside low high own. moved.words k (into k inside) (none_of_grant regions word follows old middle grant n first k low high) own ∙ first.new_words k inside low high
+    new_words = λ k inside low high own. moved.words k (into k inside) (none_of_grant first k low high) own ∙ first.new_words k inside low high
         (λ is. own (inl (record { extent = extent grant.base n Used; there = chunk_there; is = inl is })))
         (λ is. own (inl (record { extent = rest_there.next; there = rest_there.there; is = inl (is ∙ ap (λ (a : ℕ). a + 8) (sym rest_there.place)) })));
   }
 
 -- ---- so the chunk is cut out
 
-module _ {A : Type 0} (regions : A → List Grant) (word : A → ℕ → ℕ) (zeros : A → Bool) (follows : A → List Event → A → Type 0) (old : Dlmalloc A) (sound : IsSound regions word old) (n asked : ℕ) (enough : n + 96 ≤ asked) (none : chosen (state_of word old) n ≡ None)
-    (grant : Grant) (good : IsGoodGrant asked grant) (long : 128 ≤ grant.size) (beside : AllByRecursion (IsApart grant.base (grant.base + grant.size)) (regions old.system)) (middle : A)
+module _ {A : Type 0} {regions : A → List Grant} {word : A → ℕ → ℕ} (zeros : A → Bool) {follows : A → List Event → A → Type 0} {old : Dlmalloc A} (sound : IsSound regions word old) {n asked : ℕ} (enough : n + 96 ≤ asked) (none : chosen (state_of word old) n ≡ None)
+    {grant : Grant} (good : IsGoodGrant asked grant) (long : 128 ≤ grant.size) (beside : AllByRecursion (IsApart grant.base (grant.base + grant.size)) (regions old.system)) (middle : A)
     (with_it : regions middle ≡ with_grant grant (regions old.system)) (same : state_of word (record old { system = middle }) ≡ state_of word old) (test : is_put_before grant (segments_of word old) ≡ true)
     (words : (k : ℕ) → IsWordOf (regions old.system) k → word middle k ≡ word old.system k)
     (zero : zeros old.system ≡ true → (k : ℕ) → grant.base ≤ k → k < grant.base + grant.size → k % 8 ≡ 0 → word middle k ≡ 0)
-    (new : Dlmalloc A) (put : IsPutBefore regions word follows (record old { system = middle }) grant n new) (followed : follows old.system (Granted (round_up (n + 96) old.granularity) grant ∷ []) new.system) where
+    {new : Dlmalloc A} (put : IsPutBefore regions word follows (record old { system = middle }) grant n new) (followed : follows old.system (Granted (round_up (n + 96) old.granularity) grant ∷ []) new.system) where
   more_put : HasOneMore (state_of word old) (state_of word new) grant.base
   more_put = subst (λ (s : HeapState). HasOneMore s (state_of word new) grant.base) same put.more
 
   words_put : OnlyOwnOrTagsChange (regions old.system) (state_of word old) (state_of word new) (word old.system) (word new.system)
-  words_put k inside was own tag = put.words k (word_kept grant (regions old.system) (regions middle) with_it k inside) out (λ f. was (subst (λ (s : HeapState). IsInFree s k) same f)) own tag ∙ words k inside
+  words_put k inside was own tag = put.words k (word_kept grant with_it inside) out (λ f. was (subst (λ (s : HeapState). IsInFree s k) same f)) own tag ∙ words k inside
     where
       out : (k < grant.base) ⊎ (grant.base + grant.size ≤ k)
       out = elim (dec_lt k grant.base) [
@@ -159,7 +159,7 @@ module _ {A : Type 0} (regions : A → List Grant) (word : A → ℕ → ℕ) (z
       grant,
       record {
         none_chosen = none;
-        full = full regions word old sound n none;
+        full = full sound n none;
         of_grant = λ is. (refl, put.state ∙ (ap (λ (s : HeapState). freed (prepended grant n s) (grant.base + n)) same ∙ sym (granted_before grant n (state_of word old) test)));
         of_top = λ is. absurd (cc);
         room = omega (arith, enough, good.long);
@@ -179,12 +179,12 @@ module _ {A : Type 0} (regions : A → List Grant) (word : A → ℕ → ℕ) (z
       holds = holds;
       little = omega (arith, near);
     };
-    kept = blocks_law_tags regions word old new sound put.sound words_put (extents_in (state_of word old)) (λ block there used. (there, more_put.kept block used there));
+    kept = blocks_law_tags sound put.sound words_put (extents_in (state_of word old)) (λ block there used. (there, more_put.kept block used there));
     words = words_put;
-    own = λ is. absurd (with_other grant (regions old.system) (sym (put.regions_same ∙ with_it) ∙ is));
+    own = λ is. absurd (with_other grant (sym (put.regions_same ∙ with_it) ∙ is));
     new_words = λ zeroed k inside fresh own.
         let there = subst (λ (rs : List Grant). IsWordOf rs k) put.regions_same inside in
-        let within = word_fresh grant (regions old.system) (regions middle) with_it k there fresh in
+        let within = word_fresh grant (regions old.system) with_it k there fresh in
         put.new_words k there within.0 within.1 own ∙ zero zeroed k within.0 within.1 inside.aligned;
     sound = put.sound;
   }

@@ -16,10 +16,10 @@ use Rattle.dlmalloc.proofs.Grants.TopLeft.{of_two, closed_chunks, left, left_fre
 
 -- ---- the heap
 
-module _ {A : Type 0} (regions : A → List Grant) (word : A → ℕ → ℕ) (heap new : Dlmalloc A) (sound : IsSound regions word heap) (grant : Grant)
+module _ {A : Type 0} {regions : A → List Grant} {word : A → ℕ → ℕ} {heap : Dlmalloc A} (new : Dlmalloc A) (sound : IsSound regions word heap) {grant : Grant}
     (fresh : IsFresh (regions heap.system) (segments_of word heap) grant) (same : regions new.system ≡ regions heap.system) (some : 0 < heap.size)
     (beside : is_behind grant (record { base = heap.base; size = heap.size; flags = heap.flags; extents = [] }) ≡ false) (no_join : is_put_before grant (segments_of word heap) ≡ false)
-    (at : ℕ) (small : Bool) (small_is : (heap.top_size == 16) ≡ small) (at_is : at ≡ place small heap.top heap.top_size)
+    {at : ℕ} {small : Bool} (small_is : (heap.top_size == 16) ≡ small) (at_is : at ≡ place small heap.top heap.top_size)
     (base : new.base ≡ grant.base) (size : new.size ≡ grant.size) (flags : new.flags ≡ grant.flags) (next : new.next ≡ at + 16) (top : new.top ≡ grant.base)
     (top_size : new.top_size ≡ grant.base + grant.size - 80 - grant.base)
     (victim : new.victim ≡ heap.victim) (victim_size : new.victim_size ≡ heap.victim_size) (granularity : new.granularity ≡ heap.granularity) (rate : new.rate ≡ heap.rate)
@@ -29,25 +29,25 @@ module _ {A : Type 0} (regions : A → List Grant) (word : A → ℕ → ℕ) (h
     (left_foot : small ≡ false → word new.system (heap.top + heap.top_size) ≡ heap.top_size)
     (kept : (k : ℕ) → IsWordOf (regions heap.system) k → (k ≤ at) ⊎ (heap.base + heap.size ≤ k) → (k ≡ heap.top + heap.top_size → small ≡ true) → k ≢ grant.base + 8 → k ≢ grant.base + grant.size - 72 → word new.system k ≡ word heap.system k) where
   abbrev it : IsRunOf (word heap.system) (segments_of word heap) heap.top (heap.top + heap.top_size) (extent heap.top heap.top_size Top ∷ [])
-  it = run regions word heap new sound grant fresh same some
+  it = run new sound fresh same some
 
   old_part : IsSegment (regions heap.system) (word heap.system) it.segment
-  old_part = part regions word heap new sound grant fresh same some
+  old_part = part new sound fresh same some
 
   was : IsHead heap it.segment
-  was = was_head regions word heap new sound grant fresh same some
+  was = was_head new sound fresh same some
 
   last_is : (it.last ≡ extent (it.segment.base + it.segment.size - 80) 80 Foot ∷ []) × (heap.top + heap.top_size + 80 ≡ it.segment.base + it.segment.size)
-  last_is = top_last regions word heap sound some
+  last_is = top_last sound some
 
   sizes : (heap.top_size % 16 ≡ 0) × (16 ≤ heap.top_size)
-  sizes = top_sizes regions word heap sound some
+  sizes = top_sizes sound some
 
   closes : heap.top + heap.top_size + 80 ≡ heap.base + heap.size
-  closes = ends regions word heap sound some
+  closes = ends sound some
 
   low_top : it.segment.base ≤ heap.top
-  low_top = omega (arith, top_low regions word heap sound some, was.base)
+  low_top = omega (arith, top_low sound some, was.base)
 
   -- where the record stands
   bounds : (heap.top ≤ at) × (at + 80 ≤ heap.base + heap.size)
@@ -64,7 +64,7 @@ module _ {A : Type 0} (regions : A → List Grant) (word : A → ℕ → ℕ) (h
   now = record { base = it.segment.base; size = it.segment.size; flags = it.segment.flags; extents = it.first ++ rest }
 
   grant_beside : IsApartFrom it.segment (opened grant)
-  grant_beside = (grant_apart regions word heap new sound grant fresh same some).0
+  grant_beside = (grant_apart new sound fresh same some).0
 
   -- a word of the segment before the record is none of those written
   inside_kept : (k : ℕ) → it.segment.base ≤ k → k ≤ heap.top + 8 → k ≤ at → k % 8 ≡ 0 → (k ≡ heap.top + heap.top_size → small ≡ true) → word new.system k ≡ word heap.system k
@@ -73,7 +73,7 @@ module _ {A : Type 0} (regions : A → List Grant) (word : A → ℕ → ℕ) (h
       (λ is. elim (grant_beside) [ inl a ↦ omega (arith, a, is, below, last_is.1, sizes.1, fresh.long) | inr b ↦ omega (arith, b, is, low, fresh.long) ])
 
   rest_stand : Tiles (word new.system) (last_kind Used it.first) heap.top rest (it.segment.base + it.segment.size)
-  rest_stand = left_stands (word new.system) (last_kind Used it.first) heap.top heap.top_size (it.segment.base + it.segment.size) (record { base = heap.base; size = heap.size; next = heap.next; flags = heap.flags }) it.here.1.kind (top_whole regions word heap sound some) sizes.0 sizes.1 last_is.1
+  rest_stand = left_stands (word new.system) heap.top heap.top_size (record { base = heap.base; size = heap.size; next = heap.next; flags = heap.flags }) it.here.1.kind (top_whole sound some) sizes.0 sizes.1 last_is.1
       small small_is (subst (λ (a : ℕ). IsRecordAt (word new.system) a (record { base = heap.base; size = heap.size; next = heap.next; flags = heap.flags }) (it.segment.base + it.segment.size) small) at_is
       (subst (λ (e : ℕ). IsRecordAt (word new.system) at (record { base = heap.base; size = heap.size; next = heap.next; flags = heap.flags }) e small) (λ i. was.base i + was.size i) recorded))
       (λ large. was_top large) left_foot
@@ -81,7 +81,7 @@ module _ {A : Type 0} (regions : A → List Grant) (word : A → ℕ → ℕ) (h
       was_top : small ≡ false → word new.system (heap.top + 8) ≡ heap.top_size + 1
       was_top large =
           let there : at ≡ heap.top + heap.top_size = at_is ∙ ap (λ (b : Bool). place b heap.top heap.top_size) large in
-          inside_kept (heap.top + 8) (omega (arith, low_top)) (omega arith) (omega (arith, there, sizes.1)) (omega (arith, top_whole regions word heap sound some))
+          inside_kept (heap.top + 8) (omega (arith, low_top)) (omega arith) (omega (arith, there, sizes.1)) (omega (arith, top_whole sound some))
           (λ is. absurd (omega (arith, is, sizes.1)))
           ∙ (it.here.1.head ∙ (ap (λ (k : Kind). head_of heap.top_size (is_used k) false) it.here.1.kind ∙ omega arith))
 
@@ -94,7 +94,7 @@ module _ {A : Type 0} (regions : A → List Grant) (word : A → ℕ → ℕ) (h
     extents = tiles_append (word new.system) Used it.segment.base it.first rest heap.top (it.segment.base + it.segment.size)
         (tiles_kept (word heap.system) (word new.system) Used it.segment.base it.first heap.top it.first_stand
         (λ k above below m free. inside_kept k (omega (arith, above)) (omega (arith, below)) (omega (arith, below, bounds.0)) m (λ is. absurd (omega (arith, is, below, sizes.1))))) rest_stand;
-    tail = ap ends_segment (last_append Used it.first rest) ∙ left_tail (word new.system) (last_kind Used it.first) heap.top heap.top_size (it.segment.base + it.segment.size) (record { base = heap.base; size = heap.size; next = heap.next; flags = heap.flags }) it.here.1.kind (top_whole regions word heap sound some) sizes.0 sizes.1 last_is.1 small;
+    tail = ap ends_segment (last_append Used it.first rest) ∙ left_tail (word new.system) heap.top heap.top_size (record { base = heap.base; size = heap.size; next = heap.next; flags = heap.flags }) it.here.1.kind (top_whole sound some) sizes.0 sizes.1 last_is.1 small;
   }
 
   outside_kept : (k : ℕ) → IsWordOf (regions heap.system) k → IsOutside it.segment k → IsOutside (opened grant) k → word new.system k ≡ word heap.system k
@@ -108,19 +108,19 @@ module _ {A : Type 0} (regions : A → List Grant) (word : A → ℕ → ℕ) (h
   all = opened grant ∷ now ∷ it.back
 
   parts_now : AreSegments (regions new.system) (word new.system) all
-  parts_now = (opened_segment regions word heap new sound grant fresh same head foot, (is_now, parts_kept regions word heap new sound grant fresh same some outside_kept))
+  parts_now = (opened_segment new sound fresh same head foot, (is_now, parts_kept new sound fresh same some outside_kept))
 
   apart_now : AreApart all
   apart_now = (
-    (apart_back it.segment (opened grant) grant_beside, apart_grant regions word heap new sound grant fresh same some),
-    ((back_apart regions word heap new sound grant fresh same some).0, (back_apart regions word heap new sound grant fresh same some).1),
+    (apart_back it.segment (opened grant) grant_beside, apart_grant new sound fresh same some),
+    ((back_apart new sound fresh same some).0, (back_apart new sound fresh same some).1),
   )
 
   record_there : extent_at at now.extents ≡ Some (record_of at (it.segment.base + it.segment.size))
   record_there =
       found_later at it.first rest (none_outside (word heap.system) Used it.segment.base it.first heap.top at (inr bounds.0) it.first_stand)
       ∙ subst (λ (a : ℕ). extent_at a rest ≡ Some (record_of a (it.segment.base + it.segment.size))) (sym at_is)
-      (left_record (word new.system) (last_kind Used it.first) heap.top heap.top_size (it.segment.base + it.segment.size) (record { base = heap.base; size = heap.size; next = heap.next; flags = heap.flags }) it.here.1.kind (top_whole regions word heap sound some) sizes.0 sizes.1 last_is.1 small small_is)
+      (left_record (word new.system) heap.top heap.top_size (record { base = heap.base; size = heap.size; next = heap.next; flags = heap.flags }) it.here.1.kind (top_whole sound some) sizes.0 sizes.1 last_is.1 small small_is)
 
   size_some : 0 < new.size
   size_some = subst (λ (n : ℕ). 0 < n) (sym size) (omega (arith, fresh.long))
@@ -138,7 +138,7 @@ module _ {A : Type 0} (regions : A → List Grant) (word : A → ℕ → ℕ) (h
       recorded.size ∙ was.size,
       recorded.flags ∙ was.flags,
       subst (λ (a : ℕ). extent_at a now.extents ≡ Some (record_of a (it.segment.base + it.segment.size))) back record_there,
-      subst (λ (p : ℕ). AreRecords (word new.system) p it.back) (sym recorded.next) (told_kept regions word heap new sound grant fresh same some outside_kept),
+      subst (λ (p : ℕ). AreRecords (word new.system) p it.back) (sym recorded.next) (told_kept new sound fresh same some outside_kept),
     ),
   )
     where
@@ -149,7 +149,7 @@ module _ {A : Type 0} (regions : A → List Grant) (word : A → ℕ → ℕ) (h
   before = extent heap.top heap.top_size Top ∷ extent (it.segment.base + it.segment.size - 80) 80 Foot ∷ []
 
   extents_were : extents_in (state_of word heap) ≡ it.first ++ (before ++ extents_all it.back)
-  extents_were = ap extents_all (segments_are regions word heap new sound grant fresh same some)
+  extents_were = ap extents_all (segments_are new sound fresh same some)
       ∙ (ap (λ (es : List Extent). es ++ extents_all it.back) (it.extents ∙ ap (λ (es : List Extent). it.first ++ extent heap.top heap.top_size Top ∷ es) last_is.0)
       ∙ append_assoc it.first before (extents_all it.back))
 
@@ -160,37 +160,37 @@ module _ {A : Type 0} (regions : A → List Grant) (word : A → ℕ → ℕ) (h
   distinct_old = all_distinct (regions heap.system) (word heap.system) (segments_of word heap) sound.segments sound.apart
 
   -- what is found and is neither the top nor its foot still is
-  found_now : (k : ℕ) (one : Extent) → (one.kind ≡ Top → ⊥) → (one.kind ≡ Foot → ⊥) → extent_at k (extents_in (state_of word heap)) ≡ Some one → extent_at k (extents_all all) ≡ Some one
-  found_now k one no_top no_foot there =
-      distinct_later (opened grant).extents (extents_all (now ∷ it.back)) k one all_apart
-      (replaced_found (extents_all (now ∷ it.back)) k one it.first before rest (extents_all it.back) (append_assoc it.first rest (extents_all it.back)) (all_apart.1.1)
-      (λ found. absurd (elim (of_two k (extent heap.top heap.top_size Top) (extent (it.segment.base + it.segment.size - 80) 80 Foot) one found) [
+  found_now : (k : ℕ) {one : Extent} → (one.kind ≡ Top → ⊥) → (one.kind ≡ Foot → ⊥) → extent_at k (extents_in (state_of word heap)) ≡ Some one → extent_at k (extents_all all) ≡ Some one
+  found_now k {one} no_top no_foot there =
+      distinct_later (opened grant).extents (extents_all (now ∷ it.back)) k {extent = one} all_apart
+      (replaced_found k it.first before rest (extents_all it.back) (append_assoc it.first rest (extents_all it.back)) (all_apart.1.1)
+      (λ found. absurd (elim (of_two k (extent heap.top heap.top_size Top) (extent (it.segment.base + it.segment.size - 80) 80 Foot) found) [
         | inl is ↦ no_top (ap (λ (e : Extent). e.kind) (sym is))
         | inr is ↦ no_foot (ap (λ (e : Extent). e.kind) (sym is))
       ])) (ap (extent_at k) (sym extents_were) ∙ there))
 
   found_before : (k : ℕ) (one : Extent) → one.kind ≡ Used → extent_at k (extents_all all) ≡ Some one → extent_at k (extents_in (state_of word heap)) ≡ Some one
   found_before k one used there =
-      elim (found_either k (opened grant).extents (extents_all (now ∷ it.back)) one there) [
-        | inl of_grant ↦ absurd (elim (of_two k (extent grant.base (grant.base + grant.size - 80 - grant.base) Top) (extent (grant.base + grant.size - 80) 80 Foot) one of_grant) [
+      elim (found_either k (opened grant).extents (extents_all (now ∷ it.back)) there) [
+        | inl of_grant ↦ absurd (elim (of_two k (extent grant.base (grant.base + grant.size - 80 - grant.base) Top) (extent (grant.base + grant.size - 80) 80 Foot) of_grant) [
           | inl is ↦ (let no : Top ≡ Used = ap (λ (e : Extent). e.kind) is ∙ used in cc)
           | inr is ↦ (let no : Foot ≡ Used = ap (λ (e : Extent). e.kind) is ∙ used in cc)
         ])
-        | inr later ↦ replaced_found (extents_in (state_of word heap)) k one it.first rest before (extents_all it.back) extents_were distinct_old
-            (λ found. absurd (left_other (word new.system) (last_kind Used it.first) heap.top heap.top_size (it.segment.base + it.segment.size) (record { base = heap.base; size = heap.size; next = heap.next; flags = heap.flags }) it.here.1.kind (top_whole regions word heap sound some) sizes.0 sizes.1 last_is.1 small k one found used))
+        | inr later ↦ replaced_found k it.first rest before (extents_all it.back) extents_were distinct_old
+            (λ found. absurd (left_other (word new.system) heap.top heap.top_size (record { base = heap.base; size = heap.size; next = heap.next; flags = heap.flags }) it.here.1.kind (top_whole sound some) sizes.0 sizes.1 last_is.1 small k one found used))
             (ap (extent_at k) (sym (append_assoc it.first rest (extents_all it.back))) ∙ later.1)
       ]
 
   pub added_used : HasSameUsed (state_of word heap) (state_of word new)
   added_used = record {
-    still = λ used is there. ap (extent_at used.at) (all_retold regions word new all parts_now apart_now told_now) ∙ found_now used.at used (λ top. (let no : Used ≡ Top = sym is ∙ top in cc)) (λ foot. (let no : Used ≡ Foot = sym is ∙ foot in cc)) there;
+    still = λ used is there. ap (extent_at used.at) (all_retold regions word new all parts_now apart_now told_now) ∙ found_now used.at (λ top. (let no : Used ≡ Top = sym is ∙ top in cc)) (λ foot. (let no : Used ≡ Foot = sym is ∙ foot in cc)) there;
     before = λ used is there. found_before used.at used is (ap (extent_at used.at) (sym (all_retold regions word new all parts_now apart_now told_now)) ∙ there);
   }
 
   -- ---- the free extents
 
   in_before : (k size : ℕ) → extent_at k before ≡ Some (extent k size Free) → IsIn k []
-  in_before k size found = elim (of_two k (extent heap.top heap.top_size Top) (extent (it.segment.base + it.segment.size - 80) 80 Foot) (extent k size Free) found) [
+  in_before k size found = elim (of_two k (extent heap.top heap.top_size Top) (extent (it.segment.base + it.segment.size - 80) 80 Foot) found) [
     | inl is ↦ (let no : Top ≡ Free = ap (λ (e : Extent). e.kind) is in cc)
     | inr is ↦ (let no : Foot ≡ Free = ap (λ (e : Extent). e.kind) is in cc)
   ]
@@ -199,19 +199,18 @@ module _ {A : Type 0} (regions : A → List Grant) (word : A → ℕ → ℕ) (h
   added_free = record {
     stays = λ k size free out.
         let found = free_stays it.first before rest (extents_all it.back) (subst AreDistinct (append_assoc it.first rest (extents_all it.back)) (all_apart.1.1)) [] (left_free small heap.top) in_before
-        (λ k came. inr (left_there small heap.top heap.top_size k came)) k size (ap (extent_at k) (sym extents_were) ∙ free) out in (
+        (λ k came. inr (left_there small heap.top heap.top_size k came)) (ap (extent_at k) (sym extents_were) ∙ free) out in (
           ap (extent_at k) (all_retold regions word new all parts_now apart_now told_now)
-              ∙ distinct_later (opened grant).extents (extents_all (now ∷ it.back)) k (extent k size Free) all_apart (ap (extent_at k) (append_assoc it.first rest (extents_all it.back)) ∙ found.0),
+              ∙ distinct_later (opened grant).extents (extents_all (now ∷ it.back)) k all_apart (ap (extent_at k) (append_assoc it.first rest (extents_all it.back)) ∙ found.0),
           found.1,
         );
-    was = λ k size free out. elim (found_either k (opened grant).extents (extents_all (now ∷ it.back)) (extent k size Free) (ap (extent_at k) (sym (all_retold regions word new all parts_now apart_now told_now)) ∙ free)) [
-      | inl of_grant ↦ absurd (elim (of_two k (extent grant.base (grant.base + grant.size - 80 - grant.base) Top) (extent (grant.base + grant.size - 80) 80 Foot) (extent k size Free) of_grant) [
+    was = λ k size free out. elim (found_either k (opened grant).extents (extents_all (now ∷ it.back)) (ap (extent_at k) (sym (all_retold regions word new all parts_now apart_now told_now)) ∙ free)) [
+      | inl of_grant ↦ absurd (elim (of_two k (extent grant.base (grant.base + grant.size - 80 - grant.base) Top) (extent (grant.base + grant.size - 80) 80 Foot) of_grant) [
         | inl is ↦ (let no : Top ≡ Free = ap (λ (e : Extent). e.kind) is in cc)
         | inr is ↦ (let no : Foot ≡ Free = ap (λ (e : Extent). e.kind) is in cc)
       ])
       | inr later ↦ (
-          let found = free_stays it.first rest before (extents_all it.back) (subst AreDistinct extents_were distinct_old) (left_free small heap.top) [] (in_left small heap.top heap.top_size) (λ k none. absurd none)
-          k size (ap (extent_at k) (sym (append_assoc it.first rest (extents_all it.back))) ∙ later.1) out in
+          let found = free_stays it.first rest before (extents_all it.back) (subst AreDistinct extents_were distinct_old) (left_free small heap.top) [] (in_left small heap.top heap.top_size) (λ k none. absurd none) (ap (extent_at k) (sym (append_assoc it.first rest (extents_all it.back))) ∙ later.1) out in
           (ap (extent_at k) extents_were ∙ found.0, λ none. none))
     ];
   }
@@ -219,26 +218,26 @@ module _ {A : Type 0} (regions : A → List Grant) (word : A → ℕ → ℕ) (h
   pub added_rest : small ≡ false → IsFreeAt (state_of word new) heap.top heap.top_size
   added_rest large =
       ap (extent_at heap.top) (all_retold regions word new all parts_now apart_now told_now)
-      ∙ distinct_later (opened grant).extents (extents_all (now ∷ it.back)) heap.top (extent heap.top heap.top_size Free) all_apart (ap (extent_at heap.top) (append_assoc it.first rest (extents_all it.back))
+      ∙ distinct_later (opened grant).extents (extents_all (now ∷ it.back)) heap.top all_apart (ap (extent_at heap.top) (append_assoc it.first rest (extents_all it.back))
       ∙ (found_later heap.top it.first (rest ++ extents_all it.back) (none_outside (word heap.system) Used it.segment.base it.first heap.top heap.top (inr (omega arith)) it.first_stand)
-      ∙ found_more heap.top rest (extents_all it.back) (extent heap.top heap.top_size Free) (subst (λ (b : Bool). extent_at heap.top (left b heap.top heap.top_size) ≡ Some (extent heap.top heap.top_size Free)) (sym large)
+      ∙ found_more heap.top rest (extents_all it.back) (subst (λ (b : Bool). extent_at heap.top (left b heap.top heap.top_size) ≡ Some (extent heap.top heap.top_size Free)) (sym large)
       (found_here (extent heap.top heap.top_size Free) (extent (heap.top + heap.top_size) 80 Record ∷ [])))))
 
   pub added_sound : IsSound regions word new
   added_sound = retold_sound regions word new all parts_now apart_now told_now (subst (IsGranularity) (sym granularity) sound.granularity) size_some
       (λ none. victim ∙ sound.no_victim (sym victim_size ∙ none))
-      (λ there. (λ i. extent_at (victim i) (extents_all all)) ∙ (found_now heap.victim (extent heap.victim heap.victim_size Free) (λ is. cc) (λ is. cc) (sound.victim (λ none. there (victim_size ∙ none)))
+      (λ there. (λ i. extent_at (victim i) (extents_all all)) ∙ (found_now heap.victim (λ is. cc) (λ is. cc) (sound.victim (λ none. there (victim_size ∙ none)))
       ∙ (λ i. Some (extent ((sym victim) i) ((sym victim_size) i) Free))))
 
   pub added_words : OnlyTagsChange (regions heap.system) (state_of word new) (word heap.system) (word new.system)
   added_words k inside boundary recording =
-      let tags = head_tags regions word new added_sound size_some k boundary in
+      let tags = head_tags added_sound size_some k boundary in
       kept k inside out free (λ is. tags.0 (omega (arith, is, top))) (λ is. tags.1 (omega (arith, is, top, top_size, fresh.long)))
     where
       there : (k : ℕ) (one : Extent) → extent_at k now.extents ≡ Some one → extent_at k (extents_in (state_of word new)) ≡ Some one
       there k one found =
           ap (extent_at k) (all_retold regions word new all parts_now apart_now told_now)
-          ∙ distinct_later (opened grant).extents (extents_all (now ∷ it.back)) k one all_apart (found_more k now.extents (extents_all it.back) one found)
+          ∙ distinct_later (opened grant).extents (extents_all (now ∷ it.back)) k all_apart (found_more k now.extents (extents_all it.back) found)
 
       out : (k ≤ at) ⊎ (heap.base + heap.size ≤ k)
       out = elim (dec_lt at k) [
@@ -279,13 +278,13 @@ module _ {A : Type 0} (regions : A → List Grant) (word : A → ℕ → ℕ) (h
   added_state n =
       (λ i. record { segments = segments_now i; victim = victim i; granularity = granularity i; rate = rate i; countdown = countdown i; trim_check = trim_check i })
       ∙ (sym after ∙ ap (λ (ss : List Segment). granted grant n (record { segments = ss; victim = heap.victim; granularity = heap.granularity; rate = heap.rate; countdown = heap.countdown; trim_check = heap.trim_check }))
-      (sym (segments_are regions word heap new sound grant fresh same some)))
+      (sym (segments_are new sound fresh same some)))
     where
       apart : is_behind grant it.segment ≡ false
       apart = (λ i. (grant.base == (sym was.base) i + (sym was.size) i) && (grant.flags % 2 == 0 && grant.flags == (sym was.flags) i)) ∙ beside
 
       none : list_any (is_before grant) (it.segment ∷ it.back) ≡ false
-      none = (λ i. not (sym apart i) && list_any (is_before grant) (it.segment ∷ it.back)) ∙ (ap (is_put_before grant) (sym (segments_are regions word heap new sound grant fresh same some)) ∙ no_join)
+      none = (λ i. not (sym apart i) && list_any (is_before grant) (it.segment ∷ it.back)) ∙ (ap (is_put_before grant) (sym (segments_are new sound fresh same some)) ∙ no_join)
 
       after : granted grant n (record { segments = it.segment ∷ it.back; victim = heap.victim; granularity = heap.granularity; rate = heap.rate; countdown = heap.countdown; trim_check = heap.trim_check }) ≡
           record { segments = opened grant ∷ without_top it.segment ∷ it.back; victim = heap.victim; granularity = heap.granularity; rate = heap.rate; countdown = heap.countdown; trim_check = trim_threshold }

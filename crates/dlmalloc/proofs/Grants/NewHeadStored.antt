@@ -25,16 +25,16 @@ record_place at top size is units long = go (nat_lt size 32) refl is
         (other ∙ sym beyond, is ∙ ap (λ (b : Bool). place b top size) (sym beyond))
 
 -- it is in the segment
-pub record_bounds : (at top size end : ℕ) → at ≡ (if nat_lt size 32 then top else top + size) → top % 16 ≡ 0 → size % 16 ≡ 0 → 16 ≤ size → top + size + 80 ≡ end → (top ≤ at) × (at + 80 ≤ end) × (at % 16 ≡ 0)
-record_bounds at top size end is whole units long ends = go (nat_lt size 32) is
+pub record_bounds : (at top size : ℕ) {end : ℕ} → at ≡ (if nat_lt size 32 then top else top + size) → top % 16 ≡ 0 → size % 16 ≡ 0 → 16 ≤ size → top + size + 80 ≡ end → (top ≤ at) × (at + 80 ≤ end) × (at % 16 ≡ 0)
+record_bounds at top size {end} is whole units long ends = go (nat_lt size 32) is
   where
     go : (b : Bool) → at ≡ (if b then top else top + size) → (top ≤ at) × (at + 80 ≤ end) × (at % 16 ≡ 0)
     go true is = (omega (arith, is), omega (arith, is, ends), omega (arith, is, whole))
     go false is = (omega (arith, is), omega (arith, is, ends), omega (arith, is, whole, units))
 
 -- beyond a top that is left as a free chunk
-pub large_at : (at top size : ℕ) → at ≡ (if nat_lt size 32 then top else top + size) → 32 ≤ size → top + size ≤ at
-large_at at top size is large = (let test : nat_lt size 32 ≡ false = grind (arith, nat_tests) in omega (arith, is ∙ ap (λ (b : Bool). if b then top else top + size) test))
+pub large_at : {at : ℕ} (top size : ℕ) → at ≡ (if nat_lt size 32 then top else top + size) → 32 ≤ size → top + size ≤ at
+large_at top size is large = (let test : nat_lt size 32 ≡ false = grind (arith, nat_tests) in omega (arith, is ∙ ap (λ (b : Bool). if b then top else top + size) test))
 
 -- a heap with a grant as its head segment, and a record at an address
 abbrev pub new_head : {A : Type 0} → Dlmalloc A → Grant → A → ℕ → Dlmalloc A
@@ -50,31 +50,31 @@ new_head heap grant system at = record heap {
 }
 
 -- what a heap over another system tells is the same
-pub ends_same : {A : Type 0} (heap middle : Dlmalloc A) → middle ≡ record heap { system = middle.system } → middle.base + middle.size ≡ heap.base + heap.size
-ends_same {A} heap middle is = ap (λ (h : Dlmalloc A). h.base + h.size) is
+pub ends_same : {A : Type 0} (heap : Dlmalloc A) {middle : Dlmalloc A} → middle ≡ record heap { system = middle.system } → middle.base + middle.size ≡ heap.base + heap.size
+ends_same {A} heap is = ap (λ (h : Dlmalloc A). h.base + h.size) is
 
-pub told_same : {A : Type 0} (words : ℕ → ℕ) (at : ℕ) (heap middle : Dlmalloc A) → middle ≡ record heap { system = middle.system } →
+pub told_same : {A : Type 0} {words : ℕ → ℕ} (at : ℕ) (heap : Dlmalloc A) {middle : Dlmalloc A} → middle ≡ record heap { system = middle.system } →
     IsRecordAt words at (record { base = middle.base; size = middle.size; next = middle.next; flags = middle.flags }) (middle.base + middle.size) (at == middle.top) →
     IsRecordAt words at (record { base = heap.base; size = heap.size; next = heap.next; flags = heap.flags }) (heap.base + heap.size) (at == heap.top)
-told_same {A} words at heap middle is told = subst (λ (h : Dlmalloc A). IsRecordAt words at (record { base = h.base; size = h.size; next = h.next; flags = h.flags }) (h.base + h.size) (at == h.top)) is told
+told_same {A} {words} at heap is told = subst (λ (h : Dlmalloc A). IsRecordAt words at (record { base = h.base; size = h.size; next = h.next; flags = h.flags }) (h.base + h.size) (at == h.top)) is told
 
-module _ {A : Type 0} (regions : A → List Grant) (word : A → ℕ → ℕ) (heap : Dlmalloc A) (sound : IsSound regions word heap) (some : 0 < heap.size) where
-  pub bounds_of : (at : ℕ) → at ≡ (if nat_lt heap.top_size 32 then heap.top else heap.top + heap.top_size) → (heap.top ≤ at) × (at + 80 ≤ heap.base + heap.size) × (at % 16 ≡ 0)
-  bounds_of at is =
-      let sizes = top_sizes regions word heap sound some in
-      record_bounds at heap.top heap.top_size (heap.base + heap.size) is (top_whole regions word heap sound some) sizes.0 sizes.1 (ends regions word heap sound some)
+module _ {A : Type 0} {regions : A → List Grant} {word : A → ℕ → ℕ} {heap : Dlmalloc A} (sound : IsSound regions word heap) (some : 0 < heap.size) where
+  pub bounds_of : {at : ℕ} → at ≡ (if nat_lt heap.top_size 32 then heap.top else heap.top + heap.top_size) → (heap.top ≤ at) × (at + 80 ≤ heap.base + heap.size) × (at % 16 ≡ 0)
+  bounds_of {at} is =
+      let sizes = top_sizes sound some in
+      record_bounds at heap.top heap.top_size is (top_whole sound some) sizes.0 sizes.1 (ends sound some)
 
   -- the grant is beside the head segment
   pub beside_head : (grant : Grant) → IsFresh (regions heap.system) (segments_of word heap) grant → (heap.base + heap.size ≤ grant.base) ⊎ (grant.base + grant.size ≤ heap.base)
   beside_head grant fresh =
-      let run = top_run regions word heap sound some in
-      let is = top_segment regions word heap sound some in
-      let apart = (subst (AllByRecursion (λ (segment : Segment). IsApartFrom segment (opened grant))) (run.is ∙ ap (λ (front : List Segment). front ++ run.segment ∷ run.back) (top_front regions word heap sound some)) fresh.apart).0 in
+      let run = top_run sound some in
+      let is = top_segment sound some in
+      let apart = (subst (AllByRecursion (λ (segment : Segment). IsApartFrom segment (opened grant))) (run.is ∙ ap (λ (front : List Segment). front ++ run.segment ∷ run.back) (top_front sound some)) fresh.apart).0 in
       elim apart [ inl before ↦ inl (omega (arith, before, is.base, is.size)) | inr behind ↦ inr (omega (arith, behind, is.base)) ]
 
 -- a record rests on its own words
-pub record_kept : (old new : ℕ → ℕ) (at : ℕ) (told : SegmentRecord) (end : ℕ) (behind : Bool) → at % 8 ≡ 0 → at + 80 ≤ end → ((k : ℕ) → at < k → k < end → k % 8 ≡ 0 → new k ≡ old k) → IsRecordAt old at told end behind → IsRecordAt new at told end behind
-record_kept old new at told end behind whole room same h = record {
+pub record_kept : {old : ℕ → ℕ} (new : ℕ → ℕ) {at : ℕ} {told : SegmentRecord} {end : ℕ} {behind : Bool} → at % 8 ≡ 0 → at + 80 ≤ end → ((k : ℕ) → at < k → k < end → k % 8 ≡ 0 → new k ≡ old k) → IsRecordAt old at told end behind → IsRecordAt new at told end behind
+record_kept new {at} whole room same h = record {
   head = same (at + 8) (omega arith) (omega (arith, room)) (omega (arith, whole)) ∙ h.head;
   base = same (at + 16) (omega arith) (omega (arith, room)) (omega (arith, whole)) ∙ h.base;
   size = same (at + 16 + 8) (omega arith) (omega (arith, room)) (omega (arith, whole)) ∙ h.size;
@@ -83,16 +83,16 @@ record_kept old new at told end behind whole room same h = record {
   fences = λ k low high m. same k (omega (arith, low)) high m ∙ h.fences k low high m;
 }
 
-module _ {A : Type 0} (regions : A → List Grant) (word : A → ℕ → ℕ) (follows : A → List Event → A → Type 0) (heap : Dlmalloc A) (sound : IsSound regions word heap) (grant : Grant)
+module _ {A : Type 0} {regions : A → List Grant} {word : A → ℕ → ℕ} (follows : A → List Event → A → Type 0) {heap : Dlmalloc A} (sound : IsSound regions word heap) {grant : Grant}
     (fresh : IsFresh (regions heap.system) (segments_of word heap) grant) (some : 0 < heap.size)
     (beside : is_behind grant (record { base = heap.base; size = heap.size; flags = heap.flags; extents = [] }) ≡ false) (no_join : is_put_before grant (segments_of word heap) ≡ false)
-    (system : A) (same : regions system ≡ regions heap.system) (at : ℕ) (at_is : at ≡ (if nat_lt heap.top_size 32 then heap.top else heap.top + heap.top_size))
+    (system : A) (same : regions system ≡ regions heap.system) {at : ℕ} (at_is : at ≡ (if nat_lt heap.top_size 32 then heap.top else heap.top + heap.top_size))
     (head : word system (grant.base + 8) ≡ grant.base + grant.size - 80 - grant.base + 1) (foot : word system (grant.base + grant.size - 72) ≡ 80)
     (recorded : IsRecordAt (word system) at (record { base = heap.base; size = heap.size; next = heap.next; flags = heap.flags }) (heap.base + heap.size) (at == heap.top))
     (left_foot : 32 ≤ heap.top_size → word system (heap.top + heap.top_size) ≡ heap.top_size)
     (kept : (k : ℕ) → IsWordOf (regions heap.system) k → (k ≤ at) ⊎ (heap.base + heap.size ≤ k) → (k ≡ heap.top + heap.top_size → heap.top_size < 32) → k ≢ grant.base + 8 → k ≢ grant.base + grant.size - 72 → word system k ≡ word heap.system k) where
   sizes_are : (heap.top_size % 16 ≡ 0) × (16 ≤ heap.top_size)
-  sizes_are = top_sizes regions word heap sound some
+  sizes_are = top_sizes sound some
 
   where_is : ((heap.top_size == 16) ≡ (at == heap.top)) × (at ≡ place (at == heap.top) heap.top heap.top_size)
   where_is = record_place at heap.top heap.top_size at_is sizes_are.0 sizes_are.1
@@ -105,16 +105,16 @@ module _ {A : Type 0} (regions : A → List Grant) (word : A → ℕ → ℕ) (f
 
   pub joined_new : follows heap.system [] system → IsAdmitted regions word follows heap grant (new_head heap grant system at)
   joined_new followed = record {
-    state = added_state regions word heap (new_head heap grant system at) sound grant fresh same some beside no_join at (at == heap.top) where_is.0 where_is.1 refl refl refl refl refl refl refl refl refl refl refl refl head foot recorded foot_stands kept_all;
-    sound = added_sound regions word heap (new_head heap grant system at) sound grant fresh same some beside no_join at (at == heap.top) where_is.0 where_is.1 refl refl refl refl refl refl refl refl refl refl refl refl head foot recorded foot_stands kept_all;
+    state = added_state (new_head heap grant system at) sound fresh same some beside no_join where_is.0 where_is.1 refl refl refl refl refl refl refl refl refl refl refl refl head foot recorded foot_stands kept_all;
+    sound = added_sound (new_head heap grant system at) sound fresh same some beside no_join where_is.0 where_is.1 refl refl refl refl refl refl refl refl refl refl refl refl head foot recorded foot_stands kept_all;
     there = omega (arith, fresh.long);
     room = omega (arith, fresh.long);
     begins = inl refl;
     regions_same = same;
     followed = followed;
-    used = added_used regions word heap (new_head heap grant system at) sound grant fresh same some beside no_join at (at == heap.top) where_is.0 where_is.1 refl refl refl refl refl refl refl refl refl refl refl refl head foot recorded foot_stands kept_all;
-    words = added_words regions word heap (new_head heap grant system at) sound grant fresh same some beside no_join at (at == heap.top) where_is.0 where_is.1 refl refl refl refl refl refl refl refl refl refl refl refl head foot recorded foot_stands kept_all;
-    new_words = added_new regions word heap (new_head heap grant system at) sound grant fresh same some beside no_join at (at == heap.top) where_is.0 where_is.1 refl refl refl refl refl refl refl refl refl refl refl refl head foot recorded foot_stands kept_all;
+    used = added_used (new_head heap grant system at) sound fresh same some beside no_join where_is.0 where_is.1 refl refl refl refl refl refl refl refl refl refl refl refl head foot recorded foot_stands kept_all;
+    words = added_words (new_head heap grant system at) sound fresh same some beside no_join where_is.0 where_is.1 refl refl refl refl refl refl refl refl refl refl refl refl head foot recorded foot_stands kept_all;
+    new_words = added_new (new_head heap grant system at) sound fresh same some beside no_join where_is.0 where_is.1 refl refl refl refl refl refl refl refl refl refl refl refl head foot recorded foot_stands kept_all;
   }
 
   small_is : (b : Bool) → (at == heap.top) ≡ b → left_free b heap.top ≡ (if nat_le 32 heap.top_size then heap.top ∷ [] else [])
@@ -124,8 +124,8 @@ module _ {A : Type 0} (regions : A → List Grant) (word : A → ℕ → ℕ) (f
   -- what was the top is free, if it has more than 16 bytes
   pub new_free : FreeMoves (state_of word heap) (state_of word (new_head heap grant system at)) [] (if nat_le 32 heap.top_size then heap.top ∷ [] else [])
   new_free = subst (λ (come : List ℕ). FreeMoves (state_of word heap) (state_of word (new_head heap grant system at)) [] come) (small_is (at == heap.top) refl)
-      (added_free regions word heap (new_head heap grant system at) sound grant fresh same some beside no_join at (at == heap.top) where_is.0 where_is.1 refl refl refl refl refl refl refl refl refl refl refl refl head foot recorded foot_stands kept_all)
+      (added_free (new_head heap grant system at) sound fresh same some beside no_join where_is.0 where_is.1 refl refl refl refl refl refl refl refl refl refl refl refl head foot recorded foot_stands kept_all)
 
   pub new_rest : 32 ≤ heap.top_size → IsFreeAt (state_of word (new_head heap grant system at)) heap.top heap.top_size
-  new_rest many = added_rest regions word heap (new_head heap grant system at) sound grant fresh same some beside no_join at (at == heap.top) where_is.0 where_is.1 refl refl refl refl refl refl refl refl refl refl refl refl head foot recorded foot_stands kept_all
+  new_rest many = added_rest (new_head heap grant system at) sound fresh same some beside no_join where_is.0 where_is.1 refl refl refl refl refl refl refl refl refl refl refl refl head foot recorded foot_stands kept_all
       (sym (where_is.0) ∙ (let other : (heap.top_size == 16) ≡ false = nat_isnt (inr (omega arith)) in other))

@@ -19,7 +19,7 @@ same_in segment grant (region ∷ regions) some apart = split (nat_lt grant.base
     split true rest = not_in segment grant (region ∷ regions) some apart
     split false rest = ap (λ (others : List Grant). if nat_lt region.base (segment.base + segment.size) && nat_lt segment.base (region.base + region.size) then region ∷ others else others) rest
 
-module _ {A : Type 0} (regions : A → List Grant) (word : A → ℕ → ℕ) (heap : Dlmalloc A) (sound : IsSound regions word heap) (system : A) (asked : ℕ) (enough : 128 ≤ asked) (grant : Grant) (good : IsGoodGrant asked grant)
+module _ {A : Type 0} {regions : A → List Grant} {word : A → ℕ → ℕ} {heap : Dlmalloc A} (sound : IsSound regions word heap) (system : A) {asked : ℕ} (enough : 128 ≤ asked) {grant : Grant} (good : IsGoodGrant asked grant)
     (apart : AllByRecursion (IsApart grant.base (grant.base + grant.size)) (regions heap.system)) (with_it : regions system ≡ with_grant grant (regions heap.system))
     (words : (k : ℕ) → IsWordOf (regions heap.system) k → word system k ≡ word heap.system k) where
   long : 128 ≤ grant.size
@@ -31,7 +31,7 @@ module _ {A : Type 0} (regions : A → List Grant) (word : A → ℕ → ℕ) (h
       go : (segments : List Segment) → AreSegments (regions heap.system) (word heap.system) segments → AllByRecursion (λ (segment : Segment). IsApartFrom segment (opened grant)) segments
       go [] parts = tt
       go (segment ∷ segments) parts = (
-        elim (run_apart (regions heap.system) segment.base segment.size segment.flags parts.0.run (let some = parts.0.long in omega arith) grant (omega (arith, long)) apart) [ inl before ↦ inr before | inr behind ↦ inl behind ],
+        elim (run_apart parts.0.run (let some = parts.0.long in omega arith) grant (omega (arith, long)) apart) [ inl before ↦ inr before | inr behind ↦ inl behind ],
         go segments parts.1,
       )
 
@@ -44,13 +44,13 @@ module _ {A : Type 0} (regions : A → List Grant) (word : A → ℕ → ℕ) (h
 
   -- the heap is as it was
   pub granted_sound : IsSound regions word (record heap { system = system })
-  granted_sound = still_sound regions word heap sound system keeps (λ k inside there outside. words k inside)
+  granted_sound = still_sound sound system keeps (λ k inside there outside. words k inside)
 
   pub granted_same : state_of word (record heap { system = system }) ≡ state_of word heap
-  granted_same = still_state regions word heap sound system keeps (λ k inside there outside. words k inside)
+  granted_same = still_state sound system keeps (λ k inside there outside. words k inside)
 
   abbrev pub granted_binned : IndexStays → IsBinned regions word heap → IsBinned regions word (record heap { system = system })
-  granted_binned = still_binned regions word heap sound system keeps (λ k inside there outside. words k inside)
+  granted_binned = still_binned sound system keeps (λ k inside there outside. words k inside)
 
   -- and the grant can become part of it
   pub fresh_grant : IsFresh (regions system) (segments_of word (record heap { system = system })) grant

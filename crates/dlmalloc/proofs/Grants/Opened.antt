@@ -6,7 +6,7 @@ use Rattle.dlmalloc.proofs.Segments.Among.{apart_back}
 use Rattle.dlmalloc.proofs.Segments.ToldAnew.{KeepsIts, IsOutside, parts_stay, records_stay, apart_stay, retold, retold_sound}
 use Rattle.dlmalloc.proofs.Segments.HeadTop.{no_segments, top_stands, top_run, top_part, top_front, top_segment}
 
-module _ {A : Type 0} (regions : A → List Grant) (word : A → ℕ → ℕ) (heap new : Dlmalloc A) (sound : IsSound regions word heap) (grant : Grant)
+module _ {A : Type 0} {regions : A → List Grant} {word : A → ℕ → ℕ} {heap : Dlmalloc A} (new : Dlmalloc A) (sound : IsSound regions word heap) {grant : Grant}
     (fresh : IsFresh (regions heap.system) (segments_of word heap) grant) (same : regions new.system ≡ regions heap.system) where
   -- a word of the grant is granted
   pub grant_word : (k : ℕ) → grant.base ≤ k → k < grant.base + grant.size → k % 8 ≡ 0 → IsWordOf (regions heap.system) k
@@ -36,7 +36,7 @@ module _ {A : Type 0} (regions : A → List Grant) (word : A → ℕ → ℕ) (h
             let place : grant.base + bytes + 8 ≡ grant.base + grant.size - 72 = omega (arith, fits) in
             subst (λ (end : ℕ). Tiles (word new.system) Used grant.base (opened grant).extents end) fits
             (subst (λ (at : ℕ). Tiles (word new.system) Used grant.base (extent grant.base bytes Top ∷ extent at 80 Foot ∷ []) (grant.base + bytes + 80)) (omega (arith, fits))
-            (top_stands (word new.system) Used grant.base bytes refl fresh.base_aligned (omega (arith, fits, fresh.base_aligned, fresh.size_aligned)) (omega (arith, fits, fresh.long)) head (ap (word new.system) place ∙ foot)))
+            (top_stands (word new.system) {before = Used} grant.base bytes refl fresh.base_aligned (omega (arith, fits, fresh.base_aligned, fresh.size_aligned)) (omega (arith, fits, fresh.long)) head (ap (word new.system) place ∙ foot)))
 
     -- ---- the first grant
 
@@ -107,16 +107,16 @@ module _ {A : Type 0} (regions : A → List Grant) (word : A → ℕ → ℕ) (h
 
   module _ (some : 0 < heap.size) where
     abbrev pub run : IsRunOf (word heap.system) (segments_of word heap) heap.top (heap.top + heap.top_size) (extent heap.top heap.top_size Top ∷ [])
-    run = top_run regions word heap sound some
+    run = top_run sound some
 
     pub part : IsSegment (regions heap.system) (word heap.system) run.segment
-    part = top_part regions word heap sound some
+    part = top_part sound some
 
     pub was_head : IsHead heap run.segment
-    was_head = top_segment regions word heap sound some
+    was_head = top_segment sound some
 
     pub segments_are : segments_of word heap ≡ run.segment ∷ run.back
-    segments_are = run.is ∙ ap (λ (front : List Segment). front ++ run.segment ∷ run.back) (top_front regions word heap sound some)
+    segments_are = run.is ∙ ap (λ (front : List Segment). front ++ run.segment ∷ run.back) (top_front sound some)
 
     pub back_parts : AreSegments (regions heap.system) (word heap.system) run.back
     back_parts = (subst (AreSegments (regions heap.system) (word heap.system)) segments_are sound.segments).1

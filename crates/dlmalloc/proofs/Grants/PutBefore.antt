@@ -16,11 +16,11 @@ pub flip : (one : Segment) (others : List Segment) → AllByRecursion (λ (other
 flip one [] all = tt
 flip one (other ∷ others) all = (apart_back other one all.0, flip one others all.1)
 
-pub parts_around : (regions : List Grant) (words : ℕ → ℕ) (now : Segment) (front back : List Segment) → AreSegments regions words front → IsSegment regions words now → AreSegments regions words back → AreSegments regions words (front ++ now ∷ back)
-parts_around regions words now [] back first one last = (one, last)
-parts_around regions words now (other ∷ front) back first one last = (first.0, parts_around regions words now front back first.1 one last)
+pub parts_around : {regions : List Grant} {words : ℕ → ℕ} {now : Segment} (front back : List Segment) → AreSegments regions words front → IsSegment regions words now → AreSegments regions words back → AreSegments regions words (front ++ now ∷ back)
+parts_around [] back first one last = (one, last)
+parts_around (other ∷ front) back first one last = (first.0, parts_around front back first.1 one last)
 
-module _ {A : Type 0} (regions : A → List Grant) (word : A → ℕ → ℕ) (heap new : Dlmalloc A) (sound : IsSound regions word heap) (grant : Grant)
+module _ {A : Type 0} {regions : A → List Grant} {word : A → ℕ → ℕ} {heap : Dlmalloc A} (new : Dlmalloc A) (sound : IsSound regions word heap) {grant : Grant}
     (fresh : IsFresh (regions heap.system) (segments_of word heap) grant) (same : regions new.system ≡ regions heap.system)
     (n : ℕ) (multiple : n % 16 ≡ 0) (least : 32 ≤ n) (room : n + 96 ≤ grant.size)
     (front : List Segment) (segment : Segment) (back : List Segment) (is : segments_of word heap ≡ front ++ segment ∷ back) (joins : is_before grant segment ≡ true)
@@ -111,7 +111,7 @@ module _ {A : Type 0} (regions : A → List Grant) (word : A → ℕ → ℕ) (h
     is_now : IsSegment (regions new.system) (word new.system) now
     is_now = record {
       run = subst (λ (rs : List Grant). IsRun rs grant.base (grant.size + segment.size) segment.flags) (sym same)
-          (runs_joined (regions heap.system) grant.base grant.size segment.base segment.size segment.flags place
+          (runs_joined place
           (subst (λ (f : ℕ). IsRun (regions heap.system) grant.base grant.size f) (before_means grant segment joins).1 fresh.run) the_part.run whole);
       low = fresh.low;
       high = omega (arith, the_part.high, place);
@@ -121,7 +121,7 @@ module _ {A : Type 0} (regions : A → List Grant) (word : A → ℕ → ℕ) (h
     }
 
     parts_now : AreSegments (regions new.system) (word new.system) (front ++ now ∷ back)
-    parts_now = parts_around (regions new.system) (word new.system) now front back
+    parts_now = parts_around front back
         (subst (λ (rs : List Grant). AreSegments rs (word new.system) front) (sym same) (parts_stay (regions heap.system) (word heap.system) (word new.system) front front_parts front_keeps))
         is_now
         (subst (λ (rs : List Grant). AreSegments rs (word new.system) back) (sym same) (parts_stay (regions heap.system) (word heap.system) (word new.system) back back_parts back_keeps))
@@ -159,32 +159,32 @@ module _ {A : Type 0} (regions : A → List Grant) (word : A → ℕ → ℕ) (h
     all_apart : AreDistinct (extents_all (front ++ now ∷ back))
     all_apart = distinct regions word new (front ++ now ∷ back) parts_now apart_now told
 
-    pub in_now : (k : ℕ) (one : Extent) → extent_at k (extents_all (front ++ now ∷ back)) ≡ Some one → extent_at k (extents_in (state_of word new)) ≡ Some one
-    in_now k one there = ap (extent_at k) (all_retold regions word new (front ++ now ∷ back) parts_now apart_now told) ∙ there
+    pub in_now : (k : ℕ) {one : Extent} → extent_at k (extents_all (front ++ now ∷ back)) ≡ Some one → extent_at k (extents_in (state_of word new)) ≡ Some one
+    in_now k there = ap (extent_at k) (all_retold regions word new (front ++ now ∷ back) parts_now apart_now told) ∙ there
 
     -- what is found in the segment is found among all
-    pub among_new : (k : ℕ) (one : Extent) → extent_at k now.extents ≡ Some one → extent_at k (extents_all (front ++ now ∷ back)) ≡ Some one
-    among_new k one there = ap (extent_at k) (all_among front now back) ∙ distinct_later (extents_all front) (now.extents ++ extents_all back) k one (subst AreDistinct (all_among front now back) all_apart) (found_more k now.extents (extents_all back) one there)
+    pub among_new : (k : ℕ) {one : Extent} → extent_at k now.extents ≡ Some one → extent_at k (extents_all (front ++ now ∷ back)) ≡ Some one
+    among_new k there = ap (extent_at k) (all_among front now back) ∙ distinct_later (extents_all front) (now.extents ++ extents_all back) k (subst AreDistinct (all_among front now back) all_apart) (found_more k now.extents (extents_all back) there)
 
-    found_now : (k : ℕ) (one : Extent) → extent_at k (extents_in (state_of word heap)) ≡ Some one → extent_at k (extents_all (front ++ now ∷ back)) ≡ Some one
-    found_now k one there = replaced_found (extents_all (front ++ now ∷ back)) k one (extents_all front) [] two after all_new all_apart (λ found. absurd (cc)) (ap (extent_at k) (sym all_old) ∙ there)
+    found_now : (k : ℕ) {one : Extent} → extent_at k (extents_in (state_of word heap)) ≡ Some one → extent_at k (extents_all (front ++ now ∷ back)) ≡ Some one
+    found_now k there = replaced_found k (extents_all front) [] two after all_new all_apart (λ found. absurd (cc)) (ap (extent_at k) (sym all_old) ∙ there)
 
     -- one of the two is found
-    of_two : (k : ℕ) (one : Extent) → extent_at k (two ++ after) ≡ Some one → extent_at k (extents_all (front ++ now ∷ back)) ≡ Some one
-    of_two k one there = ap (extent_at k) all_new ∙ distinct_later (extents_all front) (two ++ after) k one (subst AreDistinct all_new all_apart) there
+    of_two : (k : ℕ) {one : Extent} → extent_at k (two ++ after) ≡ Some one → extent_at k (extents_all (front ++ now ∷ back)) ≡ Some one
+    of_two k there = ap (extent_at k) all_new ∙ distinct_later (extents_all front) (two ++ after) k (subst AreDistinct all_new all_apart) there
 
     chunk_there : extent_at grant.base (extents_all (front ++ now ∷ back)) ≡ Some (extent grant.base n Used)
-    chunk_there = of_two grant.base (extent grant.base n Used) (found_here (extent grant.base n Used) (extent (grant.base + n) (grant.size - n) Used ∷ after))
+    chunk_there = of_two grant.base (found_here (extent grant.base n Used) (extent (grant.base + n) (grant.size - n) Used ∷ after))
 
     rest_there : extent_at (grant.base + n) (extents_all (front ++ now ∷ back)) ≡ Some (extent (grant.base + n) (grant.size - n) Used)
     rest_there =
         let other : (grant.base == grant.base + n) ≡ false = nat_isnt (inl (omega (arith, least))) in
         let here = nat_same (grant.base + n) in
-        of_two (grant.base + n) (extent (grant.base + n) (grant.size - n) Used) (rw (other, here) refl)
+        of_two (grant.base + n) {one = (extent (grant.base + n) (grant.size - n) Used)} (rw (other, here) refl)
 
     found_before : (k : ℕ) (one : Extent) → k ≢ grant.base → k ≢ grant.base + n → extent_at k (extents_all (front ++ now ∷ back)) ≡ Some one → extent_at k (extents_in (state_of word heap)) ≡ Some one
     found_before k one not_chunk not_rest there =
-        replaced_found (extents_in (state_of word heap)) k one (extents_all front) two [] after all_old (all_distinct (regions heap.system) (word heap.system) (segments_of word heap) sound.segments sound.apart)
+        replaced_found k (extents_all front) two [] after all_old (all_distinct (regions heap.system) (word heap.system) (segments_of word heap) sound.segments sound.apart)
         (λ found. absurd (none (grant.base == k) refl (grant.base + n == k) refl found)) (ap (extent_at k) (sym all_new) ∙ there)
       where
         none : (a : Bool) → (grant.base == k) ≡ a → (b : Bool) → (grant.base + n == k) ≡ b → (if a then Some (extent grant.base n Used) else if b then Some (extent (grant.base + n) (grant.size - n) Used) else None) ≡ Some one → ⊥
@@ -193,8 +193,8 @@ module _ {A : Type 0} (regions : A → List Grant) (word : A → ℕ → ℕ) (h
         none false isnt false other found = cc
 
     -- nothing was found in the grant
-    none_in_grant : (k : ℕ) (one : Extent) → grant.base ≤ k → k < grant.base + grant.size → extent_at k (extents_in (state_of word heap)) ≡ Some one → ⊥
-    none_in_grant k one low high there =
+    none_in_grant : (k : ℕ) {one : Extent} → grant.base ≤ k → k < grant.base + grant.size → extent_at k (extents_in (state_of word heap)) ≡ Some one → ⊥
+    none_in_grant k low high there =
         let none = none_there (regions heap.system) (word heap.system) (opened grant) (segments_of word heap) sound.segments (flip (opened grant) (segments_of word heap) fresh.apart) k low high in
         cc
 
@@ -227,17 +227,17 @@ module _ {A : Type 0} (regions : A → List Grant) (word : A → ℕ → ℕ) (h
         state = λ i. record { segments = (retold regions word new (front ++ now ∷ back) parts_now apart_now told ∙ sym joined_are) i; victim = victim i; granularity = granularity i; rate = rate i; countdown = countdown i; trim_check = trim_check i };
         sound = retold_sound regions word new (front ++ now ∷ back) parts_now apart_now told (subst IsGranularity (sym granularity) sound.granularity) size_some
             (λ none. victim ∙ sound.no_victim (sym victim_size ∙ none))
-            (λ there. (λ i. extent_at (victim i) (extents_all (front ++ now ∷ back))) ∙ (found_now heap.victim (extent heap.victim heap.victim_size Free) (sound.victim (λ none. there (victim_size ∙ none)))
+            (λ there. (λ i. extent_at (victim i) (extents_all (front ++ now ∷ back))) ∙ (found_now heap.victim (sound.victim (λ none. there (victim_size ∙ none)))
             ∙ (λ i. Some (extent ((sym victim) i) ((sym victim_size) i) Free))));
         regions_same = same;
         followed = followed;
-        chunk = in_now grant.base (extent grant.base n Used) chunk_there;
-        rest = in_now (grant.base + n) (extent (grant.base + n) (grant.size - n) Used) rest_there;
-        still = λ one there. in_now one.at one (found_now one.at one there);
+        chunk = in_now grant.base chunk_there;
+        rest = in_now (grant.base + n) rest_there;
+        still = λ one there. in_now one.at (found_now one.at there);
         before = λ one not_chunk not_rest there. found_before one.at one not_chunk not_rest (ap (extent_at one.at) (sym (all_retold regions word new (front ++ now ∷ back) parts_now apart_now told)) ∙ there);
         apart = λ one there. (
-          (λ at. none_in_grant one.at one (omega (arith, at)) (omega (arith, at, room)) there),
-          (λ at. none_in_grant one.at one (omega (arith, at)) (omega (arith, at, room)) there),
+          (λ at. none_in_grant one.at (omega (arith, at)) (omega (arith, at, room)) there),
+          (λ at. none_in_grant one.at (omega (arith, at)) (omega (arith, at, room)) there),
         );
         words = λ k inside out tag. kept k inside
             (λ at. elim out [ inl below ↦ omega (arith, at, below) | inr above ↦ omega (arith, at, above, room) ])

@@ -18,8 +18,8 @@ pub record PassedBehind {A : Type 0} (word : A → ℕ → ℕ) (heap : Dlmalloc
   pub reached : payload ≡ payload_behind (word heap.system) heap.next passed
   pub none : list_any (is_before grant) (head ∷ passed) ≡ false
 
-abbrev pub as_passed : {A : Type 0} (word : A → ℕ → ℕ) (heap : Dlmalloc A) (grant : Grant) (payload : ℕ) → PassedBehind word heap grant payload → PassedSegments word heap payload (λ (ss : List Segment). ⊤)
-as_passed word heap grant payload p = record { passed = p.head ∷ p.passed; rest = p.rest; is = p.is; some = omega arith; told = p.told; so_far = tt }
+abbrev pub as_passed : {A : Type 0} {word : A → ℕ → ℕ} {heap : Dlmalloc A} {grant : Grant} {payload : ℕ} → PassedBehind word heap grant payload → PassedSegments word heap payload (λ (ss : List Segment). ⊤)
+as_passed p = record { passed = p.head ∷ p.passed; rest = p.rest; is = p.is; some = omega arith; told = p.told; so_far = tt }
 
 -- the payload behind one more
 pub behind_more : (words : ℕ → ℕ) (payload : ℕ) (front : List Segment) (segment : Segment) → payload_behind words payload (front ++ segment ∷ []) ≡ words (payload_behind words payload front + 16)
@@ -29,7 +29,7 @@ behind_more words payload (first ∷ front) segment = behind_more words (words (
 any_more : (grant : Grant) (front : List Segment) (segment : Segment) → list_any (is_before grant) front ≡ false → is_before grant segment ≡ false → list_any (is_before grant) (front ++ segment ∷ []) ≡ false
 any_more grant front segment none other = list_any-append (is_before grant) front (segment ∷ []) ∙ (let a = none in let b = other in rw (a, b) refl)
 
-module _ {A : Type 0} (regions : A → List Grant) (word : A → ℕ → ℕ) (heap : Dlmalloc A) (sound : IsSound regions word heap) (some : 0 < heap.size) (grant : Grant) where
+module _ {A : Type 0} {regions : A → List Grant} {word : A → ℕ → ℕ} {heap : Dlmalloc A} (sound : IsSound regions word heap) (some : 0 < heap.size) (grant : Grant) where
   -- what the fields tell of the head segment
   record HeadTold : Type 0 where
     pub segment : Segment
@@ -80,24 +80,24 @@ module _ {A : Type 0} (regions : A → List Grant) (word : A → ℕ → ℕ) (h
     none = (let other = head_told.same ∙ test in rw other refl);
   }
 
-  module _ (payload : ℕ) (p : PassedBehind word heap grant payload) (more : payload ≢ 0) where
+  module _ {payload : ℕ} (p : PassedBehind word heap grant payload) (more : payload ≢ 0) where
     abbrev segment : Segment
-    segment = (ahead_segment regions word heap sound payload (λ (ss : List Segment). ⊤) (as_passed word heap grant payload p) more).segment
+    segment = (ahead_segment sound (as_passed p) more).segment
 
     abbrev others : List Segment
-    others = (ahead_segment regions word heap sound payload (λ (ss : List Segment). ⊤) (as_passed word heap grant payload p) more).others
+    others = (ahead_segment sound (as_passed p) more).others
 
     rest_is : p.rest ≡ segment ∷ others
-    rest_is = (ahead_segment regions word heap sound payload (λ (ss : List Segment). ⊤) (as_passed word heap grant payload p) more).is
+    rest_is = (ahead_segment sound (as_passed p) more).is
 
     told_rest : AreRecords (word heap.system) payload (segment ∷ others)
     told_rest = subst (AreRecords (word heap.system) payload) rest_is p.told
 
     part : IsSegment (regions heap.system) (word heap.system) segment
-    part = (ahead_segment regions word heap sound payload (λ (ss : List Segment). ⊤) (as_passed word heap grant payload p) more).part
+    part = (ahead_segment sound (as_passed p) more).part
 
     at_in : IsIn (word heap.system) segment.base (segment.base + segment.size) (record_of (payload - 16) (segment.base + segment.size))
-    at_in = in_part (word heap.system) Used segment.base segment.extents (segment.base + segment.size) (record_of (payload - 16) (segment.base + segment.size)) part.extents told_rest.4
+    at_in = in_part (word heap.system) Used segment.base segment.extents (segment.base + segment.size) part.extents told_rest.4
 
     long : 80 ≤ segment.base + segment.size - (payload - 16)
     long = elim (at_in.stands.size) [ inl short ↦ omega arith | inr longer ↦ omega arith ]
@@ -113,8 +113,8 @@ module _ {A : Type 0} (regions : A → List Grant) (word : A → ℕ → ℕ) (h
     told_high = omega (arith, long, told_rest.0, part.high)
 
     -- the test on its words is that on the segment
-    test_is : (b : Bool) → (word heap.system payload == grant.base + grant.size && (grant.flags % 2 == 0 && grant.flags == word heap.system (payload + 24))) ≡ b → is_before grant segment ≡ b
-    test_is b test = (λ i. (sym told_rest.1) i == grant.base + grant.size && (grant.flags % 2 == 0 && grant.flags == (sym told_rest.3) i)) ∙ test
+    test_is : {b : Bool} → (word heap.system payload == grant.base + grant.size && (grant.flags % 2 == 0 && grant.flags == word heap.system (payload + 24))) ≡ b → is_before grant segment ≡ b
+    test_is test = (λ i. (sym told_rest.1) i == grant.base + grant.size && (grant.flags % 2 == 0 && grant.flags == (sym told_rest.3) i)) ∙ test
 
     pub found_behind : (word heap.system payload == grant.base + grant.size && (grant.flags % 2 == 0 && grant.flags == word heap.system (payload + 24))) ≡ true → IsToldBehind word heap grant payload
     found_behind test = record {
@@ -123,7 +123,7 @@ module _ {A : Type 0} (regions : A → List Grant) (word : A → ℕ → ℕ) (h
       segment = segment;
       back = others;
       is = p.is ∙ ap (λ (ss : List Segment). p.head ∷ (p.passed ++ ss)) rest_is;
-      joins = test_is true test;
+      joins = test_is test;
       reached = p.reached;
       told = told_rest;
     }
@@ -136,12 +136,12 @@ module _ {A : Type 0} (regions : A → List Grant) (word : A → ℕ → ℕ) (h
       is = p.is ∙ (ap (λ (ss : List Segment). p.head ∷ (p.passed ++ ss)) rest_is ∙ ap (λ (ss : List Segment). p.head ∷ ss) (sym (append_assoc p.passed (segment ∷ []) others)));
       told = told_rest.5;
       reached = ap (λ (k : ℕ). word heap.system (k + 16)) p.reached ∙ sym (behind_more (word heap.system) heap.next p.passed segment);
-      none = any_more grant (p.head ∷ p.passed) segment p.none (test_is false test);
+      none = any_more grant (p.head ∷ p.passed) segment p.none (test_is test);
     }
 
   -- where no record is left, the grant is before no segment
-  pub none_behind : (payload : ℕ) → PassedBehind word heap grant payload → payload ≡ 0 → list_any (is_before grant) (segments_of word heap) ≡ false
-  none_behind payload p empty = ap (list_any (is_before grant)) (p.is ∙ (ap (λ (ss : List Segment). p.head ∷ (p.passed ++ ss)) (nothing p.rest p.told))) ∙ (list_any-append (is_before grant) (p.head ∷ p.passed) [] ∙ (let none = p.none in rw none refl))
+  pub none_behind : {payload : ℕ} → PassedBehind word heap grant payload → payload ≡ 0 → list_any (is_before grant) (segments_of word heap) ≡ false
+  none_behind {payload} p empty = ap (list_any (is_before grant)) (p.is ∙ (ap (λ (ss : List Segment). p.head ∷ (p.passed ++ ss)) (nothing p.rest p.told))) ∙ (list_any-append (is_before grant) (p.head ∷ p.passed) [] ∙ (let none = p.none in rw none refl))
     where
       nothing : (rest : List Segment) → AreRecords (word heap.system) payload rest → rest ≡ []
       nothing [] h = refl
@@ -150,19 +150,19 @@ module _ {A : Type 0} (regions : A → List Grant) (word : A → ℕ → ℕ) (h
 -- ---- records that tell segments as before, and others behind them
 
 module _ (regions : List Grant) (old new : ℕ → ℕ) (rest now : List Segment) where
-  pub told_around : (front : List Segment) (payload start : ℕ) → payload ≡ payload_behind old start front → AreSegments regions old front → AllByRecursion (KeepsIts old new) front → AreRecords old start (front ++ rest) → AreRecords new payload now → AreRecords new start (front ++ now)
-  told_around [] payload start reached parts same h here = subst (λ (p : ℕ). AreRecords new p now) reached here
-  told_around (other ∷ front) payload start reached parts same h here = (
+  pub told_around : (front : List Segment) {payload : ℕ} (start : ℕ) → payload ≡ payload_behind old start front → AreSegments regions old front → AllByRecursion (KeepsIts old new) front → AreRecords old start (front ++ rest) → AreRecords new payload now → AreRecords new start (front ++ now)
+  told_around [] start reached parts same h here = subst (λ (p : ℕ). AreRecords new p now) reached here
+  told_around (other ∷ front) start reached parts same h here = (
     h.0,
     at start (omega arith) (omega arith) whole ∙ h.1,
     at (start + 8) (omega arith) (omega arith) (omega (arith, whole)) ∙ h.2,
     at (start + 24) (omega arith) (omega arith) (omega (arith, whole)) ∙ h.3,
     h.4,
-    subst (λ (p : ℕ). AreRecords new p (front ++ now)) (sym (at (start + 16) (omega arith) (omega arith) (omega (arith, whole)))) (told_around front payload (old (start + 16)) reached parts.1 same.1 h.5 here),
+    subst (λ (p : ℕ). AreRecords new p (front ++ now)) (sym (at (start + 16) (omega arith) (omega arith) (omega (arith, whole)))) (told_around front (old (start + 16)) reached parts.1 same.1 h.5 here),
   )
     where
       r : IsIn old other.base (other.base + other.size) (record_of (start - 16) (other.base + other.size))
-      r = in_part old Used other.base other.extents (other.base + other.size) (record_of (start - 16) (other.base + other.size)) parts.0.extents h.4
+      r = in_part old Used other.base other.extents (other.base + other.size) parts.0.extents h.4
 
       some : 16 < start
       some = h.0

@@ -12,7 +12,7 @@ use Rattle.dlmalloc.proofs.Blocks.HandedOut.{spans_aligned, spans_new}
 use Rattle.dlmalloc.proofs.Segments.Head.{HasSameFirst, first_spans, first_granted, first_told, first_end, top_place, head_granted, beside_top}
 
 -- the chunk of a block
-module _ {A : Type 0} (regions : A → List Grant) (word : A → ℕ → ℕ) (heap : Dlmalloc A) (sound : IsSound regions word heap) (address size : ℕ) (block : IsBlock (state_of word heap) address size) where
+module _ {A : Type 0} {regions : A → List Grant} {word : A → ℕ → ℕ} {heap : Dlmalloc A} (sound : IsSound regions word heap) {address size : ℕ} (block : IsBlock (state_of word heap) address size) where
   chunk_place : block.extent.at ≡ address - 16
   chunk_place = (found (address - 16) block.extent (extents_in (state_of word heap)) block.there).place
 
@@ -22,61 +22,61 @@ module _ {A : Type 0} (regions : A → List Grant) (word : A → ℕ → ℕ) (h
   chunk_inside : IsInside (regions heap.system) block.extent
   chunk_inside = used_inside regions word heap sound block.extent block.used chunk_there
 
-module _ {A : Type 0} (regions : A → List Grant) (word : A → ℕ → ℕ) (zeros : A → Bool) (follows : A → List Event → A → Type 0) (frees parts : Bool) (unit : ℕ)
-    (old new : Dlmalloc A) (from held align size address n : ℕ) (sound : IsSound regions word old) (power : IsPowerOfTwo align) (block : IsBlock (state_of word old) from n)
+module _ {A : Type 0} {regions : A → List Grant} {word : A → ℕ → ℕ} {zeros : A → Bool} {follows : A → List Event → A → Type 0} {frees parts : Bool} {unit : ℕ}
+    {old new : Dlmalloc A} {from held align size address n : ℕ} (sound : IsSound regions word old) (power : IsPowerOfTwo align) (block : IsBlock (state_of word old) from n)
     (out : IsElsewhere regions word zeros follows frees parts unit old from held align size address new) where
   abbrev chunk : Extent
   chunk = out.block.extent
 
   place : chunk.at ≡ address - 16
-  place = chunk_place regions word new out.freed.sound address size out.block
+  place = chunk_place out.freed.sound out.block
 
   there : extent_at chunk.at (extents_in (state_of word new)) ≡ Some chunk
-  there = chunk_there regions word new out.freed.sound address size out.block
+  there = chunk_there out.freed.sound out.block
 
   inside : IsInside (regions new.system) chunk
-  inside = chunk_inside regions word new out.freed.sound address size out.block
+  inside = chunk_inside out.freed.sound out.block
 
   from_place : block.extent.at ≡ from - 16
-  from_place = chunk_place regions word old sound from n block
+  from_place = chunk_place sound block
 
   from_there : extent_at block.extent.at (extents_in (state_of word old)) ≡ Some block.extent
-  from_there = chunk_there regions word old sound from n block
+  from_there = chunk_there sound block
 
   from_inside : IsInside (regions old.system) block.extent
-  from_inside = chunk_inside regions word old sound from n block
+  from_inside = chunk_inside sound block
 
   some : 0 < old.size
-  some = some_segment word old block.extent.at block.extent from_there
+  some = some_segment word old block.extent.at from_there
 
   -- a region was granted for a chunk, in which the new block's begins
-  module _ (bytes at : ℕ) (grant : Grant) (heap : HeapState) (taken : IsTakenFromGrant (state_of word old) bytes at grant heap) (fresh : AllByRecursion (IsApart grant.base (grant.base + grant.size)) (regions old.system))
+  module _ {bytes at : ℕ} {grant : Grant} {heap : HeapState} (taken : IsTakenFromGrant (state_of word old) bytes at grant heap) (fresh : AllByRecursion (IsApart grant.base (grant.base + grant.size)) (regions old.system))
       (stays : spans (state_of word out.filled) ≡ spans heap) (low : at ≤ chunk.at) (high : chunk.at < at + bytes) where
     -- behind the head segment
     module _ (behind : IsBehindTop (state_of word old) grant at) where
       end : grant.base ≡ old.base + old.size
-      end = first_end regions word old sound grant behind.0
+      end = first_end sound grant behind.0
 
       at_top : at ≡ old.top
-      at_top = top_place regions word old sound at behind.1.0 behind.1.1
+      at_top = top_place sound at behind.1.1
 
       top_ends : old.top + old.top_size + 80 ≡ old.base + old.size
-      top_ends = ends regions word old sound some
+      top_ends = ends sound some
 
       first : HasSameFirst (segments_of word out.filled) (granted grant bytes (state_of word old)).segments
-      first = first_spans (state_of word out.filled) (granted grant bytes (state_of word old)) (stays ∙ spans_new regions word zeros follows old new size align address bytes at grant heap taken)
+      first = first_spans (state_of word out.filled) (granted grant bytes (state_of word old)) (stays ∙ spans_new regions word zeros follows old new size align address taken)
 
       longer : (out.filled.base ≡ old.base) × (out.filled.size ≡ old.size + grant.size)
       longer =
-          let told = first_told regions word old sound in
-          let told_then = first_told regions word out.filled out.same.sound in
+          let told = first_told sound in
+          let told_then = first_told out.same.sound in
           let more = first_granted grant bytes (state_of word old) behind.0 in
           let bytes_then : out.filled.size ≡ old.size + grant.size = told_then.0 ∙ (first.1 ∙ (more.1 ∙ ap (λ (n : ℕ). n + grant.size) (sym told.0))) in
           (told_then.1 (omega (arith, bytes_then, some)) ∙ (first.0 ∙ (more.0 ∙ sym (told.1 some))), bytes_then)
 
       -- a block that was the last of the longer head segment would have been in the region
       not_last : chunk.at + chunk.size ≤ from - 16 → from - 16 < grant.base + grant.size → ⊥
-      not_last before within = elim (beside_top regions word old sound some block.extent block.used from_there) [
+      not_last before within = elim (beside_top sound some block.used from_there) [
         | inl sooner ↦ omega (arith, before, sooner, from_place, at_top, low, from_inside.long)
         | inr beyond ↦ none_granted grant.base (grant.base + grant.size) (regions old.system) fresh (from - 16) (omega (arith, beyond, end, from_place)) within
             (from_inside.granted (from - 16) (omega (arith, from_place)) (omega (arith, from_place, from_inside.long)))
@@ -89,7 +89,7 @@ module _ {A : Type 0} (regions : A → List Grant) (word : A → ℕ → ℕ) (z
             grant.base,
             omega arith,
             omega (arith, taken.room),
-            head_granted regions word new out.freed.sound (omega (arith, whole.1, longer.1, some)) grant.base (omega (arith, end, whole.0, longer.0)) (omega (arith, end, whole.0, whole.1, longer.0, longer.1, taken.room)),
+            head_granted out.freed.sound (omega (arith, whole.1, longer.1, some)) grant.base (omega (arith, end, whole.0, longer.0)) (omega (arith, end, whole.0, whole.1, longer.0, longer.1, taken.room)),
           )
           | inr last ↦ absurd (elim (last.behind chunk out.block.used there) [
             | inl before ↦ not_last before (omega (arith, last.within, longer.0, longer.1, end))
@@ -108,10 +108,10 @@ module _ {A : Type 0} (regions : A → List Grant) (word : A → ℕ → ℕ) (z
   -- whichever way the chunk was cut
   still_cut : (middle : Dlmalloc A) (bytes at : ℕ) → IsObtained follows regions old.system (state_of word old) bytes at middle.system (state_of word middle) → spans (state_of word out.filled) ≡ spans (state_of word middle) → regions out.filled.system ≡ regions middle.system →
       at ≤ chunk.at → chunk.at < at + bytes → (grant : Grant) → regions out.filled.system ≡ with_grant grant (regions old.system) → HasByteOf grant (regions new.system)
-  still_cut middle bytes at (inl here) stays same low high grant with_it = absurd (with_other grant (regions old.system) (sym with_it ∙ (same ∙ here.2)))
+  still_cut middle bytes at (inl here) stays same low high grant with_it = absurd (with_other grant (sym with_it ∙ (same ∙ here.2)))
   still_cut middle bytes at (inr cut) stays same low high grant with_it =
       subst (λ (g : Grant). HasByteOf g (regions new.system)) (one_more cut.0 grant (regions old.system) (sym (same ∙ cut.3) ∙ with_it))
-      (still_new bytes at cut.0 (state_of word middle) cut.1 cut.4 stays low high)
+      (still_new cut.1 cut.4 stays low high)
 
   still_low : IsServed regions word zeros follows old size address out.middle → (grant : Grant) → regions out.filled.system ≡ with_grant grant (regions old.system) → HasByteOf grant (regions new.system)
   still_low served = still_cut out.middle (padded size) (address - 16) served.cut (ap spans out.same.state) out.same.regions_same (omega (arith, place)) (omega (arith, place, padded_holds size))
@@ -119,7 +119,7 @@ module _ {A : Type 0} (regions : A → List Grant) (word : A → ℕ → ℕ) (z
   still_high : 16 < align → IsServedAligned regions word zeros follows old size align address out.middle → (grant : Grant) → regions out.filled.system ≡ with_grant grant (regions old.system) → HasByteOf grant (regions new.system)
   still_high large served =
       let p = is_place (served.greater - 16) align power large (omega (arith, served.served.aligned, served.served.low)) in
-      let more = enlarged_is size align (padded size) refl in
+      let more = enlarged_is size align {n = (padded size)} refl in
       still_cut served.middle (padded (enlarged size align)) (served.greater - 16) served.served.cut
       (ap spans out.same.state ∙ (ap spans served.state ∙ spans_aligned (state_of word served.middle) (served.greater - 16) align (padded size)))
       (out.same.regions_same ∙ served.regions_same)

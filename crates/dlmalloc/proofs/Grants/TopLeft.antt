@@ -6,8 +6,8 @@ use Rattle.dlmalloc.proofs.Moves.OfFreeExtents.{IsThere}
 use Rattle.dlmalloc.proofs.Extents.Lookup.{extent, nat_same, nat_isnt, found_here, found_either}
 
 -- an extent that is found among two is one of them
-pub of_two : (k : ℕ) (one two it : Extent) → extent_at k (one ∷ two ∷ []) ≡ Some it → (one ≡ it) ⊎ (two ≡ it)
-of_two k one two it there = go (one.at == k) (two.at == k) there
+pub of_two : (k : ℕ) (one two : Extent) {it : Extent} → extent_at k (one ∷ two ∷ []) ≡ Some it → (one ≡ it) ⊎ (two ≡ it)
+of_two k one two {it} there = go (one.at == k) (two.at == k) there
   where
     go : (a b : Bool) → (if a then Some one else if b then Some two else None) ≡ Some it → (one ≡ it) ⊎ (two ≡ it)
     go true b found = inl (ap (λ (o : Option Extent). unwrap_or o one) found)
@@ -32,10 +32,10 @@ abbrev pub left_free : Bool → ℕ → List ℕ
 left_free small top = if small then [] else top ∷ []
 
 pub in_left : (small : Bool) (top size k bytes : ℕ) → extent_at k (left small top size) ≡ Some (extent k bytes Free) → IsIn k (left_free small top)
-in_left true top size k bytes found = (let no : Record ≡ Free = ap (λ (e : Extent). e.kind) (the_one k (extent top 96 Record) (extent k bytes Free) found) in cc)
-in_left false top size k bytes found = elim (found_either k (extent top size Free ∷ []) (extent (top + size) 80 Record ∷ []) (extent k bytes Free) found) [
-  | inl first ↦ inl (sym (ap (λ (e : Extent). e.at) (the_one k (extent top size Free) (extent k bytes Free) first)))
-  | inr later ↦ absurd (let no : Record ≡ Free = ap (λ (e : Extent). e.kind) (the_one k (extent (top + size) 80 Record) (extent k bytes Free) later.1) in cc)
+in_left true top size k bytes found = (let no : Record ≡ Free = ap (λ (e : Extent). e.kind) (the_one k (extent top 96 Record) found) in cc)
+in_left false top size k bytes found = elim (found_either k (extent top size Free ∷ []) (extent (top + size) 80 Record ∷ []) found) [
+  | inl first ↦ inl (sym (ap (λ (e : Extent). e.at) (the_one k (extent top size Free) first)))
+  | inr later ↦ absurd (let no : Record ≡ Free = ap (λ (e : Extent). e.kind) (the_one k (extent (top + size) 80 Record) later.1) in cc)
 ]
 
 pub left_there : (small : Bool) (top size k : ℕ) → IsIn k (left_free small top) → IsThere k (left small top size)
@@ -47,7 +47,7 @@ abbrev pub place : Bool → ℕ → ℕ → ℕ
 place b at size = if b then at else at + size
 
 -- it stands up to the segment's end
-module _ (words : ℕ → ℕ) (before : Kind) (at size end : ℕ) (told : SegmentRecord) (used : before ≡ Used) (whole : at % 16 ≡ 0) (units : size % 16 ≡ 0) (long : 16 ≤ size) (ends_at : at + size + 80 ≡ end) where
+module _ (words : ℕ → ℕ) {before : Kind} (at size : ℕ) {end : ℕ} (told : SegmentRecord) (used : before ≡ Used) (whole : at % 16 ≡ 0) (units : size % 16 ≡ 0) (long : 16 ≤ size) (ends_at : at + size + 80 ≡ end) where
   pub left_stands : (b : Bool) → (size == 16) ≡ b → IsRecordAt words (place b at size) told end b → (b ≡ false → words (at + 8) ≡ size + 1) → (b ≡ false → words (at + size) ≡ size) → Tiles words before at (left b at size) end
   left_stands true is recorded head foot =
       let s : size ≡ 16 = grind (arith, nat_tests) in (
@@ -119,7 +119,7 @@ module _ (words : ℕ → ℕ) (before : Kind) (at size end : ℕ) (told : Segme
       go : (b : Bool) → (if b then Some (extent at 96 Record) else None) ≡ Some one → ⊥
       go true found = (let kind : Record ≡ one.kind = ap (λ (o : Option Extent). (unwrap_or o one).kind) found in let no : Record ≡ Used = kind ∙ is in cc)
       go false found = cc
-  left_other false k one there is = elim (of_two k (extent at size Free) (extent (at + size) 80 Record) one there) [
+  left_other false k one there is = elim (of_two k (extent at size Free) (extent (at + size) 80 Record) there) [
     | inl free ↦ (let no : Free ≡ Used = ap (λ (e : Extent). e.kind) free ∙ is in cc)
     | inr tail ↦ (let no : Record ≡ Used = ap (λ (e : Extent). e.kind) tail ∙ is in cc)
   ]

@@ -11,8 +11,8 @@ use Rattle.dlmalloc.proofs.Cuts.Chosen.{free_low}
 
 module _ {A : Type 0} (regions : A → List Grant) (word : A → ℕ → ℕ) (follows : A → List Event → A → Type 0) (heap : Dlmalloc A) (grant : Grant) where
   -- with no change of bins
-  pub as_joined : (new : Dlmalloc A) → IsAdmitted regions word follows heap grant new → IsJoined regions word follows heap grant new
-  as_joined new j = record {
+  pub as_joined : {new : Dlmalloc A} → IsAdmitted regions word follows heap grant new → IsJoined regions word follows heap grant new
+  as_joined j = record {
     state = j.state;
     sound = j.sound;
     there = j.there;
@@ -26,22 +26,22 @@ module _ {A : Type 0} (regions : A → List Grant) (word : A → ℕ → ℕ) (f
   }
 
 -- the bins stay, where no free extent but the top changes
-abbrev pub admitted_binned : IndexStays → {A : Type 0} (regions : A → List Grant) (word : A → ℕ → ℕ) (follows : A → List Event → A → Type 0) (heap : Dlmalloc A) (grant : Grant) (new : Dlmalloc A) → IsSound regions word heap → IsAdmitted regions word follows heap grant new →
+abbrev pub admitted_binned : IndexStays → {A : Type 0} {regions : A → List Grant} {word : A → ℕ → ℕ} {follows : A → List Event → A → Type 0} {heap : Dlmalloc A} {grant : Grant} {new : Dlmalloc A} → IsSound regions word heap → IsAdmitted regions word follows heap grant new →
     FreeMoves (state_of word heap) (state_of word new) [] [] → IsSameBins heap new → IsBinned regions word heap → IsBinned regions word new
-admitted_binned stays regions word follows heap grant new sound j free same = binned_same stays regions word heap new sound j.sound (λ k was is boundary tag tag'. j.words k was boundary tag') same.bins free same.victim
+admitted_binned stays sound j free same = binned_same stays sound j.sound (λ k was is boundary tag tag'. j.words k was boundary tag') same.bins free same.victim
 
 -- ---- what was the top is in no bin yet
 
 -- the top is no other free extent
-pub top_not_free : {A : Type 0} (regions : A → List Grant) (word : A → ℕ → ℕ) (heap : Dlmalloc A) → IsSound regions word heap → 0 < heap.size → (size : ℕ) → IsFreeAt (state_of word heap) heap.top size → ⊥
-top_not_free regions word heap sound some size free = (let no : Free ≡ Top = ap (λ (e : Extent). e.kind) (the_extent (sym free ∙ top_among regions word heap sound some)) in cc)
+pub top_not_free : {A : Type 0} {regions : A → List Grant} {word : A → ℕ → ℕ} {heap : Dlmalloc A} → IsSound regions word heap → 0 < heap.size → {size : ℕ} → IsFreeAt (state_of word heap) heap.top size → ⊥
+top_not_free sound some free = (let no : Free ≡ Top = ap (λ (e : Extent). e.kind) (the_extent (sym free ∙ top_among sound some)) in cc)
 
-module _ (stays : IndexStays) {A : Type 0} (regions : A → List Grant) (word : A → ℕ → ℕ) (follows : A → List Event → A → Type 0) (heap : Dlmalloc A) (grant : Grant) (new : Dlmalloc A) (sound : IsSound regions word heap) (some : 0 < heap.size) (j : IsAdmitted regions word follows heap grant new)
+module _ (stays : IndexStays) {A : Type 0} {regions : A → List Grant} {word : A → ℕ → ℕ} {follows : A → List Event → A → Type 0} {heap : Dlmalloc A} {grant : Grant} {new : Dlmalloc A} (sound : IsSound regions word heap) (some : 0 < heap.size) (j : IsAdmitted regions word follows heap grant new)
     (moves : FreeMoves (state_of word heap) (state_of word new) [] (if nat_le 32 heap.top_size then heap.top ∷ [] else [])) (same : IsSameBins heap new) (b : IsBinned regions word heap) where
   abbrev pub little_left : heap.top_size < 32 → IsBinned regions word new
   little_left few =
       let test : nat_le 32 heap.top_size ≡ false = grind (arith, nat_tests) in
-      admitted_binned stays regions word follows heap grant new sound j (subst (λ (b : Bool). FreeMoves (state_of word heap) (state_of word new) [] (if b then heap.top ∷ [] else [])) test moves) same b
+      admitted_binned stays sound j (subst (λ (b : Bool). FreeMoves (state_of word heap) (state_of word new) [] (if b then heap.top ∷ [] else [])) test moves) same b
 
   -- the victim is not the top
   pub top_no_victim : heap.top ≢ new.victim
@@ -51,10 +51,10 @@ module _ (stays : IndexStays) {A : Type 0} (regions : A → List Grant) (word : 
       victim = is ∙ same.victim
 
       top : extent_at heap.top (extents_in (state_of word heap)) ≡ Some (extent heap.top heap.top_size Top)
-      top = top_among regions word heap sound some
+      top = top_among sound some
 
       go : (t : Bool) → (heap.victim_size == 0) ≡ t → ⊥
-      go true test = (let low = free_low regions word heap sound (extent heap.top heap.top_size Top) top in let zero = sound.no_victim (grind (arith, nat_tests)) in omega (arith, low, zero, victim))
+      go true test = (let low = free_low sound top in let zero = sound.no_victim (grind (arith, nat_tests)) in omega (arith, low, zero, victim))
       go false test =
           let found = sound.victim (λ none. (let t : (heap.victim_size == 0) ≡ true = (let e = none in grind (arith, nat_tests)) in cc)) in
           let here : extent_at heap.victim (extents_in (state_of word heap)) ≡ Some (extent heap.top heap.top_size Top) = subst (λ (a : ℕ). extent_at a (extents_in (state_of word heap)) ≡ Some (extent heap.top heap.top_size Top)) victim top in
@@ -63,7 +63,7 @@ module _ (stays : IndexStays) {A : Type 0} (regions : A → List Grant) (word : 
   abbrev pub top_left : 32 ≤ heap.top_size → IsBinnedBut (heap.top ∷ []) regions word new
   top_left many =
       let test : nat_le 32 heap.top_size ≡ true = grind (arith, nat_tests) in
-      binned_moved stays regions word heap new sound j.sound (λ k was is boundary tag tag'. j.words k was boundary tag') same.bins [] (heap.top ∷ []) [] (heap.top ∷ [])
+      binned_moved stays sound j.sound (λ k was is boundary tag tag'. j.words k was boundary tag') same.bins [] (heap.top ∷ []) [] (heap.top ∷ [])
       (subst (λ (b : Bool). FreeMoves (state_of word heap) (state_of word new) [] (if b then heap.top ∷ [] else [])) test moves) (record {
         gone = λ k none n free other. none;
         come = λ k is n free other. is;
@@ -72,9 +72,9 @@ module _ (stays : IndexStays) {A : Type 0} (regions : A → List Grant) (word : 
       }) b
 
   -- and goes into its bin
-  pub joined_binned : (last : Dlmalloc A) → IsRebinned regions word follows new last → last ≡ record new { system = last.system; bins = last.bins } →
+  pub joined_binned : {last : Dlmalloc A} → IsRebinned regions word follows new last → last ≡ record new { system = last.system; bins = last.bins } →
       (follows_on : (x y z : A) (a b c : List Event) → follows x a y → follows y b z → a ++ b ≡ c → follows x c z) → ((k : ℕ) → grant.base ≤ k → k < grant.base + grant.size → IsInFree (state_of word new) k → ⊥) → IsJoined regions word follows heap grant last
-  joined_binned last r fields follows_on none_in = record {
+  joined_binned {last} r fields follows_on none_in = record {
     state = λ n. r.state ∙ j.state n;
     sound = r.sound;
     there = subst (λ (h : Dlmalloc A). 0 < h.size) (sym fields) j.there;
@@ -93,16 +93,16 @@ module _ (stays : IndexStays) {A : Type 0} (regions : A → List Grant) (word : 
 
 -- ---- no word of the grant is in a free extent
 
-module _ {A : Type 0} (regions : A → List Grant) (word : A → ℕ → ℕ) (heap new : Dlmalloc A) (sound : IsSound regions word heap) (some : 0 < heap.size) (grant : Grant) (fresh : IsFresh (regions heap.system) (segments_of word heap) grant)
+module _ {A : Type 0} {regions : A → List Grant} {word : A → ℕ → ℕ} {heap : Dlmalloc A} (new : Dlmalloc A) (sound : IsSound regions word heap) (some : 0 < heap.size) {grant : Grant} (fresh : IsFresh (regions heap.system) (segments_of word heap) grant)
     (moves : FreeMoves (state_of word heap) (state_of word new) [] (if nat_le 32 heap.top_size then heap.top ∷ [] else [])) (many : 32 ≤ heap.top_size) (rest : IsFreeAt (state_of word new) heap.top heap.top_size) where
   -- an extent of the heap is beside the grant
-  beside_grant : (one : Extent) → extent_at one.at (extents_in (state_of word heap)) ≡ Some one → (one.at + one.size ≤ grant.base) ⊎ (grant.base + grant.size ≤ one.at)
-  beside_grant one there =
-      let l = located one.at one (segments_of word heap) there in
-      let p = of_located (IsSegment (regions heap.system) (word heap.system)) one.at one (segments_of word heap) l sound.segments in
-      let is = in_part (word heap.system) Used l.segment.base l.segment.extents (l.segment.base + l.segment.size) one p.extents l.there in
+  beside_grant : {one : Extent} → extent_at one.at (extents_in (state_of word heap)) ≡ Some one → (one.at + one.size ≤ grant.base) ⊎ (grant.base + grant.size ≤ one.at)
+  beside_grant {one} there =
+      let l = located one.at (segments_of word heap) there in
+      let p = of_located (IsSegment (regions heap.system) (word heap.system)) l sound.segments in
+      let is = in_part (word heap.system) Used l.segment.base l.segment.extents (l.segment.base + l.segment.size) p.extents l.there in
       let low = is.low in let high = is.high in
-      elim (of_located (λ (segment : Segment). IsApartFrom segment (opened grant)) one.at one (segments_of word heap) l fresh.apart) [ inl before ↦ inl (omega arith) | inr behind ↦ inr (omega arith) ]
+      elim (of_located (λ (segment : Segment). IsApartFrom segment (opened grant)) l fresh.apart) [ inl before ↦ inl (omega arith) | inr behind ↦ inr (omega arith) ]
 
   pub none_in_grant : (k : ℕ) → grant.base ≤ k → k < grant.base + grant.size → IsInFree (state_of word new) k → ⊥
   none_in_grant k low high f = go (f.at == heap.top) refl
@@ -111,13 +111,13 @@ module _ {A : Type 0} (regions : A → List Grant) (word : A → ℕ → ℕ) (h
       test = grind (arith, nat_tests)
 
       out : (size : ℕ) → (kind : Kind) → extent_at f.at (extents_in (state_of word heap)) ≡ Some (extent f.at size kind) → f.size ≡ size → ⊥
-      out size kind there same = (let above = f.low in let below = f.high in elim (beside_grant (extent f.at size kind) there) [ inl before ↦ omega arith | inr behind ↦ omega arith ])
+      out size kind there same = (let above = f.low in let below = f.high in elim (beside_grant there) [ inl before ↦ omega arith | inr behind ↦ omega arith ])
 
       go : (t : Bool) → (f.at == heap.top) ≡ t → ⊥
       go true is =
           let place = nat_is is in
-          out heap.top_size Top (subst (λ (a : ℕ). extent_at a (extents_in (state_of word heap)) ≡ Some (extent a heap.top_size Top)) (sym place) (top_among regions word heap sound some))
-          (one_size (state_of word new) heap.top f.size heap.top_size (subst (λ (a : ℕ). IsFreeAt (state_of word new) a f.size) place f.free) rest)
+          out heap.top_size Top (subst (λ (a : ℕ). extent_at a (extents_in (state_of word heap)) ≡ Some (extent a heap.top_size Top)) (sym place) (top_among sound some))
+          (one_size (state_of word new) (subst (λ (a : ℕ). IsFreeAt (state_of word new) a f.size) place f.free) rest)
       go false is =
           let m = subst (λ (b : Bool). FreeMoves (state_of word heap) (state_of word new) [] (if b then heap.top ∷ [] else [])) test moves in
           out f.size Free (m.was f.at f.size f.free (λ came. elim came [ inl same ↦ (let no : (f.at == heap.top) ≡ true = (let e = same in grind (arith, nat_tests)) in cc) | inr none ↦ none ])).0 refl

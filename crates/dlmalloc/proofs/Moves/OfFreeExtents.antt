@@ -10,12 +10,12 @@ abbrev pub IsThere : ℕ → List Extent → Type 0
 IsThere k extents = (one : Extent) × (extent_at k extents ≡ Some one)
 
 -- of two lists of distinct extents one alone has an extent at an address
-not_both : (front back : List Extent) (k : ℕ) (one other : Extent) → AreDistinct (front ++ back) → extent_at k front ≡ Some one → extent_at k back ≡ Some other → ⊥
-not_both [] back k one other apart here there = (let some = here in cc)
-not_both (first ∷ front) back k one other apart here there = go (first.at == k) refl here (λ later. not_both front back k one other apart.1 later there)
+not_both : (front back : List Extent) (k : ℕ) {one other : Extent} → AreDistinct (front ++ back) → extent_at k front ≡ Some one → extent_at k back ≡ Some other → ⊥
+not_both [] back k apart here there = (let some = here in cc)
+not_both (first ∷ front) back k {one} apart here there = go (first.at == k) refl here (λ later. not_both front back k apart.1 later there)
   where
     go : (b : Bool) → (first.at == k) ≡ b → (if b then Some first else extent_at k front) ≡ Some one → (extent_at k front ≡ Some one → ⊥) → ⊥
-    go true test is rest = (let none = subst (λ (a : ℕ). extent_at a (front ++ back) ≡ None) (nat_is test) apart.0 in let some = distinct_later front back k other apart.1 there in cc)
+    go true test is rest = (let none = subst (λ (a : ℕ). extent_at a (front ++ back) ≡ None) (nat_is test) apart.0 in let some = distinct_later front back k apart.1 there in cc)
     go false test is rest = rest is
 
 distinct_second : (front back : List Extent) → AreDistinct (front ++ back) → AreDistinct back
@@ -26,22 +26,22 @@ distinct_second (first ∷ front) back apart = distinct_second front back apart.
 -- address of those that come.
 module _ (front less more back : List Extent) (apart : AreDistinct (front ++ (more ++ back))) (gone come : List ℕ)
     (in_less : (k size : ℕ) → extent_at k less ≡ Some (extent k size Free) → IsIn k gone) (come_there : (k : ℕ) → IsIn k come → IsIn k gone ⊎ IsThere k more) where
-  pub free_stays : (k size : ℕ) → extent_at k (front ++ (less ++ back)) ≡ Some (extent k size Free) → (IsIn k gone → ⊥) → (extent_at k (front ++ (more ++ back)) ≡ Some (extent k size Free)) × (IsIn k come → ⊥)
-  free_stays k size free out = elim (found_either k front (less ++ back) (extent k size Free) free) [
+  pub free_stays : {k size : ℕ} → extent_at k (front ++ (less ++ back)) ≡ Some (extent k size Free) → (IsIn k gone → ⊥) → (extent_at k (front ++ (more ++ back)) ≡ Some (extent k size Free)) × (IsIn k come → ⊥)
+  free_stays {k} {size} free out = elim (found_either k front (less ++ back) free) [
     | inl first ↦ (
-      found_more k front (more ++ back) (extent k size Free) first,
+      found_more k front (more ++ back) first,
       λ came. elim (come_there k came) [
         | inl left ↦ out left
-        | inr there ↦ not_both front (more ++ back) k (extent k size Free) there.0 apart first (found_more k more back there.0 there.1)
+        | inr there ↦ not_both front (more ++ back) k apart first (found_more k more back there.1)
       ],
     )
-    | inr later ↦ elim (found_either k less back (extent k size Free) later.1) [
+    | inr later ↦ elim (found_either k less back later.1) [
       | inl here ↦ absurd (out (in_less k size here))
       | inr last ↦ (
-        distinct_later front (more ++ back) k (extent k size Free) apart (distinct_later more back k (extent k size Free) (distinct_second front (more ++ back) apart) last.1),
+        distinct_later front (more ++ back) k apart (distinct_later more back k (distinct_second front (more ++ back) apart) last.1),
         λ came. elim (come_there k came) [
           | inl left ↦ out left
-          | inr there ↦ not_both more back k there.0 (extent k size Free) (distinct_second front (more ++ back) apart) there.1 last.1
+          | inr there ↦ not_both more back k (distinct_second front (more ++ back) apart) there.1 last.1
         ],
       )
     ]
@@ -53,18 +53,18 @@ pub free_changes : (old new : HeapState) (front less more back : List Extent) �
     ((k : ℕ) → IsIn k gone → IsIn k come ⊎ IsThere k less) → ((k : ℕ) → IsIn k come → IsIn k gone ⊎ IsThere k more) → FreeMoves old new gone come
 free_changes old new front less more back was is apart apart' gone come in_less in_more gone_there come_there = record {
   stays = λ k size free out.
-      let found = free_stays front less more back (subst AreDistinct is apart') gone come in_less come_there k size (ap (extent_at k) (sym was) ∙ free) out in
+      let found = free_stays front less more back (subst AreDistinct is apart') gone come in_less come_there (ap (extent_at k) (sym was) ∙ free) out in
       (ap (extent_at k) is ∙ found.0, found.1);
   was = λ k size free out.
-      let found = free_stays front more less back (subst AreDistinct was apart) come gone in_more gone_there k size (ap (extent_at k) (sym is) ∙ free) out in
+      let found = free_stays front more less back (subst AreDistinct was apart) come gone in_more gone_there (ap (extent_at k) (sym is) ∙ free) out in
       (ap (extent_at k) was ∙ found.0, found.1);
 }
 
 -- and those before and after a step
-module _ {A : Type 0} (regions : A → List Grant) (word : A → ℕ → ℕ) (heap new : Dlmalloc A) (sound : IsSound regions word heap) (less more : List Extent) (step : IsStep regions word heap new less more) (gone come : List ℕ)
+module _ {A : Type 0} {regions : A → List Grant} {word : A → ℕ → ℕ} {heap new : Dlmalloc A} (sound : IsSound regions word heap) {less more : List Extent} (step : IsStep regions word heap new less more) (gone come : List ℕ)
     (in_less : (k size : ℕ) → extent_at k less ≡ Some (extent k size Free) → IsIn k gone) (in_more : (k size : ℕ) → extent_at k more ≡ Some (extent k size Free) → IsIn k come)
     (gone_there : (k : ℕ) → IsIn k gone → IsIn k come ⊎ IsThere k less) (come_there : (k : ℕ) → IsIn k come → IsIn k gone ⊎ IsThere k more) where
   pub free_moves : FreeMoves (state_of word heap) (state_of word new) gone come
-  free_moves = free_changes (state_of word heap) (state_of word new) (before regions word heap new sound less more step) less more (behind regions word heap new sound less more step)
-      (all_old regions word heap new sound less more step) (all_new regions word heap new sound less more step) (distinct_old regions word heap new sound less more step) (distinct_new regions word heap new sound less more step)
+  free_moves = free_changes (state_of word heap) (state_of word new) (before sound step) less more (behind sound step)
+      (all_old sound step) (all_new sound step) (distinct_old sound step) (distinct_new sound step)
       gone come in_less in_more gone_there come_there

@@ -15,7 +15,7 @@ segments_read regions word heap (segment ∷ segments) parts told few =
     let words = word heap.system in
     let some : (heap.size == 0) ≡ false = nat_isnt (inr told.0) in
     let extents : chunks_from words (heap.size / 16) heap.base heap.top ++ top_and_foot heap.top (heap.base + heap.size) ≡ segment.extents =
-    (λ i. chunks_from words (told.2 i / 16) (told.1 i) heap.top ++ top_and_foot heap.top (told.1 i + told.2 i)) ∙ read_top regions words segment parts.0 heap.top heap.top_size told.4 in
+    (λ i. chunks_from words (told.2 i / 16) (told.1 i) heap.top ++ top_and_foot heap.top (told.1 i + told.2 i)) ∙ read_top parts.0 told.4 in
     rw some (λ i. (record { base = told.1 i; size = told.2 i; flags = told.3 i; extents = extents i })
     ∷ records_read regions words (2 ^ 64) heap.next segments (omega (arith, few)) parts.1 told.5 i)
 
@@ -46,7 +46,7 @@ pub record IsStep {A : Type 0} (regions : A → List Grant) (word : A → ℕ �
   pub changed : IsChanged (regions heap.system) (regions new.system) (word heap.system) (word new.system) segment now
   pub told : AreTold (word new.system) new (front ++ now ∷ back)
 
-module _ {A : Type 0} (regions : A → List Grant) (word : A → ℕ → ℕ) (heap new : Dlmalloc A) (sound : IsSound regions word heap) (less more : List Extent) (step : IsStep regions word heap new less more) where
+module _ {A : Type 0} {regions : A → List Grant} {word : A → ℕ → ℕ} {heap new : Dlmalloc A} (sound : IsSound regions word heap) {less more : List Extent} (step : IsStep regions word heap new less more) where
   was_segments : AreSegments (regions heap.system) (word heap.system) (step.front ++ step.segment ∷ step.back)
   was_segments = subst (AreSegments (regions heap.system) (word heap.system)) step.is sound.segments
 
@@ -54,10 +54,10 @@ module _ {A : Type 0} (regions : A → List Grant) (word : A → ℕ → ℕ) (h
   was_apart = subst AreApart step.is sound.apart
 
   now_segments : AreSegments (regions new.system) (word new.system) (step.front ++ step.now ∷ step.back)
-  now_segments = segments_after (regions heap.system) (regions new.system) (word heap.system) (word new.system) step.segment step.now step.changed step.front step.back was_apart was_segments
+  now_segments = segments_after step.changed step.front step.back was_apart was_segments
 
   now_apart : AreApart (step.front ++ step.now ∷ step.back)
-  now_apart = apart_after (regions heap.system) (regions new.system) (word heap.system) (word new.system) step.segment step.now step.changed step.front step.back was_apart was_segments
+  now_apart = apart_after step.changed step.front step.back was_apart was_segments
 
   -- the segments of the new heap
   pub read : segments_of word new ≡ step.front ++ step.now ∷ step.back
@@ -104,27 +104,27 @@ module _ {A : Type 0} (regions : A → List Grant) (word : A → ℕ → ℕ) (h
 
   -- one of the new extents is found among all
   pub found_new : (k : ℕ) (one : Extent) → extent_at k more ≡ Some one → extent_at k (extents_in (state_of word new)) ≡ Some one
-  found_new k one there = ap (extent_at k) all_new ∙ distinct_later before (more ++ behind) k one distinct (found_more k more behind one there)
+  found_new k one there = ap (extent_at k) all_new ∙ distinct_later before (more ++ behind) k distinct (found_more k more behind there)
 
   -- what is found still is, where it is found among the new ones too
-  pub found_again : (k : ℕ) (one : Extent) → (extent_at k less ≡ Some one → extent_at k more ≡ Some one) → extent_at k (extents_in (state_of word heap)) ≡ Some one → extent_at k (extents_in (state_of word new)) ≡ Some one
-  found_again k one stays there =
-      ap (extent_at k) all_new ∙ elim (found_either k before (less ++ behind) one (ap (extent_at k) (sym all_old) ∙ there)) [
-        | inl first ↦ found_more k before (more ++ behind) one first
-        | inr later ↦ distinct_later before (more ++ behind) k one distinct (elim (found_either k less behind one later.1) [
-          | inl here ↦ found_more k more behind one (stays here)
-          | inr last ↦ distinct_later more behind k one (distinct_second before (more ++ behind) distinct) last.1
+  pub found_again : (k : ℕ) {one : Extent} → (extent_at k less ≡ Some one → extent_at k more ≡ Some one) → extent_at k (extents_in (state_of word heap)) ≡ Some one → extent_at k (extents_in (state_of word new)) ≡ Some one
+  found_again k {one} stays there =
+      ap (extent_at k) all_new ∙ elim (found_either k before (less ++ behind) (ap (extent_at k) (sym all_old) ∙ there)) [
+        | inl first ↦ found_more k before (more ++ behind) first
+        | inr later ↦ distinct_later before (more ++ behind) k {extent = one} distinct (elim (found_either k less behind later.1) [
+          | inl here ↦ found_more k more behind (stays here)
+          | inr last ↦ distinct_later more behind k (distinct_second before (more ++ behind) distinct) last.1
         ])
       ]
 
   -- what is found was there, where it was found among the old ones too
-  pub found_before : (k : ℕ) (one : Extent) → (extent_at k more ≡ Some one → extent_at k less ≡ Some one) → extent_at k (extents_in (state_of word new)) ≡ Some one → extent_at k (extents_in (state_of word heap)) ≡ Some one
-  found_before k one stays there =
-      ap (extent_at k) all_old ∙ elim (found_either k before (more ++ behind) one (ap (extent_at k) (sym all_new) ∙ there)) [
-        | inl first ↦ found_more k before (less ++ behind) one first
-        | inr later ↦ distinct_later before (less ++ behind) k one was_distinct (elim (found_either k more behind one later.1) [
-          | inl here ↦ found_more k less behind one (stays here)
-          | inr last ↦ distinct_later less behind k one (distinct_second before (less ++ behind) was_distinct) last.1
+  pub found_before : (k : ℕ) {one : Extent} → (extent_at k more ≡ Some one → extent_at k less ≡ Some one) → extent_at k (extents_in (state_of word new)) ≡ Some one → extent_at k (extents_in (state_of word heap)) ≡ Some one
+  found_before k {one} stays there =
+      ap (extent_at k) all_old ∙ elim (found_either k before (more ++ behind) (ap (extent_at k) (sym all_new) ∙ there)) [
+        | inl first ↦ found_more k before (less ++ behind) first
+        | inr later ↦ distinct_later before (less ++ behind) k {extent = one} was_distinct (elim (found_either k more behind later.1) [
+          | inl here ↦ found_more k less behind (stays here)
+          | inr last ↦ distinct_later less behind k (distinct_second before (less ++ behind) was_distinct) last.1
         ])
       ]
     where
@@ -135,7 +135,7 @@ module _ {A : Type 0} (regions : A → List Grant) (word : A → ℕ → ℕ) (h
   pub keeps_words : OnlyBoundariesChange (regions heap.system) (state_of word new) (word heap.system) (word new.system)
   keeps_words k inside apart = step.changed.kept k inside (all_spared (state_of word new) k step.now.extents
       (distinct_front step.now.extents (extents_all step.back) (distinct_second (extents_all step.front) (step.now.extents ++ extents_all step.back) among))
-      (λ extent there. ap (extent_at extent.at) now_all ∙ distinct_later (extents_all step.front) (step.now.extents ++ extents_all step.back) extent.at extent among (found_more extent.at step.now.extents (extents_all step.back) extent there)) apart)
+      (λ extent there. ap (extent_at extent.at) now_all ∙ distinct_later (extents_all step.front) (step.now.extents ++ extents_all step.back) extent.at among (found_more extent.at step.now.extents (extents_all step.back) there)) apart)
     where
       now_all : extents_in (state_of word new) ≡ extents_all step.front ++ (step.now.extents ++ extents_all step.back)
       now_all = ap extents_all read ∙ all_among step.front step.now step.back
@@ -148,7 +148,7 @@ module _ {A : Type 0} (regions : A → List Grant) (word : A → ℕ → ℕ) (h
         where
           go : (o : Option Extent) → extent_at k one ≡ o → o ≡ None
           go None is = refl
-          go (Some extent) is = absurd (let some = found_more k one other extent is in cc)
+          go (Some extent) is = absurd (let some = found_more k one other is in cc)
 
       distinct_front : (one other : List Extent) → AreDistinct (one ++ other) → AreDistinct one
       distinct_front [] other d = tt
@@ -170,12 +170,12 @@ module _ {A : Type 0} (regions : A → List Grant) (word : A → ℕ → ℕ) (h
   -- ---- extents in use
 
   pub has_more : (one : Extent) → HasMore less more one → HasOneMore (state_of word heap) (state_of word new) one.at
-  has_more one h = one_more (state_of word heap) (state_of word new) one distinct_old distinct_new
-      (subst (λ (es : List Extent). HasMore es (extents_in (state_of word new)) one) (sym all_old) (subst (λ (es : List Extent). HasMore (before ++ (less ++ behind)) es one) (sym all_new) (more_between before less more behind one h)))
+  has_more one h = one_more (state_of word heap) (state_of word new) distinct_old distinct_new
+      (subst (λ (es : List Extent). HasMore es (extents_in (state_of word new)) one) (sym all_old) (subst (λ (es : List Extent). HasMore (before ++ (less ++ behind)) es one) (sym all_new) (more_between before behind h)))
 
-  pub has_less : (one : Extent) → HasMore more less one → HasOneMore (state_of word new) (state_of word heap) one.at
-  has_less one h = one_more (state_of word new) (state_of word heap) one distinct_new distinct_old
-      (subst (λ (es : List Extent). HasMore es (extents_in (state_of word heap)) one) (sym all_new) (subst (λ (es : List Extent). HasMore (before ++ (more ++ behind)) es one) (sym all_old) (more_between before more less behind one h)))
+  pub has_less : {one : Extent} → HasMore more less one → HasOneMore (state_of word new) (state_of word heap) one.at
+  has_less {one} h = one_more (state_of word new) (state_of word heap) distinct_new distinct_old
+      (subst (λ (es : List Extent). HasMore es (extents_in (state_of word heap)) one) (sym all_new) (subst (λ (es : List Extent). HasMore (before ++ (more ++ behind)) es one) (sym all_old) (more_between before behind h)))
 
   -- where as many are in use, the same are
   same_used : used_of less ≡ used_of more → used_of (extents_in (state_of word heap)) ≡ used_of (extents_in (state_of word new))
@@ -183,10 +183,10 @@ module _ {A : Type 0} (regions : A → List Grant) (word : A → ℕ → ℕ) (h
       ∙ sym (used_append before (more ++ behind)))) ∙ ap used_of (sym all_new)
 
   pub used_still : used_of less ≡ used_of more → (k : ℕ) (used : Extent) → used.kind ≡ Used → extent_at k (extents_in (state_of word heap)) ≡ Some used → extent_at k (extents_in (state_of word new)) ≡ Some used
-  used_still same k used is there = used_back k (extents_in (state_of word new)) used distinct_new (ap (extent_at k) (sym (same_used same)) ∙ used_there k (extents_in (state_of word heap)) used is there)
+  used_still same k used is there = used_back k (extents_in (state_of word new)) distinct_new (ap (extent_at k) (sym (same_used same)) ∙ used_there k (extents_in (state_of word heap)) is there)
 
   pub used_before : used_of less ≡ used_of more → (k : ℕ) (used : Extent) → used.kind ≡ Used → extent_at k (extents_in (state_of word new)) ≡ Some used → extent_at k (extents_in (state_of word heap)) ≡ Some used
-  used_before same k used is there = used_back k (extents_in (state_of word heap)) used distinct_old (ap (extent_at k) (same_used same) ∙ used_there k (extents_in (state_of word new)) used is there)
+  used_before same k used is there = used_back k (extents_in (state_of word heap)) distinct_old (ap (extent_at k) (same_used same) ∙ used_there k (extents_in (state_of word new)) is there)
 
   -- there is a head segment
   pub some_there : 0 < heap.size

@@ -16,7 +16,7 @@ no_plain Foot ends free = cc
 
 -- ---- the extents, with others for the run
 
-module _ (regions : List Grant) (old new : ℕ → ℕ) (before : Kind) (base from to to' end end' : ℕ) (front less more back : List Extent)
+module _ {regions : List Grant} {old new : ℕ → ℕ} (before : Kind) (base : ℕ) {from to to' : ℕ} (end end' : ℕ) (front : List Extent) {less more : List Extent} (back : List Extent)
     (first : Tiles old before base front from) (move : IsMove regions old new (last_kind before front) from to to' less more)
     (second : Tiles old (last_kind (last_kind before front) less) to back end)
     (granted : (k : ℕ) → base < k → k < end → k % 8 ≡ 0 → IsWordOf regions k) (some : from < to) where
@@ -61,8 +61,8 @@ pub record Standing (words : ℕ → ℕ) (from : ℕ) (to : ℕ) (block : Exten
   pub before : Bool
   pub head : words (block.at + 8) ≡ head_of block.size before true
 
-used_size : (kind : Kind) (size : ℕ) → kind ≡ Used → IsSize kind size → (size % 16 ≡ 0) × (32 ≤ size)
-used_size kind size is h = subst (λ (k : Kind). IsSize k size) is h
+used_size : {kind : Kind} (size : ℕ) → kind ≡ Used → IsSize kind size → (size % 16 ≡ 0) × (32 ≤ size)
+used_size size is h = subst (λ (k : Kind). IsSize k size) is h
 
 pub last_append : (before : Kind) (front back : List Extent) → last_kind before (front ++ back) ≡ last_kind (last_kind before front) back
 last_append before [] back = refl
@@ -76,12 +76,12 @@ goes_on words from (next ∷ back) to h tail =
     let later = tiles_le words next.kind (from + next.size) back to h.2 in
     omega arith
 
-pub standing : (words : ℕ → ℕ) (before : Kind) (from : ℕ) (extents : List Extent) (to : ℕ) (block : Extent) → Tiles words before from extents to → ends_segment (last_kind before extents) ≡ true →
+pub standing : (words : ℕ → ℕ) (before : Kind) (from : ℕ) (extents : List Extent) (to : ℕ) {block : Extent} → Tiles words before from extents to → ends_segment (last_kind before extents) ≡ true →
     extent_at block.at extents ≡ Some block → block.kind ≡ Used → Standing words from to block
-standing words before from extents to block h tail there used =
+standing words before from extents to {block} h tail there used =
     let f = found block.at block extents there in
     let s = tiles_split words before from f.front (block ∷ f.back) to (subst (λ (es : List Extent). Tiles words before from es to) f.is h) in
-    let size = used_size block.kind block.size used s.second.1.size in
+    let size = used_size block.size used s.second.1.size in
     let place = s.second.0 in
     let low = tiles_le words before from f.front s.middle s.first in
     let last : ends_segment (last_kind block.kind f.back) ≡ true =

@@ -14,8 +14,8 @@ out_of heap k none at size free = elim (dec_lt k (at + 16)) [
 module _ {A : Type 0} (regions : A → List Grant) (word : A → ℕ → ℕ) (follows : A → List Event → A → Type 0)
     (follows_on : (x y z : A) (a b c : List Event) → follows x a y → follows y b z → a ++ b ≡ c → follows x c z) where
   -- chunks went into bins or left them twice
-  pub rebinned_on : (first second third : Dlmalloc A) → IsRebinned regions word follows first second → IsRebinned regions word follows second third → IsRebinned regions word follows first third
-  rebinned_on first second third one two = record {
+  pub rebinned_on : {first second third : Dlmalloc A} → IsRebinned regions word follows first second → IsRebinned regions word follows second third → IsRebinned regions word follows first third
+  rebinned_on {first} {second} {third} one two = record {
     sound = two.sound;
     state = two.state ∙ one.state;
     fields = two.fields ∙ ap (λ (h : Dlmalloc A). record h { system = third.system; bins = third.bins }) one.fields;
@@ -27,8 +27,8 @@ module _ {A : Type 0} (regions : A → List Grant) (word : A → ℕ → ℕ) (f
   }
 
   -- they did before a move and behind it
-  pub turned : (first second third last : Dlmalloc A) → IsRebinned regions word follows first second → IsMoved regions word follows second third → IsRebinned regions word follows third last → IsTurned regions word follows first last
-  turned first second third last one moved two = record {
+  pub turned : {first second third last : Dlmalloc A} → IsRebinned regions word follows first second → IsMoved regions word follows second third → IsRebinned regions word follows third last → IsTurned regions word follows first last
+  turned {first} {second} {third} {last} one moved two = record {
     sound = two.sound;
     words = λ k inside was own.
         let then : IsWordOf (regions second.system) k = subst (λ (rs : List Grant). IsWordOf rs k) (sym one.regions_same) inside in

@@ -27,14 +27,14 @@ padded_holds size = go (nat_lt size 23) refl
     go true small = let less : size < 23 = grind (arith, nat_tests) in omega arith
     go false large = omega arith
 
-pub enlarged_is : (size align n : ℕ) → n ≡ padded size → n + align + 24 ≡ enlarged size align
+pub enlarged_is : (size align : ℕ) {n : ℕ} → n ≡ padded size → n + align + 24 ≡ enlarged size align
 unfolding enlarged
-enlarged_is size align n is = ap (λ (m : ℕ). m + align + 24) is
+enlarged_is size align is = ap (λ (m : ℕ). m + align + 24) is
 
 pub too_large : (bound size align : ℕ) → bound ≤ size + align → bound ≤ enlarged size align
 too_large bound size align more =
     let holds = padded_holds size in
-    let is = enlarged_is size align (padded size) refl in
+    let is = enlarged_is size align {n = (padded size)} refl in
     omega arith
 
 -- ---- the chunk of a block, and the aligned place in it
@@ -49,7 +49,7 @@ pub record HasAlignedPlace (align at size n place : ℕ) : Type 0 where
   pub multiple : (place + 16) % align ≡ 0
   pub small : place + 16 < 2 ^ 64
 
-module _ {A : Type 0} (regions : A → List Grant) (word : A → ℕ → ℕ) (heap : Dlmalloc A) (sound : IsSound regions word heap) (ptr n align : ℕ) (block : IsBlock (state_of word heap) ptr (n + align + 24)) where
+module _ {A : Type 0} {regions : A → List Grant} {word : A → ℕ → ℕ} {heap : Dlmalloc A} (sound : IsSound regions word heap) {ptr : ℕ} (n align : ℕ) (block : IsBlock (state_of word heap) ptr (n + align + 24)) where
   place : block.extent.at ≡ ptr - 16
   place = (found (ptr - 16) block.extent (extents_in (state_of word heap)) block.there).place
 
@@ -62,8 +62,8 @@ module _ {A : Type 0} (regions : A → List Grant) (word : A → ℕ → ℕ) (h
   pub chunk_small : 32 ≤ n → ptr - 16 + align + 64 < 2 ^ 64
   chunk_small least = omega (arith, inside.high, block.holds, place, least)
 
-  pub place_here : IsPowerOfTwo align → 16 < align → 32 ≤ n → (told : ℕ) → told ≡ size_of (word heap.system (ptr - 16 + 8)) → (at : ℕ) → at ≡ aligned_place (ptr - 16) align → HasAlignedPlace align (ptr - 16) told n at
-  place_here power large least told is_told at is =
+  pub place_here : IsPowerOfTwo align → 16 < align → 32 ≤ n → {told : ℕ} → told ≡ size_of (word heap.system (ptr - 16 + 8)) → {at : ℕ} → at ≡ aligned_place (ptr - 16) align → HasAlignedPlace align (ptr - 16) told n at
+  place_here power large least {told} is_told {at} is =
       let there = block_chunk regions word heap sound ptr (n + align + 24) block told is_told in
       let same : block.extent.size ≡ told = ap (λ (e : Extent). e.size) (the_extent (sym block.there ∙ there)) in
       let long : n + align + 32 ≤ told = omega (arith, block.holds, same) in
@@ -96,10 +96,10 @@ pub record IsAligned {A : Type 0} (regions : A → List Grant) (word : A → ℕ
   pub followed : follows old.system [] new.system
   pub order : KeepsOrderThrough regions word (lead_freed (state_of word old) (ptr - 16) result) old new
 
-pub served_aligned : {A : Type 0} (regions : A → List Grant) (word : A → ℕ → ℕ) (zeros : A → Bool) (follows : A → List Event → A → Type 0) (old middle new : Dlmalloc A) (size align n greater result : ℕ) →
+pub served_aligned : {A : Type 0} {regions : A → List Grant} {word : A → ℕ → ℕ} {zeros : A → Bool} {follows : A → List Event → A → Type 0} {old middle new : Dlmalloc A} (size : ℕ) {align n greater result : ℕ} →
     n ≡ padded size → size + 8 ≤ n → n ≤ size + 32 → IsServed regions word zeros follows old (n + align + 24) greater middle → IsAligned regions word follows middle greater align n result new →
     IsServedAligned regions word zeros follows old size align (result + 16) new
-served_aligned regions word zeros follows old middle new size align n greater result is holds near served left =
+served_aligned {regions} {word} {zeros} {follows} {old} {middle} {new} size {align} {greater} {result} is holds near served left =
     let back : result ≡ result + 16 - 16 = omega arith in
     let in_use = left.held in
     let block : IsBlock (state_of word new) (result + 16) size = record {
@@ -116,7 +116,7 @@ served_aligned regions word zeros follows old middle new size align n greater re
     record {
       middle = middle;
       greater = greater;
-      served = subst (λ (m : ℕ). IsServed regions word zeros follows old m greater middle) (enlarged_is size align n is) served;
+      served = subst (λ (m : ℕ). IsServed regions word zeros follows old m greater middle) (enlarged_is size align is) served;
       place = ap (λ (p : ℕ). p + 16) left.place;
       state = subst (λ (m : ℕ). state_of word new ≡ aligned (state_of word middle) (greater - 16) align m) is left.state;
       low = omega arith;
@@ -124,8 +124,8 @@ served_aligned regions word zeros follows old middle new size align n greater re
       multiple = left.multiple;
       aligned_at_16 = placed.aligned;
       granted = placed.granted;
-      more = subst (λ (p : ℕ). HasOneMore (state_of word old) (state_of word new) p) back (more_on (state_of word old) (state_of word middle) (state_of word new) (greater - 16) result served.more left.others);
-      kept = keeps_on (extents_in (state_of word old)) (word old.system) (word middle.system) (word new.system) served.kept
+      more = subst (λ (p : ℕ). HasOneMore (state_of word old) (state_of word new) p) back (more_on served.more left.others);
+      kept = keeps_on served.kept
           (left.kept (extents_in (state_of word old)) (λ used there kind. (served.more.new used there kind, served.more.kept used there kind)));
       words = same_words;
       new_words = λ zero k inside fresh over.

@@ -17,9 +17,9 @@ granularity_bound g power less =
     ]
 
 -- a request that is not too large leaves room for the grant that it may need
-pub request_small : (g size n : ℕ) → IsPowerOfTwo g → 16 ≤ g → size < limit g → n % 16 ≡ 0 → n ≤ size + 32 → n ≡ padded size → n + 96 + g ≤ 2 ^ 64
+pub request_small : (g size : ℕ) {n : ℕ} → IsPowerOfTwo g → 16 ≤ g → size < limit g → n % 16 ≡ 0 → n ≤ size + 32 → n ≡ padded size → n + 96 + g ≤ 2 ^ 64
 unfolding padded limit
-request_small g size n power least less whole near is = go (g == 16) refl (nat_lt size 23) refl less is
+request_small g size {n} power least less whole near is = go (g == 16) refl (nat_lt size 23) refl less is
   where
     units : g % 16 ≡ 0
     units = granularity_whole g power least
@@ -58,8 +58,8 @@ or_false true b h = absurd (cc)
 or_false false b h = h
 
 -- what is cut holds the block, and little more
-pub taken_block : (old : HeapState) (extent : Extent) (n size : ℕ) → extent_at extent.at (extents_in old) ≡ Some extent → n ≤ extent.size → size + 8 ≤ n → n ≤ size + 32 → IsBlock (taken old extent n) (extent.at + 16) size
-taken_block old extent n size there fits holds near = go (leaves_rest n extent) refl
+pub taken_block : (old : HeapState) {extent : Extent} (n size : ℕ) → extent_at extent.at (extents_in old) ≡ Some extent → n ≤ extent.size → size + 8 ≤ n → n ≤ size + 32 → IsBlock (taken old extent n) (extent.at + 16) size
+taken_block old {extent} n size there fits holds near = go (leaves_rest n extent) refl
   where
     back : extent.at + 16 - 16 ≡ extent.at
     back = omega arith

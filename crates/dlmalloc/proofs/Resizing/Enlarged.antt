@@ -18,32 +18,32 @@ pub record IsEnlarged {A : Type 0} (regions : A → List Grant) (word : A → �
 
 -- ---- what is found among two
 
-pub in_two : (first second : Extent) (k : ℕ) (one : Extent) → extent_at k (first ∷ second ∷ []) ≡ Some one → (first ≡ one) ⊎ (second ≡ one)
-in_two first second k one found =
-    elim (found_either k (first ∷ []) (second ∷ []) one found) [
-      | inl here ↦ inl (found_one k first one here)
-      | inr behind ↦ inr (found_one k second one behind.1)
+pub in_two : (first second : Extent) (k : ℕ) {one : Extent} → extent_at k (first ∷ second ∷ []) ≡ Some one → (first ≡ one) ⊎ (second ≡ one)
+in_two first second k found =
+    elim (found_either k (first ∷ []) (second ∷ []) found) [
+      | inl here ↦ inl (found_one k first here)
+      | inr behind ↦ inr (found_one k second behind.1)
     ]
 
 -- none of them is of a kind that they have not
-pub no_kind : (first second : Extent) (kind : Kind) → first.kind ≢ kind → second.kind ≢ kind → (k : ℕ) (one : Extent) → extent_at k (first ∷ second ∷ []) ≡ Some one → one.kind ≢ kind
-no_kind first second kind no_first no_second k one found is =
-    elim (in_two first second k one found) [
+pub no_kind : (first second : Extent) (kind : Kind) → first.kind ≢ kind → second.kind ≢ kind → (k : ℕ) {one : Extent} → extent_at k (first ∷ second ∷ []) ≡ Some one → one.kind ≢ kind
+no_kind first second kind no_first no_second k found is =
+    elim (in_two first second k found) [
       | inl here ↦ no_first (ap (λ (e : Extent). e.kind) here ∙ is)
       | inr behind ↦ no_second (ap (λ (e : Extent). e.kind) behind ∙ is)
     ]
 
 -- and but for the first none is in use, where the second is not
-pub no_other : (first second : Extent) → second.kind ≢ Used → (used : Extent) → used.kind ≡ Used → used.at ≢ first.at → extent_at used.at (first ∷ second ∷ []) ≡ Some used → ⊥
-no_other first second free used is other found =
-    elim (in_two first second used.at used found) [
+pub no_other : (first second : Extent) → second.kind ≢ Used → {used : Extent} → used.kind ≡ Used → used.at ≢ first.at → extent_at used.at (first ∷ second ∷ []) ≡ Some used → ⊥
+no_other first second free {used} is other found =
+    elim (in_two first second used.at found) [
       | inl here ↦ other (ap (λ (e : Extent). e.at) (sym here))
       | inr behind ↦ free (ap (λ (e : Extent). e.kind) behind ∙ is)
     ]
 
 -- ---- the two
 
-module _ {A : Type 0} (regions : A → List Grant) (word : A → ℕ → ℕ) (heap : Dlmalloc A) (sound : IsSound regions word heap) (at size : ℕ)
+module _ {A : Type 0} {regions : A → List Grant} {word : A → ℕ → ℕ} {heap : Dlmalloc A} (sound : IsSound regions word heap) {at size : ℕ}
     (there : extent_at at (extents_in (state_of word heap)) ≡ Some (extent at size Used)) where
   abbrev segments : List Segment
   segments = segments_of word heap
@@ -55,17 +55,17 @@ module _ {A : Type 0} (regions : A → List Grant) (word : A → ℕ → ℕ) (h
   chunk = extent at size Used
 
   abbrev pub one : IsRunOf words segments at (at + size) (chunk ∷ [])
-  one = run_of (regions heap.system) words segments sound.segments chunk there
+  one = run_of (regions heap.system) words segments sound.segments there
 
   abbrev pub next : HasNext one.last
-  next = has_next (regions heap.system) words segments sound.segments at (at + size) (chunk ∷ []) one refl
+  next = has_next (regions heap.system) sound.segments one refl
 
-  module _ (length : ℕ) (kind : Kind) (is : next.next ≡ extent (at + size) length kind) where
+  module _ {length : ℕ} {kind : Kind} (is : next.next ≡ extent (at + size) length kind) where
     abbrev behind : Extent
     behind = extent (at + size) length kind
 
     pub two : IsRunOf words segments at (at + size + length) (chunk ∷ behind ∷ [])
-    two = subst (λ (e : Extent). IsRunOf words segments at (at + size + e.size) (chunk ∷ e ∷ [])) is (with_next (regions heap.system) words segments sound.segments at (at + size) (chunk ∷ []) one next)
+    two = subst (λ (e : Extent). IsRunOf words segments at (at + size + e.size) (chunk ∷ e ∷ [])) is (with_next (regions heap.system) sound.segments one next)
 
     pub low : two.segment.base ≤ at
     low = tiles_le words Used two.segment.base two.first at two.first_stand
@@ -74,13 +74,13 @@ module _ {A : Type 0} (regions : A → List Grant) (word : A → ℕ → ℕ) (h
     high = tiles_le words kind (at + size + length) two.last (two.segment.base + two.segment.size) two.last_stand
 
     pub end_small : two.segment.base + two.segment.size < 2 ^ 64
-    end_small = (run_part (regions heap.system) words segments sound.segments at (at + size + length) (chunk ∷ behind ∷ []) two).high
+    end_small = (run_part (regions heap.system) sound.segments two).high
 
     pub head_there : (k : ℕ) → at ≤ k → k + 16 ≤ two.segment.base + two.segment.size → k % 8 ≡ 0 → HasHead (regions heap.system) k
     head_there k above below m = record {
       aligned = m;
       small = omega (arith, end_small, below);
-      granted = run_word (regions heap.system) words segments sound.segments at (at + size + length) (chunk ∷ behind ∷ []) two (k + 8) (omega (arith, low, above)) (omega arith) (omega (arith, m));
+      granted = run_word (regions heap.system) sound.segments two (k + 8) (omega (arith, low, above)) (omega arith) (omega (arith, m));
     }
 
     -- what a step leaves, in which the chunk takes bytes
@@ -88,23 +88,23 @@ module _ {A : Type 0} (regions : A → List Grant) (word : A → ℕ → ℕ) (h
       abbrev after : Dlmalloc A
       after = record heap { system = system; top = top; top_size = top_size; victim = victim; victim_size = victim_size }
 
-      pub enlarged : (less more others : List Extent) (step : IsStep regions word heap after less more) →
+      pub enlarged : {less more : List Extent} (others : List Extent) (step : IsStep regions word heap after less more) →
           step.front ++ step.now ∷ step.back ≡ two.front ++ with_extents two.segment (two.first ++ (others ++ two.last)) ∷ two.back → cut n (joined chunk behind) ≡ others →
           extent_at at more ≡ Some (extent at whole Used) →
           ((used : Extent) → used.kind ≡ Used → used.at ≢ at → extent_at used.at less ≡ Some used → extent_at used.at more ≡ Some used) →
           ((used : Extent) → used.kind ≡ Used → used.at ≢ at → extent_at used.at more ≡ Some used → extent_at used.at less ≡ Some used) →
           (victim_size ≡ 0 → victim ≡ 0) → (victim_size ≢ 0 → extent_at victim (extents_in (state_of word after)) ≡ Some (extent victim victim_size Free)) →
           victim ≡ (grown_into (state_of word heap) chunk behind n).victim → IsEnlarged regions word heap chunk behind n whole after
-      enlarged less more others step now parts held kept only none named left = record {
+      enlarged others step now parts held kept only none named left = record {
         state = (
-            let segments_are = read regions word heap after sound less more step ∙ (now ∙ (ap (λ (es : List Extent). two.front ++ with_extents two.segment (two.first ++ (es ++ two.last)) ∷ two.back) (sym parts)
-            ∙ sym (both_run (regions heap.system) words segments sound.segments sound.apart chunk behind (at + size + length) (λ one behind. cut n (joined one behind)) two))) in
+            let segments_are = read sound step ∙ (now ∙ (ap (λ (es : List Extent). two.front ++ with_extents two.segment (two.first ++ (es ++ two.last)) ∷ two.back) (sym parts)
+            ∙ sym (both_run (regions heap.system) words sound.segments sound.apart chunk behind (λ one behind. cut n (joined one behind)) two))) in
             λ i. record { segments = segments_are i; victim = left i; granularity = heap.granularity; rate = heap.rate; countdown = heap.countdown; trim_check = heap.trim_check });
-        held = found_new regions word heap after sound less more step at (extent at whole Used) held;
+        held = found_new sound step at (extent at whole Used) held;
         others = record {
-          kept = λ used is other again there. found_again regions word heap after sound less more step used.at used (kept used is other) there;
-          only = λ used is other again there. found_before regions word heap after sound less more step used.at used (only used is other) there;
+          kept = λ used is other again there. found_again sound step used.at (kept used is other) there;
+          only = λ used is other again there. found_before sound step used.at (only used is other) there;
         };
-        sound = stays_sound regions word heap after sound less more step same refl refl refl refl none named;
-        words = keeps_words regions word heap after sound less more step;
+        sound = stays_sound sound step same refl refl refl refl none named;
+        words = keeps_words sound step;
       }

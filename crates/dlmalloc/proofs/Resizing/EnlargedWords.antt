@@ -37,12 +37,12 @@ both_here words before from (extent ∷ second ∷ first) one next last others h
     let rest = both_here words extent.kind (from + extent.size) (second ∷ first) one next last others h.2 in
     rw test (ap (λ (es : List Extent). extent ∷ es) rest)
 
-pub both_run : (regions : List Grant) (words : ℕ → ℕ) (segments : List Segment) → AreSegments regions words segments → AreApart segments → (one next : Extent) (to : ℕ) (others : Extent → Extent → List Extent) →
+pub both_run : (regions : List Grant) (words : ℕ → ℕ) {segments : List Segment} → AreSegments regions words segments → AreApart segments → (one next : Extent) {to : ℕ} (others : Extent → Extent → List Extent) →
     (run : IsRunOf words segments one.at to (one ∷ next ∷ [])) →
     in_segments (replaced_both one.at others) segments ≡ run.front ++ with_extents run.segment (run.first ++ (others one next ++ run.last)) ∷ run.back
-both_run regions words segments parts apart one next to others run =
+both_run regions words parts apart one next {to} others run =
     ap (in_segments (replaced_both one.at others)) run.is
-    ∙ in_one regions words (replaced_both one.at others) run.front run.segment run.back (run.first ++ (others one next ++ run.last)) (subst (AreSegments regions words) run.is parts) (subst AreApart run.is apart)
+    ∙ in_one regions words (replaced_both one.at others) run.front run.segment run.back (subst (AreSegments regions words) run.is parts) (subst AreApart run.is apart)
     (λ other part beyond. both_none words Used other.base other.extents (other.base + other.size) one.at others (out other beyond) part.extents)
     (ap (replaced_both one.at others) run.extents ∙ both_here words Used run.segment.base run.first one next run.last others run.first_stand)
   where
@@ -60,7 +60,7 @@ both_run regions words segments parts apart one next to others run =
 
 -- ---- the moves
 
-module _ (regions : List Grant) (old new : ℕ → ℕ) (before : Kind) (at size : ℕ) (stands : HasChunk old before (extent at size Used)) where
+module _ (regions : List Grant) {old : ℕ → ℕ} (new : ℕ → ℕ) {before : Kind} {at size : ℕ} (stands : HasChunk old before (extent at size Used)) where
   told : pinuse_of (old (at + 8)) ≡ is_used before
   told = ap pinuse_of stands.head ∙ pinuse_of-head_of size (is_used before) true (let w = stands.size.0 in omega arith)
 
@@ -76,10 +76,10 @@ module _ (regions : List Grant) (old new : ℕ → ℕ) (before : Kind) (at size
   }
 
   -- the top keeps a rest
-  pub grown_top : (top n : ℕ) → HasChunk old Used (extent (at + size) top Top) → n % 16 ≡ 0 → 32 ≤ n → n + 16 ≤ size + top →
+  pub grown_top : {top : ℕ} (n : ℕ) → HasChunk old Used (extent (at + size) top Top) → n % 16 ≡ 0 → 32 ≤ n → n + 16 ≤ size + top →
       AreStored regions old ((at + 8, head_of n (pinuse_of (old (at + 8))) true) ∷ (at + n + 8, size + top - n + 1) ∷ []) new →
       IsMove regions old new before at (at + size + top) (at + size + top) (extent at size Used ∷ extent (at + size) top Top ∷ []) (extent at n Used ∷ extent (at + n) (size + top - n) Top ∷ [])
-  grown_top top n behind whole least room stored =
+  grown_top n behind whole least room stored =
       let place = stands.whole in
       let units = stands.size.0 in
       let units_top = behind.size.0 in
@@ -153,7 +153,7 @@ module _ (regions : List Grant) (old new : ℕ → ℕ) (before : Kind) (at size
           longer (size + free) (omega arith) (omega arith) (stored.here.0 ((λ is. omega arith), tt)),
           (
             sum,
-            rehung old new Free Used next after kind (may_stand next.kind Used kind (inl refl))
+            rehung new Used after kind (may_stand next.kind Used kind (inl refl))
                 (subst (λ (a : ℕ). new (a + 8) ≡ head_of (told_size next.kind next.size) true (is_used next.kind)) (sym sum)
                 (stored.here.1.0 tt ∙ (ap (λ (a : ℕ). with_pinuse (old (a + 8))) (sym sum)
                 ∙ (ap with_pinuse after.head ∙ with_pinuse-head_of (told_size next.kind next.size) false (is_used next.kind) (told_whole next.kind next.size after.size)))))

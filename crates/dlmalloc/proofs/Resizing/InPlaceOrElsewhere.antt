@@ -8,8 +8,8 @@ use Rattle.dlmalloc.proofs.Laws.{used_inside, used_apart}
 use Rattle.dlmalloc.proofs.Blocks.Chunks.{blocks_apart}
 use Rattle.dlmalloc.proofs.Blocks.Words.{block_words, same_heap, served_block, same_binned}
 
-place_found : (k : ℕ) (extents : List Extent) (one : Extent) → extent_at k extents ≡ Some one → one.at ≡ k
-place_found k extents one there = (found k one extents there).place
+place_found : (k : ℕ) (extents : List Extent) {one : Extent} → extent_at k extents ≡ Some one → one.at ≡ k
+place_found k extents {one} there = (found k one extents there).place
 
 -- a block is one of as many bytes as its chunk has room for
 pub widest : (heap : HeapState) (ptr n : ℕ) (block : IsBlock heap ptr n) → IsBlock heap ptr (block.extent.size - 8)
@@ -27,23 +27,23 @@ pub size_at : (heap : HeapState) (at : ℕ) (one : Extent) → extent_at at (ext
 size_at heap at one there = ap (λ (o : Option Extent). unwrap_or (option_map (λ (extent : Extent). extent.size) o) 0) there
 
 -- its chunk
-pub chunk_there : (heap : HeapState) (ptr n : ℕ) (block : IsBlock heap ptr n) → extent_at (ptr - 16) (extents_in heap) ≡ Some (extent (ptr - 16) block.extent.size Used)
-chunk_there heap ptr n block = block.there ∙ (λ i. Some (extent ((found (ptr - 16) block.extent (extents_in heap) block.there).place i) block.extent.size (block.used i)))
+pub chunk_there : {heap : HeapState} {ptr n : ℕ} (block : IsBlock heap ptr n) → extent_at (ptr - 16) (extents_in heap) ≡ Some (extent (ptr - 16) block.extent.size Used)
+chunk_there {heap} {ptr} block = block.there ∙ (λ i. Some (extent ((found (ptr - 16) block.extent (extents_in heap) block.there).place i) block.extent.size (block.used i)))
 
 -- where an address is told, a block is there
-pub block_told : (heap : HeapState) (ptr : Option ℕ) (address : ℕ) → ptr ≡ Some address → IfSome ptr (λ at. (size : ℕ) × IsBlock heap at size) → (size : ℕ) × IsBlock heap address size
-block_told heap ptr address is block = subst (λ (o : Option ℕ). IfSome o (λ at. (size : ℕ) × IsBlock heap at size)) is block
+pub block_told : (heap : HeapState) {ptr : Option ℕ} {address : ℕ} → ptr ≡ Some address → IfSome ptr (λ at. (size : ℕ) × IsBlock heap at size) → (size : ℕ) × IsBlock heap address size
+block_told heap is block = subst (λ (o : Option ℕ). IfSome o (λ at. (size : ℕ) × IsBlock heap at size)) is block
 
 -- what is found among the others is found, and elsewhere
-pub other_there : (at : ℕ) (extents : List Extent) (k : ℕ) (one : Extent) → extent_at k (others_at at extents) ≡ Some one → (one.at ≢ at) × (extent_at k extents ≡ Some one)
-other_there at [] k one there = absurd (cc)
-other_there at (first ∷ extents) k one there = go (first.at == at) (first.at == k) refl refl (λ later. other_there at extents k one later)
+pub other_there : (at : ℕ) (extents : List Extent) (k : ℕ) {one : Extent} → extent_at k (others_at at extents) ≡ Some one → (one.at ≢ at) × (extent_at k extents ≡ Some one)
+other_there at [] k there = absurd (cc)
+other_there at (first ∷ extents) k {one} there = go (first.at == at) (first.at == k) refl refl (λ later. other_there at extents k later)
   where
     go : (here is : Bool) → (first.at == at) ≡ here → (first.at == k) ≡ is → (extent_at k (others_at at extents) ≡ Some one → (one.at ≢ at) × (extent_at k extents ≡ Some one)) →
         (one.at ≢ at) × (extent_at k (first ∷ extents) ≡ Some one)
     go true is at_first at_k rest =
         let later = rest (subst (λ (b : Bool). extent_at k (if not b then first ∷ others_at at extents else others_at at extents) ≡ Some one) at_first there) in
-        let apart : (first.at == k) ≡ false = differ first.at k (λ same. later.0 (place_found k extents one later.1 ∙ (sym same ∙ nat_is at_first))) in
+        let apart : (first.at == k) ≡ false = differ first.at k (λ same. later.0 (place_found k extents later.1 ∙ (sym same ∙ nat_is at_first))) in
         (later.0, rw apart later.1)
     go false true at_first at_k rest =
         let with_first : extent_at k (first ∷ others_at at extents) ≡ Some one = subst (λ (b : Bool). extent_at k (if not b then first ∷ others_at at extents else others_at at extents) ≡ Some one) at_first there in
@@ -61,11 +61,11 @@ other_there at (first ∷ extents) k one there = go (first.at == at) (first.at =
 
 -- ---- where it stands
 
-pub stays_there : {A : Type 0} (regions : A → List Grant) (word : A → ℕ → ℕ) (follows : A → List Event → A → Type 0) (old new : Dlmalloc A) (ptr n held size whole : ℕ) → IsSound regions word old → (block : IsBlock (state_of word old) ptr n) → held + 8 ≤ block.extent.size → size < limit old.granularity →
+pub stays_there : {A : Type 0} {regions : A → List Grant} {word : A → ℕ → ℕ} {follows : A → List Event → A → Type 0} (old new : Dlmalloc A) {ptr n : ℕ} (held size whole : ℕ) → IsSound regions word old → (block : IsBlock (state_of word old) ptr n) → held + 8 ≤ block.extent.size → size < limit old.granularity →
     size + 8 ≤ padded size → padded size ≤ size + 32 → padded size ≤ whole → whole < padded size + 32 →
     in_place (state_of word old) (ptr - 16) (padded size) ≡ Some (state_of word new) → extent_at (ptr - 16) (extents_in (state_of word new)) ≡ Some (extent (ptr - 16) whole Used) →
     HasSameOthers (state_of word old) (state_of word new) (ptr - 16) (ptr - 16) → IsTurned regions word follows old new → KeepsOrder regions word old new → IsInPlace regions word follows old ptr held size new
-stays_there regions word follows old new ptr n held size whole sound block kept_bytes small holds near fits little state there others moved order = record {
+stays_there {regions} {word} old new {ptr} held size whole sound block kept_bytes small holds near fits little state there others moved order = record {
   order = order;
   small = small;
   state = state;
@@ -74,15 +74,15 @@ stays_there regions word follows old new ptr n held size whole sound block kept_
   contents = λ k less m.
       let inside = used_inside regions word new moved.sound chunk refl there in
       let low = block.low in
-      kept_in regions word old new moved.sound moved.words chunk there refl (ptr + k) (omega (arith, low)) (omega (arith, low, less, holds, fits)) (record {
+      kept_in regions word old moved.sound moved.words chunk there refl (ptr + k) (omega (arith, low)) (omega (arith, low, less, holds, fits)) (record {
         granted = subst (λ (rs : List Grant). IsTrue (is_granted rs (ptr + k))) moved.regions_same (inside.granted (ptr + k) (omega (arith, low)) (omega (arith, low, less, holds, fits)));
         aligned = omega (arith, low, m, inside.whole);
       })
       (let place = (found (ptr - 16) block.extent (extents_in (state_of word old)) block.there).place in
-      not_in_free regions word old sound block.extent (ap (λ (a : ℕ). extent_at a (extents_in (state_of word old))) place ∙ block.there) block.used (ptr + k) (omega (arith, low, place)) (omega (arith, low, place, less, kept_bytes)));
-  kept = blocks_law regions word old new sound moved.sound moved.words (others_at (ptr - 16) (extents_in (state_of word old)))
+      not_in_free sound (ap (λ (a : ℕ). extent_at a (extents_in (state_of word old))) place ∙ block.there) block.used (ptr + k) (omega (arith, low, place)) (omega (arith, low, place, less, kept_bytes)));
+  kept = blocks_law sound moved.sound moved.words (others_at (ptr - 16) (extents_in (state_of word old)))
       (λ other there used.
-      let is = other_there (ptr - 16) (extents_in (state_of word old)) other.at other there in
+      let is = other_there (ptr - 16) (extents_in (state_of word old)) other.at there in
       (is.1, others.kept other used is.0 is.0 is.1));
   moved = moved;
 }
@@ -93,10 +93,10 @@ stays_there regions word follows old new ptr n held size whole sound block kept_
 -- ---- elsewhere
 
 -- what is held of a block is in its chunk
-pub held_there : (heap : HeapState) (ptr n held : ℕ) (block : IsBlock heap ptr n) → held + 8 ≤ size_where (λ extent. extent.at == ptr - 16) (extents_in heap) → held + 8 ≤ block.extent.size
-held_there heap ptr n held block fits = omega (arith, fits, size_at heap (ptr - 16) block.extent block.there)
+pub held_there : {heap : HeapState} {ptr n : ℕ} (held : ℕ) (block : IsBlock heap ptr n) → held + 8 ≤ size_where (λ extent. extent.at == ptr - 16) (extents_in heap) → held + 8 ≤ block.extent.size
+held_there {heap} {ptr} held block fits = omega (arith, fits, size_at heap (ptr - 16) block.extent block.there)
 
-module _ {A : Type 0} (regions : A → List Grant) (word : A → ℕ → ℕ) (zeros : A → Bool) (follows : A → List Event → A → Type 0) (old : Dlmalloc A) (ptr held align size address n : ℕ) (sound : IsSound regions word old) (block : IsBlock (state_of word old) ptr n)
+module _ {A : Type 0} {regions : A → List Grant} {word : A → ℕ → ℕ} (zeros : A → Bool) (follows : A → List Event → A → Type 0) {old : Dlmalloc A} {ptr : ℕ} (held align size address : ℕ) {n : ℕ} (sound : IsSound regions word old) (block : IsBlock (state_of word old) ptr n)
     (fits : held + 8 ≤ size_where (λ extent. extent.at == ptr - 16) (extents_in (state_of word old))) (middle : Dlmalloc A) (served : IsServedAt regions word zeros follows old size align address middle) where
   more : HasOneMore (state_of word old) (state_of word middle) (address - 16)
   more = elim served [ inl few ↦ few.1.more | inr many ↦ many.1.more ]
@@ -131,15 +131,15 @@ module _ {A : Type 0} (regions : A → List Grant) (word : A → ℕ → ℕ) (z
   few_to = omega arith
 
   pub from_words : AreWordsOf (regions middle.system) ptr (words_in (min held size))
-  from_words = block_words regions word middle new_block.0 ptr (block.extent.size - 8) still (min held size) few_from
+  from_words = block_words new_block.0 still (min held size) few_from
 
   pub to_words : AreWordsOf (regions middle.system) address (words_in (min held size))
-  to_words = block_words regions word middle new_block.0 address size new_block.1 (min held size) few_to
+  to_words = block_words new_block.0 new_block.1 (min held size) few_to
 
   pub words_apart : (ptr + 8 * words_in (min held size) ≤ address) ⊎ (address + 8 * words_in (min held size) ≤ ptr)
   words_apart =
       let low = block.low in let new_low = new_block.1.low in let few = few_from in
-      elim (blocks_apart regions word middle new_block.0 ptr (block.extent.size - 8) address size still new_block.1 (λ same. more.new block.extent block.used there (omega (arith, place, same)))) [
+      elim (blocks_apart new_block.0 ptr (block.extent.size - 8) address size still new_block.1 (λ same. more.new block.extent block.used there (omega (arith, place, same)))) [
         | inl before ↦ inl (omega (arith, few, before))
         | inr behind ↦ inr (omega (arith, behind))
       ]
@@ -150,32 +150,32 @@ module _ {A : Type 0} (regions : A → List Grant) (word : A → ℕ → ℕ) (z
     filled = record middle { system = system }
 
     pub copied_heap : IsSameHeap regions word follows middle filled
-    copied_heap = same_heap regions word middle new_block.0 address size new_block.1 follows (min held size) few_to system same followed copied.elsewhere
+    copied_heap = same_heap new_block.0 new_block.1 follows (min held size) few_to system same followed copied.elsewhere
 
     abbrev pub copied_binned : IndexStays → IsBinned regions word middle → IsBinned regions word filled
-    copied_binned stays = same_binned regions word middle new_block.0 address size new_block.1 stays (min held size) few_to system same copied.elsewhere
+    copied_binned stays = same_binned new_block.0 new_block.1 stays (min held size) few_to system same copied.elsewhere
 
     pub copied_block : IsBlock (state_of word filled) ptr (block.extent.size - 8)
     copied_block = subst (λ (s : HeapState). IsBlock s ptr (block.extent.size - 8)) (sym copied_heap.state) still
 
     -- ---- and the old one was freed
 
-    module _ (frees parts : Bool) (unit : ℕ) (new : Dlmalloc A) (freed : IsFreed regions word follows frees parts unit filled ptr new) where
+    module _ {frees parts : Bool} {unit : ℕ} {new : Dlmalloc A} (freed : IsFreed regions word follows frees parts unit filled ptr new) where
       abbrev cut : Extent
       cut = new_block.1.extent
 
       cut_place : cut.at ≡ address - 16
-      cut_place = place_found (address - 16) (extents_in (state_of word middle)) cut new_block.1.there
+      cut_place = place_found (address - 16) (extents_in (state_of word middle)) new_block.1.there
 
       cut_there : extent_at cut.at (extents_in (state_of word middle)) ≡ Some cut
       cut_there = ap (λ (a : ℕ). extent_at a (extents_in (state_of word middle))) cut_place ∙ new_block.1.there
 
       -- what is in use then, elsewhere, is in use in the end
-      ends : (used : Extent) → used.kind ≡ Used → extent_at used.at (extents_in (state_of word middle)) ≡ Some used → used.at ≢ ptr - 16 → extent_at used.at (extents_in (state_of word new)) ≡ Some used
-      ends used is found other = freed.less.only used is (ap (λ (s : HeapState). extent_at used.at (extents_in s)) copied_heap.state ∙ found) other
+      ends : {used : Extent} → used.kind ≡ Used → extent_at used.at (extents_in (state_of word middle)) ≡ Some used → used.at ≢ ptr - 16 → extent_at used.at (extents_in (state_of word new)) ≡ Some used
+      ends {used} is found other = freed.less.only used is (ap (λ (s : HeapState). extent_at used.at (extents_in s)) copied_heap.state ∙ found) other
 
       cut_new : extent_at cut.at (extents_in (state_of word new)) ≡ Some cut
-      cut_new = ends cut new_block.1.used cut_there (λ same. more.new block.extent block.used there (place ∙ (sym same ∙ cut_place)))
+      cut_new = ends new_block.1.used cut_there (λ same. more.new block.extent block.used there (place ∙ (sym same ∙ cut_place)))
 
       pub moved_block : IsBlock (state_of word new) address size
       moved_block = record {
@@ -201,17 +201,17 @@ module _ {A : Type 0} (regions : A → List Grant) (word : A → ℕ → ℕ) (z
       pub moved_kept : KeepsBlocks (others_at (ptr - 16) (extents_in (state_of word old))) (word old.system) (word new.system)
       moved_kept = record {
         words = λ other found used k low high m.
-            let is = other_there (ptr - 16) (extents_in (state_of word old)) other.at other found in
+            let is = other_there (ptr - 16) (extents_in (state_of word old)) other.at found in
             let then_there = more.kept other used is.1 in
             let inside = used_inside regions word middle new_block.0 other used then_there in
-            freed.kept.words other (ends other used then_there is.0) used k low high m
+            freed.kept.words other (ends used then_there is.0) used k low high m
             ∙ (copied.elsewhere k (record { granted = inside.granted k (omega (arith, low)) (omega (arith, high)); aligned = m }) (beside other used is.1 k (omega (arith, low)) high)
             ∙ first_kept.words other is.1 used k low high m);
         heads = λ other found used.
-            let is = other_there (ptr - 16) (extents_in (state_of word old)) other.at other found in
+            let is = other_there (ptr - 16) (extents_in (state_of word old)) other.at found in
             let then_there = more.kept other used is.1 in
             let inside = used_inside regions word middle new_block.0 other used then_there in
-            freed.kept.heads other (ends other used then_there is.0) used
+            freed.kept.heads other (ends used then_there is.0) used
             ∙ (ap (λ (w : ℕ). w / 2) (copied.elsewhere (other.at + 8) (record { granted = inside.granted (other.at + 8) (omega arith) (omega arith); aligned = omega (arith, inside.whole) })
             (beside other used is.1 (other.at + 8) (omega arith) (omega (arith, inside.long))))
             ∙ first_kept.heads other is.1 used);

@@ -13,7 +13,7 @@ use Rattle.dlmalloc.proofs.Moves.OfHeaps.{IsStep, found_new, found_again}
 use Rattle.dlmalloc.proofs.Extents.RunReplaced.{step_beside, HasNext, has_next, with_next, behind, run_word}
 use Rattle.dlmalloc.proofs.Frees.Behind.{next_there, place}
 
-module _ {A : Type 0} (regions : A → List Grant) (word : A → ℕ → ℕ) (heap : Dlmalloc A) (sound : IsSound regions word heap) (at size length n : ℕ)
+module _ {A : Type 0} {regions : A → List Grant} {word : A → ℕ → ℕ} {heap : Dlmalloc A} (sound : IsSound regions word heap) {at size length : ℕ} (n : ℕ)
     (there : extent_at at (extents_in (state_of word heap)) ≡ Some (extent at size Used)) (free_there : extent_at (at + size) (extents_in (state_of word heap)) ≡ Some (extent (at + size) length Free))
     (multiple : n % 16 ≡ 0) (more : size < n) (room : n ≤ size + length) where
   abbrev segments : List Segment
@@ -28,12 +28,12 @@ module _ {A : Type 0} (regions : A → List Grant) (word : A → ℕ → ℕ) (h
   abbrev free : Extent
   free = extent (at + size) length Free
 
-  next_is : (next regions word heap sound at size there).next ≡ free
-  next_is = the_extent (sym (next_there regions word heap sound at size there)
-      ∙ (ap (λ (a : ℕ). extent_at a (extents_in (state_of word heap))) (place regions word heap sound at size there) ∙ free_there))
+  next_is : (next sound there).next ≡ free
+  next_is = the_extent (sym (next_there sound there)
+      ∙ (ap (λ (a : ℕ). extent_at a (extents_in (state_of word heap))) (place sound there) ∙ free_there))
 
   abbrev both : IsRunOf words segments at (at + size + length) (chunk ∷ free ∷ [])
-  both = two regions word heap sound at size there length Free next_is
+  both = two sound there next_is
 
   stands : HasChunk words (last_kind Used both.first) chunk
   stands = both.here.1
@@ -46,10 +46,10 @@ module _ {A : Type 0} (regions : A → List Grant) (word : A → ℕ → ℕ) (h
 
   -- what stands behind the free one
   abbrev third : HasNext both.last
-  third = has_next (regions heap.system) words segments sound.segments at (at + size + length) (chunk ∷ free ∷ []) both refl
+  third = has_next (regions heap.system) sound.segments both refl
 
   stands_third : Tiles words Free (at + size + length) (third.next ∷ third.rest) (both.segment.base + both.segment.size)
-  stands_third = behind (regions heap.system) words segments sound.segments at (at + size + length) (chunk ∷ free ∷ []) both third
+  stands_third = behind (regions heap.system) sound.segments both third
 
   below : at + size + length + third.next.size ≤ both.segment.base + both.segment.size
   below = tiles_le words third.next.kind (at + size + length + third.next.size) third.rest (both.segment.base + both.segment.size) stands_third.2
@@ -58,7 +58,7 @@ module _ {A : Type 0} (regions : A → List Grant) (word : A → ℕ → ℕ) (h
   end_room = let long = (sized third.next.kind third.next.size stands_third.1.size).1 in omega (arith, below)
 
   pub free_end_small : at + size + length + 16 < 2 ^ 64
-  free_end_small = omega (arith, end_room, end_small regions word heap sound at size there length Free next_is)
+  free_end_small = omega (arith, end_room, end_small sound there next_is)
 
   pub free_at_whole : at % 16 ≡ 0
   free_at_whole = stands.whole
@@ -67,14 +67,14 @@ module _ {A : Type 0} (regions : A → List Grant) (word : A → ℕ → ℕ) (h
   free_sizes_whole = omega (arith, stands.size.0, stands_free.size.0)
 
   pub free_head_there : (k : ℕ) → at ≤ k → k ≤ at + size + length → k % 8 ≡ 0 → HasHead (regions heap.system) k
-  free_head_there k above under m = head_there regions word heap sound at size there length Free next_is k above (omega (arith, end_room, under)) m
+  free_head_there k above under m = head_there sound there next_is k above (omega (arith, end_room, under)) m
 
   pub free_foot_there : (k : ℕ) → at ≤ k → k ≤ at + size + length → k % 8 ≡ 0 → HasFoot (regions heap.system) k
   free_foot_there k above under m = record {
     aligned = m;
     small = omega (arith, free_end_small, under);
-    granted = run_word (regions heap.system) words segments sound.segments at (at + size + length) (chunk ∷ free ∷ []) both k
-        (omega (arith, low regions word heap sound at size there length Free next_is, above)) (omega (arith, end_room, under)) m;
+    granted = run_word (regions heap.system) sound.segments both k
+        (omega (arith, low sound there next_is, above)) (omega (arith, end_room, under)) m;
   }
 
   -- the free chunk is found in a run
@@ -96,10 +96,10 @@ module _ {A : Type 0} (regions : A → List Grant) (word : A → ℕ → ℕ) (h
       parts = extent at n Used ∷ extent (at + n) (size + length - n) Free ∷ []
 
       abbrev split_step : (victim victim_size : ℕ) → IsStep regions word heap (after victim victim_size) (chunk ∷ free ∷ []) parts
-      split_step victim victim_size = step_beside regions word heap (after victim victim_size) sound same at (at + size + length) (chunk ∷ free ∷ []) parts both
-          (grown_split (regions heap.system) words (word system) (last_kind Used both.first) at size stands length n stands_free multiple least rest_room stored) refl
-          (λ k tail found is. absurd (no_kind chunk free Record (λ is. cc) (λ is. cc) k tail found is)) refl (record { base = refl; size = refl; flags = refl; top = refl; top_size = refl })
-          (λ k tail found is. absurd (no_kind chunk free Top (λ is. cc) (λ is. cc) k tail found is))
+      split_step victim victim_size = step_beside (after victim victim_size) sound same both
+          (grown_split (regions heap.system) (word system) stands length n stands_free multiple least rest_room stored) refl
+          (λ k tail found is. absurd (no_kind chunk free Record (λ is. cc) (λ is. cc) k found is)) refl (record { base = refl; size = refl; flags = refl; top = refl; top_size = refl })
+          (λ k tail found is. absurd (no_kind chunk free Top (λ is. cc) (λ is. cc) k found is))
 
       has_rest : nat_le (n + 32) (size + length) ≡ true
       has_rest = grind (arith, nat_tests)
@@ -108,10 +108,10 @@ module _ {A : Type 0} (regions : A → List Grant) (word : A → ℕ → ℕ) (h
           (victim_size ≢ 0 → extent_at victim (extents_in (state_of word (after victim victim_size))) ≡ Some (extent victim victim_size Free)) →
           victim ≡ (grown_into (state_of word heap) chunk free n).victim → IsEnlarged regions word heap chunk free n n (after victim victim_size)
       split victim victim_size none named left =
-          enlarged regions word heap sound at size there length Free next_is n n system same heap.top heap.top_size victim victim_size (chunk ∷ free ∷ []) parts parts (split_step victim victim_size) refl
+          enlarged sound there next_is n n system same heap.top heap.top_size victim victim_size parts (split_step victim victim_size) refl
           (rw has_rest refl) (let here = nat_same at in rw here refl)
-          (λ used is other found. absurd (no_other chunk free (λ is. cc) used is other found))
-          (λ used is other found. absurd (no_other (extent at n Used) (extent (at + n) (size + length - n) Free) (λ is. cc) used is other found))
+          (λ used is other found. absurd (no_other chunk free (λ is. cc) is other found))
+          (λ used is other found. absurd (no_other (extent at n Used) (extent (at + n) (size + length - n) Free) (λ is. cc) is other found))
           none named left
 
       -- it was the victim, and its rest is
@@ -122,7 +122,7 @@ module _ {A : Type 0} (regions : A → List Grant) (word : A → ℕ → ℕ) (h
           (λ some.
           let first : (at == at + n) ≡ false = nat_isnt (inl (omega (arith, least))) in
           let second : (at + n == at + n) ≡ true = nat_same (at + n) in
-          found_new regions word heap (after (at + n) (size + length - n)) sound (chunk ∷ free ∷ []) parts (split_step (at + n) (size + length - n)) (at + n) (extent (at + n) (size + length - n) Free) (rw (first, second) refl))
+          found_new sound (split_step (at + n) (size + length - n)) (at + n) (extent (at + n) (size + length - n) Free) (rw (first, second) refl))
           (rw (test, has_rest) refl)
 
       -- another is, and stays
@@ -130,8 +130,8 @@ module _ {A : Type 0} (regions : A → List Grant) (word : A → ℕ → ℕ) (h
       into_binned isnt =
           let test : (at + size == heap.victim) ≡ false = differ (at + size) heap.victim isnt in
           split heap.victim heap.victim_size sound.no_victim
-          (λ some. found_again regions word heap (after heap.victim heap.victim_size) sound (chunk ∷ free ∷ []) parts (split_step heap.victim heap.victim_size) heap.victim (extent heap.victim heap.victim_size Free)
-          (λ found. absurd (elim (in_two chunk free heap.victim (extent heap.victim heap.victim_size Free) found) [
+          (λ some. found_again sound (split_step heap.victim heap.victim_size) heap.victim
+          (λ found. absurd (elim (in_two chunk free heap.victim found) [
             | inl here ↦ (let no : Used ≡ Free = ap (λ (e : Extent). e.kind) here in cc)
             | inr behind ↦ isnt (ap (λ (e : Extent). e.at) behind)
           ])) (sound.victim some))
@@ -145,12 +145,12 @@ module _ {A : Type 0} (regions : A → List Grant) (word : A → ℕ → ℕ) (h
           rw (first, second) refl
 
       pub split_rest : (victim victim_size : ℕ) → IsFreeAt (state_of word (after victim victim_size)) (at + n) (size + length - n)
-      split_rest victim victim_size = found_new regions word heap (after victim victim_size) sound (chunk ∷ free ∷ []) parts (split_step victim victim_size) (at + n) (extent (at + n) (size + length - n) Free) rest_there
+      split_rest victim victim_size = found_new sound (split_step victim victim_size) (at + n) (extent (at + n) (size + length - n) Free) rest_there
 
       pub split_free : (victim victim_size : ℕ) → FreeMoves (state_of word heap) (state_of word (after victim victim_size)) ((at + size) ∷ []) (if nat_le (n + 32) (size + length) then (at + n) ∷ [] else [])
       split_free victim victim_size = subst (λ (b : Bool). FreeMoves (state_of word heap) (state_of word (after victim victim_size)) ((at + size) ∷ []) (if b then (at + n) ∷ [] else [])) (sym has_rest)
-          (free_moves regions word heap (after victim victim_size) sound (chunk ∷ free ∷ []) parts (split_step victim victim_size) ((at + size) ∷ []) ((at + n) ∷ []) only_free
-          (λ k bytes found. elim (in_two (extent at n Used) (extent (at + n) (size + length - n) Free) k (extent k bytes Free) found) [
+          (free_moves sound (split_step victim victim_size) ((at + size) ∷ []) ((at + n) ∷ []) only_free
+          (λ k bytes found. elim (in_two (extent at n Used) (extent (at + n) (size + length - n) Free) k found) [
             | inl here ↦ absurd (let no : Used ≡ Free = ap (λ (e : Extent). e.kind) here in cc)
             | inr behind ↦ inl (sym (ap (λ (e : Extent). e.at) behind))
           ])
@@ -158,7 +158,7 @@ module _ {A : Type 0} (regions : A → List Grant) (word : A → ℕ → ℕ) (h
           (λ k is. elim is [ inl place ↦ inr (extent (at + n) (size + length - n) Free, subst (λ (a : ℕ). extent_at a parts ≡ Some (extent (at + n) (size + length - n) Free)) (sym place) rest_there) | inr none ↦ absurd none ]))
         where
           only_free : (k bytes : ℕ) → extent_at k (chunk ∷ free ∷ []) ≡ Some (extent k bytes Free) → IsIn k ((at + size) ∷ [])
-          only_free k bytes found = elim (in_two chunk free k (extent k bytes Free) found) [
+          only_free k bytes found = elim (in_two chunk free k found) [
             | inl here ↦ absurd (let no : Used ≡ Free = ap (λ (e : Extent). e.kind) here in cc)
             | inr behind ↦ inl (sym (ap (λ (e : Extent). e.at) behind))
           ]
@@ -172,7 +172,7 @@ module _ {A : Type 0} (regions : A → List Grant) (word : A → ℕ → ℕ) (h
       last = third.next
 
       abbrev run : IsRunOf words segments at (at + size + length + last.size) (chunk ∷ free ∷ last ∷ [])
-      run = with_next (regions heap.system) words segments sound.segments at (at + size + length) (chunk ∷ free ∷ []) both third
+      run = with_next (regions heap.system) sound.segments both third
 
       abbrev three : List Extent
       three = chunk ∷ free ∷ last ∷ []
@@ -184,17 +184,17 @@ module _ {A : Type 0} (regions : A → List Grant) (word : A → ℕ → ℕ) (h
       move =
           let some : (size + length == 0) ≡ false = nat_isnt (inr (omega (arith, least, room))) in
           let place = stands_third.0 in
-          grown_whole (regions heap.system) words (word system) (last_kind Used both.first) at size stands length last stands_free stands_third.1 stands_third.0
+          grown_whole (regions heap.system) (word system) stands length last stands_free stands_third.1 stands_third.0
           (subst (λ (t : Bool). AreStored (regions heap.system) words ((at + 8, head_of (size + length) (pinuse_of (words (at + 8))) true)
           ∷ (at + (size + length) + 8, with_pinuse (if t then head_of (size + length) (pinuse_of (words (at + 8))) true else words (at + (size + length) + 8))) ∷ []) (word system)) some stored)
-          (λ k above under m. run_word (regions heap.system) words segments sound.segments at (at + size + length) (chunk ∷ free ∷ []) both k
-          (omega (arith, low regions word heap sound at size there length Free next_is, place, above)) (omega (arith, place, below, under)) m)
+          (λ k above under m. run_word (regions heap.system) sound.segments both k
+          (omega (arith, low sound there next_is, place, above)) (omega (arith, place, below, under)) m)
 
       -- what is found among the three, and is neither of the two that are one now, still is
-      still : (k : ℕ) (tail : Extent) → extent_at k three ≡ Some tail → (chunk ≡ tail → ⊥) → (free ≡ tail → ⊥) → extent_at k all ≡ Some tail
-      still k tail found not_chunk not_free =
-          elim (found_either k (chunk ∷ free ∷ []) (last ∷ []) tail found) [
-            | inl first ↦ absurd (elim (in_two chunk free k tail first) [ inl here ↦ not_chunk here | inr behind ↦ not_free behind ])
+      still : (k : ℕ) {tail : Extent} → extent_at k three ≡ Some tail → (chunk ≡ tail → ⊥) → (free ≡ tail → ⊥) → extent_at k all ≡ Some tail
+      still k {tail} found not_chunk not_free =
+          elim (found_either k (chunk ∷ free ∷ []) (last ∷ []) found) [
+            | inl first ↦ absurd (elim (in_two chunk free k first) [ inl here ↦ not_chunk here | inr behind ↦ not_free behind ])
             | inr later ↦ go (at == k) refl later.0 later.1
           ]
         where
@@ -202,16 +202,16 @@ module _ {A : Type 0} (regions : A → List Grant) (word : A → ℕ → ℕ) (h
           go true here none found = absurd (let no : Some chunk ≡ None = subst (λ (b : Bool). (if b then Some chunk else extent_at k (free ∷ [])) ≡ None) here none in cc)
           go false apart none found = rw apart found
 
-      no_chunk : (kind : Kind) → Used ≢ kind → (tail : Extent) → tail.kind ≡ kind → chunk ≡ tail → ⊥
-      no_chunk kind other tail is here = other (ap (λ (e : Extent). e.kind) here ∙ is)
+      no_chunk : {kind : Kind} → Used ≢ kind → (tail : Extent) → tail.kind ≡ kind → chunk ≡ tail → ⊥
+      no_chunk other tail is here = other (ap (λ (e : Extent). e.kind) here ∙ is)
 
-      no_free : (kind : Kind) → Free ≢ kind → (tail : Extent) → tail.kind ≡ kind → free ≡ tail → ⊥
-      no_free kind other tail is here = other (ap (λ (e : Extent). e.kind) here ∙ is)
+      no_free : {kind : Kind} → Free ≢ kind → (tail : Extent) → tail.kind ≡ kind → free ≡ tail → ⊥
+      no_free other tail is here = other (ap (λ (e : Extent). e.kind) here ∙ is)
 
       abbrev whole_step : (victim victim_size : ℕ) → IsStep regions word heap (after victim victim_size) three all
-      whole_step victim victim_size = step_beside regions word heap (after victim victim_size) sound same at (at + size + length + last.size) three all run move refl
-          (λ k tail found is. still k tail found (no_chunk Record (λ is. cc) tail is) (no_free Record (λ is. cc) tail is)) refl (record { base = refl; size = refl; flags = refl; top = refl; top_size = refl })
-          (λ k tail found is. still k tail found (no_chunk Top (λ is. cc) tail is) (no_free Top (λ is. cc) tail is))
+      whole_step victim victim_size = step_beside (after victim victim_size) sound same run move refl
+          (λ k tail found is. still k found (no_chunk (λ is. cc) tail is) (no_free (λ is. cc) tail is)) refl (record { base = refl; size = refl; flags = refl; top = refl; top_size = refl })
+          (λ k tail found is. still k found (no_chunk (λ is. cc) tail is) (no_free (λ is. cc) tail is))
 
       no_rest : nat_le (n + 32) (size + length) ≡ false
       no_rest = grind (arith, nat_tests)
@@ -219,14 +219,14 @@ module _ {A : Type 0} (regions : A → List Grant) (word : A → ℕ → ℕ) (h
       -- what is found now was
       was : (used : Extent) → used.at ≢ at → extent_at used.at all ≡ Some used → extent_at used.at three ≡ Some used
       was used other found =
-          elim (found_either used.at (extent at (size + length) Used ∷ []) (last ∷ []) used found) [
-            | inl here ↦ absurd (elim (in_two (extent at (size + length) Used) last used.at used found) [
+          elim (found_either used.at (extent at (size + length) Used ∷ []) (last ∷ []) found) [
+            | inl here ↦ absurd (elim (in_two (extent at (size + length) Used) last used.at found) [
               | inl one ↦ other (ap (λ (e : Extent). e.at) (sym one))
               | inr one ↦ (let first : (at == used.at) ≡ false = differ at used.at (λ e. other (sym e)) in
                   let no : None ≡ Some used = subst (λ (b : Bool). (if b then Some (extent at (size + length) Used) else None) ≡ Some used) first here in cc)
             ])
             | inr later ↦ (
-                let one : last ≡ used = elim (in_two (extent at (size + length) Used) last used.at used found) [ inl one ↦ absurd (other (ap (λ (e : Extent). e.at) (sym one))) | inr one ↦ one ] in
+                let one : last ≡ used = elim (in_two (extent at (size + length) Used) last used.at found) [ inl one ↦ absurd (other (ap (λ (e : Extent). e.at) (sym one))) | inr one ↦ one ] in
                 let place : used.at ≡ at + size + length = ap (λ (e : Extent). e.at) (sym one) ∙ stands_third.0 in
                 let first : (at == used.at) ≡ false = differ at used.at (λ e. other (sym e)) in
                 let second : (at + size == used.at) ≡ false = nat_isnt (inl (omega (arith, place, stands_free.size.1))) in
@@ -237,10 +237,10 @@ module _ {A : Type 0} (regions : A → List Grant) (word : A → ℕ → ℕ) (h
           (victim_size ≢ 0 → extent_at victim (extents_in (state_of word (after victim victim_size))) ≡ Some (extent victim victim_size Free)) →
           victim ≡ (grown_into (state_of word heap) chunk free n).victim → IsEnlarged regions word heap chunk free n (size + length) (after victim victim_size)
       whole victim victim_size none named left =
-          enlarged regions word heap sound at size there length Free next_is n (size + length) system same heap.top heap.top_size victim victim_size three all (extent at (size + length) Used ∷ []) (whole_step victim victim_size)
+          enlarged sound there next_is n (size + length) system same heap.top heap.top_size victim victim_size (extent at (size + length) Used ∷ []) (whole_step victim victim_size)
           (ap (λ (es : List Extent). both.front ++ with_extents both.segment (both.first ++ (extent at (size + length) Used ∷ es)) ∷ both.back) (sym third.is))
           (rw no_rest refl) (let here = nat_same at in rw here refl)
-          (λ used is other found. still used.at used found (λ here. other (ap (λ (e : Extent). e.at) (sym here))) (no_free Used (λ is. cc) used is))
+          (λ used is other found. still used.at found (λ here. other (ap (λ (e : Extent). e.at) (sym here))) (no_free (λ is. cc) used is))
           (λ used is other found. was used other found)
           none named left
 
@@ -255,16 +255,16 @@ module _ {A : Type 0} (regions : A → List Grant) (word : A → ℕ → ℕ) (h
       whole_binned isnt =
           let test : (at + size == heap.victim) ≡ false = differ (at + size) heap.victim isnt in
           whole heap.victim heap.victim_size sound.no_victim
-          (λ some. found_again regions word heap (after heap.victim heap.victim_size) sound three all (whole_step heap.victim heap.victim_size) heap.victim (extent heap.victim heap.victim_size Free)
-          (λ found. still heap.victim (extent heap.victim heap.victim_size Free) found
-          (no_chunk Free (λ is. cc) (extent heap.victim heap.victim_size Free) refl)
+          (λ some. found_again sound (whole_step heap.victim heap.victim_size) heap.victim
+          (λ found. still heap.victim found
+          (no_chunk {kind = Free} (λ is. cc) (extent heap.victim heap.victim_size Free) refl)
           (λ here. isnt (ap (λ (e : Extent). e.at) here))) (sound.victim some))
           (rw test refl)
 
       pub whole_free : (victim victim_size : ℕ) → FreeMoves (state_of word heap) (state_of word (after victim victim_size)) ((at + size) ∷ []) (if nat_le (n + 32) (size + length) then (at + n) ∷ [] else [])
       whole_free victim victim_size = subst (λ (b : Bool). FreeMoves (state_of word heap) (state_of word (after victim victim_size)) ((at + size) ∷ []) (if b then (at + n) ∷ [] else [])) (sym no_rest)
-          (free_moves regions word heap (after victim victim_size) sound three all (whole_step victim victim_size) ((at + size) ∷ []) [] only_free
-          (λ k bytes found. elim (in_two (extent at (size + length) Used) last k (extent k bytes Free) found) [
+          (free_moves sound (whole_step victim victim_size) ((at + size) ∷ []) [] only_free
+          (λ k bytes found. elim (in_two (extent at (size + length) Used) last k found) [
             | inl here ↦ (let no : Used ≡ Free = ap (λ (e : Extent). e.kind) here in cc)
             | inr behind ↦ no_last k bytes behind
           ])
@@ -277,12 +277,12 @@ module _ {A : Type 0} (regions : A → List Grant) (word : A → ℕ → ℕ) (h
               elim (behind_free last.kind stands_third.1.kind) [ inl used ↦ (let no : Used ≡ Free = sym used ∙ kind in cc) | inr tail ↦ (let no : Record ≡ Free = sym tail ∙ kind in cc) ]
 
           only_free : (k bytes : ℕ) → extent_at k three ≡ Some (extent k bytes Free) → IsIn k ((at + size) ∷ [])
-          only_free k bytes found = elim (found_either k (chunk ∷ free ∷ []) (last ∷ []) (extent k bytes Free) found) [
-            | inl first ↦ elim (in_two chunk free k (extent k bytes Free) first) [
+          only_free k bytes found = elim (found_either k (chunk ∷ free ∷ []) (last ∷ []) found) [
+            | inl first ↦ elim (in_two chunk free k first) [
               | inl here ↦ absurd (let no : Used ≡ Free = ap (λ (e : Extent). e.kind) here in cc)
               | inr behind ↦ inl (sym (ap (λ (e : Extent). e.at) behind))
             ]
-            | inr later ↦ absurd (no_last k bytes (the_one k last (extent k bytes Free) later.1))
+            | inr later ↦ absurd (no_last k bytes (the_one k last later.1))
           ]
 
   -- the stores of two calls, as one

@@ -12,7 +12,7 @@ use Rattle.dlmalloc.proofs.Segments.HeadTold.{head_is}
 use Rattle.dlmalloc.proofs.Extents.Top.{is_top}
 use Rattle.dlmalloc.proofs.Frees.WhatCallsWant.{next_top}
 
-module _ {A : Type 0} (regions : A → List Grant) (word : A → ℕ → ℕ) (heap : Dlmalloc A) (sound : IsSound regions word heap) (at size n : ℕ)
+module _ {A : Type 0} {regions : A → List Grant} {word : A → ℕ → ℕ} {heap : Dlmalloc A} (sound : IsSound regions word heap) {at size : ℕ} (n : ℕ)
     (there : extent_at at (extents_in (state_of word heap)) ≡ Some (extent at size Used)) (touch : at + size ≡ heap.top) (whole : n % 16 ≡ 0) (more : size < n) (room : n < size + heap.top_size) where
   abbrev segments : List Segment
   segments = segments_of word heap
@@ -26,11 +26,11 @@ module _ {A : Type 0} (regions : A → List Grant) (word : A → ℕ → ℕ) (h
   abbrev top : Extent
   top = extent (at + size) heap.top_size Top
 
-  next_is : (next regions word heap sound at size there).next ≡ top
-  next_is = next_top regions word heap sound at size there touch ∙ ap (λ (a : ℕ). extent a heap.top_size Top) (sym touch)
+  next_is : (next sound there).next ≡ top
+  next_is = next_top sound there touch ∙ ap (λ (a : ℕ). extent a heap.top_size Top) (sym touch)
 
   abbrev both : IsRunOf words segments at (at + size + heap.top_size) (chunk ∷ top ∷ [])
-  both = two regions word heap sound at size there heap.top_size Top next_is
+  both = two sound there next_is
 
   stands : HasChunk words (last_kind Used both.first) chunk
   stands = both.here.1
@@ -45,27 +45,27 @@ module _ {A : Type 0} (regions : A → List Grant) (word : A → ℕ → ℕ) (h
   rest_room = omega (arith, whole, room, stands.size.0, stands_top.size.0)
 
   below : at + size + heap.top_size ≤ both.segment.base + both.segment.size
-  below = high regions word heap sound at size there heap.top_size Top next_is
+  below = high sound there next_is
 
   pub top_first_head : HasHead (regions heap.system) at
-  top_first_head = head_there regions word heap sound at size there heap.top_size Top next_is at (omega arith) (omega (arith, below, rest_room)) (omega (arith, stands.whole))
+  top_first_head = head_there sound there next_is at (omega arith) (omega (arith, below, rest_room)) (omega (arith, stands.whole))
 
   pub top_rest_head : HasHead (regions heap.system) (at + n)
-  top_rest_head = head_there regions word heap sound at size there heap.top_size Top next_is (at + n) (omega arith) (omega (arith, below, rest_room)) (omega (arith, stands.whole, whole))
+  top_rest_head = head_there sound there next_is (at + n) (omega arith) (omega (arith, below, rest_room)) (omega (arith, stands.whole, whole))
 
   head_segment : both.front ≡ []
-  head_segment = (is_top regions word heap sound both.front both.segment both.back both.is (at + size) heap.top_size
+  head_segment = (is_top sound both.front both.segment both.back both.is {at = (at + size)} {size = heap.top_size}
       (ap (extent_at (at + size)) both.extents
       ∙ (found_later (at + size) both.first (chunk ∷ top ∷ both.last) (none_outside words Used both.segment.base both.first at (at + size) (inr (omega arith)) both.first_stand)
       ∙ (let isnt : (at == at + size) ≡ false = nat_isnt (inl (omega (arith, stands.size.1))) in
       let is : (at + size == at + size) ≡ true = nat_same (at + size) in
       rw (isnt, is) refl)))).0
 
-  module _ (middle system : A) (same_middle : regions middle ≡ regions heap.system) (same_system : regions system ≡ regions middle) (value rest : ℕ) (rest_is : rest ≡ size + heap.top_size - n)
+  module _ (middle system : A) (same_middle : regions middle ≡ regions heap.system) (same_system : regions system ≡ regions middle) (value : ℕ) {rest : ℕ} (rest_is : rest ≡ size + heap.top_size - n)
       (stored_first : AreStored (regions heap.system) words ((at + 8, head_of n (pinuse_of (words (at + 8))) true) ∷ (at + n + 8, value) ∷ []) (word middle))
       (stored_rest : IsStored (regions middle) (word middle) (at + n + 8) (rest + 1) (word system)) where
     stored : AreStored (regions heap.system) words ((at + 8, head_of n (pinuse_of (words (at + 8))) true) ∷ (at + n + 8, rest + 1) ∷ []) (word system)
-    stored = stored_over (regions heap.system) words (word middle) (word system) (at + 8) (at + n + 8) (head_of n (pinuse_of (words (at + 8))) true) value (rest + 1) top_first_head.granted stored_first
+    stored = stored_over (head_of n (pinuse_of (words (at + 8))) true) value top_first_head.granted stored_first
         (subst (λ (rs : List Grant). IsStored rs (word middle) (at + n + 8) (rest + 1) (word system)) same_middle stored_rest)
 
     abbrev after : Dlmalloc A
@@ -83,30 +83,30 @@ module _ {A : Type 0} (regions : A → List Grant) (word : A → ℕ → ℕ) (h
     move : IsMove (regions heap.system) words (word system) (last_kind Used both.first) at (at + size + heap.top_size) (at + size + heap.top_size) (chunk ∷ top ∷ []) parts
     move =
         subst (λ (r : ℕ). IsMove (regions heap.system) words (word system) (last_kind Used both.first) at (at + size + heap.top_size) (at + size + heap.top_size) (chunk ∷ top ∷ []) (extent at n Used ∷ extent (at + n) r Top ∷ [])) (sym rest_is)
-        (grown_top (regions heap.system) words (word system) (last_kind Used both.first) at size stands heap.top_size n stands_top whole least rest_room
+        (grown_top (regions heap.system) (word system) stands n stands_top whole least rest_room
         (subst (λ (r : ℕ). AreStored (regions heap.system) words ((at + 8, head_of n (pinuse_of (words (at + 8))) true) ∷ (at + n + 8, r + 1) ∷ []) (word system)) rest_is stored))
 
     abbrev step : IsStep regions word heap after (chunk ∷ top ∷ []) parts
     step =
         let head = head_is word heap both.front both.segment both.back head_segment both.is sound.told in
-        step_top regions word heap after sound (same_system ∙ same_middle) at (at + size + heap.top_size) (chunk ∷ top ∷ []) parts both
-        move refl (λ k tail found is. absurd (no_kind chunk top Record (λ is. cc) (λ is. cc) k tail found is)) refl head_segment
+        step_top after sound (same_system ∙ same_middle) both
+        move refl (λ k tail found is. absurd (no_kind chunk top Record (λ is. cc) (λ is. cc) k found is)) refl head_segment
         (record { some = head.some; base = head.base; size = head.size; flags = head.flags; top = where_top })
 
     -- the top keeps the rest
     pub into_top : IsEnlarged regions word heap chunk top n n after
-    into_top = enlarged regions word heap sound at size there heap.top_size Top next_is n n system (same_system ∙ same_middle) (at + n) rest heap.victim heap.victim_size (chunk ∷ top ∷ []) parts parts step refl
+    into_top = enlarged sound there next_is n n system (same_system ∙ same_middle) (at + n) rest heap.victim heap.victim_size parts step refl
         (λ i. extent at n Used ∷ extent (at + n) (sym rest_is i) Top ∷ []) (let here = nat_same at in rw here refl)
-        (λ used is other found. absurd (no_other chunk top (λ is. cc) used is other found))
-        (λ used is other found. absurd (no_other (extent at n Used) (extent (at + n) rest Top) (λ is. cc) used is other found))
+        (λ used is other found. absurd (no_other chunk top (λ is. cc) is other found))
+        (λ used is other found. absurd (no_other (extent at n Used) (extent (at + n) rest Top) (λ is. cc) is other found))
         sound.no_victim
-        (λ some. found_again regions word heap after sound (chunk ∷ top ∷ []) parts step heap.victim (extent heap.victim heap.victim_size Free)
-        (λ found. absurd (no_kind chunk top Free (λ is. cc) (λ is. cc) heap.victim (extent heap.victim heap.victim_size Free) found refl)) (sound.victim some))
+        (λ some. found_again sound step heap.victim
+        (λ found. absurd (no_kind chunk top Free (λ is. cc) (λ is. cc) heap.victim found refl)) (sound.victim some))
         refl
 
     -- no free extent but the top changes
     pub into_top_free : FreeMoves (state_of word heap) (state_of word after) [] []
-    into_top_free = free_moves regions word heap after sound (chunk ∷ top ∷ []) parts step [] []
-        (λ k bytes found. no_kind chunk top Free (λ is. cc) (λ is. cc) k (extent k bytes Free) found refl)
-        (λ k bytes found. no_kind (extent at n Used) (extent (at + n) rest Top) Free (λ is. cc) (λ is. cc) k (extent k bytes Free) found refl)
+    into_top_free = free_moves sound step [] []
+        (λ k bytes found. no_kind chunk top Free (λ is. cc) (λ is. cc) k found refl)
+        (λ k bytes found. no_kind (extent at n Used) (extent (at + n) rest Top) Free (λ is. cc) (λ is. cc) k found refl)
         (λ k none. absurd none) (λ k none. absurd none)

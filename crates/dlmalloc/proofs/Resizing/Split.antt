@@ -13,10 +13,10 @@ pub differ : (m n : ℕ) → m ≢ n → (m == n) ≡ false
 differ m n other = (let e = other in grind (arith, nat_tests))
 
 -- the move: the two heads are stored
-pub split_used : (regions : List Grant) (old new : ℕ → ℕ) (before : Kind) (at size n : ℕ) → HasChunk old before (extent at size Used) → n % 16 ≡ 0 → 32 ≤ n → n + 32 ≤ size →
+pub split_used : {regions : List Grant} {old new : ℕ → ℕ} {before : Kind} (at size n : ℕ) → HasChunk old before (extent at size Used) → n % 16 ≡ 0 → 32 ≤ n → n + 32 ≤ size →
     AreStored regions old ((at + 8, head_of n (pinuse_of (old (at + 8))) true) ∷ (at + n + 8, head_of (size - n) true true) ∷ []) new →
     IsMove regions old new before at (at + size) (at + size) (extent at size Used ∷ []) (extent at n Used ∷ extent (at + n) (size - n) Used ∷ [])
-split_used regions old new before at size n stands whole least room stored =
+split_used {old} {before} at size n stands whole least room stored =
     let place = stands.whole in
     let units = stands.size.0 in
     let told : pinuse_of (old (at + 8)) ≡ is_used before = ap pinuse_of stands.head ∙ pinuse_of-head_of size (is_used before) true (omega arith) in
@@ -48,7 +48,7 @@ split_used regions old new before at size n stands whole least room stored =
       kept = λ k word more. stored.elsewhere k word (more.0, (more.1.0, tt));
     }
 
-module _ {A : Type 0} (regions : A → List Grant) (word : A → ℕ → ℕ) (heap : Dlmalloc A) (sound : IsSound regions word heap) (at size n : ℕ)
+module _ {A : Type 0} {regions : A → List Grant} {word : A → ℕ → ℕ} {heap : Dlmalloc A} (sound : IsSound regions word heap) {at size : ℕ} (n : ℕ)
     (there : extent_at at (extents_in (state_of word heap)) ≡ Some (extent at size Used)) (whole : n % 16 ≡ 0) (least : 32 ≤ n) (room : n + 32 ≤ size) where
   abbrev segments : List Segment
   segments = segments_of word heap
@@ -57,7 +57,7 @@ module _ {A : Type 0} (regions : A → List Grant) (word : A → ℕ → ℕ) (h
   chunk = extent at size Used
 
   abbrev run : IsRunOf (word heap.system) segments at (at + size) (chunk ∷ [])
-  run = run_of (regions heap.system) (word heap.system) segments sound.segments chunk there
+  run = run_of (regions heap.system) (word heap.system) segments sound.segments there
 
   stands : HasChunk (word heap.system) (last_kind Used run.first) chunk
   stands = run.here.1
@@ -69,13 +69,13 @@ module _ {A : Type 0} (regions : A → List Grant) (word : A → ℕ → ℕ) (h
   low = tiles_le (word heap.system) Used run.segment.base run.first at run.first_stand
 
   pub end_small : at + size < 2 ^ 64
-  end_small = omega (arith, high, (run_part (regions heap.system) (word heap.system) segments sound.segments at (at + size) (chunk ∷ []) run).high)
+  end_small = omega (arith, high, (run_part (regions heap.system) sound.segments run).high)
 
   head_there : (k : ℕ) → at ≤ k → k + 16 ≤ at + size → k % 8 ≡ 0 → HasHead (regions heap.system) k
   head_there k above below m = record {
     aligned = m;
     small = omega (arith, end_small, below);
-    granted = run_word (regions heap.system) (word heap.system) segments sound.segments at (at + size) (chunk ∷ []) run (k + 8) (omega (arith, low, above)) (omega (arith, high, below)) (omega (arith, m));
+    granted = run_word (regions heap.system) sound.segments run (k + 8) (omega (arith, low, above)) (omega (arith, high, below)) (omega (arith, m));
   }
 
   pub first_head : HasHead (regions heap.system) at
@@ -93,7 +93,7 @@ module _ {A : Type 0} (regions : A → List Grant) (word : A → ℕ → ℕ) (h
       IsStored (regions middle) (word middle) (at + n + 8) (head_of (size - n) true true) (word system) →
       AreStored (regions heap.system) (word heap.system) ((at + 8, head_of n (pinuse_of (word heap.system (at + 8))) true) ∷ (at + n + 8, head_of (size - n) true true) ∷ []) (word system)
   stores middle system value same first second =
-      stored_over (regions heap.system) (word heap.system) (word middle) (word system) (at + 8) (at + n + 8) (head_of n (pinuse_of (word heap.system (at + 8))) true) value (head_of (size - n) true true) first_head.granted first
+      stored_over (head_of n (pinuse_of (word heap.system (at + 8))) true) value first_head.granted first
       (subst (λ (rs : List Grant). IsStored rs (word middle) (at + n + 8) (head_of (size - n) true true) (word system)) same second)
 
   module _ (middle system : A) (same_middle : regions middle ≡ regions heap.system) (same_system : regions system ≡ regions middle) (value : ℕ)
@@ -111,38 +111,38 @@ module _ {A : Type 0} (regions : A → List Grant) (word : A → ℕ → ℕ) (h
     abbrev both : List Extent
     both = extent at n Used ∷ extent (at + n) (size - n) Used ∷ []
 
-    used_one : (k : ℕ) (one : Extent) → extent_at k (chunk ∷ []) ≡ Some one → Used ≡ one.kind
-    used_one k one there = ap (λ (e : Extent). e.kind) (found_one k chunk one there)
+    used_one : (k : ℕ) {one : Extent} → extent_at k (chunk ∷ []) ≡ Some one → Used ≡ one.kind
+    used_one k there = ap (λ (e : Extent). e.kind) (found_one k chunk there)
 
-    place_one : (k : ℕ) (one : Extent) → extent_at k (chunk ∷ []) ≡ Some one → at ≡ one.at
-    place_one k one there = ap (λ (e : Extent). e.at) (found_one k chunk one there)
+    place_one : (k : ℕ) {one : Extent} → extent_at k (chunk ∷ []) ≡ Some one → at ≡ one.at
+    place_one k there = ap (λ (e : Extent). e.at) (found_one k chunk there)
 
     abbrev split_step : IsStep regions word heap after (chunk ∷ []) both
-    split_step = step_beside regions word heap after sound same at (at + size) (chunk ∷ []) both run
-        (split_used (regions heap.system) (word heap.system) (word system) (last_kind Used run.first) at size n stands whole least room stored) refl
-        (λ k tail found is. absurd (let no : Used ≡ Record = used_one k tail found ∙ is in cc)) refl (record { base = refl; size = refl; flags = refl; top = refl; top_size = refl })
-        (λ k tail found is. absurd (let no : Used ≡ Top = used_one k tail found ∙ is in cc))
+    split_step = step_beside after sound same run
+        (split_used at size n stands whole least room stored) refl
+        (λ k tail found is. absurd (let no : Used ≡ Record = used_one k found ∙ is in cc)) refl (record { base = refl; size = refl; flags = refl; top = refl; top_size = refl })
+        (λ k tail found is. absurd (let no : Used ≡ Top = used_one k found ∙ is in cc))
 
     apart : (at == at + n) ≡ false
     apart = nat_isnt (inl (omega (arith, least)))
 
     pub split_state : state_of word after ≡ exchanged (state_of word heap) at (halves n)
     split_state =
-        let segments_are = read regions word heap after sound (chunk ∷ []) both split_step
-        ∙ sym (replaced_run (regions heap.system) (word heap.system) segments sound.segments sound.apart chunk (halves n) run) in
+        let segments_are = read sound split_step
+        ∙ sym (replaced_run (regions heap.system) sound.segments sound.apart (halves n) run) in
         λ i. record { segments = segments_are i; victim = heap.victim; granularity = heap.granularity; rate = heap.rate; countdown = heap.countdown; trim_check = heap.trim_check }
 
     pub split_first : extent_at at (extents_in (state_of word after)) ≡ Some (extent at n Used)
-    split_first = found_new regions word heap after sound (chunk ∷ []) both split_step at (extent at n Used) (let here = nat_same at in rw here refl)
+    split_first = found_new sound split_step at (extent at n Used) (let here = nat_same at in rw here refl)
 
     pub split_second : extent_at (at + n) (extents_in (state_of word after)) ≡ Some (extent (at + n) (size - n) Used)
-    split_second = found_new regions word heap after sound (chunk ∷ []) both split_step (at + n) (extent (at + n) (size - n) Used)
+    split_second = found_new sound split_step (at + n) (extent (at + n) (size - n) Used)
         (let first = apart in let second = nat_same (at + n) in rw (first, second) refl)
 
     pub split_others : HasSameOthers (state_of word heap) (state_of word after) at (at + n)
     split_others = record {
-      kept = λ used is other_at other_end there. found_again regions word heap after sound (chunk ∷ []) both split_step used.at used (λ here. absurd (other_at (sym (place_one used.at used here)))) there;
-      only = λ used is other_at other_end there. found_before regions word heap after sound (chunk ∷ []) both split_step used.at used
+      kept = λ used is other_at other_end there. found_again sound split_step used.at (λ here. absurd (other_at (sym (place_one used.at here)))) there;
+      only = λ used is other_at other_end there. found_before sound split_step used.at
           (λ here. absurd (neither used other_at other_end here)) there;
     }
       where
@@ -154,19 +154,19 @@ module _ {A : Type 0} (regions : A → List Grant) (word : A → ℕ → ℕ) (h
             let no : None ≡ Some used = sym none ∙ here in cc
 
     pub split_sound : IsSound regions word after
-    split_sound = stays_sound regions word heap after sound (chunk ∷ []) both split_step same refl refl refl refl sound.no_victim
-        (λ more. found_again regions word heap after sound (chunk ∷ []) both split_step heap.victim (extent heap.victim heap.victim_size Free)
-        (λ here. absurd (let no : Used ≡ Free = used_one heap.victim (extent heap.victim heap.victim_size Free) here in cc)) (sound.victim more))
+    split_sound = stays_sound sound split_step same refl refl refl refl sound.no_victim
+        (λ more. found_again sound split_step heap.victim
+        (λ here. absurd (let no : Used ≡ Free = used_one heap.victim here in cc)) (sound.victim more))
 
     pub split_words : OnlyBoundariesChange (regions heap.system) (state_of word after) (word heap.system) (word system)
-    split_words = keeps_words regions word heap after sound (chunk ∷ []) both split_step
+    split_words = keeps_words sound split_step
 
     -- no free extent changes
     pub split_free : FreeMoves (state_of word heap) (state_of word after) [] []
-    split_free = free_moves regions word heap after sound (chunk ∷ []) both split_step [] []
-        (λ k bytes found. (let no : Used ≡ Free = used_one k (extent k bytes Free) found in cc))
-        (λ k bytes found. elim (found_either k (extent at n Used ∷ []) (extent (at + n) (size - n) Used ∷ []) (extent k bytes Free) found) [
-          | inl first ↦ (let no : Used ≡ Free = ap (λ (e : Extent). e.kind) (found_one k (extent at n Used) (extent k bytes Free) first) in cc)
-          | inr later ↦ (let no : Used ≡ Free = ap (λ (e : Extent). e.kind) (found_one k (extent (at + n) (size - n) Used) (extent k bytes Free) later.1) in cc)
+    split_free = free_moves sound split_step [] []
+        (λ k bytes found. (let no : Used ≡ Free = used_one k found in cc))
+        (λ k bytes found. elim (found_either k (extent at n Used ∷ []) (extent (at + n) (size - n) Used ∷ []) found) [
+          | inl first ↦ (let no : Used ≡ Free = ap (λ (e : Extent). e.kind) (found_one k (extent at n Used) first) in cc)
+          | inr later ↦ (let no : Used ≡ Free = ap (λ (e : Extent). e.kind) (found_one k (extent (at + n) (size - n) Used) later.1) in cc)
         ])
         (λ k none. absurd none) (λ k none. absurd none)

@@ -14,7 +14,7 @@ pub record IsSplit {A : Type 0} (regions : A → List Grant) (word : A → ℕ �
   pub words : (k : ℕ) → IsWordOf (regions old.system) k → k ≢ at + 8 → k ≢ at + n + 8 → word new.system k ≡ word old.system k
   pub regions_same : regions new.system ≡ regions old.system
 
-module _ {A : Type 0} (regions : A → List Grant) (word : A → ℕ → ℕ) (follows : A → List Event → A → Type 0) (heap middle new : Dlmalloc A) (sound : IsSound regions word heap) (at size n : ℕ)
+module _ {A : Type 0} {regions : A → List Grant} {word : A → ℕ → ℕ} {follows : A → List Event → A → Type 0} {heap middle new : Dlmalloc A} (sound : IsSound regions word heap) {at size n : ℕ}
     (there : extent_at at (extents_in (state_of word heap)) ≡ Some (extent at size Used)) (least : 32 ≤ n) (room : n + 32 ≤ size) (split : IsSplit regions word heap at size n middle)
     (frees : FreeMoves (state_of word heap) (state_of word middle) [] []) (moved : IsTurned regions word follows middle new) where
   -- a word that is granted before is granted after the split
@@ -26,8 +26,8 @@ module _ {A : Type 0} (regions : A → List Grant) (word : A → ℕ → ℕ) (f
   no_free k was f = was (record { at = f.at; size = f.size; free = (frees.was f.at f.size f.free (λ none. none)).0; low = f.low; high = f.high })
 
   -- no other extent in use begins in the chunk
-  inside : (used : Extent) → used.at ≢ at → extent_at used.at (extents_in (state_of word heap)) ≡ Some used → used.at ≢ at + n
-  inside used other found same =
+  inside : {used : Extent} → used.at ≢ at → extent_at used.at (extents_in (state_of word heap)) ≡ Some used → used.at ≢ at + n
+  inside {used} other found same =
       elim (used_apart regions word heap sound used (extent at size Used) found there other) [
         | inl before ↦ (let e : used.at ≡ at + n = same in let l = least in omega arith)
         | inr behind ↦ (let e : used.at ≡ at + n = same in let r = room in omega arith)
@@ -45,7 +45,7 @@ module _ {A : Type 0} (regions : A → List Grant) (word : A → ℕ → ℕ) (f
     pub tail_others : HasSameOthers (state_of word heap) (state_of word new) at at
     tail_others = record {
       kept = λ used is other again found.
-          let beside : used.at ≢ at + n = inside used other found in
+          let beside : used.at ≢ at + n = inside other found in
           less.only used is (split.others.kept used is other beside found) beside;
       only = λ used is other again found. split.others.only used is other (less.new used is found) (less.kept used is found);
     }
@@ -54,7 +54,7 @@ module _ {A : Type 0} (regions : A → List Grant) (word : A → ℕ → ℕ) (f
     tail_words k is was own =
         moved.words k (still k is) (no_free k was) own
         ∙ split.words k is (λ e. own (inl (subst (IsBoundary (state_of word new)) (sym e) (record { extent = extent at n Used; there = tail_first; is = inl refl }))))
-        (λ e. own (inl (subst (IsBoundary (state_of word new)) (sym e) (next_boundary regions word new moved.sound at n tail_first))))
+        (λ e. own (inl (subst (IsBoundary (state_of word new)) (sym e) (next_boundary moved.sound tail_first))))
 
   -- ---- the first was freed
 
@@ -67,20 +67,20 @@ module _ {A : Type 0} (regions : A → List Grant) (word : A → ℕ → ℕ) (f
 
     pub lead_others : HasOneMoved (state_of word heap) (state_of word new) at (at + n)
     lead_others = record {
-      kept = λ used is other found. less.only used is (split.others.kept used is other (inside used other found) found) other;
+      kept = λ used is other found. less.only used is (split.others.kept used is other (inside other found) found) other;
       only = λ used is beside found. split.others.only used is (less.new used is found) beside (less.kept used is found);
-      apart = λ used is other found. inside used other found;
+      apart = λ used is other found. inside other found;
       gone = λ used is beside found. less.new used is found;
     }
 
     pub lead_kept : IsMoved regions word follows heap middle → KeepsOthers (state_of word heap) at (word heap.system) (word new.system)
     lead_kept split_moved blocks others =
-        keeps_on blocks (word heap.system) (word middle.system) (word new.system)
-        (blocks_law regions word heap middle sound split_moved.sound (λ k inside was own. split_moved.words k inside (λ boundary. own (inl boundary))) blocks (λ used there is. (let o = others used is there in (o.1, then_there used is o.0 o.1))))
-        (blocks_law regions word middle new split_moved.sound moved.sound moved.words blocks (λ used there is. (let o = others used is there in (then_there used is o.0 o.1, less.only used is (then_there used is o.0 o.1) o.0))))
+        keeps_on
+        (blocks_law sound split_moved.sound (λ k inside was own. split_moved.words k inside (λ boundary. own (inl boundary))) blocks (λ used there is. (let o = others used is there in (o.1, then_there used is o.0 o.1))))
+        (blocks_law split_moved.sound moved.sound moved.words blocks (λ used there is. (let o = others used is there in (then_there used is o.0 o.1, less.only used is (then_there used is o.0 o.1) o.0))))
       where
         then_there : (used : Extent) → used.kind ≡ Used → used.at ≢ at → extent_at used.at (extents_in (state_of word heap)) ≡ Some used → extent_at used.at (extents_in (state_of word middle)) ≡ Some used
-        then_there used is other found = split.others.kept used is other (inside used other found) found
+        then_there used is other found = split.others.kept used is other (inside other found) found
 
     pub lead_words : (k : ℕ) → IsWordOf (regions heap.system) k → k ≢ at + 8 → (IsInFree (state_of word heap) k → ⊥) → (IsOwn (state_of word new) k → ⊥) → word new.system k ≡ word heap.system k
     lead_words k is other was own =

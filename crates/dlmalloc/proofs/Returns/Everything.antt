@@ -21,17 +21,17 @@ pub ahead_of : (words : ℕ → ℕ) (payload : ℕ) (rest : List Segment) → p
 ahead_of words payload [] more h = absurd (more h)
 ahead_of words payload (segment ∷ others) more h = record { segment = segment; others = others; is = refl; told = h }
 
-pub none_ahead : (words : ℕ → ℕ) (payload : ℕ) (rest : List Segment) → payload ≡ 0 → AreRecords words payload rest → rest ≡ []
-none_ahead words payload [] none h = refl
-none_ahead words payload (segment ∷ rest) none h = absurd (let some = h.0 in omega (arith, some, none))
+pub none_ahead : (words : ℕ → ℕ) {payload : ℕ} (rest : List Segment) → payload ≡ 0 → AreRecords words payload rest → rest ≡ []
+none_ahead words [] none h = refl
+none_ahead words (segment ∷ rest) none h = absurd (let some = h.0 in omega (arith, some, none))
 
 -- what is read of a record
 abbrev pub record_read : (ℕ → ℕ) → ℕ → SegmentRecord
 record_read words payload = record { base = words payload; size = words (payload + 8); next = words (payload + 16); flags = words (payload + 24) % 2 ^ 32 }
 
 -- the parity of flags is that of their last 32 bits
-pub parity : (flags word : ℕ) → word ≡ flags → (word % 2 ^ 32 % 2 == 0) ≡ (flags % 2 == 0)
-parity flags word is = ap (λ (n : ℕ). n == 0) (omega (arith, is))
+pub parity : {flags word : ℕ} → word ≡ flags → (word % 2 ^ 32 % 2 == 0) ≡ (flags % 2 == 0)
+parity is = ap (λ (n : ℕ). n == 0) (omega (arith, is))
 
 -- all words of segments stay, where granted words do
 pub all_keep : (regions : List Grant) (old new : ℕ → ℕ) → ((k : ℕ) → IsWordOf regions k → new k ≡ old k) → (segments : List Segment) → AreSegments regions old segments → AllByRecursion (KeepsIts old new) segments
@@ -60,7 +60,7 @@ module _ {A : Type 0} (regions : A → List Grant) (word : A → ℕ → ℕ) (f
       subst (λ (b : Bool). AreGivenBack regions word follows (taken_back takes (cond b (segment ∷ []) [])) old bytes new) own (go takes (is_own told) given)
     where
       go : (takes own : Bool) → AreGivenBack regions word follows (taken_back takes (cond own (told ∷ []) [])) old bytes new → AreGivenBack regions word follows (taken_back takes (cond own (segment ∷ []) [])) old bytes new
-      go true true given = given_same regions word follows follows_on told segment true old new bytes base size given
+      go true true given = given_same regions word follows follows_on told segment true old new base size given
       go true false given = given
       go false own given = given
 
@@ -79,18 +79,18 @@ module _ {A : Type 0} (regions : A → List Grant) (word : A → ℕ → ℕ) (f
           let some : 0 < segment.size = (let l = parts.0.long in omega arith) in
           let run = parts.0.run in
           let gone : regions new ≡ without segment.base (segment.base + segment.size) (regions old) = given.regions_are in
-          let keeps = apart_keeps (regions old) segment run some (word old) (word new) (λ k inside. given.words k (subst (λ (rs : List Grant). IsWordOf rs k) (sym gone) inside)) others parts.1 apart in
-          (subst (λ (rs : List Grant). AreSegments rs (word new) others) (sym gone) (apart_segments (regions old) segment run some (word old) (word new) others parts.1 apart keeps), keeps)
+          let keeps = apart_keeps segment run some (word old) (word new) (λ k inside. given.words k (subst (λ (rs : List Grant). IsWordOf rs k) (sym gone) inside)) others parts.1 apart in
+          (subst (λ (rs : List Grant). AreSegments rs (word new) others) (sym gone) (apart_segments segment run some (word old) (word new) others parts.1 apart keeps), keeps)
       go true false given = kept given.regions_are given.words
       go false own given = kept given.regions_are given.words
 
-  module _ (takes : Bool) (heap : Dlmalloc A) (sound : IsSound regions word heap) where
+  module _ (takes : Bool) {heap : Dlmalloc A} (sound : IsSound regions word heap) where
     -- a segment is given back
-    abbrev pub given_next : (done : List Segment) (segment : Segment) (others : List Segment) → segments_of word heap ≡ done ++ segment ∷ others → (released : ℕ) (old : A) → AreSegments (regions old) (word old) (segment ∷ others) →
+    abbrev pub given_next : (done : List Segment) (segment : Segment) (others : List Segment) → segments_of word heap ≡ done ++ segment ∷ others → (released : ℕ) {old : A} → AreSegments (regions old) (word old) (segment ∷ others) →
         AreGivenBack regions word follows (taken_back takes (filter is_own done)) heap.system released old → (told : Segment) → told.base ≡ segment.base → told.size ≡ segment.size → is_own told ≡ is_own segment →
-        (bytes : ℕ) (new : A) → AreGivenBack regions word follows (taken_back takes (filter is_own (told ∷ []))) old bytes new → (next : ℕ) → AreRecords (word old) next others →
+        {bytes : ℕ} {new : A} → AreGivenBack regions word follows (taken_back takes (filter is_own (told ∷ []))) old bytes new → (next : ℕ) → AreRecords (word old) next others →
         Destroying regions word follows takes heap next (released + bytes) new
-    given_next done segment others is released old parts before told base size own bytes new given next records =
+    given_next done segment others is released {old} parts before told base size own {bytes} {new} given next records =
         let here = given_told takes told segment old new bytes base size own given in
         let apart : AllByRecursion (IsApartFrom segment) others = flip segment others (back_apart done segment others (subst AreApart is sound.apart)) in
         let stay = rest_stay takes segment others old new bytes parts apart here in
@@ -103,13 +103,13 @@ module _ {A : Type 0} (regions : A → List Grant) (word : A → ℕ → ℕ) (f
           told = records_stay (regions old) (word old) (word new) others parts.1 stay.1 next records;
           given = subst (λ (gone : List Segment). AreGivenBack regions word follows gone heap.system (released + bytes) new)
               (sym (ap (taken_back takes) (filter-append is_own done (segment ∷ [])) ∙ taken_append takes (filter is_own done) (filter is_own (segment ∷ []))))
-              (given_on regions word follows follows_on (taken_back takes (filter is_own done)) (taken_back takes (filter is_own (segment ∷ []))) heap.system old new released bytes before here);
+              (given_on regions word follows follows_on old new before here);
         }
 
     -- the head is
-    pub head_given : heap.size ≢ 0 → (follows_none : (x : A) → follows x [] x) → (told : SegmentRecord) → told ≡ record { base = heap.base; size = heap.size; next = heap.next; flags = heap.flags } →
-        (bytes : ℕ) (new : A) → AreGivenBack regions word follows (taken_back takes (filter is_own (told_of told ∷ []))) heap.system bytes new → Destroying regions word follows takes heap told.next bytes new
-    head_given some follows_none told read bytes new given = go (segments_of word heap) refl sound.segments sound.told
+    pub head_given : heap.size ≢ 0 → (follows_none : (x : A) → follows x [] x) → {told : SegmentRecord} → told ≡ record { base = heap.base; size = heap.size; next = heap.next; flags = heap.flags } →
+        {bytes : ℕ} {new : A} → AreGivenBack regions word follows (taken_back takes (filter is_own (told_of told ∷ []))) heap.system bytes new → Destroying regions word follows takes heap told.next bytes new
+    head_given some follows_none {told} read {bytes} {new} given = go (segments_of word heap) refl sound.segments sound.told
       where
         nothing : (takes : Bool) → AreGivenBack regions word follows (taken_back takes []) heap.system 0 heap.system
         nothing true = record { bytes_are = refl; words = λ k inside. refl; regions_are = refl; followed = follows_none heap.system }
@@ -119,31 +119,30 @@ module _ {A : Type 0} (regions : A → List Grant) (word : A → ℕ → ℕ) (f
         go [] is parts h = absurd (some h)
         go (segment ∷ segments) is parts h =
             subst (λ (n : ℕ). Destroying regions word follows takes heap told.next n new) (omega arith)
-            (given_next [] segment segments is 0 heap.system parts (nothing takes)
-            (told_of told) (ap (λ (t : SegmentRecord). t.base) read ∙ h.1) (ap (λ (t : SegmentRecord). t.size) read ∙ h.2) (ap (λ (t : SegmentRecord). t.flags % 2 == 0) read ∙ ap (λ (f : ℕ). f % 2 == 0) h.3)
-            bytes new given told.next (subst (λ (p : ℕ). AreRecords (word heap.system) p segments) (ap (λ (t : SegmentRecord). t.next) (sym read)) h.5))
+            (given_next [] segment segments is 0 parts (nothing takes)
+            (told_of told) (ap (λ (t : SegmentRecord). t.base) read ∙ h.1) (ap (λ (t : SegmentRecord). t.size) read ∙ h.2) (ap (λ (t : SegmentRecord). t.flags % 2 == 0) read ∙ ap (λ (f : ℕ). f % 2 == 0) h.3) given told.next (subst (λ (p : ℕ). AreRecords (word heap.system) p segments) (ap (λ (t : SegmentRecord). t.next) (sym read)) h.5))
 
     -- the head segment is a run
-    pub head_is_run : heap.size ≢ 0 → (told : SegmentRecord) → told ≡ record { base = heap.base; size = heap.size; next = heap.next; flags = heap.flags } → IsWholeRun (regions heap.system) told.base (told.base + told.size)
-    head_is_run some told read = subst (λ (t : SegmentRecord). IsWholeRun (regions heap.system) t.base (t.base + t.size)) (sym read) (go (segments_of word heap) sound.segments sound.told)
+    pub head_is_run : heap.size ≢ 0 → {told : SegmentRecord} → told ≡ record { base = heap.base; size = heap.size; next = heap.next; flags = heap.flags } → IsWholeRun (regions heap.system) told.base (told.base + told.size)
+    head_is_run some read = subst (λ (t : SegmentRecord). IsWholeRun (regions heap.system) t.base (t.base + t.size)) (sym read) (go (segments_of word heap) sound.segments sound.told)
       where
         go : (segments : List Segment) → AreSegments (regions heap.system) (word heap.system) segments → AreTold (word heap.system) heap segments → IsWholeRun (regions heap.system) heap.base (heap.base + heap.size)
         go [] parts h = absurd (some h)
         go (segment ∷ segments) parts h =
             subst (λ (base : ℕ). IsWholeRun (regions heap.system) base (base + heap.size)) (sym h.1)
             (subst (λ (size : ℕ). IsWholeRun (regions heap.system) segment.base (segment.base + size)) (sym h.2)
-            (whole_run (regions heap.system) segment.base segment.size segment.flags (let long = parts.0.long in omega arith) parts.0.run))
+            (whole_run (let long = parts.0.long in omega arith) parts.0.run))
 
     -- the records that are read are those that are left
-    records_left : (payload released : ℕ) (system : A) (d : Destroying regions word follows takes heap payload released system) → records_from (word system) (2 ^ 64) payload ≡ d.rest
-    records_left payload released system d = records_read (regions system) (word system) (2 ^ 64) payload d.rest
+    records_left : {payload released : ℕ} (system : A) (d : Destroying regions word follows takes heap payload released system) → records_from (word system) (2 ^ 64) payload ≡ d.rest
+    records_left {payload} system d = records_read (regions system) (word system) (2 ^ 64) payload d.rest
         (let all = segments_few word heap in let sum = ap length d.is ∙ length-append d.done d.rest in let some = d.some in omega arith) d.parts d.told
 
-    module _ (payload released : ℕ) (old : A) (d : Destroying regions word follows takes heap payload released old) where
+    module _ {payload released : ℕ} {old : A} (d : Destroying regions word follows takes heap payload released old) where
       -- all are given back
       pub destroyed : payload ≡ 0 → AreGivenBack regions word follows (taken_back takes (filter is_own (segments_of word heap))) heap.system released old
       destroyed none = subst (λ (segments : List Segment). AreGivenBack regions word follows (taken_back takes (filter is_own segments)) heap.system released old)
-          (sym (d.is ∙ (ap (λ (rest : List Segment). d.done ++ rest) (none_ahead (word old) payload d.rest none d.told) ∙ append-nil d.done))) d.given
+          (sym (d.is ∙ (ap (λ (rest : List Segment). d.done ++ rest) (none_ahead (word old) d.rest none d.told) ∙ append-nil d.done))) d.given
 
       module _ (more : payload ≢ 0) where
         abbrev pub a : Ahead (word old) payload d.rest
@@ -157,13 +156,13 @@ module _ {A : Type 0} (regions : A → List Grant) (word : A → ℕ → ℕ) (f
 
         -- what reading the record wants
         pub read_high : payload + 32 < 2 ^ 64
-        read_high = omega (arith, payload_high (regions old) (word old) a.segment parts_are.0 payload a.told.0 a.told.4, parts_are.0.high)
+        read_high = omega (arith, payload_high parts_are.0 payload a.told.0 a.told.4, parts_are.0.high)
 
         pub read_word : (k : ℕ) → payload ≤ k → k < payload + 32 → k % 8 ≡ payload % 8 → IsWordOf (regions old) k
-        read_word k low high m = payload_word (regions old) (word old) a.segment parts_are.0 payload a.told.0 a.told.4 k low high
-            (omega (arith, m, payload_whole (regions old) (word old) a.segment parts_are.0 payload a.told.0 a.told.4))
+        read_word k low high m = payload_word parts_are.0 payload a.told.0 a.told.4 k low high
+            (omega (arith, m, payload_whole parts_are.0 payload a.told.0 a.told.4))
 
-        module _ (told : SegmentRecord) (read : told ≡ record_read (word old) payload) where
+        module _ {told : SegmentRecord} (read : told ≡ record_read (word old) payload) where
           pub base_is : told.base ≡ a.segment.base
           base_is = ap (λ (t : SegmentRecord). t.base) read ∙ a.told.1
 
@@ -174,13 +173,12 @@ module _ {A : Type 0} (regions : A → List Grant) (word : A → ℕ → ℕ) (f
           is_run =
               subst (λ (base : ℕ). IsWholeRun (regions old) base (base + told.size)) (sym base_is)
               (subst (λ (size : ℕ). IsWholeRun (regions old) a.segment.base (a.segment.base + size)) (sym size_is)
-              (whole_run (regions old) a.segment.base a.segment.size a.segment.flags (let long = parts_are.0.long in omega arith) parts_are.0.run))
+              (whole_run (let long = parts_are.0.long in omega arith) parts_are.0.run))
 
-          module _ (bytes : ℕ) (new : A) (given : AreGivenBack regions word follows (taken_back takes (filter is_own (told_of told ∷ []))) old bytes new) where
+          module _ {bytes : ℕ} {new : A} (given : AreGivenBack regions word follows (taken_back takes (filter is_own (told_of told ∷ []))) old bytes new) where
             abbrev pub on_given : Destroying regions word follows takes heap told.next (released + bytes) new
-            on_given = given_next d.done a.segment a.others there_is released old parts_are d.given (told_of told) base_is size_is
-                (ap (λ (t : SegmentRecord). t.flags % 2 == 0) read ∙ parity a.segment.flags (word old (payload + 24)) a.told.3)
-                bytes new given told.next (subst (λ (p : ℕ). AreRecords (word old) p a.others) (ap (λ (t : SegmentRecord). t.next) (sym read)) a.told.5)
+            on_given = given_next d.done a.segment a.others there_is released parts_are d.given (told_of told) base_is size_is
+                (ap (λ (t : SegmentRecord). t.flags % 2 == 0) read ∙ parity a.told.3) given told.next (subst (λ (p : ℕ). AreRecords (word old) p a.others) (ap (λ (t : SegmentRecord). t.next) (sym read)) a.told.5)
 
             pub sum_fits : released + bytes < 2 ^ 64
             sum_fits =
@@ -192,7 +190,7 @@ module _ {A : Type 0} (regions : A → List Grant) (word : A → ℕ → ℕ) (f
 
             pub fewer_given : length (records_from (word new) (2 ^ 64) told.next) < length (records_from (word old) (2 ^ 64) payload)
             fewer_given =
-                let now = ap length (records_left told.next (released + bytes) new on_given) in
-                let was = ap length (records_left payload released old d) in
+                let now = ap length (records_left new on_given) in
+                let was = ap length (records_left old d) in
                 let all = ap length a.is in
                 omega (arith, now, was, all)

@@ -8,13 +8,13 @@ use Rattle.dlmalloc.proofs.Extents.Top.{no_record}
 use Rattle.dlmalloc.proofs.Extents.FreeParted.{bare, either}
 use Rattle.dlmalloc.proofs.Returns.Unused.{unused_extents, two_found}
 
-module _ (regions : List Grant) (words : ℕ → ℕ) (segment : Segment) (part : IsSegment regions words segment) (at : ℕ) (there : extent_at at segment.extents ≡ Some (record_of at (segment.base + segment.size))) where
+module _ {regions : List Grant} {words : ℕ → ℕ} {segment : Segment} (part : IsSegment regions words segment) (at : ℕ) (there : extent_at at segment.extents ≡ Some (record_of at (segment.base + segment.size))) where
   abbrev end : ℕ
   end = segment.base + segment.size
 
   unused_idle : is_unused segment ≡ true → IsIdle segment
   unused_idle test = record {
-    unused = λ one found used. elim (two_found segment.base (segment.size - 80) at end one.at one (ap (extent_at one.at) (sym is) ∙ found)) [
+    unused = λ one found used. elim (two_found segment.base (segment.size - 80) at end one.at (ap (extent_at one.at) (sym is) ∙ found)) [
       | inl free ↦ (let no : Free ≡ Used = sym free.0 ∙ used in cc)
       | inr last ↦ (let no : Record ≡ Used = sym last ∙ used in cc)
     ];
@@ -23,7 +23,7 @@ module _ (regions : List Grant) (words : ℕ → ℕ) (segment : Segment) (part 
   }
     where
       is : segment.extents ≡ extent segment.base (segment.size - 80) Free ∷ record_of at end ∷ []
-      is = unused_extents regions words segment part at there test
+      is = unused_extents part at there test
 
       short : end - at ≡ 80
       short = (let tiles = subst (λ (es : List Extent). Tiles words Used segment.base es end) is part.extents in let place = tiles.2.0 in let long = part.long in omega (arith, place, long))
@@ -31,18 +31,18 @@ module _ (regions : List Grant) (words : ℕ → ℕ) (segment : Segment) (part 
   idle_unused : IsIdle segment → is_unused segment ≡ true
   idle_unused idle = ap (λ (es : List Extent). is_unused (with_extents segment es)) b.is ∙ rw (free, fits) refl
     where
-      b : Rattle.dlmalloc.proofs.Extents.FreeParted.IsBare regions words segment part idle.unused
-      b = bare regions words segment part idle.unused
+      b : Rattle.dlmalloc.proofs.Extents.FreeParted.IsBare part idle.unused
+      b = bare part idle.unused
 
       free : is_free_below_top b.one.kind ≡ true
       free = elim b.free [
         | inl is ↦ ap is_free_below_top is
-        | inr top ↦ absurd (no_record regions words segment part b.one.at b.one.size at
+        | inr top ↦ absurd (no_record part at
             (ap (extent_at b.one.at) b.is ∙ (found_here b.one (b.last ∷ []) ∙ ap (λ (kind : Rattle.dlmalloc_chunks.specs.declared.extent.Kind.Kind). Some (extent b.one.at b.one.size kind)) top)) there)
       ]
 
       last : b.last ≡ extent idle.record_at 80 Record
-      last = elim (either regions words segment part idle.unused idle.record_at (extent idle.record_at 80 Record) idle.short) [
+      last = elim (either part idle.unused idle.record_at idle.short) [
         | inl one ↦ absurd (let no : is_free_below_top Record ≡ true = sym (ap (λ (e : Extent). is_free_below_top e.kind) one) ∙ free in cc)
         | inr is ↦ is
       ]
@@ -72,12 +72,12 @@ module _ (regions : List Grant) (words : ℕ → ℕ) (segment : Segment) (part 
     λ idle. and (is_own segment) (parts && is_unused segment) idle.1 (and parts (is_unused segment) idle.0 (idle_unused idle.2)),
   )
 
-module _ {A : Type 0} (regions : A → List Grant) (word : A → ℕ → ℕ) (heap : Dlmalloc A) (sound : IsSound regions word heap) (parts : Bool) where
+module _ {A : Type 0} {regions : A → List Grant} {word : A → ℕ → ℕ} {heap : Dlmalloc A} (sound : IsSound regions word heap) (parts : Bool) where
   in_records : (segments : List Segment) → AreSegments (regions heap.system) (word heap.system) segments → (payload : ℕ) → AreRecords (word heap.system) payload segments →
       AllByRecursion (λ (segment : Segment). IsTrue (may_leave parts segment) ↔ (IsTrue parts × IsTrue (is_own segment) × IsIdle segment)) segments
   in_records [] all payload h = tt
   in_records (segment ∷ segments) all payload h = (
-    leaves_idle (regions heap.system) (word heap.system) segment all.0 (payload - 16) h.4 parts,
+    leaves_idle all.0 (payload - 16) h.4 parts,
     in_records segments all.1 (word heap.system (payload + 16)) h.5,
   )
 

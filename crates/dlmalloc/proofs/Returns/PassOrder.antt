@@ -41,7 +41,7 @@ module _ (frees parts : Bool) (segment : Segment) (index : ℕ → List ℕ) (n 
   pub visit_none : false ≡ may_leave parts segment → index n ≡ after_visit frees parts segment index n
   visit_none is = ap (λ (m : Bool). made_of segment m frees index n) is
 
-  module _ (base size : ℕ) (base_is : base ≡ segment.base) (size_is : size ≡ segment.size - 80) (may : true ≡ may_leave parts segment) where
+  module _ {base size : ℕ} (base_is : base ≡ segment.base) (size_is : size ≡ segment.size - 80) (may : true ≡ may_leave parts segment) where
     pub visit_left : true ≡ frees → without_chunk size base index n ≡ after_visit frees parts segment index n
     visit_left takes = (λ i. without_chunk (size_is i) (base_is i) index n) ∙ (λ i. made_of segment (may i) (takes i) index n)
 

@@ -3,8 +3,8 @@ use Rattle.dlmalloc.proofs.Names.{◌≡◌, ◌≢◌, ℕ, ◌*◌, inl, inr, 
 use Rattle.std.proofs.lemmas.List.{length-map}
 
 -- a freed chunk leaves the segments
-pub freed_pass : (old : HeapState) (at : ℕ) (new : HeapState) → new ≡ freed old at → pass_steps new ≡ pass_steps old
-freed_pass old at new is = ap pass_steps is
+pub freed_pass : (old : HeapState) (at : ℕ) {new : HeapState} → new ≡ freed old at → pass_steps new ≡ pass_steps old
+freed_pass old at is = ap pass_steps is
     ∙ ap (λ (n : ℕ). 512 * n) (length-map old.segments (λ (segment : Segment). record segment { extents = freed_in at segment.extents }))
 
 -- so does a cut of the top
@@ -13,8 +13,8 @@ cut_pass : (less : ℕ) (segments : List Segment) (victim granularity rate count
 cut_pass less [] victim granularity rate countdown trim_check = refl
 cut_pass less (head ∷ rest) victim granularity rate countdown trim_check = refl
 
-pub after_cut_pass : (parts : Bool) (unit pad : ℕ) (old new : HeapState) → new ≡ after_cut parts unit pad old → pass_steps new ≡ pass_steps old
-after_cut_pass parts unit pad old new is = ap pass_steps is ∙ go (is_cut parts unit pad old)
+pub after_cut_pass : (parts : Bool) (unit pad : ℕ) (old : HeapState) {new : HeapState} → new ≡ after_cut parts unit pad old → pass_steps new ≡ pass_steps old
+after_cut_pass parts unit pad old is = ap pass_steps is ∙ go (is_cut parts unit pad old)
   where
     go : (b : Bool) → pass_steps (if b then cut_top (cut_of old pad) old else old) ≡ pass_steps old
     go true = cut_pass (cut_of old pad) old.segments old.victim old.granularity old.rate old.countdown old.trim_check

@@ -44,8 +44,8 @@ leaving_is false parts head segments = none_filtered segments
 -- ---- what has left
 
 -- the countdown is no part of what makes a heap sound
-pub countdown_sound : {A : Type 0} (regions : A → List Grant) (word : A → ℕ → ℕ) (heap : Dlmalloc A) → IsSound regions word heap → (countdown : ℕ) → IsSound regions word (record heap { countdown = countdown })
-countdown_sound regions word heap sound countdown = record {
+pub countdown_sound : {A : Type 0} {regions : A → List Grant} {word : A → ℕ → ℕ} {heap : Dlmalloc A} → IsSound regions word heap → (countdown : ℕ) → IsSound regions word (record heap { countdown = countdown })
+countdown_sound {word} {heap} sound countdown = record {
   granularity = sound.granularity;
   segments = sound.segments;
   apart = sound.apart;
@@ -66,9 +66,9 @@ record IsCovered (regions : List Grant) (block : Extent) : Type 0 where
   pub covered : (k : ℕ) → block.at ≤ k → k < block.at + block.size + 8 → IsTrue (is_granted regions k)
 
 module _ {A : Type 0} (regions : A → List Grant) (word : A → ℕ → ℕ) (follows : A → List Event → A → Type 0) where
-  pub left_on : ((x y z : A) (a b c : List Event) → follows x a y → follows y b z → a ++ b ≡ c → follows x c z) → (first second : List Segment) (old middle new : Dlmalloc A) →
+  pub left_on : ((x y z : A) (a b c : List Event) → follows x a y → follows y b z → a ++ b ≡ c → follows x c z) → {first second : List Segment} {old middle new : Dlmalloc A} →
       HaveLeft regions word follows first old middle → HaveLeft regions word follows second middle new → HaveLeft regions word follows (first ++ second) old new
-  left_on follows_on first second old middle new one two = record {
+  left_on follows_on {first} {second} {old} {middle} {new} one two = record {
     sound = two.sound;
     used = record {
       still = λ used is there. two.used.still used is (one.used.still used is there);
@@ -84,22 +84,22 @@ module _ {A : Type 0} (regions : A → List Grant) (word : A → ℕ → ℕ) (f
   }
 
   -- the blocks keep their words
-  blocks_left : (segments : List Segment) (old new : Dlmalloc A) → IsSound regions word old → HaveLeft regions word follows segments old new → KeepsBlocks (extents_in (state_of word old)) (word old.system) (word new.system)
-  blocks_left segments old new sound left = record {
-    words = λ block there used k low high m. left.words k (inside block there used k (omega (arith, low)) high m) (not_in_free regions word old sound block there used k (omega (arith, low)) high) (λ r. no_record_is block there used k (omega (arith, low)) high m r);
+  blocks_left : {segments : List Segment} (old new : Dlmalloc A) → IsSound regions word old → HaveLeft regions word follows segments old new → KeepsBlocks (extents_in (state_of word old)) (word old.system) (word new.system)
+  blocks_left old new sound left = record {
+    words = λ block there used k low high m. left.words k (inside block there used k (omega (arith, low)) high m) (not_in_free sound there used k (omega (arith, low)) high) (λ r. no_record_is block there used k (omega (arith, low)) high m r);
     heads = λ block there used. (let is = stands block there used in
-        ap (λ (w : ℕ). w / 2) (left.words (block.at + 8) (inside block there used (block.at + 8) (omega arith) (omega (arith, is.long)) (omega (arith, is.whole))) (not_in_free regions word old sound block there used (block.at + 8) (omega arith) (omega (arith, is.long))) (λ r. no_record_is block there used (block.at + 8) (omega arith) (omega (arith, is.long)) (omega (arith, is.whole)) r)));
+        ap (λ (w : ℕ). w / 2) (left.words (block.at + 8) (inside block there used (block.at + 8) (omega arith) (omega (arith, is.long)) (omega (arith, is.whole))) (not_in_free sound there used (block.at + 8) (omega arith) (omega (arith, is.long))) (λ r. no_record_is block there used (block.at + 8) (omega arith) (omega (arith, is.long)) (omega (arith, is.whole)) r)));
   }
     where
       no_record_is : (block : Extent) → extent_at block.at (extents_in (state_of word old)) ≡ Some block → block.kind ≡ Used → (k : ℕ) → block.at ≤ k → k < block.at + block.size + 8 → k % 8 ≡ 0 → IsInRecord (state_of word old) k → ⊥
       no_record_is block there used k low high m r =
-          no_record (regions old.system) (word old.system) (segments_of word old) sound.segments sound.apart block r.extent there used r.there r.is k low high m r.low r.high
+          no_record (regions old.system) (word old.system) (segments_of word old) sound.segments sound.apart there used r.there r.is k low high m r.low r.high
 
       stands : (block : Extent) → extent_at block.at (extents_in (state_of word old)) ≡ Some block → block.kind ≡ Used → IsCovered (regions new.system) block
       stands block there used =
-          let l = located block.at block (segments_of word new) (left.used.still block used there) in
-          let p = of_located (IsSegment (regions new.system) (word new.system)) block.at block (segments_of word new) l left.sound.segments in
-          let is = standing (word new.system) Used l.segment.base l.segment.extents (l.segment.base + l.segment.size) block p.extents p.tail l.there used in
+          let l = located block.at (segments_of word new) (left.used.still block used there) in
+          let p = of_located (IsSegment (regions new.system) (word new.system)) l left.sound.segments in
+          let is = standing (word new.system) Used l.segment.base l.segment.extents (l.segment.base + l.segment.size) p.extents p.tail l.there used in
           let from = is.low in let to = is.high in let long = is.long in let whole = is.whole in
           record { long = omega arith; whole = omega arith; covered = λ k low high. p.run.covered k (omega arith) (omega arith) }
 
@@ -126,7 +126,7 @@ pub record Passing {A : Type 0} (regions : A → List Grant) (word : A → ℕ �
   pub rate_same : new.rate ≡ old.rate
   pub trim_check_same : new.trim_check ≡ old.trim_check
 
-module _ {A : Type 0} (regions : A → List Grant) (word : A → ℕ → ℕ) (follows : A → List Event → A → Type 0) (frees parts : Bool) (old : Dlmalloc A) (sound : IsSound regions word old) where
+module _ {A : Type 0} {regions : A → List Grant} {word : A → ℕ → ℕ} (follows : A → List Event → A → Type 0) (frees parts : Bool) {old : Dlmalloc A} (sound : IsSound regions word old) where
   -- none is at the beginning
   pub begun_passing : 0 < old.size → ((x : A) → follows x [] x) → Passing regions word follows frees parts old 0 old.next 0 0 old
   begun_passing some follows_none = go (segments_of word old) refl sound.told
@@ -159,7 +159,7 @@ module _ {A : Type 0} (regions : A → List Grant) (word : A → ℕ → ℕ) (f
         trim_check_same = refl;
       }
 
-  module _ (before payload count released : ℕ) (now : Dlmalloc A) (p : Passing regions word follows frees parts old before payload count released now) where
+  module _ {before payload count released : ℕ} {now : Dlmalloc A} (p : Passing regions word follows frees parts old before payload count released now) where
     -- the bytes that left are fewer than addresses
     pub few_released : released ≤ bytes_of p.done
     few_released = omega (arith, p.bytes_are, bytes_filter (λ (segment : Segment). frees && may_leave parts segment) p.done)
@@ -185,11 +185,11 @@ module _ {A : Type 0} (regions : A → List Grant) (word : A → ℕ → ℕ) (f
 
       -- what reading its record wants
       pub read_high : payload + 32 < 2 ^ 64
-      read_high = omega (arith, payload_high (regions now.system) (word now.system) ahead.segment ahead_part payload ahead.told.0 ahead.told.4, ahead_part.high)
+      read_high = omega (arith, payload_high ahead_part payload ahead.told.0 ahead.told.4, ahead_part.high)
 
       pub read_word : (k : ℕ) → payload ≤ k → k < payload + 32 → k % 8 ≡ payload % 8 → IsWordOf (regions now.system) k
-      read_word k low high m = payload_word (regions now.system) (word now.system) ahead.segment ahead_part payload ahead.told.0 ahead.told.4 k low high
-          (omega (arith, m, payload_whole (regions now.system) (word now.system) ahead.segment ahead_part payload ahead.told.0 ahead.told.4))
+      read_word k low high m = payload_word ahead_part payload ahead.told.0 ahead.told.4 k low high
+          (omega (arith, m, payload_whole ahead_part payload ahead.told.0 ahead.told.4))
 
       -- where one is left, fewer are visited than there are
       pub more_left : count + 1 < length (segments_of word old)
@@ -198,7 +198,7 @@ module _ {A : Type 0} (regions : A → List Grant) (word : A → ℕ → ℕ) (f
       pub count_fits : count + 1 < 2 ^ 64
       count_fits = omega (arith, more_left, few (regions old.system) (word old.system) (segments_of word old) sound.segments sound.apart)
 
-      module _ (told : SegmentRecord) (read : told ≡ record_read (word now.system) payload) where
+      module _ {told : SegmentRecord} (read : told ≡ record_read (word now.system) payload) where
         abbrev pub chained : IsChained word now before told
         chained = record {
           head = p.head;
@@ -219,7 +219,7 @@ module _ {A : Type 0} (regions : A → List Grant) (word : A → ℕ → ℕ) (f
         sum_fits = omega (arith, few_released, bounded, told_size)
 
         module _ (follows_on : (x y z : A) (a b c : List Event) → follows x a y → follows y b z → a ++ b ≡ c → follows x c z)
-            (b : Bool) (b_is : b ≡ (frees && may_leave parts ahead.segment)) (new : Dlmalloc A) (v : IsVisited regions word follows (may_leave parts ahead.segment) b now before told chained new) (next : IsReindexed regions word (after_visit frees parts ahead.segment) now new) where
+            {b : Bool} (b_is : b ≡ (frees && may_leave parts ahead.segment)) {new : Dlmalloc A} (v : IsVisited regions word follows (may_leave parts ahead.segment) b now before told chained new) (next : IsReindexed regions word (after_visit frees parts ahead.segment) now new) where
           stay_is : remaining frees parts (p.done ++ ahead.segment ∷ []) ≡ remaining frees parts p.done ++ (if not b then ahead.segment ∷ [] else [])
           stay_is = filter-append (λ (segment : Segment). not (frees && may_leave parts segment)) p.done (ahead.segment ∷ [])
               ∙ ap (λ (t : Bool). remaining frees parts p.done ++ cond (not t) (ahead.segment ∷ []) []) (sym b_is)
@@ -270,7 +270,7 @@ module _ {A : Type 0} (regions : A → List Grant) (word : A → ℕ → ℕ) (f
                 ∙ ap (λ (a : Bool). if a then 0 else old.victim) (sym (ap (list_any (λ (segment : Segment). segment.base == old.victim)) (filter-append (may_leave parts) p.done (ahead.segment ∷ []))
                 ∙ list_any-append (λ (segment : Segment). segment.base == old.victim) (filter (may_leave parts) p.done) (filter (may_leave parts) (ahead.segment ∷ []))))));
             left = subst (λ (gone : List Segment). HaveLeft regions word follows gone old new) (sym gone_is)
-                (left_on regions word follows follows_on (leaving frees parts p.done) (if b then ahead.segment ∷ [] else []) old now new p.left v.left);
+                (left_on regions word follows follows_on p.left v.left);
             index = λ b.
                 let was = p.index b in
                 let is = next was.0 in
@@ -289,7 +289,7 @@ module _ {A : Type 0} (regions : A → List Grant) (word : A → ℕ → ℕ) (f
       passed_heap = record now { countdown = countdown }
 
       rest_none : p.rest ≡ []
-      rest_none = none_ahead (word now.system) payload p.rest none p.records
+      rest_none = none_ahead (word now.system) p.rest none p.records
 
       was_all : segments_of word old ≡ p.head ∷ p.done
       was_all = p.was ∙ ap (λ (segments : List Segment). p.head ∷ segments) (ap (λ (rest : List Segment). p.done ++ rest) rest_none ∙ append-nil p.done)
@@ -316,12 +316,12 @@ module _ {A : Type 0} (regions : A → List Grant) (word : A → ℕ → ℕ) (f
       passed_all = record {
         state = λ i. record { segments = segments_are i; victim = victim_now i; granularity = p.granularity_same i; rate = p.rate_same i; countdown = countdown_is i; trim_check = p.trim_check_same i };
         bytes_are = p.bytes_are ∙ ap bytes_of gone_are;
-        sound = countdown_sound regions word now p.left.sound countdown;
+        sound = countdown_sound p.left.sound countdown;
         used = record { still = p.left.used.still; before = p.left.used.before };
-        kept = blocks_left regions word follows (leaving frees parts p.done) old now sound p.left;
+        kept = blocks_left regions word follows old now sound p.left;
         index = λ b.
             let was = p.index b in
-            (same_bins regions word now countdown was.0, λ n. was.1 n ∙ sym (ap (λ (segments : List Segment). after_pass frees parts segments b.index n) was_all));
+            (same_bins countdown was.0, λ n. was.1 n ∙ sym (ap (λ (segments : List Segment). after_pass frees parts segments b.index n) was_all));
         words = p.left.words;
         regions_are = p.left.regions_are ∙ ap (λ (gone : List Segment). regions_without gone (regions old.system)) gone_are;
         followed = subst (λ (gone : List Segment). follows old.system (releases gone) now.system) gone_are p.left.followed;

@@ -45,9 +45,9 @@ behind_stays regions old new payload [] rest parts keeps h = refl
 behind_stays regions old new payload (segment ∷ front) rest parts keeps h =
     behind_stays regions old new (old (payload + 16)) front rest parts.1 keeps.1 h.5
     ∙ ap (λ (p : ℕ). payload_behind new p front) (sym (keeps.0 (payload + 16)
-    (omega (arith, payload_low regions old segment parts.0 payload h.0 h.4)) (omega (arith, payload_high regions old segment parts.0 payload h.0 h.4)) (omega (arith, payload_whole regions old segment parts.0 payload h.0 h.4))))
+    (omega (arith, payload_low parts.0 payload h.0 h.4)) (omega (arith, payload_high parts.0 payload h.0 h.4)) (omega (arith, payload_whole parts.0 payload h.0 h.4))))
 
-module _ {A : Type 0} (regions : A → List Grant) (word : A → ℕ → ℕ) (heap : Dlmalloc A) (sound : IsSound regions word heap) (some : 0 < heap.size) (before : ℕ) (told : SegmentRecord) (c : IsChained word heap before told) where
+module _ {A : Type 0} {regions : A → List Grant} {word : A → ℕ → ℕ} {heap : Dlmalloc A} (sound : IsSound regions word heap) (some : 0 < heap.size) {before : ℕ} {told : SegmentRecord} (c : IsChained word heap before told) where
   abbrev words : ℕ → ℕ
   words = word heap.system
 
@@ -91,7 +91,7 @@ module _ {A : Type 0} (regions : A → List Grant) (word : A → ℕ → ℕ) (h
   next_is = ap (λ (t : SegmentRecord). t.next) c.read
 
   own_is : (told.flags % 2 == 0) ≡ is_own c.segment
-  own_is = ap (λ (t : SegmentRecord). t.flags % 2 == 0) c.read ∙ parity c.segment.flags (words (c.payload + 24)) c.records.3
+  own_is = ap (λ (t : SegmentRecord). t.flags % 2 == 0) c.read ∙ parity c.records.3
 
   back_told : AreRecords words told.next c.back
   back_told = subst (λ (p : ℕ). AreRecords words p c.back) (sym next_is) c.records.5
@@ -99,26 +99,26 @@ module _ {A : Type 0} (regions : A → List Grant) (word : A → ℕ → ℕ) (h
   -- ---- what a look at it wants
 
   pub first_there : HasHead granted told.base
-  first_there = subst (HasHead granted) (sym base_is) (first_head granted words c.segment part (c.payload - 16) c.records.4)
+  first_there = subst (HasHead granted) (sym base_is) (first_head part (c.payload - 16) c.records.4)
 
   pub long_told : 96 < told.size
   long_told = omega (arith, size_is, part.long)
 
   pub run_told : IsWholeRun granted told.base (told.base + told.size)
   run_told = subst (λ (base : ℕ). IsWholeRun granted base (base + told.size)) (sym base_is)
-      (subst (λ (size : ℕ). IsWholeRun granted c.segment.base (c.segment.base + size)) (sym size_is) (whole_run granted c.segment.base c.segment.size c.segment.flags sized part.run))
+      (subst (λ (size : ℕ). IsWholeRun granted c.segment.base (c.segment.base + size)) (sym size_is) (whole_run sized part.run))
 
   pub test_is : (takes : Bool) → (told.flags % 2 == 0 && (takes && (free_of (words (told.base + 8)) && size_of (words (told.base + 8)) == told.size - 80))) ≡ may_leave takes c.segment
   test_is takes = λ i. own_is i && (takes && unused i)
     where
       unused : (free_of (words (told.base + 8)) && size_of (words (told.base + 8)) == told.size - 80) ≡ is_unused c.segment
-      unused = (λ i. free_of (words (base_is i + 8)) && size_of (words (base_is i + 8)) == size_is i - 80) ∙ unused_told granted words c.segment part (c.payload - 16) c.records.4
+      unused = (λ i. free_of (words (base_is i + 8)) && size_of (words (base_is i + 8)) == size_is i - 80) ∙ unused_told part (c.payload - 16) c.records.4
 
   -- where it is unused, its first chunk is free
   pub first_is_free : is_unused c.segment ≡ true → IsFreeAt (state_of word heap) told.base (told.size - 80)
   first_is_free unused = subst (λ (base : ℕ). IsFreeAt (state_of word heap) base (told.size - 80)) (sym base_is) (subst (λ (size : ℕ). IsFreeAt (state_of word heap) c.segment.base (size - 80)) (sym size_is)
-      (among_all granted words (segments_of word heap) sound.segments sound.apart (c.head ∷ c.front) c.segment c.back c.is c.segment.base (extent c.segment.base (c.segment.size - 80) Free) (
-      ap (extent_at c.segment.base) (unused_extents granted words c.segment part (c.payload - 16) c.records.4 unused)
+      (among_all granted words sound.segments sound.apart (c.head ∷ c.front) c.segment c.back c.is c.segment.base (
+      ap (extent_at c.segment.base) (unused_extents part (c.payload - 16) c.records.4 unused)
       ∙ found_here (extent c.segment.base (c.segment.size - 80) Free) (record_of (c.payload - 16) (c.segment.base + c.segment.size) ∷ [])
       )))
 
@@ -219,23 +219,23 @@ module _ {A : Type 0} (regions : A → List Grant) (word : A → ℕ → ℕ) (h
     last_front = front_apart (c.head ∷ l.first) l.last (c.segment ∷ c.back) split_apart
 
     low_is : l.last.base + 16 ≤ before
-    low_is = payload_low granted words l.last last_part before last_told.0 last_told.4
+    low_is = payload_low last_part before last_told.0 last_told.4
 
     high_is : before + 64 ≤ l.last.base + l.last.size
-    high_is = payload_high granted words l.last last_part before last_told.0 last_told.4
+    high_is = payload_high last_part before last_told.0 last_told.4
 
     -- a byte of the record's segment is none of the one that leaves
     beside_gone : (k : ℕ) → l.last.base ≤ k → k < l.last.base + l.last.size → IsOutside c.segment k
     beside_gone k low high = elim (last_behind.0) [ inl first ↦ inr (omega (arith, first, low)) | inr second ↦ inl (omega (arith, second, high)) ]
 
     link_word : IsWordOf granted (before + 16)
-    link_word = payload_word granted words l.last last_part before last_told.0 last_told.4 (before + 16) (omega arith) (omega arith) (omega (arith, payload_whole granted words l.last last_part before last_told.0 last_told.4))
+    link_word = payload_word last_part before last_told.0 last_told.4 (before + 16) (omega arith) (omega arith) (omega (arith, payload_whole last_part before last_told.0 last_told.4))
 
     link_in : IsInRecord (state_of word heap) (before + 16)
     link_in = record {
       extent = record_of (before - 16) (l.last.base + l.last.size);
-      there = among_all granted words (segments_of word heap) sound.segments sound.apart (c.head ∷ l.first) l.last (c.segment ∷ c.back) (c.is ∙ ap (λ (segments : List Segment). c.head ∷ segments) split_is)
-          (before - 16) (record_of (before - 16) (l.last.base + l.last.size)) last_told.4;
+      there = among_all granted words sound.segments sound.apart (c.head ∷ l.first) l.last (c.segment ∷ c.back) (c.is ∙ ap (λ (segments : List Segment). c.head ∷ segments) split_is)
+          (before - 16) last_told.4;
       is = refl;
       low = omega (arith, low_is);
       high = omega (arith, low_is, high_is);
@@ -249,8 +249,8 @@ module _ {A : Type 0} (regions : A → List Grant) (word : A → ℕ → ℕ) (h
       go (inl h) = omega (arith, h.1)
       go (inr l) = omega (arith, high_is l, (last_part l).high)
 
-  pub link_granted : (rest : List Grant) → rest ≡ without told.base (told.base + told.size) granted → before ≢ 0 → IsWordOf rest (before + 16)
-  link_granted rest gone more = go c.linked
+  pub link_granted : {rest : List Grant} → rest ≡ without told.base (told.base + told.size) granted → before ≢ 0 → IsWordOf rest (before + 16)
+  link_granted {rest} gone more = go c.linked
     where
       gone_is : rest ≡ without c.segment.base (c.segment.base + c.segment.size) granted
       gone_is = gone ∙ (λ i. without (base_is i) (base_is i + size_is i) granted)
@@ -258,7 +258,7 @@ module _ {A : Type 0} (regions : A → List Grant) (word : A → ℕ → ℕ) (h
       go : IsLinked words heap.next before c.payload c.front → IsWordOf rest (before + 16)
       go (inl h) = absurd (more h.1)
       go (inr l) = subst (λ (rs : List Grant). IsWordOf rs (before + 16)) (sym gone_is)
-          (word_stays granted c.segment part.run sized (before + 16) (link_word l) (beside_gone l (before + 16) (omega (arith, low_is l)) (omega (arith, high_is l))))
+          (word_stays c.segment part.run sized (link_word l) (beside_gone l (before + 16) (omega (arith, low_is l)) (omega (arith, high_is l))))
 
   module _ (system : A) (told_gone : regions system ≡ without told.base (told.base + told.size) granted)
       (kept : (k : ℕ) → IsWordOf (regions system) k → (before ≢ 0 → k ≢ before + 16) → word system k ≡ words k) (here : before ≢ 0 → word system (before + 16) ≡ told.next) where
@@ -270,7 +270,7 @@ module _ {A : Type 0} (regions : A → List Grant) (word : A → ℕ → ℕ) (h
     next = if before == 0 then told.next else heap.next
 
     kept_outside : (k : ℕ) → IsWordOf granted k → IsOutside c.segment k → (before ≢ 0 → k ≢ before + 16) → word system k ≡ words k
-    kept_outside k inside out other = kept k (subst (λ (rs : List Grant). IsWordOf rs k) (sym gone) (word_stays granted c.segment part.run sized k inside out)) other
+    kept_outside k inside out other = kept k (subst (λ (rs : List Grant). IsWordOf rs k) (sym gone) (word_stays c.segment part.run sized inside out)) other
 
     -- what is left of the segments and of the chain
     record IsRest : Type 0 where
@@ -283,7 +283,7 @@ module _ {A : Type 0} (regions : A → List Grant) (word : A → ℕ → ℕ) (h
     at_head h = record {
       segments = subst (λ (front : List Segment). AreSegments (regions system) (word system) (c.head ∷ (front ++ c.back))) (sym h.0)
           (subst (λ (rs : List Grant). AreSegments rs (word system) (c.head ∷ c.back)) (sym gone)
-          (apart_segments granted c.segment part.run sized words (word system) (c.head ∷ c.back) (front_parts.0, back_parts) (front_beside.0, back_beside) keeps));
+          (apart_segments c.segment part.run sized words (word system) (c.head ∷ c.back) (front_parts.0, back_parts) (front_beside.0, back_beside) keeps));
       records = subst (λ (front : List Segment). AreRecords (word system) next (front ++ c.back)) (sym h.0) (subst (λ (p : ℕ). AreRecords (word system) p c.back) (sym next_now) behind);
       behind = behind;
       linked = inl (h.0, h.1, sym next_now);
@@ -293,7 +293,7 @@ module _ {A : Type 0} (regions : A → List Grant) (word : A → ℕ → ℕ) (h
         next_now = ap (λ (b : ℕ). if b == 0 then told.next else heap.next) h.1
 
         keeps : AllByRecursion (KeepsIts words (word system)) (c.head ∷ c.back)
-        keeps = apart_keeps granted c.segment part.run sized words (word system) (λ k inside. kept k (subst (λ (rs : List Grant). IsWordOf rs k) (sym gone) inside) (λ more. absurd (more h.1)))
+        keeps = apart_keeps c.segment part.run sized words (word system) (λ k inside. kept k (subst (λ (rs : List Grant). IsWordOf rs k) (sym gone) inside) (λ more. absurd (more h.1)))
             (c.head ∷ c.back) (front_parts.0, back_parts) (front_beside.0, back_beside)
 
         behind : AreRecords (word system) told.next c.back
@@ -303,12 +303,12 @@ module _ {A : Type 0} (regions : A → List Grant) (word : A → ℕ → ℕ) (h
     behind_last l = record {
       segments = subst (λ (segments : List Segment). AreSegments (regions system) (word system) (c.head ∷ segments)) (sym (joined_is l))
           (subst (λ (rs : List Grant). AreSegments rs (word system) (c.head ∷ (l.first ++ l.last ∷ c.back))) (sym gone)
-          (parts_around (without c.segment.base (c.segment.base + c.segment.size) granted) (word system) l.last (c.head ∷ l.first) c.back
-          (apart_segments granted c.segment part.run sized words (word system) (c.head ∷ l.first) first_parts first_beside first_keeps)
+          (parts_around (c.head ∷ l.first) c.back
+          (apart_segments c.segment part.run sized words (word system) (c.head ∷ l.first) first_parts first_beside first_keeps)
           last_now
-          (apart_segments granted c.segment part.run sized words (word system) c.back back_parts back_beside back_keeps)));
+          (apart_segments c.segment part.run sized words (word system) c.back back_parts back_beside back_keeps)));
       records = subst (λ (segments : List Segment). AreRecords (word system) next segments) (sym (joined_is l)) (subst (λ (p : ℕ). AreRecords (word system) p (l.first ++ l.last ∷ c.back)) (sym next_now)
-          (told_around granted words (word system) (l.last ∷ (c.segment ∷ c.back)) (l.last ∷ c.back) l.first before heap.next l.reached first_parts.1 first_keeps.1 (split_told l) (
+          (told_around granted words (word system) (l.last ∷ (c.segment ∷ c.back)) (l.last ∷ c.back) l.first heap.next l.reached first_parts.1 first_keeps.1 (split_told l) (
             (last_told l).0,
             stored before (omega arith) (omega arith) (omega (arith, whole)) (λ is. omega (arith, is)) ∙ (last_told l).1,
             stored (before + 8) (omega arith) (omega arith) (omega (arith, whole)) (λ is. omega (arith, is)) ∙ (last_told l).2,
@@ -331,7 +331,7 @@ module _ {A : Type 0} (regions : A → List Grant) (word : A → ℕ → ℕ) (h
         next_now = (let s = l.some in let other : (before == 0) ≡ false = grind (arith, nat_tests) in ap (λ (b : Bool). if b then told.next else heap.next) other)
 
         whole : before % 16 ≡ 0
-        whole = payload_whole granted words l.last (last_part l) before (last_told l).0 (last_told l).4
+        whole = payload_whole (last_part l) before (last_told l).0 (last_told l).4
 
         first_parts : AreSegments granted words (c.head ∷ l.first)
         first_parts = all_front (IsSegment granted words) (c.head ∷ l.first) (l.last ∷ (c.segment ∷ c.back)) (split_parts l)
@@ -351,15 +351,15 @@ module _ {A : Type 0} (regions : A → List Grant) (word : A → ℕ → ℕ) (h
         back_keeps = apart_stay granted words (word system) c.segment l.last c.back back_parts back_beside (last_behind l).1 kept_beside
 
         stored : (k : ℕ) → before ≤ k → k < before + 32 → k % 8 ≡ 0 → (k ≡ before + 16 → ⊥) → word system k ≡ words k
-        stored k low high m other = kept_outside k (payload_word granted words l.last (last_part l) before (last_told l).0 (last_told l).4 k low high m)
+        stored k low high m other = kept_outside k (payload_word (last_part l) before (last_told l).0 (last_told l).4 k low high m)
             (beside_gone l k (omega (arith, low, low_is l)) (omega (arith, high, high_is l))) (λ more. other)
 
         last_now : IsSegment (without c.segment.base (c.segment.base + c.segment.size) granted) (word system) l.last
         last_now =
-            let is = recorded_stays granted words l.last (last_part l) before (last_told l).0 (last_told l).4 (word system)
+            let is = recorded_stays (last_part l) before (last_told l).0 (last_told l).4 (word system)
             (λ k low high m out. kept_outside k (record { granted = (last_part l).run.covered k (omega (arith, low)) high; aligned = m }) (beside_gone l k (omega (arith, low)) high)
             (λ more same. elim out [ inl below ↦ omega (arith, same, below) | inr above ↦ omega (arith, same, above) ])) in
-            record { run = run_stays granted c.segment part.run sized l.last (last_behind l).0 is.run; low = is.low; high = is.high; long = is.long; extents = is.extents; tail = is.tail }
+            record { run = run_stays c.segment part.run sized l.last (last_behind l).0 is.run; low = is.low; high = is.high; long = is.long; extents = is.extents; tail = is.tail }
 
         behind : AreRecords (word system) told.next c.back
         behind = records_stay granted words (word system) c.back back_parts back_keeps told.next back_told
@@ -402,25 +402,25 @@ module _ {A : Type 0} (regions : A → List Grant) (word : A → ℕ → ℕ) (h
       in_new = all_retold regions word left_heap now rest.segments apart_now told_now
 
       -- what is not of the segment is found again
-      found_still : (k : ℕ) (one : Extent) → extent_at k (extents_in (state_of word heap)) ≡ Some one → (extent_at k c.segment.extents ≡ Some one → ⊥) → extent_at k (extents_all now) ≡ Some one
-      found_still k one there other = replaced_found (extents_all now) k one (extents_all (c.head ∷ c.front)) c.segment.extents [] (extents_all c.back) all_new
+      found_still : (k : ℕ) {one : Extent} → extent_at k (extents_in (state_of word heap)) ≡ Some one → (extent_at k c.segment.extents ≡ Some one → ⊥) → extent_at k (extents_all now) ≡ Some one
+      found_still k there other = replaced_found k (extents_all (c.head ∷ c.front)) c.segment.extents [] (extents_all c.back) all_new
           (distinct regions word left_heap now rest.segments apart_now told_now) (λ found. absurd (other found)) (ap (extent_at k) (sym all_old) ∙ there)
 
-      found_before : (k : ℕ) (one : Extent) → extent_at k (extents_in (state_of word left_heap)) ≡ Some one → extent_at k (extents_in (state_of word heap)) ≡ Some one
-      found_before k one there = replaced_found (extents_in (state_of word heap)) k one (extents_all (c.head ∷ c.front)) [] c.segment.extents (extents_all c.back) all_old
+      found_before : (k : ℕ) {one : Extent} → extent_at k (extents_in (state_of word left_heap)) ≡ Some one → extent_at k (extents_in (state_of word heap)) ≡ Some one
+      found_before k there = replaced_found k (extents_all (c.head ∷ c.front)) [] c.segment.extents (extents_all c.back) all_old
           (all_distinct granted words (segments_of word heap) sound.segments sound.apart) (λ found. absurd (cc)) (ap (extent_at k) (sym (in_new ∙ all_new)) ∙ there)
 
       -- in the segment a free extent and the record are found
-      in_gone : (k : ℕ) (one : Extent) → extent_at k c.segment.extents ≡ Some one → ((one.kind ≡ Free) × (c.segment.base ≡ k)) ⊎ (one.kind ≡ Record)
-      in_gone k one found = two_found c.segment.base (c.segment.size - 80) (c.payload - 16) (c.segment.base + c.segment.size) k one
-          (ap (extent_at k) (sym (unused_extents granted words c.segment part (c.payload - 16) c.records.4 unused)) ∙ found)
+      in_gone : (k : ℕ) {one : Extent} → extent_at k c.segment.extents ≡ Some one → ((one.kind ≡ Free) × (c.segment.base ≡ k)) ⊎ (one.kind ≡ Record)
+      in_gone k found = two_found c.segment.base (c.segment.size - 80) (c.payload - 16) (c.segment.base + c.segment.size) k
+          (ap (extent_at k) (sym (unused_extents part (c.payload - 16) c.records.4 unused)) ∙ found)
 
       -- its free extent is where it begins
       first_free : IsThere told.base c.segment.extents
       first_free = (
         extent c.segment.base (c.segment.size - 80) Free,
         ap (λ (k : ℕ). extent_at k c.segment.extents) base_is ∙ (
-            ap (extent_at c.segment.base) (unused_extents granted words c.segment part (c.payload - 16) c.records.4 unused)
+            ap (extent_at c.segment.base) (unused_extents part (c.payload - 16) c.records.4 unused)
             ∙ found_here (extent c.segment.base (c.segment.size - 80) Free) (record_of (c.payload - 16) (c.segment.base + c.segment.size) ∷ [])
             ),
       )
@@ -430,7 +430,7 @@ module _ {A : Type 0} (regions : A → List Grant) (word : A → ℕ → ℕ) (h
       left_free = free_changes (state_of word heap) (state_of word left_heap) (extents_all (c.head ∷ c.front)) c.segment.extents [] (extents_all c.back) all_old (in_new ∙ all_new)
           (all_distinct granted words (segments_of word heap) sound.segments sound.apart) (subst AreDistinct (sym in_new) (distinct regions word left_heap now rest.segments apart_now told_now))
           (told.base ∷ []) []
-          (λ k size found. elim (in_gone k (extent k size Free) found) [
+          (λ k size found. elim (in_gone k found) [
             | inl free ↦ inl (sym (base_is ∙ free.1))
             | inr tail ↦ absurd (let no : Free ≡ Record = tail in cc)
           ])
@@ -439,7 +439,7 @@ module _ {A : Type 0} (regions : A → List Grant) (word : A → ℕ → ℕ) (h
           (λ k none. absurd none)
 
       none_used : (k : ℕ) (one : Extent) → one.kind ≡ Used → extent_at k c.segment.extents ≡ Some one → ⊥
-      none_used k one used found = elim (in_gone k one found) [
+      none_used k one used found = elim (in_gone k found) [
         | inl free ↦ (let no : Used ≡ Free = sym used ∙ free.0 in cc)
         | inr tail ↦ (let no : Used ≡ Record = sym used ∙ tail in cc)
       ]
@@ -450,8 +450,8 @@ module _ {A : Type 0} (regions : A → List Grant) (word : A → ℕ → ℕ) (h
 
       victim_there : (b : Bool) → (told.base == heap.victim) ≡ b → (if b then 0 else heap.victim_size) ≢ 0 → extent_at (if b then 0 else heap.victim) (extents_all now) ≡ Some (extent (if b then 0 else heap.victim) (if b then 0 else heap.victim_size) Free)
       victim_there true test more = absurd (more refl)
-      victim_there false test more = found_still heap.victim (extent heap.victim heap.victim_size Free) (sound.victim more)
-          (λ found. elim (in_gone heap.victim (extent heap.victim heap.victim_size Free) found) [
+      victim_there false test more = found_still heap.victim (sound.victim more)
+          (λ found. elim (in_gone heap.victim found) [
             | inl free ↦ (let yes : (told.base == heap.victim) ≡ true = ap (λ (b : ℕ). b == heap.victim) (base_is ∙ free.1) ∙ nat_same heap.victim in let no = sym test ∙ yes in cc)
             | inr tail ↦ (let no : Free ≡ Record = tail in cc)
           ])
@@ -465,10 +465,10 @@ module _ {A : Type 0} (regions : A → List Grant) (word : A → ℕ → ℕ) (h
         left = record {
           sound = retold_sound regions word left_heap now rest.segments apart_now told_now sound.granularity heap_told.0 (no_victim (told.base == heap.victim)) (victim_there (told.base == heap.victim) refl);
           used = record {
-            still = λ used is there. ap (extent_at used.at) in_new ∙ found_still used.at used there (none_used used.at used is);
-            before = λ used is there. found_before used.at used there;
+            still = λ used is there. ap (extent_at used.at) in_new ∙ found_still used.at there (none_used used.at used is);
+            before = λ used is there. found_before used.at there;
           };
-          before = λ one there. found_before one.at one there;
+          before = λ one there. found_before one.at there;
           words = λ k inside was out. left_words k inside out;
           regions_are = gone;
           followed = subst (λ (events : List Event). follows heap.system events system) (λ i. Released (base_is i) (size_is i) 0 ∷ []) followed;

@@ -16,8 +16,8 @@ without_append [] back regions = refl
 without_append (segment ∷ front) back regions = without_append front back (without segment.base (segment.base + segment.size) regions)
 
 -- the bytes of a segment are a run of whole regions
-pub whole_run : (regions : List Grant) (base size flags : ℕ) → 0 < size → IsRun regions base size flags → IsWholeRun regions base (base + size)
-whole_run regions base size flags some run = record { some = omega (arith, some); granted = run.covered; whole = go regions run.whole }
+pub whole_run : {regions : List Grant} {base size flags : ℕ} → 0 < size → IsRun regions base size flags → IsWholeRun regions base (base + size)
+whole_run {regions} {base} {size} {flags} some run = record { some = omega (arith, some); granted = run.covered; whole = go regions run.whole }
   where
     go : (regions : List Grant) → AllByRecursion (λ (region : Grant). IsApart base (base + size) region ⊎ IsWithin base (base + size) flags region) regions →
         AllByRecursion (λ (region : Grant). IsApart base (base + size) region ⊎ IsWholeWithin base (base + size) region) regions
@@ -54,13 +54,13 @@ module _ (low high : ℕ) where
 
 -- ---- one segment goes back
 
-module _ (regions : List Grant) (gone : Segment) (run : IsRun regions gone.base gone.size gone.flags) (some : 0 < gone.size) where
+module _ {regions : List Grant} (gone : Segment) (run : IsRun regions gone.base gone.size gone.flags) (some : 0 < gone.size) where
   abbrev pub after : List Grant
   after = without gone.base (gone.base + gone.size) regions
 
   outside_same : (k : ℕ) → IsOutside gone k → is_granted after k ≡ is_granted regions k
   outside_same k out =
-      let whole = (whole_run regions gone.base gone.size gone.flags some run).whole in
+      let whole = (whole_run some run).whole in
       let same = granted_without gone.base gone.base (gone.base + gone.size) regions k whole (omega arith) (omega arith) in
       let beside : (nat_le gone.base k && nat_lt k (gone.base + gone.size)) ≡ false = elim out [ inl below ↦ grind (arith, nat_tests) | inr above ↦ grind (arith, nat_tests) ] in
       same ∙ (ap (λ (b : Bool). is_granted regions k && not b) beside ∙ and_true (is_granted regions k))
@@ -70,8 +70,8 @@ module _ (regions : List Grant) (gone : Segment) (run : IsRun regions gone.base 
       and_true false = refl
 
   -- a word beside it is still granted
-  pub word_stays : (k : ℕ) → IsWordOf regions k → IsOutside gone k → IsWordOf after k
-  word_stays k inside out = record { granted = subst IsTrue (sym (outside_same k out)) inside.granted; aligned = inside.aligned }
+  pub word_stays : {k : ℕ} → IsWordOf regions k → IsOutside gone k → IsWordOf after k
+  word_stays {k} inside out = record { granted = subst IsTrue (sym (outside_same k out)) inside.granted; aligned = inside.aligned }
 
   -- a run that is apart stays one
   pub run_stays : (segment : Segment) → IsApartFrom gone segment → IsRun regions segment.base segment.size segment.flags → IsRun after segment.base segment.size segment.flags
@@ -84,14 +84,14 @@ module _ (regions : List Grant) (gone : Segment) (run : IsRun regions gone.base 
   pub apart_segments : (old new : ℕ → ℕ) (segments : List Segment) → AreSegments regions old segments → AllByRecursion (IsApartFrom gone) segments → AllByRecursion (KeepsIts old new) segments → AreSegments after new segments
   apart_segments old new [] parts apart keeps = tt
   apart_segments old new (segment ∷ segments) parts apart keeps =
-      let is = one_stays regions old new segment parts.0 keeps.0 in
+      let is = one_stays regions old new parts.0 keeps.0 in
       (record { run = run_stays segment apart.0 is.run; low = is.low; high = is.high; long = is.long; extents = is.extents; tail = is.tail }, apart_segments old new segments parts.1 apart.1 keeps.1)
 
   -- they keep their words, where granted words stay
   pub apart_keeps : (old new : ℕ → ℕ) → ((k : ℕ) → IsWordOf after k → new k ≡ old k) → (segments : List Segment) → AreSegments regions old segments → AllByRecursion (IsApartFrom gone) segments → AllByRecursion (KeepsIts old new) segments
   apart_keeps old new kept [] parts apart = tt
   apart_keeps old new kept (segment ∷ segments) parts apart = (
-    λ k low high m. kept k (word_stays k (record { granted = parts.0.run.covered k (omega arith) high; aligned = m }) (elim (apart.0) [ inl before ↦ inr (omega (arith, before, low)) | inr behind ↦ inl (omega (arith, behind, high)) ])),
+    λ k low high m. kept k (word_stays {k = k} (record { granted = parts.0.run.covered k (omega arith) high; aligned = m }) (elim (apart.0) [ inl before ↦ inr (omega (arith, before, low)) | inr behind ↦ inl (omega (arith, behind, high)) ])),
     apart_keeps old new kept segments parts.1 apart.1,
   )
 
@@ -208,9 +208,9 @@ taken_few false segments = omega arith
 
 module _ {A : Type 0} (regions : A → List Grant) (word : A → ℕ → ℕ) (follows : A → List Event → A → Type 0)
     (follows_on : (x y z : A) (a b c : List Event) → follows x a y → follows y b z → a ++ b ≡ c → follows x c z) where
-  pub given_on : (first second : List Segment) (old middle new : A) (a b : ℕ) → AreGivenBack regions word follows first old a middle → AreGivenBack regions word follows second middle b new →
+  pub given_on : {first second : List Segment} {old : A} (middle new : A) {a b : ℕ} → AreGivenBack regions word follows first old a middle → AreGivenBack regions word follows second middle b new →
       AreGivenBack regions word follows (first ++ second) old (a + b) new
-  given_on first second old middle new a b one two = record {
+  given_on {first} {second} {old} middle new one two = record {
     bytes_are = (λ i. one.bytes_are i + two.bytes_are i) ∙ sym (bytes_append first second);
     words = λ k inside. two.words k inside ∙ one.words k (record { granted = still_granted second (regions middle) k (subst (λ (rs : List Grant). IsTrue (is_granted rs k)) two.regions_are inside.granted); aligned = inside.aligned });
     regions_are = two.regions_are ∙ (ap (regions_without second) one.regions_are ∙ sym (without_append first second (regions old)));
@@ -219,10 +219,10 @@ module _ {A : Type 0} (regions : A → List Grant) (word : A → ℕ → ℕ) (f
   }
 
   -- one that another tells is the same
-  pub given_same : (told segment : Segment) (b : Bool) (old new : A) (bytes : ℕ) → told.base ≡ segment.base → told.size ≡ segment.size →
+  pub given_same : (told segment : Segment) (b : Bool) (old new : A) {bytes : ℕ} → told.base ≡ segment.base → told.size ≡ segment.size →
       AreGivenBack regions word follows (if b then told ∷ [] else []) old bytes new → AreGivenBack regions word follows (if b then segment ∷ [] else []) old bytes new
-  given_same told segment false old new bytes base size given = given
-  given_same told segment true old new bytes base size given = record {
+  given_same told segment false old new base size given = given
+  given_same told segment true old new base size given = record {
     bytes_are = given.bytes_are ∙ (λ i. size i + 0);
     words = given.words;
     regions_are = given.regions_are ∙ (λ i. without (base i) (base i + size i) (regions old));

@@ -30,18 +30,18 @@ no_end top size foot one no_top no_foot true d found = no_top (sym (ap (λ (o : 
 no_end top size foot one no_top no_foot false true found = no_foot (sym (ap (λ (o : Option Extent). (unwrap_or o one).kind) found))
 no_end top size foot one no_top no_foot false false found = cc
 
-module _ {A : Type 0} (regions : A → List Grant) (word : A → ℕ → ℕ) (heap : Dlmalloc A) (sound : IsSound regions word heap) (some : 0 < heap.size) where
+module _ {A : Type 0} {regions : A → List Grant} {word : A → ℕ → ℕ} {heap : Dlmalloc A} (sound : IsSound regions word heap) (some : 0 < heap.size) where
   abbrev run : IsRunOf (word heap.system) (segments_of word heap) heap.top (heap.top + heap.top_size) (extent heap.top heap.top_size Top ∷ [])
-  run = top_run regions word heap sound some
+  run = top_run sound some
 
   part : IsSegment (regions heap.system) (word heap.system) run.segment
-  part = top_part regions word heap sound some
+  part = top_part sound some
 
   was : IsHead heap run.segment
-  was = top_segment regions word heap sound some
+  was = top_segment sound some
 
   segments_are : segments_of word heap ≡ run.segment ∷ run.back
-  segments_are = run.is ∙ ap (λ (front : List Segment). front ++ run.segment ∷ run.back) (top_front regions word heap sound some)
+  segments_are = run.is ∙ ap (λ (front : List Segment). front ++ run.segment ∷ run.back) (top_front sound some)
 
   parts : AreSegments (regions heap.system) (word heap.system) (run.segment ∷ run.back)
   parts = subst (AreSegments (regions heap.system) (word heap.system)) segments_are sound.segments
@@ -53,23 +53,23 @@ module _ {A : Type 0} (regions : A → List Grant) (word : A → ℕ → ℕ) (h
   told = subst (AreTold (word heap.system) heap) segments_are sound.told
 
   last_is : (run.last ≡ extent (run.segment.base + run.segment.size - 80) 80 Foot ∷ []) × (heap.top + heap.top_size + 80 ≡ run.segment.base + run.segment.size)
-  last_is = top_last regions word heap sound some
+  last_is = top_last sound some
 
   sizes : (heap.top_size % 16 ≡ 0) × (16 ≤ heap.top_size)
-  sizes = top_sizes regions word heap sound some
+  sizes = top_sizes sound some
 
   closes : heap.top + heap.top_size + 80 ≡ heap.base + heap.size
-  closes = ends regions word heap sound some
+  closes = ends sound some
 
   low : heap.base ≤ heap.top
-  low = top_low regions word heap sound some
+  low = top_low sound some
 
   head_run : IsRun (regions heap.system) heap.base heap.size heap.flags
   head_run = subst (λ (f : ℕ). IsRun (regions heap.system) heap.base heap.size f) (sym was.flags) (subst (λ (n : ℕ). IsRun (regions heap.system) heap.base n run.segment.flags) (sym was.size) (subst (λ (b : ℕ). IsRun (regions heap.system) b run.segment.size run.segment.flags) (sym was.base) part.run))
 
   -- its bytes can be given back
   pub head_given : IsGivenRun (regions heap.system) heap.base (heap.base + heap.size)
-  head_given = given_run (regions heap.system) heap.base heap.size heap.flags head_run some
+  head_given = given_run head_run some
 
   module _ (less : ℕ) (units : less % 16 ≡ 0) (room : less + 80 < heap.top_size) (all : AllByRecursion IsWhole (regions heap.system)) where
     pub within : less ≤ heap.size
@@ -80,23 +80,23 @@ module _ {A : Type 0} (regions : A → List Grant) (word : A → ℕ → ℕ) (h
     rest_some = omega (arith, closes, low, room)
 
     pub rest_whole : IsTrue (are_whole (regions heap.system)) → (heap.size - less) % 16 ≡ 0
-    rest_whole tests = omega (arith, run_aligned heap.base (heap.base + heap.size) (regions heap.system) head_given tests, end_whole regions word heap sound some, units, within)
+    rest_whole tests = omega (arith, run_aligned heap.base (heap.base + heap.size) (regions heap.system) head_given tests, end_whole sound some, units, within)
 
     -- ---- when they are given back
 
     module _ (system : A) (gone : regions system ≡ without (heap.base + (heap.size - less)) (heap.base + heap.size) (regions heap.system)) where
       rest_run : IsRun (regions system) heap.base (heap.size - less) heap.flags
-      rest_run = subst (λ (rs : List Grant). IsRun rs heap.base (heap.size - less) heap.flags) (sym gone) (run_shortened (regions heap.system) heap.base heap.size heap.flags head_run less within all)
+      rest_run = subst (λ (rs : List Grant). IsRun rs heap.base (heap.size - less) heap.flags) (sym gone) (run_shortened head_run less within all)
 
       -- a word of what is left
       pub still_word : (k : ℕ) → heap.base ≤ k → k < heap.base + (heap.size - less) → k % 8 ≡ 0 → IsWordOf (regions system) k
       still_word k above below m = record { granted = rest_run.covered k above below; aligned = m }
 
       pub top_still : IsWordOf (regions system) (heap.top + 8)
-      top_still = still_word (heap.top + 8) (omega (arith, low)) (omega (arith, closes, room)) (omega (arith, top_whole regions word heap sound some))
+      top_still = still_word (heap.top + 8) (omega (arith, low)) (omega (arith, closes, room)) (omega (arith, top_whole sound some))
 
       pub foot_still : IsWordOf (regions system) (heap.base + (heap.size - less) - 72)
-      foot_still = still_word (heap.base + (heap.size - less) - 72) (omega (arith, closes, low, room)) (omega (arith, closes, low, room)) (omega (arith, end_whole regions word heap sound some, units, within, closes, low, room))
+      foot_still = still_word (heap.base + (heap.size - less) - 72) (omega (arith, closes, low, room)) (omega (arith, closes, low, room)) (omega (arith, end_whole sound some, units, within, closes, low, room))
 
       module _ (head : word system (heap.top + 8) ≡ heap.base + (heap.size - less) - 80 - heap.top + 1) (foot : word system (heap.base + (heap.size - less) - 72) ≡ 80)
           (kept : (k : ℕ) → IsWordOf (regions system) k → k ≢ heap.top + 8 → k ≢ heap.base + (heap.size - less) - 72 → word system k ≡ word heap.system k) where
@@ -144,7 +144,7 @@ module _ {A : Type 0} (regions : A → List Grant) (word : A → ℕ → ℕ) (h
         more_stand =
             let place : heap.top + length_now + 8 ≡ heap.base + (heap.size - less) - 72 = omega (arith, closes, low, room) in
             subst (λ (end : ℕ). Tiles (word system) (last_kind Used run.first) heap.top more end) now_end
-            (top_stands (word system) (last_kind Used run.first) heap.top length_now run.here.1.kind (top_whole regions word heap sound some) (omega (arith, sizes.0, units, room)) (omega (arith, room)) (head ∙ ap (λ (n : ℕ). n + 1) (sym length_is)) (ap (word system) place ∙ foot))
+            (top_stands (word system) heap.top length_now run.here.1.kind (top_whole sound some) (omega (arith, sizes.0, units, room)) (omega (arith, room)) (head ∙ ap (λ (n : ℕ). n + 1) (sym length_is)) (ap (word system) place ∙ foot))
 
         is_now : IsSegment (regions system) (word system) now
         is_now = record {
@@ -160,7 +160,7 @@ module _ {A : Type 0} (regions : A → List Grant) (word : A → ℕ → ℕ) (h
 
         back_parts : AreSegments (regions system) (word heap.system) run.back
         back_parts = subst (λ (rs : List Grant). AreSegments rs (word heap.system) run.back) (sym gone)
-            (segments_beside (regions heap.system) heap.base heap.size heap.flags head_run less within (word heap.system) run.segment run.back (sym was.base) (sym was.size) parts.1 apart.0)
+            (segments_beside head_run less within (word heap.system) run.segment run.back (sym was.base) (sym was.size) parts.1 apart.0)
 
         back_keeps : AllByRecursion (KeepsIts (word heap.system) (word system)) run.back
         back_keeps = apart_stay (regions system) (word heap.system) (word system) run.segment run.segment run.back back_parts apart.0 (back_apart [] run.segment run.back apart) outside_kept
@@ -213,26 +213,26 @@ module _ {A : Type 0} (regions : A → List Grant) (word : A → ℕ → ℕ) (h
             ∙ ap used_of (sym (all_retold regions word after (now ∷ run.back) parts_now apart_now told_now ∙ extents_are)))))
 
         -- what is found, and is neither the top nor the foot, is found in both
-        still_found : (one : Extent) → one.kind ≢ Top → one.kind ≢ Foot → (k : ℕ) → extent_at k (extents_in (state_of word heap)) ≡ Some one → extent_at k (extents_all (now ∷ run.back)) ≡ Some one
-        still_found one no_top no_foot k there = replaced_found (extents_all (now ∷ run.back)) k one run.first old more (extents_all run.back) extents_are distinct_now
+        still_found : {one : Extent} → one.kind ≢ Top → one.kind ≢ Foot → (k : ℕ) → extent_at k (extents_in (state_of word heap)) ≡ Some one → extent_at k (extents_all (now ∷ run.back)) ≡ Some one
+        still_found {one} no_top no_foot k there = replaced_found k run.first old more (extents_all run.back) extents_are distinct_now
             (λ found. absurd (no_end heap.top heap.top_size (heap.top + heap.top_size) one no_top no_foot (heap.top == k) (heap.top + heap.top_size == k) found)) (ap (extent_at k) (sym extents_were) ∙ there)
 
-        was_found : (one : Extent) → one.kind ≢ Top → one.kind ≢ Foot → (k : ℕ) → extent_at k (extents_all (now ∷ run.back)) ≡ Some one → extent_at k (extents_in (state_of word heap)) ≡ Some one
-        was_found one no_top no_foot k there = replaced_found (extents_in (state_of word heap)) k one run.first more old (extents_all run.back) extents_were (all_distinct (regions heap.system) (word heap.system) (segments_of word heap) sound.segments sound.apart)
+        was_found : {one : Extent} → one.kind ≢ Top → one.kind ≢ Foot → (k : ℕ) → extent_at k (extents_all (now ∷ run.back)) ≡ Some one → extent_at k (extents_in (state_of word heap)) ≡ Some one
+        was_found {one} no_top no_foot k there = replaced_found k run.first more old (extents_all run.back) extents_were (all_distinct (regions heap.system) (word heap.system) (segments_of word heap) sound.segments sound.apart)
             (λ found. absurd (no_end heap.top length_now (heap.top + length_now) one no_top no_foot (heap.top == k) (heap.top + length_now == k) found)) (ap (extent_at k) (sym extents_are) ∙ there)
 
         shortened_sound : IsSound regions word after
         shortened_sound = retold_sound regions word after (now ∷ run.back) parts_now apart_now told_now sound.granularity rest_some sound.no_victim
-            (λ there. still_found (extent heap.victim heap.victim_size Free) (λ is. cc) (λ is. cc) heap.victim (sound.victim there))
+            (λ there. still_found (λ is. cc) (λ is. cc) heap.victim (sound.victim there))
 
         shortened_records : (one : Extent) → one.kind ≡ Record → extent_at one.at (extents_in (state_of word after)) ≡ Some one → extent_at one.at (extents_in (state_of word heap)) ≡ Some one
-        shortened_records one is there = was_found one (λ top. let no : Record ≡ Top = sym is ∙ top in cc) (λ foot. let no : Record ≡ Foot = sym is ∙ foot in cc) one.at
+        shortened_records one is there = was_found (λ top. let no : Record ≡ Top = sym is ∙ top in cc) (λ foot. let no : Record ≡ Foot = sym is ∙ foot in cc) one.at
             (ap (extent_at one.at) (sym (all_retold regions word after (now ∷ run.back) parts_now apart_now told_now)) ∙ there)
 
         shortened_free : FreeMoves (state_of word heap) (state_of word after) [] []
         shortened_free = record {
-          stays = λ k size free out. (ap (extent_at k) (all_retold regions word after (now ∷ run.back) parts_now apart_now told_now) ∙ still_found (extent k size Free) (λ is. cc) (λ is. cc) k free, λ none. none);
-          was = λ k size free out. (was_found (extent k size Free) (λ is. cc) (λ is. cc) k (ap (extent_at k) (sym (all_retold regions word after (now ∷ run.back) parts_now apart_now told_now)) ∙ free), λ none. none);
+          stays = λ k size free out. (ap (extent_at k) (all_retold regions word after (now ∷ run.back) parts_now apart_now told_now) ∙ still_found (λ is. cc) (λ is. cc) k free, λ none. none);
+          was = λ k size free out. (was_found (λ is. cc) (λ is. cc) k (ap (extent_at k) (sym (all_retold regions word after (now ∷ run.back) parts_now apart_now told_now)) ∙ free), λ none. none);
         }
 
         shortened_state : state_of word after ≡ cut_top less (state_of word heap)
@@ -260,10 +260,10 @@ module _ {A : Type 0} (regions : A → List Grant) (word : A → ℕ → ℕ) (h
 
         -- the heads of the top and of its foot are at boundaries
         shortened_boundaries : OnlyBoundariesChange (regions system) (state_of word after) (word heap.system) (word system)
-        shortened_boundaries k inside boundary = let tags = head_tags regions word after shortened_sound rest_some k boundary in shortened_words k inside tags.0 tags.1
+        shortened_boundaries k inside boundary = let tags = head_tags shortened_sound rest_some k boundary in shortened_words k inside tags.0 tags.1
 
         shortened_kept : KeepsBlocks (extents_in (state_of word heap)) (word heap.system) (word system)
-        shortened_kept = blocks_law_still regions word heap after sound shortened_sound (λ k inside was own recorded. shortened_boundaries k inside (λ boundary. own (inl boundary))) (extents_in (state_of word heap))
+        shortened_kept = blocks_law_still regions word after sound shortened_sound (λ k inside was own recorded. shortened_boundaries k inside (λ boundary. own (inl boundary))) (extents_in (state_of word heap))
             (λ block there used. (there, shortened_used.still block used there))
 
         pub is_shortened : (follows : A → List Event → A → Type 0) → follows heap.system (Released heap.base heap.size (heap.size - less) ∷ []) system → IsShortened regions word follows heap less after

@@ -12,15 +12,15 @@ use Rattle.dlmalloc.proofs.Segments.HeadTop.{no_segments}
 use Rattle.dlmalloc.proofs.Returns.Segments.{still_granted}
 
 -- extents that are among others keep their words with them
-kept_among : (fewer more : List Extent) (old new : ℕ → ℕ) → ((block : Extent) → block.kind ≡ Used → extent_at block.at fewer ≡ Some block → extent_at block.at more ≡ Some block) → KeepsBlocks more old new → KeepsBlocks fewer old new
-kept_among fewer more old new among kept = record {
+kept_among : (fewer : List Extent) {more : List Extent} {old new : ℕ → ℕ} → ((block : Extent) → block.kind ≡ Used → extent_at block.at fewer ≡ Some block → extent_at block.at more ≡ Some block) → KeepsBlocks more old new → KeepsBlocks fewer old new
+kept_among fewer among kept = record {
   words = λ block there used k low high m. kept.words block (among block used there) used k low high m;
   heads = λ block there used. kept.heads block (among block used there) used;
 }
 
 -- ---- the head segment stays
 
-module _ {A : Type 0} (regions : A → List Grant) (word : A → ℕ → ℕ) (heap : Dlmalloc A) (sound : IsSound regions word heap) (some : 0 < heap.size) (frees parts : Bool) where
+module _ {A : Type 0} {regions : A → List Grant} {word : A → ℕ → ℕ} {heap : Dlmalloc A} (sound : IsSound regions word heap) (some : 0 < heap.size) (frees parts : Bool) where
   abbrev left : List Segment
   left = if frees then staying parts (segments_of word heap) else segments_of word heap
 
@@ -36,14 +36,14 @@ module _ {A : Type 0} (regions : A → List Grant) (word : A → ℕ → ℕ) (h
           here = found head are.0 h.4
 
           by : (b : Bool) → extent_at k (extents_all (if b then staying parts (head ∷ segments) else head ∷ segments)) ≡ Some one
-          by true = found_more k head.extents (extents_all (filter (λ segment. not (may_leave parts segment)) segments)) one here
-          by false = found_more k head.extents (extents_all segments) one here
+          by true = found_more k head.extents (extents_all (filter (λ segment. not (may_leave parts segment)) segments)) here
+          by false = found_more k head.extents (extents_all segments) here
 
   pub top_left : extent_at heap.top (extents_all left) ≡ Some (extent heap.top heap.top_size Top)
   top_left = in_head heap.top (extent heap.top heap.top_size Top) (λ segment is there. there)
 
   pub foot_left : extent_at (heap.top + heap.top_size) (extents_all left) ≡ Some (extent (heap.top + heap.top_size) 80 Foot)
-  foot_left = in_head (heap.top + heap.top_size) (extent (heap.top + heap.top_size) 80 Foot) (λ segment is there. foot_there (regions heap.system) (word heap.system) segment is heap.top heap.top_size there)
+  foot_left = in_head (heap.top + heap.top_size) (extent (heap.top + heap.top_size) 80 Foot) (λ segment is there. foot_there is there)
 
 -- ---- whether a trim is made
 
@@ -63,9 +63,9 @@ module _ {A : Type 0} (word : A → ℕ → ℕ) (heap : Dlmalloc A) (pad : ℕ)
       none_so false = refl
 
   -- then nothing is done
-  pub untouched : (regions : A → List Grant) (follows : A → List Event → A → Type 0) (frees parts : Bool) (unit : ℕ) → IsSound regions word heap → follows heap.system [] heap.system → is_trimmed pad (state_of word heap) ≡ false →
+  pub untouched : {regions : A → List Grant} (follows : A → List Event → A → Type 0) (frees parts : Bool) (unit : ℕ) → IsSound regions word heap → follows heap.system [] heap.system → is_trimmed pad (state_of word heap) ≡ false →
       IsTrimmed regions word follows frees parts unit heap pad false heap
-  untouched regions follows frees parts unit sound none isnt = record {
+  untouched {regions} follows frees parts unit sound none isnt = record {
     answer_is = sym (ap (λ (b : Bool). b && gives_back frees parts unit pad (state_of word heap)) isnt);
     state = sym (ap (λ (b : Bool). if b then (if gives_back frees parts unit pad (state_of word heap) then passed frees parts (after_cut parts unit pad (state_of word heap)) else given_up (passed frees parts (after_cut parts unit pad (state_of word heap)))) else state_of word heap) isnt);
     sound = sound;
@@ -108,27 +108,27 @@ module _ {A : Type 0} (word : A → ℕ → ℕ) (heap : Dlmalloc A) (parts : Bo
 
 -- ---- a trim that is made
 
-module _ {A : Type 0} (regions : A → List Grant) (word : A → ℕ → ℕ) (follows : A → List Event → A → Type 0) (frees parts : Bool) (unit pad : ℕ) (old middle after : Dlmalloc A) (made : is_trimmed pad (state_of word old) ≡ true)
-    (cut : IsCutBack regions word follows parts unit old pad middle) (some : 0 < middle.size) (bytes : ℕ) (pass : IsPassed regions word follows frees parts middle bytes after) where
+module _ {A : Type 0} {regions : A → List Grant} {word : A → ℕ → ℕ} {follows : A → List Event → A → Type 0} {frees parts : Bool} {unit pad : ℕ} {old middle after : Dlmalloc A} (made : is_trimmed pad (state_of word old) ≡ true)
+    (cut : IsCutBack regions word follows parts unit old pad middle) (some : 0 < middle.size) {bytes : ℕ} (pass : IsPassed regions word follows frees parts middle bytes after) where
   handed_same : handed_out parts (segments_of word middle) ≡ handed_out parts (segments_of word old)
   handed_same = ap (λ (s : HeapState). handed_out parts s.segments) cut.state ∙ handed_cut word old parts unit pad
 
   -- whether bytes went back
-  pub answer : (cut_answer : Bool) → cut_answer ≡ is_cut parts unit pad (state_of word old) → (cut_answer || nat_lt 0 bytes) ≡ gives_back frees parts unit pad (state_of word old)
-  answer cut_answer is = λ i. is i || nat_lt 0 ((pass.bytes_are ∙ ap (λ (ss : List Segment). bytes_of (taken_back frees ss)) handed_same) i)
+  pub answer : {cut_answer : Bool} → cut_answer ≡ is_cut parts unit pad (state_of word old) → (cut_answer || nat_lt 0 bytes) ≡ gives_back frees parts unit pad (state_of word old)
+  answer is = λ i. is i || nat_lt 0 ((pass.bytes_are ∙ ap (λ (ss : List Segment). bytes_of (taken_back frees ss)) handed_same) i)
 
   state_after : state_of word after ≡ passed frees parts (after_cut parts unit pad (state_of word old))
   state_after = pass.state ∙ ap (passed frees parts) cut.state
 
-  left_now : extents_in (state_of word after) ≡ extents_all (left regions word middle cut.stays.sound some frees parts)
+  left_now : extents_in (state_of word after) ≡ extents_all (left cut.stays.sound some frees parts)
   left_now = ap extents_in pass.state
 
   -- the top and its foot are found
   top_found : extent_at middle.top (extents_in (state_of word after)) ≡ Some (extent middle.top middle.top_size Top)
-  top_found = ap (extent_at middle.top) left_now ∙ top_left regions word middle cut.stays.sound some frees parts
+  top_found = ap (extent_at middle.top) left_now ∙ top_left cut.stays.sound some frees parts
 
   foot_found : extent_at (middle.top + middle.top_size) (extents_in (state_of word after)) ≡ Some (extent (middle.top + middle.top_size) 80 Foot)
-  foot_found = ap (extent_at (middle.top + middle.top_size)) left_now ∙ foot_left regions word middle cut.stays.sound some frees parts
+  foot_found = ap (extent_at (middle.top + middle.top_size)) left_now ∙ foot_left cut.stays.sound some frees parts
 
   -- a word that is granted still was granted before the pass
   inside_middle : (k : ℕ) → IsWordOf (regions after.system) k → IsWordOf (regions middle.system) k
@@ -137,7 +137,7 @@ module _ {A : Type 0} (regions : A → List Grant) (word : A → ℕ → ℕ) (f
     aligned = inside.aligned;
   }
 
-  module _ (check : ℕ) (gives : Bool) (answer_is : gives ≡ gives_back frees parts unit pad (state_of word old)) (sound : IsSound regions word (record after { trim_check = check }))
+  module _ (check : ℕ) {gives : Bool} (answer_is : gives ≡ gives_back frees parts unit pad (state_of word old)) (sound : IsSound regions word (record after { trim_check = check }))
       (state : state_of word (record after { trim_check = check }) ≡ (if gives then state_of word after else given_up (state_of word after)))
       (followed : follows old.system (cut_off parts unit pad (state_of word old) ++ releases (taken_back frees (handed_out parts (segments_of word middle)))) after.system)
       (index : IsReindexed regions word (after_trim frees parts pad (state_of word old)) old (record after { trim_check = check })) where
@@ -151,8 +151,8 @@ module _ {A : Type 0} (regions : A → List Grant) (word : A → ℕ → ℕ) (f
         still = λ used is there. pass.used.still used is (cut.stays.used.still used is there);
         before = λ used is there. cut.stays.used.before used is (pass.used.before used is there);
       };
-      kept = keeps_on (extents_in (state_of word old)) (word old.system) (word middle.system) (word after.system) cut.stays.kept
-          (kept_among (extents_in (state_of word old)) (extents_in (state_of word middle)) (word middle.system) (word after.system) (λ block is there. cut.stays.used.still block is there) pass.kept);
+      kept = keeps_on cut.stays.kept
+          (kept_among (extents_in (state_of word old)) (λ block is there. cut.stays.used.still block is there) pass.kept);
       words = λ k inside was own recorded.
           pass.words k inside (λ f. was (record { at = f.at; size = f.size; free = (cut.stays.free.was f.at f.size f.free (λ none. none)).0; low = f.low; high = f.high })) (λ r. recorded (record { extent = r.extent; there = cut.stays.records r.extent r.is r.there; is = r.is; low = r.low; high = r.high }))
           ∙ cut.stays.words k (inside_middle k inside)
@@ -168,7 +168,7 @@ module _ {A : Type 0} (regions : A → List Grant) (word : A → ℕ → ℕ) (f
 
 -- ---- giving up
 
-module _ {A : Type 0} (regions : A → List Grant) (word : A → ℕ → ℕ) (heap : Dlmalloc A) (sound : IsSound regions word heap) where
+module _ {A : Type 0} {regions : A → List Grant} {word : A → ℕ → ℕ} {heap : Dlmalloc A} (sound : IsSound regions word heap) where
   -- the trim check is in no rule
   pub checked_sound : (check : ℕ) → IsSound regions word (record heap { trim_check = check })
   checked_sound check = record {
@@ -183,7 +183,7 @@ module _ {A : Type 0} (regions : A → List Grant) (word : A → ℕ → ℕ) (h
 
   pub gave_up : 0 < heap.size → state_of word (record heap { trim_check = if nat_lt heap.trim_check heap.top_size then 2 ^ 64 - 1 else heap.trim_check }) ≡ given_up (state_of word heap)
   gave_up some = go (nat_lt heap.trim_check heap.top_size)
-      ∙ sym (ap (λ (top : ℕ). if nat_lt heap.trim_check top then record (state_of word heap) { trim_check = 2 ^ 64 - 1 } else state_of word heap) (top_size_is regions word heap sound some))
+      ∙ sym (ap (λ (top : ℕ). if nat_lt heap.trim_check top then record (state_of word heap) { trim_check = 2 ^ 64 - 1 } else state_of word heap) (top_size_is sound some))
     where
       go : (b : Bool) → state_of word (record heap { trim_check = if b then 2 ^ 64 - 1 else heap.trim_check }) ≡ (if b then record (state_of word heap) { trim_check = 2 ^ 64 - 1 } else state_of word heap)
       go true = refl
@@ -200,13 +200,13 @@ limit_small g least = go (g == 16)
 
 -- ---- both ends of a trim that is made, of a system whose laws are these
 
-module _ {A : Type 0} (regions : A → List Grant) (word : A → ℕ → ℕ) (follows : A → List Event → A → Type 0) (zeros frees parts : A → Bool) (unit : A → ℕ)
+module _ {A : Type 0} {regions : A → List Grant} {word : A → ℕ → ℕ} {follows : A → List Event → A → Type 0} (zeros frees parts : A → Bool) (unit : A → ℕ)
     (fixed : (x y : A) (events : List Event) → follows x events y → IsFixed zeros frees parts unit x y)
     (follows_on : (x y z : A) (a b c : List Event) → follows x a y → follows y b z → a ++ b ≡ c → follows x c z)
-    (pad : ℕ) (old middle after : Dlmalloc A) (some_old : 0 < old.size) (small : pad < limit old.granularity)
-    (cut : IsCutBack regions word follows (parts old.system) (unit old.system) old pad middle) (some : 0 < middle.size) (bytes : ℕ)
+    {pad : ℕ} {old middle after : Dlmalloc A} (some_old : 0 < old.size) (small : pad < limit old.granularity)
+    (cut : IsCutBack regions word follows (parts old.system) (unit old.system) old pad middle) (some : 0 < middle.size) {bytes : ℕ}
     (given : IsPassed regions word follows (frees middle.system) (parts middle.system) middle bytes after)
-    (is_cut_off : Bool) (is : is_cut_off ≡ is_cut (parts old.system) (unit old.system) pad (state_of word old)) (kept : IsReindexed regions word (λ index. index) old middle) where
+    {is_cut_off : Bool} (is : is_cut_off ≡ is_cut (parts old.system) (unit old.system) pad (state_of word old)) (kept : IsReindexed regions word (λ index. index) old middle) where
   same : IsFixed zeros frees parts unit old.system middle.system
   same = fixed old.system middle.system (cut_off (parts old.system) (unit old.system) pad (state_of word old)) cut.followed
 
@@ -221,7 +221,7 @@ module _ {A : Type 0} (regions : A → List Grant) (word : A → ℕ → ℕ) (f
   joined = follows_on old.system middle.system after.system (cut_off (parts old.system) (unit old.system) pad (state_of word old)) (releases (taken_back (frees old.system) (handed_out (parts old.system) (segments_of word middle)))) events cut.followed pass.followed refl
 
   given_back : (is_cut_off || nat_lt 0 bytes) ≡ gives_back (frees old.system) (parts old.system) (unit old.system) pad (state_of word old)
-  given_back = answer regions word follows (frees old.system) (parts old.system) (unit old.system) pad old middle after (is_made word old pad small some_old) cut some bytes pass is_cut_off is
+  given_back = answer (is_made word old pad small some_old) cut some pass is
 
   -- what the pass makes of the index
   index_now : IsReindexed regions word (after_trim (frees old.system) (parts old.system) pad (state_of word old)) old after
@@ -237,22 +237,22 @@ module _ {A : Type 0} (regions : A → List Grant) (word : A → ℕ → ℕ) (f
       )
 
   pub trim_gave : (is_cut_off || nat_lt 0 bytes) ≡ true → IsTrimmed regions word follows (frees old.system) (parts old.system) (unit old.system) old pad true after
-  trim_gave was = is_done regions word follows (frees old.system) (parts old.system) (unit old.system) pad old middle after (is_made word old pad small some_old) cut some bytes pass
-      after.trim_check true (sym was ∙ given_back) pass.sound refl joined index_now
+  trim_gave was = is_done (is_made word old pad small some_old) cut some pass
+      after.trim_check (sym was ∙ given_back) pass.sound refl joined index_now
 
   after_some : 0 < after.size
   after_some = go (after.size == 0) refl
     where
       go : (b : Bool) → (after.size == 0) ≡ b → 0 < after.size
       go true none =
-          let top = top_found regions word follows (frees old.system) (parts old.system) (unit old.system) pad old middle after (is_made word old pad small some_old) cut some bytes pass in
+          let top = top_found (is_made word old pad small some_old) cut some pass in
           let isnt : None ≡ Some (extent middle.top middle.top_size Top) = ap (λ (ss : List Segment). extent_at middle.top (extents_all ss)) (sym (no_segments word after (grind (arith, nat_tests)))) ∙ top in
           absurd (cc)
       go false some = grind (arith, nat_tests)
 
   pub trim_gave_up : (is_cut_off || nat_lt 0 bytes) ≡ false → IsTrimmed regions word follows (frees old.system) (parts old.system) (unit old.system) old pad false
       (record after { trim_check = if nat_lt after.trim_check after.top_size then 2 ^ 64 - 1 else after.trim_check })
-  trim_gave_up isnt = is_done regions word follows (frees old.system) (parts old.system) (unit old.system) pad old middle after (is_made word old pad small some_old) cut some bytes pass
-      (if nat_lt after.trim_check after.top_size then 2 ^ 64 - 1 else after.trim_check) false (sym isnt ∙ given_back)
-      (checked_sound regions word after pass.sound (if nat_lt after.trim_check after.top_size then 2 ^ 64 - 1 else after.trim_check)) (gave_up regions word after pass.sound after_some) joined
-      (λ b. (let a = index_now b in (same_check regions word after (if nat_lt after.trim_check after.top_size then 2 ^ 64 - 1 else after.trim_check) a.0, a.1)))
+  trim_gave_up isnt = is_done (is_made word old pad small some_old) cut some pass
+      (if nat_lt after.trim_check after.top_size then 2 ^ 64 - 1 else after.trim_check) (sym isnt ∙ given_back)
+      (checked_sound pass.sound (if nat_lt after.trim_check after.top_size then 2 ^ 64 - 1 else after.trim_check)) (gave_up pass.sound after_some) joined
+      (λ b. (let a = index_now b in (same_check (if nat_lt after.trim_check after.top_size then 2 ^ 64 - 1 else after.trim_check) a.0, a.1)))

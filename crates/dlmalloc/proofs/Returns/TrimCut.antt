@@ -9,10 +9,10 @@ use Rattle.dlmalloc.proofs.Segments.ToldAnew.{head_tags}
 use Rattle.dlmalloc.proofs.Bins.Changes.{binned_same}
 use Rattle.dlmalloc.proofs.Requests.Granularity.{granularities_whole}
 
-module _ {A : Type 0} (regions : A → List Grant) (word : A → ℕ → ℕ) (heap : Dlmalloc A) (sound : IsSound regions word heap) (some : 0 < heap.size) where
+module _ {A : Type 0} {regions : A → List Grant} {word : A → ℕ → ℕ} {heap : Dlmalloc A} (sound : IsSound regions word heap) (some : 0 < heap.size) where
   -- the bytes that go, by the size of the top
   pub cut_is : (pad : ℕ) → cut_of (state_of word heap) pad ≡ (heap.top_size - (pad + 81)) / heap.granularity * heap.granularity
-  cut_is pad = ap (λ (top : ℕ). if nat_lt (pad + 80) top then (top - pad - 80 - 1) / heap.granularity * heap.granularity else 0) (top_size_is regions word heap sound some) ∙ go (nat_lt (pad + 80) heap.top_size) refl
+  cut_is pad = ap (λ (top : ℕ). if nat_lt (pad + 80) top then (top - pad - 80 - 1) / heap.granularity * heap.granularity else 0) (top_size_is sound some) ∙ go (nat_lt (pad + 80) heap.top_size) refl
     where
       go : (b : Bool) → nat_lt (pad + 80) heap.top_size ≡ b → (if b then (heap.top_size - pad - 80 - 1) / heap.granularity * heap.granularity else 0) ≡ (heap.top_size - (pad + 81)) / heap.granularity * heap.granularity
       go true more = let same : heap.top_size - pad - 80 - 1 ≡ heap.top_size - (pad + 81) = omega arith in ap (λ (n : ℕ). n / heap.granularity * heap.granularity) same
@@ -26,13 +26,13 @@ module _ {A : Type 0} (regions : A → List Grant) (word : A → ℕ → ℕ) (h
       (may_go parts (cut_of (state_of word heap) pad) (record { base = heap.base; size = heap.size; flags = heap.flags; extents = [] }) && is_in_units unit (heap.size - cut_of (state_of word heap) pad))
   cut_test parts unit pad = let there : (heap.size == 0) ≡ false = grind (arith, nat_tests) in rw there refl
 
-  pub cut_answer : (parts : Bool) (unit pad cut : ℕ) → cut ≡ cut_of (state_of word heap) pad → (may : Bool) → may_go parts cut (record { base = heap.base; size = heap.size; flags = heap.flags; extents = [] }) ≡ may →
+  pub cut_answer : (parts : Bool) (unit pad : ℕ) {cut : ℕ} → cut ≡ cut_of (state_of word heap) pad → {may : Bool} → may_go parts cut (record { base = heap.base; size = heap.size; flags = heap.flags; extents = [] }) ≡ may →
       (may && is_in_units unit (heap.size - cut)) ≡ is_cut parts unit pad (state_of word heap)
-  cut_answer parts unit pad cut is may test =
+  cut_answer parts unit pad {cut} is test =
       (λ i. (sym test) i && is_in_units unit (heap.size - cut))
       ∙ ((λ i. may_go parts (is i) (record { base = heap.base; size = heap.size; flags = heap.flags; extents = [] }) && is_in_units unit (heap.size - is i)) ∙ sym (cut_test parts unit pad))
 
-  module _ (pad cut : ℕ) (is : cut ≡ (heap.top_size - (pad + 81)) / heap.granularity * heap.granularity) where
+  module _ (pad : ℕ) {cut : ℕ} (is : cut ≡ (heap.top_size - (pad + 81)) / heap.granularity * heap.granularity) where
     pub cut_whole : cut % 16 ≡ 0
     cut_whole = ap (λ (n : ℕ). n % 16) is ∙ granularities_whole ((heap.top_size - (pad + 81)) / heap.granularity) heap.granularity sound.granularity.0 sound.granularity.1
 
@@ -42,8 +42,8 @@ module _ {A : Type 0} (regions : A → List Grant) (word : A → ℕ → ℕ) (h
 -- ---- whether it was cut
 
 -- a heap keeps what it has
-all_kept : {A : Type 0} (regions : A → List Grant) (word : A → ℕ → ℕ) (heap : Dlmalloc A) → IsSound regions word heap → KeepsAllButTop regions word heap heap
-all_kept regions word heap sound = record {
+all_kept : {A : Type 0} {regions : A → List Grant} {word : A → ℕ → ℕ} {heap : Dlmalloc A} → IsSound regions word heap → KeepsAllButTop regions word heap heap
+all_kept sound = record {
   sound = sound;
   used = record { still = λ used is there. there; before = λ used is there. there };
   kept = record { words = λ block there used k low high m. refl; heads = λ block there used. refl };
@@ -55,15 +55,15 @@ all_kept regions word heap sound = record {
 }
 
 -- and its bins
-abbrev pub binned_but_top : IndexStays → {A : Type 0} (regions : A → List Grant) (word : A → ℕ → ℕ) (old new : Dlmalloc A) → IsSound regions word old → KeepsAllButTop regions word old new → 0 < new.size → IsBinned regions word old → IsBinned regions word new
-binned_but_top stays regions word old new sound keeps some = binned_same stays regions word old new sound keeps.sound
-    (λ k was is boundary tag tag'. (let tags = head_tags regions word new keeps.sound some k boundary in keeps.words k is tags.0 tags.1)) keeps.bins_same keeps.free keeps.victim_same
+abbrev pub binned_but_top : IndexStays → {A : Type 0} {regions : A → List Grant} {word : A → ℕ → ℕ} {old new : Dlmalloc A} → IsSound regions word old → KeepsAllButTop regions word old new → 0 < new.size → IsBinned regions word old → IsBinned regions word new
+binned_but_top stays sound keeps some = binned_same stays sound keeps.sound
+    (λ k was is boundary tag tag'. (let tags = head_tags keeps.sound some k boundary in keeps.words k is tags.0 tags.1)) keeps.bins_same keeps.free keeps.victim_same
 
 module _ {A : Type 0} (regions : A → List Grant) (word : A → ℕ → ℕ) (follows : A → List Event → A → Type 0) (parts : Bool) (unit : ℕ) (heap : Dlmalloc A) (pad : ℕ) where
   not_cut : IsSound regions word heap → follows heap.system [] heap.system → is_cut parts unit pad (state_of word heap) ≡ false → IsCutBack regions word follows parts unit heap pad heap
   not_cut sound none isnt = record {
     state = sym (ap (λ (b : Bool). if b then cut_top (cut_of (state_of word heap) pad) (state_of word heap) else state_of word heap) isnt);
-    stays = all_kept regions word heap sound;
+    stays = all_kept sound;
     regions_are = sym (ap (λ (b : Bool). if b then without_end (cut_of (state_of word heap) pad) (segments_of word heap) (regions heap.system) else regions heap.system) isnt);
     followed = subst (λ (es : List Event). follows heap.system es heap.system) (sym (ap (λ (b : Bool). if b then end_released (cut_of (state_of word heap) pad) (segments_of word heap) else []) isnt)) none;
   }

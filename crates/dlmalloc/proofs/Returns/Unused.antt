@@ -18,32 +18,32 @@ left_of : (part whole : ℕ) → 96 < whole → (part == whole - 80) ≡ (part +
 left_of part whole long = grind (arith, nat_tests)
 
 -- what is found of a free extent and a record behind it
-pub two_found : (base size at end : ℕ) (k : ℕ) (one : Extent) → extent_at k (extent base size Free ∷ record_of at end ∷ []) ≡ Some one → ((one.kind ≡ Free) × (base ≡ k)) ⊎ (one.kind ≡ Record)
-two_found base size at end k one there = go (base == k) refl (at == k) there
+pub two_found : (base size at end : ℕ) (k : ℕ) {one : Extent} → extent_at k (extent base size Free ∷ record_of at end ∷ []) ≡ Some one → ((one.kind ≡ Free) × (base ≡ k)) ⊎ (one.kind ≡ Record)
+two_found base size at end k {one} there = go (base == k) refl (at == k) there
   where
     go : (b : Bool) → (base == k) ≡ b → (c : Bool) → (if b then Some (extent base size Free) else if c then Some (record_of at end) else None) ≡ Some one → ((one.kind ≡ Free) × (base ≡ k)) ⊎ (one.kind ≡ Record)
     go true is c found = inl (ap (λ (e : Extent). e.kind) (sym (the_extent found)), nat_is is)
     go false isnt true found = inr (ap (λ (e : Extent). e.kind) (sym (the_extent found)))
     go false isnt false found = absurd (cc)
 
-module _ (regions : List Grant) (words : ℕ → ℕ) (segment : Segment) (part : IsSegment regions words segment) (at : ℕ) (there : extent_at at segment.extents ≡ Some (record_of at (segment.base + segment.size))) where
+module _ {regions : List Grant} {words : ℕ → ℕ} {segment : Segment} (part : IsSegment regions words segment) (at : ℕ) (there : extent_at at segment.extents ≡ Some (record_of at (segment.base + segment.size))) where
   abbrev end : ℕ
   end = segment.base + segment.size
 
   tail : HasTail regions words segment at (record_of at end ∷ [])
-  tail = record_tail regions words segment part at there
+  tail = record_tail part at there
 
   abbrev chunks : List Extent
   chunks = tail.run.chunks
 
   record_in : IsIn words segment.base end (record_of at end)
-  record_in = in_part words Used segment.base segment.extents end (record_of at end) part.extents there
+  record_in = in_part words Used segment.base segment.extents end part.extents there
 
   long : 80 ≤ end - at
   long = elim (record_in.stands.size) [ inl short ↦ omega arith | inr longer ↦ omega arith ]
 
   extents_are : segment.extents ≡ chunks ++ record_of at end ∷ []
-  extents_are = tail.is ∙ ap (λ (es : List Extent). es ++ record_of at end ∷ []) (run_read regions words segment.base at tail.run)
+  extents_are = tail.is ∙ ap (λ (es : List Extent). es ++ record_of at end ∷ []) (run_read tail.run)
 
   base_whole : segment.base % 16 ≡ 0
   base_whole = go chunks tail.run.stand
@@ -71,7 +71,7 @@ module _ (regions : List Grant) (words : ℕ → ℕ) (segment : Segment) (part 
           ap (λ (b : Bool). b && size_of (words (segment.base + 8)) == segment.size - 80) used ∙ sym (ap (λ (es : List Extent). is_unused (with_extents segment es)) is)
       go (chunk ∷ chunks) h are is =
           let same : extent segment.base (size_of (words (segment.base + 8))) (kind_of (words (segment.base + 8))) ≡ chunk =
-          subst (λ (a : ℕ). extent a (size_of (words (a + 8))) (kind_of (words (a + 8))) ≡ chunk) h.0 (told words Used chunk are.0 h.1) in
+          subst (λ (a : ℕ). extent a (size_of (words (a + 8))) (kind_of (words (a + 8))) ≡ chunk) h.0 (told are.0 h.1) in
           let free : free_of (words (segment.base + 8)) ≡ is_free_below_top chunk.kind = sym (plain_told (free_of (words (segment.base + 8)))) ∙ ap (λ (e : Extent). is_free_below_top e.kind) same in
           let size : (size_of (words (segment.base + 8)) == segment.size - 80) ≡ (chunk.size + 80 == segment.size) =
           ap (λ (e : Extent). e.size == segment.size - 80) same ∙ left_of chunk.size segment.size part.long in

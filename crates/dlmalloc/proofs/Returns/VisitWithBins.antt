@@ -11,7 +11,7 @@ use Rattle.dlmalloc.proofs.Returns.ReleasePass.{left_on}
 
 -- ---- the chain of records stays where words of free chunks change
 
-module _ {A : Type 0} (regions : A → List Grant) (word : A → ℕ → ℕ) (heap : Dlmalloc A) (sound : IsSound regions word heap) (new : Dlmalloc A)
+module _ {A : Type 0} {regions : A → List Grant} {word : A → ℕ → ℕ} {heap : Dlmalloc A} (sound : IsSound regions word heap) (new : Dlmalloc A)
     (state : state_of word new ≡ state_of word heap) (next : new.next ≡ heap.next) (only : OnlyFreeChange (regions heap.system) (state_of word heap) (word heap.system) (word new.system)) where
   abbrev words : ℕ → ℕ
   words = word heap.system
@@ -23,13 +23,13 @@ module _ {A : Type 0} (regions : A → List Grant) (word : A → ℕ → ℕ) (h
   granted = regions heap.system
 
   -- the words of a record's payload are in no free extent
-  record_stays : (front : List Segment) (segment : Segment) (back : List Segment) → segments_of word heap ≡ front ++ segment ∷ back → IsSegment granted words segment → (payload : ℕ) → 16 < payload →
+  record_stays : (front : List Segment) {segment : Segment} (back : List Segment) → segments_of word heap ≡ front ++ segment ∷ back → IsSegment granted words segment → (payload : ℕ) → 16 < payload →
       extent_at (payload - 16) segment.extents ≡ Some (record_of (payload - 16) (segment.base + segment.size)) → (k : ℕ) → payload ≤ k → k < payload + 32 → k % 8 ≡ 0 → now k ≡ words k
-  record_stays front segment back is part payload some there k low high m = only k (payload_word granted words segment part payload some there k low high m) (λ at size free. out at size
-      (same_or_beside regions word heap sound at size free (record_of (payload - 16) (segment.base + segment.size)) (among_all granted words (segments_of word heap) sound.segments sound.apart front segment back is (payload - 16) (record_of (payload - 16) (segment.base + segment.size)) there)))
+  record_stays front {segment} back is part payload some there k low high m = only k (payload_word part payload some there k low high m) (λ at size free. out at size
+      (same_or_beside sound free (among_all granted words sound.segments sound.apart front segment back is (payload - 16) there)))
     where
       room : payload + 64 ≤ segment.base + segment.size
-      room = payload_high granted words segment part payload some there
+      room = payload_high part payload some there
 
       out : (at size : ℕ) → (record_of (payload - 16) (segment.base + segment.size) ≡ record { at = at; size = size; kind = Free }) ⊎ ((payload - 16 + (segment.base + segment.size - (payload - 16)) ≤ at) ⊎ (at + size ≤ payload - 16)) → (k < at + 16) ⊎ (at + size ≤ k)
       out at size (inl is) = absurd (let no : Record ≡ Free = ap (λ (e : Extent). e.kind) is in cc)
@@ -49,16 +49,16 @@ module _ {A : Type 0} (regions : A → List Grant) (word : A → ℕ → ℕ) (h
       )
     where
       whole : payload % 16 ≡ 0
-      whole = payload_whole granted words segment parts.0 payload h.0 h.4
+      whole = payload_whole parts.0 payload h.0 h.4
 
       keeps : (k : ℕ) → payload ≤ k → k < payload + 32 → k % 8 ≡ 0 → now k ≡ words k
-      keeps = record_stays front segment segments is parts.0 payload h.0 h.4
+      keeps = record_stays front segments is parts.0 payload h.0 h.4
 
   behind_still : (front first rest : List Segment) → segments_of word heap ≡ front ++ (first ++ rest) → AreSegments granted words (first ++ rest) → (payload : ℕ) → AreRecords words payload (first ++ rest) → payload_behind words payload first ≡ payload_behind now payload first
   behind_still front [] rest is parts payload h = refl
   behind_still front (segment ∷ first) rest is parts payload h =
       behind_still (front ++ segment ∷ []) first rest (is ∙ sym (append_assoc front (segment ∷ []) (first ++ rest))) parts.1 (words (payload + 16)) h.5
-      ∙ ap (λ (p : ℕ). payload_behind now p first) (sym (record_stays front segment (first ++ rest) is parts.0 payload h.0 h.4 (payload + 16) (omega arith) (omega arith) (omega (arith, payload_whole granted words segment parts.0 payload h.0 h.4))))
+      ∙ ap (λ (p : ℕ). payload_behind now p first) (sym (record_stays front (first ++ rest) is parts.0 payload h.0 h.4 (payload + 16) (omega arith) (omega arith) (omega (arith, payload_whole parts.0 payload h.0 h.4))))
 
   -- what tells the next record
   pub linked_still : (head : Segment) (front back : List Segment) → segments_of word heap ≡ head ∷ (front ++ back) → (before payload : ℕ) → IsLinked words heap.next before payload front → IsLinked now new.next before payload front
@@ -69,8 +69,8 @@ module _ {A : Type 0} (regions : A → List Grant) (word : A → ℕ → ℕ) (h
     is = l.is;
     reached = l.reached ∙ (behind_still (head ∷ []) l.first (l.last ∷ back) split parts.1 heap.next told.5 ∙ ap (λ (p : ℕ). payload_behind now p l.first) (sym next));
     some = l.some;
-    tells = l.tells ∙ sym (record_stays (head ∷ l.first) l.last back split last_part before last_told.0 last_told.4 (before + 16) (omega arith) (omega arith)
-        (omega (arith, payload_whole granted words l.last last_part before last_told.0 last_told.4)));
+    tells = l.tells ∙ sym (record_stays (head ∷ l.first) back split last_part before last_told.0 last_told.4 (before + 16) (omega arith) (omega arith)
+        (omega (arith, payload_whole last_part before last_told.0 last_told.4)));
   })
     where
       split : segments_of word heap ≡ head ∷ (l.first ++ l.last ∷ back)
@@ -89,9 +89,9 @@ module _ {A : Type 0} (regions : A → List Grant) (word : A → ℕ → ℕ) (h
       last_told = subst (λ (p : ℕ). AreRecords words p (l.last ∷ back)) (sym l.reached) (records_behind words heap.next l.first (l.last ∷ back) told.5)
 
   -- a segment's record is read the same
-  pub read_still : (before : ℕ) (told : SegmentRecord) (c : IsChained word heap before told) →
+  pub read_still : {before : ℕ} {told : SegmentRecord} (c : IsChained word heap before told) →
       told ≡ record { base = now c.payload; size = now (c.payload + 8); next = now (c.payload + 16); flags = now (c.payload + 24) % 2 ^ 32 }
-  read_still before told c =
+  read_still c =
       let base = sym (keeps c.payload (omega arith) (omega arith) (omega (arith, whole))) in
       let size = sym (keeps (c.payload + 8) (omega arith) (omega arith) (omega (arith, whole))) in
       let next = sym (keeps (c.payload + 16) (omega arith) (omega arith) (omega (arith, whole))) in
@@ -102,14 +102,14 @@ module _ {A : Type 0} (regions : A → List Grant) (word : A → ℕ → ℕ) (h
       part = all_at (IsSegment granted words) (c.head ∷ c.front) c.segment c.back (subst (AreSegments granted words) c.is sound.segments)
 
       whole : c.payload % 16 ≡ 0
-      whole = payload_whole granted words c.segment part c.payload c.records.0 c.records.4
+      whole = payload_whole part c.payload c.records.0 c.records.4
 
       keeps : (k : ℕ) → c.payload ≤ k → k < c.payload + 32 → k % 8 ≡ 0 → now k ≡ words k
-      keeps = record_stays (c.head ∷ c.front) c.segment c.back c.is part c.payload c.records.0 c.records.4
+      keeps = record_stays (c.head ∷ c.front) c.back c.is part c.payload c.records.0 c.records.4
 
   -- so it is in the chain
-  abbrev pub chained_on : (before : ℕ) (told : SegmentRecord) → IsChained word heap before told → IsChained word new before told
-  chained_on before told c = record {
+  abbrev pub chained_on : {before : ℕ} {told : SegmentRecord} → IsChained word heap before told → IsChained word new before told
+  chained_on {before} c = record {
     head = c.head;
     front = c.front;
     segment = c.segment;
@@ -118,17 +118,17 @@ module _ {A : Type 0} (regions : A → List Grant) (word : A → ℕ → ℕ) (h
     is = ap (λ (s : HeapState). s.segments) state ∙ c.is;
     records = records_still (c.head ∷ c.front) (c.segment ∷ c.back) c.is (all_back (IsSegment granted words) (c.head ∷ c.front) (c.segment ∷ c.back) (subst (AreSegments granted words) c.is sound.segments)) c.payload c.records;
     linked = linked_still c.head c.front (c.segment ∷ c.back) c.is before c.payload c.linked;
-    read = read_still before told c;
+    read = read_still c;
   }
 
 -- ---- chunks went into bins, or left them
 
-module _ {A : Type 0} (regions : A → List Grant) (word : A → ℕ → ℕ) (follows : A → List Event → A → Type 0) (heap new : Dlmalloc A) (sound : IsSound regions word heap) (same : IsRebinned regions word follows heap new) where
+module _ {A : Type 0} {regions : A → List Grant} {word : A → ℕ → ℕ} {follows : A → List Event → A → Type 0} {heap new : Dlmalloc A} (sound : IsSound regions word heap) (same : IsRebinned regions word follows heap new) where
   pub next_same : new.next ≡ heap.next
   next_same = ap (λ (h : Dlmalloc A). h.next) same.fields
 
-  abbrev pub chained_then : (before : ℕ) (told : SegmentRecord) → IsChained word heap before told → IsChained word new before told
-  chained_then before told c = chained_on regions word heap sound new same.state next_same same.words before told c
+  abbrev pub chained_then : {before : ℕ} {told : SegmentRecord} → IsChained word heap before told → IsChained word new before told
+  chained_then c = chained_on sound new same.state next_same same.words c
 
   -- nothing left the heap
   pub none_left : HaveLeft regions word follows [] heap new
@@ -149,22 +149,22 @@ module _ {A : Type 0} (regions : A → List Grant) (word : A → ℕ → ℕ) (f
   only_back = λ k inside out. sym (same.words k (subst (λ (rs : List Grant). IsWordOf rs k) same.regions_same inside) (λ at size free. out at size (subst (λ (s : HeapState). IsFreeAt s at size) (sym same.state) free)))
 
   -- a segment may leave as before
-  pub may_still : 0 < heap.size → (parts : Bool) (before : ℕ) (told : SegmentRecord) →
+  pub may_still : 0 < heap.size → (parts : Bool) {before : ℕ} {told : SegmentRecord} →
       (told.flags % 2 == 0 && (parts && (free_of (word heap.system (told.base + 8)) && size_of (word heap.system (told.base + 8)) == told.size - 80))) ≡ true → (c : IsChained word new before told) → may_leave parts c.segment ≡ true
-  may_still some parts before told test c =
-      sym (test_is regions word heap sound some before told (chained_on regions word new same.sound heap (sym same.state) (sym next_same) only_back before told c) parts) ∙ test
+  may_still some parts test c =
+      sym (test_is sound some (chained_on same.sound heap (sym same.state) (sym next_same) only_back c) parts) ∙ test
 
-module _ {A : Type 0} (regions : A → List Grant) (word : A → ℕ → ℕ) (follows : A → List Event → A → Type 0)
-    (follows_on : (x y z : A) (a b c : List Event) → follows x a y → follows y b z → a ++ b ≡ c → follows x c z) (heap : Dlmalloc A) (sound : IsSound regions word heap) (before : ℕ) (told : SegmentRecord) (c : IsChained word heap before told) where
+module _ {A : Type 0} {regions : A → List Grant} {word : A → ℕ → ℕ} (follows : A → List Event → A → Type 0)
+    (follows_on : (x y z : A) (a b c : List Event) → follows x a y → follows y b z → a ++ b ≡ c → follows x c z) {heap : Dlmalloc A} (sound : IsSound regions word heap) {before : ℕ} {told : SegmentRecord} (c : IsChained word heap before told) where
   -- chunks left bins before a visit
-  pub visited_then : (middle : Dlmalloc A) (same : IsRebinned regions word follows heap middle) (handed leaves : Bool) (new : Dlmalloc A) →
-      IsVisited regions word follows handed leaves middle before told (chained_then regions word follows heap middle sound same before told c) new → IsVisited regions word follows handed leaves heap before told c new
-  visited_then middle same handed leaves new v = record {
+  pub visited_then : {middle : Dlmalloc A} (same : IsRebinned regions word follows heap middle) {handed leaves : Bool} {new : Dlmalloc A} →
+      IsVisited regions word follows handed leaves middle before told (chained_then sound same c) new → IsVisited regions word follows handed leaves heap before told c new
+  visited_then same {handed} v = record {
     segments = v.segments;
     records = v.records;
     linked = v.linked;
     victim = v.victim ∙ ap (λ (h : Dlmalloc A). if handed && c.segment.base == h.victim then 0 else h.victim) same.fields;
-    left = left_on regions word follows follows_on [] (if leaves then c.segment ∷ [] else []) heap middle new (none_left regions word follows heap middle sound same) v.left;
+    left = left_on regions word follows follows_on (none_left sound same) v.left;
     granularity_same = v.granularity_same ∙ ap (λ (h : Dlmalloc A). h.granularity) same.fields;
     rate_same = v.rate_same ∙ ap (λ (h : Dlmalloc A). h.rate) same.fields;
     trim_check_same = v.trim_check_same ∙ ap (λ (h : Dlmalloc A). h.trim_check) same.fields;
@@ -172,14 +172,14 @@ module _ {A : Type 0} (regions : A → List Grant) (word : A → ℕ → ℕ) (f
   }
 
   -- they went into bins behind one that stays
-  pub visited_binned : (handed : Bool) (new last : Dlmalloc A) → IsVisited regions word follows handed false heap before told c new → IsRebinned regions word follows new last → IsVisited regions word follows handed false heap before told c last
-  visited_binned handed new last v same = record {
+  pub visited_binned : {handed : Bool} (new : Dlmalloc A) {last : Dlmalloc A} → IsVisited regions word follows handed false heap before told c new → IsRebinned regions word follows new last → IsVisited regions word follows handed false heap before told c last
+  visited_binned new {last} v same = record {
     segments = ap (λ (s : HeapState). s.segments) same.state ∙ v.segments;
-    records = records_still regions word new v.left.sound last same.state next_same same.words (c.head ∷ (c.front ++ c.segment ∷ [])) c.back split
+    records = records_still v.left.sound last same.state next_same same.words (c.head ∷ (c.front ++ c.segment ∷ [])) c.back split
         (all_back (IsSegment (regions new.system) (word new.system)) (c.head ∷ (c.front ++ c.segment ∷ [])) c.back (subst (AreSegments (regions new.system) (word new.system)) split v.left.sound.segments)) told.next v.records;
-    linked = linked_still regions word new v.left.sound last same.state next_same same.words c.head (c.front ++ c.segment ∷ []) c.back split c.payload told.next v.linked;
+    linked = linked_still v.left.sound last same.state next_same same.words c.head (c.front ++ c.segment ∷ []) c.back split c.payload told.next v.linked;
     victim = ap (λ (h : Dlmalloc A). h.victim) same.fields ∙ v.victim;
-    left = left_on regions word follows follows_on [] [] heap new last v.left (none_left regions word follows new last v.left.sound same);
+    left = left_on regions word follows follows_on v.left (none_left v.left.sound same);
     granularity_same = ap (λ (h : Dlmalloc A). h.granularity) same.fields ∙ v.granularity_same;
     rate_same = ap (λ (h : Dlmalloc A). h.rate) same.fields ∙ v.rate_same;
     trim_check_same = ap (λ (h : Dlmalloc A). h.trim_check) same.fields ∙ v.trim_check_same;
@@ -194,13 +194,13 @@ module _ {A : Type 0} (regions : A → List Grant) (word : A → ℕ → ℕ) (f
 
 -- ---- the bins where a segment is handed out whose first chunk is in none
 
-module _ {A : Type 0} (regions : A → List Grant) (word : A → ℕ → ℕ) (follows : A → List Event → A → Type 0) (old new : Dlmalloc A) (sound : IsSound regions word old) (before : ℕ) (told : SegmentRecord) (c : IsChained word old before told)
-    (leaves : Bool) (visited : IsVisited regions word follows true leaves old before told c new) where
+module _ {A : Type 0} {regions : A → List Grant} {word : A → ℕ → ℕ} {follows : A → List Event → A → Type 0} {old new : Dlmalloc A} (sound : IsSound regions word old) {before : ℕ} {told : SegmentRecord} {c : IsChained word old before told}
+    {leaves : Bool} (visited : IsVisited regions word follows true leaves old before told c new) where
   base_is : told.base ≡ c.segment.base
   base_is = ap (λ (t : SegmentRecord). t.base) c.read ∙ c.records.1
 
-  victim : (b : Bool) → (told.base == old.victim) ≡ b → new.victim ≡ (if b then 0 else old.victim)
-  victim b test = visited.victim ∙ (ap (λ (base : ℕ). if base == old.victim then 0 else old.victim) (sym base_is) ∙ ap (λ (b : Bool). if b then 0 else old.victim) test)
+  victim : {b : Bool} → (told.base == old.victim) ≡ b → new.victim ≡ (if b then 0 else old.victim)
+  victim {b} test = visited.victim ∙ (ap (λ (base : ℕ). if base == old.victim then 0 else old.victim) (sym base_is) ∙ ap (λ (b : Bool). if b then 0 else old.victim) test)
 
   -- it begins behind the first page
   base_some : 4096 ≤ told.base
@@ -211,8 +211,8 @@ module _ {A : Type 0} (regions : A → List Grant) (word : A → ℕ → ℕ) (f
   not_victim = go (told.base == old.victim) refl
     where
       go : (b : Bool) → (told.base == old.victim) ≡ b → told.base ≢ new.victim
-      go true test = λ is. absurd (let none : told.base ≡ 0 = is ∙ victim true test in omega (arith, none, base_some))
-      go false test = λ is. (let yes : (told.base == old.victim) ≡ true = ap (λ (b : ℕ). b == old.victim) (is ∙ victim false test) ∙ nat_same old.victim in let no = sym test ∙ yes in cc)
+      go true test = λ is. absurd (let none : told.base ≡ 0 = is ∙ victim test in omega (arith, none, base_some))
+      go false test = λ is. (let yes : (told.base == old.victim) ≡ true = ap (λ (b : ℕ). b == old.victim) (is ∙ victim test) ∙ nat_same old.victim in let no = sym test ∙ yes in cc)
 
   -- the victim was that, or stays
   pub was_base : (k : ℕ) → k ≡ old.victim → k ≢ new.victim → k ≡ told.base
@@ -220,33 +220,33 @@ module _ {A : Type 0} (regions : A → List Grant) (word : A → ℕ → ℕ) (f
     where
       go : (b : Bool) → (told.base == old.victim) ≡ b → k ≡ told.base
       go true test = is ∙ sym (nat_is test)
-      go false test = absurd (other (is ∙ sym (victim false test)))
+      go false test = absurd (other (is ∙ sym (victim test)))
 
   -- and no other is the victim then
-  pub was_victim : (k n : ℕ) → k ≡ new.victim → IsFreeAt (state_of word old) k n → k ≢ old.victim → ⊥
-  was_victim k n is free other = go (told.base == old.victim) refl
+  pub was_victim : (k : ℕ) {n : ℕ} → k ≡ new.victim → IsFreeAt (state_of word old) k n → k ≢ old.victim → ⊥
+  was_victim k is free other = go (told.base == old.victim) refl
     where
       go : (b : Bool) → (told.base == old.victim) ≡ b → ⊥
-      go true test = (let none : k ≡ 0 = is ∙ victim true test in let low = (is_chunk regions word old sound k n free).low in absurd (omega (arith, none, low)))
-      go false test = other (is ∙ victim false test)
+      go true test = (let none : k ≡ 0 = is ∙ victim test in let low = (is_chunk sound free).low in absurd (omega (arith, none, low)))
+      go false test = other (is ∙ victim test)
 
-module _ (index_stays : IndexStays) {A : Type 0} (regions : A → List Grant) (word : A → ℕ → ℕ) (follows : A → List Event → A → Type 0) (old new : Dlmalloc A) (sound : IsSound regions word old) (before : ℕ) (told : SegmentRecord) (c : IsChained word old before told)
-    (leaves : Bool) (visited : IsVisited regions word follows true leaves old before told c new)
+module _ (index_stays : IndexStays) {A : Type 0} {regions : A → List Grant} {word : A → ℕ → ℕ} {follows : A → List Event → A → Type 0} {old new : Dlmalloc A} (sound : IsSound regions word old) {before : ℕ} {told : SegmentRecord} {c : IsChained word old before told}
+    {leaves : Bool} (visited : IsVisited regions word follows true leaves old before told c new)
     (words : (k : ℕ) → IsWordOf (regions new.system) k → (IsInRecord (state_of word old) k → ⊥) → word new.system k ≡ word old.system k) (bins : new.bins ≡ old.bins) where
   -- it stays, and is in no bin
   abbrev pub loose_still : FreeMoves (state_of word old) (state_of word new) [] [] → IsBinnedBut (told.base ∷ []) regions word old → IsBinnedBut (told.base ∷ []) regions word new
-  loose_still moves = binned_moved index_stays regions word old new sound visited.left.sound (λ k was is boundary tag tag'. words k is tag) bins (told.base ∷ []) (told.base ∷ []) [] [] moves (record {
+  loose_still moves = binned_moved index_stays sound visited.left.sound (λ k was is boundary tag tag'. words k is tag) bins (told.base ∷ []) (told.base ∷ []) [] [] moves (record {
     gone = λ k none n free other. absurd none;
     come = λ k none n free other. absurd none;
-    still = λ k out which n free other. elim which [ inl is ↦ inl (was_base regions word follows old new sound before told c leaves visited k is other) | inr is ↦ is ];
-    from = λ k out which n free other. elim which [ inl is ↦ absurd (was_victim regions word follows old new sound before told c leaves visited k n is free other) | inr is ↦ is ];
+    still = λ k out which n free other. elim which [ inl is ↦ inl (was_base sound visited k is other) | inr is ↦ is ];
+    from = λ k out which n free other. elim which [ inl is ↦ absurd (was_victim sound visited k is free other) | inr is ↦ is ];
   })
 
   -- it leaves, and the bins have all the others
   abbrev pub binned_without : FreeMoves (state_of word old) (state_of word new) (told.base ∷ []) [] → IsBinnedBut (told.base ∷ []) regions word old → IsBinnedBut [] regions word new
-  binned_without moves = binned_moved index_stays regions word old new sound visited.left.sound (λ k was is boundary tag tag'. words k is tag) bins (told.base ∷ []) [] (told.base ∷ []) [] moves (record {
+  binned_without moves = binned_moved index_stays sound visited.left.sound (λ k was is boundary tag tag'. words k is tag) bins (told.base ∷ []) [] (told.base ∷ []) [] moves (record {
     gone = λ k is n free other. is;
     come = λ k none n free other. none;
-    still = λ k out which n free other. elim which [ inl is ↦ out (inl (was_base regions word follows old new sound before told c leaves visited k is other)) | inr is ↦ out is ];
-    from = λ k out which n free other. elim which [ inl is ↦ absurd (was_victim regions word follows old new sound before told c leaves visited k n is free other) | inr none ↦ absurd none ];
+    still = λ k out which n free other. elim which [ inl is ↦ out (inl (was_base sound visited k is other)) | inr is ↦ out is ];
+    from = λ k out which n free other. elim which [ inl is ↦ absurd (was_victim sound visited k is free other) | inr none ↦ absurd none ];
   })

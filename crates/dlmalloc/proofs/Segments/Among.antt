@@ -42,18 +42,18 @@ pub record Located (at : ℕ) (extent : Extent) (segments : List Segment) : Type
   pub is : segments ≡ front ++ segment ∷ back
   pub there : extent_at at segment.extents ≡ Some extent
 
-pub located : (at : ℕ) (extent : Extent) (segments : List Segment) → extent_at at (extents_all segments) ≡ Some extent → Located at extent segments
-located at extent [] there = absurd (cc)
-located at extent (segment ∷ segments) there =
-    elim (found_either at segment.extents (extents_all segments) extent there) [
+pub located : (at : ℕ) {extent : Extent} (segments : List Segment) → extent_at at (extents_all segments) ≡ Some extent → Located at extent segments
+located at [] there = absurd (cc)
+located at (segment ∷ segments) there =
+    elim (found_either at segment.extents (extents_all segments) there) [
       | inl here ↦ record { front = []; segment = segment; back = segments; is = refl; there = here }
-      | inr later ↦ (let rest = located at extent segments later.1 in
+      | inr later ↦ (let rest = located at segments later.1 in
           record { front = segment ∷ rest.front; segment = rest.segment; back = rest.back; is = ap (λ (ss : List Segment). segment ∷ ss) rest.is; there = rest.there })
     ]
 
 -- what holds of all holds of it
-pub of_located : (Is : Segment → Type 0) (at : ℕ) (extent : Extent) (segments : List Segment) (l : Located at extent segments) → AllByRecursion Is segments → Is l.segment
-of_located Is at extent segments l all = all_at Is l.front l.segment l.back (subst (AllByRecursion Is) l.is all)
+pub of_located : (Is : Segment → Type 0) {at : ℕ} {extent : Extent} {segments : List Segment} (l : Located at extent segments) → AllByRecursion Is segments → Is l.segment
+of_located Is l all = all_at Is l.front l.segment l.back (subst (AllByRecursion Is) l.is all)
 
 -- and what one has, some have
 pub any_among : (test : Segment → Bool) (front : List Segment) (segment : Segment) (back : List Segment) → test segment ≡ true → list_any test (front ++ segment ∷ back) ≡ true
@@ -118,9 +118,9 @@ all_distinct regions words (segment ∷ segments) parts apart =
     (none_there regions words segment segments parts.1 apart.0) (all_distinct regions words segments parts.1 apart.1)
 
 -- what is found behind some is found with them
-pub distinct_later : (front back : List Extent) (k : ℕ) (extent : Extent) → AreDistinct (front ++ back) → extent_at k back ≡ Some extent → extent_at k (front ++ back) ≡ Some extent
-distinct_later [] back k extent distinct there = there
-distinct_later (first ∷ front) back k extent distinct there = go (first.at == k) refl (distinct_later front back k extent distinct.1 there)
+pub distinct_later : (front back : List Extent) (k : ℕ) {extent : Extent} → AreDistinct (front ++ back) → extent_at k back ≡ Some extent → extent_at k (front ++ back) ≡ Some extent
+distinct_later [] back k distinct there = there
+distinct_later (first ∷ front) back k {extent} distinct there = go (first.at == k) refl (distinct_later front back k distinct.1 there)
   where
     go : (b : Bool) → (first.at == k) ≡ b → extent_at k (front ++ back) ≡ Some extent → (if b then Some first else extent_at k (front ++ back)) ≡ Some extent
     go true here later = absurd (let none = subst (λ (a : ℕ). extent_at a (front ++ back) ≡ None) (nat_is here) distinct.0 in let some = later in cc)
@@ -133,8 +133,8 @@ pub record IsIn (words : ℕ → ℕ) (from to : ℕ) (extent : Extent) : Type 0
   pub before : Kind
   pub stands : HasChunk words before extent
 
-pub in_part : (words : ℕ → ℕ) (before : Kind) (from : ℕ) (extents : List Extent) (to : ℕ) (extent : Extent) → Tiles words before from extents to → extent_at extent.at extents ≡ Some extent → IsIn words from to extent
-in_part words before from extents to extent h there =
+pub in_part : (words : ℕ → ℕ) (before : Kind) (from : ℕ) (extents : List Extent) (to : ℕ) {extent : Extent} → Tiles words before from extents to → extent_at extent.at extents ≡ Some extent → IsIn words from to extent
+in_part words before from extents to {extent} h there =
     let f = found extent.at extent extents there in
     let s = tiles_split words before from f.front (extent ∷ f.back) to (subst (λ (es : List Extent). Tiles words before from es to) f.is h) in
     let place = s.second.0 in
@@ -143,10 +143,10 @@ in_part words before from extents to extent h there =
     record { low = omega arith; high = omega arith; before = last_kind before f.front; stands = s.second.1 }
 
 -- what is found in one of the segments is found among all
-pub among_all : (regions : List Grant) (words : ℕ → ℕ) (segments : List Segment) → AreSegments regions words segments → AreApart segments → (front : List Segment) (segment : Segment) (back : List Segment) → segments ≡ front ++ segment ∷ back → (k : ℕ) (one : Extent) →
+pub among_all : (regions : List Grant) (words : ℕ → ℕ) {segments : List Segment} → AreSegments regions words segments → AreApart segments → (front : List Segment) (segment : Segment) (back : List Segment) → segments ≡ front ++ segment ∷ back → (k : ℕ) {one : Extent} →
     extent_at k segment.extents ≡ Some one → extent_at k (extents_all segments) ≡ Some one
-among_all regions words segments parts apart front segment back is k one there =
+among_all regions words {segments} parts apart front segment back is k there =
     ap (λ (ss : List Segment). extent_at k (extents_all ss)) is ∙ (ap (extent_at k) (all_among front segment back)
-    ∙ distinct_later (extents_all front) (segment.extents ++ extents_all back) k one
+    ∙ distinct_later (extents_all front) (segment.extents ++ extents_all back) k
     (subst AreDistinct (ap extents_all is ∙ all_among front segment back) (all_distinct regions words segments parts apart))
-    (found_more k segment.extents (extents_all back) one there))
+    (found_more k segment.extents (extents_all back) there))

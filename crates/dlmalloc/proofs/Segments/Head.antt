@@ -68,7 +68,7 @@ first_granted grant n heap test = go heap.segments test
 pub behind_first : {A : Type 0} (word : A → ℕ → ℕ) (heap : Dlmalloc A) (grant : Grant) → 0 < heap.size → is_behind grant (record { base = heap.base; size = heap.size; flags = heap.flags; extents = [] }) ≡ true → is_behind_head grant (segments_of word heap) ≡ true
 behind_first word heap grant some test = let there : (heap.size == 0) ≡ false = grind (arith, nat_tests) in rw there test
 
-module _ {A : Type 0} (regions : A → List Grant) (word : A → ℕ → ℕ) (heap : Dlmalloc A) (sound : IsSound regions word heap) where
+module _ {A : Type 0} {regions : A → List Grant} {word : A → ℕ → ℕ} {heap : Dlmalloc A} (sound : IsSound regions word heap) where
   pub first_told : (heap.size ≡ first_size (segments_of word heap)) × (0 < heap.size → heap.base ≡ first_base (segments_of word heap))
   first_told = go (segments_of word heap) sound.told
     where
@@ -85,32 +85,32 @@ module _ {A : Type 0} (regions : A → List Grant) (word : A → ℕ → ℕ) (h
       go (segment ∷ segments) told is = let means = behind_means grant segment is in omega (arith, means.0, told.1, told.2)
 
   -- the top is where the field says
-  pub top_place : (at size : ℕ) → extent_at at (extents_in (state_of word heap)) ≡ Some (extent at size Top) → at ≡ heap.top
-  top_place at size there = let l = located at (extent at size Top) (segments_of word heap) there in (is_top regions word heap sound l.front l.segment l.back l.is at size l.there).1
+  pub top_place : (at : ℕ) {size : ℕ} → extent_at at (extents_in (state_of word heap)) ≡ Some (extent at size Top) → at ≡ heap.top
+  top_place at there = let l = located at (segments_of word heap) there in (is_top sound l.front l.segment l.back l.is l.there).1
 
   module _ (some : 0 < heap.size) where
     -- its bytes are granted
     pub head_granted : (k : ℕ) → heap.base ≤ k → k < heap.base + heap.size → IsTrue (is_granted (regions heap.system) k)
     head_granted k low high =
-        let is = top_segment regions word heap sound some in
-        (top_part regions word heap sound some).run.covered k (omega (arith, low, is.base)) (omega (arith, high, is.base, is.size))
+        let is = top_segment sound some in
+        (top_part sound some).run.covered k (omega (arith, low, is.base)) (omega (arith, high, is.base, is.size))
 
     -- what is in use ends before the top, or is beyond the segment
-    pub beside_top : (used : Extent) → used.kind ≡ Used → extent_at used.at (extents_in (state_of word heap)) ≡ Some used → (used.at + used.size ≤ heap.top) ⊎ (heap.base + heap.size ≤ used.at)
-    beside_top used is there =
+    pub beside_top : {used : Extent} → used.kind ≡ Used → extent_at used.at (extents_in (state_of word heap)) ≡ Some used → (used.at + used.size ≤ heap.top) ⊎ (heap.base + heap.size ≤ used.at)
+    beside_top {used} is there =
         elim (used_apart regions word heap sound used (extent heap.top heap.top_size Top) there top (λ same. no_top (kind_of (extent heap.top heap.top_size Top) same top))) [
           | inl before ↦ inl before
           | inr behind ↦ elim (used_apart regions word heap sound used (extent (heap.top + heap.top_size) 80 Foot) there foot (λ same. no_foot (kind_of (extent (heap.top + heap.top_size) 80 Foot) same foot))) [
             | inl less ↦ (let low : heap.top + heap.top_size ≤ used.at = behind in let high : used.at + used.size ≤ heap.top + heap.top_size = less in absurd (omega (arith, low, high, long)))
-            | inr more ↦ (let low : heap.top + heap.top_size + 80 ≤ used.at = more in inr (omega (arith, low, ends regions word heap sound some)))
+            | inr more ↦ (let low : heap.top + heap.top_size + 80 ≤ used.at = more in inr (omega (arith, low, ends sound some)))
           ]
         ]
       where
         top : extent_at heap.top (extents_in (state_of word heap)) ≡ Some (extent heap.top heap.top_size Top)
-        top = top_among regions word heap sound some
+        top = top_among sound some
 
         foot : extent_at (heap.top + heap.top_size) (extents_in (state_of word heap)) ≡ Some (extent (heap.top + heap.top_size) 80 Foot)
-        foot = foot_among regions word heap sound some
+        foot = foot_among sound some
 
         long : 32 ≤ used.size
         long = (used_inside regions word heap sound used is there).long
@@ -125,10 +125,10 @@ module _ {A : Type 0} (regions : A → List Grant) (word : A → ℕ → ℕ) (h
         no_foot same = cc
 
 -- heaps with the same first segment have the same head
-pub same_head : {A : Type 0} (regions : A → List Grant) (word : A → ℕ → ℕ) (one other : Dlmalloc A) → IsSound regions word one → IsSound regions word other → 0 < one.size → HasSameFirst (segments_of word other) (segments_of word one) →
+pub same_head : {A : Type 0} {regions : A → List Grant} {word : A → ℕ → ℕ} {one : Dlmalloc A} (other : Dlmalloc A) → IsSound regions word one → IsSound regions word other → 0 < one.size → HasSameFirst (segments_of word other) (segments_of word one) →
     (other.base ≡ one.base) × (other.size ≡ one.size)
-same_head regions word one other sound_one sound_other some same =
-    let told = first_told regions word one sound_one in
-    let told_other = first_told regions word other sound_other in
+same_head {one} other sound_one sound_other some same =
+    let told = first_told sound_one in
+    let told_other = first_told sound_other in
     let size : other.size ≡ one.size = told_other.0 ∙ (same.1 ∙ sym told.0) in
     (told_other.1 (omega (arith, some, size)) ∙ (same.0 ∙ sym (told.1 some)), size)

@@ -19,7 +19,7 @@ pub record HasSameHead {A : Type 0} (heap new : Dlmalloc A) : Type 0 where
   pub top : new.top ≡ heap.top
   pub top_size : new.top_size ≡ heap.top_size
 
-module _ {A : Type 0} (regions regions' : List Grant) (old words : ℕ → ℕ) (heap new : Dlmalloc A) (segment segment' : Segment) (changed : IsChanged regions regions' old words segment segment') (next : new.next ≡ heap.next) where
+module _ {A : Type 0} {regions regions' : List Grant} {old words : ℕ → ℕ} (heap new : Dlmalloc A) {segment segment' : Segment} (changed : IsChanged regions regions' old words segment segment') (next : new.next ≡ heap.next) where
   -- the head segment changed
   pub told_head : (front back : List Segment) → front ≡ [] → AreApart (front ++ segment ∷ back) → AreSegments regions old (front ++ segment ∷ back) → AreTold old heap (front ++ segment ∷ back) → IsHead new segment' → AreTold words new (front ++ segment' ∷ back)
   told_head [] back none apart parts h head = (
@@ -28,7 +28,7 @@ module _ {A : Type 0} (regions regions' : List Grant) (old words : ℕ → ℕ) 
     head.size,
     head.flags,
     head.top,
-    subst (λ (p : ℕ). AreRecords words p back) (sym next) (records_behind regions regions' old words segment segment' changed back apart.0 parts.1 heap.next h.5),
+    subst (λ (p : ℕ). AreRecords words p back) (sym next) (records_behind changed back apart.0 parts.1 heap.next h.5),
   )
   told_head (first ∷ front) back none apart parts h head = absurd (cc)
 
@@ -41,7 +41,7 @@ module _ {A : Type 0} (regions regions' : List Grant) (old words : ℕ → ℕ) 
     same.size ∙ (h.2 ∙ sym size),
     same.flags ∙ (h.3 ∙ sym flags),
     ap (λ (t : ℕ). extent_at t segment'.extents) same.top ∙ (top h.4 ∙ (λ i. Some (extent ((sym same.top) i) ((sym same.top_size) i) Top))),
-    subst (λ (p : ℕ). AreRecords words p back) (sym next) (records_behind regions regions' old words segment segment' changed back apart.0 parts.1 heap.next h.5),
+    subst (λ (p : ℕ). AreRecords words p back) (sym next) (records_behind changed back apart.0 parts.1 heap.next h.5),
   )
   told_same (first ∷ front) back apart parts h same base size flags top = (
     subst (λ (n : ℕ). 0 < n) (sym same.size) h.0,
@@ -49,7 +49,7 @@ module _ {A : Type 0} (regions regions' : List Grant) (old words : ℕ → ℕ) 
     same.size ∙ h.2,
     same.flags ∙ h.3,
     ap (λ (t : ℕ). extent_at t first.extents) same.top ∙ (h.4 ∙ (λ i. Some (extent ((sym same.top) i) ((sym same.top_size) i) Top))),
-    subst (λ (p : ℕ). AreRecords words p (front ++ segment' ∷ back)) (sym next) (records_after regions regions' old words segment segment' changed front back apart.1 parts.1 heap.next h.5),
+    subst (λ (p : ℕ). AreRecords words p (front ++ segment' ∷ back)) (sym next) (records_after changed front back apart.1 parts.1 heap.next h.5),
   )
 
 -- the first of the segments is told by the fields

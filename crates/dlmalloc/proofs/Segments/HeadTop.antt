@@ -15,16 +15,16 @@ pub no_segments : {A : Type 0} (word : A → ℕ → ℕ) (heap : Dlmalloc A) �
 no_segments word heap none = let test : (heap.size == 0) ≡ true = grind (arith, nat_tests) in rw test refl
 
 -- where an extent is found, there is one
-pub some_segment : {A : Type 0} (word : A → ℕ → ℕ) (heap : Dlmalloc A) (k : ℕ) (one : Extent) → extent_at k (extents_all (segments_of word heap)) ≡ Some one → 0 < heap.size
-some_segment word heap k one there = elim (dec_lt 0 heap.size) [
+pub some_segment : {A : Type 0} (word : A → ℕ → ℕ) (heap : Dlmalloc A) (k : ℕ) {one : Extent} → extent_at k (extents_all (segments_of word heap)) ≡ Some one → 0 < heap.size
+some_segment word heap k {one} there = elim (dec_lt 0 heap.size) [
   | yes some ↦ some
   | no none ↦ absurd (let gone : extent_at k [] ≡ Some one = ap (λ (segments : List Segment). extent_at k (extents_all segments)) (sym (no_segments word heap (omega (arith, none)))) ∙ there in cc)
 ]
 
 -- a top and its foot, as their heads tell them
-pub top_stands : (words : ℕ → ℕ) (before : Kind) (at size : ℕ) → before ≡ Used → at % 16 ≡ 0 → size % 16 ≡ 0 → 16 ≤ size → words (at + 8) ≡ size + 1 → words (at + size + 8) ≡ 80 →
+pub top_stands : (words : ℕ → ℕ) {before : Kind} (at size : ℕ) → before ≡ Used → at % 16 ≡ 0 → size % 16 ≡ 0 → 16 ≤ size → words (at + 8) ≡ size + 1 → words (at + size + 8) ≡ 80 →
     Tiles words before at (extent at size Top ∷ extent (at + size) 80 Foot ∷ []) (at + size + 80)
-top_stands words before at size used place whole long head foot = (
+top_stands words at size used place whole long head foot = (
   refl,
   record {
     whole = place;
@@ -50,15 +50,15 @@ top_stands words before at size used place whole long head foot = (
 
 -- ---- the head segment
 
-module _ {A : Type 0} (regions : A → List Grant) (word : A → ℕ → ℕ) (heap : Dlmalloc A) (sound : IsSound regions word heap) (some : 0 < heap.size) where
+module _ {A : Type 0} {regions : A → List Grant} {word : A → ℕ → ℕ} {heap : Dlmalloc A} (sound : IsSound regions word heap) (some : 0 < heap.size) where
   abbrev pub top_run : IsRunOf (word heap.system) (segments_of word heap) heap.top (heap.top + heap.top_size) (extent heap.top heap.top_size Top ∷ [])
-  top_run = run_of (regions heap.system) (word heap.system) (segments_of word heap) sound.segments (extent heap.top heap.top_size Top) (top_among regions word heap sound some)
+  top_run = run_of (regions heap.system) (word heap.system) (segments_of word heap) sound.segments (top_among sound some)
 
   pub top_part : IsSegment (regions heap.system) (word heap.system) top_run.segment
-  top_part = run_part (regions heap.system) (word heap.system) (segments_of word heap) sound.segments heap.top (heap.top + heap.top_size) (extent heap.top heap.top_size Top ∷ []) top_run
+  top_part = run_part (regions heap.system) sound.segments top_run
 
   pub top_front : top_run.front ≡ []
-  top_front = (is_top regions word heap sound top_run.front top_run.segment top_run.back top_run.is heap.top heap.top_size
+  top_front = (is_top sound top_run.front top_run.segment top_run.back top_run.is {at = heap.top} {size = heap.top_size}
       (ap (extent_at heap.top) top_run.extents ∙ (found_later heap.top top_run.first (extent heap.top heap.top_size Top ∷ top_run.last) (none_outside (word heap.system) Used top_run.segment.base top_run.first heap.top heap.top (inr (omega arith)) top_run.first_stand)
       ∙ (let here = nat_same heap.top in rw here refl)))).0
 

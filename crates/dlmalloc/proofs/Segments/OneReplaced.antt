@@ -40,22 +40,22 @@ all_spared heap k (extent ∷ extents) distinct there apart = (
     go other found true same = absurd (let none = subst (λ (a : ℕ). extent_at a extents ≡ None) (nat_is same) distinct.0 in let some = found in cc)
     go other found false isnt = found
 
-module _ (regions regions' : List Grant) (old new : ℕ → ℕ) (segment segment' : Segment) (changed : IsChanged regions regions' old new segment segment') where
+module _ {regions regions' : List Grant} {old new : ℕ → ℕ} {segment segment' : Segment} (changed : IsChanged regions regions' old new segment segment') where
   -- a word of another segment stays
-  beside : (other : Segment) → IsSegment regions old other → IsApartFrom other segment → (k : ℕ) → other.base < k → k < other.base + other.size → k % 8 ≡ 0 → new k ≡ old k
-  beside other part apart k low high whole =
+  beside : {other : Segment} → IsSegment regions old other → IsApartFrom other segment → (k : ℕ) → other.base < k → k < other.base + other.size → k % 8 ≡ 0 → new k ≡ old k
+  beside {other} part apart k low high whole =
       changed.kept k (record { granted = part.run.covered k (omega arith) high; aligned = whole }) (elim ((changed.others other part apart).1) [
         | inl before ↦ spared_before new Used segment'.base segment'.extents (segment'.base + segment'.size) k changed.now.extents (omega arith)
         | inr behind ↦ spared_behind new Used segment'.base segment'.extents (segment'.base + segment'.size) k changed.now.extents (omega arith)
       ])
 
-  other_kept : (other : Segment) → IsApartFrom other segment → IsSegment regions old other → IsSegment regions' new other
-  other_kept other apart part = record {
+  other_kept : {other : Segment} → IsApartFrom other segment → IsSegment regions old other → IsSegment regions' new other
+  other_kept {other} apart part = record {
     run = (changed.others other part apart).0;
     low = part.low;
     high = part.high;
     long = part.long;
-    extents = tiles_kept old new Used other.base other.extents (other.base + other.size) part.extents (λ k low high m free. beside other part apart k low (within k high free) m);
+    extents = tiles_kept old new Used other.base other.extents (other.base + other.size) part.extents (λ k low high m free. beside part apart k low (within k high free) m);
     tail = part.tail;
   }
     where
@@ -64,12 +64,12 @@ module _ (regions regions' : List Grant) (old new : ℕ → ℕ) (segment segmen
 
   behind_kept : (back : List Segment) → AllByRecursion (IsApartFrom segment) back → AreSegments regions old back → AreSegments regions' new back
   behind_kept [] apart parts = tt
-  behind_kept (other ∷ back) apart parts = (other_kept other (apart_back segment other apart.0) parts.0, behind_kept back apart.1 parts.1)
+  behind_kept (other ∷ back) apart parts = (other_kept (apart_back segment other apart.0) parts.0, behind_kept back apart.1 parts.1)
 
   -- all are segments again, and apart
   pub segments_after : (front back : List Segment) → AreApart (front ++ segment ∷ back) → AreSegments regions old (front ++ segment ∷ back) → AreSegments regions' new (front ++ segment' ∷ back)
   segments_after [] back apart parts = (changed.now, behind_kept back apart.0 parts.1)
-  segments_after (other ∷ front) back apart parts = (other_kept other (all_at (IsApartFrom other) front segment back apart.0) parts.0, segments_after front back apart.1 parts.1)
+  segments_after (other ∷ front) back apart parts = (other_kept (all_at (IsApartFrom other) front segment back apart.0) parts.0, segments_after front back apart.1 parts.1)
 
   behind_apart : (back : List Segment) → AllByRecursion (IsApartFrom segment) back → AreSegments regions old back → AllByRecursion (IsApartFrom segment') back
   behind_apart [] apart parts = tt
@@ -85,10 +85,10 @@ module _ (regions regions' : List Grant) (old new : ℕ → ℕ) (segment segmen
 
   -- ---- the payload of a record stays
 
-  record_told : (other : Segment) → IsSegment regions' new other → ((k : ℕ) → other.base < k → k < other.base + other.size → k % 8 ≡ 0 → AllSpare other.extents k → new k ≡ old k) → (others : List Segment) (payload : ℕ) → 16 < payload →
+  record_told : {other : Segment} → IsSegment regions' new other → ((k : ℕ) → other.base < k → k < other.base + other.size → k % 8 ≡ 0 → AllSpare other.extents k → new k ≡ old k) → (others : List Segment) (payload : ℕ) → 16 < payload →
       old payload ≡ other.base → old (payload + 8) ≡ other.size → old (payload + 24) ≡ other.flags →
       extent_at (payload - 16) other.extents ≡ Some (record_of (payload - 16) (other.base + other.size)) → AreRecords new (old (payload + 16)) others → AreRecords new payload (other ∷ others)
-  record_told other part same others payload some base size flags there rest = (
+  record_told {other} part same others payload some base size flags there rest = (
     some,
     at payload (omega arith) (omega arith) whole ∙ base,
     at (payload + 8) (omega arith) (omega arith) (omega (arith, whole)) ∙ size,
@@ -98,7 +98,7 @@ module _ (regions regions' : List Grant) (old new : ℕ → ℕ) (segment segmen
   )
     where
       r : IsIn new other.base (other.base + other.size) (record_of (payload - 16) (other.base + other.size))
-      r = in_part new Used other.base other.extents (other.base + other.size) (record_of (payload - 16) (other.base + other.size)) part.extents there
+      r = in_part new Used other.base other.extents (other.base + other.size) part.extents there
 
       whole : payload % 8 ≡ 0
       whole = omega (arith, r.stands.whole, some)
@@ -108,22 +108,22 @@ module _ (regions regions' : List Grant) (old new : ℕ → ℕ) (segment segmen
 
       at : (k : ℕ) → payload ≤ k → k < payload + 32 → k % 8 ≡ 0 → new k ≡ old k
       at k low high m = same k (omega (arith, r.low, low, some)) (omega (arith, r.high, long, high, some)) m
-          (inner_spared new Used other.base other.extents (other.base + other.size) (record_of (payload - 16) (other.base + other.size)) part.extents there refl k (omega (arith, low, some)) (omega (arith, long, high, some)))
+          (inner_spared new Used other.base other.extents (other.base + other.size) part.extents there refl k (omega (arith, low, some)) (omega (arith, long, high, some)))
 
   pub records_behind : (back : List Segment) → AllByRecursion (IsApartFrom segment) back → AreSegments regions old back → (payload : ℕ) → AreRecords old payload back → AreRecords new payload back
   records_behind [] apart parts payload h = h
   records_behind (other ∷ back) apart parts payload h =
       let beyond = apart_back segment other apart.0 in
-      record_told other (other_kept other beyond parts.0) (λ k low high m spared. beside other parts.0 beyond k low high m) back payload h.0 h.1 h.2 h.3 h.4 (records_behind back apart.1 parts.1 (old (payload + 16)) h.5)
+      record_told (other_kept beyond parts.0) (λ k low high m spared. beside parts.0 beyond k low high m) back payload h.0 h.1 h.2 h.3 h.4 (records_behind back apart.1 parts.1 (old (payload + 16)) h.5)
 
   -- and so the records tell them
   pub records_after : (front back : List Segment) → AreApart (front ++ segment ∷ back) → AreSegments regions old (front ++ segment ∷ back) → (payload : ℕ) → AreRecords old payload (front ++ segment ∷ back) → AreRecords new payload (front ++ segment' ∷ back)
   records_after [] back apart parts payload h =
       let is = changed.records (payload - 16) h.4 in
-      record_told segment' changed.now (λ k low high m spared. changed.kept k (record { granted = parts.0.run.covered k (omega (arith, is.0)) (omega (arith, is.0, is.1)); aligned = m }) spared) back payload h.0
+      record_told changed.now (λ k low high m spared. changed.kept k (record { granted = parts.0.run.covered k (omega (arith, is.0)) (omega (arith, is.0, is.1)); aligned = m }) spared) back payload h.0
       (h.1 ∙ sym is.0) (h.2 ∙ sym is.1) (h.3 ∙ sym is.2) (is.3 ∙ (λ i. Some (record_of (payload - 16) (sym is.0 i + sym is.1 i))))
       (records_behind back apart.0 parts.1 (old (payload + 16)) h.5)
   records_after (other ∷ front) back apart parts payload h =
       let beyond = all_at (IsApartFrom other) front segment back apart.0 in
-      record_told other (other_kept other beyond parts.0) (λ k low high m spared. beside other parts.0 beyond k low high m) (front ++ segment' ∷ back) payload h.0 h.1 h.2 h.3 h.4
+      record_told (other_kept beyond parts.0) (λ k low high m spared. beside parts.0 beyond k low high m) (front ++ segment' ∷ back) payload h.0 h.1 h.2 h.3 h.4
       (records_after front back apart.1 parts.1 (old (payload + 16)) h.5)

@@ -19,7 +19,7 @@ all_both : (Is And : Grant → Type 0) (regions : List Grant) → AllByRecursion
 all_both Is And [] one two = tt
 all_both Is And (region ∷ regions) one two = ((one.0, two.0), all_both Is And regions one.1 two.1)
 
-module _ (regions : List Grant) (base size flags : ℕ) (run : IsRun regions base size flags) where
+module _ {regions : List Grant} {base size flags : ℕ} (run : IsRun regions base size flags) where
   in_run : AllByRecursion (λ region. IsApart base (base + size) region ⊎ IsIn base (base + size) region) regions
   in_run = go regions run.whole
     where
@@ -50,8 +50,8 @@ module _ (regions : List Grant) (base size flags : ℕ) (run : IsRun regions bas
         each region some (inr within) stays = let more = some.some in inr (grind (arith, nat_tests), grind (arith, nat_tests), grind (arith, nat_tests))
 
     -- and others beside it are as they were
-    pub run_beside : (other many others : ℕ) → IsRun regions other many others → (base + size ≤ other) ⊎ (other + many ≤ base) → IsRun (without low (base + size) regions) other many others
-    run_beside other many others beside apart = record {
+    pub run_beside : {other many others : ℕ} → IsRun regions other many others → (base + size ≤ other) ⊎ (other + many ≤ base) → IsRun (without low (base + size) regions) other many others
+    run_beside {other} {many} {others} beside apart = record {
       covered = λ k above below. (let is = granted_without base low (base + size) regions k in_run (omega arith) (omega arith) in
           let was = beside.covered k above below in elim apart [ inl behind ↦ grind (arith, nat_tests) | inr before ↦ grind (arith, nat_tests) ]);
       whole = all_without low (base + size) (λ region. IsApart other (other + many) region ⊎ IsWithin other (other + many) others region) (λ region. IsApart other (other + many) region ⊎ IsWithin other (other + many) others region) each regions beside.whole;
@@ -68,7 +68,7 @@ module _ (regions : List Grant) (base size flags : ℕ) (run : IsRun regions bas
     segments_beside words segment [] from bytes parts apart = tt
     segments_beside words segment (other ∷ others) from bytes parts apart = (
       record {
-        run = run_beside other.base other.size other.flags parts.0.run (elim apart.0 [ inl before ↦ inl (omega (arith, from, bytes, before)) | inr behind ↦ inr (omega (arith, from, behind)) ]);
+        run = run_beside parts.0.run (elim apart.0 [ inl before ↦ inl (omega (arith, from, bytes, before)) | inr behind ↦ inr (omega (arith, from, behind)) ]);
         low = parts.0.low;
         high = parts.0.high;
         long = parts.0.long;

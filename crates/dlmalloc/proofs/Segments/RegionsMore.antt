@@ -3,34 +3,34 @@ use Rattle.dlmalloc.proofs.Names.{◌≡◌, ℕ, ◌+◌, ◌%◌, ◌<◌, ◌
 use Rattle.heap_memory.specs.RegionLaws.{granted_kept, granted_new, granted_split, all_with}
 
 -- a word that was granted still is
-pub word_kept : (grant : Grant) (old new : List Grant) → new ≡ with_grant grant old → (k : ℕ) → IsWordOf old k → IsWordOf new k
-word_kept grant old new with_it k inside = record {
+pub word_kept : (grant : Grant) {old new : List Grant} → new ≡ with_grant grant old → {k : ℕ} → IsWordOf old k → IsWordOf new k
+word_kept grant {old} with_it {k} inside = record {
   granted = subst (λ (rs : List Grant). IsTrue (is_granted rs k)) (sym with_it) (granted_kept grant old k inside.granted);
   aligned = inside.aligned;
 }
 
 -- a word of the grant is granted
-pub word_new : (grant : Grant) (old new : List Grant) → new ≡ with_grant grant old → (k : ℕ) → grant.base ≤ k → k < grant.base + grant.size → k % 8 ≡ 0 → IsWordOf new k
-word_new grant old new with_it k low high multiple = record {
+pub word_new : (grant : Grant) (old : List Grant) {new : List Grant} → new ≡ with_grant grant old → (k : ℕ) → grant.base ≤ k → k < grant.base + grant.size → k % 8 ≡ 0 → IsWordOf new k
+word_new grant old with_it k low high multiple = record {
   granted = subst (λ (rs : List Grant). IsTrue (is_granted rs k)) (sym with_it) (granted_new grant old k low high);
   aligned = multiple;
 }
 
 -- and each that was not granted before is a word of the grant
-pub word_fresh : (grant : Grant) (old new : List Grant) → new ≡ with_grant grant old → (k : ℕ) → IsWordOf new k → (IsWordOf old k → ⊥) → (grant.base ≤ k) × (k < grant.base + grant.size)
-word_fresh grant old new with_it k inside fresh =
+pub word_fresh : (grant : Grant) (old : List Grant) {new : List Grant} → new ≡ with_grant grant old → (k : ℕ) → IsWordOf new k → (IsWordOf old k → ⊥) → (grant.base ≤ k) × (k < grant.base + grant.size)
+word_fresh grant old with_it k inside fresh =
     elim (granted_split grant old k (subst (λ (rs : List Grant). IsTrue (is_granted rs k)) with_it inside.granted)) [
       | inl within ↦ within
       | inr was ↦ absurd (fresh (record { granted = was; aligned = inside.aligned }))
     ]
 
 -- where nothing is granted, no word is
-pub none_fresh : (old new : List Grant) → new ≡ old → (k : ℕ) → IsWordOf new k → (IsWordOf old k → ⊥) → ⊥
-none_fresh old new same k inside fresh = fresh (subst (λ (rs : List Grant). IsWordOf rs k) same inside)
+pub none_fresh : {old new : List Grant} → new ≡ old → (k : ℕ) → IsWordOf new k → (IsWordOf old k → ⊥) → ⊥
+none_fresh same k inside fresh = fresh (subst (λ (rs : List Grant). IsWordOf rs k) same inside)
 
 -- regions with a further one are others
-pub with_other : (grant : Grant) (regions : List Grant) → with_grant grant regions ≡ regions → ⊥
-with_other grant regions same = (let more = longer regions in let as_many = ap length same in omega arith)
+pub with_other : (grant : Grant) {regions : List Grant} → with_grant grant regions ≡ regions → ⊥
+with_other grant {regions} same = (let more = longer regions in let as_many = ap length same in omega arith)
   where
     longer : (regions : List Grant) → length (with_grant grant regions) ≡ length regions + 1
     longer [] = refl
@@ -62,9 +62,9 @@ none_granted low high (region ∷ regions) apart k above below granted =
     none_granted low high regions apart.1 k above below (elim apart.0 [ inl before ↦ grind (arith, nat_tests) | inr behind ↦ grind (arith, nat_tests) ])
 
 -- so a run of regions is apart from a grant that is apart from all of them
-pub run_apart : (regions : List Grant) (base size flags : ℕ) → IsRun regions base size flags → 0 < size → (grant : Grant) → 0 < grant.size → AllByRecursion (IsApart grant.base (grant.base + grant.size)) regions →
+pub run_apart : {regions : List Grant} {base size flags : ℕ} → IsRun regions base size flags → 0 < size → (grant : Grant) → 0 < grant.size → AllByRecursion (IsApart grant.base (grant.base + grant.size)) regions →
     (grant.base + grant.size ≤ base) ⊎ (base + size ≤ grant.base)
-run_apart regions base size flags run some grant more apart =
+run_apart {regions} {base} {size} run some grant more apart =
     elim (dec_lt base (grant.base + grant.size)) [
       | yes before ↦ elim (dec_lt grant.base (base + size)) [
         | yes meets ↦ absurd (elim (dec_lt base grant.base) [
@@ -77,8 +77,8 @@ run_apart regions base size flags run some grant more apart =
     ]
 
 -- two runs of the same flags, one at the end of the other, are one
-pub runs_joined : (regions : List Grant) (base one next two flags : ℕ) → next ≡ base + one → IsRun regions base one flags → IsRun regions next two flags → AllByRecursion IsWhole regions → IsRun regions base (one + two) flags
-runs_joined regions base one next two flags place first second whole = record {
+pub runs_joined : {regions : List Grant} {base one next two flags : ℕ} → next ≡ base + one → IsRun regions base one flags → IsRun regions next two flags → AllByRecursion IsWhole regions → IsRun regions base (one + two) flags
+runs_joined {regions} {base} {one} {next} {two} {flags} place first second whole = record {
   covered = λ k low high. elim (dec_lt k next) [
     | yes below ↦ first.covered k low (omega arith)
     | no above ↦ second.covered k (omega arith) (omega arith)

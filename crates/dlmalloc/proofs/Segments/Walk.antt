@@ -48,10 +48,10 @@ rest_segments regions words [] back parts = parts
 rest_segments regions words (first ∷ front) back parts = rest_segments regions words front back parts.1
 
 -- the head is passed
-pub head_passed : {A : Type 0} (regions : A → List Grant) (word : A → ℕ → ℕ) (heap : Dlmalloc A) → IsSound regions word heap → 0 < heap.size → (known : List Segment → Type 0) →
+pub head_passed : {A : Type 0} {regions : A → List Grant} {word : A → ℕ → ℕ} (heap : Dlmalloc A) → IsSound regions word heap → 0 < heap.size → (known : List Segment → Type 0) →
     ((segment : Segment) → segment.base ≡ heap.base → HasTail (regions heap.system) (word heap.system) segment heap.top (extent heap.top heap.top_size Top ∷ extent (heap.top + heap.top_size) 80 Foot ∷ []) → known (segment ∷ [])) →
     PassedSegments word heap heap.next known
-head_passed regions word heap sound some known holds = go (segments_of word heap) refl sound.segments sound.told
+head_passed {regions} {word} heap sound some known holds = go (segments_of word heap) refl sound.segments sound.told
   where
     go : (segments : List Segment) → segments_of word heap ≡ segments → AreSegments (regions heap.system) (word heap.system) segments → AreTold (word heap.system) heap segments → PassedSegments word heap heap.next known
     go [] is parts h = absurd (omega (arith, some, h))
@@ -61,19 +61,19 @@ head_passed regions word heap sound some known holds = go (segments_of word heap
       is = is;
       some = omega arith;
       told = h.5;
-      so_far = holds segment (sym h.1) (top_tail (regions heap.system) (word heap.system) segment parts.0 heap.top heap.top_size h.4);
+      so_far = holds segment (sym h.1) (top_tail parts.0 h.4);
     }
 
-module _ {A : Type 0} (regions : A → List Grant) (word : A → ℕ → ℕ) (heap : Dlmalloc A) (sound : IsSound regions word heap) where
+module _ {A : Type 0} {regions : A → List Grant} {word : A → ℕ → ℕ} {heap : Dlmalloc A} (sound : IsSound regions word heap) where
   -- the run of chunks of the head segment
   pub head_run : 0 < heap.size → IsChunkRun (regions heap.system) (word heap.system) heap.base heap.top
   head_run some = go (segments_of word heap) sound.segments sound.told
     where
       go : (segments : List Segment) → AreSegments (regions heap.system) (word heap.system) segments → AreTold (word heap.system) heap segments → IsChunkRun (regions heap.system) (word heap.system) heap.base heap.top
       go [] parts h = absurd (omega (arith, some, h))
-      go (segment ∷ segments) parts h = subst (λ (base : ℕ). IsChunkRun (regions heap.system) (word heap.system) base heap.top) (sym h.1) (top_tail (regions heap.system) (word heap.system) segment parts.0 heap.top heap.top_size h.4).run
+      go (segment ∷ segments) parts h = subst (λ (base : ℕ). IsChunkRun (regions heap.system) (word heap.system) base heap.top) (sym h.1) (top_tail parts.0 h.4).run
 
-  module _ (payload : ℕ) (known : List Segment → Type 0) (p : PassedSegments word heap payload known) where
+  module _ {payload : ℕ} {known : List Segment → Type 0} (p : PassedSegments word heap payload known) where
     parts_left : AreSegments (regions heap.system) (word heap.system) p.rest
     parts_left = rest_segments (regions heap.system) (word heap.system) p.passed p.rest (subst (AreSegments (regions heap.system) (word heap.system)) p.is sound.segments)
 
@@ -99,7 +99,7 @@ module _ {A : Type 0} (regions : A → List Grant) (word : A → ℕ → ℕ) (h
       segment_end = ahead_segment.segment.base + ahead_segment.segment.size
 
       pub tail_there : HasTail (regions heap.system) (word heap.system) ahead_segment.segment (payload - 16) (record_of (payload - 16) segment_end ∷ [])
-      tail_there = record_tail (regions heap.system) (word heap.system) ahead_segment.segment ahead_segment.part (payload - 16) ahead_segment.there
+      tail_there = record_tail ahead_segment.part (payload - 16) ahead_segment.there
 
       abbrev segment : Segment
       segment = ahead_segment.segment
@@ -108,7 +108,7 @@ module _ {A : Type 0} (regions : A → List Grant) (word : A → ℕ → ℕ) (h
       words = word heap.system
 
       at_in : IsIn words segment.base segment_end (record_of (payload - 16) segment_end)
-      at_in = in_part words Used segment.base segment.extents segment_end (record_of (payload - 16) segment_end) ahead_segment.part.extents ahead_segment.there
+      at_in = in_part words Used segment.base segment.extents segment_end ahead_segment.part.extents ahead_segment.there
 
       long : 80 ≤ segment_end - (payload - 16)
       long = elim (at_in.stands.size) [ inl short ↦ omega arith | inr longer ↦ omega arith ]

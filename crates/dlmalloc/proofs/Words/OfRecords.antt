@@ -5,13 +5,13 @@ use Rattle.dlmalloc.proofs.Extents.Tiling.{tiles_kept, tiles_split, tiles_append
 use Rattle.dlmalloc.proofs.Extents.FromWords.{nothing, none_behind_record}
 use Rattle.dlmalloc.proofs.Segments.Among.{IsIn, in_part}
 
-module _ (regions : List Grant) (old : ℕ → ℕ) (segment : Segment) (part : IsSegment regions old segment) (payload : ℕ) (some : 16 < payload)
+module _ {regions : List Grant} {old : ℕ → ℕ} {segment : Segment} (part : IsSegment regions old segment) (payload : ℕ) (some : 16 < payload)
     (there : extent_at (payload - 16) segment.extents ≡ Some (record_of (payload - 16) (segment.base + segment.size))) where
   abbrev end : ℕ
   end = segment.base + segment.size
 
   record_in : IsIn old segment.base end (record_of (payload - 16) end)
-  record_in = in_part old Used segment.base segment.extents end (record_of (payload - 16) end) part.extents there
+  record_in = in_part old Used segment.base segment.extents end part.extents there
 
   long : 80 ≤ end - (payload - 16)
   long = elim (record_in.stands.size) [ inl short ↦ omega arith | inr longer ↦ omega arith ]

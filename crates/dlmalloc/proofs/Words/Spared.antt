@@ -59,9 +59,9 @@ inner Top at size k used low = absurd (cc)
 inner Record at size k used low = λ is. omega arith
 inner Foot at size k used low = absurd (cc)
 
-pub inner_spared : (words : ℕ → ℕ) (before : Kind) (from : ℕ) (extents : List Extent) (to : ℕ) (block : Extent) → Tiles words before from extents to →
+pub inner_spared : (words : ℕ → ℕ) (before : Kind) (from : ℕ) (extents : List Extent) (to : ℕ) {block : Extent} → Tiles words before from extents to →
     extent_at block.at extents ≡ Some block → is_used block.kind ≡ true → (k : ℕ) → block.at + 16 ≤ k → k < block.at + block.size + 8 → AllSpare extents k
-inner_spared words before from extents to block h there used k low high =
+inner_spared words before from extents to {block} h there used k low high =
     let f = found block.at block extents there in
     let s = tiles_split words before from f.front (block ∷ f.back) to (subst (λ (es : List Extent). Tiles words before from es to) f.is h) in
     let place : block.at ≡ s.middle = s.second.0 in

@@ -12,8 +12,8 @@ abbrev pub IsTelling : ℕ → Extent → Type 0
 IsTelling k one = (one.at < k) × (k ≤ one.at + one.size) × (k % 8 ≡ 0) × ((k ≡ one.at + 8) ⊎ ((one.kind ≡ Record) ⊎ (k ≡ one.at + one.size))) × (k ≡ one.at + one.size → IsTrue (is_free_below_top one.kind))
 
 -- an extent rests on the words that tell it
-stands_told : (words words' : ℕ → ℕ) (before : Kind) (one : Extent) → HasChunk words before one → ((k : ℕ) → IsTelling k one → words' k ≡ words k) → HasChunk words' before one
-stands_told words words' before one h same =
+stands_told : {words : ℕ → ℕ} (words' : ℕ → ℕ) {before : Kind} (one : Extent) → HasChunk words before one → ((k : ℕ) → IsTelling k one → words' k ≡ words k) → HasChunk words' before one
+stands_told words' one h same =
     let s = sized one.kind one.size h.size in
     let whole = h.whole in let size = s.0 in let long = s.1 in
     record {
@@ -30,8 +30,8 @@ tiles_told : (words words' : ℕ → ℕ) (before : Kind) (from : ℕ) (extents 
 tiles_told words words' before from [] to h distinct same = h
 tiles_told words words' before from (first ∷ extents) to h distinct same = (
   h.0,
-  stands_told words words' before first h.1 (same first (found_here first extents)),
-  tiles_told words words' first.kind (from + first.size) extents to h.2 distinct.1 (λ one there. same one (distinct_later (first ∷ []) extents one.at one distinct there)),
+  stands_told words' first h.1 (same first (found_here first extents)),
+  tiles_told words words' first.kind (from + first.size) extents to h.2 distinct.1 (λ one there. same one (distinct_later (first ∷ []) extents one.at distinct there)),
 )
 
 -- a segment has its bytes
@@ -42,7 +42,7 @@ has_its segment k low high =
     rw (from, to) refl
 
 -- Each segment is a run still, and the words that tell the extents stay. The bins do not matter.
-module _ {A : Type 0} (regions : A → List Grant) (word : A → ℕ → ℕ) (heap : Dlmalloc A) (sound : IsSound regions word heap) (system : A) (bins : Bins)
+module _ {A : Type 0} {regions : A → List Grant} {word : A → ℕ → ℕ} {heap : Dlmalloc A} (sound : IsSound regions word heap) (system : A) (bins : Bins)
     (stay : AllByRecursion (λ (segment : Segment). IsRun (regions heap.system) segment.base segment.size segment.flags → IsRun (regions system) segment.base segment.size segment.flags) (segments_of word heap))
     (same : (one : Extent) → extent_at one.at (extents_in (state_of word heap)) ≡ Some one → (k : ℕ) → IsTelling k one → IsWordOf (regions heap.system) k → IsTrue (list_any (has_byte_in k) (segments_of word heap)) → word system k ≡ word heap.system k) where
   abbrev words : ℕ → ℕ
@@ -57,9 +57,9 @@ module _ {A : Type 0} (regions : A → List Grant) (word : A → ℕ → ℕ) (h
   -- a word that an extent rests on stays
   told : (front : List Segment) (segment : Segment) (back : List Segment) → segments_of word heap ≡ front ++ segment ∷ back → (one : Extent) → extent_at one.at segment.extents ≡ Some one → (k : ℕ) → IsTelling k one → now k ≡ words k
   told front segment back is one there k tells =
-      let in_it = in_part words Used segment.base segment.extents (segment.base + segment.size) one part.extents there in
+      let in_it = in_part words Used segment.base segment.extents (segment.base + segment.size) part.extents there in
       let low = in_it.low in let high = in_it.high in let above = tells.0 in
-      same one (among_all (regions heap.system) words (segments_of word heap) sound.segments sound.apart front segment back is one.at one there) k tells
+      same one (among_all (regions heap.system) words sound.segments sound.apart front segment back is one.at there) k tells
       (record { granted = part.run.covered k (omega arith) (inner high); aligned = tells.2 })
       (ap (list_any (has_byte_in k)) is ∙ any_among (has_byte_in k) front segment back (has_its segment k (omega arith) (inner high)))
     where
@@ -115,7 +115,7 @@ module _ {A : Type 0} (regions : A → List Grant) (word : A → ℕ → ℕ) (h
       )
     where
       r : IsIn words segment.base (segment.base + segment.size) (record_of (payload - 16) (segment.base + segment.size))
-      r = in_part words Used segment.base segment.extents (segment.base + segment.size) (record_of (payload - 16) (segment.base + segment.size)) parts.0.extents h.4
+      r = in_part words Used segment.base segment.extents (segment.base + segment.size) parts.0.extents h.4
 
       some : 16 < payload
       some = h.0

@@ -7,9 +7,9 @@ pub returns-then-top_size-lt-LEAST_CHUNK : goal.returns-then-top_size-lt-LEAST_C
 returns-then-top_size-lt-LEAST_CHUNK g c =
     let e = c.change_head.ensures in
     record {
-      joined = as_joined g.A.Links.regions g.A.Links.word g.A.Links.follows c.args.self.now c.args.grant.now c.change_head.new.self e.joined;
-      linked = little_left c.index_stays.ensures g.A.Links.regions g.A.Links.word g.A.Links.follows c.args.self.now c.args.grant.now c.change_head.new.self c.requires.sound c.requires.there e.joined e.free e.same c.requires.linked c.if-top_size-lt-LEAST_CHUNK.true;
-      order = λ b. (little_left c.index_stays.ensures g.A.Links.regions g.A.Links.word g.A.Links.follows c.args.self.now c.args.grant.now c.change_head.new.self c.requires.sound c.requires.there e.joined e.free e.same b c.if-top_size-lt-LEAST_CHUNK.true, order_same b.index);
+      joined = as_joined g.A.Links.regions g.A.Links.word g.A.Links.follows c.args.self.now c.args.grant.now e.joined;
+      linked = little_left c.index_stays.ensures c.requires.sound c.requires.there e.joined e.free e.same c.requires.linked c.if-top_size-lt-LEAST_CHUNK.true;
+      order = λ b. (little_left c.index_stays.ensures c.requires.sound c.requires.there e.joined e.free e.same b c.if-top_size-lt-LEAST_CHUNK.true, order_same b.index);
     }
 
 pub bin-requires-clause-sound : goal.bin-requires-clause-sound
@@ -21,12 +21,12 @@ bin-requires-clause-free g c = c.change_head.ensures.rest c.if-top_size-lt-LEAST
 pub bin-requires-clause-other : goal.bin-requires-clause-other
 bin-requires-clause-other g c =
     let e = c.change_head.ensures in
-    top_no_victim c.index_stays.ensures g.A.Links.regions g.A.Links.word g.A.Links.follows c.args.self.now c.args.grant.now c.change_head.new.self c.requires.sound c.requires.there e.joined e.free e.same c.requires.linked
+    top_no_victim c.index_stays.ensures c.requires.sound c.requires.there e.joined e.free e.same c.requires.linked
 
 pub bin-requires-clause-loose : goal.bin-requires-clause-loose
 bin-requires-clause-loose g c =
     let e = c.change_head.ensures in
-    ([], top_left c.index_stays.ensures g.A.Links.regions g.A.Links.word g.A.Links.follows c.args.self.now c.args.grant.now c.change_head.new.self c.requires.sound c.requires.there e.joined e.free e.same c.requires.linked c.if-top_size-lt-LEAST_CHUNK.false)
+    ([], top_left c.index_stays.ensures c.requires.sound c.requires.there e.joined e.free e.same c.requires.linked c.if-top_size-lt-LEAST_CHUNK.false)
 
 pub returns : goal.returns
 returns g c =
@@ -37,11 +37,11 @@ returns g c =
     let top = c.args.self.now.top in
     let size = c.args.self.now.top_size in
     let order : KeepsOrder g.A.Links.regions g.A.Links.word c.args.self.now c.bin.new.self = λ b.
-    let after = last.binned [] (top_left c.index_stays.ensures g.A.Links.regions g.A.Links.word g.A.Links.follows c.args.self.now c.args.grant.now middle c.requires.sound c.requires.there e.joined e.free e.same b many) (λ none. none) in
-    (after.0, in_order size top b.index b.index after.0.index (lessened_same b.index) (added_as size top b.index after.0.index after.1) (λ is. top_not_free g.A.Links.regions g.A.Links.word c.args.self.now c.requires.sound c.requires.there size (b.holds.free top size is))) in
+    let after = last.binned [] (top_left c.index_stays.ensures c.requires.sound c.requires.there e.joined e.free e.same b many) (λ none. none) in
+    (after.0, in_order size top b.index b.index after.0.index (lessened_same b.index) (added_as size top b.index after.0.index after.1) (λ is. top_not_free c.requires.sound c.requires.there (b.holds.free top size is))) in
     record {
-      joined = joined_binned c.index_stays.ensures g.A.Links.regions g.A.Links.word g.A.Links.follows c.args.self.now c.args.grant.now middle c.requires.sound c.requires.there e.joined e.free e.same c.requires.linked c.bin.new.self last.same last.same.fields g.A.Links.follows_on
-          (none_in_grant g.A.Links.regions g.A.Links.word c.args.self.now middle c.requires.sound c.requires.there c.args.grant.now c.requires.fresh e.free many (e.rest many));
+      joined = joined_binned c.index_stays.ensures c.requires.sound c.requires.there e.joined e.free e.same c.requires.linked last.same last.same.fields g.A.Links.follows_on
+          (none_in_grant middle c.requires.sound c.requires.there c.requires.fresh e.free many (e.rest many));
       linked = (order c.requires.linked).0;
       order = order;
     }

@@ -8,34 +8,34 @@ pub size-size-requires : goal.size-size-requires
 size-size-requires g c = record { head = block_head g.A.Links.regions g.A.Links.word c.args.self.now c.requires.sound c.args.ptr (c.args.n + c.args.align + 24) c.requires.block }
 
 pub aligned_place-place-requires-clause-small : goal.aligned_place-place-requires-clause-small
-aligned_place-place-requires-clause-small g c = chunk_small g.A.Links.regions g.A.Links.word c.args.self.now c.requires.sound c.args.ptr c.args.n c.args.align c.requires.block c.requires.least
+aligned_place-place-requires-clause-small g c = chunk_small c.requires.sound c.args.n c.args.align c.requires.block c.requires.least
 
 pub aligned_place-place-requires-clause-whole : goal.aligned_place-place-requires-clause-whole
-aligned_place-place-requires-clause-whole g c = chunk_whole g.A.Links.regions g.A.Links.word c.args.self.now c.requires.sound c.args.ptr c.args.n c.args.align c.requires.block
+aligned_place-place-requires-clause-whole g c = chunk_whole c.requires.sound c.args.n c.args.align c.requires.block
 
 pub free_before-requires-clause-chunk : goal.free_before-requires-clause-chunk
 free_before-requires-clause-chunk g c = block_chunk g.A.Links.regions g.A.Links.word c.args.self.now c.requires.sound c.args.ptr (c.args.n + c.args.align + 24) c.requires.block c.size-size.result c.size-size.ensures.value
 
 pub free_before-requires-clause-lead : goal.free_before-requires-clause-lead
-free_before-requires-clause-lead g c = (place_here g.A.Links.regions g.A.Links.word c.args.self.now c.requires.sound c.args.ptr c.args.n c.args.align c.requires.block c.requires.align.0 c.requires.align.1 c.requires.least c.size-size.result c.size-size.ensures.value c.aligned_place-place.result c.aligned_place-place.ensures.place).lead
+free_before-requires-clause-lead g c = (place_here c.requires.sound c.args.n c.args.align c.requires.block c.requires.align.0 c.requires.align.1 c.requires.least c.size-size.ensures.value c.aligned_place-place.ensures.place).lead
 
 pub free_before-requires-clause-whole : goal.free_before-requires-clause-whole
-free_before-requires-clause-whole g c = (place_here g.A.Links.regions g.A.Links.word c.args.self.now c.requires.sound c.args.ptr c.args.n c.args.align c.requires.block c.requires.align.0 c.requires.align.1 c.requires.least c.size-size.result c.size-size.ensures.value c.aligned_place-place.result c.aligned_place-place.ensures.place).whole
+free_before-requires-clause-whole g c = (place_here c.requires.sound c.args.n c.args.align c.requires.block c.requires.align.0 c.requires.align.1 c.requires.least c.size-size.ensures.value c.aligned_place-place.ensures.place).whole
 
 pub free_before-requires-clause-room : goal.free_before-requires-clause-room
-free_before-requires-clause-room g c = (place_here g.A.Links.regions g.A.Links.word c.args.self.now c.requires.sound c.args.ptr c.args.n c.args.align c.requires.block c.requires.align.0 c.requires.align.1 c.requires.least c.size-size.result c.size-size.ensures.value c.aligned_place-place.result c.aligned_place-place.ensures.place).room
+free_before-requires-clause-room g c = (place_here c.requires.sound c.args.n c.args.align c.requires.block c.requires.align.0 c.requires.align.1 c.requires.least c.size-size.ensures.value c.aligned_place-place.ensures.place).room
 
 pub overflow_sub-size : goal.overflow_sub-size
-overflow_sub-size g c = (place_here g.A.Links.regions g.A.Links.word c.args.self.now c.requires.sound c.args.ptr c.args.n c.args.align c.requires.block c.requires.align.0 c.requires.align.1 c.requires.least c.size-size.result c.size-size.ensures.value c.aligned_place-place.result c.aligned_place-place.ensures.place).first
+overflow_sub-size g c = (place_here c.requires.sound c.args.n c.args.align c.requires.block c.requires.align.0 c.requires.align.1 c.requires.least c.size-size.ensures.value c.aligned_place-place.ensures.place).first
 
 pub free_behind-requires-clause-room : goal.free_behind-requires-clause-room
-free_behind-requires-clause-room g c = (place_here g.A.Links.regions g.A.Links.word c.args.self.now c.requires.sound c.args.ptr c.args.n c.args.align c.requires.block c.requires.align.0 c.requires.align.1 c.requires.least c.size-size.result c.size-size.ensures.value c.aligned_place-place.result c.aligned_place-place.ensures.place).rest
+free_behind-requires-clause-room g c = (place_here c.requires.sound c.args.n c.args.align c.requires.block c.requires.align.0 c.requires.align.1 c.requires.least c.size-size.ensures.value c.aligned_place-place.ensures.place).rest
 
 pub returns-clause-multiple : goal.returns-clause-multiple
-returns-clause-multiple g c = (place_here g.A.Links.regions g.A.Links.word c.args.self.now c.requires.sound c.args.ptr c.args.n c.args.align c.requires.block c.requires.align.0 c.requires.align.1 c.requires.least c.size-size.result c.size-size.ensures.value c.aligned_place-place.result c.aligned_place-place.ensures.place).multiple
+returns-clause-multiple g c = (place_here c.requires.sound c.args.n c.args.align c.requires.block c.requires.align.0 c.requires.align.1 c.requires.least c.size-size.ensures.value c.aligned_place-place.ensures.place).multiple
 
 pub returns-clause-small : goal.returns-clause-small
-returns-clause-small g c = (place_here g.A.Links.regions g.A.Links.word c.args.self.now c.requires.sound c.args.ptr c.args.n c.args.align c.requires.block c.requires.align.0 c.requires.align.1 c.requires.least c.size-size.result c.size-size.ensures.value c.aligned_place-place.result c.aligned_place-place.ensures.place).small
+returns-clause-small g c = (place_here c.requires.sound c.args.n c.args.align c.requires.block c.requires.align.0 c.requires.align.1 c.requires.least c.size-size.ensures.value c.aligned_place-place.ensures.place).small
 
 pub returns-clause-state : goal.returns-clause-state
 returns-clause-state g c =
@@ -45,12 +45,12 @@ returns-clause-state g c =
 
 pub returns-clause-others : goal.returns-clause-others
 returns-clause-others g c =
-    moved_on (state_of g.A.Links.word c.args.self.now) (state_of g.A.Links.word c.free_before.new.self) (state_of g.A.Links.word c.free_behind.new.self) (c.args.ptr - 16) c.aligned_place-place.result
+    moved_on
     c.free_before.ensures.others c.free_behind.ensures.others
 
 pub returns-clause-kept : goal.returns-clause-kept
 returns-clause-kept g c =
-    kept_on g.A.Links.regions g.A.Links.word g.A.Links.follows c.args.self.now c.free_before.new.self c.free_behind.new.self (c.args.ptr - 16) c.aligned_place-place.result
+    kept_on c.args.self.now
     c.free_before.ensures.others c.free_before.ensures.kept c.free_before.ensures.sound c.free_behind.ensures.others c.free_behind.ensures.moved
 
 pub returns-clause-words : goal.returns-clause-words

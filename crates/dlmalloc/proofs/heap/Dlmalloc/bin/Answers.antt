@@ -5,21 +5,21 @@ use Rattle.dlmalloc.proofs.heap.Dlmalloc.bin.Goals as goal
 pub insert-requires : goal.insert-requires
 insert-requires g c =
     let b = c.requires.loose in
-    record { linked = (b.1.index, b.1.linked, fresh g.A.Links.regions g.A.Links.word c.args.self.now c.requires.sound c.args.at c.args.size c.requires.free b.0 b.1) }
+    record { linked = (b.1.index, b.1.linked, fresh c.requires.sound c.requires.free b.1) }
 
 pub returns-clause-binned : goal.returns-clause-binned
 returns-clause-binned g c = λ loose b apart.
-    let linked = fresh g.A.Links.regions g.A.Links.word c.args.self.now c.requires.sound c.args.at c.args.size c.requires.free loose b in
+    let linked = fresh c.requires.sound c.requires.free b in
     let e = c.insert.ensures in
-    let links = links_insert g.A.Links.regions g.A.Links.word c.args.self.now c.requires.sound c.args.at c.args.size c.requires.free loose b (g.A.Links.word c.insert.new.memory) (e.words b.index b.linked linked) in
-    let same = rebinned g.A.Links.regions g.A.Links.word g.A.Links.follows c.args.self.now c.requires.sound c.insert.new.memory c.insert.new.self e.regions links e.follows in
-    (now_binned g.A.Links.regions g.A.Links.word c.args.self.now c.requires.sound c.args.at c.args.size c.requires.free loose b c.insert.new.memory c.insert.new.self (e.linked b.index b.linked linked) same.state c.requires.other apart, λ n. refl)
+    let links = links_insert c.requires.sound c.requires.free b (g.A.Links.word c.insert.new.memory) (e.words b.index b.linked linked) in
+    let same = rebinned g.A.Links.follows c.requires.sound c.insert.new.memory c.insert.new.self e.regions links e.follows in
+    (now_binned c.requires.sound c.requires.free b c.insert.new.memory (e.linked b.index b.linked linked) same.state c.requires.other apart, λ n. refl)
 
 pub returns-clause-same : goal.returns-clause-same
 returns-clause-same g c =
     let loose = c.requires.loose.0 in
     let b = c.requires.loose.1 in
-    let linked = fresh g.A.Links.regions g.A.Links.word c.args.self.now c.requires.sound c.args.at c.args.size c.requires.free loose b in
+    let linked = fresh c.requires.sound c.requires.free b in
     let e = c.insert.ensures in
-    let links = links_insert g.A.Links.regions g.A.Links.word c.args.self.now c.requires.sound c.args.at c.args.size c.requires.free loose b (g.A.Links.word c.insert.new.memory) (e.words b.index b.linked linked) in
-    rebinned g.A.Links.regions g.A.Links.word g.A.Links.follows c.args.self.now c.requires.sound c.insert.new.memory c.insert.new.self e.regions links e.follows
+    let links = links_insert c.requires.sound c.requires.free b (g.A.Links.word c.insert.new.memory) (e.words b.index b.linked linked) in
+    rebinned g.A.Links.follows c.requires.sound c.insert.new.memory c.insert.new.self e.regions links e.follows

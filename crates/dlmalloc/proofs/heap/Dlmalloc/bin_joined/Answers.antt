@@ -6,20 +6,20 @@ use Rattle.dlmalloc.proofs.heap.Dlmalloc.bin_joined.Goals as goal
 -- it became the top
 pub returns-then-from-self-clause-binned : goal.returns-then-from-self-clause-binned
 returns-then-from-self-clause-binned g c = λ b. (
-  none_binned g.A.Links.regions g.A.Links.word c.args.self.now c.args.from [] b (λ n free. absurd (elim (c.requires.joined) [ inl top ↦ top.1 n free | inr beside ↦ beside.0 c.if-from-self.true ])),
+  none_binned b (λ n free. absurd (elim (c.requires.joined) [ inl top ↦ top.1 n free | inr beside ↦ beside.0 c.if-from-self.true ])),
   added_none (c.args.to - c.args.from) c.args.from b.index,
 )
 
 pub returns-then-from-self-clause-same : goal.returns-then-from-self-clause-same
-returns-then-from-self-clause-same g c = not_rebinned g.A.Links.regions g.A.Links.word g.A.Links.follows c.args.self.now c.requires.sound (g.A.Links.follows_none c.args.self.now.system)
+returns-then-from-self-clause-same g c = not_rebinned g.A.Links.follows c.requires.sound (g.A.Links.follows_none c.args.self.now.system)
 
 -- it is the victim
 pub returns-then-from-self-2-clause-binned : goal.returns-then-from-self-2-clause-binned
 returns-then-from-self-2-clause-binned g c = λ b.
-    (none_binned g.A.Links.regions g.A.Links.word c.args.self.now c.args.from [] b (λ n free. c.if-from-self-2.true), added_none (c.args.to - c.args.from) c.args.from b.index)
+    (none_binned b (λ n free. c.if-from-self-2.true), added_none (c.args.to - c.args.from) c.args.from b.index)
 
 pub returns-then-from-self-2-clause-same : goal.returns-then-from-self-2-clause-same
-returns-then-from-self-2-clause-same g c = not_rebinned g.A.Links.regions g.A.Links.word g.A.Links.follows c.args.self.now c.requires.sound (g.A.Links.follows_none c.args.self.now.system)
+returns-then-from-self-2-clause-same g c = not_rebinned g.A.Links.follows c.requires.sound (g.A.Links.follows_none c.args.self.now.system)
 
 -- it goes into its bin
 pub bin-requires-clause-free : goal.bin-requires-clause-free

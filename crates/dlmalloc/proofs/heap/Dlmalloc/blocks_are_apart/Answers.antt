@@ -2,4 +2,4 @@ use Rattle.dlmalloc.proofs.Blocks.Chunks.{blocks_apart}
 use Rattle.dlmalloc.proofs.heap.Dlmalloc.blocks_are_apart.Goals as goal
 
 pub returns : goal.returns
-returns g c = blocks_apart g.A.Links.regions g.A.Links.word c.args.self.now c.requires
+returns g c = blocks_apart c.requires

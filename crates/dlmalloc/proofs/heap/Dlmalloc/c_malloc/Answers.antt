@@ -10,7 +10,7 @@ cut-requires-clause-small g c =
     let granularity = c.requires.sound.granularity in
     let e = c.request2size.ensures in
     let less : c.args.size < limit c.args.self.now.granularity = (let not = c.if-size-max_request.false in let is = c.max_request.ensures.is in omega arith) in
-    request_small c.args.self.now.granularity c.args.size c.request2size.result granularity.0 granularity.1 less e.whole e.near e.is
+    request_small c.args.self.now.granularity c.args.size granularity.0 granularity.1 less e.whole e.near e.is
 
 pub overflow_add-result : goal.overflow_add-result
 overflow_add-result g c = let small = c.in-Ok.ensures.cut.small in omega arith
@@ -19,10 +19,10 @@ pub returns-in-Ok-clause-served : goal.returns-in-Ok-clause-served
 returns-in-Ok-clause-served g c =
     let e = c.request2size.ensures in
     let less : c.args.size < limit c.args.self.now.granularity = (let not = c.if-size-max_request.false in let is = c.max_request.ensures.is in omega arith) in
-    served g.A.Links.regions g.A.Links.word g.A.Allocator.zeros g.A.Links.follows c.args.self.now c.cut.new.self c.args.size c.request2size.result c.in-Ok.chunk e.is (omega arith) (omega arith) less c.in-Ok.ensures.cut c.cut.ensures.order
+    served c.args.size e.is (omega arith) (omega arith) less c.in-Ok.ensures.cut c.cut.ensures.order
 
 pub returns-in-Ok-clause-member : goal.returns-in-Ok-clause-member
-returns-in-Ok-clause-member g c = member_behind g.A.Links.regions g.A.Links.word c.args.self.now c.request2size.result c.args.size c.in-Ok.chunk c.request2size.ensures.is c.in-Ok.ensures.member
+returns-in-Ok-clause-member g c = member_behind g.A.Links.regions g.A.Links.word c.args.self.now c.args.size c.in-Ok.chunk c.request2size.ensures.is c.in-Ok.ensures.member
 
 pub returns-in-Ok-clause-counted : goal.returns-in-Ok-clause-counted
 returns-in-Ok-clause-counted g c = λ some. c.cut.ensures.counted (λ none. some (subst (λ (n : ℕ). chosen (state_of g.A.Links.word c.args.self.now) n ≡ None) c.request2size.ensures.is none))

@@ -9,12 +9,12 @@ use Rattle.dlmalloc.proofs.heap.Dlmalloc.c_realloc.Goals as goal
 
 pub size-size-requires : goal.size-size-requires
 size-size-requires g c =
-    let block = block_told (state_of g.A.Links.word c.args.self.now) c.args.ptr c.in-Some.address c.in-Some.is c.requires.block in
+    let block = block_told (state_of g.A.Links.word c.args.self.now) c.in-Some.is c.requires.block in
     record { head = block_head g.A.Links.regions g.A.Links.word c.args.self.now c.requires.sound c.in-Some.address block.0 block.1 }
 
 pub overflow_sub-size : goal.overflow_sub-size
 overflow_sub-size g c =
-    let block = block_told (state_of g.A.Links.word c.args.self.now) c.args.ptr c.in-Some.address c.in-Some.is c.requires.block in
+    let block = block_told (state_of g.A.Links.word c.args.self.now) c.in-Some.is c.requires.block in
     let state = state_of g.A.Links.word c.args.self.now in
     let address = c.in-Some.address in
     let told = block_chunk g.A.Links.regions g.A.Links.word c.args.self.now c.requires.sound address block.0 block.1 c.size-size.result c.size-size.ensures.value in
@@ -28,7 +28,7 @@ resize_or_move-requires-clause-align g c = (4, refl)
 
 pub resize_or_move-requires-clause-held : goal.resize_or_move-requires-clause-held
 resize_or_move-requires-clause-held g c =
-    let block = block_told (state_of g.A.Links.word c.args.self.now) c.args.ptr c.in-Some.address c.in-Some.is c.requires.block in
+    let block = block_told (state_of g.A.Links.word c.args.self.now) c.in-Some.is c.requires.block in
     let state = state_of g.A.Links.word c.args.self.now in
     let address = c.in-Some.address in
     let told = block_chunk g.A.Links.regions g.A.Links.word c.args.self.now c.requires.sound address block.0 block.1 c.size-size.result c.size-size.ensures.value in
@@ -39,7 +39,7 @@ resize_or_move-requires-clause-held g c =
 
 pub returns-in-Some-clause-resized : goal.returns-in-Some-clause-resized
 returns-in-Some-clause-resized g c =
-    let block = block_told (state_of g.A.Links.word c.args.self.now) c.args.ptr c.in-Some.address c.in-Some.is c.requires.block in
+    let block = block_told (state_of g.A.Links.word c.args.self.now) c.in-Some.is c.requires.block in
     let state = state_of g.A.Links.word c.args.self.now in
     let address = c.in-Some.address in
     let told = block_chunk g.A.Links.regions g.A.Links.word c.args.self.now c.requires.sound address block.0 block.1 c.size-size.result c.size-size.ensures.value in
@@ -53,7 +53,7 @@ returns-in-Some-clause-resized g c =
 
 pub returns-in-Some-clause-given : goal.returns-in-Some-clause-given
 returns-in-Some-clause-given g c =
-    let block = block_told (state_of g.A.Links.word c.args.self.now) c.args.ptr c.in-Some.address c.in-Some.is c.requires.block in
+    let block = block_told (state_of g.A.Links.word c.args.self.now) c.in-Some.is c.requires.block in
     let old = c.args.self.now in
     let new = c.resize_or_move.new.self in
     let state = state_of g.A.Links.word old in
@@ -66,7 +66,7 @@ returns-in-Some-clause-given g c =
     (IfOk-weaker c.resize_or_move.result
     (λ at. IsResized g.A.Links.regions g.A.Links.word g.A.Allocator.zeros g.A.Links.follows (g.A.Allocator.frees old.system) (g.A.Allocator.parts old.system) (g.A.Allocator.unit old.system) old address (c.size-size.result - 8) 16 c.args.new_size at new)
     (λ at. IsGivenSize g.A.Links.regions g.A.Links.word g.A.Links.follows (g.A.Allocator.frees old.system) (g.A.Allocator.parts old.system) (g.A.Allocator.unit old.system) old address (c.size-size.result - 8) 16 c.args.new_size at new)
-    (λ at resized. given_size g.A.Links.regions g.A.Links.word g.A.Allocator.zeros g.A.Links.follows g.A.Links.follows_on (g.A.Allocator.frees old.system) (g.A.Allocator.parts old.system) (g.A.Allocator.unit old.system) old new address (c.size-size.result - 8) 16 c.args.new_size at block.0 c.requires.sound (4, refl) block.1 resized)
+    (λ at resized. given_size g.A.Allocator.zeros g.A.Links.follows g.A.Links.follows_on (g.A.Allocator.frees old.system) (g.A.Allocator.parts old.system) (g.A.Allocator.unit old.system) new (c.size-size.result - 8) 16 c.args.new_size at c.requires.sound (4, refl) block.1 resized)
     c.resize_or_move.ensures.resized))
 
 pub returns-in-None-clause-member : goal.returns-in-None-clause-member
@@ -87,7 +87,7 @@ returns-in-Some-clause-member g c =
 
 pub returns-in-Some-clause-counted : goal.returns-in-Some-clause-counted
 returns-in-Some-clause-counted g c = λ some.
-    let block = block_told (state_of g.A.Links.word c.args.self.now) c.args.ptr c.in-Some.address c.in-Some.is c.requires.block in
+    let block = block_told (state_of g.A.Links.word c.args.self.now) c.in-Some.is c.requires.block in
     let state = state_of g.A.Links.word c.args.self.now in
     let address = c.in-Some.address in
     let told = block_chunk g.A.Links.regions g.A.Links.word c.args.self.now c.requires.sound address block.0 block.1 c.size-size.result c.size-size.ensures.value in

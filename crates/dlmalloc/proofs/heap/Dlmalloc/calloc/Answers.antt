@@ -9,7 +9,7 @@ fill_counted-requires g c =
     let middle = c.malloc.new.self in
     let served = served_block g.A.Links.regions g.A.Links.word g.A.Allocator.zeros g.A.Links.follows c.args.self.now c.args.size c.args.align c.in-Ok.address c.malloc.new.self c.in-Ok.ensures.served in
     subst (λ (n : ℕ). AreWordsOf (g.A.Links.regions middle.system) c.in-Ok.address n) (sym c.words_in.ensures)
-    (block_words g.A.Links.regions g.A.Links.word middle served.0 c.in-Ok.address c.args.size served.1 c.args.size (omega arith))
+    (block_words served.0 served.1 c.args.size (omega arith))
 
 pub returns-in-Ok-clause-served : goal.returns-in-Ok-clause-served
 returns-in-Ok-clause-served g c =
@@ -23,8 +23,8 @@ returns-in-Ok-clause-served g c =
       served = c.in-Ok.ensures.served;
       handed = c.in-Ok.ensures.handed;
       cleared = cleared;
-      same = same_heap g.A.Links.regions g.A.Links.word middle served.0 c.in-Ok.address c.args.size served.1 g.A.Links.follows c.args.size (omega arith) system filled.regions filled.follows cleared.elsewhere;
-      index = λ b. (same_binned g.A.Links.regions g.A.Links.word middle served.0 c.in-Ok.address c.args.size served.1 c.index_stays.ensures c.args.size (omega arith) system filled.regions cleared.elsewhere b, λ n. refl);
+      same = same_heap served.0 served.1 g.A.Links.follows c.args.size (omega arith) system filled.regions filled.follows cleared.elsewhere;
+      index = λ b. (same_binned served.0 served.1 c.index_stays.ensures c.args.size (omega arith) system filled.regions cleared.elsewhere b, λ n. refl);
     }
 
 pub returns-in-Ok-clause-sound : goal.returns-in-Ok-clause-sound
@@ -34,7 +34,7 @@ returns-in-Ok-clause-sound g c =
     let served = served_block g.A.Links.regions g.A.Links.word g.A.Allocator.zeros g.A.Links.follows c.args.self.now c.args.size c.args.align c.in-Ok.address c.malloc.new.self c.in-Ok.ensures.served in
     let filled = c.fill_counted.ensures in
     let cleared = subst (λ (n : ℕ). AreFilled (g.A.Links.regions middle.system) (g.A.Links.word middle.system) c.in-Ok.address n 0 (g.A.Links.word system)) c.words_in.ensures filled.filled in
-    (same_heap g.A.Links.regions g.A.Links.word middle served.0 c.in-Ok.address c.args.size served.1 g.A.Links.follows c.args.size (omega arith) system filled.regions filled.follows cleared.elsewhere).sound
+    (same_heap served.0 served.1 g.A.Links.follows c.args.size (omega arith) system filled.regions filled.follows cleared.elsewhere).sound
 
 pub returns-in-Ok-clause-handed : goal.returns-in-Ok-clause-handed
 returns-in-Ok-clause-handed g c =
@@ -43,8 +43,8 @@ returns-in-Ok-clause-handed g c =
     let served = served_block g.A.Links.regions g.A.Links.word g.A.Allocator.zeros g.A.Links.follows c.args.self.now c.args.size c.args.align c.in-Ok.address c.malloc.new.self c.in-Ok.ensures.served in
     let filled = c.fill_counted.ensures in
     let cleared = subst (λ (n : ℕ). AreFilled (g.A.Links.regions middle.system) (g.A.Links.word middle.system) c.in-Ok.address n 0 (g.A.Links.word system)) c.words_in.ensures filled.filled in
-    handed_written g.A.Links.regions g.A.Links.word g.A.Links.follows g.A.Links.follows_on c.args.self.now middle (record middle { system = system }) c.args.size c.args.align c.in-Ok.address c.in-Ok.ensures.handed
-    (same_heap g.A.Links.regions g.A.Links.word middle served.0 c.in-Ok.address c.args.size served.1 g.A.Links.follows c.args.size (omega arith) system filled.regions filled.follows cleared.elsewhere) cleared.elsewhere
+    handed_written g.A.Links.follows_on middle c.in-Ok.ensures.handed
+    (same_heap served.0 served.1 g.A.Links.follows c.args.size (omega arith) system filled.regions filled.follows cleared.elsewhere) cleared.elsewhere
 
 pub returns-in-Ok-clause-linked : goal.returns-in-Ok-clause-linked
 returns-in-Ok-clause-linked g c =
@@ -53,7 +53,7 @@ returns-in-Ok-clause-linked g c =
     let served = served_block g.A.Links.regions g.A.Links.word g.A.Allocator.zeros g.A.Links.follows c.args.self.now c.args.size c.args.align c.in-Ok.address c.malloc.new.self c.in-Ok.ensures.served in
     let filled = c.fill_counted.ensures in
     let cleared = subst (λ (n : ℕ). AreFilled (g.A.Links.regions middle.system) (g.A.Links.word middle.system) c.in-Ok.address n 0 (g.A.Links.word system)) c.words_in.ensures filled.filled in
-    same_binned g.A.Links.regions g.A.Links.word middle served.0 c.in-Ok.address c.args.size served.1 c.index_stays.ensures c.args.size (omega arith) system filled.regions cleared.elsewhere c.malloc.ensures.linked
+    same_binned served.0 served.1 c.index_stays.ensures c.args.size (omega arith) system filled.regions cleared.elsewhere c.malloc.ensures.linked
 
 pub returns-in-Ok-clause-counted : goal.returns-in-Ok-clause-counted
 returns-in-Ok-clause-counted g c = λ some.

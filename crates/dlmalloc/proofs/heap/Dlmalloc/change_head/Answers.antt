@@ -5,64 +5,62 @@ use Rattle.dlmalloc.proofs.heap.Dlmalloc.change_head.Goals as goal
 
 pub leave_top-record-requires : goal.leave_top-record-requires
 leave_top-record-requires g c =
-    let regions = g.A.Links.regions in
-    let word = g.A.Links.word in
     let heap = c.args.self.now in
-    let e = ends regions word heap c.requires.sound c.requires.there in
-    let whole = top_whole regions word heap c.requires.sound c.requires.there in
-    let sizes = top_sizes regions word heap c.requires.sound c.requires.there in
-    let low = top_low regions word heap c.requires.sound c.requires.there in
-    let small = head_small regions word heap c.requires.sound c.requires.there in
+    let e = ends c.requires.sound c.requires.there in
+    let whole = top_whole c.requires.sound c.requires.there in
+    let sizes = top_sizes c.requires.sound c.requires.there in
+    let low = top_low c.requires.sound c.requires.there in
+    let small = head_small c.requires.sound c.requires.there in
     record {
       foot = record {
         aligned = omega (arith, whole, sizes.0);
         small = omega arith;
-        granted = head_word regions word heap c.requires.sound c.requires.there (heap.top + heap.top_size) (omega arith) (omega arith) (omega (arith, whole, sizes.0));
+        granted = head_word c.requires.sound c.requires.there (heap.top + heap.top_size) (omega arith) (omega arith) (omega (arith, whole, sizes.0));
       };
     }
 
 pub put_record-requires-clause-aligned : goal.put_record-requires-clause-aligned
 put_record-requires-clause-aligned g c =
-    let b = bounds_of g.A.Links.regions g.A.Links.word c.args.self.now c.requires.sound c.requires.there c.leave_top-record.result c.leave_top-record.ensures.place in
+    let b = bounds_of c.requires.sound c.requires.there c.leave_top-record.ensures.place in
     omega (arith, b.2)
 
 pub put_record-requires-clause-end_aligned : goal.put_record-requires-clause-end_aligned
 put_record-requires-clause-end_aligned g c =
-    let whole = end_whole g.A.Links.regions g.A.Links.word c.args.self.now c.requires.sound c.requires.there in
-    let same = ends_same c.args.self.now c.leave_top-record.new.self c.leave_top-record.ensures.fields in
+    let whole = end_whole c.requires.sound c.requires.there in
+    let same = ends_same c.args.self.now c.leave_top-record.ensures.fields in
     omega (arith, whole, same)
 
 pub put_record-requires-clause-room : goal.put_record-requires-clause-room
 put_record-requires-clause-room g c =
-    let b = bounds_of g.A.Links.regions g.A.Links.word c.args.self.now c.requires.sound c.requires.there c.leave_top-record.result c.leave_top-record.ensures.place in
-    let same = ends_same c.args.self.now c.leave_top-record.new.self c.leave_top-record.ensures.fields in
+    let b = bounds_of c.requires.sound c.requires.there c.leave_top-record.ensures.place in
+    let same = ends_same c.args.self.now c.leave_top-record.ensures.fields in
     omega (arith, b.1, same)
 
 pub put_record-requires-clause-high : goal.put_record-requires-clause-high
 put_record-requires-clause-high g c =
-    let small = head_small g.A.Links.regions g.A.Links.word c.args.self.now c.requires.sound c.requires.there in
-    let same = ends_same c.args.self.now c.leave_top-record.new.self c.leave_top-record.ensures.fields in
+    let small = head_small c.requires.sound c.requires.there in
+    let same = ends_same c.args.self.now c.leave_top-record.ensures.fields in
     omega (arith, small, same)
 
 pub put_record-requires-clause-granted : goal.put_record-requires-clause-granted
 put_record-requires-clause-granted g c = λ k low high m.
     let heap = c.args.self.now in
-    let b = bounds_of g.A.Links.regions g.A.Links.word heap c.requires.sound c.requires.there c.leave_top-record.result c.leave_top-record.ensures.place in
-    let top = top_low g.A.Links.regions g.A.Links.word heap c.requires.sound c.requires.there in
-    let same = ends_same heap c.leave_top-record.new.self c.leave_top-record.ensures.fields in
+    let b = bounds_of c.requires.sound c.requires.there c.leave_top-record.ensures.place in
+    let top = top_low c.requires.sound c.requires.there in
+    let same = ends_same heap c.leave_top-record.ensures.fields in
     subst (λ rs. IsWordOf rs k) (sym c.leave_top-record.ensures.regions)
-    (head_word g.A.Links.regions g.A.Links.word heap c.requires.sound c.requires.there k (omega (arith, b.0, top, low)) (omega (arith, high, same)) m)
+    (head_word c.requires.sound c.requires.there k (omega (arith, b.0, top, low)) (omega (arith, high, same)) m)
 
 pub overflow_add-end : goal.overflow_add-end
 overflow_add-end g c =
-    let small = head_small g.A.Links.regions g.A.Links.word c.args.self.now c.requires.sound c.requires.there in
-    let same = ends_same c.args.self.now c.leave_top-record.new.self c.leave_top-record.ensures.fields in
+    let small = head_small c.requires.sound c.requires.there in
+    let same = ends_same c.args.self.now c.leave_top-record.ensures.fields in
     grind arith
 
 pub overflow_add-self : goal.overflow_add-self
 overflow_add-self g c =
-    let b = bounds_of g.A.Links.regions g.A.Links.word c.args.self.now c.requires.sound c.requires.there c.leave_top-record.result c.leave_top-record.ensures.place in
-    let small = head_small g.A.Links.regions g.A.Links.word c.args.self.now c.requires.sound c.requires.there in
+    let b = bounds_of c.requires.sound c.requires.there c.leave_top-record.ensures.place in
+    let small = head_small c.requires.sound c.requires.there in
     let room = b.1 in
     grind arith
 
@@ -100,42 +98,42 @@ returns g c =
     let system = c.put_record.new.memory in
     let made = c.make_head.ensures in
     let new = c.make_head.new.self in
-    let b = bounds_of regions word heap c.requires.sound there at left.place in
-    let low = head_low regions word heap c.requires.sound there in
-    let above = top_low regions word heap c.requires.sound there in
-    let sizes = top_sizes regions word heap c.requires.sound there in
-    let e = ends regions word heap c.requires.sound there in
-    let end_same = ends_same heap middle left.fields in
-    let apart = beside_head regions word heap c.requires.sound there grant fresh in
+    let b = bounds_of c.requires.sound there left.place in
+    let low = head_low c.requires.sound there in
+    let above = top_low c.requires.sound there in
+    let sizes = top_sizes c.requires.sound there in
+    let e = ends c.requires.sound there in
+    let end_same = ends_same heap left.fields in
+    let apart = beside_head c.requires.sound there grant fresh in
     let told : IsRecordAt (word system) at (record { base = heap.base; size = heap.size; next = heap.next; flags = heap.flags }) (heap.base + heap.size) (at == heap.top) =
-    told_same (word system) at heap middle left.fields put.told in
+    told_same at heap left.fields put.told in
     let into : (k : ℕ) → IsWordOf (regions heap.system) k → IsWordOf (regions middle.system) k = λ k inside. subst (λ rs. IsWordOf rs k) (sym left.regions) inside in
     let onto : (k : ℕ) → IsWordOf (regions heap.system) k → IsWordOf (regions system) k = λ k inside. subst (λ rs. IsWordOf rs k) (sym (put.regions ∙ left.regions)) inside in
     let of_head : (k : ℕ) → heap.base ≤ k → k < heap.base + heap.size → k % 8 ≡ 0 → word new.system k ≡ word system k = λ k from to m.
-    made.elsewhere k (onto k (head_word regions word heap c.requires.sound there k from to m))
+    made.elsewhere k (onto k (head_word c.requires.sound there k from to m))
     (λ is. elim apart [ inl before ↦ omega (arith, is, before, to) | inr behind ↦ omega (arith, is, behind, from, fresh.long) ])
     (λ is. elim apart [ inl before ↦ omega (arith, is, before, to, fresh.long) | inr behind ↦ omega (arith, is, behind, from, fresh.long) ]) in
-    let joined = joined_new regions word g.A.Links.follows heap c.requires.sound grant fresh there c.requires.beside c.requires.apart new.system (made.regions ∙ (put.regions ∙ left.regions)) at left.place made.head made.foot_head
-    (record_kept (word system) (word new.system) at (record { base = heap.base; size = heap.size; next = heap.next; flags = heap.flags }) (heap.base + heap.size) (at == heap.top) (omega (arith, b.2)) b.1
+    let joined = joined_new g.A.Links.follows c.requires.sound fresh there c.requires.beside c.requires.apart new.system (made.regions ∙ (put.regions ∙ left.regions)) left.place made.head made.foot_head
+    (record_kept (word new.system) (omega (arith, b.2)) b.1
     (λ k from to m. of_head k (omega (arith, from, b.0, above)) to m) told)
-    (λ large. of_head (heap.top + heap.top_size) (omega (arith, above)) (omega (arith, e)) (omega (arith, top_whole regions word heap c.requires.sound there, sizes.0))
-    ∙ (put.elsewhere (heap.top + heap.top_size) (into (heap.top + heap.top_size) (head_word regions word heap c.requires.sound there (heap.top + heap.top_size) (omega (arith, above)) (omega (arith, e)) (omega (arith, top_whole regions word heap c.requires.sound there, sizes.0))))
-    (inl (large_at at heap.top heap.top_size left.place large)) ∙ left.foot large))
+    (λ large. of_head (heap.top + heap.top_size) (omega (arith, above)) (omega (arith, e)) (omega (arith, top_whole c.requires.sound there, sizes.0))
+    ∙ (put.elsewhere (heap.top + heap.top_size) (into (heap.top + heap.top_size) (head_word c.requires.sound there (heap.top + heap.top_size) (omega (arith, above)) (omega (arith, e)) (omega (arith, top_whole c.requires.sound there, sizes.0))))
+    (inl (large_at heap.top heap.top_size left.place large)) ∙ left.foot large))
     (λ k inside out free not_top not_foot. made.elsewhere k (onto k inside) not_top not_foot ∙ (put.elsewhere k (into k inside) (elim out [ inl before ↦ inl before | inr behind ↦ inr (omega (arith, behind, end_same)) ]) ∙ left.elsewhere k inside free))
     (g.A.Links.follows_on heap.system system new.system [] [] [] (g.A.Links.follows_on heap.system middle.system system [] [] [] left.follows put.follows refl) made.follows refl) in
-    let free = new_free regions word g.A.Links.follows heap c.requires.sound grant fresh there c.requires.beside c.requires.apart new.system (made.regions ∙ (put.regions ∙ left.regions)) at left.place made.head made.foot_head
-    (record_kept (word system) (word new.system) at (record { base = heap.base; size = heap.size; next = heap.next; flags = heap.flags }) (heap.base + heap.size) (at == heap.top) (omega (arith, b.2)) b.1
+    let free = new_free g.A.Links.follows c.requires.sound fresh there c.requires.beside c.requires.apart new.system (made.regions ∙ (put.regions ∙ left.regions)) left.place made.head made.foot_head
+    (record_kept (word new.system) (omega (arith, b.2)) b.1
     (λ k from to m. of_head k (omega (arith, from, b.0, above)) to m) told)
-    (λ large. of_head (heap.top + heap.top_size) (omega (arith, above)) (omega (arith, e)) (omega (arith, top_whole regions word heap c.requires.sound there, sizes.0))
-    ∙ (put.elsewhere (heap.top + heap.top_size) (into (heap.top + heap.top_size) (head_word regions word heap c.requires.sound there (heap.top + heap.top_size) (omega (arith, above)) (omega (arith, e)) (omega (arith, top_whole regions word heap c.requires.sound there, sizes.0))))
-    (inl (large_at at heap.top heap.top_size left.place large)) ∙ left.foot large))
+    (λ large. of_head (heap.top + heap.top_size) (omega (arith, above)) (omega (arith, e)) (omega (arith, top_whole c.requires.sound there, sizes.0))
+    ∙ (put.elsewhere (heap.top + heap.top_size) (into (heap.top + heap.top_size) (head_word c.requires.sound there (heap.top + heap.top_size) (omega (arith, above)) (omega (arith, e)) (omega (arith, top_whole c.requires.sound there, sizes.0))))
+    (inl (large_at heap.top heap.top_size left.place large)) ∙ left.foot large))
     (λ k inside out free not_top not_foot. made.elsewhere k (onto k inside) not_top not_foot ∙ (put.elsewhere k (into k inside) (elim out [ inl before ↦ inl before | inr behind ↦ inr (omega (arith, behind, end_same)) ]) ∙ left.elsewhere k inside free)) in
-    let rest = new_rest regions word g.A.Links.follows heap c.requires.sound grant fresh there c.requires.beside c.requires.apart new.system (made.regions ∙ (put.regions ∙ left.regions)) at left.place made.head made.foot_head
-    (record_kept (word system) (word new.system) at (record { base = heap.base; size = heap.size; next = heap.next; flags = heap.flags }) (heap.base + heap.size) (at == heap.top) (omega (arith, b.2)) b.1
+    let rest = new_rest g.A.Links.follows c.requires.sound fresh there c.requires.beside c.requires.apart new.system (made.regions ∙ (put.regions ∙ left.regions)) left.place made.head made.foot_head
+    (record_kept (word new.system) (omega (arith, b.2)) b.1
     (λ k from to m. of_head k (omega (arith, from, b.0, above)) to m) told)
-    (λ large. of_head (heap.top + heap.top_size) (omega (arith, above)) (omega (arith, e)) (omega (arith, top_whole regions word heap c.requires.sound there, sizes.0))
-    ∙ (put.elsewhere (heap.top + heap.top_size) (into (heap.top + heap.top_size) (head_word regions word heap c.requires.sound there (heap.top + heap.top_size) (omega (arith, above)) (omega (arith, e)) (omega (arith, top_whole regions word heap c.requires.sound there, sizes.0))))
-    (inl (large_at at heap.top heap.top_size left.place large)) ∙ left.foot large))
+    (λ large. of_head (heap.top + heap.top_size) (omega (arith, above)) (omega (arith, e)) (omega (arith, top_whole c.requires.sound there, sizes.0))
+    ∙ (put.elsewhere (heap.top + heap.top_size) (into (heap.top + heap.top_size) (head_word c.requires.sound there (heap.top + heap.top_size) (omega (arith, above)) (omega (arith, e)) (omega (arith, top_whole c.requires.sound there, sizes.0))))
+    (inl (large_at heap.top heap.top_size left.place large)) ∙ left.foot large))
     (λ k inside out free not_top not_foot. made.elsewhere k (onto k inside) not_top not_foot ∙ (put.elsewhere k (into k inside) (elim out [ inl before ↦ inl before | inr behind ↦ inr (omega (arith, behind, end_same)) ]) ∙ left.elsewhere k inside free)) in
     let is = made.fields ∙ ap (λ (h : Dlmalloc _). new_head h grant new.system at) left.fields in
     record {

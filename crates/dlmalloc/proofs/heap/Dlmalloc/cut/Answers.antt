@@ -11,12 +11,11 @@ use Rattle.dlmalloc.proofs.heap.Dlmalloc.cut.Goals as goal
 
 pub returns-in-Some-Chunk-clause-cut : goal.returns-in-Some-Chunk-clause-cut
 returns-in-Some-Chunk-clause-cut g c =
-    let heap = c.args.self.now in
     let place = c.in-Some-Chunk.place in
     let is = ap Some c.in-Some-Chunk.field-0-is in
     let chosen = c.in-Some-Chunk.ensures.chunk place is in
-    cut_here g.A.Links.regions g.A.Links.word g.A.Allocator.zeros g.A.Links.follows heap c.requires.sound c.args.n c.take.new.self (extent place.at place.size Free)
-    chosen (c.in-Some-Chunk.ensures.fits place is) (free_below g.A.Links.regions g.A.Links.word heap c.requires.sound (extent place.at place.size Free) chosen.there)
+    cut_here g.A.Allocator.zeros g.A.Links.follows c.requires.sound c.args.n
+    chosen (c.in-Some-Chunk.ensures.fits place is) (free_below c.requires.sound chosen.there)
     c.take.ensures.state c.take.ensures.more c.take.ensures.moved
 
 pub returns-in-Some-Top-clause-cut : goal.returns-in-Some-Top-clause-cut
@@ -26,9 +25,9 @@ returns-in-Some-Top-clause-cut g c =
     let chosen = c.in-Some-Top.ensures.top is in
     let fits = c.in-Some-Top.ensures.top_fits is in
     subst (λ (k : ℕ). IsCutOut g.A.Links.regions g.A.Links.word g.A.Allocator.zeros g.A.Links.follows heap c.args.n k c.take_top.new.self) (sym c.take_top.ensures.chunk)
-    (cut_here g.A.Links.regions g.A.Links.word g.A.Allocator.zeros g.A.Links.follows heap c.requires.sound c.args.n c.take_top.new.self (extent heap.top heap.top_size Top)
-    chosen (omega arith) (free_below g.A.Links.regions g.A.Links.word heap c.requires.sound (extent heap.top heap.top_size Top) chosen.there) c.take_top.ensures.state c.take_top.ensures.more
-    (as_turned g.A.Links.regions g.A.Links.word g.A.Allocator.zeros g.A.Links.follows heap c.requires.sound c.args.n c.take_top.new.self c.take_top.ensures.moved))
+    (cut_here g.A.Allocator.zeros g.A.Links.follows c.requires.sound c.args.n
+    chosen (omega arith) (free_below c.requires.sound chosen.there) c.take_top.ensures.state c.take_top.ensures.more
+    (as_turned g.A.Allocator.zeros g.A.Links.follows c.requires.sound c.args.n c.take_top.ensures.moved))
 
 pub cut_new-requires-clause-none : goal.cut_new-requires-clause-none
 cut_new-requires-clause-none g c = elim c.if-self-gt0.branch [
@@ -41,16 +40,16 @@ returns-in-Some-Chunk-clause-member g c = λ size is.
     let place = c.in-Some-Chunk.place in
     let same = ap Some c.in-Some-Chunk.field-0-is in
     c.in-Some-Chunk.ensures.member place same
-    (bins_no_victim (state_of g.A.Links.word c.args.self.now) c.args.n size (extent place.at place.size Free) (c.in-Some-Chunk.ensures.chunk place same) is)
+    (bins_no_victim size (c.in-Some-Chunk.ensures.chunk place same) is)
 
 pub returns-in-Some-Top-clause-member : goal.returns-in-Some-Top-clause-member
 returns-in-Some-Top-clause-member g c = λ size is.
-    absurd (top_no_bins (state_of g.A.Links.word c.args.self.now) c.args.n size (extent c.args.self.now.top c.args.self.now.top_size Top) (c.in-Some-Top.ensures.top (ap Some c.in-Some-Top.field-0-is)) refl is)
+    absurd (top_no_bins size (c.in-Some-Top.ensures.top (ap Some c.in-Some-Top.field-0-is)) refl is)
 
 pub returns-in-Some-Top-clause-linked : goal.returns-in-Some-Top-clause-linked
 returns-in-Some-Top-clause-linked g c =
     let e = c.take_top.ensures in
-    binned_beside c.index_stays.ensures g.A.Links.regions g.A.Links.word g.A.Links.follows c.args.self.now c.take_top.new.self c.requires.sound e.moved e.bins e.free (ap (λ (s : HeapState). s.victim) e.state) c.requires.linked
+    binned_beside c.index_stays.ensures c.requires.sound e.moved e.bins e.free (ap (λ (s : HeapState). s.victim) e.state) c.requires.linked
 
 pub returns-clause-member : goal.returns-clause-member
 returns-clause-member g c = none_member g.A.Links.regions g.A.Links.word c.args.self.now c.args.n (elim c.if-self-gt0.branch [
@@ -67,7 +66,7 @@ returns-clause-counted g c = λ some. absurd (some (elim c.if-self-gt0.branch [
 pub returns-in-Some-Top-clause-order : goal.returns-in-Some-Top-clause-order
 returns-in-Some-Top-clause-order g c = λ b.
     let e = c.take_top.ensures in
-    (binned_beside c.index_stays.ensures g.A.Links.regions g.A.Links.word g.A.Links.follows c.args.self.now c.take_top.new.self c.requires.sound e.moved e.bins e.free (ap (λ (s : HeapState). s.victim) e.state) b, order_same b.index)
+    (binned_beside c.index_stays.ensures c.requires.sound e.moved e.bins e.free (ap (λ (s : HeapState). s.victim) e.state) b, order_same b.index)
 
 pub take-requires-clause-member : goal.take-requires-clause-member
 take-requires-clause-member g c = c.in-Some-Chunk.ensures.member c.in-Some-Chunk.place (ap Some c.in-Some-Chunk.field-0-is)

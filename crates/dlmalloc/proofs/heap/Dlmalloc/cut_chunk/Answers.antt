@@ -4,66 +4,66 @@ use Rattle.dlmalloc.proofs.heap.Dlmalloc.cut_chunk.Goals.{then-at-self-2-via-the
 use Rattle.dlmalloc.proofs.heap.Dlmalloc.cut_chunk.Goals as goal
 
 pub set_inuse_and_pinuse-requires-clause-size : goal.set_inuse_and_pinuse-requires-clause-size
-set_inuse_and_pinuse-requires-clause-size g c = let w = size_whole g.A.Links.regions g.A.Links.word c.args.self.now c.requires.sound c.args.at c.args.size c.args.n c.requires.chunk in omega arith
+set_inuse_and_pinuse-requires-clause-size g c = let w = size_whole c.requires.sound c.args.n c.requires.chunk in omega arith
 
 pub set_inuse_and_pinuse-requires-clause-head : goal.set_inuse_and_pinuse-requires-clause-head
 set_inuse_and_pinuse-requires-clause-head g c =
-    let m = at_whole g.A.Links.regions g.A.Links.word c.args.self.now c.requires.sound c.args.at c.args.size c.args.n c.requires.chunk in
-    head_there g.A.Links.regions g.A.Links.word c.args.self.now c.requires.sound c.args.at c.args.size c.args.n c.requires.chunk c.args.at (omega arith) (omega arith) (omega arith)
+    let m = at_whole c.requires.sound c.args.n c.requires.chunk in
+    head_there c.requires.sound c.args.n c.requires.chunk c.args.at (omega arith) (omega arith) (omega arith)
 
 pub set_inuse_and_pinuse-requires-clause-next : goal.set_inuse_and_pinuse-requires-clause-next
 set_inuse_and_pinuse-requires-clause-next g c =
-    let m = at_whole g.A.Links.regions g.A.Links.word c.args.self.now c.requires.sound c.args.at c.args.size c.args.n c.requires.chunk in
-    let w = size_whole g.A.Links.regions g.A.Links.word c.args.self.now c.requires.sound c.args.at c.args.size c.args.n c.requires.chunk in
-    head_there g.A.Links.regions g.A.Links.word c.args.self.now c.requires.sound c.args.at c.args.size c.args.n c.requires.chunk (c.args.at + c.args.size) (omega arith) (omega arith) (omega arith)
+    let m = at_whole c.requires.sound c.args.n c.requires.chunk in
+    let w = size_whole c.requires.sound c.args.n c.requires.chunk in
+    head_there c.requires.sound c.args.n c.requires.chunk (c.args.at + c.args.size) (omega arith) (omega arith) (omega arith)
 
 pub set_size_and_pinuse_of_inuse_chunk-requires-clause-head : goal.set_size_and_pinuse_of_inuse_chunk-requires-clause-head
 set_size_and_pinuse_of_inuse_chunk-requires-clause-head g c =
-    let m = at_whole g.A.Links.regions g.A.Links.word c.args.self.now c.requires.sound c.args.at c.args.size c.args.n c.requires.chunk in
-    head_there g.A.Links.regions g.A.Links.word c.args.self.now c.requires.sound c.args.at c.args.size c.args.n c.requires.chunk c.args.at (omega arith) (omega arith) (omega arith)
+    let m = at_whole c.requires.sound c.args.n c.requires.chunk in
+    head_there c.requires.sound c.args.n c.requires.chunk c.args.at (omega arith) (omega arith) (omega arith)
 
 pub overflow_add-at : goal.overflow_add-at
 overflow_add-at g c =
-    let e = end_small g.A.Links.regions g.A.Links.word c.args.self.now c.requires.sound c.args.at c.args.size c.args.n c.requires.chunk in
+    let e = end_small c.requires.sound c.args.n c.requires.chunk in
     let f = c.requires.fits in grind arith
 
 pub overflow_add-self : goal.overflow_add-self
 overflow_add-self g c =
-    let e = end_small g.A.Links.regions g.A.Links.word c.args.self.now c.requires.sound c.args.at c.args.size c.args.n c.requires.chunk in
+    let e = end_small c.requires.sound c.args.n c.requires.chunk in
     let f = c.requires.fits in grind arith
 
 pub set_size_and_pinuse_of_free_chunk-requires-clause-size : goal.set_size_and_pinuse_of_free_chunk-requires-clause-size
 set_size_and_pinuse_of_free_chunk-requires-clause-size g c =
-    let w = size_whole g.A.Links.regions g.A.Links.word c.args.self.now c.requires.sound c.args.at c.args.size c.args.n c.requires.chunk in
+    let w = size_whole c.requires.sound c.args.n c.requires.chunk in
     let n_whole = c.requires.whole in let fits = c.requires.fits in omega arith
 
 pub set_size_and_pinuse_of_free_chunk-requires-clause-head : goal.set_size_and_pinuse_of_free_chunk-requires-clause-head
 set_size_and_pinuse_of_free_chunk-requires-clause-head g c =
-    let m = at_whole g.A.Links.regions g.A.Links.word c.args.self.now c.requires.sound c.args.at c.args.size c.args.n c.requires.chunk in
+    let m = at_whole c.requires.sound c.args.n c.requires.chunk in
     let n_whole = c.requires.whole in let fits = c.requires.fits in
     subst (λ rs. HasHead rs (c.args.at + c.args.n)) (sym c.set_size_and_pinuse_of_inuse_chunk.ensures.regions)
-    (head_there g.A.Links.regions g.A.Links.word c.args.self.now c.requires.sound c.args.at c.args.size c.args.n c.requires.chunk (c.args.at + c.args.n) (omega arith) (omega arith) (omega arith))
+    (head_there c.requires.sound c.args.n c.requires.chunk (c.args.at + c.args.n) (omega arith) (omega arith) (omega arith))
 
 pub set_size_and_pinuse_of_free_chunk-requires-clause-foot : goal.set_size_and_pinuse_of_free_chunk-requires-clause-foot
 set_size_and_pinuse_of_free_chunk-requires-clause-foot g c =
-    let m = at_whole g.A.Links.regions g.A.Links.word c.args.self.now c.requires.sound c.args.at c.args.size c.args.n c.requires.chunk in
-    let w = size_whole g.A.Links.regions g.A.Links.word c.args.self.now c.requires.sound c.args.at c.args.size c.args.n c.requires.chunk in
+    let m = at_whole c.requires.sound c.args.n c.requires.chunk in
+    let w = size_whole c.requires.sound c.args.n c.requires.chunk in
     let fits = c.requires.fits in
     subst (λ rs. HasFoot rs (c.args.at + c.args.n + (c.args.size - c.args.n))) (sym c.set_size_and_pinuse_of_inuse_chunk.ensures.regions)
-    (foot_there g.A.Links.regions g.A.Links.word c.args.self.now c.requires.sound c.args.at c.args.size c.args.n c.requires.chunk (c.args.at + c.args.n + (c.args.size - c.args.n)) (omega arith) (omega arith) (omega arith))
+    (foot_there c.requires.sound c.args.n c.requires.chunk (c.args.at + c.args.n + (c.args.size - c.args.n)) (omega arith) (omega arith) (omega arith))
 
 pub returns-then-at-self : goal.returns-then-at-self
 returns-then-at-self g c =
     let less = c.if-rest-lt-LEAST_CHUNK.true in
     let e = c.set_inuse_and_pinuse.ensures in
-    let t = whole_victim g.A.Links.regions g.A.Links.word c.args.self.now c.requires.sound c.args.at c.args.size c.args.n c.requires.chunk c.set_inuse_and_pinuse.new.memory e.regions (omega arith) e.stored c.if-at-self.true in
+    let t = whole_victim c.requires.sound c.args.n c.requires.chunk c.set_inuse_and_pinuse.new.memory e.regions (omega arith) e.stored c.if-at-self.true in
     record { state = t.take.state; more = t.take.more; free = t.free; rest = t.rest; bins = refl; moved = record { sound = t.take.sound; words = t.take.words; regions_same = e.regions; followed = e.follows }; counted = omega arith }
 
 pub returns-else-at-self : goal.returns-else-at-self
 returns-else-at-self g c =
     let less = c.if-rest-lt-LEAST_CHUNK.true in
     let e = c.set_inuse_and_pinuse.ensures in
-    let t = whole_other g.A.Links.regions g.A.Links.word c.args.self.now c.requires.sound c.args.at c.args.size c.args.n c.requires.chunk c.set_inuse_and_pinuse.new.memory e.regions (omega arith) e.stored c.if-at-self.false in
+    let t = whole_other c.requires.sound c.args.n c.requires.chunk c.set_inuse_and_pinuse.new.memory e.regions (omega arith) e.stored c.if-at-self.false in
     record { state = t.take.state; more = t.take.more; free = t.free; rest = t.rest; bins = refl; moved = record { sound = t.take.sound; words = t.take.words; regions_same = e.regions; followed = e.follows }; counted = omega arith }
 
 pub returns-then-at-self-2 : goal.returns-then-at-self-2
@@ -75,8 +75,8 @@ returns-then-at-self-2 g c =
     let more = c.if-rest-lt-LEAST_CHUNK.false in
     let fits = c.requires.fits in
     let same = second.regions ∙ first.regions in
-    let stored = stores g.A.Links.regions g.A.Links.word c.args.self.now c.requires.sound c.args.at c.args.size c.args.n c.requires.chunk middle system first.regions fits first.stored second.stored in
-    let t = split_victim g.A.Links.regions g.A.Links.word c.args.self.now c.requires.sound c.args.at c.args.size c.args.n c.requires.chunk system same c.requires.whole c.requires.least (omega arith) stored
+    let stored = stores c.requires.sound c.args.n c.requires.chunk middle system first.regions fits first.stored second.stored in
+    let t = split_victim c.requires.sound c.args.n c.requires.chunk system same c.requires.whole c.requires.least (omega arith) stored
     (elim c.then-at-self-2.branch [ then-at-self-2-via-then-at-self-2 w ↦ inl w.if-at-self-2.true | then-at-self-2-via-else-at-self-2+then-n-lt-LEAST_LARGE w ↦ inr w.if-n-lt-LEAST_LARGE.true ]) in
     record { state = t.take.state; more = t.take.more; free = t.free; rest = t.rest; bins = refl; moved = record { sound = t.take.sound; words = t.take.words; regions_same = same; followed = search rules }; counted = omega arith }
 
@@ -89,7 +89,7 @@ returns-else-n-lt-LEAST_LARGE g c =
     let more = c.if-rest-lt-LEAST_CHUNK.false in
     let fits = c.requires.fits in
     let same = second.regions ∙ first.regions in
-    let stored = stores g.A.Links.regions g.A.Links.word c.args.self.now c.requires.sound c.args.at c.args.size c.args.n c.requires.chunk middle system first.regions fits first.stored second.stored in
-    let t = split_other g.A.Links.regions g.A.Links.word c.args.self.now c.requires.sound c.args.at c.args.size c.args.n c.requires.chunk system same c.requires.whole c.requires.least (omega arith) stored
+    let stored = stores c.requires.sound c.args.n c.requires.chunk middle system first.regions fits first.stored second.stored in
+    let t = split_other c.requires.sound c.args.n c.requires.chunk system same c.requires.whole c.requires.least (omega arith) stored
     c.if-at-self-2.false c.if-n-lt-LEAST_LARGE.false in
     record { state = t.take.state; more = t.take.more; free = t.free; rest = t.rest; bins = refl; moved = record { sound = t.take.sound; words = t.take.words; regions_same = same; followed = search rules }; counted = omega arith }

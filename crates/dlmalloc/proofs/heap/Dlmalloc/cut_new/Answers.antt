@@ -13,10 +13,10 @@ returns-in-None-clause-cut g c =
     let grown = c.in_ok-chunk.ensures.top c.in-None.is in
     let events = Granted (round_up (c.args.n + 96) heap.granularity) grown.grant ∷ [] in
     subst (λ (k : ℕ). IsCutOut g.A.Links.regions g.A.Links.word g.A.Allocator.zeros g.A.Links.follows heap c.args.n k new) (sym c.take_top.ensures.chunk)
-    (cut_new g.A.Links.regions g.A.Links.word g.A.Allocator.zeros g.A.Links.follows heap c.requires.sound c.args.n middle new grown
+    (cut_new g.A.Allocator.zeros g.A.Links.follows c.requires.sound c.args.n grown
     c.take_top.ensures.state c.take_top.ensures.more c.take_top.ensures.moved c.take_top.ensures.head c.take_top.ensures.foot c.take_top.ensures.others
     c.requires.none
-    (top_below g.A.Links.regions g.A.Links.word middle grown.sound grown.there)
+    (top_below grown.sound grown.there)
     (g.A.Links.follows_on heap.system middle.system new.system events [] events grown.followed c.take_top.ensures.moved.followed refl))
 
 pub returns-in-Some-clause-cut : goal.returns-in-Some-clause-cut
@@ -24,18 +24,18 @@ returns-in-Some-clause-cut g c = c.in_ok-chunk.ensures.cut c.in-Some.chunk c.in-
 
 pub returns-in_err-chunk-clause-denied : goal.returns-in_err-chunk-clause-denied
 returns-in_err-chunk-clause-denied g c =
-    let full : IsFull (state_of g.A.Links.word c.args.self.now) (c.args.n + 256) = full g.A.Links.regions g.A.Links.word c.args.self.now c.requires.sound c.args.n c.requires.none in
+    let full : IsFull (state_of g.A.Links.word c.args.self.now) (c.args.n + 256) = full c.requires.sound c.args.n c.requires.none in
     search rules
 
 pub returns-in-None-clause-linked : goal.returns-in-None-clause-linked
 returns-in-None-clause-linked g c =
     let grown = c.in_ok-chunk.ensures.top c.in-None.is in
     let e = c.take_top.ensures in
-    binned_beside c.index_stays.ensures g.A.Links.regions g.A.Links.word g.A.Links.follows c.grow.new.self c.take_top.new.self grown.sound e.moved e.bins e.free (ap (λ (s : HeapState). s.victim) e.state) c.grow.ensures.linked
+    binned_beside c.index_stays.ensures grown.sound e.moved e.bins e.free (ap (λ (s : HeapState). s.victim) e.state) c.grow.ensures.linked
 
 pub returns-in-None-clause-order : goal.returns-in-None-clause-order
 returns-in-None-clause-order g c = λ b.
     let grown = c.in_ok-chunk.ensures.top c.in-None.is in
     let e = c.take_top.ensures in
     let after = c.grow.ensures.order b in
-    (binned_beside c.index_stays.ensures g.A.Links.regions g.A.Links.word g.A.Links.follows c.grow.new.self c.take_top.new.self grown.sound e.moved e.bins e.free (ap (λ (s : HeapState). s.victim) e.state) after.0, after.1)
+    (binned_beside c.index_stays.ensures grown.sound e.moved e.bins e.free (ap (λ (s : HeapState). s.victim) e.state) after.0, after.1)

@@ -7,30 +7,30 @@ use Rattle.dlmalloc.proofs.Moves.WithBins.{rebinned_on, turned}
 use Rattle.dlmalloc.proofs.heap.Dlmalloc.dispose_chunk.Goals as goal
 
 pub free_begin-from-requires-clause-head : goal.free_begin-from-requires-clause-head
-free_begin-from-requires-clause-head g c = head_there g.A.Links.regions g.A.Links.word c.args.self.now c.requires.sound c.args.at c.args.size c.requires.chunk
+free_begin-from-requires-clause-head g c = head_there c.requires.sound c.requires.chunk
 
 pub free_begin-from-requires-clause-foot : goal.free_begin-from-requires-clause-foot
-free_begin-from-requires-clause-foot g c = foot_there g.A.Links.regions g.A.Links.word c.args.self.now c.requires.sound c.args.at c.args.size c.requires.chunk
+free_begin-from-requires-clause-foot g c = foot_there c.requires.sound c.requires.chunk
 
 pub free_begin-from-requires-clause-fits : goal.free_begin-from-requires-clause-fits
-free_begin-from-requires-clause-fits g c = foot_fits g.A.Links.regions g.A.Links.word c.args.self.now c.requires.sound c.args.at c.args.size c.requires.chunk _ refl
+free_begin-from-requires-clause-fits g c = foot_fits c.requires.sound c.requires.chunk refl
 
 pub overflow_add-at : goal.overflow_add-at
-overflow_add-at g c = let small = behind_small g.A.Links.regions g.A.Links.word c.args.self.now c.requires.sound c.args.at c.args.size c.requires.chunk in omega arith
+overflow_add-at g c = let small = behind_small c.requires.sound c.requires.chunk in omega arith
 
 pub free_end-to-requires-clause-head : goal.free_end-to-requires-clause-head
-free_end-to-requires-clause-head g c = behind_there g.A.Links.regions g.A.Links.word c.args.self.now c.requires.sound c.args.at c.args.size c.requires.chunk
+free_end-to-requires-clause-head g c = behind_there c.requires.sound c.requires.chunk
 
 pub free_end-to-requires-clause-fits : goal.free_end-to-requires-clause-fits
-free_end-to-requires-clause-fits g c = end_below g.A.Links.regions g.A.Links.word c.args.self.now c.requires.sound c.args.at c.args.size c.requires.chunk
+free_end-to-requires-clause-fits g c = end_below c.requires.sound c.requires.chunk
 
 -- ---- the free chunks beside it leave their bins
 
 pub unbin_between-requires-clause-free : goal.unbin_between-requires-clause-free
-unbin_between-requires-clause-free g c = left_free g.A.Links.regions g.A.Links.word c.args.self.now c.requires.sound c.args.at c.args.size c.requires.chunk c.free_begin-from.result c.free_begin-from.ensures.value
+unbin_between-requires-clause-free g c = left_free c.requires.sound c.requires.chunk c.free_begin-from.ensures.value
 
 pub unbin_between-requires-clause-none : goal.unbin_between-requires-clause-none
-unbin_between-requires-clause-none g c = left_none g.A.Links.regions g.A.Links.word c.args.self.now c.requires.sound c.args.at c.args.size c.requires.chunk c.free_begin-from.result c.free_begin-from.ensures.value
+unbin_between-requires-clause-none g c = left_none c.requires.sound c.requires.chunk c.free_begin-from.ensures.value
 
 pub unbin_between-requires-clause-binned : goal.unbin_between-requires-clause-binned
 unbin_between-requires-clause-binned g c = ([], c.requires.linked, λ none. none)
@@ -40,21 +40,21 @@ unbin_between-requires-2-clause-sound g c = c.unbin_between.ensures.same.sound
 
 pub unbin_between-requires-2-clause-free : goal.unbin_between-requires-2-clause-free
 unbin_between-requires-2-clause-free g c = λ more.
-    let there = some g.A.Links.regions g.A.Links.word g.A.Links.follows c.args.self.now c.requires.sound c.args.at c.args.size c.requires.chunk c.free_begin-from.result c.free_end-to.result c.free_begin-from.ensures.value c.free_end-to.ensures.value in
+    let there = some g.A.Links.follows c.requires.sound c.requires.chunk c.free_begin-from.result c.free_end-to.result c.free_begin-from.ensures.value c.free_end-to.ensures.value in
     subst (λ (s : HeapState). IsFreeAt s (c.args.at + c.args.size) (c.free_end-to.result - (c.args.at + c.args.size))) (sym c.unbin_between.ensures.same.state)
-    (right_free g.A.Links.regions g.A.Links.word c.args.self.now c.requires.sound c.args.at c.args.size c.requires.chunk c.free_begin-from.result c.free_begin-from.ensures.value c.free_end-to.result c.free_end-to.ensures.value there more)
+    (right_free c.requires.sound c.requires.chunk c.free_begin-from.ensures.value c.free_end-to.ensures.value there more)
 
 pub unbin_between-requires-2-clause-none : goal.unbin_between-requires-2-clause-none
 unbin_between-requires-2-clause-none g c = λ less n free.
-    let there = some g.A.Links.regions g.A.Links.word g.A.Links.follows c.args.self.now c.requires.sound c.args.at c.args.size c.requires.chunk c.free_begin-from.result c.free_end-to.result c.free_begin-from.ensures.value c.free_end-to.ensures.value in
-    right_none g.A.Links.regions g.A.Links.word c.args.self.now c.requires.sound c.args.at c.args.size c.requires.chunk c.free_begin-from.result c.free_begin-from.ensures.value c.free_end-to.result c.free_end-to.ensures.value there less n
+    let there = some g.A.Links.follows c.requires.sound c.requires.chunk c.free_begin-from.result c.free_end-to.result c.free_begin-from.ensures.value c.free_end-to.ensures.value in
+    right_none c.requires.sound c.requires.chunk c.free_begin-from.ensures.value c.free_end-to.ensures.value there less n
     (subst (λ (s : HeapState). IsFreeAt s (c.args.at + c.args.size) n) c.unbin_between.ensures.same.state free)
 
 pub unbin_between-requires-2-clause-binned : goal.unbin_between-requires-2-clause-binned
 unbin_between-requires-2-clause-binned g c = (
   c.free_begin-from.result ∷ [],
   (c.unbin_between.ensures.loose [] c.requires.linked (λ none. none)).0,
-  two g.A.Links.regions g.A.Links.word g.A.Links.follows c.args.self.now c.requires.sound c.args.at c.args.size c.requires.chunk c.free_begin-from.result c.free_end-to.result c.free_begin-from.ensures.value c.free_end-to.ensures.value,
+  two g.A.Links.follows c.requires.sound c.requires.chunk c.free_begin-from.result c.free_end-to.result c.free_begin-from.ensures.value c.free_end-to.ensures.value,
 )
 
 -- ---- they are joined to it
@@ -64,18 +64,18 @@ join_free-requires-clause-sound g c = c.unbin_between-2.ensures.same.sound
 
 pub join_free-requires-clause-chunk : goal.join_free-requires-clause-chunk
 join_free-requires-clause-chunk g c =
-    still_there g.A.Links.regions g.A.Links.word g.A.Links.follows c.args.self.now c.requires.sound c.args.at c.args.size c.requires.chunk c.free_begin-from.result c.free_end-to.result c.free_begin-from.ensures.value c.free_end-to.ensures.value c.unbin_between-2.new.self
-    (rebinned_on g.A.Links.regions g.A.Links.word g.A.Links.follows g.A.Links.follows_on c.args.self.now c.unbin_between.new.self c.unbin_between-2.new.self c.unbin_between.ensures.same c.unbin_between-2.ensures.same)
+    still_there g.A.Links.follows c.requires.sound c.requires.chunk c.free_begin-from.result c.free_end-to.result c.free_begin-from.ensures.value c.free_end-to.ensures.value
+    (rebinned_on g.A.Links.regions g.A.Links.word g.A.Links.follows g.A.Links.follows_on c.unbin_between.ensures.same c.unbin_between-2.ensures.same)
 
 pub join_free-requires-clause-from : goal.join_free-requires-clause-from
 join_free-requires-clause-from g c =
-    from_still g.A.Links.regions g.A.Links.word g.A.Links.follows c.args.self.now c.requires.sound c.args.at c.args.size c.requires.chunk c.free_begin-from.result c.free_end-to.result c.free_begin-from.ensures.value c.free_end-to.ensures.value c.unbin_between-2.new.self
-    (rebinned_on g.A.Links.regions g.A.Links.word g.A.Links.follows g.A.Links.follows_on c.args.self.now c.unbin_between.new.self c.unbin_between-2.new.self c.unbin_between.ensures.same c.unbin_between-2.ensures.same)
+    from_still g.A.Links.follows c.requires.sound c.requires.chunk c.free_begin-from.result c.free_end-to.result c.free_begin-from.ensures.value c.free_end-to.ensures.value
+    (rebinned_on g.A.Links.regions g.A.Links.word g.A.Links.follows g.A.Links.follows_on c.unbin_between.ensures.same c.unbin_between-2.ensures.same)
 
 pub join_free-requires-clause-to : goal.join_free-requires-clause-to
 join_free-requires-clause-to g c =
-    to_still g.A.Links.regions g.A.Links.word g.A.Links.follows c.args.self.now c.requires.sound c.args.at c.args.size c.requires.chunk c.free_begin-from.result c.free_end-to.result c.free_begin-from.ensures.value c.free_end-to.ensures.value c.unbin_between-2.new.self
-    (rebinned_on g.A.Links.regions g.A.Links.word g.A.Links.follows g.A.Links.follows_on c.args.self.now c.unbin_between.new.self c.unbin_between-2.new.self c.unbin_between.ensures.same c.unbin_between-2.ensures.same)
+    to_still g.A.Links.follows c.requires.sound c.requires.chunk c.free_begin-from.result c.free_end-to.result c.free_begin-from.ensures.value c.free_end-to.ensures.value
+    (rebinned_on g.A.Links.regions g.A.Links.word g.A.Links.follows g.A.Links.follows_on c.unbin_between.ensures.same c.unbin_between-2.ensures.same)
 
 -- ---- and what they are goes into its bin
 
@@ -90,19 +90,18 @@ bin_joined-requires-clause-loose g c =
     let first = c.unbin_between.ensures in
     let second = c.unbin_between-2.ensures in
     let from = c.free_begin-from.result in
-    joined_loose g.A.Links.regions g.A.Links.word g.A.Links.follows c.args.self.now c.requires.sound c.args.at c.args.size c.requires.chunk from c.free_end-to.result c.free_begin-from.ensures.value c.free_end-to.ensures.value c.unbin_between-2.new.self
-    (rebinned_on g.A.Links.regions g.A.Links.word g.A.Links.follows g.A.Links.follows_on c.args.self.now c.unbin_between.new.self c.unbin_between-2.new.self first.same second.same)
+    joined_loose g.A.Links.follows c.requires.sound c.requires.chunk from c.free_end-to.result c.free_begin-from.ensures.value c.free_end-to.ensures.value
+    (rebinned_on g.A.Links.regions g.A.Links.word g.A.Links.follows g.A.Links.follows_on first.same second.same)
     c.index_stays.ensures
     (second.loose (from ∷ []) (first.loose [] c.requires.linked (λ none. none)).0
-    (two g.A.Links.regions g.A.Links.word g.A.Links.follows c.args.self.now c.requires.sound c.args.at c.args.size c.requires.chunk from c.free_end-to.result c.free_begin-from.ensures.value c.free_end-to.ensures.value)).0
-    c.join_free.new.self c.join_free.ensures.moved c.join_free.ensures.free c.join_free.ensures.victim c.join_free.ensures.bins
+    (two g.A.Links.follows c.requires.sound c.requires.chunk from c.free_end-to.result c.free_begin-from.ensures.value c.free_end-to.ensures.value)).0 c.join_free.ensures.moved c.join_free.ensures.free c.join_free.ensures.victim c.join_free.ensures.bins
 
 pub returns : goal.returns
 returns g c =
     let word = g.A.Links.word in
     let old = c.args.self.now in
     let new = c.bin_joined.new.self in
-    let left = rebinned_on g.A.Links.regions word g.A.Links.follows g.A.Links.follows_on old c.unbin_between.new.self c.unbin_between-2.new.self c.unbin_between.ensures.same c.unbin_between-2.ensures.same in
+    let left = rebinned_on g.A.Links.regions word g.A.Links.follows g.A.Links.follows_on c.unbin_between.ensures.same c.unbin_between-2.ensures.same in
     let e = c.join_free.ensures in
     let last = c.bin_joined.ensures.same in
     let from = c.free_begin-from.result in
@@ -111,19 +110,19 @@ returns g c =
     let end = c.free_end-to.ensures.value in
     let order : KeepsOrder g.A.Links.regions word old new = λ b.
     let one = c.unbin_between.ensures.loose [] b (λ none. none) in
-    let second = c.unbin_between-2.ensures.loose (from ∷ []) one.0 (two g.A.Links.regions word g.A.Links.follows old c.requires.sound c.args.at c.args.size c.requires.chunk from to begin end) in
-    let joined = joined_loose g.A.Links.regions word g.A.Links.follows old c.requires.sound c.args.at c.args.size c.requires.chunk from to begin end c.unbin_between-2.new.self left c.index_stays.ensures second.0 c.join_free.new.self e.moved e.free e.victim e.bins in
+    let second = c.unbin_between-2.ensures.loose (from ∷ []) one.0 (two g.A.Links.follows c.requires.sound c.requires.chunk from to begin end) in
+    let joined = joined_loose g.A.Links.follows c.requires.sound c.requires.chunk from to begin end left c.index_stays.ensures second.0 e.moved e.free e.victim e.bins in
     let after = c.bin_joined.ensures.binned joined in (
       after.0,
       in_order (to - from) from b.index second.0.index after.0.index (lessened_on b.index one.0.index second.0.index one.1 second.1) after.1
-          (λ is. joined_other g.A.Links.regions word g.A.Links.follows old c.requires.sound c.args.at c.args.size c.requires.chunk from to begin end (b.holds.free from (to - from) is)),
+          (λ is. joined_other g.A.Links.follows c.requires.sound c.requires.chunk from to begin end (b.holds.free from (to - from) is)),
     ) in
     record {
       state = last.state ∙ (e.state ∙ ap (λ (s : HeapState). freed s c.args.at) left.state);
       less = subst (λ (s : HeapState). HasOneMore s (state_of word old) c.args.at) (sym last.state) (subst (λ (s : HeapState). HasOneMore (state_of word c.join_free.new.self) s c.args.at) left.state e.less);
       records = λ one is there. ap (λ (s : HeapState). extent_at one.at (extents_in s)) last.state ∙ e.records one is (ap (λ (s : HeapState). extent_at one.at (extents_in s)) left.state ∙ there);
       around = subst (λ (s : HeapState). IsFreeAround s c.args.at c.free_begin-from.result) (sym last.state) e.around;
-      moved = turned g.A.Links.regions word g.A.Links.follows g.A.Links.follows_on old c.unbin_between-2.new.self c.join_free.new.self new left e.moved last;
+      moved = turned g.A.Links.regions word g.A.Links.follows g.A.Links.follows_on left e.moved last;
       linked = (order c.requires.linked).0;
       order = order;
       counted = omega arith;

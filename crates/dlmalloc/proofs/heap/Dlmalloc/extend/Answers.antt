@@ -11,11 +11,11 @@ overflow_add-self g c =
     grind arith
 
 pub close_top-requires-clause-low : goal.close_top-requires-clause-low
-close_top-requires-clause-low g c = top_low g.A.Links.regions g.A.Links.word c.args.self.now c.requires.sound c.requires.there
+close_top-requires-clause-low g c = top_low c.requires.sound c.requires.there
 
 pub close_top-requires-clause-room : goal.close_top-requires-clause-room
 close_top-requires-clause-room g c =
-    let e = ends g.A.Links.regions g.A.Links.word c.args.self.now c.requires.sound c.requires.there in
+    let e = ends c.requires.sound c.requires.there in
     let long = c.requires.fresh.long in
     omega arith
 
@@ -26,7 +26,7 @@ close_top-requires-clause-high g c =
     omega (arith, m.0)
 
 pub close_top-requires-clause-top : goal.close_top-requires-clause-top
-close_top-requires-clause-top g c = top_word g.A.Links.regions g.A.Links.word c.args.self.now c.requires.sound c.requires.there
+close_top-requires-clause-top g c = top_word c.requires.sound c.requires.there
 
 pub close_top-requires-clause-foot : goal.close_top-requires-clause-foot
 close_top-requires-clause-foot g c =
@@ -34,7 +34,7 @@ close_top-requires-clause-foot g c =
     let grant = c.args.grant.now in
     let f = c.requires.fresh in
     let m = behind_means grant (record { base = heap.base; size = heap.size; flags = heap.flags; extents = [] }) c.requires.behind in
-    let whole = end_whole g.A.Links.regions g.A.Links.word heap c.requires.sound c.requires.there in
+    let whole = end_whole c.requires.sound c.requires.there in
     record {
       granted = f.run.covered (heap.base + (heap.size + grant.size) - 72) (omega (arith, m.0, f.long)) (omega (arith, m.0, f.long));
       aligned = omega (arith, whole, f.size_aligned, f.long);
@@ -53,23 +53,23 @@ returns g c =
     let m = behind_means grant (record { base = heap.base; size = heap.size; flags = heap.flags; extents = [] }) c.requires.behind in
     let whole = whole_each (regions heap.system) (g.A.Links.whole heap.system) in
     let long = fresh.long in
-    let e = ends regions word heap c.requires.sound there in
+    let e = ends c.requires.sound there in
     let some : 0 < heap.size + grant.size = omega arith in
     let after : Dlmalloc _ = record heap { system = new.system; size = heap.size + grant.size; top_size = heap.base + (heap.size + grant.size) - 80 - heap.top; trim_check = trim_threshold } in
     let is : new ≡ after = closed.fields in
     record {
       joined = subst (λ (h : Dlmalloc _). IsAdmitted regions word g.A.Links.follows heap grant h) (sym is) (record {
-        state = extended_state regions word heap after c.requires.sound grant fresh closed.regions there m.0 m.1 c.requires.behind whole refl refl refl refl refl refl refl refl refl refl refl refl closed.head closed.foot_head closed.elsewhere;
-        sound = extended_sound regions word heap after c.requires.sound grant fresh closed.regions there m.0 m.1 c.requires.behind whole refl refl refl refl refl refl refl refl refl refl refl refl closed.head closed.foot_head closed.elsewhere;
+        state = extended_state after c.requires.sound fresh closed.regions there m.0 m.1 c.requires.behind whole refl refl refl refl refl refl refl refl refl refl refl refl closed.head closed.foot_head closed.elsewhere;
+        sound = extended_sound after c.requires.sound fresh closed.regions there m.0 m.1 c.requires.behind whole refl refl refl refl refl refl refl refl refl refl refl refl closed.head closed.foot_head closed.elsewhere;
         there = some;
         room = omega arith;
         begins = inr (there, c.requires.behind, refl);
         regions_same = closed.regions;
         followed = closed.follows;
-        used = extended_used regions word heap after c.requires.sound grant fresh closed.regions there m.0 m.1 c.requires.behind whole refl refl refl refl refl refl refl refl refl refl refl refl closed.head closed.foot_head closed.elsewhere;
-        words = extended_words regions word heap after c.requires.sound grant fresh closed.regions there m.0 m.1 c.requires.behind whole refl refl refl refl refl refl refl refl refl refl refl refl closed.head closed.foot_head closed.elsewhere;
+        used = extended_used after c.requires.sound fresh closed.regions there m.0 m.1 c.requires.behind whole refl refl refl refl refl refl refl refl refl refl refl refl closed.head closed.foot_head closed.elsewhere;
+        words = extended_words after c.requires.sound fresh closed.regions there m.0 m.1 c.requires.behind whole refl refl refl refl refl refl refl refl refl refl refl refl closed.head closed.foot_head closed.elsewhere;
         new_words = λ k inside low high a b. closed.elsewhere k inside a (λ at_foot. b (omega arith));
       });
-      free = subst (λ (h : Dlmalloc _). FreeMoves (state_of word heap) (state_of word h) [] []) (sym is) (extended_free regions word heap after c.requires.sound grant fresh closed.regions there m.0 m.1 c.requires.behind whole refl refl refl refl refl refl refl refl refl refl refl refl closed.head closed.foot_head closed.elsewhere);
+      free = subst (λ (h : Dlmalloc _). FreeMoves (state_of word heap) (state_of word h) [] []) (sym is) (extended_free after c.requires.sound fresh closed.regions there m.0 m.1 c.requires.behind whole refl refl refl refl refl refl refl refl refl refl refl refl closed.head closed.foot_head closed.elsewhere);
       same = subst (λ (h : Dlmalloc _). IsSameBins heap h) (sym is) (record { bins = refl; victim = refl });
     }

@@ -10,23 +10,22 @@ pub size-requires : goal.size-requires
 size-requires g c =
     let b = c.requires.linked in
     let fit = c.in-Some.ensures.fit b.index b.linked in
-    record { head = free_has_head g.A.Links.regions g.A.Links.word c.args.self.now c.requires.sound c.in-Some.at fit.size (fit_free g.A.Links.regions g.A.Links.word c.args.self.now c.requires.sound b c.args.n c.in-Some.at fit) }
+    record { head = free_has_head c.requires.sound (fit_free c.requires.sound b c.args.n fit) }
 
 pub returns-in-Some : goal.returns-in-Some
 returns-in-Some g c =
-    let regions = g.A.Links.regions in
     let word = g.A.Links.word in
     let heap = c.args.self.now in
     let at = c.in-Some.at in
     let b = c.requires.linked in
     let fit = c.in-Some.ensures.fit b.index b.linked in
-    let free = fit_free regions word heap c.requires.sound b c.args.n at fit in
-    let size : c.size.result ≡ fit.size = c.size.ensures.value ∙ (is_chunk regions word heap c.requires.sound at fit.size free).head in
+    let free = fit_free c.requires.sound b c.args.n fit in
+    let size : c.size.result ≡ fit.size = c.size.ensures.value ∙ (is_chunk c.requires.sound free).head in
     let enough = fit.enough in
     record {
-      least = fit_least regions word heap c.requires.sound b c.args.n at fit ∙ ap Some (sym size);
+      least = fit_least c.requires.sound b c.args.n fit ∙ ap Some (sym size);
       there = subst (λ (n : ℕ). IsFreeAt (state_of word heap) at n) (sym size) free;
-      other = fit_other regions word heap c.requires.sound b c.args.n at fit;
+      other = fit_other c.requires.sound b c.args.n fit;
       fits = omega (arith, enough, size);
       member = λ index linked. c.in-Some.ensures.fit index linked;
       counted = omega arith;
@@ -36,7 +35,7 @@ pub returns-in-None : goal.returns-in-None
 returns-in-None g c =
     let b = c.requires.linked in
     record {
-      least = fit_none g.A.Links.regions g.A.Links.word c.args.self.now c.requires.sound b c.args.n (c.in-None.ensures.fit b.index b.linked);
+      least = fit_none c.requires.sound b c.args.n (c.in-None.ensures.fit b.index b.linked);
       there = tt;
       other = tt;
       fits = tt;

@@ -8,16 +8,16 @@ use Rattle.dlmalloc.proofs.Bins.Order.{lessened_as, added_as, order_less, order_
 use Rattle.dlmalloc.proofs.heap.Dlmalloc.grow_into_free.Goals as goal
 
 pub overflow_add-was_victim : goal.overflow_add-was_victim
-overflow_add-was_victim g c = let s = free_end_small g.A.Links.regions g.A.Links.word c.args.self.now c.requires.sound c.args.at c.args.size c.args.free c.args.n c.requires.chunk c.requires.next c.requires.whole c.requires.more c.requires.room in grind arith
+overflow_add-was_victim g c = let s = free_end_small c.requires.sound c.args.n c.requires.chunk c.requires.next c.requires.whole c.requires.more c.requires.room in grind arith
 
 pub overflow_add-rest : goal.overflow_add-rest
-overflow_add-rest g c = let s = free_end_small g.A.Links.regions g.A.Links.word c.args.self.now c.requires.sound c.args.at c.args.size c.args.free c.args.n c.requires.chunk c.requires.next c.requires.whole c.requires.more c.requires.room in grind arith
+overflow_add-rest g c = let s = free_end_small c.requires.sound c.args.n c.requires.chunk c.requires.next c.requires.whole c.requires.more c.requires.room in grind arith
 
 pub overflow_add-at : goal.overflow_add-at
-overflow_add-at g c = let s = free_end_small g.A.Links.regions g.A.Links.word c.args.self.now c.requires.sound c.args.at c.args.size c.args.free c.args.n c.requires.chunk c.requires.next c.requires.whole c.requires.more c.requires.room in let room = c.requires.room in grind arith
+overflow_add-at g c = let s = free_end_small c.requires.sound c.args.n c.requires.chunk c.requires.next c.requires.whole c.requires.more c.requires.room in let room = c.requires.room in grind arith
 
 pub overflow_add-at-2 : goal.overflow_add-at-2
-overflow_add-at-2 g c = let s = free_end_small g.A.Links.regions g.A.Links.word c.args.self.now c.requires.sound c.args.at c.args.size c.args.free c.args.n c.requires.chunk c.requires.next c.requires.whole c.requires.more c.requires.room in let room = c.requires.room in grind arith
+overflow_add-at-2 g c = let s = free_end_small c.requires.sound c.args.n c.requires.chunk c.requires.next c.requires.whole c.requires.more c.requires.room in let room = c.requires.room in grind arith
 
 pub unbin-requires-clause-binned : goal.unbin-requires-clause-binned
 unbin-requires-clause-binned g c = ([], c.requires.linked, λ none. none)
@@ -35,20 +35,19 @@ pub returns-then-was_victim : goal.returns-then-was_victim
 returns-then-was_victim g c =
     let regions = g.A.Links.regions in
     let word = g.A.Links.word in
-    let middle = c.unbin.new.self in
     let new = c.join_part.new.self in
     let one = c.unbin.ensures in
     let e = c.join_part.ensures in
     let mine = c.if-was_victim.true ∙ sym (ap (λ h. h.victim) one.same.fields) in
     let order : KeepsOrder regions word c.args.self.now new = λ b.
     let left = one.loose [] b (λ none. none) in
-    let after = into_victim c.index_stays.ensures regions word g.A.Links.follows middle new one.same.sound c.args.at c.args.size c.args.free c.args.n e.moved e.state e.free e.bins mine (none_binned regions word middle (c.args.at + c.args.size) [] left.0 (λ n free. mine)) in
+    let after = into_victim c.index_stays.ensures one.same.sound c.args.at c.args.size c.args.free c.args.n e.moved e.state e.free e.bins mine (none_binned left.0 (λ n free. mine)) in
     (after.0, order_left b.index left.0.index after.0.index (lessened_as c.args.free (c.args.at + c.args.size) b.index left.0.index left.1) after.1) in
     record {
       state = e.state ∙ ap (λ (s : HeapState). grown_into s (extent c.args.at c.args.size Used) (extent (c.args.at + c.args.size) c.args.free Free) c.args.n) one.same.state;
       held = e.held;
       others = subst (λ (s : HeapState). HasSameOthers s (state_of word new) c.args.at c.args.at) one.same.state e.others;
-      moved = turned regions word g.A.Links.follows g.A.Links.follows_on c.args.self.now middle new new one.same e.moved (not_rebinned regions word g.A.Links.follows new e.moved.sound (g.A.Links.follows_none new.system));
+      moved = turned regions word g.A.Links.follows g.A.Links.follows_on one.same e.moved (not_rebinned g.A.Links.follows e.moved.sound (g.A.Links.follows_none new.system));
       linked = (order c.requires.linked).0;
       order = order;
       counted = omega arith;
@@ -58,7 +57,6 @@ pub returns-then-rest-lt-LEAST_CHUNK : goal.returns-then-rest-lt-LEAST_CHUNK
 returns-then-rest-lt-LEAST_CHUNK g c =
     let regions = g.A.Links.regions in
     let word = g.A.Links.word in
-    let middle = c.unbin.new.self in
     let new = c.join_part.new.self in
     let one = c.unbin.ensures in
     let e = c.join_part.ensures in
@@ -66,7 +64,7 @@ returns-then-rest-lt-LEAST_CHUNK g c =
     let room = c.requires.room in
     let order : KeepsOrder regions word c.args.self.now new = λ b.
     let left = one.loose [] b (λ none. none) in (
-      into_whole c.index_stays.ensures regions word g.A.Links.follows middle new one.same.sound c.args.at c.args.size c.args.free c.args.n e.moved e.state e.free e.bins
+      into_whole c.index_stays.ensures one.same.sound c.args.at c.args.size c.args.free c.args.n e.moved e.state e.free e.bins
           (λ is. c.if-was_victim.false (is ∙ ap (λ h. h.victim) one.same.fields)) left.0 (omega arith),
       order_less b.index left.0.index (lessened_as c.args.free (c.args.at + c.args.size) b.index left.0.index left.1),
     ) in
@@ -74,7 +72,7 @@ returns-then-rest-lt-LEAST_CHUNK g c =
       state = e.state ∙ ap (λ (s : HeapState). grown_into s (extent c.args.at c.args.size Used) (extent (c.args.at + c.args.size) c.args.free Free) c.args.n) one.same.state;
       held = e.held;
       others = subst (λ (s : HeapState). HasSameOthers s (state_of word new) c.args.at c.args.at) one.same.state e.others;
-      moved = turned regions word g.A.Links.follows g.A.Links.follows_on c.args.self.now middle new new one.same e.moved (not_rebinned regions word g.A.Links.follows new e.moved.sound (g.A.Links.follows_none new.system));
+      moved = turned regions word g.A.Links.follows g.A.Links.follows_on one.same e.moved (not_rebinned g.A.Links.follows e.moved.sound (g.A.Links.follows_none new.system));
       linked = (order c.requires.linked).0;
       order = order;
       counted = omega arith;
@@ -93,7 +91,7 @@ bin-requires-clause-other g c =
     let many = c.if-rest-lt-LEAST_CHUNK.false in
     let more = c.requires.more in
     let room = c.requires.room in
-    part_other c.index_stays.ensures g.A.Links.regions g.A.Links.word g.A.Links.follows c.unbin.new.self c.join_part.new.self one.same.sound c.args.at c.args.size c.args.free c.args.n e.moved e.state e.free e.bins
+    part_other c.index_stays.ensures one.same.sound c.args.at c.args.size c.args.free c.args.n e.moved e.state e.free e.bins
     (λ is. c.if-was_victim.false (is ∙ ap (λ h. h.victim) one.same.fields)) (omega arith) (omega arith)
 
 pub bin-requires-clause-loose : goal.bin-requires-clause-loose
@@ -103,7 +101,7 @@ bin-requires-clause-loose g c =
     let many = c.if-rest-lt-LEAST_CHUNK.false in
     let room = c.requires.room in (
       [],
-      into_part c.index_stays.ensures g.A.Links.regions g.A.Links.word g.A.Links.follows c.unbin.new.self c.join_part.new.self one.same.sound c.args.at c.args.size c.args.free c.args.n e.moved e.state e.free e.bins
+      into_part c.index_stays.ensures one.same.sound c.args.at c.args.size c.args.free c.args.n e.moved e.state e.free e.bins
           (λ is. c.if-was_victim.false (is ∙ ap (λ h. h.victim) one.same.fields)) (one.loose [] c.requires.linked (λ none. none)).0 (omega arith),
     )
 
@@ -124,17 +122,17 @@ returns g c =
     let other : c.args.at + c.args.size ≢ middle.victim = λ is. c.if-was_victim.false (is ∙ ap (λ h. h.victim) one.same.fields) in
     let order : KeepsOrder regions word c.args.self.now new = λ b.
     let left = one.loose [] b (λ none. none) in
-    let after = last.binned [] (into_part c.index_stays.ensures regions word g.A.Links.follows middle joined one.same.sound c.args.at c.args.size c.args.free c.args.n e.moved e.state e.free e.bins other left.0 (omega arith)) (λ none. none) in (
+    let after = last.binned [] (into_part c.index_stays.ensures one.same.sound c.args.at c.args.size c.args.free c.args.n e.moved e.state e.free e.bins other left.0 (omega arith)) (λ none. none) in (
       after.0,
       in_order rest_size rest b.index left.0.index after.0.index (lessened_as c.args.free (c.args.at + c.args.size) b.index left.0.index left.1) (added_as rest_size rest left.0.index after.0.index after.1)
-          (λ is. part_came c.index_stays.ensures regions word g.A.Links.follows middle joined one.same.sound c.args.at c.args.size c.args.free c.args.n e.moved e.state e.free e.bins other (omega arith) (let m = c.requires.more in omega arith) rest_size
+          (λ is. part_came c.index_stays.ensures one.same.sound c.args.at c.args.size c.args.free c.args.n e.moved e.state e.free e.bins other (omega arith) (let m = c.requires.more in omega arith)
           (subst (λ (s : HeapState). IsFreeAt s rest rest_size) (sym one.same.state) (b.holds.free rest rest_size is))),
     ) in
     record {
       state = last.same.state ∙ (e.state ∙ ap (λ (s : HeapState). grown_into s (extent c.args.at c.args.size Used) (extent (c.args.at + c.args.size) c.args.free Free) c.args.n) one.same.state);
       held = (e.held.0, ap (λ (s : HeapState). extent_at c.args.at (extents_in s)) last.same.state ∙ e.held.1, e.held.2, e.held.3);
       others = subst (λ (s : HeapState). HasSameOthers (state_of word c.args.self.now) s c.args.at c.args.at) (sym last.same.state) (subst (λ (s : HeapState). HasSameOthers s (state_of word joined) c.args.at c.args.at) one.same.state e.others);
-      moved = turned regions word g.A.Links.follows g.A.Links.follows_on c.args.self.now middle joined new one.same e.moved last.same;
+      moved = turned regions word g.A.Links.follows g.A.Links.follows_on one.same e.moved last.same;
       linked = (order c.requires.linked).0;
       order = order;
       counted = omega arith;

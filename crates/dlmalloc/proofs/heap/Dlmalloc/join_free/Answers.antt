@@ -5,55 +5,55 @@ use Rattle.dlmalloc.proofs.heap.Dlmalloc.join_free.Goals.{else-from-self-via-the
 use Rattle.dlmalloc.proofs.heap.Dlmalloc.join_free.Goals as goal
 
 pub store_counted-requires : goal.store_counted-requires
-store_counted-requires g c = (from_there g.A.Links.regions g.A.Links.word c.args.self.now c.requires.sound c.args.at c.args.size c.requires.chunk c.args.from c.requires.from).granted
+store_counted-requires g c = (from_there c.requires.sound c.requires.chunk c.requires.from).granted
 
 pub make_free-requires-clause-size : goal.make_free-requires-clause-size
-make_free-requires-clause-size g c = whole_size g.A.Links.regions g.A.Links.word c.args.self.now c.requires.sound c.args.at c.args.size c.requires.chunk (no_top g.A.Links.regions g.A.Links.word c.args.self.now c.requires.sound c.args.at c.args.size c.requires.chunk (goes_on g.A.Links.regions g.A.Links.word c.args.self.now c.requires.sound c.args.at c.args.size c.requires.chunk c.args.from c.requires.from c.args.to c.requires.to c.if-to-self.false)) c.args.from c.requires.from c.args.to (ends_at g.A.Links.regions g.A.Links.word c.args.self.now c.requires.sound c.args.at c.args.size c.requires.chunk c.args.from c.requires.from c.args.to c.requires.to (goes_on g.A.Links.regions g.A.Links.word c.args.self.now c.requires.sound c.args.at c.args.size c.requires.chunk c.args.from c.requires.from c.args.to c.requires.to c.if-to-self.false))
+make_free-requires-clause-size g c = whole_size c.requires.sound c.requires.chunk (no_top c.requires.sound c.requires.chunk (goes_on c.requires.sound c.requires.chunk c.requires.from c.requires.to c.if-to-self.false)) c.requires.from (ends_at c.requires.sound c.requires.chunk c.requires.from c.requires.to (goes_on c.requires.sound c.requires.chunk c.requires.from c.requires.to c.if-to-self.false))
 
 pub make_free-requires-clause-long : goal.make_free-requires-clause-long
-make_free-requires-clause-long g c = let r = room g.A.Links.regions g.A.Links.word c.args.self.now c.requires.sound c.args.at c.args.size c.requires.chunk (no_top g.A.Links.regions g.A.Links.word c.args.self.now c.requires.sound c.args.at c.args.size c.requires.chunk (goes_on g.A.Links.regions g.A.Links.word c.args.self.now c.requires.sound c.args.at c.args.size c.requires.chunk c.args.from c.requires.from c.args.to c.requires.to c.if-to-self.false)) c.args.from c.requires.from c.args.to (ends_at g.A.Links.regions g.A.Links.word c.args.self.now c.requires.sound c.args.at c.args.size c.requires.chunk c.args.from c.requires.from c.args.to c.requires.to (goes_on g.A.Links.regions g.A.Links.word c.args.self.now c.requires.sound c.args.at c.args.size c.requires.chunk c.args.from c.requires.from c.args.to c.requires.to c.if-to-self.false)) in omega arith
+make_free-requires-clause-long g c = let r = room c.requires.sound c.requires.chunk (no_top c.requires.sound c.requires.chunk (goes_on c.requires.sound c.requires.chunk c.requires.from c.requires.to c.if-to-self.false)) c.requires.from (ends_at c.requires.sound c.requires.chunk c.requires.from c.requires.to (goes_on c.requires.sound c.requires.chunk c.requires.from c.requires.to c.if-to-self.false)) in omega arith
 
 pub make_free-requires-clause-foot : goal.make_free-requires-clause-foot
-make_free-requires-clause-foot g c = end_foot g.A.Links.regions g.A.Links.word c.args.self.now c.requires.sound c.args.at c.args.size c.requires.chunk (no_top g.A.Links.regions g.A.Links.word c.args.self.now c.requires.sound c.args.at c.args.size c.requires.chunk (goes_on g.A.Links.regions g.A.Links.word c.args.self.now c.requires.sound c.args.at c.args.size c.requires.chunk c.args.from c.requires.from c.args.to c.requires.to c.if-to-self.false)) c.args.from c.requires.from c.args.to (ends_at g.A.Links.regions g.A.Links.word c.args.self.now c.requires.sound c.args.at c.args.size c.requires.chunk c.args.from c.requires.from c.args.to c.requires.to (goes_on g.A.Links.regions g.A.Links.word c.args.self.now c.requires.sound c.args.at c.args.size c.requires.chunk c.args.from c.requires.from c.args.to c.requires.to c.if-to-self.false))
+make_free-requires-clause-foot g c = end_foot c.requires.sound c.requires.chunk (no_top c.requires.sound c.requires.chunk (goes_on c.requires.sound c.requires.chunk c.requires.from c.requires.to c.if-to-self.false)) c.requires.from (ends_at c.requires.sound c.requires.chunk c.requires.from c.requires.to (goes_on c.requires.sound c.requires.chunk c.requires.from c.requires.to c.if-to-self.false))
 
 pub make_free-requires-clause-next : goal.make_free-requires-clause-next
-make_free-requires-clause-next g c = end_head g.A.Links.regions g.A.Links.word c.args.self.now c.requires.sound c.args.at c.args.size c.requires.chunk (no_top g.A.Links.regions g.A.Links.word c.args.self.now c.requires.sound c.args.at c.args.size c.requires.chunk (goes_on g.A.Links.regions g.A.Links.word c.args.self.now c.requires.sound c.args.at c.args.size c.requires.chunk c.args.from c.requires.from c.args.to c.requires.to c.if-to-self.false)) c.args.from c.requires.from c.args.to (ends_at g.A.Links.regions g.A.Links.word c.args.self.now c.requires.sound c.args.at c.args.size c.requires.chunk c.args.from c.requires.from c.args.to c.requires.to (goes_on g.A.Links.regions g.A.Links.word c.args.self.now c.requires.sound c.args.at c.args.size c.requires.chunk c.args.from c.requires.from c.args.to c.requires.to c.if-to-self.false))
+make_free-requires-clause-next g c = end_head c.requires.sound c.requires.chunk (no_top c.requires.sound c.requires.chunk (goes_on c.requires.sound c.requires.chunk c.requires.from c.requires.to c.if-to-self.false)) c.requires.from (ends_at c.requires.sound c.requires.chunk c.requires.from c.requires.to (goes_on c.requires.sound c.requires.chunk c.requires.from c.requires.to c.if-to-self.false))
 
 pub make_free-requires-clause-told : goal.make_free-requires-clause-told
-make_free-requires-clause-told g c = λ told. end_told g.A.Links.regions g.A.Links.word c.args.self.now c.requires.sound c.args.at c.args.size c.requires.chunk (no_top g.A.Links.regions g.A.Links.word c.args.self.now c.requires.sound c.args.at c.args.size c.requires.chunk (goes_on g.A.Links.regions g.A.Links.word c.args.self.now c.requires.sound c.args.at c.args.size c.requires.chunk c.args.from c.requires.from c.args.to c.requires.to c.if-to-self.false)) c.args.from c.requires.from c.args.to (ends_at g.A.Links.regions g.A.Links.word c.args.self.now c.requires.sound c.args.at c.args.size c.requires.chunk c.args.from c.requires.from c.args.to c.requires.to (goes_on g.A.Links.regions g.A.Links.word c.args.self.now c.requires.sound c.args.at c.args.size c.requires.chunk c.args.from c.requires.from c.args.to c.requires.to c.if-to-self.false)) (grind (arith, nat_tests))
+make_free-requires-clause-told g c = λ told. end_told c.requires.sound c.requires.chunk (no_top c.requires.sound c.requires.chunk (goes_on c.requires.sound c.requires.chunk c.requires.from c.requires.to c.if-to-self.false)) c.requires.from (ends_at c.requires.sound c.requires.chunk c.requires.from c.requires.to (goes_on c.requires.sound c.requires.chunk c.requires.from c.requires.to c.if-to-self.false)) (grind (arith, nat_tests))
 
 pub make_free-requires-clause-head : goal.make_free-requires-clause-head
-make_free-requires-clause-head g c = from_there g.A.Links.regions g.A.Links.word c.args.self.now c.requires.sound c.args.at c.args.size c.requires.chunk c.args.from c.requires.from
+make_free-requires-clause-head g c = from_there c.requires.sound c.requires.chunk c.requires.from
 
 pub overflow_add-self : goal.overflow_add-self
-overflow_add-self g c = let s = small_top g.A.Links.regions g.A.Links.word c.args.self.now c.requires.sound c.args.at c.args.size c.requires.chunk c.args.from c.requires.from c.args.to c.requires.to c.if-to-self.true in grind arith
+overflow_add-self g c = let s = small_top c.requires.sound c.requires.chunk c.requires.from c.requires.to c.if-to-self.true in grind arith
 
 pub overflow_add-from : goal.overflow_add-from
-overflow_add-from g c = let s = (from_there g.A.Links.regions g.A.Links.word c.args.self.now c.requires.sound c.args.at c.args.size c.requires.chunk c.args.from c.requires.from).small in grind arith
+overflow_add-from g c = let s = (from_there c.requires.sound c.requires.chunk c.requires.from).small in grind arith
 
 pub overflow_add-self-then-to-self : goal.overflow_add-self-then-to-self
-overflow_add-self-then-to-self g c = let s = small_top g.A.Links.regions g.A.Links.word c.args.self.now c.requires.sound c.args.at c.args.size c.requires.chunk c.args.from c.requires.from c.args.to c.requires.to c.if-to-self.true in let l = from_some g.A.Links.regions g.A.Links.word c.args.self.now c.requires.sound c.args.at c.args.size c.requires.chunk c.args.from c.requires.from c.args.to c.requires.to c.if-to-self.true in grind arith
+overflow_add-self-then-to-self g c = let s = small_top c.requires.sound c.requires.chunk c.requires.from c.requires.to c.if-to-self.true in let l = from_some c.requires.sound c.requires.chunk c.requires.from c.requires.to c.if-to-self.true in grind arith
 
 pub returns-then-self-to : goal.returns-then-self-to
 returns-then-self-to g c =
-    let o = top_victim g.A.Links.regions g.A.Links.word c.args.self.now c.requires.sound c.args.at c.args.size c.requires.chunk c.args.from c.requires.from c.args.to c.requires.to c.if-to-self.true c.store_counted.new.self c.store_counted.ensures.regions c.store_counted.ensures.stored c.if-from-self.true c.if-self-to.true in
-    record { state = o.state; less = o.less; records = o.records; around = around_top g.A.Links.regions g.A.Links.word c.args.self.now c.requires.sound c.args.at c.args.size c.requires.chunk c.args.from c.requires.from c.args.to c.requires.to c.if-to-self.true _ o.sound refl refl refl; free = o.free; joined = o.joined; victim = inr (c.if-from-self.true, c.if-self-to.true, inl refl); bins = refl; moved = record { sound = o.sound; words = o.words; regions_same = search rules; followed = search rules }; counted = omega arith }
+    let o = top_victim c.requires.sound c.requires.chunk c.requires.from c.requires.to c.if-to-self.true c.store_counted.new.self c.store_counted.ensures.regions c.store_counted.ensures.stored c.if-from-self.true c.if-self-to.true in
+    record { state = o.state; less = o.less; records = o.records; around = around_top c.requires.sound c.requires.chunk c.requires.from c.requires.to c.if-to-self.true _ o.sound refl refl refl; free = o.free; joined = o.joined; victim = inr (c.if-from-self.true, c.if-self-to.true, inl refl); bins = refl; moved = record { sound = o.sound; words = o.words; regions_same = search rules; followed = search rules }; counted = omega arith }
 
 pub returns-else-from-self : goal.returns-else-from-self
 returns-else-from-self g c =
     let out : (c.args.self.now.victim < c.args.from) ⊎ (c.args.to ≤ c.args.self.now.victim) =
     elim c.else-from-self.branch [ else-from-self-via-then-from-self+else-self-to w ↦ inr w.if-self-to.false | else-from-self-via-else-from-self w ↦ inl w.if-from-self.false ] in
-    let o = top_other g.A.Links.regions g.A.Links.word c.args.self.now c.requires.sound c.args.at c.args.size c.requires.chunk c.args.from c.requires.from c.args.to c.requires.to c.if-to-self.true c.store_counted.new.self c.store_counted.ensures.regions c.store_counted.ensures.stored out in
-    record { state = o.state; less = o.less; records = o.records; around = around_top g.A.Links.regions g.A.Links.word c.args.self.now c.requires.sound c.args.at c.args.size c.requires.chunk c.args.from c.requires.from c.args.to c.requires.to c.if-to-self.true _ o.sound refl refl refl; free = o.free; joined = o.joined; victim = inl refl; bins = refl; moved = record { sound = o.sound; words = o.words; regions_same = search rules; followed = search rules }; counted = omega arith }
+    let o = top_other c.requires.sound c.requires.chunk c.requires.from c.requires.to c.if-to-self.true c.store_counted.new.self c.store_counted.ensures.regions c.store_counted.ensures.stored out in
+    record { state = o.state; less = o.less; records = o.records; around = around_top c.requires.sound c.requires.chunk c.requires.from c.requires.to c.if-to-self.true _ o.sound refl refl refl; free = o.free; joined = o.joined; victim = inl refl; bins = refl; moved = record { sound = o.sound; words = o.words; regions_same = search rules; followed = search rules }; counted = omega arith }
 
 pub returns-then-self-to-2 : goal.returns-then-self-to-2
 returns-then-self-to-2 g c =
-    let o = as_victim g.A.Links.regions g.A.Links.word c.args.self.now c.requires.sound c.args.at c.args.size c.requires.chunk (no_top g.A.Links.regions g.A.Links.word c.args.self.now c.requires.sound c.args.at c.args.size c.requires.chunk (goes_on g.A.Links.regions g.A.Links.word c.args.self.now c.requires.sound c.args.at c.args.size c.requires.chunk c.args.from c.requires.from c.args.to c.requires.to c.if-to-self.false)) c.args.from c.requires.from c.args.to (ends_at g.A.Links.regions g.A.Links.word c.args.self.now c.requires.sound c.args.at c.args.size c.requires.chunk c.args.from c.requires.from c.args.to c.requires.to (goes_on g.A.Links.regions g.A.Links.word c.args.self.now c.requires.sound c.args.at c.args.size c.requires.chunk c.args.from c.requires.from c.args.to c.requires.to c.if-to-self.false)) c.make_free.new.memory c.make_free.ensures.regions c.make_free.ensures.stored c.if-from-self-2.true c.if-self-to-2.true in
-    record { state = o.state; less = o.less; records = o.records; around = around g.A.Links.regions g.A.Links.word c.args.self.now c.requires.sound c.args.at c.args.size c.requires.chunk (no_top g.A.Links.regions g.A.Links.word c.args.self.now c.requires.sound c.args.at c.args.size c.requires.chunk (goes_on g.A.Links.regions g.A.Links.word c.args.self.now c.requires.sound c.args.at c.args.size c.requires.chunk c.args.from c.requires.from c.args.to c.requires.to c.if-to-self.false)) c.args.from c.requires.from c.args.to (ends_at g.A.Links.regions g.A.Links.word c.args.self.now c.requires.sound c.args.at c.args.size c.requires.chunk c.args.from c.requires.from c.args.to c.requires.to (goes_on g.A.Links.regions g.A.Links.word c.args.self.now c.requires.sound c.args.at c.args.size c.requires.chunk c.args.from c.requires.from c.args.to c.requires.to c.if-to-self.false)) c.make_free.new.memory c.make_free.ensures.regions c.make_free.ensures.stored c.args.from (c.args.to - c.args.from); free = o.free; joined = o.joined; victim = inr (c.if-from-self-2.true, c.if-self-to-2.true, inr refl); bins = refl; moved = record { sound = o.sound; words = o.words; regions_same = search rules; followed = search rules }; counted = omega arith }
+    let o = as_victim c.requires.sound c.requires.chunk (no_top c.requires.sound c.requires.chunk (goes_on c.requires.sound c.requires.chunk c.requires.from c.requires.to c.if-to-self.false)) c.requires.from (ends_at c.requires.sound c.requires.chunk c.requires.from c.requires.to (goes_on c.requires.sound c.requires.chunk c.requires.from c.requires.to c.if-to-self.false)) c.make_free.new.memory c.make_free.ensures.regions c.make_free.ensures.stored c.if-from-self-2.true c.if-self-to-2.true in
+    record { state = o.state; less = o.less; records = o.records; around = around c.requires.sound c.requires.chunk (no_top c.requires.sound c.requires.chunk (goes_on c.requires.sound c.requires.chunk c.requires.from c.requires.to c.if-to-self.false)) c.requires.from (ends_at c.requires.sound c.requires.chunk c.requires.from c.requires.to (goes_on c.requires.sound c.requires.chunk c.requires.from c.requires.to c.if-to-self.false)) c.make_free.new.memory c.make_free.ensures.regions c.make_free.ensures.stored c.args.from (c.args.to - c.args.from); free = o.free; joined = o.joined; victim = inr (c.if-from-self-2.true, c.if-self-to-2.true, inr refl); bins = refl; moved = record { sound = o.sound; words = o.words; regions_same = search rules; followed = search rules }; counted = omega arith }
 
 pub returns-else-from-self-2 : goal.returns-else-from-self-2
 returns-else-from-self-2 g c =
     let out : (c.args.self.now.victim < c.args.from) ⊎ (c.args.to ≤ c.args.self.now.victim) =
     elim c.else-from-self-2.branch [ else-from-self-2-via-then-from-self-2+else-self-to-2 w ↦ inr w.if-self-to-2.false | else-from-self-2-via-else-from-self-2 w ↦ inl w.if-from-self-2.false ] in
-    let o = as_other g.A.Links.regions g.A.Links.word c.args.self.now c.requires.sound c.args.at c.args.size c.requires.chunk (no_top g.A.Links.regions g.A.Links.word c.args.self.now c.requires.sound c.args.at c.args.size c.requires.chunk (goes_on g.A.Links.regions g.A.Links.word c.args.self.now c.requires.sound c.args.at c.args.size c.requires.chunk c.args.from c.requires.from c.args.to c.requires.to c.if-to-self.false)) c.args.from c.requires.from c.args.to (ends_at g.A.Links.regions g.A.Links.word c.args.self.now c.requires.sound c.args.at c.args.size c.requires.chunk c.args.from c.requires.from c.args.to c.requires.to (goes_on g.A.Links.regions g.A.Links.word c.args.self.now c.requires.sound c.args.at c.args.size c.requires.chunk c.args.from c.requires.from c.args.to c.requires.to c.if-to-self.false)) c.make_free.new.memory c.make_free.ensures.regions c.make_free.ensures.stored out in
-    record { state = o.state; less = o.less; records = o.records; around = around g.A.Links.regions g.A.Links.word c.args.self.now c.requires.sound c.args.at c.args.size c.requires.chunk (no_top g.A.Links.regions g.A.Links.word c.args.self.now c.requires.sound c.args.at c.args.size c.requires.chunk (goes_on g.A.Links.regions g.A.Links.word c.args.self.now c.requires.sound c.args.at c.args.size c.requires.chunk c.args.from c.requires.from c.args.to c.requires.to c.if-to-self.false)) c.args.from c.requires.from c.args.to (ends_at g.A.Links.regions g.A.Links.word c.args.self.now c.requires.sound c.args.at c.args.size c.requires.chunk c.args.from c.requires.from c.args.to c.requires.to (goes_on g.A.Links.regions g.A.Links.word c.args.self.now c.requires.sound c.args.at c.args.size c.requires.chunk c.args.from c.requires.from c.args.to c.requires.to c.if-to-self.false)) c.make_free.new.memory c.make_free.ensures.regions c.make_free.ensures.stored c.args.self.now.victim c.args.self.now.victim_size; free = o.free; joined = o.joined; victim = inl refl; bins = refl; moved = record { sound = o.sound; words = o.words; regions_same = search rules; followed = search rules }; counted = omega arith }
+    let o = as_other c.requires.sound c.requires.chunk (no_top c.requires.sound c.requires.chunk (goes_on c.requires.sound c.requires.chunk c.requires.from c.requires.to c.if-to-self.false)) c.requires.from (ends_at c.requires.sound c.requires.chunk c.requires.from c.requires.to (goes_on c.requires.sound c.requires.chunk c.requires.from c.requires.to c.if-to-self.false)) c.make_free.new.memory c.make_free.ensures.regions c.make_free.ensures.stored out in
+    record { state = o.state; less = o.less; records = o.records; around = around c.requires.sound c.requires.chunk (no_top c.requires.sound c.requires.chunk (goes_on c.requires.sound c.requires.chunk c.requires.from c.requires.to c.if-to-self.false)) c.requires.from (ends_at c.requires.sound c.requires.chunk c.requires.from c.requires.to (goes_on c.requires.sound c.requires.chunk c.requires.from c.requires.to c.if-to-self.false)) c.make_free.new.memory c.make_free.ensures.regions c.make_free.ensures.stored c.args.self.now.victim c.args.self.now.victim_size; free = o.free; joined = o.joined; victim = inl refl; bins = refl; moved = record { sound = o.sound; words = o.words; regions_same = search rules; followed = search rules }; counted = omega arith }

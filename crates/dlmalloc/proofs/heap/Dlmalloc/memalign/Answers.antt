@@ -29,25 +29,25 @@ returns-in-Ok-clause-served g c =
     let n = c.request2size-n.ensures in
     let left : IsAligned g.A.Links.regions g.A.Links.word g.A.Links.follows c.c_malloc.new.self c.in-Ok.block c.args.align c.request2size-n.result c.align_block.result c.align_block.new.self =
     record { place = e.place; multiple = e.multiple; state = e.state; held = e.held; others = e.others; kept = e.kept; words = e.words; sound = e.sound; regions_same = e.regions; followed = e.follows; order = e.order } in
-    served_aligned g.A.Links.regions g.A.Links.word g.A.Allocator.zeros g.A.Links.follows c.args.self.now c.c_malloc.new.self c.align_block.new.self c.args.size c.args.align c.request2size-n.result c.in-Ok.block c.align_block.result
+    served_aligned c.args.size
     n.is n.holds n.near c.in-Ok.ensures.served left
 
 pub returns-in-Err-clause-refused : goal.returns-in-Err-clause-refused
 returns-in-Err-clause-refused g c =
     subst (λ (m : ℕ). IsRefusedWith g.A.Links.regions g.A.Links.word g.A.Links.follows g.A.Allocator.refuses g.A.Allocator.denies c.args.self.now m c.in-Err.error c.c_malloc.new.self)
-    (enlarged_is c.args.size c.args.align c.request2size-n.result c.request2size-n.ensures.is) c.in-Err.ensures.refused
+    (enlarged_is c.args.size c.args.align c.request2size-n.ensures.is) c.in-Err.ensures.refused
 
 pub returns-in-Ok-clause-member : goal.returns-in-Ok-clause-member
 returns-in-Ok-clause-member g c =
-    member_high g.A.Links.regions g.A.Links.word c.args.self.now c.args.size c.args.align (c.request2size-n.result + c.args.align + 24) c.in-Ok.block c.align_block.result c.requires.align.1
-    (enlarged_is c.args.size c.args.align c.request2size-n.result c.request2size-n.ensures.is) c.align_block.ensures.place c.in-Ok.ensures.member
+    member_high g.A.Links.regions g.A.Links.word c.args.self.now c.args.size c.args.align c.in-Ok.block c.requires.align.1
+    (enlarged_is c.args.size c.args.align c.request2size-n.ensures.is) c.align_block.ensures.place c.in-Ok.ensures.member
 
 pub returns-in-Ok-clause-counted : goal.returns-in-Ok-clause-counted
 returns-in-Ok-clause-counted g c = λ some.
-    let few = c.c_malloc.ensures.counted (λ none. some (subst (λ (m : ℕ). chosen (state_of g.A.Links.word c.args.self.now) (padded m) ≡ None) (enlarged_is c.args.size c.args.align c.request2size-n.result c.request2size-n.ensures.is) none)) in
+    let few = c.c_malloc.ensures.counted (λ none. some (subst (λ (m : ℕ). chosen (state_of g.A.Links.word c.args.self.now) (padded m) ≡ None) (enlarged_is c.args.size c.args.align c.request2size-n.ensures.is) none)) in
     omega arith
 
 pub returns-in-Err-clause-counted : goal.returns-in-Err-clause-counted
 returns-in-Err-clause-counted g c = λ some.
-    let few = c.c_malloc.ensures.counted (λ none. some (subst (λ (m : ℕ). chosen (state_of g.A.Links.word c.args.self.now) (padded m) ≡ None) (enlarged_is c.args.size c.args.align c.request2size-n.result c.request2size-n.ensures.is) none)) in
+    let few = c.c_malloc.ensures.counted (λ none. some (subst (λ (m : ℕ). chosen (state_of g.A.Links.word c.args.self.now) (padded m) ≡ None) (enlarged_is c.args.size c.args.align c.request2size-n.ensures.is) none)) in
     omega arith

@@ -43,20 +43,20 @@ returns g c =
     let is : new ≡ after = made.fields in
     let long = fresh.long in
     let some : 0 < grant.size = omega arith in
-    let sound = opened_sound regions word heap after c.requires.sound grant fresh made.regions made.head made.foot_head c.requires.none refl refl refl refl refl refl refl refl refl refl c.countdown_from-self.ensures refl in
+    let sound = opened_sound after c.requires.sound fresh made.regions made.head made.foot_head c.requires.none refl refl refl refl refl refl refl refl refl refl c.countdown_from-self.ensures refl in
     record {
       joined = subst (λ (h : Dlmalloc _). IsAdmitted regions word g.A.Links.follows heap grant h) (sym is) (record {
-        state = opened_state regions word heap after c.requires.sound grant fresh made.regions made.head made.foot_head c.requires.none refl refl refl refl refl refl refl refl refl refl c.countdown_from-self.ensures refl;
+        state = opened_state after c.requires.sound fresh made.regions made.head made.foot_head c.requires.none refl refl refl refl refl refl refl refl refl refl c.countdown_from-self.ensures refl;
         sound = sound;
         there = some;
         room = omega arith;
         begins = inl refl;
         regions_same = made.regions;
         followed = made.follows;
-        used = opened_used regions word heap after c.requires.sound grant fresh made.regions made.head made.foot_head c.requires.none refl refl refl refl refl refl refl refl refl refl c.countdown_from-self.ensures refl;
-        words = λ k inside apart recorded. (let tags = head_tags regions word after sound some k apart in made.elsewhere k inside tags.0 (λ is. tags.1 (omega arith)));
+        used = opened_used after c.requires.sound fresh made.regions made.head made.foot_head c.requires.none refl refl refl refl refl refl refl refl refl refl c.countdown_from-self.ensures refl;
+        words = λ k inside apart recorded. (let tags = head_tags sound some k apart in made.elsewhere k inside tags.0 (λ is. tags.1 (omega arith)));
         new_words = λ k inside low high a b. made.elsewhere k inside a (λ is. b (omega arith));
       });
-      free = subst (λ (h : Dlmalloc _). FreeMoves (state_of word heap) (state_of word h) [] []) (sym is) (opened_free regions word heap after c.requires.sound grant fresh made.regions made.head made.foot_head c.requires.none refl refl refl refl refl refl refl refl refl refl c.countdown_from-self.ensures refl);
+      free = subst (λ (h : Dlmalloc _). FreeMoves (state_of word heap) (state_of word h) [] []) (sym is) (opened_free after c.requires.sound fresh made.regions made.head made.foot_head c.requires.none refl refl refl refl refl refl refl refl refl refl c.countdown_from-self.ensures refl);
       same = subst (λ (h : Dlmalloc _). IsSameBins heap h) (sym is) (record { bins = refl; victim = refl });
     }

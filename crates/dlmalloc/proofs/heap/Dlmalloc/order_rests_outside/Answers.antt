@@ -4,6 +4,6 @@ use Rattle.dlmalloc.proofs.heap.Dlmalloc.order_rests_outside.Goals as goal
 
 pub returns : goal.returns
 returns g c = λ sound system stay outside before. (
-  still_binned g.A.Links.regions g.A.Links.word c.args.self.now sound system stay outside c.index_stays.ensures before,
+  still_binned sound system stay outside c.index_stays.ensures before,
   λ n. refl,
 )

@@ -4,20 +4,20 @@ use Rattle.dlmalloc.proofs.heap.Dlmalloc.prepend_head.Goals as goal
 
 pub overflow_add-self : goal.overflow_add-self
 overflow_add-self g c =
-    let e = head_ends g.A.Links.regions g.A.Links.word c.args.self.now c.requires.sound c.args.grant.now c.requires.behind in
+    let e = head_ends c.requires.sound c.args.grant.now c.requires.behind in
     let low = c.requires.fresh.low in
     grind arith
 
 pub put_two-requires-clause-head : goal.put_two-requires-clause-head
 put_two-requires-clause-head g c =
     let f = c.requires.fresh in
-    part_head (g.A.Links.regions c.args.self.now.system) (segments_of g.A.Links.word c.args.self.now) c.args.grant.now f c.args.grant.now.base (omega arith) (omega (arith, f.long)) f.base_aligned
+    part_head f c.args.grant.now.base (omega arith) (omega (arith, f.long)) f.base_aligned
 
 pub put_two-requires-clause-behind : goal.put_two-requires-clause-behind
 put_two-requires-clause-behind g c =
     let f = c.requires.fresh in
     let whole = c.requires.whole in let room = c.requires.room in let least = c.requires.least in
-    part_head (g.A.Links.regions c.args.self.now.system) (segments_of g.A.Links.word c.args.self.now) c.args.grant.now f (c.args.grant.now.base + c.args.n) (omega arith) (omega arith) (omega (arith, f.base_aligned))
+    part_head f (c.args.grant.now.base + c.args.n) (omega arith) (omega arith) (omega (arith, f.base_aligned))
 
 pub put_two-requires-clause-second : goal.put_two-requires-clause-second
 put_two-requires-clause-second g c = let size = c.requires.fresh.size_aligned in let whole = c.requires.whole in let room = c.requires.room in omega arith
@@ -28,11 +28,10 @@ put_two-requires-clause-ends g c = let high = c.requires.fresh.high in let room 
 pub returns : goal.returns
 returns g c =
     let regions = g.A.Links.regions in
-    let word = g.A.Links.word in
     let heap = c.args.self.now in
     let put = c.put_two.ensures in
     record {
-      prepended = before_head regions word g.A.Links.follows heap c.requires.sound c.args.grant.now c.requires.fresh c.args.n c.requires.whole c.requires.least c.requires.room (whole_each (regions heap.system) (g.A.Links.whole heap.system))
+      prepended = before_head g.A.Links.follows c.requires.sound c.requires.fresh c.args.n c.requires.whole c.requires.least c.requires.room (whole_each (regions heap.system) (g.A.Links.whole heap.system))
           c.put_two.new.memory put.regions put.first put.second put.follows c.requires.behind put.elsewhere;
       same = record { bins = refl; victim = refl };
     }

@@ -3,24 +3,24 @@ use Rattle.dlmalloc.proofs.Grants.BeforeWhich.{part_head, before_told, told_plac
 use Rattle.dlmalloc.proofs.heap.Dlmalloc.prepend_told.Goals as goal
 
 pub load_counted-size-requires : goal.load_counted-size-requires
-load_counted-size-requires g c = (told_place g.A.Links.regions g.A.Links.word c.args.self.now c.requires.sound c.args.grant.now c.args.payload c.requires.behind).size_word
+load_counted-size-requires g c = (told_place c.requires.sound c.args.grant.now c.requires.behind).size_word
 
 pub store_counted-requires : goal.store_counted-requires
-store_counted-requires g c = (told_place g.A.Links.regions g.A.Links.word c.args.self.now c.requires.sound c.args.grant.now c.args.payload c.requires.behind).base_word
+store_counted-requires g c = (told_place c.requires.sound c.args.grant.now c.requires.behind).base_word
 
 pub store_counted-requires-2 : goal.store_counted-requires-2
 store_counted-requires-2 g c = subst (λ rs. IsWordOf rs (c.args.payload + 8)) (sym c.store_counted.ensures.regions)
-    (told_place g.A.Links.regions g.A.Links.word c.args.self.now c.requires.sound c.args.grant.now c.args.payload c.requires.behind).size_word
+    (told_place c.requires.sound c.args.grant.now c.requires.behind).size_word
 
 pub overflow_add-payload : goal.overflow_add-payload
-overflow_add-payload g c = let high = (told_place g.A.Links.regions g.A.Links.word c.args.self.now c.requires.sound c.args.grant.now c.args.payload c.requires.behind).high in grind arith
+overflow_add-payload g c = let high = (told_place c.requires.sound c.args.grant.now c.requires.behind).high in grind arith
 
 pub overflow_add-payload-2 : goal.overflow_add-payload-2
-overflow_add-payload-2 g c = let high = (told_place g.A.Links.regions g.A.Links.word c.args.self.now c.requires.sound c.args.grant.now c.args.payload c.requires.behind).high in grind arith
+overflow_add-payload-2 g c = let high = (told_place c.requires.sound c.args.grant.now c.requires.behind).high in grind arith
 
 pub overflow_add-grant : goal.overflow_add-grant
 overflow_add-grant g c =
-    let sum = (told_place g.A.Links.regions g.A.Links.word c.args.self.now c.requires.sound c.args.grant.now c.args.payload c.requires.behind).sum in
+    let sum = (told_place c.requires.sound c.args.grant.now c.requires.behind).sum in
     let size = c.load_counted-size.ensures.value in
     grind arith
 
@@ -28,14 +28,14 @@ pub put_two-requires-clause-head : goal.put_two-requires-clause-head
 put_two-requires-clause-head g c =
     let f = c.requires.fresh in
     subst (λ rs. HasHead rs c.args.grant.now.base) (sym (c.store_counted-2.ensures.regions ∙ c.store_counted.ensures.regions))
-    (part_head (g.A.Links.regions c.args.self.now.system) (segments_of g.A.Links.word c.args.self.now) c.args.grant.now f c.args.grant.now.base (omega arith) (omega (arith, f.long)) f.base_aligned)
+    (part_head f c.args.grant.now.base (omega arith) (omega (arith, f.long)) f.base_aligned)
 
 pub put_two-requires-clause-behind : goal.put_two-requires-clause-behind
 put_two-requires-clause-behind g c =
     let f = c.requires.fresh in
     let whole = c.requires.whole in let room = c.requires.room in let least = c.requires.least in
     subst (λ rs. HasHead rs (c.args.grant.now.base + c.args.n)) (sym (c.store_counted-2.ensures.regions ∙ c.store_counted.ensures.regions))
-    (part_head (g.A.Links.regions c.args.self.now.system) (segments_of g.A.Links.word c.args.self.now) c.args.grant.now f (c.args.grant.now.base + c.args.n) (omega arith) (omega arith) (omega (arith, f.base_aligned)))
+    (part_head f (c.args.grant.now.base + c.args.n) (omega arith) (omega arith) (omega (arith, f.base_aligned)))
 
 pub put_two-requires-clause-second : goal.put_two-requires-clause-second
 put_two-requires-clause-second g c = let size = c.requires.fresh.size_aligned in let whole = c.requires.whole in let room = c.requires.room in omega arith
@@ -53,7 +53,7 @@ returns g c =
     let one = c.store_counted.ensures in
     let two = c.store_counted-2.ensures in
     let put = c.put_two.ensures in
-    let p = told_place regions word heap c.requires.sound grant payload c.requires.behind in
+    let p = told_place c.requires.sound grant c.requires.behind in
     let at_first = c.store_counted.new.self in
     let at_second = c.store_counted-2.new.self in
     let system = c.put_two.new.memory in
@@ -68,10 +68,9 @@ returns g c =
     put.elsewhere (payload + 8) (into (payload + 8) p.size_word) (λ is. p.apart (payload + 8) (omega arith) (omega arith) (omega (arith, is)) (omega (arith, is))) (λ is. p.apart (payload + 8) (omega arith) (omega arith) (omega (arith, is)) (omega (arith, is)))
     ∙ (two.stored.here ∙ (λ i. grant.size + c.load_counted-size.ensures.value i)) in
     record {
-      prepended = before_told regions word g.A.Links.follows heap c.requires.sound grant c.requires.fresh c.args.n c.requires.whole c.requires.least c.requires.room (whole_each (regions heap.system) (g.A.Links.whole heap.system))
+      prepended = before_told g.A.Links.follows c.requires.sound c.requires.fresh c.args.n c.requires.whole c.requires.least c.requires.room (whole_each (regions heap.system) (g.A.Links.whole heap.system))
           system (put.regions ∙ same) put.first put.second
-          (g.A.Links.follows_on heap.system at_second system [] [] [] (g.A.Links.follows_on heap.system at_first at_second [] [] [] one.follows two.follows refl) put.follows refl)
-          payload c.requires.behind base size
+          (g.A.Links.follows_on heap.system at_second system [] [] [] (g.A.Links.follows_on heap.system at_first at_second [] [] [] one.follows two.follows refl) put.follows refl) c.requires.behind base size
           (λ k inside not_first not_second not_base not_size. put.elsewhere k (into k inside) not_first not_second ∙ (two.stored.elsewhere k (onto k inside) not_size ∙ one.stored.elsewhere k inside not_base));
       same = record { bins = refl; victim = refl };
     }

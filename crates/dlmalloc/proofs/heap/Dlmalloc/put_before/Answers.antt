@@ -10,7 +10,7 @@ dispose_chunk-requires-clause-chunk g c = c.prepend.ensures.prepended.rest
 
 pub dispose_chunk-requires-clause-linked : goal.dispose_chunk-requires-clause-linked
 dispose_chunk-requires-clause-linked g c =
-    prepended_binned g.A.Links.regions g.A.Links.word g.A.Links.follows c.args.self.now c.prepend.new.self c.args.grant.now c.args.n c.prepend.ensures.prepended c.index_stays.ensures c.requires.sound c.prepend.ensures.same c.requires.linked
+    prepended_binned c.prepend.ensures.prepended c.index_stays.ensures c.requires.sound c.prepend.ensures.same c.requires.linked
 
 pub returns : goal.returns
 returns g c =
@@ -20,8 +20,8 @@ returns g c =
     let first = c.prepend.ensures.prepended in
     let last = c.dispose_chunk.ensures in
     record {
-      put = put_before_is g.A.Links.regions g.A.Links.word g.A.Links.follows heap middle new c.args.grant.now c.args.n c.requires.least first last.state last.less last.moved last.records
+      put = put_before_is c.requires.least first last.state last.less last.moved last.records
           (g.A.Links.follows_on heap.system middle.system new.system [] [] [] first.followed last.moved.followed refl);
       linked = last.linked;
-      order = λ b. last.order (prepended_binned g.A.Links.regions g.A.Links.word g.A.Links.follows heap middle c.args.grant.now c.args.n first c.index_stays.ensures c.requires.sound c.prepend.ensures.same b);
+      order = λ b. last.order (prepended_binned first c.index_stays.ensures c.requires.sound c.prepend.ensures.same b);
     }

@@ -5,33 +5,33 @@ use Rattle.dlmalloc.proofs.Returns.PassOrder.{with_same, visit_none, visit_left,
 use Rattle.dlmalloc.proofs.heap.Dlmalloc.release_segment.Goals as goal
 
 pub may_leave-requires-clause-head : goal.may_leave-requires-clause-head
-may_leave-requires-clause-head g c = first_there g.A.Links.regions g.A.Links.word c.args.self.now c.requires.sound c.requires.there c.args.before c.args.told.now c.requires.chained
+may_leave-requires-clause-head g c = first_there c.requires.sound c.requires.there c.requires.chained
 
 pub may_leave-requires-clause-long : goal.may_leave-requires-clause-long
-may_leave-requires-clause-long g c = long_told g.A.Links.regions g.A.Links.word c.args.self.now c.requires.sound c.requires.there c.args.before c.args.told.now c.requires.chained
+may_leave-requires-clause-long g c = long_told c.requires.sound c.requires.there c.requires.chained
 
 pub returns-then-not-may_leave-clause-answer : goal.returns-then-not-may_leave-clause-answer
 returns-then-not-may_leave-clause-answer g c = λ chained.
     let heap = c.args.self.now in
-    let may = sym c.if-not-may_leave.true ∙ (c.may_leave.ensures.told ∙ test_is g.A.Links.regions g.A.Links.word heap c.requires.sound c.requires.there c.args.before c.args.told.now chained (g.A.Allocator.parts heap.system)) in
+    let may = sym c.if-not-may_leave.true ∙ (c.may_leave.ensures.told ∙ test_is c.requires.sound c.requires.there chained (g.A.Allocator.parts heap.system)) in
     never (g.A.Allocator.frees heap.system) ∙ ap (λ (b : Bool). g.A.Allocator.frees heap.system && b) may
 
 pub returns-then-not-may_leave-clause-visited : goal.returns-then-not-may_leave-clause-visited
 returns-then-not-may_leave-clause-visited g c = λ chained.
     let heap = c.args.self.now in
-    let may = sym c.if-not-may_leave.true ∙ (c.may_leave.ensures.told ∙ test_is g.A.Links.regions g.A.Links.word heap c.requires.sound c.requires.there c.args.before c.args.told.now chained (g.A.Allocator.parts heap.system)) in
+    let may = sym c.if-not-may_leave.true ∙ (c.may_leave.ensures.told ∙ test_is c.requires.sound c.requires.there chained (g.A.Allocator.parts heap.system)) in
     subst (λ (handed : Bool). IsVisited g.A.Links.regions g.A.Links.word g.A.Links.follows handed false heap c.args.before c.args.told.now chained heap) may
-    (stays g.A.Links.regions g.A.Links.word heap c.requires.sound c.requires.there c.args.before c.args.told.now chained g.A.Links.follows g.A.Links.follows_none false)
+    (stays c.requires.sound c.requires.there chained g.A.Links.follows g.A.Links.follows_none false)
 
 pub overflow_sub-size : goal.overflow_sub-size
-overflow_sub-size g c = let long = long_told g.A.Links.regions g.A.Links.word c.args.self.now c.requires.sound c.requires.there c.args.before c.args.told.now c.requires.chained in omega (arith, long)
+overflow_sub-size g c = let long = long_told c.requires.sound c.requires.there c.requires.chained in omega (arith, long)
 
 pub unbin-requires-clause-free : goal.unbin-requires-clause-free
 unbin-requires-clause-free g c =
     let heap = c.args.self.now in
     let chained = c.requires.chained in
-    let may = sym c.if-not-may_leave.false ∙ (c.may_leave.ensures.told ∙ test_is g.A.Links.regions g.A.Links.word heap c.requires.sound c.requires.there c.args.before c.args.told.now chained (g.A.Allocator.parts heap.system)) in
-    first_is_free g.A.Links.regions g.A.Links.word heap c.requires.sound c.requires.there c.args.before c.args.told.now chained (last_test (is_own chained.segment) (g.A.Allocator.parts heap.system) (is_unused chained.segment) may)
+    let may = sym c.if-not-may_leave.false ∙ (c.may_leave.ensures.told ∙ test_is c.requires.sound c.requires.there chained (g.A.Allocator.parts heap.system)) in
+    first_is_free c.requires.sound c.requires.there chained (last_test (is_own chained.segment) (g.A.Allocator.parts heap.system) (is_unused chained.segment) may)
 
 pub unbin-requires-clause-binned : goal.unbin-requires-clause-binned
 unbin-requires-clause-binned g c = ([], c.requires.linked, λ none. none)
@@ -43,20 +43,19 @@ pub hand_out-requires-clause-there : goal.hand_out-requires-clause-there
 hand_out-requires-clause-there g c = subst (λ (now : Dlmalloc g.row.A.Denot). 0 < now.size) (sym c.unbin.ensures.same.fields) c.requires.there
 
 pub hand_out-requires-clause-chained : goal.hand_out-requires-clause-chained
-hand_out-requires-clause-chained g c = chained_then g.A.Links.regions g.A.Links.word g.A.Links.follows c.args.self.now c.unbin.new.self c.requires.sound c.unbin.ensures.same c.args.before c.args.told.now c.requires.chained
+hand_out-requires-clause-chained g c = chained_then c.requires.sound c.unbin.ensures.same c.requires.chained
 
 pub hand_out-requires-clause-may : goal.hand_out-requires-clause-may
 hand_out-requires-clause-may g c = λ chained.
     let fixed = g.met.A.Allocator.fixed c.args.self.now.system c.unbin.new.self.system _ c.unbin.ensures.same.followed in
     ap (λ (parts : Bool). may_leave parts chained.segment) fixed.parts_same
-    ∙ may_still g.A.Links.regions g.A.Links.word g.A.Links.follows c.args.self.now c.unbin.new.self c.requires.sound c.unbin.ensures.same c.requires.there (g.A.Allocator.parts c.args.self.now.system) c.args.before c.args.told.now
+    ∙ may_still c.requires.sound c.unbin.ensures.same c.requires.there (g.A.Allocator.parts c.args.self.now.system)
     (sym c.may_leave.ensures.told ∙ c.if-not-may_leave.false) chained
 
 pub returns-then-not-may_leave-clause-index : goal.returns-then-not-may_leave-clause-index
 returns-then-not-may_leave-clause-index g c = λ chained b.
     let heap = c.args.self.now in
-    let told = c.args.told.now in
-    let may = sym c.if-not-may_leave.true ∙ (c.may_leave.ensures.told ∙ test_is g.A.Links.regions g.A.Links.word heap c.requires.sound c.requires.there c.args.before told chained (g.A.Allocator.parts heap.system)) in
+    let may = sym c.if-not-may_leave.true ∙ (c.may_leave.ensures.told ∙ test_is c.requires.sound c.requires.there chained (g.A.Allocator.parts heap.system)) in
     (b, λ n. visit_none (g.A.Allocator.frees heap.system) (g.A.Allocator.parts heap.system) chained.segment b.index n may)
 
 -- ---- the system took it
@@ -73,24 +72,24 @@ returns-then-hand_out g c =
     let fixed = g.met.A.Allocator.fixed heap.system middle.system _ c.unbin.ensures.same.followed in
     let takes : true ≡ frees = sym c.if-hand_out.true ∙ (e.answer ∙ fixed.frees_same) in
     let may : (chained : IsChained g.A.Links.word heap c.args.before told) → true ≡ may_leave parts chained.segment = λ chained.
-    sym c.if-not-may_leave.false ∙ (c.may_leave.ensures.told ∙ test_is g.A.Links.regions g.A.Links.word heap c.requires.sound c.requires.there c.args.before told chained parts) in
+    sym c.if-not-may_leave.false ∙ (c.may_leave.ensures.told ∙ test_is c.requires.sound c.requires.there chained parts) in
     let chain : (chained : IsChained g.A.Links.word heap c.args.before told) → IsChained g.A.Links.word middle c.args.before told = λ chained.
-    chained_then g.A.Links.regions g.A.Links.word g.A.Links.follows heap middle c.requires.sound c.unbin.ensures.same c.args.before told chained in
+    chained_then c.requires.sound c.unbin.ensures.same chained in
     let visited : (chained : IsChained g.A.Links.word heap c.args.before told) → IsVisited g.A.Links.regions g.A.Links.word g.A.Links.follows true true heap c.args.before told chained new = λ chained.
-    visited_then g.A.Links.regions g.A.Links.word g.A.Links.follows g.A.Links.follows_on heap c.requires.sound c.args.before told chained middle c.unbin.ensures.same true true new
+    visited_then g.A.Links.follows g.A.Links.follows_on c.requires.sound chained c.unbin.ensures.same
     (subst (λ (leaves : Bool). IsVisited g.A.Links.regions g.A.Links.word g.A.Links.follows true leaves middle c.args.before told (chain chained) new) c.if-hand_out.true (e.visited (chain chained))) in
     let moves = subst (λ (left : Bool). FreeMoves (state_of g.A.Links.word middle) (state_of g.A.Links.word new) (if left then told.base ∷ [] else []) []) c.if-hand_out.true e.free in
     let after : (loose : IsBinnedBut (told.base ∷ []) g.A.Links.regions g.A.Links.word middle) → IsBinned g.A.Links.regions g.A.Links.word new = λ loose.
-    binned_without c.index_stays.ensures g.A.Links.regions g.A.Links.word g.A.Links.follows middle new c.unbin.ensures.same.sound c.args.before told (chain c.requires.chained) c.hand_out.result (e.visited (chain c.requires.chained)) e.words e.bins moves loose in
+    binned_without c.index_stays.ensures c.unbin.ensures.same.sound (e.visited (chain c.requires.chained)) e.words e.bins moves loose in
     record {
       answer = λ chained. (λ i. takes i && may chained i);
       visited = λ chained. subst (λ (handed : Bool). IsVisited g.A.Links.regions g.A.Links.word g.A.Links.follows handed true heap c.args.before told chained new) (may chained) (visited chained);
       linked = after (c.unbin.ensures.loose [] c.requires.linked (λ none. none)).0;
       index = λ chained b.
           let left = c.unbin.ensures.loose [] b (λ none. none) in
-          let base = base_is g.A.Links.regions g.A.Links.word heap c.requires.sound c.requires.there c.args.before told chained in
-          let size = ap (λ (n : ℕ). n - 80) (size_is g.A.Links.regions g.A.Links.word heap c.requires.sound c.requires.there c.args.before told chained) in
-          (after left.0, λ n. left.1 n ∙ visit_left frees parts chained.segment b.index n told.base (told.size - 80) base size (may chained) takes);
+          let base = base_is c.requires.sound c.requires.there chained in
+          let size = ap (λ (n : ℕ). n - 80) (size_is c.requires.sound c.requires.there chained) in
+          (after left.0, λ n. left.1 n ∙ visit_left frees parts chained.segment b.index n base size (may chained) takes);
       counted = (let tested = c.may_leave.ensures.counted in let left = c.unbin.ensures.counted in let handed = e.counted in omega (arith, tested, left, handed));
     }
 
@@ -98,7 +97,7 @@ returns-then-hand_out g c =
 
 pub bin-requires-clause-sound : goal.bin-requires-clause-sound
 bin-requires-clause-sound g c =
-    (c.hand_out.ensures.visited (chained_then g.A.Links.regions g.A.Links.word g.A.Links.follows c.args.self.now c.unbin.new.self c.requires.sound c.unbin.ensures.same c.args.before c.args.told.now c.requires.chained)).left.sound
+    (c.hand_out.ensures.visited (chained_then c.requires.sound c.unbin.ensures.same c.requires.chained)).left.sound
 
 pub bin-requires-clause-free : goal.bin-requires-clause-free
 bin-requires-clause-free g c =
@@ -107,29 +106,25 @@ bin-requires-clause-free g c =
     let told = c.args.told.now in
     let new = c.hand_out.new.self in
     let chained = c.requires.chained in
-    let may = sym c.if-not-may_leave.false ∙ (c.may_leave.ensures.told ∙ test_is g.A.Links.regions g.A.Links.word heap c.requires.sound c.requires.there c.args.before told chained (g.A.Allocator.parts heap.system)) in
-    let first = first_is_free g.A.Links.regions g.A.Links.word heap c.requires.sound c.requires.there c.args.before told chained (last_test (is_own chained.segment) (g.A.Allocator.parts heap.system) (is_unused chained.segment) may) in
+    let may = sym c.if-not-may_leave.false ∙ (c.may_leave.ensures.told ∙ test_is c.requires.sound c.requires.there chained (g.A.Allocator.parts heap.system)) in
+    let first = first_is_free c.requires.sound c.requires.there chained (last_test (is_own chained.segment) (g.A.Allocator.parts heap.system) (is_unused chained.segment) may) in
     let moves = subst (λ (left : Bool). FreeMoves (state_of g.A.Links.word middle) (state_of g.A.Links.word new) (if left then told.base ∷ [] else []) []) c.if-hand_out.false c.hand_out.ensures.free in
     (moves.stays told.base (told.size - 80) (subst (λ (s : HeapState). IsFreeAt s told.base (told.size - 80)) (sym c.unbin.ensures.same.state) first) (λ none. none)).0
 
 pub bin-requires-clause-other : goal.bin-requires-clause-other
 bin-requires-clause-other g c =
-    let heap = c.args.self.now in
-    let middle = c.unbin.new.self in
-    let told = c.args.told.now in
-    let chain = chained_then g.A.Links.regions g.A.Links.word g.A.Links.follows heap middle c.requires.sound c.unbin.ensures.same c.args.before told c.requires.chained in
-    not_victim g.A.Links.regions g.A.Links.word g.A.Links.follows middle c.hand_out.new.self c.unbin.ensures.same.sound c.args.before told chain c.hand_out.result (c.hand_out.ensures.visited chain)
+    let chain = chained_then c.requires.sound c.unbin.ensures.same c.requires.chained in
+    not_victim c.unbin.ensures.same.sound (c.hand_out.ensures.visited chain)
 
 pub bin-requires-clause-loose : goal.bin-requires-clause-loose
 bin-requires-clause-loose g c =
-    let heap = c.args.self.now in
     let middle = c.unbin.new.self in
     let told = c.args.told.now in
     let new = c.hand_out.new.self in
     let e = c.hand_out.ensures in
-    let chain = chained_then g.A.Links.regions g.A.Links.word g.A.Links.follows heap middle c.requires.sound c.unbin.ensures.same c.args.before told c.requires.chained in (
+    let chain = chained_then c.requires.sound c.unbin.ensures.same c.requires.chained in (
       [],
-      loose_still c.index_stays.ensures g.A.Links.regions g.A.Links.word g.A.Links.follows middle new c.unbin.ensures.same.sound c.args.before told chain c.hand_out.result (e.visited chain) e.words e.bins
+      loose_still c.index_stays.ensures c.unbin.ensures.same.sound (e.visited chain) e.words e.bins
           (subst (λ (left : Bool). FreeMoves (state_of g.A.Links.word middle) (state_of g.A.Links.word new) (if left then told.base ∷ [] else []) []) c.if-hand_out.false e.free)
           (c.unbin.ensures.loose [] c.requires.linked (λ none. none)).0,
     )
@@ -146,25 +141,25 @@ returns g c =
     let fixed = g.met.A.Allocator.fixed heap.system middle.system _ c.unbin.ensures.same.followed in
     let takes : false ≡ frees = sym c.if-hand_out.false ∙ (e.answer ∙ fixed.frees_same) in
     let may : (chained : IsChained g.A.Links.word heap c.args.before told) → true ≡ may_leave parts chained.segment = λ chained.
-    sym c.if-not-may_leave.false ∙ (c.may_leave.ensures.told ∙ test_is g.A.Links.regions g.A.Links.word heap c.requires.sound c.requires.there c.args.before told chained parts) in
+    sym c.if-not-may_leave.false ∙ (c.may_leave.ensures.told ∙ test_is c.requires.sound c.requires.there chained parts) in
     let chain : (chained : IsChained g.A.Links.word heap c.args.before told) → IsChained g.A.Links.word middle c.args.before told = λ chained.
-    chained_then g.A.Links.regions g.A.Links.word g.A.Links.follows heap middle c.requires.sound c.unbin.ensures.same c.args.before told chained in
+    chained_then c.requires.sound c.unbin.ensures.same chained in
     let visited : (chained : IsChained g.A.Links.word heap c.args.before told) → IsVisited g.A.Links.regions g.A.Links.word g.A.Links.follows true false heap c.args.before told chained new = λ chained.
-    visited_then g.A.Links.regions g.A.Links.word g.A.Links.follows g.A.Links.follows_on heap c.requires.sound c.args.before told chained middle c.unbin.ensures.same true false new
+    visited_then g.A.Links.follows g.A.Links.follows_on c.requires.sound chained c.unbin.ensures.same
     (subst (λ (leaves : Bool). IsVisited g.A.Links.regions g.A.Links.word g.A.Links.follows true leaves middle c.args.before told (chain chained) new) c.if-hand_out.false (e.visited (chain chained))) in
     let moves = subst (λ (left : Bool). FreeMoves (state_of g.A.Links.word middle) (state_of g.A.Links.word new) (if left then told.base ∷ [] else []) []) c.if-hand_out.false e.free in
     let after : (loose : IsBinnedBut (told.base ∷ []) g.A.Links.regions g.A.Links.word middle) → IsBinnedBut (told.base ∷ []) g.A.Links.regions g.A.Links.word new = λ loose.
-    loose_still c.index_stays.ensures g.A.Links.regions g.A.Links.word g.A.Links.follows middle new c.unbin.ensures.same.sound c.args.before told (chain c.requires.chained) c.hand_out.result (e.visited (chain c.requires.chained)) e.words e.bins moves loose in
+    loose_still c.index_stays.ensures c.unbin.ensures.same.sound (e.visited (chain c.requires.chained)) e.words e.bins moves loose in
     record {
       answer = λ chained. (λ i. takes i && may chained i);
       visited = λ chained. subst (λ (handed : Bool). IsVisited g.A.Links.regions g.A.Links.word g.A.Links.follows handed false heap c.args.before told chained c.bin.new.self) (may chained)
-          (visited_binned g.A.Links.regions g.A.Links.word g.A.Links.follows g.A.Links.follows_on heap c.requires.sound c.args.before told chained true new c.bin.new.self (visited chained) c.bin.ensures.same);
+          (visited_binned g.A.Links.follows g.A.Links.follows_on c.requires.sound chained new (visited chained) c.bin.ensures.same);
       linked = (c.bin.ensures.binned [] (after (c.unbin.ensures.loose [] c.requires.linked (λ none. none)).0) (λ none. none)).0;
       index = λ chained b.
           let left = c.unbin.ensures.loose [] b (λ none. none) in
-          let base = base_is g.A.Links.regions g.A.Links.word heap c.requires.sound c.requires.there c.args.before told chained in
-          let size = ap (λ (n : ℕ). n - 80) (size_is g.A.Links.regions g.A.Links.word heap c.requires.sound c.requires.there c.args.before told chained) in
+          let base = base_is c.requires.sound c.requires.there chained in
+          let size = ap (λ (n : ℕ). n - 80) (size_is c.requires.sound c.requires.there chained) in
           let last = c.bin.ensures.binned [] (after left.0) (λ none. none) in
-          (last.0, λ n. last.1 n ∙ (with_same (told.size - 80) told.base left.0.index (without_chunk (told.size - 80) told.base b.index) n (left.1 n) ∙ visit_kept frees parts chained.segment b.index n told.base (told.size - 80) base size (may chained) takes));
+          (last.0, λ n. last.1 n ∙ (with_same (told.size - 80) told.base left.0.index (without_chunk (told.size - 80) told.base b.index) n (left.1 n) ∙ visit_kept frees parts chained.segment b.index n base size (may chained) takes));
       counted = (let tested = c.may_leave.ensures.counted in let left = c.unbin.ensures.counted in let handed = e.counted in let put = c.bin.ensures.counted in omega (arith, tested, left, handed, put));
     }

@@ -8,94 +8,94 @@ use Rattle.dlmalloc.proofs.Bins.Order.{order_same}
 use Rattle.dlmalloc.proofs.heap.Dlmalloc.resize_chunk.Goals as goal
 
 pub size-size-requires : goal.size-size-requires
-size-size-requires g c = record { head = head_there g.A.Links.regions g.A.Links.word c.args.self.now c.requires.sound c.args.at c.requires.chunk.0 c.requires.chunk.1 }
+size-size-requires g c = record { head = head_there c.requires.sound c.requires.chunk.1 }
 
 pub free_tail-requires-clause-chunk : goal.free_tail-requires-clause-chunk
-free_tail-requires-clause-chunk g c = chunk_told g.A.Links.regions g.A.Links.word c.args.self.now c.requires.sound c.args.at c.requires.chunk.0 c.requires.chunk.1 c.size-size.result c.size-size.ensures.value
+free_tail-requires-clause-chunk g c = chunk_told c.requires.sound c.requires.chunk.1 c.size-size.ensures.value
 
 pub returns-then-size-n-ge-LEAST_CHUNK-clause-resized : goal.returns-then-size-n-ge-LEAST_CHUNK-clause-resized
 returns-then-size-n-ge-LEAST_CHUNK-clause-resized g c =
-    let there = chunk_told g.A.Links.regions g.A.Links.word c.args.self.now c.requires.sound c.args.at c.requires.chunk.0 c.requires.chunk.1 c.size-size.result c.size-size.ensures.value in
+    let there = chunk_told c.requires.sound c.requires.chunk.1 c.size-size.ensures.value in
     let fits = c.if-n-size.true in
     let rest = c.if-size-n-ge-LEAST_CHUNK.true in
-    λ yes. shrinks (state_of g.A.Links.word c.args.self.now) c.args.at c.size-size.result c.args.n there (omega arith) ∙ ap Some (sym c.free_tail.ensures.state)
+    λ yes. shrinks (state_of g.A.Links.word c.args.self.now) c.args.n there (omega arith) ∙ ap Some (sym c.free_tail.ensures.state)
 
 pub returns-else-size-n-ge-LEAST_CHUNK-clause-resized : goal.returns-else-size-n-ge-LEAST_CHUNK-clause-resized
 returns-else-size-n-ge-LEAST_CHUNK-clause-resized g c =
-    let there = chunk_told g.A.Links.regions g.A.Links.word c.args.self.now c.requires.sound c.args.at c.requires.chunk.0 c.requires.chunk.1 c.size-size.result c.size-size.ensures.value in
+    let there = chunk_told c.requires.sound c.requires.chunk.1 c.size-size.ensures.value in
     let fits = c.if-n-size.true in
     let few = c.if-size-n-ge-LEAST_CHUNK.false in
-    λ yes. stays (state_of g.A.Links.word c.args.self.now) c.args.at c.size-size.result c.args.n there fits (omega arith)
+    λ yes. stays (state_of g.A.Links.word c.args.self.now) c.args.n there fits (omega arith)
 
 pub returns-else-size-n-ge-LEAST_CHUNK-clause-held : goal.returns-else-size-n-ge-LEAST_CHUNK-clause-held
 returns-else-size-n-ge-LEAST_CHUNK-clause-held g c =
-    let there = chunk_told g.A.Links.regions g.A.Links.word c.args.self.now c.requires.sound c.args.at c.requires.chunk.0 c.requires.chunk.1 c.size-size.result c.size-size.ensures.value in
+    let there = chunk_told c.requires.sound c.requires.chunk.1 c.size-size.ensures.value in
     let fits = c.if-n-size.true in
     let few = c.if-size-n-ge-LEAST_CHUNK.false in
     λ yes. (c.size-size.result, there, fits, omega arith)
 
 pub overflow_add-next : goal.overflow_add-next
 overflow_add-next g c =
-    let there = chunk_told g.A.Links.regions g.A.Links.word c.args.self.now c.requires.sound c.args.at c.requires.chunk.0 c.requires.chunk.1 c.size-size.result c.size-size.ensures.value in
-    let small = behind_small g.A.Links.regions g.A.Links.word c.args.self.now c.requires.sound c.args.at c.size-size.result there in grind arith
+    let there = chunk_told c.requires.sound c.requires.chunk.1 c.size-size.ensures.value in
+    let small = behind_small c.requires.sound there in grind arith
 
 pub returns-then-more-self-clause-none : goal.returns-then-more-self-clause-none
 returns-then-more-self-clause-none g c =
-    let there = chunk_told g.A.Links.regions g.A.Links.word c.args.self.now c.requires.sound c.args.at c.requires.chunk.0 c.requires.chunk.1 c.size-size.result c.size-size.ensures.value in
+    let there = chunk_told c.requires.sound c.requires.chunk.1 c.size-size.ensures.value in
     let more = c.if-n-size.false in
     let little = c.if-more-self.true in
     let room : nat_lt c.args.n (c.size-size.result + c.args.self.now.top_size) ≡ false = grind (arith, nat_tests) in
-    λ no. has_no_room (state_of g.A.Links.word c.args.self.now) c.args.at c.size-size.result c.args.n there more (extent (c.args.at + c.size-size.result) c.args.self.now.top_size Top) (top_behind g.A.Links.regions g.A.Links.word c.args.self.now c.requires.sound c.args.at c.size-size.result there c.if-next-self.true) room
+    λ no. has_no_room (state_of g.A.Links.word c.args.self.now) c.args.n there more (top_behind c.requires.sound there c.if-next-self.true) room
 
 pub grow_into_top-requires-clause-chunk : goal.grow_into_top-requires-clause-chunk
-grow_into_top-requires-clause-chunk g c = chunk_told g.A.Links.regions g.A.Links.word c.args.self.now c.requires.sound c.args.at c.requires.chunk.0 c.requires.chunk.1 c.size-size.result c.size-size.ensures.value
+grow_into_top-requires-clause-chunk g c = chunk_told c.requires.sound c.requires.chunk.1 c.size-size.ensures.value
 
 pub returns-then-next-self-clause-resized : goal.returns-then-next-self-clause-resized
 returns-then-next-self-clause-resized g c =
-    let there = chunk_told g.A.Links.regions g.A.Links.word c.args.self.now c.requires.sound c.args.at c.requires.chunk.0 c.requires.chunk.1 c.size-size.result c.size-size.ensures.value in
+    let there = chunk_told c.requires.sound c.requires.chunk.1 c.size-size.ensures.value in
     let more = c.if-n-size.false in
     let much = c.if-more-self.false in
     let room : nat_lt c.args.n (c.size-size.result + c.args.self.now.top_size) ≡ true = grind (arith, nat_tests) in
-    λ yes. grows (state_of g.A.Links.word c.args.self.now) c.args.at c.size-size.result c.args.n there more (extent (c.args.at + c.size-size.result) c.args.self.now.top_size Top) (top_behind g.A.Links.regions g.A.Links.word c.args.self.now c.requires.sound c.args.at c.size-size.result there c.if-next-self.true) room ∙ ap Some (sym c.grow_into_top.ensures.state)
+    λ yes. grows (state_of g.A.Links.word c.args.self.now) c.args.n there more (top_behind c.requires.sound there c.if-next-self.true) room ∙ ap Some (sym c.grow_into_top.ensures.state)
 
 pub inuse-requires : goal.inuse-requires
 inuse-requires g c =
-    let there = chunk_told g.A.Links.regions g.A.Links.word c.args.self.now c.requires.sound c.args.at c.requires.chunk.0 c.requires.chunk.1 c.size-size.result c.size-size.ensures.value in
-    record { head = behind_there g.A.Links.regions g.A.Links.word c.args.self.now c.requires.sound c.args.at c.size-size.result there }
+    let there = chunk_told c.requires.sound c.requires.chunk.1 c.size-size.ensures.value in
+    record { head = behind_there c.requires.sound there }
 
 pub returns-then-inuse-clause-none : goal.returns-then-inuse-clause-none
 returns-then-inuse-clause-none g c =
-    let there = chunk_told g.A.Links.regions g.A.Links.word c.args.self.now c.requires.sound c.args.at c.requires.chunk.0 c.requires.chunk.1 c.size-size.result c.size-size.ensures.value in
-    λ no. used_behind g.A.Links.regions g.A.Links.word c.args.self.now c.requires.sound c.args.at c.size-size.result there c.if-next-self.false c.args.n c.if-n-size.false (not_free _ (sym c.inuse.ensures.value ∙ c.if-inuse.true))
+    let there = chunk_told c.requires.sound c.requires.chunk.1 c.size-size.ensures.value in
+    λ no. used_behind c.requires.sound there c.if-next-self.false c.args.n c.if-n-size.false (not_free _ (sym c.inuse.ensures.value ∙ c.if-inuse.true))
 
 pub size-free-requires : goal.size-free-requires
 size-free-requires g c =
-    let there = chunk_told g.A.Links.regions g.A.Links.word c.args.self.now c.requires.sound c.args.at c.requires.chunk.0 c.requires.chunk.1 c.size-size.result c.size-size.ensures.value in
-    record { head = behind_there g.A.Links.regions g.A.Links.word c.args.self.now c.requires.sound c.args.at c.size-size.result there }
+    let there = chunk_told c.requires.sound c.requires.chunk.1 c.size-size.ensures.value in
+    record { head = behind_there c.requires.sound there }
 
 pub returns-then-free-more-clause-none : goal.returns-then-free-more-clause-none
 returns-then-free-more-clause-none g c =
-    let there = chunk_told g.A.Links.regions g.A.Links.word c.args.self.now c.requires.sound c.args.at c.requires.chunk.0 c.requires.chunk.1 c.size-size.result c.size-size.ensures.value in
+    let there = chunk_told c.requires.sound c.requires.chunk.1 c.size-size.ensures.value in
     let more = c.if-n-size.false in
     let little = c.if-free-more.true in
     let room : nat_le c.args.n (c.size-size.result + c.size-free.result) ≡ false = grind (arith, nat_tests) in
-    λ no. has_no_room (state_of g.A.Links.word c.args.self.now) c.args.at c.size-size.result c.args.n there more (extent (c.args.at + c.size-size.result) c.size-free.result Free) (free_behind g.A.Links.regions g.A.Links.word c.args.self.now c.requires.sound c.args.at c.size-size.result there c.if-next-self.false (is_free_told _ (sym c.inuse.ensures.value ∙ c.if-inuse.false)) c.size-free.result c.size-free.ensures.value) room
+    λ no. has_no_room (state_of g.A.Links.word c.args.self.now) c.args.n there more (free_behind c.requires.sound there c.if-next-self.false (is_free_told _ (sym c.inuse.ensures.value ∙ c.if-inuse.false)) c.size-free.ensures.value) room
 
 pub grow_into_free-requires-clause-chunk : goal.grow_into_free-requires-clause-chunk
-grow_into_free-requires-clause-chunk g c = chunk_told g.A.Links.regions g.A.Links.word c.args.self.now c.requires.sound c.args.at c.requires.chunk.0 c.requires.chunk.1 c.size-size.result c.size-size.ensures.value
+grow_into_free-requires-clause-chunk g c = chunk_told c.requires.sound c.requires.chunk.1 c.size-size.ensures.value
 
 pub grow_into_free-requires-clause-next : goal.grow_into_free-requires-clause-next
 grow_into_free-requires-clause-next g c =
-    let there = chunk_told g.A.Links.regions g.A.Links.word c.args.self.now c.requires.sound c.args.at c.requires.chunk.0 c.requires.chunk.1 c.size-size.result c.size-size.ensures.value in
-    free_behind g.A.Links.regions g.A.Links.word c.args.self.now c.requires.sound c.args.at c.size-size.result there c.if-next-self.false (is_free_told _ (sym c.inuse.ensures.value ∙ c.if-inuse.false)) c.size-free.result c.size-free.ensures.value
+    let there = chunk_told c.requires.sound c.requires.chunk.1 c.size-size.ensures.value in
+    free_behind c.requires.sound there c.if-next-self.false (is_free_told _ (sym c.inuse.ensures.value ∙ c.if-inuse.false)) c.size-free.ensures.value
 
 pub returns-clause-resized : goal.returns-clause-resized
 returns-clause-resized g c =
-    let there = chunk_told g.A.Links.regions g.A.Links.word c.args.self.now c.requires.sound c.args.at c.requires.chunk.0 c.requires.chunk.1 c.size-size.result c.size-size.ensures.value in
+    let there = chunk_told c.requires.sound c.requires.chunk.1 c.size-size.ensures.value in
     let more = c.if-n-size.false in
     let much = c.if-free-more.false in
     let room : nat_le c.args.n (c.size-size.result + c.size-free.result) ≡ true = grind (arith, nat_tests) in
-    λ yes. grows (state_of g.A.Links.word c.args.self.now) c.args.at c.size-size.result c.args.n there more (extent (c.args.at + c.size-size.result) c.size-free.result Free) (free_behind g.A.Links.regions g.A.Links.word c.args.self.now c.requires.sound c.args.at c.size-size.result there c.if-next-self.false (is_free_told _ (sym c.inuse.ensures.value ∙ c.if-inuse.false)) c.size-free.result c.size-free.ensures.value) room ∙ ap Some (sym c.grow_into_free.ensures.state)
+    λ yes. grows (state_of g.A.Links.word c.args.self.now) c.args.n there more (free_behind c.requires.sound there c.if-next-self.false (is_free_told _ (sym c.inuse.ensures.value ∙ c.if-inuse.false)) c.size-free.ensures.value) room ∙ ap Some (sym c.grow_into_free.ensures.state)
 
 pub returns-else-size-n-ge-LEAST_CHUNK-clause-moved : goal.returns-else-size-n-ge-LEAST_CHUNK-clause-moved
 returns-else-size-n-ge-LEAST_CHUNK-clause-moved g c = record { sound = c.requires.sound; words = λ k inside was own. refl; regions_same = refl; followed = g.A.Links.follows_none c.args.self.now.system }
@@ -107,17 +107,17 @@ pub returns-then-free-more-clause-moved : goal.returns-then-free-more-clause-mov
 returns-then-free-more-clause-moved g c = record { sound = c.requires.sound; words = λ k inside was own. refl; regions_same = refl; followed = g.A.Links.follows_none c.args.self.now.system }
 
 pub returns-then-next-self-clause-moved : goal.returns-then-next-self-clause-moved
-returns-then-next-self-clause-moved g c = as_turned g.A.Links.regions g.A.Links.word g.A.Allocator.zeros g.A.Links.follows c.args.self.now c.requires.sound c.args.n c.grow_into_top.new.self c.grow_into_top.ensures.moved
+returns-then-next-self-clause-moved g c = as_turned g.A.Allocator.zeros g.A.Links.follows c.requires.sound c.args.n c.grow_into_top.ensures.moved
 
 pub returns-then-next-self-clause-linked : goal.returns-then-next-self-clause-linked
 returns-then-next-self-clause-linked g c =
     let e = c.grow_into_top.ensures in
-    binned_beside c.index_stays.ensures g.A.Links.regions g.A.Links.word g.A.Links.follows c.args.self.now c.grow_into_top.new.self c.requires.sound e.moved e.bins e.free (ap (λ (s : HeapState). s.victim) e.state) c.requires.linked
+    binned_beside c.index_stays.ensures c.requires.sound e.moved e.bins e.free (ap (λ (s : HeapState). s.victim) e.state) c.requires.linked
 
 pub returns-then-next-self-clause-order : goal.returns-then-next-self-clause-order
 returns-then-next-self-clause-order g c = λ b.
     let e = c.grow_into_top.ensures in
-    (binned_beside c.index_stays.ensures g.A.Links.regions g.A.Links.word g.A.Links.follows c.args.self.now c.grow_into_top.new.self c.requires.sound e.moved e.bins e.free (ap (λ (s : HeapState). s.victim) e.state) b, order_same b.index)
+    (binned_beside c.index_stays.ensures c.requires.sound e.moved e.bins e.free (ap (λ (s : HeapState). s.victim) e.state) b, order_same b.index)
 
 pub returns-else-size-n-ge-LEAST_CHUNK-clause-order : goal.returns-else-size-n-ge-LEAST_CHUNK-clause-order
 returns-else-size-n-ge-LEAST_CHUNK-clause-order g c = λ b. (b, order_same b.index)

@@ -4,7 +4,7 @@ use Rattle.dlmalloc.proofs.heap.Dlmalloc.resize_or_move.Goals as goal
 
 pub resize_chunk-requires-clause-chunk : goal.resize_chunk-requires-clause-chunk
 resize_chunk-requires-clause-chunk g c =
-    (c.requires.block.1.extent.size, chunk_there (state_of g.A.Links.word c.args.self.now) c.args.ptr c.requires.block.0 c.requires.block.1)
+    (c.requires.block.1.extent.size, chunk_there c.requires.block.1)
 
 pub returns-then-resize_chunk-clause-resized : goal.returns-then-resize_chunk-clause-resized
 returns-then-resize_chunk-clause-resized g c =
@@ -17,8 +17,8 @@ returns-then-resize_chunk-clause-resized g c =
     inl (
       c.requires.least,
       refl,
-      stays_there g.A.Links.regions g.A.Links.word g.A.Links.follows old new c.args.ptr c.requires.block.0 c.args.held c.args.size held.0 c.requires.sound c.requires.block.1
-          (held_there (state_of g.A.Links.word old) c.args.ptr c.requires.block.0 c.args.held c.requires.block.1 c.requires.held) small
+      stays_there old new c.args.held c.args.size held.0 c.requires.sound c.requires.block.1
+          (held_there c.args.held c.requires.block.1 c.requires.held) small
           (subst (λ (n : ℕ). c.args.size + 8 ≤ n) request.is request.holds)
           (subst (λ (n : ℕ). n ≤ c.args.size + 32) request.is request.near)
           (subst (λ (n : ℕ). n ≤ held.0) request.is held.2)

@@ -3,7 +3,7 @@ use Rattle.dlmalloc.proofs.heap.Dlmalloc.rests_outside.Goals as goal
 
 pub returns : goal.returns
 returns g c = λ sound system stay outside. (
-  still_sound g.A.Links.regions g.A.Links.word c.args.self.now sound system stay outside,
-  still_state g.A.Links.regions g.A.Links.word c.args.self.now sound system stay outside,
-  still_binned g.A.Links.regions g.A.Links.word c.args.self.now sound system stay outside c.index_stays.ensures,
+  still_sound sound system stay outside,
+  still_state sound system stay outside,
+  still_binned sound system stay outside c.index_stays.ensures,
 )

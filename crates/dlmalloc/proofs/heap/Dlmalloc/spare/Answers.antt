@@ -9,7 +9,7 @@ returns g c =
     let is : c.saturating_sub.result ≡ heap.top_size - (c.args.pad + 81) = omega arith in
     let bytes : c.saturating_sub.result / heap.granularity * heap.granularity ≡ (heap.top_size - (c.args.pad + 81)) / heap.granularity * heap.granularity = ap (λ (n : ℕ). n / heap.granularity * heap.granularity) is in
     record {
-      is = bytes ∙ sym (cut_is g.A.Links.regions g.A.Links.word heap c.requires.sound c.requires.there c.args.pad);
-      whole = cut_whole g.A.Links.regions g.A.Links.word heap c.requires.sound c.requires.there c.args.pad (c.saturating_sub.result / heap.granularity * heap.granularity) bytes;
-      room = cut_room g.A.Links.regions g.A.Links.word heap c.requires.sound c.requires.there c.args.pad (c.saturating_sub.result / heap.granularity * heap.granularity) bytes;
+      is = bytes ∙ sym (cut_is c.requires.sound c.requires.there c.args.pad);
+      whole = cut_whole c.requires.sound c.requires.there c.args.pad bytes;
+      room = cut_room c.requires.sound c.requires.there c.args.pad bytes;
     }

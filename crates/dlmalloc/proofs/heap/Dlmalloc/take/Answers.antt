@@ -6,11 +6,11 @@ use Rattle.dlmalloc.proofs.heap.Dlmalloc.take.Goals as goal
 pub returns-then-at-self : goal.returns-then-at-self
 returns-then-at-self g c =
     let e = c.cut_chunk.ensures in
-    let order = victim_taken c.index_stays.ensures g.A.Links.regions g.A.Links.word g.A.Links.follows c.args.self.now c.cut_chunk.new.self c.requires.sound c.args.at c.args.size c.args.n e.moved e.state e.free e.bins c.if-at-self.true in
+    let order = victim_taken c.index_stays.ensures c.requires.sound c.args.size c.args.n e.moved e.state e.free e.bins c.if-at-self.true in
     record {
       state = e.state;
       more = e.more;
-      moved = as_turned g.A.Links.regions g.A.Links.word g.A.Allocator.zeros g.A.Links.follows c.args.self.now c.requires.sound c.args.n c.cut_chunk.new.self e.moved;
+      moved = as_turned g.A.Allocator.zeros g.A.Links.follows c.requires.sound c.args.n e.moved;
       linked = (order c.requires.linked).0;
       order = order;
       counted = omega arith;

@@ -26,7 +26,6 @@ returns-then-rest-lt-LEAST_CHUNK g c =
     let regions = g.A.Links.regions in
     let word = g.A.Links.word in
     let old = c.args.self.now in
-    let middle = c.unbin_fit.new.self in
     let new = c.cut_chunk.new.self in
     let one = c.unbin_fit.ensures in
     let e = c.cut_chunk.ensures in
@@ -34,11 +33,11 @@ returns-then-rest-lt-LEAST_CHUNK g c =
     let fits = c.requires.fits in
     let order : KeepsOrder regions word old new = λ b.
     let left = one.loose [] b (λ none. none) in
-    (whole_taken c.index_stays.ensures regions word g.A.Links.follows middle new one.same.sound c.args.at c.args.size c.args.n e.moved e.state e.free e.bins (λ is. c.requires.other (is ∙ ap (λ h. h.victim) one.same.fields)) left.0 (omega arith), order_less b.index left.0.index (lessened_as c.args.size c.args.at b.index left.0.index left.1)) in
+    (whole_taken c.index_stays.ensures one.same.sound c.args.size c.args.n e.moved e.state e.free e.bins (λ is. c.requires.other (is ∙ ap (λ h. h.victim) one.same.fields)) left.0 (omega arith), order_less b.index left.0.index (lessened_as c.args.size c.args.at b.index left.0.index left.1)) in
     record {
       state = e.state ∙ ap (λ (s : HeapState). taken s (extent c.args.at c.args.size Free) c.args.n) one.same.state;
       more = subst (λ (s : HeapState). HasOneMore s (state_of word new) c.args.at) one.same.state e.more;
-      moved = turned regions word g.A.Links.follows g.A.Links.follows_on old middle new new one.same e.moved (not_rebinned regions word g.A.Links.follows new e.moved.sound (g.A.Links.follows_none new.system));
+      moved = turned regions word g.A.Links.follows g.A.Links.follows_on one.same e.moved (not_rebinned g.A.Links.follows e.moved.sound (g.A.Links.follows_none new.system));
       linked = (order c.requires.linked).0;
       order = order;
       counted = omega arith;
@@ -57,7 +56,7 @@ bin_some-requires-clause-free g c = λ some.
     let size = ap (λ h. h.victim_size) same.fields in
     subst (λ (v : ℕ). extent_at v (extents_in (state_of g.A.Links.word c.cut_chunk.new.self)) ≡ Some (extent v c.args.self.now.victim_size Free)) at
     (subst (λ (n : ℕ). extent_at c.unbin_fit.new.self.victim (extents_in (state_of g.A.Links.word c.cut_chunk.new.self)) ≡ Some (extent c.unbin_fit.new.self.victim n Free)) size
-    (old_victim_free c.index_stays.ensures g.A.Links.regions g.A.Links.word g.A.Links.follows c.unbin_fit.new.self c.cut_chunk.new.self same.sound e.moved e.bins c.args.at (c.args.at + c.args.n) _ e.free (λ is. c.requires.other (is ∙ at)) (λ none. some (sym size ∙ none))))
+    (old_victim_free c.index_stays.ensures same.sound e.moved e.bins c.args.at (c.args.at + c.args.n) e.free (λ is. c.requires.other (is ∙ at)) (λ none. some (sym size ∙ none))))
 
 pub bin_some-requires-clause-none : goal.bin_some-requires-clause-none
 bin_some-requires-clause-none g c = λ none n free.
@@ -65,7 +64,7 @@ bin_some-requires-clause-none g c = λ none n free.
     let e = c.cut_chunk.ensures in
     let at = ap (λ h. h.victim) same.fields in
     let size = ap (λ h. h.victim_size) same.fields in
-    old_victim_none c.index_stays.ensures g.A.Links.regions g.A.Links.word g.A.Links.follows c.unbin_fit.new.self c.cut_chunk.new.self same.sound e.moved e.bins c.args.at (c.args.at + c.args.n) (size ∙ none) n
+    old_victim_none c.index_stays.ensures same.sound e.moved e.bins c.args.at (c.args.at + c.args.n) (size ∙ none) n
     (subst (λ (v : ℕ). extent_at v (extents_in (state_of g.A.Links.word c.cut_chunk.new.self)) ≡ Some (extent v n Free)) (sym at) free)
 
 pub bin_some-requires-clause-other : goal.bin_some-requires-clause-other
@@ -76,7 +75,7 @@ bin_some-requires-clause-other g c = λ some is.
     let size = ap (λ h. h.victim_size) same.fields in
     let more = c.if-rest-lt-LEAST_CHUNK.false in
     let fits = c.requires.fits in
-    small_other c.index_stays.ensures g.A.Links.regions g.A.Links.word g.A.Links.follows c.unbin_fit.new.self c.cut_chunk.new.self same.sound c.args.at c.args.size c.args.n e.moved e.state e.free e.bins (λ is. c.requires.other (is ∙ at)) (omega arith) c.if-n-lt-LEAST_LARGE.true
+    small_other c.index_stays.ensures same.sound c.args.size c.args.n e.moved e.state e.free e.bins (λ is. c.requires.other (is ∙ at)) (omega arith) c.if-n-lt-LEAST_LARGE.true
     (λ none. some (sym size ∙ none)) (at ∙ is)
 
 pub bin_some-requires-clause-loose : goal.bin_some-requires-clause-loose
@@ -87,8 +86,8 @@ bin_some-requires-clause-loose g c =
     let more = c.if-rest-lt-LEAST_CHUNK.false in
     let fits = c.requires.fits in (
       [],
-      renamed g.A.Links.regions g.A.Links.word c.cut_chunk.new.self c.unbin_fit.new.self.victim c.args.self.now.victim at
-          (small_taken c.index_stays.ensures g.A.Links.regions g.A.Links.word g.A.Links.follows c.unbin_fit.new.self c.cut_chunk.new.self one.same.sound c.args.at c.args.size c.args.n e.moved e.state e.free e.bins (λ is. c.requires.other (is ∙ at)) (omega arith) c.if-n-lt-LEAST_LARGE.true
+      renamed at
+          (small_taken c.index_stays.ensures one.same.sound c.args.size c.args.n e.moved e.state e.free e.bins (λ is. c.requires.other (is ∙ at)) (omega arith) c.if-n-lt-LEAST_LARGE.true
           (one.loose [] c.requires.linked (λ none. none)).0),
     )
 
@@ -96,7 +95,6 @@ pub returns-then-n-lt-LEAST_LARGE : goal.returns-then-n-lt-LEAST_LARGE
 returns-then-n-lt-LEAST_LARGE g c =
     let regions = g.A.Links.regions in
     let word = g.A.Links.word in
-    let middle = c.unbin_fit.new.self in
     let cut = c.cut_chunk.new.self in
     let new = c.bin_some.new.self in
     let one = c.unbin_fit.ensures in
@@ -107,14 +105,14 @@ returns-then-n-lt-LEAST_LARGE g c =
     let fits = c.requires.fits in
     let order : KeepsOrder regions word c.args.self.now new = λ b.
     let left = one.loose [] b (λ none. none) in
-    let loose = renamed regions word cut middle.victim c.args.self.now.victim at
-    (small_taken c.index_stays.ensures regions word g.A.Links.follows middle cut one.same.sound c.args.at c.args.size c.args.n e.moved e.state e.free e.bins (λ is. c.requires.other (is ∙ at)) (omega arith) c.if-n-lt-LEAST_LARGE.true left.0) in
+    let loose = renamed at
+    (small_taken c.index_stays.ensures one.same.sound c.args.size c.args.n e.moved e.state e.free e.bins (λ is. c.requires.other (is ∙ at)) (omega arith) c.if-n-lt-LEAST_LARGE.true left.0) in
     let after = last.binned [] loose (λ none. none) in
     (after.0, in_order c.args.self.now.victim_size c.args.self.now.victim b.index left.0.index after.0.index (lessened_as c.args.size c.args.at b.index left.0.index left.1) after.1 (λ is. b.holds.no_victim c.args.self.now.victim c.args.self.now.victim_size is refl)) in
     record {
       state = last.same.state ∙ (e.state ∙ ap (λ (s : HeapState). taken s (extent c.args.at c.args.size Free) c.args.n) one.same.state);
       more = subst (λ (s : HeapState). HasOneMore (state_of word c.args.self.now) s c.args.at) (sym last.same.state) (subst (λ (s : HeapState). HasOneMore s (state_of word cut) c.args.at) one.same.state e.more);
-      moved = turned regions word g.A.Links.follows g.A.Links.follows_on c.args.self.now middle cut new one.same e.moved last.same;
+      moved = turned regions word g.A.Links.follows g.A.Links.follows_on one.same e.moved last.same;
       linked = (order c.requires.linked).0;
       order = order;
       counted = omega arith;
@@ -124,7 +122,7 @@ returns-then-n-lt-LEAST_LARGE g c =
 
 pub overflow_add-at : goal.overflow_add-at
 overflow_add-at g c =
-    let e = end_small g.A.Links.regions g.A.Links.word c.args.self.now c.requires.sound c.args.at c.args.size c.args.n c.requires.chunk in
+    let e = end_small c.requires.sound c.args.n c.requires.chunk in
     let f = c.requires.fits in grind arith
 
 pub bin-requires-clause-sound : goal.bin-requires-clause-sound
@@ -139,7 +137,7 @@ bin-requires-clause-other g c =
     let e = c.cut_chunk.ensures in
     let more = c.if-rest-lt-LEAST_CHUNK.false in
     let fits = c.requires.fits in
-    large_other c.index_stays.ensures g.A.Links.regions g.A.Links.word g.A.Links.follows c.unbin_fit.new.self c.cut_chunk.new.self one.same.sound c.args.at c.args.size c.args.n e.moved e.state e.free e.bins
+    large_other c.index_stays.ensures one.same.sound c.args.size c.args.n e.moved e.state e.free e.bins
     (λ is. c.requires.other (is ∙ ap (λ h. h.victim) one.same.fields)) (omega arith) c.if-n-lt-LEAST_LARGE.false
 
 pub bin-requires-clause-loose : goal.bin-requires-clause-loose
@@ -149,7 +147,7 @@ bin-requires-clause-loose g c =
     let more = c.if-rest-lt-LEAST_CHUNK.false in
     let fits = c.requires.fits in (
       [],
-      large_taken c.index_stays.ensures g.A.Links.regions g.A.Links.word g.A.Links.follows c.unbin_fit.new.self c.cut_chunk.new.self one.same.sound c.args.at c.args.size c.args.n e.moved e.state e.free e.bins
+      large_taken c.index_stays.ensures one.same.sound c.args.size c.args.n e.moved e.state e.free e.bins
           (λ is. c.requires.other (is ∙ ap (λ h. h.victim) one.same.fields)) (omega arith) c.if-n-lt-LEAST_LARGE.false (one.loose [] c.requires.linked (λ none. none)).0,
     )
 
@@ -169,9 +167,9 @@ returns g c =
     let other : c.args.at ≢ middle.victim = λ is. c.requires.other (is ∙ ap (λ h. h.victim) one.same.fields) in
     let order : KeepsOrder regions word c.args.self.now new = λ b.
     let left = one.loose [] b (λ none. none) in
-    let loose = large_taken c.index_stays.ensures regions word g.A.Links.follows middle cut one.same.sound c.args.at c.args.size c.args.n e.moved e.state e.free e.bins other (omega arith) c.if-n-lt-LEAST_LARGE.false left.0 in
+    let loose = large_taken c.index_stays.ensures one.same.sound c.args.size c.args.n e.moved e.state e.free e.bins other (omega arith) c.if-n-lt-LEAST_LARGE.false left.0 in
     let after = last.binned [] loose (λ none. none) in
-    let new_one = rest_came c.index_stays.ensures regions word g.A.Links.follows middle cut one.same.sound c.args.at c.args.size c.args.n e.moved e.state e.free e.bins other (omega arith) in (
+    let new_one = rest_came c.index_stays.ensures one.same.sound c.args.size c.args.n e.moved e.state e.free e.bins other (omega arith) in (
       after.0,
       in_order (c.args.size - c.args.n) rest b.index left.0.index after.0.index (lessened_as c.args.size c.args.at b.index left.0.index left.1) (added_as (c.args.size - c.args.n) rest left.0.index after.0.index after.1)
           (λ is. new_one (c.args.size - c.args.n) (subst (λ (s : HeapState). IsFreeAt s rest (c.args.size - c.args.n)) (sym one.same.state) (b.holds.free rest (c.args.size - c.args.n) is)) (let least = c.requires.least in omega arith)),
@@ -179,7 +177,7 @@ returns g c =
     record {
       state = last.same.state ∙ (e.state ∙ ap (λ (s : HeapState). taken s (extent c.args.at c.args.size Free) c.args.n) one.same.state);
       more = subst (λ (s : HeapState). HasOneMore (state_of word c.args.self.now) s c.args.at) (sym last.same.state) (subst (λ (s : HeapState). HasOneMore s (state_of word cut) c.args.at) one.same.state e.more);
-      moved = turned regions word g.A.Links.follows g.A.Links.follows_on c.args.self.now middle cut new one.same e.moved last.same;
+      moved = turned regions word g.A.Links.follows g.A.Links.follows_on one.same e.moved last.same;
       linked = (order c.requires.linked).0;
       order = order;
       counted = omega arith;

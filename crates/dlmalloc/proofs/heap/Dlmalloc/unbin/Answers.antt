@@ -4,29 +4,29 @@ use Rattle.dlmalloc.proofs.Names.{refl}
 use Rattle.dlmalloc.proofs.heap.Dlmalloc.unbin.Goals as goal
 
 pub returns-then-at-self-clause-loose : goal.returns-then-at-self-clause-loose
-returns-then-at-self-clause-loose g c = λ loose b apart. (victim_loose g.A.Links.regions g.A.Links.word c.args.self.now c.requires.sound c.args.at c.args.size c.requires.free loose b c.if-at-self.true, λ n. none_left c.args.size c.args.at b.index n (λ is. b.holds.no_victim c.args.at n is c.if-at-self.true))
+returns-then-at-self-clause-loose g c = λ loose b apart. (victim_loose c.requires.sound c.requires.free b c.if-at-self.true, λ n. none_left c.args.size c.args.at b.index n (λ is. b.holds.no_victim c.args.at n is c.if-at-self.true))
 
 pub returns-then-at-self-clause-same : goal.returns-then-at-self-clause-same
-returns-then-at-self-clause-same g c = not_rebinned g.A.Links.regions g.A.Links.word g.A.Links.follows c.args.self.now c.requires.sound (g.A.Links.follows_none c.args.self.now.system)
+returns-then-at-self-clause-same g c = not_rebinned g.A.Links.follows c.requires.sound (g.A.Links.follows_none c.args.self.now.system)
 
 pub unlink-requires : goal.unlink-requires
 unlink-requires g c =
     let r = c.requires.binned in
-    record { linked = (r.1.index, r.1.linked, is_binned g.A.Links.regions g.A.Links.word c.args.self.now c.requires.sound c.args.at c.args.size c.requires.free r.0 r.1 c.if-at-self.false r.2) }
+    record { linked = (r.1.index, r.1.linked, is_binned c.requires.sound c.requires.free r.1 c.if-at-self.false r.2) }
 
 pub returns-clause-loose : goal.returns-clause-loose
 returns-clause-loose g c = λ loose b apart.
-    let is = is_binned g.A.Links.regions g.A.Links.word c.args.self.now c.requires.sound c.args.at c.args.size c.requires.free loose b c.if-at-self.false apart in
+    let is = is_binned c.requires.sound c.requires.free b c.if-at-self.false apart in
     let e = c.unlink.ensures in
-    let links = links_unlink g.A.Links.regions g.A.Links.word c.args.self.now c.requires.sound c.args.at c.args.size c.requires.free loose b (g.A.Links.word c.unlink.new.memory) (e.words b.index b.linked is) in
-    let same = rebinned g.A.Links.regions g.A.Links.word g.A.Links.follows c.args.self.now c.requires.sound c.unlink.new.memory c.unlink.new.self e.regions links e.follows in
-    (now_loose g.A.Links.regions g.A.Links.word c.args.self.now c.requires.sound c.args.at c.args.size c.requires.free loose b c.unlink.new.memory c.unlink.new.self (e.linked b.index b.linked is) same.state, λ n. refl)
+    let links = links_unlink c.requires.sound c.requires.free b (g.A.Links.word c.unlink.new.memory) (e.words b.index b.linked is) in
+    let same = rebinned g.A.Links.follows c.requires.sound c.unlink.new.memory c.unlink.new.self e.regions links e.follows in
+    (now_loose c.requires.sound c.requires.free b c.unlink.new.memory (e.linked b.index b.linked is) same.state, λ n. refl)
 
 pub returns-clause-same : goal.returns-clause-same
 returns-clause-same g c =
     let loose = c.requires.binned.0 in
     let b = c.requires.binned.1 in
-    let is = is_binned g.A.Links.regions g.A.Links.word c.args.self.now c.requires.sound c.args.at c.args.size c.requires.free loose b c.if-at-self.false c.requires.binned.2 in
+    let is = is_binned c.requires.sound c.requires.free b c.if-at-self.false c.requires.binned.2 in
     let e = c.unlink.ensures in
-    let links = links_unlink g.A.Links.regions g.A.Links.word c.args.self.now c.requires.sound c.args.at c.args.size c.requires.free loose b (g.A.Links.word c.unlink.new.memory) (e.words b.index b.linked is) in
-    rebinned g.A.Links.regions g.A.Links.word g.A.Links.follows c.args.self.now c.requires.sound c.unlink.new.memory c.unlink.new.self e.regions links e.follows
+    let links = links_unlink c.requires.sound c.requires.free b (g.A.Links.word c.unlink.new.memory) (e.words b.index b.linked is) in
+    rebinned g.A.Links.follows c.requires.sound c.unlink.new.memory c.unlink.new.self e.regions links e.follows

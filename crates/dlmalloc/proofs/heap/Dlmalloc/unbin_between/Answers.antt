@@ -7,10 +7,10 @@ pub unbin-requires-clause-free : goal.unbin-requires-clause-free
 unbin-requires-clause-free g c = c.requires.free c.if-from-to.true
 
 pub returns-else-from-to-clause-loose : goal.returns-else-from-to-clause-loose
-returns-else-from-to-clause-loose g c = λ loose b apart. (none_loose g.A.Links.regions g.A.Links.word c.args.self.now c.args.from loose b (c.requires.none c.if-from-to.false), lessened_same b.index)
+returns-else-from-to-clause-loose g c = λ loose b apart. (none_loose c.args.from loose b (c.requires.none c.if-from-to.false), lessened_same b.index)
 
 pub returns-else-from-to-clause-same : goal.returns-else-from-to-clause-same
-returns-else-from-to-clause-same g c = not_rebinned g.A.Links.regions g.A.Links.word g.A.Links.follows c.args.self.now c.requires.sound (g.A.Links.follows_none c.args.self.now.system)
+returns-else-from-to-clause-same g c = not_rebinned g.A.Links.follows c.requires.sound (g.A.Links.follows_none c.args.self.now.system)
 
 pub returns-then-from-to-clause-loose : goal.returns-then-from-to-clause-loose
 returns-then-from-to-clause-loose g c = λ loose b apart.

@@ -8,23 +8,23 @@ pub unlink_fit-requires : goal.unlink_fit-requires
 unlink_fit-requires g c =
     let r = c.requires.binned in
     let fit = c.requires.member.1 r.1.index r.1.linked in
-    let size = one_size (state_of g.A.Links.word c.args.self.now) c.args.at fit.size c.args.size (r.1.holds.free c.args.at fit.size fit.binned) c.requires.free in
+    let size = one_size (state_of g.A.Links.word c.args.self.now) (r.1.holds.free c.args.at fit.size fit.binned) c.requires.free in
     let oldest = subst (λ (n : ℕ). 256 ≤ n → c.args.at ≡ first_or 0 (r.1.index n)) size fit.oldest in
-    record { linked = (r.1.index, r.1.linked, is_binned g.A.Links.regions g.A.Links.word c.args.self.now c.requires.sound c.args.at c.args.size c.requires.free r.0 r.1 c.requires.other r.2, oldest) }
+    record { linked = (r.1.index, r.1.linked, is_binned c.requires.sound c.requires.free r.1 c.requires.other r.2, oldest) }
 
 pub returns-clause-loose : goal.returns-clause-loose
 returns-clause-loose g c = λ loose b apart.
-    let is = is_binned g.A.Links.regions g.A.Links.word c.args.self.now c.requires.sound c.args.at c.args.size c.requires.free loose b c.requires.other apart in
+    let is = is_binned c.requires.sound c.requires.free b c.requires.other apart in
     let e = c.unlink_fit.ensures in
-    let links = links_unlink g.A.Links.regions g.A.Links.word c.args.self.now c.requires.sound c.args.at c.args.size c.requires.free loose b (g.A.Links.word c.unlink_fit.new.memory) (e.words b.index b.linked is) in
-    let same = rebinned g.A.Links.regions g.A.Links.word g.A.Links.follows c.args.self.now c.requires.sound c.unlink_fit.new.memory c.unlink_fit.new.self e.regions links e.follows in
-    (now_loose g.A.Links.regions g.A.Links.word c.args.self.now c.requires.sound c.args.at c.args.size c.requires.free loose b c.unlink_fit.new.memory c.unlink_fit.new.self (e.linked b.index b.linked is) same.state, λ n. refl)
+    let links = links_unlink c.requires.sound c.requires.free b (g.A.Links.word c.unlink_fit.new.memory) (e.words b.index b.linked is) in
+    let same = rebinned g.A.Links.follows c.requires.sound c.unlink_fit.new.memory c.unlink_fit.new.self e.regions links e.follows in
+    (now_loose c.requires.sound c.requires.free b c.unlink_fit.new.memory (e.linked b.index b.linked is) same.state, λ n. refl)
 
 pub returns-clause-same : goal.returns-clause-same
 returns-clause-same g c =
     let loose = c.requires.binned.0 in
     let b = c.requires.binned.1 in
-    let is = is_binned g.A.Links.regions g.A.Links.word c.args.self.now c.requires.sound c.args.at c.args.size c.requires.free loose b c.requires.other c.requires.binned.2 in
+    let is = is_binned c.requires.sound c.requires.free b c.requires.other c.requires.binned.2 in
     let e = c.unlink_fit.ensures in
-    let links = links_unlink g.A.Links.regions g.A.Links.word c.args.self.now c.requires.sound c.args.at c.args.size c.requires.free loose b (g.A.Links.word c.unlink_fit.new.memory) (e.words b.index b.linked is) in
-    rebinned g.A.Links.regions g.A.Links.word g.A.Links.follows c.args.self.now c.requires.sound c.unlink_fit.new.memory c.unlink_fit.new.self e.regions links e.follows
+    let links = links_unlink c.requires.sound c.requires.free b (g.A.Links.word c.unlink_fit.new.memory) (e.words b.index b.linked is) in
+    rebinned g.A.Links.follows c.requires.sound c.unlink_fit.new.memory c.unlink_fit.new.self e.regions links e.follows
