@@ -46,7 +46,7 @@ module _ {A : Type 0} (regions : A → List Grant) (word : A → ℕ → ℕ) (h
   pub same_regions : (system : A) → regions system ≡ regions heap.system → KeepsRegions (segments_of word heap) (regions heap.system) (regions system)
   same_regions system same = go (segments_of word heap)
     where
-      go : (segments : List Segment) → AllByRecursion (λ (segment : Segment). regions_in segment (regions system) ≡ regions_in segment (regions heap.system)) segments
+      go : (segments : List Segment) → AllByRecursion (λ segment. regions_in segment (regions system) ≡ regions_in segment (regions heap.system)) segments
       go [] = tt
       go (segment ∷ segments) = (ap (regions_in segment) same, go segments)
 

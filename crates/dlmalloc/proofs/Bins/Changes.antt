@@ -15,18 +15,18 @@ module _ {A : Type 0} {regions : A → List Grant} {word : A → ℕ → ℕ} (f
     where
       out : (at size : ℕ) → (one ≡ record { at = at; size = size; kind = Free }) ⊎ ((one.at + one.size ≤ at) ⊎ (at + size ≤ one.at)) → (k < at + 16) ⊎ (at + size ≤ k)
       out at size (inl is) =
-          let place : one.at ≡ at = ap (λ (e : Extent). e.at) is in
-          let long : one.size ≡ size = ap (λ (e : Extent). e.size) is in
+          let place : one.at ≡ at = ap (λ e. e.at) is in
+          let long : one.size ≡ size = ap (λ e. e.size) is in
           elim (tells.3) [
             | inl head ↦ inl (omega arith)
-            | inr other ↦ elim other [ inl tail ↦ absurd (let no : Free ≡ Record = ap (λ (e : Extent). e.kind) (sym is) ∙ tail in cc) | inr end ↦ inr (omega arith) ]
+            | inr other ↦ elim other [ inl tail ↦ absurd (let no : Free ≡ Record = ap (λ e. e.kind) (sym is) ∙ tail in cc) | inr end ↦ inr (omega arith) ]
           ]
       out at size (inr (inl before)) = (let below = tells.1 in inl (omega arith))
       out at size (inr (inr behind)) = (let above = tells.0 in inr (omega arith))
 
-  runs : (segments : List Segment) → AllByRecursion (λ (segment : Segment). IsRun (regions heap.system) segment.base segment.size segment.flags → IsRun (regions system) segment.base segment.size segment.flags) segments
+  runs : (segments : List Segment) → AllByRecursion (λ segment. IsRun (regions heap.system) segment.base segment.size segment.flags → IsRun (regions system) segment.base segment.size segment.flags) segments
   runs [] = tt
-  runs (segment ∷ segments) = ((λ run. subst (λ (rs : List Grant). IsRun rs segment.base segment.size segment.flags) (sym same) run), runs segments)
+  runs (segment ∷ segments) = ((λ run. subst (λ rs. IsRun rs segment.base segment.size segment.flags) (sym same) run), runs segments)
 
   pub rebinned : IsRebinned regions word follows heap (record heap { system = system; bins = bins })
   rebinned = record {
@@ -55,7 +55,7 @@ module _ {A : Type 0} {regions : A → List Grant} {word : A → ℕ → ℕ} {h
     now_binned system linked same other apart = record {
       index = with_chunk size at b.index;
       linked = linked;
-      holds = subst (λ (s : HeapState). HoldsBut loose s (with_chunk size at b.index)) (sym same) (binned_one loose (state_of word heap) b.index at size b.holds free other apart);
+      holds = subst (λ s. HoldsBut loose s (with_chunk size at b.index)) (sym same) (binned_one loose (state_of word heap) b.index at size b.holds free other apart);
     }
 
     pub links_insert : (new : ℕ → ℕ) → OnlyLinksChange (regions heap.system) b.index size at (word heap.system) new → OnlyFreeChange (regions heap.system) (state_of word heap) (word heap.system) new
@@ -72,7 +72,7 @@ module _ {A : Type 0} {regions : A → List Grant} {word : A → ℕ → ℕ} {h
     now_loose system linked same = record {
       index = without_chunk size at b.index;
       linked = linked;
-      holds = subst (λ (s : HeapState). HoldsBut (at ∷ loose) s (without_chunk size at b.index)) (sym same) (unbinned_one loose (state_of word heap) b.index at size b.holds b.linked.chunks.once free);
+      holds = subst (λ s. HoldsBut (at ∷ loose) s (without_chunk size at b.index)) (sym same) (unbinned_one loose (state_of word heap) b.index at size b.holds b.linked.chunks.once free);
     }
 
     pub links_unlink : (new : ℕ → ℕ) → OnlyLinksChange (regions heap.system) b.index size at (word heap.system) new → OnlyFreeChange (regions heap.system) (state_of word heap) (word heap.system) new
@@ -91,7 +91,7 @@ none_binned {word} {heap} {at} {loose} b none = record { index = b.index; linked
 
 -- the address that is in no bin has another name
 abbrev pub renamed : {A : Type 0} {regions : A → List Grant} {word : A → ℕ → ℕ} {heap : Dlmalloc A} {at other : ℕ} → at ≡ other → IsBinnedBut (at ∷ []) regions word heap → IsBinnedBut (other ∷ []) regions word heap
-renamed {word} {heap} same b = record { index = b.index; linked = b.linked; holds = subst (λ (k : ℕ). HoldsBut (k ∷ []) (state_of word heap) b.index) same b.holds }
+renamed {word} {heap} same b = record { index = b.index; linked = b.linked; holds = subst (λ k. HoldsBut (k ∷ []) (state_of word heap) b.index) same b.holds }
 
 -- nothing is done
 pub not_rebinned : {A : Type 0} {regions : A → List Grant} {word : A → ℕ → ℕ} (follows : A → List Event → A → Type 0) {heap : Dlmalloc A} → IsSound regions word heap → follows heap.system [] heap.system → IsRebinned regions word follows heap heap
@@ -104,7 +104,7 @@ abbrev pub binned_moved : IndexStays → {A : Type 0} {regions : A → List Gran
     IsBinnedBut loose regions word old → IsBinnedBut loose' regions word new
 binned_moved stays {regions} {word} {old} {new} sound sound' others same loose loose' less more moves are b = record {
   index = b.index;
-  linked = subst (λ (bins : Bins). IsLinked (regions new.system) (word new.system) bins b.index) (sym same)
+  linked = subst (λ bins. IsLinked (regions new.system) (word new.system) bins b.index) (sym same)
       (stays (regions old.system) (regions new.system) (word old.system) (word new.system) old.bins b.index b.linked
       (kept regions word old new sound sound' others b.index b.holds.free (λ at size is. (still_free b.holds moves are at size is).0)));
   holds = holds_moved b.holds moves are;

@@ -43,7 +43,7 @@ none_removed chunk [] distinct is = is
 none_removed chunk (first ∷ chunks) distinct is = go (first == chunk) refl is (none_removed chunk chunks distinct.1)
   where
     go : (b : Bool) → (first == chunk) ≡ b → IsIn chunk (if b then chunks else first ∷ removed chunk chunks) → (IsIn chunk (removed chunk chunks) → ⊥) → ⊥
-    go true test later rest = distinct.0 (subst (λ (k : ℕ). IsIn k chunks) (sym (nat_is test)) later)
+    go true test later rest = distinct.0 (subst (λ k. IsIn k chunks) (sym (nat_is test)) later)
     go false test (inl same) rest = (let no : (first == chunk) ≡ true = (let e = same in grind (arith, nat_tests)) in cc)
     go false test (inr later) rest = rest later
 
@@ -88,7 +88,7 @@ module _ (size chunk : ℕ) (index : ℕ → List ℕ) where
 
 -- a free extent has one size
 pub one_size : (heap : HeapState) {at size other : ℕ} → IsFreeAt heap at size → IsFreeAt heap at other → size ≡ other
-one_size heap one two = ap (λ (e : Extent). e.size) (the_extent (sym one ∙ two))
+one_size heap one two = ap (λ e. e.size) (the_extent (sym one ∙ two))
 
 -- ---- which extents are in no bin
 
@@ -103,7 +103,7 @@ module _ (loose : List ℕ) (heap : HeapState) (index : ℕ → List ℕ) (at : 
   }
     where
       apart : (k size : ℕ) → IsIn k (index size) → (k ≡ at) ⊎ IsIn k loose → ⊥
-      apart k size is (inl same) = none size (subst (λ (k : ℕ). IsIn k (index size)) same is)
+      apart k size is (inl same) = none size (subst (λ k. IsIn k (index size)) same is)
       apart k size is (inr later) = h.not_loose k size is later
 
   -- and needs not be where it is the victim, or no free extent
@@ -116,22 +116,22 @@ module _ (loose : List ℕ) (heap : HeapState) (index : ℕ → List ℕ) (at : 
   }
     where
       go : (k size : ℕ) → IsFreeAt heap k size → k ≢ heap.victim → (IsIn k loose → ⊥) → (k ≡ at) ⊎ IsIn k loose → ⊥
-      go k size free other apart (inl same) = other (same ∙ none size (subst (λ (k : ℕ). IsFreeAt heap k size) same free))
+      go k size free other apart (inl same) = other (same ∙ none size (subst (λ k. IsFreeAt heap k size) same free))
       go k size free other apart (inr later) = apart later
 
   -- it goes into its bin
   pub binned_one : (size : ℕ) → HoldsBut (at ∷ loose) heap index → IsFreeAt heap at size → at ≢ heap.victim → (IsIn at loose → ⊥) → HoldsBut loose heap (with_chunk size at index)
   binned_one size h is_free no_victim beside = record {
     all = λ k n free other apart. go k n free other apart (k == at) refl;
-    free = λ k n is. elim (of_with size at index k n is) [ inl old ↦ h.free k n old | inr new ↦ subst (λ (a : ℕ). IsFreeAt heap a n) (sym new.0) (subst (λ (s : ℕ). IsFreeAt heap at s) (sym new.1) is_free) ];
+    free = λ k n is. elim (of_with size at index k n is) [ inl old ↦ h.free k n old | inr new ↦ subst (λ a. IsFreeAt heap a n) (sym new.0) (subst (λ s. IsFreeAt heap at s) (sym new.1) is_free) ];
     no_victim = λ k n is. elim (of_with size at index k n is) [ inl old ↦ h.no_victim k n old | inr new ↦ λ same. no_victim (sym new.0 ∙ same) ];
-    not_loose = λ k n is l. elim (of_with size at index k n is) [ inl old ↦ h.not_loose k n old (inr l) | inr new ↦ beside (subst (λ (a : ℕ). IsIn a loose) new.0 l) ];
+    not_loose = λ k n is l. elim (of_with size at index k n is) [ inl old ↦ h.not_loose k n old (inr l) | inr new ↦ beside (subst (λ a. IsIn a loose) new.0 l) ];
   }
     where
       go : (k n : ℕ) → IsFreeAt heap k n → k ≢ heap.victim → (IsIn k loose → ⊥) → (b : Bool) → (k == at) ≡ b → IsIn k (with_chunk size at index n)
       go k n free other apart true test =
           let same = nat_is test in
-          subst (λ (a : ℕ). IsIn a (with_chunk size at index n)) (sym same) (with_it size at index n (one_size heap (subst (λ (a : ℕ). IsFreeAt heap a n) same free) is_free))
+          subst (λ a. IsIn a (with_chunk size at index n)) (sym same) (with_it size at index n (one_size heap (subst (λ a. IsFreeAt heap a n) same free) is_free))
       go k n free other apart false test = in_with size at index k n (h.all k n free other out)
         where
           out : (k ≡ at) ⊎ IsIn k loose → ⊥
@@ -149,7 +149,7 @@ module _ (loose : List ℕ) (heap : HeapState) (index : ℕ → List ℕ) (at : 
     where
       apart : (k n : ℕ) → IsIn k (without_chunk size at index n) → (k ≡ at) ⊎ IsIn k loose → ⊥
       apart k n is (inl same) =
-          let here = subst (λ (a : ℕ). IsIn a (without_chunk size at index n)) same is in
+          let here = subst (λ a. IsIn a (without_chunk size at index n)) same is in
           none_without size at index n (distinct n) here (one_size heap (h.free at n (of_without size at index at n here)) is_free)
       apart k n is (inr later) = h.not_loose k n (of_without size at index k n is) later
 

@@ -20,7 +20,7 @@ least_of n (first ∷ sizes) = go (nat_lt first n) refl (least_from n sizes) (le
   where
     both : (least : ℕ) → IsIn least sizes → IsIn (min first least) (first ∷ sizes)
     both least is = elim (dec_lt least first) [
-      | yes less ↦ (let same : min first least ≡ least = omega arith in inr (subst (λ (k : ℕ). IsIn k sizes) (sym same) is))
+      | yes less ↦ (let same : min first least ≡ least = omega arith in inr (subst (λ k. IsIn k sizes) (sym same) is))
       | no more ↦ inl (omega arith)
     ]
 
@@ -39,7 +39,7 @@ least_is n sizes size is enough least = go (least_from n sizes) (least_of n size
   where
     go : (o : Option ℕ) → IsLeast n sizes o → o ≡ Some size
     go None h = absurd (let less = h size is in omega arith)
-    go (Some other) h = (let one = h.2 size is enough in let two = least other h.0 h.1 in let same : other ≡ size = omega arith in ap (λ (k : ℕ). Some k) same)
+    go (Some other) h = (let one = h.2 size is enough in let two = least other h.0 h.1 in let same : other ≡ size = omega arith in ap (λ k. Some k) same)
 
 pub least_none : (n : ℕ) (sizes : List ℕ) → ((size : ℕ) → IsIn size sizes → size < n) → least_from n sizes ≡ None
 least_none n sizes few = go (least_from n sizes) (least_of n sizes)
@@ -62,10 +62,10 @@ in_sizes : (heap : HeapState) (extents : List Extent) (one : Extent) → IsAmong
 in_sizes heap [] one is binned = absurd is
 in_sizes heap (first ∷ extents) one (inl same) binned =
     let test : is_binned heap first ≡ true = ap (is_binned heap) same ∙ binned in
-    rw test (inl (ap (λ (e : Extent). e.size) (sym same)))
+    rw test (inl (ap (λ e. e.size) (sym same)))
 in_sizes heap (first ∷ extents) one (inr later) binned = go (is_binned heap first) (in_sizes heap extents one later binned)
   where
-    go : (b : Bool) → IsIn one.size (binned_sizes heap extents) → IsIn one.size (map (λ (extent : Extent). extent.size) (if b then first ∷ filter (is_binned heap) extents else filter (is_binned heap) extents))
+    go : (b : Bool) → IsIn one.size (binned_sizes heap extents) → IsIn one.size (map (λ extent. extent.size) (if b then first ∷ filter (is_binned heap) extents else filter (is_binned heap) extents))
     go true rest = inr rest
     go false rest = rest
 
@@ -83,7 +83,7 @@ of_sizes heap (first ∷ extents) size is = go (is_binned heap first) refl is (o
     later : OfSize heap extents size → OfSize heap (first ∷ extents) size
     later o = record { one = o.one; among = inr o.among; binned = o.binned; is = o.is }
 
-    go : (b : Bool) → is_binned heap first ≡ b → IsIn size (map (λ (extent : Extent). extent.size) (if b then first ∷ filter (is_binned heap) extents else filter (is_binned heap) extents)) →
+    go : (b : Bool) → is_binned heap first ≡ b → IsIn size (map (λ extent. extent.size) (if b then first ∷ filter (is_binned heap) extents else filter (is_binned heap) extents)) →
         (IsIn size (binned_sizes heap extents) → OfSize heap extents size) → OfSize heap (first ∷ extents) size
     go true test (inl same) rest = record { one = first; among = inl refl; binned = test; is = sym same }
     go true test (inr there) rest = later (rest there)

@@ -18,10 +18,10 @@ part_unique one two (chunk ∷ chunks) (inl a) (inl b) distinct to from = part_u
 part_unique one two (chunk ∷ chunks) (inl a) (inr (rest, is, b)) distinct to from = absurd (distinct.0 (part_in chunk one chunks a (from chunk (subst (IsIn chunk) (sym is) (inl refl)))))
 part_unique one two (chunk ∷ chunks) (inr (rest, is, a)) (inl b) distinct to from = absurd (distinct.0 (part_in chunk two chunks b (to chunk (subst (IsIn chunk) (sym is) (inl refl)))))
 part_unique one two (chunk ∷ chunks) (inr (rest, is, a)) (inr (others, same, b)) distinct to from =
-    is ∙ (ap (λ (more : List ℕ). chunk ∷ more)
+    is ∙ (ap (λ more. chunk ∷ more)
     (part_unique rest others chunks a b distinct.1
-    (λ k here. later k others (λ at. distinct.0 (part_in chunk rest chunks a (subst (λ (c : ℕ). IsIn c rest) at here))) (subst (IsIn k) same (to k (subst (IsIn k) (sym is) (inr here)))))
-    (λ k here. later k rest (λ at. distinct.0 (part_in chunk others chunks b (subst (λ (c : ℕ). IsIn c others) at here))) (subst (IsIn k) is (from k (subst (IsIn k) (sym same) (inr here))))))
+    (λ k here. later k others (λ at. distinct.0 (part_in chunk rest chunks a (subst (λ c. IsIn c rest) at here))) (subst (IsIn k) same (to k (subst (IsIn k) (sym is) (inr here)))))
+    (λ k here. later k rest (λ at. distinct.0 (part_in chunk others chunks b (subst (λ c. IsIn c others) at here))) (subst (IsIn k) is (from k (subst (IsIn k) (sym same) (inr here))))))
     ∙ sym same)
   where
     later : (k : ℕ) (more : List ℕ) → (k ≡ chunk → ⊥) → (k ≡ chunk) ⊎ IsIn k more → IsIn k more
@@ -47,7 +47,7 @@ came_unique : (one two : List ℕ) → length one ≤ 1 → length two ≤ 1 →
 came_unique [] [] a b to from = refl
 came_unique [] (second ∷ two) a b to from = absurd (from second (inl refl))
 came_unique (first ∷ one) [] a b to from = absurd (to first (inl refl))
-came_unique (first ∷ []) (second ∷ []) a b to from = elim (to first (inl refl)) [ inl same ↦ ap (λ (k : ℕ). k ∷ []) same | inr none ↦ absurd none ]
+came_unique (first ∷ []) (second ∷ []) a b to from = elim (to first (inl refl)) [ inl same ↦ ap (λ k. k ∷ []) same | inr none ↦ absurd none ]
 came_unique (first ∷ []) (second ∷ third ∷ two) a b to from = absurd (omega (arith, b))
 came_unique (first ∷ third ∷ one) (second ∷ two) a b to from = absurd (omega (arith, a))
 

@@ -33,7 +33,7 @@ pub lessened_same : (index : ℕ → List ℕ) → IsLessened index index
 lessened_same index n = part_all (index n)
 
 pub lessened_as : (size chunk : ℕ) (old new : ℕ → List ℕ) → ((n : ℕ) → new n ≡ without_chunk size chunk old n) → IsLessened old new
-lessened_as size chunk old new is n = subst (λ (chunks : List ℕ). IsPart chunks (old n)) (sym (is n)) (go (n == size))
+lessened_as size chunk old new is n = subst (λ chunks. IsPart chunks (old n)) (sym (is n)) (go (n == size))
   where
     go : (b : Bool) → IsPart (if b then removed chunk (old n) else old n) (old n)
     go true = part_removed chunk (old n)
@@ -46,7 +46,7 @@ removed_none chunk (first ∷ chunks) none = go (first == chunk) refl (removed_n
   where
     go : (b : Bool) → (first == chunk) ≡ b → chunks ≡ removed chunk chunks → first ∷ chunks ≡ (if b then chunks else first ∷ removed chunk chunks)
     go true test rest = absurd (none (inl (sym (nat_is test))))
-    go false test rest = ap (λ (more : List ℕ). first ∷ more) rest
+    go false test rest = ap (λ more. first ∷ more) rest
 
 pub none_left : (size chunk : ℕ) (index : ℕ → List ℕ) (n : ℕ) → (IsIn chunk (index n) → ⊥) → index n ≡ without_chunk size chunk index n
 none_left size chunk index n none = go (n == size)
@@ -77,7 +77,7 @@ in_order size chunk old middle new less added other n = elim (added n) [
     came = chunk ∷ [];
     are = more;
     part = less n;
-    others = λ k here was. elim here [ inl same ↦ other (subst (λ (m : ℕ). IsIn chunk (old m)) is (subst (λ (k : ℕ). IsIn k (old n)) same was)) | inr none ↦ none ];
+    others = λ k here was. elim here [ inl same ↦ other (subst (λ m. IsIn chunk (old m)) is (subst (λ k. IsIn k (old n)) same was)) | inr none ↦ none ];
     few = omega arith;
   }
 ]

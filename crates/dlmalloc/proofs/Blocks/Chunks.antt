@@ -12,7 +12,7 @@ module _ {A : Type 0} (regions : A → List Grant) (word : A → ℕ → ℕ) (h
   place = (found (ptr - 16) block.extent (extents_in (state_of word heap)) block.there).place
 
   there : extent_at block.extent.at (extents_in (state_of word heap)) ≡ Some block.extent
-  there = ap (λ (a : ℕ). extent_at a (extents_in (state_of word heap))) place ∙ block.there
+  there = ap (λ a. extent_at a (extents_in (state_of word heap))) place ∙ block.there
 
   inside : IsInside (regions heap.system) block.extent
   inside = used_inside regions word heap sound block.extent block.used there
@@ -37,7 +37,7 @@ module _ {A : Type 0} (regions : A → List Grant) (word : A → ℕ → ℕ) (h
       let l = located block.extent.at (segments_of word heap) there in
       let p = of_located (IsSegment (regions heap.system) (word heap.system)) l sound.segments in
       let s = standing (word heap.system) Used l.segment.base l.segment.extents (l.segment.base + l.segment.size) p.extents p.tail l.there block.used in
-      let sizes : told ≡ block.extent.size = is ∙ (ap (λ (a : ℕ). size_of (word heap.system (a + 8))) (sym place) ∙ (ap size_of s.head ∙ size_of-head_of block.extent.size s.before true (omega (arith, s.size_whole)))) in
+      let sizes : told ≡ block.extent.size = is ∙ (ap (λ a. size_of (word heap.system (a + 8))) (sym place) ∙ (ap size_of s.head ∙ size_of-head_of block.extent.size s.before true (omega (arith, s.size_whole)))) in
       block.there ∙ (λ i. Some (same_extent {at = block.extent.at} {at' = ptr - 16} {size = block.extent.size} {size' = told} {kind = block.extent.kind} {kind' = Used} place (sym sizes) block.used i))
 
 -- a block was freed

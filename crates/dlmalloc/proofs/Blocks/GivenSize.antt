@@ -12,7 +12,7 @@ spans_resized : (heap : HeapState) {new : HeapState} (at n : ℕ) → in_place h
 spans_resized heap {new} at n is = first (extent_at at (extents_in heap)) refl
   where
     told : (state : HeapState) → in_place heap at n ≡ Some state → (spans state ≡ spans heap) × (state.granularity ≡ heap.granularity) → (spans new ≡ spans heap) × (new.granularity ≡ heap.granularity)
-    told state that h = let one : state ≡ new = (let both : Some state ≡ Some new = sym that ∙ is in cc) in subst (λ (s : HeapState). (spans s ≡ spans heap) × (s.granularity ≡ heap.granularity)) one h
+    told state that h = let one : state ≡ new = (let both : Some state ≡ Some new = sym that ∙ is in cc) in subst (λ s. (spans s ≡ spans heap) × (s.granularity ≡ heap.granularity)) one h
 
     behind : (one : Extent) → extent_at at (extents_in heap) ≡ Some one → nat_le n one.size ≡ false → (o : Option Extent) → extent_at (one.at + one.size) (extents_in heap) ≡ o → (spans new ≡ spans heap) × (new.granularity ≡ heap.granularity)
     behind one there more None none = absurd (let gone : in_place heap at n ≡ None = rw (there, more, none) refl in let both : None ≡ Some new = sym gone ∙ is in cc)
@@ -42,7 +42,7 @@ module _ {A : Type 0} (regions : A → List Grant) (word : A → ℕ → ℕ) (h
   place = (found (address - 16) block.extent (extents_in (state_of word heap)) block.there).place
 
   pub there : extent_at block.extent.at (extents_in (state_of word heap)) ≡ Some block.extent
-  there = ap (λ (a : ℕ). extent_at a (extents_in (state_of word heap))) place ∙ block.there
+  there = ap (λ a. extent_at a (extents_in (state_of word heap))) place ∙ block.there
 
   inside : IsInside (regions heap.system) block.extent
   inside = used_inside regions word heap sound block.extent block.used there
@@ -67,13 +67,13 @@ module _ {A : Type 0} {regions : A → List Grant} {word : A → ℕ → ℕ} (z
     here = λ is. (refl, out.moved.followed);
     elsewhere = λ differs. absurd (differs same);
     granularity = still.1;
-    small = subst (λ (n : ℕ). n < limit old.granularity) (asked_low size align few) out.small;
-    low = subst (λ (a : ℕ). 16 ≤ a) (sym same) block.low;
+    small = subst (λ n. n < limit old.granularity) (asked_low size align few) out.small;
+    low = subst (λ a. 16 ≤ a) (sym same) block.low;
     block = there_now;
     multiple = λ is. ap (λ a. a % align) same ∙ is;
     aligned = whole regions word new out.moved.sound address size there_now;
     granted = bytes_granted regions word new out.moved.sound address size there_now;
-    moved = subst (λ (a : ℕ). HasOneMoved (state_of word old) (state_of word new) (from - 16) (a - 16)) (sym same) (record {
+    moved = subst (λ a. HasOneMoved (state_of word old) (state_of word new) (from - 16) (a - 16)) (sym same) (record {
       kept = λ used is other there. out.others.kept used is other other there;
       only = λ used is other there. out.others.only used is other other there;
       apart = λ used is other there. other;
@@ -85,7 +85,7 @@ module _ {A : Type 0} {regions : A → List Grant} {word : A → ℕ → ℕ} (z
   }
     where
       there_now : IsBlock (state_of word new) address size
-      there_now = subst (λ (a : ℕ). IsBlock (state_of word new) a size) (sym same) out.block
+      there_now = subst (λ a. IsBlock (state_of word new) a size) (sym same) out.block
 
       still : (spans (state_of word new) ≡ spans (state_of word old)) × (new.granularity ≡ old.granularity)
       still = spans_resized (state_of word old) (from - 16) (padded size) out.state
@@ -99,10 +99,10 @@ module _ {A : Type 0} {regions : A → List Grant} {word : A → ℕ → ℕ} (z
 
     -- what is in use as the block is handed out is what is in use as its words are filled
     filled : (k : ℕ) {one : Extent} → extent_at k (extents_in (state_of word out.middle)) ≡ Some one → extent_at k (extents_in (state_of word out.filled)) ≡ Some one
-    filled k is = ap (λ (s : HeapState). extent_at k (extents_in s)) out.same.state ∙ is
+    filled k is = ap (λ s. extent_at k (extents_in s)) out.same.state ∙ is
 
     unfilled : (k : ℕ) {one : Extent} → extent_at k (extents_in (state_of word out.filled)) ≡ Some one → extent_at k (extents_in (state_of word out.middle)) ≡ Some one
-    unfilled k is = ap (λ (s : HeapState). extent_at k (extents_in s)) (sym out.same.state) ∙ is
+    unfilled k is = ap (λ s. extent_at k (extents_in s)) (sym out.same.state) ∙ is
 
     there_before : extent_at block.extent.at (extents_in (state_of word old)) ≡ Some block.extent
     there_before = there regions word old sound from n block
@@ -121,7 +121,7 @@ module _ {A : Type 0} {regions : A → List Grant} {word : A → ℕ → ℕ} (z
       still = still_granted sound power block out;
       here = λ same. absurd (handed.more.new block.extent block.used there_before (omega (arith, place_before, same)));
       elsewhere = λ differs. out.freed;
-      granularity = out.freed.granularity ∙ (ap (λ (h : HeapState). h.granularity) out.same.state ∙ handed.granularity);
+      granularity = out.freed.granularity ∙ (ap (λ h. h.granularity) out.same.state ∙ handed.granularity);
       small = handed.small;
       low = handed.low;
       block = out.block;
@@ -154,21 +154,21 @@ handed_written {regions} {word} on {old} middle {new} {size} {address} handed sa
     | inl here ↦ inl (ap spans same.state ∙ here.0, on old.system middle.system new.system [] [] [] here.1 same.followed refl, same.regions_same ∙ here.2)
     | inr there ↦ inr (there.0, there.1, there.2, ap spans same.state ∙ there.3, on old.system middle.system new.system _ [] _ there.4 same.followed refl, same.regions_same ∙ there.5)
   ];
-  granularity = ap (λ (h : HeapState). h.granularity) same.state ∙ handed.granularity;
+  granularity = ap (λ h. h.granularity) same.state ∙ handed.granularity;
   small = handed.small;
   low = handed.low;
-  block = subst (λ (s : HeapState). IsBlock s address size) (sym same.state) handed.block;
+  block = subst (λ s. IsBlock s address size) (sym same.state) handed.block;
   multiple = handed.multiple;
   aligned = handed.aligned;
-  granted = λ k low high. ap (λ (rs : List Grant). is_granted rs k) same.regions_same ∙ handed.granted k low high;
-  more = subst (λ (s : HeapState). HasOneMore (state_of word old) s (address - 16)) (sym same.state) handed.more;
+  granted = λ k low high. ap (λ rs. is_granted rs k) same.regions_same ∙ handed.granted k low high;
+  more = subst (λ s. HasOneMore (state_of word old) s (address - 16)) (sym same.state) handed.more;
   kept = record {
     words = λ other there used k low high m.
         let inside = used_inside regions word middle handed.sound other used (handed.more.kept other used there) in
         elsewhere k (record { granted = inside.granted k (omega (arith, low)) (omega (arith, high)); aligned = m }) (beside other used there k (omega (arith, low)) high) ∙ handed.kept.words other there used k low high m;
     heads = λ other there used.
         let inside = used_inside regions word middle handed.sound other used (handed.more.kept other used there) in
-        ap (λ (w : ℕ). w / 2) (elsewhere (other.at + 8) (record { granted = inside.granted (other.at + 8) (omega arith) (omega (arith, inside.long)); aligned = omega (arith, inside.whole) }) (beside other used there (other.at + 8) (omega arith) (omega (arith, inside.long))))
+        ap (λ w. w / 2) (elsewhere (other.at + 8) (record { granted = inside.granted (other.at + 8) (omega arith) (omega (arith, inside.long)); aligned = omega (arith, inside.whole) }) (beside other used there (other.at + 8) (omega arith) (omega (arith, inside.long))))
         ∙ handed.kept.heads other there used;
   };
   sound = same.sound;

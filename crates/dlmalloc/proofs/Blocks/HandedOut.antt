@@ -8,9 +8,9 @@ on_ok (Err e) each holds = tt
 
 -- ---- segments stay where they are
 
-pub spans_changed : (change : List Extent → List Extent) (segments : List Segment) → map {B = Segment} (λ (segment : Segment). record segment { extents = [] }) (in_segments change segments) ≡ map {B = Segment} (λ (segment : Segment). record segment { extents = [] }) segments
+pub spans_changed : (change : List Extent → List Extent) (segments : List Segment) → map {B = Segment} (λ segment. record segment { extents = [] }) (in_segments change segments) ≡ map {B = Segment} (λ segment. record segment { extents = [] }) segments
 spans_changed change [] = refl
-spans_changed change (segment ∷ segments) = ap (λ (l : List Segment). (record segment { extents = [] }) ∷ l) (spans_changed change segments)
+spans_changed change (segment ∷ segments) = ap (λ l. (record segment { extents = [] }) ∷ l) (spans_changed change segments)
 
 spans_lead : (heap : HeapState) (at place : ℕ) → spans (lead_freed heap at place) ≡ spans heap
 spans_lead heap at place = go (place == at)
@@ -20,7 +20,7 @@ spans_lead heap at place = go (place == at)
     go false = spans_changed (freed_in at) (in_segments (replaced at (halves (place - at))) heap.segments) ∙ spans_changed (replaced at (halves (place - at))) heap.segments
 
 spans_tail : (heap : HeapState) (at n : ℕ) → spans (tail_cut heap at n) ≡ spans heap
-spans_tail heap at n = go (nat_lt (n + 32) (size_where (λ (extent : Extent). extent.at == at) (extents_in heap)))
+spans_tail heap at n = go (nat_lt (n + 32) (size_where (λ extent. extent.at == at) (extents_in heap)))
   where
     go : (b : Bool) → spans (if b then tail_freed heap at n else heap) ≡ spans heap
     go true = spans_changed (freed_in (at + n)) (in_segments (replaced at (halves n)) heap.segments) ∙ spans_changed (replaced at (halves n)) heap.segments
@@ -50,7 +50,7 @@ granularity_lead heap at place = go (place == at)
     go false = refl
 
 granularity_tail : (heap : HeapState) (at n : ℕ) → (tail_cut heap at n).granularity ≡ heap.granularity
-granularity_tail heap at n = go (nat_lt (n + 32) (size_where (λ (extent : Extent). extent.at == at) (extents_in heap)))
+granularity_tail heap at n = go (nat_lt (n + 32) (size_where (λ extent. extent.at == at) (extents_in heap)))
   where
     go : (b : Bool) → (if b then tail_freed heap at n else heap).granularity ≡ heap.granularity
     go true = refl
@@ -62,7 +62,7 @@ granularity_aligned heap at align n = granularity_tail (lead_freed heap at (alig
 -- ---- a multiple of 16 is one of each lower power of two
 
 low_multiple : (align address : ℕ) → IsPowerOfTwo align → align ≤ 16 → address % 16 ≡ 0 → address % align ≡ 0
-low_multiple align address power few whole = subst (λ (a : ℕ). address % a ≡ 0) (sym power.1) (go power.0 low)
+low_multiple align address power few whole = subst (λ a. address % a ≡ 0) (sym power.1) (go power.0 low)
   where
     low : power.0 ≤ 4
     low = elim (dec_lt 4 power.0) [
@@ -102,8 +102,8 @@ module _ {A : Type 0} (regions : A → List Grant) (word : A → ℕ → ℕ) (z
       granted_same = let h = state_of word old in granularity_granted h.segments h.victim h.granularity h.rate h.countdown h.trim_check grant n
 
       go : (b : Bool) → is_put_before grant (state_of word old).segments ≡ b → new.granularity ≡ old.granularity
-      go true before = ap (λ (h : HeapState). h.granularity) (is.of_grant before).1 ∙ granted_same
-      go false apart = ap (λ (h : HeapState). h.granularity) (is.of_top apart).state ∙ granted_same
+      go true before = ap (λ h. h.granularity) (is.of_grant before).1 ∙ granted_same
+      go false apart = ap (λ h. h.granularity) (is.of_top apart).state ∙ granted_same
 
   found_served : {n : ℕ} {at : ℕ} {middle : Dlmalloc A} → IsServed regions word zeros follows old n at middle → IsFound follows regions old.system (state_of word old) (padded n) middle.system (state_of word middle)
   found_served {n} served = elim served.cut [
@@ -113,15 +113,15 @@ module _ {A : Type 0} (regions : A → List Grant) (word : A → ℕ → ℕ) (z
 
   granularity_served : {n : ℕ} {at : ℕ} {middle : Dlmalloc A} → IsServed regions word zeros follows old n at middle → middle.granularity ≡ old.granularity
   granularity_served served = elim served.cut [
-    | inl here ↦ ap (λ (h : HeapState). h.granularity) here.0.state
+    | inl here ↦ ap (λ h. h.granularity) here.0.state
     | inr there ↦ granularity_new there.0 there.1
   ]
 
   pub handed_low : IsPowerOfTwo align → align ≤ 16 → IsServed regions word zeros follows old size address new → IsHandedOut regions word follows old size align address new
   handed_low power few served = record {
-    found = subst (λ (n : ℕ). IsFound follows regions old.system (state_of word old) (padded n) new.system (state_of word new)) (asked_low size align few) (found_served served);
+    found = subst (λ n. IsFound follows regions old.system (state_of word old) (padded n) new.system (state_of word new)) (asked_low size align few) (found_served served);
     granularity = granularity_served served;
-    small = subst (λ (n : ℕ). n < limit old.granularity) (asked_low size align few) served.small;
+    small = subst (λ n. n < limit old.granularity) (asked_low size align few) served.small;
     low = served.low;
     block = served.block;
     multiple = low_multiple align address power few served.aligned;
@@ -134,9 +134,9 @@ module _ {A : Type 0} (regions : A → List Grant) (word : A → ℕ → ℕ) (z
 
   pub handed_high : 16 < align → ((x y z : A) (a b c : List Event) → follows x a y → follows y b z → a ++ b ≡ c → follows x c z) → IsServedAligned regions word zeros follows old size align address new → IsHandedOut regions word follows old size align address new
   handed_high many on out = record {
-    found = subst (λ (n : ℕ). IsFound follows regions old.system (state_of word old) (padded n) new.system (state_of word new)) (asked_high size align many) found;
-    granularity = ap (λ (h : HeapState). h.granularity) out.state ∙ (granularity_aligned (state_of word out.middle) (out.greater - 16) align (padded size) ∙ granularity_served out.served);
-    small = subst (λ (n : ℕ). n < limit old.granularity) (asked_high size align many) out.served.small;
+    found = subst (λ n. IsFound follows regions old.system (state_of word old) (padded n) new.system (state_of word new)) (asked_high size align many) found;
+    granularity = ap (λ h. h.granularity) out.state ∙ (granularity_aligned (state_of word out.middle) (out.greater - 16) align (padded size) ∙ granularity_served out.served);
+    small = subst (λ n. n < limit old.granularity) (asked_high size align many) out.served.small;
     low = out.low;
     block = out.block;
     multiple = out.multiple;

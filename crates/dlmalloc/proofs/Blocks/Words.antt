@@ -9,7 +9,7 @@ module _ {A : Type 0} {regions : A → List Grant} {word : A → ℕ → ℕ} {h
   place = (found (address - 16) block.extent (extents_in (state_of word heap)) block.there).place
 
   there : extent_at block.extent.at (extents_in (state_of word heap)) ≡ Some block.extent
-  there = ap (λ (a : ℕ). extent_at a (extents_in (state_of word heap))) place ∙ block.there
+  there = ap (λ a. extent_at a (extents_in (state_of word heap))) place ∙ block.there
 
   inside : IsInside (regions heap.system) block.extent
   inside = used_inside regions word heap sound block.extent block.used there

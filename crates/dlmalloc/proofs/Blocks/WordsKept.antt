@@ -47,7 +47,7 @@ spared_found [] k at spared there = absurd (cc)
 spared_found (extent ∷ extents) k at {one} spared there = go (extent.at == at) there (λ later. spared_found extents k at spared.1 later)
   where
     go : (b : Bool) → (if b then Some extent else extent_at at extents) ≡ Some one → (extent_at at extents ≡ Some one → IsSpared k one.kind one.at one.size) → IsSpared k one.kind one.at one.size
-    go true same later = subst (λ (e : Extent). IsSpared k e.kind e.at e.size) (ap (λ (o : Option Extent). unwrap_or o extent) same) spared.0
+    go true same later = subst (λ e. IsSpared k e.kind e.at e.size) (ap (λ o. unwrap_or o extent) same) spared.0
     go false found later = later found
 
 no_boundary : (k : ℕ) (kind : Kind) (at size : ℕ) → IsSpared k kind at size → (k ≡ at + 8) ⊎ (IsTrue (is_free_below_top kind) × (k ≡ at + size)) → ⊥
@@ -69,8 +69,8 @@ no_record regions words segments parts apart {block} {tail} there used tail_ther
   where
     differ : block.at ≡ tail.at → ⊥
     differ same =
-        let one : Some block ≡ Some tail = sym there ∙ (ap (λ (a : ℕ). extent_at a (extents_all segments)) same ∙ tail_there) in
-        let no : Used ≡ Record = sym used ∙ (ap (λ (o : Option Extent). (unwrap_or o block).kind) one ∙ is) in
+        let one : Some block ≡ Some tail = sym there ∙ (ap (λ a. extent_at a (extents_all segments)) same ∙ tail_there) in
+        let no : Used ≡ Record = sym used ∙ (ap (λ o. (unwrap_or o block).kind) one ∙ is) in
         cc
 
     whole : tail.at % 16 ≡ 0
@@ -90,8 +90,8 @@ not_in_free {regions} {word} {heap} sound {block} there used k low high f =
   where
     differ : block.at ≡ f.at → ⊥
     differ same =
-        let one : Some block ≡ Some (record { at = f.at; size = f.size; kind = Free }) = sym there ∙ (ap (λ (a : ℕ). extent_at a (extents_in (state_of word heap))) same ∙ f.free) in
-        let no : Used ≡ Free = sym used ∙ ap (λ (o : Option Extent). (unwrap_or o block).kind) one in
+        let one : Some block ≡ Some (record { at = f.at; size = f.size; kind = Free }) = sym there ∙ (ap (λ a. extent_at a (extents_in (state_of word heap))) same ∙ f.free) in
+        let no : Used ≡ Free = sym used ∙ ap (λ o. (unwrap_or o block).kind) one in
         cc
 
 -- a block keeps its words, if it is one of the new heap, and its words were in no free extent
@@ -129,7 +129,7 @@ module _ {A : Type 0} {regions : A → List Grant} {word : A → ℕ → ℕ} {o
         let is = standing (word old.system) Used l.segment.base l.segment.extents (l.segment.base + l.segment.size) p.extents p.tail l.there used in
         let was = standing (word new.system) Used l'.segment.base l'.segment.extents (l'.segment.base + l'.segment.size) p'.extents p'.tail l'.there used in
         let whole = is.size_whole in
-        ap (λ (w : ℕ). w / 2) was.head ∙ (half block.size was.before is.before (omega arith) ∙ ap (λ (w : ℕ). w / 2) (sym is.head));
+        ap (λ w. w / 2) was.head ∙ (half block.size was.before is.before (omega arith) ∙ ap (λ w. w / 2) (sym is.head));
   }
 
 pub blocks_law_tags : {A : Type 0} {regions : A → List Grant} {word : A → ℕ → ℕ} {old new : Dlmalloc A} → IsSound regions word old → IsSound regions word new →

@@ -23,7 +23,7 @@ granted_in segment (region ∷ regions) k low high = go (meets segment region) r
   where
     go : (b : Bool) → meets segment region ≡ b → is_granted (regions_in segment regions) k ≡ is_granted regions k →
         is_granted (if b then region ∷ regions_in segment regions else regions_in segment regions) k ≡ is_granted (region ∷ regions) k
-    go true test rest = ap (λ (b : Bool). (nat_le region.base k && nat_lt k (region.base + region.size)) || b) rest
+    go true test rest = ap (λ b. (nat_le region.base k && nat_lt k (region.base + region.size)) || b) rest
     go false test rest = (let none : (nat_le region.base k && nat_lt k (region.base + region.size)) ≡ false = grind (arith, nat_tests) in rw none rest)
 
 -- what holds of all regions holds of those of a segment
@@ -36,19 +36,19 @@ those_in P segment (region ∷ regions) all = go (meets segment region) (those_i
     go false rest = rest
 
 -- all others are apart from it
-others_apart : (segment : Segment) (regions : List Grant) → AllByRecursion (λ (region : Grant). IsOfRun segment region) (regions_in segment regions) → AllByRecursion (λ (region : Grant). IsOfRun segment region) regions
+others_apart : (segment : Segment) (regions : List Grant) → AllByRecursion (λ region. IsOfRun segment region) (regions_in segment regions) → AllByRecursion (λ region. IsOfRun segment region) regions
 others_apart segment [] all = tt
 others_apart segment (region ∷ regions) all = go (meets segment region) refl all (others_apart segment regions)
   where
-    go : (b : Bool) → meets segment region ≡ b → AllByRecursion (λ (region : Grant). IsOfRun segment region) (if b then region ∷ regions_in segment regions else regions_in segment regions) →
-        (AllByRecursion (λ (region : Grant). IsOfRun segment region) (regions_in segment regions) → AllByRecursion (λ (region : Grant). IsOfRun segment region) regions) → AllByRecursion (λ (region : Grant). IsOfRun segment region) (region ∷ regions)
+    go : (b : Bool) → meets segment region ≡ b → AllByRecursion (λ region. IsOfRun segment region) (if b then region ∷ regions_in segment regions else regions_in segment regions) →
+        (AllByRecursion (λ region. IsOfRun segment region) (regions_in segment regions) → AllByRecursion (λ region. IsOfRun segment region) regions) → AllByRecursion (λ region. IsOfRun segment region) (region ∷ regions)
     go true test all rest = (all.0, rest all.1)
     go false test all rest = (inl (grind (arith, nat_tests)), rest all)
 
 run_kept : (segment : Segment) {old : List Grant} (new : List Grant) → regions_in segment new ≡ regions_in segment old → IsRun old segment.base segment.size segment.flags → IsRun new segment.base segment.size segment.flags
 run_kept segment {old} new same run = record {
-  covered = λ k low high. sym (granted_in segment new k low high) ∙ (ap (λ (rs : List Grant). is_granted rs k) same ∙ (granted_in segment old k low high ∙ run.covered k low high));
-  whole = others_apart segment new (subst (AllByRecursion (λ (region : Grant). IsOfRun segment region)) (sym same) (those_in (IsOfRun segment) segment old run.whole));
+  covered = λ k low high. sym (granted_in segment new k low high) ∙ (ap (λ rs. is_granted rs k) same ∙ (granted_in segment old k low high ∙ run.covered k low high));
+  whole = others_apart segment new (subst (AllByRecursion (λ region. IsOfRun segment region)) (sym same) (those_in (IsOfRun segment) segment old run.whole));
 }
 
 module _ {A : Type 0} {regions : A → List Grant} {word : A → ℕ → ℕ} {heap : Dlmalloc A} (sound : IsSound regions word heap) (system : A)
@@ -63,15 +63,15 @@ module _ {A : Type 0} {regions : A → List Grant} {word : A → ℕ → ℕ} {h
 
       of_used : (used : Extent) → used.kind ≡ Used → used ≡ one → (k < used.at + 16) ⊎ (used.at + used.size + 8 ≤ k)
       of_used used used_is one_is =
-          let place = ap (λ (e : Extent). e.at) one_is in
-          let is : one.kind ≡ Used = ap (λ (e : Extent). e.kind) (sym one_is) ∙ used_is in
+          let place = ap (λ e. e.at) one_is in
+          let is : one.kind ≡ Used = ap (λ e. e.kind) (sym one_is) ∙ used_is in
           elim (tells.3) [
             | inl head ↦ inl (omega arith)
             | inr other ↦ absurd (elim other [ inl tail ↦ (let no : Record ≡ Used = sym tail ∙ is in cc) | inr end ↦ plain_used one.kind (tells.4 end) is ])
           ]
 
       go : (used : Extent) → used.kind ≡ Used → extent_at used.at (extents_in (state_of word heap)) ≡ Some used → (b : Bool) → (used.at == one.at) ≡ b → (k < used.at + 16) ⊎ (used.at + used.size + 8 ≤ k)
-      go used used_is found true test = of_used used used_is (the_extent (sym found ∙ (ap (λ (a : ℕ). extent_at a (extents_all (segments_of word heap))) (nat_is test) ∙ there)))
+      go used used_is found true test = of_used used used_is (the_extent (sym found ∙ (ap (λ a. extent_at a (extents_all (segments_of word heap))) (nat_is test) ∙ there)))
       go used used_is found false other =
           let above = tells.0 in let below = tells.1 in let m = tells.2 in
           let whole = (stands_there (regions heap.system) (word heap.system) (segments_of word heap) sound.segments there).1.whole in
@@ -81,7 +81,7 @@ module _ {A : Type 0} {regions : A → List Grant} {word : A → ℕ → ℕ} {h
           ]
 
   runs : (segments : List Segment) → KeepsRegions segments (regions heap.system) (regions system) →
-      AllByRecursion (λ (segment : Segment). IsRun (regions heap.system) segment.base segment.size segment.flags → IsRun (regions system) segment.base segment.size segment.flags) segments
+      AllByRecursion (λ segment. IsRun (regions heap.system) segment.base segment.size segment.flags → IsRun (regions system) segment.base segment.size segment.flags) segments
   runs [] stay = tt
   runs (segment ∷ segments) stay = ((λ run. run_kept segment (regions system) stay.0 run), runs segments stay.1)
 
@@ -102,7 +102,7 @@ module _ {A : Type 0} {regions : A → List Grant} {word : A → ℕ → ℕ} {h
       let above = is.low in let below = is.high in
       outside k granted (ap (list_any (has_byte_in k)) l.is ∙ any_among (has_byte_in k) l.front l.segment l.back (has_its l.segment k (omega arith) (omega arith)))
       (λ used used_is found. elim (same_or_beside sound free found) [
-        | inl same ↦ absurd (let no : Used ≡ Free = sym used_is ∙ ap (λ (e : Extent). e.kind) same in cc)
+        | inl same ↦ absurd (let no : Used ≡ Free = sym used_is ∙ ap (λ e. e.kind) same in cc)
         | inr beside ↦ elim beside [ inl before ↦ inr (omega arith) | inr behind ↦ inl (omega arith) ]
       ])
 
@@ -111,8 +111,8 @@ module _ {A : Type 0} {regions : A → List Grant} {word : A → ℕ → ℕ} {h
     index = b.index;
     linked = stays (regions heap.system) (regions system) (word heap.system) (word system) heap.bins b.index b.linked (record {
       granted = λ size chunk k is low high inside.
-          (is_chunk still_sound (subst (λ (s : HeapState). IsFreeAt s chunk size) (sym still_state) (b.holds.free chunk size is))).granted k low high inside.aligned;
+          (is_chunk still_sound (subst (λ s. IsFreeAt s chunk size) (sym still_state) (b.holds.free chunk size is))).granted k low high inside.aligned;
       words = λ size chunk k is low high near inside. chunk_stays chunk k (b.holds.free chunk size is) low high inside;
     });
-    holds = subst (λ (s : HeapState). HoldsBinned s b.index) (sym still_state) b.holds;
+    holds = subst (λ s. HoldsBinned s b.index) (sym still_state) b.holds;
   }

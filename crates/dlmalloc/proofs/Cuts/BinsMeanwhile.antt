@@ -20,7 +20,7 @@ module _ {A : Type 0} {regions : A → List Grant} {word : A → ℕ → ℕ} {o
     still = λ k out which n free other. elim which [ inl victim ↦ absurd (out (inl (victim ∙ sym was))) | inr none ↦ none ];
     from = λ k out which n free other. elim which [
       | inl victim ↦ elim now [
-        | inl there ↦ absurd (out (subst (λ (a : ℕ). IsIn a more) (sym victim) there))
+        | inl there ↦ absurd (out (subst (λ a. IsIn a more) (sym victim) there))
         | inr zero ↦ absurd (none_at_zero free (victim ∙ zero))
       ]
       | inr none ↦ none
@@ -51,7 +51,7 @@ module _ {A : Type 0} {regions : A → List Grant} {word : A → ℕ → ℕ} {o
   -- what came is not the old victim, where that is another chunk
   pub rest_other : (rest : ℕ) {size : ℕ} → IsIn rest more → IsFreeAt (state_of word old) old.victim size → at ≢ old.victim → rest ≢ old.victim
   rest_other rest {size} there free other same =
-      (moves.stays old.victim size free (λ is. elim is [ inl victim ↦ other (sym victim) | inr none ↦ none ])).1 (subst (λ (a : ℕ). IsIn a more) same there)
+      (moves.stays old.victim size free (λ is. elim is [ inl victim ↦ other (sym victim) | inr none ↦ none ])).1 (subst (λ a. IsIn a more) same there)
 
   -- and that is free still
   pub victim_free : {size : ℕ} → IsFreeAt (state_of word old) old.victim size → at ≢ old.victim → IsFreeAt (state_of word new) old.victim size
@@ -102,17 +102,17 @@ module _ (stays : IndexStays) {A : Type 0} {regions : A → List Grant} {word : 
   old_victim_free moves other some = victim_free new sound moves (sound.victim some) other
 
   pub old_victim_none : old.victim_size ≡ 0 → (bytes : ℕ) → IsFreeAt (state_of word new) old.victim bytes → ⊥
-  old_victim_none none bytes free = none_free_at_zero moved.sound (subst (λ (a : ℕ). IsFreeAt (state_of word new) a bytes) (sound.no_victim none) free)
+  old_victim_none none bytes free = none_free_at_zero moved.sound (subst (λ a. IsFreeAt (state_of word new) a bytes) (sound.no_victim none) free)
 
 -- ---- the two ways of a cut
 
 -- where a rest stays free, and where none does
 module _ {old new : HeapState} {at : ℕ} (rest n size : ℕ) (moves : FreeMoves old new (at ∷ []) (if nat_le (n + 32) size then rest ∷ [] else [])) where
   pub moves_rest : n + 32 ≤ size → FreeMoves old new (at ∷ []) (rest ∷ [])
-  moves_rest room = (let test : nat_le (n + 32) size ≡ true = grind (arith, nat_tests) in subst (λ (b : Bool). FreeMoves old new (at ∷ []) (if b then rest ∷ [] else [])) test moves)
+  moves_rest room = (let test : nat_le (n + 32) size ≡ true = grind (arith, nat_tests) in subst (λ b. FreeMoves old new (at ∷ []) (if b then rest ∷ [] else [])) test moves)
 
   pub moves_whole : size < n + 32 → FreeMoves old new (at ∷ []) []
-  moves_whole little = (let test : nat_le (n + 32) size ≡ false = grind (arith, nat_tests) in subst (λ (b : Bool). FreeMoves old new (at ∷ []) (if b then rest ∷ [] else [])) test moves)
+  moves_whole little = (let test : nat_le (n + 32) size ≡ false = grind (arith, nat_tests) in subst (λ b. FreeMoves old new (at ∷ []) (if b then rest ∷ [] else [])) test moves)
 
 -- the victim after a chunk was taken
 module _ (heap : HeapState) (at size n : ℕ) where
@@ -145,7 +145,7 @@ module _ (stays : IndexStays) {A : Type 0} {regions : A → List Grant} {word : 
     (moved : IsMoved regions word follows old new) (state : state_of word new ≡ taken (state_of word old) (extent at size Free) n)
     (moves : FreeMoves (state_of word old) (state_of word new) (at ∷ []) (if nat_le (n + 32) size then (at + n) ∷ [] else [])) (bins : new.bins ≡ old.bins) where
   pub victim_is : new.victim ≡ victim_after (state_of word old) n (extent at size Free)
-  victim_is = ap (λ (s : HeapState). s.victim) state
+  victim_is = ap (λ s. s.victim) state
 
   -- of the victim
   pub victim_taken : at ≡ old.victim → KeepsOrder regions word old new
@@ -197,7 +197,7 @@ module _ (stays : IndexStays) {A : Type 0} {regions : A → List Grant} {word : 
     (moved : IsMoved regions word follows old new) (state : state_of word new ≡ grown_into (state_of word old) (extent at size Used) (extent (at + size) free Free) n)
     (moves : FreeMoves (state_of word old) (state_of word new) ((at + size) ∷ []) (if nat_le (n + 32) (size + free) then (at + n) ∷ [] else [])) (bins : new.bins ≡ old.bins) where
   victim_grown : new.victim ≡ (grown_into (state_of word old) (extent at size Used) (extent (at + size) free Free) n).victim
-  victim_grown = ap (λ (s : HeapState). s.victim) state
+  victim_grown = ap (λ s. s.victim) state
 
   -- of the victim
   pub into_victim : at + size ≡ old.victim → (b : IsBinned regions word old) → (after : IsBinned regions word new) × ((k : ℕ) → after.index k ≡ b.index k)

@@ -22,12 +22,12 @@ find_victim heap (first ∷ extents) {victim} there plain = at_first (first.at =
   where
     at_first : (b : Bool) → (first.at == heap.victim) ≡ b → (extent_at heap.victim extents ≡ Some victim → find (is_victim heap) extents ≡ Some victim) → find (is_victim heap) (first ∷ extents) ≡ Some victim
     at_first true test later =
-        let is : Some first ≡ Some victim = subst (λ (b : Bool). (if b then Some first else extent_at heap.victim extents) ≡ Some victim) test there in
-        let same : first ≡ victim = ap (λ (o : Option Extent). unwrap_or o first) is in
-        let free : is_free_below_top first.kind ≡ true = ap (λ (e : Extent). is_free_below_top e.kind) same ∙ plain in
+        let is : Some first ≡ Some victim = subst (λ b. (if b then Some first else extent_at heap.victim extents) ≡ Some victim) test there in
+        let same : first ≡ victim = ap (λ o. unwrap_or o first) is in
+        let free : is_free_below_top first.kind ≡ true = ap (λ e. is_free_below_top e.kind) same ∙ plain in
         rw (free, test) is
     at_first false test later =
-        let rest = later (subst (λ (b : Bool). (if b then Some first else extent_at heap.victim extents) ≡ Some victim) test there) in
+        let rest = later (subst (λ b. (if b then Some first else extent_at heap.victim extents) ≡ Some victim) test there) in
         let isnt : is_victim heap first ≡ false = and_false (is_free_below_top first.kind) test in
         rw isnt rest
 
@@ -38,18 +38,18 @@ no_victim heap (first ∷ extents) none = at_first (first.at == heap.victim) ref
   where
     at_first : (b : Bool) → (first.at == heap.victim) ≡ b → (extent_at heap.victim extents ≡ None → find (is_victim heap) extents ≡ None) → find (is_victim heap) (first ∷ extents) ≡ None
     at_first true test later =
-        absurd (let is : Some first ≡ None = subst (λ (b : Bool). (if b then Some first else extent_at heap.victim extents) ≡ None) test none in cc)
+        absurd (let is : Some first ≡ None = subst (λ b. (if b then Some first else extent_at heap.victim extents) ≡ None) test none in cc)
     at_first false test later =
-        let rest = later (subst (λ (b : Bool). (if b then Some first else extent_at heap.victim extents) ≡ None) test none) in
+        let rest = later (subst (λ b. (if b then Some first else extent_at heap.victim extents) ≡ None) test none) in
         let isnt : is_victim heap first ≡ false = and_false (is_free_below_top first.kind) test in
         rw isnt rest
 
 -- no chunk is the top
-no_top : (chunks : List Extent) → AreChunks chunks → find (λ (extent : Extent). is_top extent.kind) chunks ≡ None
+no_top : (chunks : List Extent) → AreChunks chunks → find (λ extent. is_top extent.kind) chunks ≡ None
 no_top [] are = refl
 no_top (chunk ∷ chunks) are = by_kind are.0 (no_top chunks are.1)
   where
-    by_kind : IsChunkKind chunk.kind → find (λ (extent : Extent). is_top extent.kind) chunks ≡ None → find (λ (extent : Extent). is_top extent.kind) (chunk ∷ chunks) ≡ None
+    by_kind : IsChunkKind chunk.kind → find (λ extent. is_top extent.kind) chunks ≡ None → find (λ extent. is_top extent.kind) (chunk ∷ chunks) ≡ None
     by_kind (inl is) rest = let other : is_top chunk.kind ≡ false = ap is_top is in rw other rest
     by_kind (inr is) rest = let other : is_top chunk.kind ≡ false = ap is_top is in rw other rest
 
@@ -93,15 +93,15 @@ module _ {A : Type 0} {regions : A → List Grant} {word : A → ℕ → ℕ} {h
   victim_size_is : size_where (is_victim state) (extents_in state) ≡ heap.victim_size
   victim_size_is = by_size (heap.victim_size == 0) refl
     where
-      by_size : (b : Bool) → (heap.victim_size == 0) ≡ b → unwrap_or (option_map (λ (extent : Extent). extent.size) (find (is_victim state) (extents_in state))) 0 ≡ heap.victim_size
+      by_size : (b : Bool) → (heap.victim_size == 0) ≡ b → unwrap_or (option_map (λ extent. extent.size) (find (is_victim state) (extents_in state))) 0 ≡ heap.victim_size
       by_size true test =
           let zero : heap.victim_size ≡ 0 = grind (arith, nat_tests) in
           let at = sound.no_victim zero in
-          ap (λ (o : Option Extent). unwrap_or (option_map (λ (extent : Extent). extent.size) o) 0)
-          (no_victim state (extents_in state) (ap (λ (a : ℕ). extent_at a (extents_in state)) at ∙ none_at_zero (regions heap.system) (word heap.system) (segments_of word heap) sound.segments)) ∙ sym zero
+          ap (λ o. unwrap_or (option_map (λ extent. extent.size) o) 0)
+          (no_victim state (extents_in state) (ap (λ a. extent_at a (extents_in state)) at ∙ none_at_zero (regions heap.system) (word heap.system) (segments_of word heap) sound.segments)) ∙ sym zero
       by_size false test =
           let some : heap.victim_size ≢ 0 = grind (arith, nat_tests) in
-          ap (λ (o : Option Extent). unwrap_or (option_map (λ (extent : Extent). extent.size) o) 0) (find_victim state (extents_in state) (sound.victim some) refl)
+          ap (λ o. unwrap_or (option_map (λ extent. extent.size) o) 0) (find_victim state (extents_in state) (sound.victim some) refl)
 
   -- the top is one of the extents
   pub top_there : extent_at heap.top (extents_in state) ≡ Some (extent heap.top heap.top_size Top)
@@ -117,12 +117,12 @@ module _ {A : Type 0} {regions : A → List Grant} {word : A → ℕ → ℕ} {h
           let t = top_tail parts.0 h.4 in
           let chunks = t.run.chunks in
           let tail = extent heap.top heap.top_size Top ∷ extent (heap.top + heap.top_size) 80 Foot ∷ [] in
-          ap (λ (o : Option Extent). unwrap_or (option_map (λ (extent : Extent). extent.size) o) 0)
-          (find-append (λ (extent : Extent). is_top extent.kind) segment.extents (extents_all segments)
-          ∙ ap (λ (o : Option Extent). option_or o (find (λ (extent : Extent). is_top extent.kind) (extents_all segments)))
-          (ap (find (λ (extent : Extent). is_top extent.kind)) (t.is ∙ ap (λ (es : List Extent). es ++ tail) (run_read t.run))
-          ∙ (find-append (λ (extent : Extent). is_top extent.kind) chunks tail
-          ∙ ap (λ (o : Option Extent). option_or o (find (λ (extent : Extent). is_top extent.kind) tail)) (no_top chunks t.run.are))))
+          ap (λ o. unwrap_or (option_map (λ extent. extent.size) o) 0)
+          (find-append (λ extent. is_top extent.kind) segment.extents (extents_all segments)
+          ∙ ap (λ o. option_or o (find (λ extent. is_top extent.kind) (extents_all segments)))
+          (ap (find (λ extent. is_top extent.kind)) (t.is ∙ ap (λ es. es ++ tail) (run_read t.run))
+          ∙ (find-append (λ extent. is_top extent.kind) chunks tail
+          ∙ ap (λ o. option_or o (find (λ extent. is_top extent.kind) tail)) (no_top chunks t.run.are))))
 
   module _ (n : ℕ) where
     pub chosen_is : {fit : Option ℕ} → least_fit state n ≡ fit → chosen state n ≡ choose n fit heap.victim_size heap.top_size
@@ -181,7 +181,7 @@ pub bins_no_victim : {heap : HeapState} {n : ℕ} (size : ℕ) {extent : Extent}
 bins_no_victim {heap} size {extent} h is same = go h.choice (the_choice (sym h.is ∙ is)) h.one
   where
     the_choice : {one other : Choice} → Some one ≡ Some other → one ≡ other
-    the_choice {one} {other} e = ap (λ (o : Option Choice). unwrap_or o one) e
+    the_choice {one} {other} e = ap (λ o. unwrap_or o one) e
 
     victim_binned : (plain victim sized : Bool) → victim ≡ true → ((plain && not victim) && sized) ≡ true → ⊥
     victim_binned true true sized is test = (cc)
@@ -190,13 +190,13 @@ bins_no_victim {heap} size {extent} h is same = go h.choice (the_choice (sym h.i
 
     go : (choice : Choice) → choice ≡ OfBins size → IsTrue (is_one_of heap choice extent) → ⊥
     go choice e one =
-        let binned : (is_binned heap extent && extent.size == size) ≡ true = subst (λ (c : Choice). IsTrue (is_one_of heap c extent)) e one in
+        let binned : (is_binned heap extent && extent.size == size) ≡ true = subst (λ c. IsTrue (is_one_of heap c extent)) e one in
         let test : (extent.at == heap.victim) ≡ true = (let e = same in grind (arith, nat_tests)) in
         victim_binned (is_free_below_top extent.kind) (extent.at == heap.victim) (extent.size == size) test binned
 
 -- and the top is in no bin
 pub top_no_bins : {heap : HeapState} {n : ℕ} (size : ℕ) {extent : Extent} → IsChosen heap n extent → extent.kind ≡ Top → chosen heap n ≡ Some (OfBins size) → ⊥
-top_no_bins {heap} size {extent} h top is = go h.choice (ap (λ (o : Option Choice). unwrap_or o h.choice) (sym h.is ∙ is)) h.one
+top_no_bins {heap} size {extent} h top is = go h.choice (ap (λ o. unwrap_or o h.choice) (sym h.is ∙ is)) h.one
   where
     no_plain : (plain victim sized : Bool) → plain ≡ false → ((plain && not victim) && sized) ≡ true → ⊥
     no_plain true victim sized is test = (cc)
@@ -204,7 +204,7 @@ top_no_bins {heap} size {extent} h top is = go h.choice (ap (λ (o : Option Choi
 
     go : (choice : Choice) → choice ≡ OfBins size → IsTrue (is_one_of heap choice extent) → ⊥
     go choice e one =
-        let binned : (is_binned heap extent && extent.size == size) ≡ true = subst (λ (c : Choice). IsTrue (is_one_of heap c extent)) e one in
+        let binned : (is_binned heap extent && extent.size == size) ≡ true = subst (λ c. IsTrue (is_one_of heap c extent)) e one in
         let plain : is_free_below_top extent.kind ≡ false = ap is_free_below_top top in
         no_plain (is_free_below_top extent.kind) (extent.at == heap.victim) (extent.size == size) plain binned
 

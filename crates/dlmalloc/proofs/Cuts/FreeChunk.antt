@@ -27,7 +27,7 @@ pub found_one : (k : ℕ) (one : Extent) {tail : Extent} → extent_at k (one �
 found_one k one {tail} there = go (one.at == k) there
   where
     go : (b : Bool) → (if b then Some one else None) ≡ Some tail → one ≡ tail
-    go true is = ap (λ (o : Option Extent). unwrap_or o one) is
+    go true is = ap (λ o. unwrap_or o one) is
     go false is = absurd (cc)
 
 module _ {A : Type 0} {regions : A → List Grant} {word : A → ℕ → ℕ} {heap : Dlmalloc A} (sound : IsSound regions word heap) {at size : ℕ} (n : ℕ)
@@ -61,10 +61,10 @@ module _ {A : Type 0} {regions : A → List Grant} {word : A → ℕ → ℕ} {h
     take new {victim} victim_size step now is one place h named none left free rest = record {
       take = record {
         state = (
-            let segments_are = read sound step ∙ (now ∙ (ap (λ (es : List Extent). run.front ++ with_extents run.segment (run.first ++ (es ++ run.last)) ∷ run.back) (sym is)
+            let segments_are = read sound step ∙ (now ∙ (ap (λ es. run.front ++ with_extents run.segment (run.first ++ (es ++ run.last)) ∷ run.back) (sym is)
             ∙ sym (replaced_run (regions heap.system) sound.segments sound.apart (cut n) run))) in
             λ i. record { segments = segments_are i; victim = left i; granularity = heap.granularity; rate = heap.rate; countdown = heap.countdown; trim_check = heap.trim_check });
-        more = subst (λ (k : ℕ). HasOneMore (state_of word heap) (state_of word (after victim victim_size)) k) place (has_more sound step one h);
+        more = subst (λ k. HasOneMore (state_of word heap) (state_of word (after victim victim_size)) k) place (has_more sound step one h);
         sound = stays_sound sound step same refl refl refl refl none named;
         words = keeps_words sound step;
       };
@@ -80,7 +80,7 @@ module _ {A : Type 0} {regions : A → List Grant} {word : A → ℕ → ℕ} {h
       halves = extent at n Used ∷ extent (at + n) (size - n) Free ∷ []
 
       free_one : (k : ℕ) {tail : Extent} → extent_at k (chunk ∷ []) ≡ Some tail → Free ≡ tail.kind
-      free_one k found = ap (λ (e : Extent). e.kind) (found_one k chunk found)
+      free_one k found = ap (λ e. e.kind) (found_one k chunk found)
 
       abbrev split_step : (victim victim_size : ℕ) → IsStep regions word heap (after victim victim_size) (chunk ∷ []) halves
       split_step victim victim_size = step_beside (after victim victim_size) sound same run
@@ -94,7 +94,7 @@ module _ {A : Type 0} {regions : A → List Grant} {word : A → ℕ → ℕ} {h
       split : (victim victim_size : ℕ) → (victim_size ≢ 0 → extent_at victim (extents_in (state_of word (after victim victim_size))) ≡ Some (extent victim victim_size Free)) → (victim_size ≡ 0 → victim ≡ 0) →
           victim ≡ victim_after (state_of word heap) n chunk → Took victim victim_size
       split victim victim_size named none left = take halves victim_size (split_step victim victim_size) refl (rw has_rest refl) (extent at n Used) refl (record { front = []; back = []; fewer = refl; further = refl }) named none left
-          (subst (λ (b : Bool). FreeMoves (state_of word heap) (state_of word (after victim victim_size)) (at ∷ []) (if b then (at + n) ∷ [] else [])) (sym has_rest) split_free)
+          (subst (λ b. FreeMoves (state_of word heap) (state_of word (after victim victim_size)) (at ∷ []) (if b then (at + n) ∷ [] else [])) (sym has_rest) split_free)
           (λ more. found_new sound (split_step victim victim_size) (at + n) (extent (at + n) (size - n) Free) rest_there)
         where
           rest_there : extent_at (at + n) halves ≡ Some (extent (at + n) (size - n) Free)
@@ -105,15 +105,15 @@ module _ {A : Type 0} {regions : A → List Grant} {word : A → ℕ → ℕ} {h
 
           in_rest : (k bytes : ℕ) → extent_at k halves ≡ Some (extent k bytes Free) → IsIn k ((at + n) ∷ [])
           in_rest k bytes found = elim (found_either k (extent at n Used ∷ []) (extent (at + n) (size - n) Free ∷ []) found) [
-            | inl first ↦ absurd (let no : Used ≡ Free = ap (λ (e : Extent). e.kind) (found_one k (extent at n Used) first) in cc)
-            | inr later ↦ inl (sym (ap (λ (e : Extent). e.at) (found_one k (extent (at + n) (size - n) Free) later.1)))
+            | inl first ↦ absurd (let no : Used ≡ Free = ap (λ e. e.kind) (found_one k (extent at n Used) first) in cc)
+            | inr later ↦ inl (sym (ap (λ e. e.at) (found_one k (extent (at + n) (size - n) Free) later.1)))
           ]
 
           split_free : FreeMoves (state_of word heap) (state_of word (after victim victim_size)) (at ∷ []) ((at + n) ∷ [])
           split_free = free_moves sound (split_step victim victim_size) (at ∷ []) ((at + n) ∷ [])
-              (λ k bytes found. inl (sym (ap (λ (e : Extent). e.at) (found_one k chunk found)))) in_rest
-              (λ k is. elim is [ inl same ↦ inr (chunk, subst (λ (a : ℕ). extent_at a (chunk ∷ []) ≡ Some chunk) (sym same) (found_here chunk [])) | inr none ↦ absurd none ])
-              (λ k is. elim is [ inl same ↦ inr (extent (at + n) (size - n) Free, subst (λ (a : ℕ). extent_at a halves ≡ Some (extent (at + n) (size - n) Free)) (sym same) rest_there) | inr none ↦ absurd none ])
+              (λ k bytes found. inl (sym (ap (λ e. e.at) (found_one k chunk found)))) in_rest
+              (λ k is. elim is [ inl same ↦ inr (chunk, subst (λ a. extent_at a (chunk ∷ []) ≡ Some chunk) (sym same) (found_here chunk [])) | inr none ↦ absurd none ])
+              (λ k is. elim is [ inl same ↦ inr (extent (at + n) (size - n) Free, subst (λ a. extent_at a halves ≡ Some (extent (at + n) (size - n) Free)) (sym same) rest_there) | inr none ↦ absurd none ])
 
       -- the rest is the victim
       pub split_victim : (at ≡ heap.victim) ⊎ (n < 256) → Took (at + n) (size - n)
@@ -139,7 +139,7 @@ module _ {A : Type 0} {regions : A → List Grant} {word : A → ℕ → ℕ} {h
           let large : nat_lt n 256 ≡ false = (let m = many in grind (arith, nat_tests)) in
           split heap.victim heap.victim_size
           (λ more. found_again sound (split_step heap.victim heap.victim_size)
-          heap.victim (λ here. absurd (isnt (ap (λ (e : Extent). e.at) (found_one heap.victim chunk here)))) (sound.victim more))
+          heap.victim (λ here. absurd (isnt (ap (λ e. e.at) (found_one heap.victim chunk here)))) (sound.victim more))
           sound.no_victim (rw (test, has_rest, large) refl)
 
     -- ---- nothing stays free
@@ -167,21 +167,21 @@ module _ {A : Type 0} {regions : A → List Grant} {word : A → ℕ → ℕ} {h
           let place = b.0 in
           let high = tiles_le (word heap.system) next.next.kind (at + size + next.next.size) next.rest (run.segment.base + run.segment.size) b.2 in
           cut_whole (regions heap.system) (word system) stands b.1 b.0
-          (subst (λ (t : Bool). AreStored (regions heap.system) (word heap.system) ((at + 8, head_of size true true) ∷ (at + size + 8, with_pinuse (if t then head_of size true true else word heap.system (at + size + 8))) ∷ []) (word system)) some stored)
+          (subst (λ t. AreStored (regions heap.system) (word heap.system) ((at + 8, head_of size true true) ∷ (at + size + 8, with_pinuse (if t then head_of size true true else word heap.system (at + size + 8))) ∷ []) (word system)) some stored)
           (λ k above below m. run_word (regions heap.system) sound.segments run k (omega arith) (omega arith) m)
 
       -- what begins elsewhere is found as before
       beside : (k : ℕ) → at ≢ k → (tail : Extent) → extent_at k both ≡ Some tail → extent_at k all ≡ Some tail
       beside k apart tail found =
           let test : (at == k) ≡ false = (let e = apart in grind (arith, nat_tests)) in
-          rw test (subst (λ (b : Bool). (if b then Some chunk else extent_at k (next.next ∷ [])) ≡ Some tail) test found)
+          rw test (subst (λ b. (if b then Some chunk else extent_at k (next.next ∷ [])) ≡ Some tail) test found)
 
       -- and so is what is no free extent
       still : (k : ℕ) {tail : Extent} → extent_at k both ≡ Some tail → (Free ≡ tail.kind → ⊥) → extent_at k all ≡ Some tail
       still k {tail} found other = go (at == k) refl
         where
           go : (b : Bool) → (at == k) ≡ b → extent_at k all ≡ Some tail
-          go true here = absurd (other (ap (λ (o : Option Extent). (unwrap_or o chunk).kind) (subst (λ (b : Bool). (if b then Some chunk else extent_at k (next.next ∷ [])) ≡ Some tail) here found)))
+          go true here = absurd (other (ap (λ o. (unwrap_or o chunk).kind) (subst (λ b. (if b then Some chunk else extent_at k (next.next ∷ [])) ≡ Some tail) here found)))
           go false apart = beside k (λ is. absurd (let t : (at == k) ≡ true = (let e = is in grind (arith, nat_tests)) in cc)) tail found
 
       abbrev whole_step : (victim victim_size : ℕ) → IsStep regions word heap (after victim victim_size) both all
@@ -195,9 +195,9 @@ module _ {A : Type 0} {regions : A → List Grant} {word : A → ℕ → ℕ} {h
       whole : (victim victim_size : ℕ) → (victim_size ≢ 0 → extent_at victim (extents_in (state_of word (after victim victim_size))) ≡ Some (extent victim victim_size Free)) → (victim_size ≡ 0 → victim ≡ 0) →
           victim ≡ victim_after (state_of word heap) n chunk → Took victim victim_size
       whole victim victim_size named none left = take (extent at size Used ∷ []) victim_size (whole_step victim victim_size)
-          (ap (λ (es : List Extent). run.front ++ with_extents run.segment (run.first ++ (extent at size Used ∷ es)) ∷ run.back) (sym next.is)) (rw no_rest refl)
+          (ap (λ es. run.front ++ with_extents run.segment (run.first ++ (extent at size Used ∷ es)) ∷ run.back) (sym next.is)) (rw no_rest refl)
           (extent at size Used) refl (record { front = []; back = used_of (next.next ∷ []); fewer = refl; further = refl }) named none left
-          (subst (λ (b : Bool). FreeMoves (state_of word heap) (state_of word (after victim victim_size)) (at ∷ []) (if b then (at + n) ∷ [] else [])) (sym no_rest) whole_free)
+          (subst (λ b. FreeMoves (state_of word heap) (state_of word (after victim victim_size)) (at ∷ []) (if b then (at + n) ∷ [] else [])) (sym no_rest) whole_free)
           (λ more. absurd (omega (arith, more, small)))
         where
           next_kind : (next.next.kind ≡ Used) ⊎ (next.next.kind ≡ Record)
@@ -205,24 +205,24 @@ module _ {A : Type 0} {regions : A → List Grant} {word : A → ℕ → ℕ} {h
 
           next_used : (bytes k : ℕ) → next.next ≡ extent k bytes Free → ⊥
           next_used bytes k is =
-              let kind : next.next.kind ≡ Free = ap (λ (e : Extent). e.kind) is in
+              let kind : next.next.kind ≡ Free = ap (λ e. e.kind) is in
               elim next_kind [ inl used ↦ (let no : Used ≡ Free = sym used ∙ kind in cc) | inr tail ↦ (let no : Record ≡ Free = sym tail ∙ kind in cc) ]
 
           in_both : (k bytes : ℕ) → extent_at k both ≡ Some (extent k bytes Free) → IsIn k (at ∷ [])
           in_both k bytes found = elim (found_either k (chunk ∷ []) (next.next ∷ []) found) [
-            | inl first ↦ inl (sym (ap (λ (e : Extent). e.at) (found_one k chunk first)))
+            | inl first ↦ inl (sym (ap (λ e. e.at) (found_one k chunk first)))
             | inr later ↦ absurd (next_used bytes k (found_one k next.next later.1))
           ]
 
           in_all : (k bytes : ℕ) → extent_at k all ≡ Some (extent k bytes Free) → IsIn k []
           in_all k bytes found = elim (found_either k (extent at size Used ∷ []) (next.next ∷ []) found) [
-            | inl first ↦ (let no : Used ≡ Free = ap (λ (e : Extent). e.kind) (found_one k (extent at size Used) first) in cc)
+            | inl first ↦ (let no : Used ≡ Free = ap (λ e. e.kind) (found_one k (extent at size Used) first) in cc)
             | inr later ↦ next_used bytes k (found_one k next.next later.1)
           ]
 
           whole_free : FreeMoves (state_of word heap) (state_of word (after victim victim_size)) (at ∷ []) []
           whole_free = free_moves sound (whole_step victim victim_size) (at ∷ []) [] in_both in_all
-              (λ k is. elim is [ inl same ↦ inr (chunk, subst (λ (a : ℕ). extent_at a both ≡ Some chunk) (sym same) (found_here chunk (next.next ∷ []))) | inr none ↦ absurd none ])
+              (λ k is. elim is [ inl same ↦ inr (chunk, subst (λ a. extent_at a both ≡ Some chunk) (sym same) (found_here chunk (next.next ∷ []))) | inr none ↦ absurd none ])
               (λ k is. absurd is)
 
       -- it was the victim, and there is none now
@@ -284,4 +284,4 @@ module _ {A : Type 0} {regions : A → List Grant} {word : A → ℕ → ℕ} {h
   stores middle system same fits first second =
       stored_then
       (head_there at (omega arith) (omega arith) (omega (arith, at_whole))).granted first
-      (subst (λ (rs : List Grant). AreStored rs (word middle) ((at + n + 8, head_of (size - n) true false) ∷ (at + n + (size - n), size - n) ∷ []) (word system)) same second)
+      (subst (λ rs. AreStored rs (word middle) ((at + n + 8, head_of (size - n) true false) ∷ (at + n + (size - n), size - n) ∷ []) (word system)) same second)

@@ -82,7 +82,7 @@ module _ (regions : List Grant) {old : ℕ → ℕ} (new : ℕ → ℕ) {before 
             whole = place;
             size = (whole, least);
             kind = inl stands.kind;
-            head = stored.here.0 ((λ is. omega arith), ((λ is. omega arith), tt)) ∙ ap (λ (k : Kind). head_of n (is_used k) true) (sym stands.kind);
+            head = stored.here.0 ((λ is. omega arith), ((λ is. omega arith), tt)) ∙ ap (λ k. head_of n (is_used k) true) (sym stands.kind);
             foot = λ free. absurd (cc);
             fence = λ is. absurd (cc);
           },
@@ -118,21 +118,21 @@ module _ (regions : List Grant) {old : ℕ → ℕ} (new : ℕ → ℕ) {before 
               whole = stands.whole;
               size = stands.size;
               kind = inl stands.kind;
-              head = stored.here.0 ((λ is. omega arith), tt) ∙ ap (λ (k : Kind). head_of size (is_used k) true) (sym stands.kind);
+              head = stored.here.0 ((λ is. omega arith), tt) ∙ ap (λ k. head_of size (is_used k) true) (sym stands.kind);
               foot = λ free. absurd (cc);
               fence = λ is. absurd (cc);
             },
             (
               touch,
               rehung new Used behind kind (may_stand next.kind Used kind (inl refl))
-                  (subst (λ (a : ℕ). new (a + 8) ≡ head_of (told_size next.kind next.size) true (is_used next.kind)) (sym touch)
-                  (stored.here.1.0 tt ∙ (ap (λ (a : ℕ). with_pinuse (old (a + 8))) (sym touch)
+                  (subst (λ a. new (a + 8) ≡ head_of (told_size next.kind next.size) true (is_used next.kind)) (sym touch)
+                  (stored.here.1.0 tt ∙ (ap (λ a. with_pinuse (old (a + 8))) (sym touch)
                   ∙ (ap with_pinuse behind.head ∙ with_pinuse-head_of (told_size next.kind next.size) false (is_used next.kind) (told_whole next.kind next.size behind.size)))))
                   (λ k low high m. stored.elsewhere k (granted k (omega arith) high m) ((λ is. omega arith), ((λ is. omega arith), tt))),
               refl,
             ),
           );
-          kept = λ k word more. stored.elsewhere k word (more.0, (subst (λ (a : ℕ). k ≢ a + 8) touch (no_head k next.kind next.at next.size behind.size more.1.0), tt));
+          kept = λ k word more. stored.elsewhere k word (more.0, (subst (λ a. k ≢ a + 8) touch (no_head k next.kind next.at next.size behind.size more.1.0), tt));
         }
 
 -- the top is cut
@@ -150,7 +150,7 @@ cut_top n stands whole least room stored =
           whole = place;
           size = (whole, least);
           kind = inl stands.kind;
-          head = stored.here.0 ((λ is. omega arith), tt) ∙ ap (λ (k : Kind). head_of n (is_used k) true) (sym stands.kind);
+          head = stored.here.0 ((λ is. omega arith), tt) ∙ ap (λ k. head_of n (is_used k) true) (sym stands.kind);
           foot = λ free. absurd (cc);
           fence = λ is. absurd (cc);
         },

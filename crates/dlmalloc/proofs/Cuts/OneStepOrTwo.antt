@@ -22,7 +22,7 @@ module _ {A : Type 0} {regions : A → List Grant} {word : A → ℕ → ℕ} (z
     cut = inl (record { extent = chunk; is_chosen = is; place = refl; state = state }, moved.followed, moved.regions_same);
     small = small;
     more = more;
-    holds = λ size holds near. subst (λ (s : HeapState). IsBlock s (chunk.at + 16) size) (sym state) (taken_block (state_of word old) n size is.there fits holds near);
+    holds = λ size holds near. subst (λ s. IsBlock s (chunk.at + 16) size) (sym state) (taken_block (state_of word old) n size is.there fits holds near);
     kept = blocks_law sound moved.sound moved.words (extents_in (state_of word old)) (λ block there used. (there, more.kept block used there));
     words = λ k inside was own recorded. moved.words k inside was own;
     own = λ same. moved.words;
@@ -40,7 +40,7 @@ module _ {A : Type 0} {regions : A → List Grant} {word : A → ℕ → ℕ} (z
 
     -- what is found there is the top
     is_the_top : {one : Extent} → extent_at one.at (extents_in (state_of word middle)) ≡ Some one → one.at ≡ middle.top → extent middle.top middle.top_size Top ≡ one
-    is_the_top there same = the_extent (sym the_top ∙ (ap (λ (a : ℕ). extent_at a (extents_in (state_of word middle))) (sym same) ∙ there))
+    is_the_top there same = the_extent (sym the_top ∙ (ap (λ a. extent_at a (extents_in (state_of word middle))) (sym same) ∙ there))
 
     boundary_still : (k : ℕ) → IsBoundary (state_of word middle) k → IsBoundary (state_of word new) k
     boundary_still k b = go (b.extent.at == middle.top) refl
@@ -49,15 +49,15 @@ module _ {A : Type 0} {regions : A → List Grant} {word : A → ℕ → ℕ} (z
         go true same =
             let one = is_the_top b.there (nat_is same) in
             elim (b.is) [
-              | inl is ↦ subst (IsBoundary (state_of word new)) (ap (λ (a : ℕ). a + 8) (sym (nat_is same)) ∙ sym is) head
-              | inr is ↦ absurd (let plain = is.0 in let no : is_free_below_top Top ≡ is_free_below_top b.extent.kind = ap (λ (e : Extent). is_free_below_top e.kind) one in cc)
+              | inl is ↦ subst (IsBoundary (state_of word new)) (ap (λ a. a + 8) (sym (nat_is same)) ∙ sym is) head
+              | inr is ↦ absurd (let plain = is.0 in let no : is_free_below_top Top ≡ is_free_below_top b.extent.kind = ap (λ e. is_free_below_top e.kind) one in cc)
             ]
         go false other = record { extent = b.extent; there = others b.extent (λ same. (let test : (b.extent.at == middle.top) ≡ true = grind (arith, nat_tests) in cc)) b.there; is = b.is }
 
     record_still : {k : ℕ} → IsInRecord (state_of word middle) k → IsInRecord (state_of word new) k
     record_still r = record {
       extent = r.extent;
-      there = others r.extent (λ same. (let one = ap (λ (e : Extent). e.kind) (is_the_top r.there same) in let no : Top ≡ Record = one ∙ r.is in cc)) r.there;
+      there = others r.extent (λ same. (let one = ap (λ e. e.kind) (is_the_top r.there same) in let no : Top ≡ Record = one ∙ r.is in cc)) r.there;
       is = r.is;
       low = r.low;
       high = r.high;
@@ -68,7 +68,7 @@ module _ {A : Type 0} {regions : A → List Grant} {word : A → ℕ → ℕ} (z
     own_still k (inr f) = inr (record {
       at = f.at;
       size = f.size;
-      free = others (extent f.at f.size Free) (λ same. (let one = ap (λ (e : Extent). e.kind) (is_the_top f.free same) in let no : Top ≡ Free = one in cc)) f.free;
+      free = others (extent f.at f.size Free) (λ same. (let one = ap (λ e. e.kind) (is_the_top f.free same) in let no : Top ≡ Free = one in cc)) f.free;
       low = f.low;
       high = f.high;
     })
@@ -95,9 +95,9 @@ module _ {A : Type 0} {regions : A → List Grant} {word : A → ℕ → ℕ} (z
           of_top = λ is. record {
             top = extent middle.top middle.top_size Top;
             is = refl;
-            there = ap (λ (s : HeapState). extent_at middle.top (extents_in s)) (sym grown.state) ∙ the_top;
+            there = ap (λ s. extent_at middle.top (extents_in s)) (sym grown.state) ∙ the_top;
             place = refl;
-            state = state ∙ ap (λ (s : HeapState). taken s (extent middle.top middle.top_size Top) n) grown.state;
+            state = state ∙ ap (λ s. taken s (extent middle.top middle.top_size Top) n) grown.state;
           };
           room = grown.long;
           place = elim grown.begins [
@@ -111,13 +111,13 @@ module _ {A : Type 0} {regions : A → List Grant} {word : A → ℕ → ℕ} (z
       );
       small = small;
       more = more_cut;
-      holds = λ size holds near. subst (λ (s : HeapState). IsBlock s (middle.top + 16) size) (sym state)
+      holds = λ size holds near. subst (λ s. IsBlock s (middle.top + 16) size) (sym state)
           (taken_block (state_of word middle) n size the_top (let room = grown.room in omega arith) holds near);
       kept = blocks_law_tags sound moved.sound words_cut (extents_in (state_of word old)) (λ block there used. (there, more_cut.kept block used there));
       words = words_cut;
       own = λ same. absurd (with_other grown.grant (sym (moved.regions_same ∙ grown.with_it) ∙ same));
       new_words = λ zero k inside fresh own.
-          let there = subst (λ (rs : List Grant). IsWordOf rs k) moved.regions_same inside in
+          let there = subst (λ rs. IsWordOf rs k) moved.regions_same inside in
           let within = word_fresh grown.grant (regions old.system) grown.with_it k there fresh in
           moved.words k there (λ boundary. own (inl boundary)) ∙ grown.new_words zero k within.0 within.1 inside.aligned (λ is. own (inl (subst (IsBoundary (state_of word new)) (sym is) head))) (λ is. own (inl (subst (IsBoundary (state_of word new)) (sym is) foot)));
       sound = moved.sound;
@@ -130,8 +130,8 @@ served {regions} {word} {follows} {old} {new} size {n} {at} is holds near small 
     let back : at ≡ at + 16 - 16 = omega arith in
     let placed = block_placed regions word new cut.sound (at + 16) size (cut.holds size holds near) in
     record {
-      cut = subst (λ (a : ℕ). IsObtained follows regions old.system (state_of word old) (padded size) a new.system (state_of word new)) back
-          (subst (λ (n : ℕ). IsObtained follows regions old.system (state_of word old) n at new.system (state_of word new)) is cut.cut);
+      cut = subst (λ a. IsObtained follows regions old.system (state_of word old) (padded size) a new.system (state_of word new)) back
+          (subst (λ n. IsObtained follows regions old.system (state_of word old) n at new.system (state_of word new)) is cut.cut);
       low = omega arith;
       small = small;
       block = cut.holds size holds near;

@@ -25,7 +25,7 @@ replaced_none words before from (extent ∷ extents) to at others out h =
     let place = h.0 in
     let rest = replaced_none words extent.kind (from + extent.size) extents to at others (grind arith) h.2 in
     let test : (extent.at == at) ≡ false = nat_isnt (grind arith) in
-    rw test (ap (λ (es : List Extent). extent ∷ es) rest)
+    rw test (ap (λ es. extent ∷ es) rest)
 
 pub replaced_run : (regions : List Grant) {words : ℕ → ℕ} {segments : List Segment} → AreSegments regions words segments → AreApart segments → {extent : Extent} (others : Extent → List Extent) →
     (run : IsRunOf words segments extent.at (extent.at + extent.size) (extent ∷ [])) →

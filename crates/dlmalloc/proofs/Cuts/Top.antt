@@ -67,7 +67,7 @@ module _ {A : Type 0} {regions : A → List Grant} {word : A → ℕ → ℕ} {h
     halves = extent heap.top n Used ∷ extent (heap.top + n) (heap.top_size - n) Top ∷ []
 
     top_one : (k : ℕ) {tail : Extent} → extent_at k (chunk ∷ []) ≡ Some tail → Top ≡ tail.kind
-    top_one k found = ap (λ (e : Extent). e.kind) (found_one k chunk found)
+    top_one k found = ap (λ e. e.kind) (found_one k chunk found)
 
     where_top : extent_at (heap.top + n) (run.first ++ (halves ++ run.last)) ≡ Some (extent (heap.top + n) (heap.top_size - n) Top)
     where_top =
@@ -102,15 +102,15 @@ module _ {A : Type 0} {regions : A → List Grant} {word : A → ℕ → ℕ} {h
     top_free = free_moves sound cut_step [] []
         (λ k bytes found. (let no : Top ≡ Free = top_one k found in cc))
         (λ k bytes found. elim (found_either k (extent heap.top n Used ∷ []) (extent (heap.top + n) (heap.top_size - n) Top ∷ []) found) [
-          | inl first ↦ (let no : Used ≡ Free = ap (λ (e : Extent). e.kind) (found_one k (extent heap.top n Used) first) in cc)
-          | inr later ↦ (let no : Top ≡ Free = ap (λ (e : Extent). e.kind) (found_one k (extent (heap.top + n) (heap.top_size - n) Top) later.1) in cc)
+          | inl first ↦ (let no : Used ≡ Free = ap (λ e. e.kind) (found_one k (extent heap.top n Used) first) in cc)
+          | inr later ↦ (let no : Top ≡ Free = ap (λ e. e.kind) (found_one k (extent (heap.top + n) (heap.top_size - n) Top) later.1) in cc)
         ])
         (λ k none. absurd none) (λ k none. absurd none)
 
     -- all others are found as before
     pub others_still : (one : Extent) → one.at ≢ heap.top → extent_at one.at (extents_in (state_of word heap)) ≡ Some one → extent_at one.at (extents_in (state_of word after)) ≡ Some one
     others_still one other there = found_again sound cut_step one.at
-        (λ found. absurd (other (ap (λ (e : Extent). e.at) (sym (found_one one.at chunk found))))) there
+        (λ found. absurd (other (ap (λ e. e.at) (sym (found_one one.at chunk found))))) there
 
     -- the heads that the top and its foot had are boundaries still
     pub head_boundary : IsBoundary (state_of word after) (heap.top + 8)
@@ -134,5 +134,5 @@ module _ {A : Type 0} {regions : A → List Grant} {word : A → ℕ → ℕ} {h
       AreStored (regions heap.system) (word heap.system) ((heap.top + 8, head_of n true true) ∷ (heap.top + n + 8, heap.top_size - n + 1) ∷ []) (word system)
   stores middle system same first second =
       stored_then top_head.granted first
-      (subst (λ (rs : List Grant). AreStored rs (word middle) ((heap.top + n + 8, heap.top_size - n + 1) ∷ []) (word system)) same
+      (subst (λ rs. AreStored rs (word middle) ((heap.top + n + 8, heap.top_size - n + 1) ∷ []) (word system)) same
       (record { here = ((λ apart. second.here), tt); elsewhere = λ k word apart. second.elsewhere k word apart.0 }))

@@ -92,10 +92,10 @@ two_apart = ((inr (omega arith), tt), (tt, tt))
 two_told : AreTold words heap (head ∷ other ∷ [])
 two_told = (omega arith, refl, refl, refl, refl, (omega arith, refl, refl, refl, refl, refl))
 
-two_read : segments_of (λ (w : ℕ → ℕ). w) heap ≡ head ∷ other ∷ []
-two_read = segments_read (regions words) (λ (w : ℕ → ℕ). w) heap (head ∷ other ∷ []) two_segments two_told (omega arith)
+two_read : segments_of (λ w. w) heap ≡ head ∷ other ∷ []
+two_read = segments_read (regions words) (λ w. w) heap (head ∷ other ∷ []) two_segments two_told (omega arith)
 
-two_sound : IsSound regions (λ (w : ℕ → ℕ). w) heap
+two_sound : IsSound regions (λ w. w) heap
 two_sound = record {
   granularity = ((16, refl), omega arith);
   segments = subst (AreSegments (regions words) words) (sym two_read) two_segments;

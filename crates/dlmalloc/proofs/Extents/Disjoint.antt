@@ -12,7 +12,7 @@ AreBeside one other = (one.at + one.size ≤ other.at) ⊎ (other.at + other.siz
 beside_in : (words : ℕ → ℕ) (before : Kind) (from : ℕ) (extents : List Extent) (to : ℕ) → Tiles words before from extents to → (one other : Extent) → extent_at one.at extents ≡ Some one → extent_at other.at extents ≡ Some other → one.at ≢ other.at → AreBeside one other
 beside_in words before from extents to h one other there there_other apart =
     let f = found one.at one extents there in
-    let s = tiles_split words before from f.front (one ∷ f.back) to (subst (λ (es : List Extent). Tiles words before from es to) f.is h) in
+    let s = tiles_split words before from f.front (one ∷ f.back) to (subst (λ es. Tiles words before from es to) f.is h) in
     let place : one.at ≡ s.middle = s.second.0 in
     elim (found_either other.at f.front (one ∷ f.back) (ap (extent_at other.at) (sym f.is) ∙ there_other)) [
       | inl first ↦ (let is = in_part words before from f.front s.middle s.first first in let high = is.high in inr (omega arith))
@@ -65,9 +65,9 @@ pub room_behind : (words : ℕ → ℕ) (before : Kind) (from : ℕ) (extents : 
     one.at + one.size + 16 ≤ to
 room_behind words before from extents to one h tail there inner =
     let f = found one.at one extents there in
-    let s = tiles_split words before from f.front (one ∷ f.back) to (subst (λ (es : List Extent). Tiles words before from es to) f.is h) in
+    let s = tiles_split words before from f.front (one ∷ f.back) to (subst (λ es. Tiles words before from es to) f.is h) in
     let place = s.second.0 in
-    let last : ends_segment (last_kind one.kind f.back) ≡ true = ap ends_segment (sym (last_append before f.front (one ∷ f.back))) ∙ (ap (λ (es : List Extent). ends_segment (last_kind before es)) (sym f.is) ∙ tail) in
+    let last : ends_segment (last_kind one.kind f.back) ≡ true = ap ends_segment (sym (last_append before f.front (one ∷ f.back))) ∙ (ap (λ es. ends_segment (last_kind before es)) (sym f.is) ∙ tail) in
     let more = go f.back (s.middle + one.size) s.second.2 last in
     omega arith
   where

@@ -20,7 +20,7 @@ not_free Foot h = inr refl
 
 -- so is what stands behind a free extent
 behind_free : (first next : Kind) → is_free first ≡ true → MayStand first next → (next ≡ Used) ⊎ (ends_segment next ≡ true)
-behind_free first next free may = not_free next (ap (λ (b : Bool). b && is_free next) (sym free) ∙ (pair first next may).apart)
+behind_free first next free may = not_free next (ap (λ b. b && is_free next) (sym free) ∙ (pair first next may).apart)
 
 -- behind what ends a segment stands nothing
 none_behind : (words : ℕ → ℕ) (before : Kind) (from : ℕ) (back : List Extent) (to : ℕ) → ends_segment before ≡ true → Tiles words before from back to → back ≡ []
@@ -49,14 +49,14 @@ parted words before from extents to h first second there there' free free' less 
     f = found first.at first extents there
 
     s : Rattle.dlmalloc.proofs.Extents.Tiling.Split words before from f.front (first ∷ f.back) to
-    s = tiles_split words before from f.front (first ∷ f.back) to (subst (λ (es : List Extent). Tiles words before from es to) f.is h)
+    s = tiles_split words before from f.front (first ∷ f.back) to (subst (λ es. Tiles words before from es to) f.is h)
 
     go : (back : List Extent) → Tiles words first.kind (s.middle + first.size) back to → extent_at second.at back ≡ Some second → AreDistinct (f.front ++ first ∷ back) → extents ≡ f.front ++ first ∷ back →
         HasUsedBetween extents (first.at + first.size) second.at
     go [] tiles there distinct is = absurd (cc)
     go (next ∷ back) tiles there distinct is = elim (behind_free first.kind next.kind free tiles.1.kind) [
       | inl used ↦ elim (found_either second.at (next ∷ []) back there) [
-        | inl here ↦ absurd (let same = ap (λ (e : Extent). is_free e.kind) (at_one second.at next here).0 in let not = ap is_free used in cc)
+        | inl here ↦ absurd (let same = ap (λ e. is_free e.kind) (at_one second.at next here).0 in let not = ap is_free used in cc)
         | inr behind ↦ (
             let place = s.second.0 in let at = tiles.0 in
             let later = in_part words next.kind (s.middle + first.size + next.size) back to tiles.2 behind.1 in let low = later.low in
@@ -71,12 +71,12 @@ parted words before from extents to h first second there there' free free' less 
       ]
       | inr ends ↦ absurd (
           let none = none_behind words next.kind (s.middle + first.size + next.size) back to ends tiles.2 in
-          let same = ap (λ (e : Extent). is_free e.kind) (at_one second.at next (ap (λ (es : List Extent). extent_at second.at (next ∷ es)) (sym none) ∙ there)).0 in
+          let same = ap (λ e. is_free e.kind) (at_one second.at next (ap (λ es. extent_at second.at (next ∷ es)) (sym none) ∙ there)).0 in
           let not = (pair first.kind next.kind tiles.1.kind).apart in
-          let no : is_free next.kind ≡ false = ap (λ (b : Bool). b && is_free next.kind) (sym free) ∙ not in cc)
+          let no : is_free next.kind ≡ false = ap (λ b. b && is_free next.kind) (sym free) ∙ not in cc)
     ]
 
-pub all_parted : (regions : List Grant) (words : ℕ → ℕ) (segments : List Segment) → AreSegments regions words segments → AllByRecursion (λ (segment : Segment). AreParted segment.extents) segments
+pub all_parted : (regions : List Grant) (words : ℕ → ℕ) (segments : List Segment) → AreSegments regions words segments → AllByRecursion (λ segment. AreParted segment.extents) segments
 all_parted regions words [] parts = tt
 all_parted regions words (segment ∷ segments) parts = (parted words Used segment.base segment.extents (segment.base + segment.size) parts.0.extents, all_parted regions words segments parts.1)
 
@@ -109,7 +109,7 @@ module _ {regions : List Grant} {words : ℕ → ℕ} {segment : Segment} (part 
                 | inr ends ↦ record {
                   one = one;
                   last = last;
-                  is = is ∙ ap (λ (es : List Extent). one ∷ last ∷ es) (none_behind words last.kind (segment.base + one.size + last.size) rest (segment.base + segment.size) ends h.2);
+                  is = is ∙ ap (λ es. one ∷ last ∷ es) (none_behind words last.kind (segment.base + one.size + last.size) rest (segment.base + segment.size) ends h.2);
                   free = kind;
                   ends = ends;
                 }
@@ -122,13 +122,13 @@ module _ {regions : List Grant} {words : ℕ → ℕ} {segment : Segment} (part 
           by_kind Top same may size = free (ap is_free same) (inr same)
           by_kind Record same may size = absurd (
               let none = none_behind words one.kind (segment.base + one.size) back (segment.base + segment.size) (ap ends_segment same) h.2 in
-              let end = subst (λ (es : List Extent). Tiles words one.kind (segment.base + one.size) es (segment.base + segment.size)) none h.2 in
+              let end = subst (λ es. Tiles words one.kind (segment.base + one.size) es (segment.base + segment.size)) none h.2 in
               let long = part.long in
-              elim (subst (λ (kind : Kind). IsSize kind one.size) same size) [ inl short ↦ omega (arith, end) | inr longer ↦ omega (arith, end) ])
+              elim (subst (λ kind. IsSize kind one.size) same size) [ inl short ↦ omega (arith, end) | inr longer ↦ omega (arith, end) ])
           by_kind Foot same may size = absurd (let no = subst (MayStand Used) same may in cc)
 
   one_free : {kind : Kind} → bare.one.kind ≡ kind → HasOneFree kind segment.extents
-  one_free {kind} is = record { extent = bare.one; only = ap (filter (λ (e : Extent). is_free e.kind)) bare.is ∙ rw (free, other) refl; is = is }
+  one_free {kind} is = record { extent = bare.one; only = ap (filter (λ e. is_free e.kind)) bare.is ∙ rw (free, other) refl; is = is }
     where
       free : is_free bare.one.kind ≡ true
       free = elim bare.free [ inl a ↦ ap is_free a | inr a ↦ ap is_free a ]
@@ -154,8 +154,8 @@ module _ {regions : List Grant} {words : ℕ → ℕ} {segment : Segment} (part 
   -- a segment with the top
   pub head_free : {at size : ℕ} → extent_at at segment.extents ≡ Some (extent at size Top) → HasOneFree Top segment.extents
   head_free {at} there = elim (either at there) [
-    | inl one ↦ one_free (ap (λ (e : Extent). e.kind) one)
-    | inr last ↦ absurd (let ends = bare.ends in let no = ap (λ (e : Extent). ends_segment e.kind) last in cc)
+    | inl one ↦ one_free (ap (λ e. e.kind) one)
+    | inr last ↦ absurd (let ends = bare.ends in let no = ap (λ e. ends_segment e.kind) last in cc)
   ]
 
   -- a segment with a record
@@ -163,7 +163,7 @@ module _ {regions : List Grant} {words : ℕ → ℕ} {segment : Segment} (part 
   record_free at there = elim bare.free [
     | inl free ↦ one_free free
     | inr top ↦ absurd (no_record part at
-        (ap (extent_at bare.one.at) bare.is ∙ (found_here bare.one (bare.last ∷ []) ∙ ap (λ (kind : Kind). Some (extent bare.one.at bare.one.size kind)) top)) there)
+        (ap (extent_at bare.one.at) bare.is ∙ (found_here bare.one (bare.last ∷ []) ∙ ap (λ kind. Some (extent bare.one.at bare.one.size kind)) top)) there)
   ]
 
 module _ {A : Type 0} {regions : A → List Grant} {word : A → ℕ → ℕ} {heap : Dlmalloc A} (sound : IsSound regions word heap) (unused : IsUnused (state_of word heap)) where
@@ -171,7 +171,7 @@ module _ {A : Type 0} {regions : A → List Grant} {word : A → ℕ → ℕ} {h
   in_segment front segment back is one there = unused one (among_all (regions heap.system) (word heap.system) sound.segments sound.apart front segment back is one.at there)
 
   in_records : (front segments : List Segment) → segments_of word heap ≡ front ++ segments → AreSegments (regions heap.system) (word heap.system) segments → (payload : ℕ) → AreRecords (word heap.system) payload segments →
-      AllByRecursion (λ (segment : Segment). HasOneFree Free segment.extents) segments
+      AllByRecursion (λ segment. HasOneFree Free segment.extents) segments
   in_records front [] is parts payload h = tt
   in_records front (segment ∷ segments) is parts payload h = (
     record_free parts.0 (in_segment front segment segments is) (payload - 16) h.4,

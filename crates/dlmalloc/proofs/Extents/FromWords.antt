@@ -45,12 +45,12 @@ told {words} {before} {chunk} is h =
     let s = sized chunk.kind chunk.size h.size in
     let units = s.0 in
     let whole : chunk.size % 8 ≡ 0 = omega arith in
-    let head : words (chunk.at + 8) ≡ head_of chunk.size (is_used before) (is_used chunk.kind) = h.head ∙ ap (λ (n : ℕ). head_of n (is_used before) (is_used chunk.kind)) (told_chunk chunk.kind chunk.size is) in
+    let head : words (chunk.at + 8) ≡ head_of chunk.size (is_used before) (is_used chunk.kind) = h.head ∙ ap (λ n. head_of n (is_used before) (is_used chunk.kind)) (told_chunk chunk.kind chunk.size is) in
     same_extent refl (ap size_of head ∙ size_of-head_of chunk.size (is_used before) (is_used chunk.kind) whole) (ap kind_of head ∙ kind_told chunk.kind before chunk.size whole is h.kind)
   where
     told_chunk : (kind : Kind) (size : ℕ) → IsChunkKind kind → told_size kind size ≡ size
-    told_chunk kind size (inl is) = ap (λ (k : Kind). told_size k size) is
-    told_chunk kind size (inr is) = ap (λ (k : Kind). told_size k size) is
+    told_chunk kind size (inl is) = ap (λ k. told_size k size) is
+    told_chunk kind size (inr is) = ap (λ k. told_size k size) is
 
 -- the list that is read off the words is the one that tiles the range
 pub chunks_read : (words : ℕ → ℕ) (before : Kind) (most at : ℕ) (chunks : List Extent) (end : ℕ) → end ≤ at + 16 * most → Tiles words before at chunks end → AreChunks chunks → chunks_from words most at end ≡ chunks
@@ -63,9 +63,9 @@ chunks_read words before (suc most) at (chunk ∷ chunks) end few h are =
     let long = (sized chunk.kind chunk.size h.1.size).1 in
     let later = tiles_le words chunk.kind (at + chunk.size) chunks end h.2 in
     let one : extent at (size_of (words (at + 8))) (kind_of (words (at + 8))) ≡ chunk =
-    subst (λ (a : ℕ). extent a (size_of (words (a + 8))) (kind_of (words (a + 8))) ≡ chunk) h.0 (told are.0 h.1) in
+    subst (λ a. extent a (size_of (words (a + 8))) (kind_of (words (a + 8))) ≡ chunk) h.0 (told are.0 h.1) in
     let rest : chunks_from words most (at + size_of (words (at + 8))) end ≡ chunks =
-    ap (λ (e : Extent). chunks_from words most (at + e.size) end) one ∙ chunks_read words chunk.kind most (at + chunk.size) chunks end (omega arith) h.2 are.1 in
+    ap (λ e. chunks_from words most (at + e.size) end) one ∙ chunks_read words chunk.kind most (at + chunk.size) chunks end (omega arith) h.2 are.1 in
     rw (lt-ltb at end (omega arith)) (λ i. one i ∷ rest i)
 
 -- what stands behind a top is its foot, and behind a record nothing
@@ -101,8 +101,8 @@ pub behind_top : (words : ℕ → ℕ) (from : ℕ) (back : List Extent) (end : 
 behind_top words from [] end h tail = absurd (cc)
 behind_top words from (foot ∷ back) end h tail =
     let kind = only_foot foot.kind h.1.kind in
-    let size : foot.size ≡ 80 = subst (λ (k : Kind). IsSize k foot.size) kind h.1.size in
-    let rest = nothing words foot.kind (from + foot.size) back end (subst (λ (k : Kind). (kind : Kind) → MayStand k kind → ⊥) (sym kind) none_behind_foot) h.2 in
+    let size : foot.size ≡ 80 = subst (λ k. IsSize k foot.size) kind h.1.size in
+    let rest = nothing words foot.kind (from + foot.size) back end (subst (λ k. (kind : Kind) → MayStand k kind → ⊥) (sym kind) none_behind_foot) h.2 in
     let place = h.0 in
     let ends = rest.1 in
     (λ i. same_extent {at = foot.at} {at' = end - 80} {size = foot.size} {size' = 80} {kind = foot.kind} {kind' = Foot} (omega arith) size kind i ∷ rest.0 i, omega arith)
@@ -117,16 +117,16 @@ module _ {regions : List Grant} {words : ℕ → ℕ} {segment : Segment} (h : I
       chunks_from words (segment.size / 16) segment.base last.at ++ tail ≡ segment.extents
   read {last} other there tail rest =
       let f = found last.at last segment.extents there in
-      let s = tiles_split words Used segment.base f.front (last ∷ f.back) end (subst (λ (es : List Extent). Tiles words Used segment.base es end) f.is h.extents) in
+      let s = tiles_split words Used segment.base f.front (last ∷ f.back) end (subst (λ es. Tiles words Used segment.base es end) f.is h.extents) in
       let place : last.at ≡ s.middle = s.second.0 in
       let later = tiles_le words last.kind (s.middle + last.size) f.back end s.second.2 in
       let long = (sized last.kind last.size s.second.1.size).1 in
       let whole = s.second.1.whole in
       let chunks : chunks_from words (segment.size / 16) segment.base last.at ≡ f.front =
-      chunks_read words Used (segment.size / 16) segment.base f.front last.at (omega arith) (subst (λ (a : ℕ). Tiles words Used segment.base f.front a) (sym place) s.first)
-      (are_chunks words Used segment.base f.front last f.back end other (subst (λ (es : List Extent). Tiles words Used segment.base es end) f.is h.extents)) in
-      let is = rest f.back (subst (λ (a : ℕ). Tiles words last.kind (a + last.size) f.back end) (sym place) s.second.2)
-      (ap ends_segment (sym (last_append Used f.front (last ∷ f.back))) ∙ (ap (λ (es : List Extent). ends_segment (last_kind Used es)) (sym f.is) ∙ h.tail)) in
+      chunks_read words Used (segment.size / 16) segment.base f.front last.at (omega arith) (subst (λ a. Tiles words Used segment.base f.front a) (sym place) s.first)
+      (are_chunks words Used segment.base f.front last f.back end other (subst (λ es. Tiles words Used segment.base es end) f.is h.extents)) in
+      let is = rest f.back (subst (λ a. Tiles words last.kind (a + last.size) f.back end) (sym place) s.second.2)
+      (ap ends_segment (sym (last_append Used f.front (last ∷ f.back))) ∙ (ap (λ es. ends_segment (last_kind Used es)) (sym f.is) ∙ h.tail)) in
       (λ i. chunks i ++ (sym is) i) ∙ sym f.is
 
   pub read_top : {top size : ℕ} → extent_at top segment.extents ≡ Some (extent top size Top) → chunks_from words (segment.size / 16) segment.base top ++ top_and_foot top end ≡ segment.extents
@@ -136,7 +136,7 @@ module _ {regions : List Grant} {words : ℕ → ℕ} {segment : Segment} (h : I
 
   pub read_record : (at : ℕ) → extent_at at segment.extents ≡ Some (record_of at end) → chunks_from words (segment.size / 16) segment.base at ++ record_of at end ∷ [] ≡ segment.extents
   read_record at there = read (λ is. cc) there (record_of at end ∷ [])
-      (λ back tiles tail. ap (λ (b : List Extent). record_of at end ∷ b) (nothing words Record (at + (end - at)) back end none_behind_record tiles).0)
+      (λ back tiles tail. ap (λ b. record_of at end ∷ b) (nothing words Record (at + (end - at)) back end none_behind_record tiles).0)
 
 pub records_read : (regions : List Grant) (words : ℕ → ℕ) (most payload : ℕ) (segments : List Segment) → length segments ≤ most → AreSegments regions words segments → AreRecords words payload segments →
     records_from words most payload ≡ segments

@@ -23,7 +23,7 @@ nat_isnt apart = grind (arith, nat_tests)
 
 -- an extent that is found is the one there
 pub the_extent : {one other : Extent} → Some one ≡ Some other → one ≡ other
-the_extent {one} h = ap (λ (o : Option Extent). unwrap_or o one) h
+the_extent {one} h = ap (λ o. unwrap_or o one) h
 
 -- an extent with those before and behind it
 pub record Found (at : ℕ) (extent : Extent) (extents : List Extent) : Type 0 where
@@ -39,11 +39,11 @@ found at extent (first ∷ extents) h =
   where
     at_first : (b : Bool) → (first.at == at) ≡ b → extent_at at (first ∷ extents) ≡ Some extent → (extent_at at extents ≡ Some extent → Found at extent extents) → Found at extent (first ∷ extents)
     at_first true test h later =
-        let is : first ≡ extent = ap (λ (o : Option Extent). unwrap_or o first) (subst (λ (b : Bool). (if b then Some first else extent_at at extents) ≡ Some extent) test h) in
-        record { front = []; back = extents; is = ap (λ (e : Extent). e ∷ extents) is; place = ap (λ (e : Extent). e.at) (sym is) ∙ nat_is test }
+        let is : first ≡ extent = ap (λ o. unwrap_or o first) (subst (λ b. (if b then Some first else extent_at at extents) ≡ Some extent) test h) in
+        record { front = []; back = extents; is = ap (λ e. e ∷ extents) is; place = ap (λ e. e.at) (sym is) ∙ nat_is test }
     at_first false test h later =
-        let rest = later (subst (λ (b : Bool). (if b then Some first else extent_at at extents) ≡ Some extent) test h) in
-        record { front = first ∷ rest.front; back = rest.back; is = ap (λ (es : List Extent). first ∷ es) rest.is; place = rest.place }
+        let rest = later (subst (λ b. (if b then Some first else extent_at at extents) ≡ Some extent) test h) in
+        record { front = first ∷ rest.front; back = rest.back; is = ap (λ es. first ∷ es) rest.is; place = rest.place }
 
 -- the first of some extents is found where it begins
 pub found_here : (extent : Extent) (rest : List Extent) → extent_at extent.at (extent ∷ rest) ≡ Some extent
@@ -51,7 +51,7 @@ found_here extent rest = rw (nat_same extent.at) refl
 
 -- an extent that is found is found with more behind
 pub found_more : (at : ℕ) (extents more : List Extent) {extent : Extent} → extent_at at extents ≡ Some extent → extent_at at (extents ++ more) ≡ Some extent
-found_more at extents more {extent} there = find-append (λ extent. extent.at == at) extents more ∙ ap (λ (o : Option Extent). option_or o (extent_at at more)) there
+found_more at extents more {extent} there = find-append (λ extent. extent.at == at) extents more ∙ ap (λ o. option_or o (extent_at at more)) there
 
 -- an extent that is found in two lists is found in the first, or in the second alone
 pub found_either : (at : ℕ) (front back : List Extent) {extent : Extent} → extent_at at (front ++ back) ≡ Some extent →
@@ -64,4 +64,4 @@ found_either at front back {extent} there = go (extent_at at front) (sym (find-a
 
 -- what is found behind a list is found with it, where the list has none
 pub found_later : (at : ℕ) (front back : List Extent) → extent_at at front ≡ None → extent_at at (front ++ back) ≡ extent_at at back
-found_later at front back none = find-append (λ extent. extent.at == at) front back ∙ ap (λ (o : Option Extent). option_or o (extent_at at back)) none
+found_later at front back none = find-append (λ extent. extent.at == at) front back ∙ ap (λ o. option_or o (extent_at at back)) none

@@ -53,7 +53,7 @@ module _ (heap : HeapState) (n : ℕ) where
       go : (b : Bool) → (if b then Some first else extent_at chunk.at chunks) ≡ Some chunk → (extent_at chunk.at chunks ≡ Some chunk → is_binned heap chunk ≡ true → chunk.size < n) → chunk.size < n
       go true is later =
           let same = the_extent is in
-          subst (λ (e : Extent). e.size < n) same (less.here (ap (is_binned heap) same ∙ binned))
+          subst (λ e. e.size < n) same (less.here (ap (is_binned heap) same ∙ binned))
       go false is later = later is binned
 
 -- ---- the walk over the extents of a segment
@@ -104,14 +104,14 @@ module _ (words : ℕ → ℕ) (n from : ℕ) where
       later (inl met) = inl (record { used = met.used; there = distinct_later (first ∷ []) extents met.used.at distinct met.there; is = met.is; begins = met.begins; ends = met.ends })
 
       behind_used : (kind : Kind) → kind ≡ Used → at ≤ from + 63 + further kind → at ≤ from + 63
-      behind_used kind is close = let c = subst (λ (k : Kind). at ≤ from + 63 + further k) is close in omega arith
+      behind_used kind is close = let c = subst (λ k. at ≤ from + 63 + further k) is close in omega arith
 
       behind_free : (kind : Kind) → (kind ≡ Used) ⊎ (kind ≡ Free) → at ≤ from + 63 + further kind → at ≤ from + 63 + n
       behind_free kind (inl is) close = (let c = behind_used kind is close in omega arith)
-      behind_free kind (inr is) close = subst (λ (k : Kind). at ≤ from + 63 + further k) is close
+      behind_free kind (inr is) close = subst (λ k. at ≤ from + 63 + further k) is close
 
       on : (kind : Kind) → first.kind ≡ kind → (at + first.size ≤ from + 63 + further first.kind → Outcome extents end) → at + first.size ≤ from + 63 + further kind → Outcome (first ∷ extents) end
-      on kind is rest close = later (rest (subst (λ (k : Kind). at + first.size ≤ from + 63 + further k) (sym is) close))
+      on kind is rest close = later (rest (subst (λ k. at + first.size ≤ from + 63 + further k) (sym is) close))
 
       by_kind : (kind : Kind) → first.kind ≡ kind → MayStand before first.kind → IsSize first.kind first.size → (at + first.size ≤ from + 63 + further first.kind → Outcome extents end) → Outcome (first ∷ extents) end
       by_kind Used is may size rest =
@@ -132,11 +132,11 @@ module _ (words : ℕ → ℕ) (n from : ℕ) where
           on Top is rest (omega arith)
       by_kind Record is may size rest =
           let close = behind_free before (subst (MayStand before) is may) near in
-          let bytes : first.size ≤ 96 = elim (subst (λ (k : Kind). IsSize k first.size) is size) [ inl short ↦ omega arith | inr long ↦ omega arith ] in
+          let bytes : first.size ≤ 96 = elim (subst (λ k. IsSize k first.size) is size) [ inl short ↦ omega arith | inr long ↦ omega arith ] in
           on Record is rest (omega arith)
       by_kind Foot is may size rest =
-          let close = subst (λ (k : Kind). at ≤ from + 63 + further k) (subst (MayStand before) is may) near in
-          let bytes : first.size ≡ 80 = subst (λ (k : Kind). IsSize k first.size) is size in
+          let close = subst (λ k. at ≤ from + 63 + further k) (subst (MayStand before) is may) near in
+          let bytes : first.size ≡ 80 = subst (λ k. IsSize k first.size) is size in
           on Foot is rest (omega arith)
 
 module _ {A : Type 0} {regions : A → List Grant} {word : A → ℕ → ℕ} {heap : Dlmalloc A} (sound : IsSound regions word heap) (some : 0 < heap.size) (n : ℕ)
@@ -157,8 +157,8 @@ module _ {A : Type 0} {regions : A → List Grant} {word : A → ℕ → ℕ} {h
       go true test =
           let same = nat_is test in
           let named = sound.victim (λ zero. no_victim zero same) in
-          let is = the_extent (sym there ∙ (ap (λ (a : ℕ). extent_at a (extents_in (state_of word heap))) same ∙ named)) in
-          let size : one.size ≡ heap.victim_size = ap (λ (e : Extent). e.size) is in
+          let is = the_extent (sym there ∙ (ap (λ a. extent_at a (extents_in (state_of word heap))) same ∙ named)) in
+          let size : one.size ≡ heap.victim_size = ap (λ e. e.size) is in
           let less = small.victim_less in
           omega arith
       go false test =
@@ -188,16 +188,16 @@ module _ {A : Type 0} {regions : A → List Grant} {word : A → ℕ → ℕ} {h
       short : (one : Extent) → extent_at one.at segment.extents ≡ Some one → (one.kind ≡ Free) ⊎ (one.kind ≡ Top) → one.size ≤ n
       short one there (inl free) = let less = free_less one (all one there) free in omega arith
       short one there (inr top) =
-          let here = ap (λ (k : Kind). Some (extent one.at one.size k)) top in
+          let here = ap (λ k. Some (extent one.at one.size k)) top in
           let place = (is_top sound front segment back is (there ∙ here)).1 in
-          let same = the_extent (sym (all one there) ∙ (ap (λ (a : ℕ). extent_at a (extents_in (state_of word heap))) place ∙ top_there sound some)) in
-          let size : one.size ≡ heap.top_size = ap (λ (e : Extent). e.size) same in
+          let same = the_extent (sym (all one there) ∙ (ap (λ a. extent_at a (extents_in (state_of word heap))) place ∙ top_there sound some)) in
+          let size : one.size ≡ heap.top_size = ap (λ e. e.size) same in
           let most = small.top_most in
           omega arith
 
 -- so all are full
 abbrev AreMet : HeapState → ℕ → List Segment → Type 0
-AreMet heap bytes segments = AllByRecursion (λ (segment : Segment). (from : ℕ) → segment.base ≤ from → from + bytes ≤ segment.base + segment.size → IsMet heap from (from + bytes)) segments
+AreMet heap bytes segments = AllByRecursion (λ segment. (from : ℕ) → segment.base ≤ from → from + bytes ≤ segment.base + segment.size → IsMet heap from (from + bytes)) segments
 
 pub full : {A : Type 0} {regions : A → List Grant} {word : A → ℕ → ℕ} {heap : Dlmalloc A} → IsSound regions word heap → (n : ℕ) → chosen (state_of word heap) n ≡ None → IsFull (state_of word heap) (n + 256)
 full {word} {heap} sound n none = go (segments_of word heap) refl sound.told

@@ -5,15 +5,15 @@ use Rattle.dlmalloc.proofs.Extents.Lookup.{nat_is, nat_same, nat_isnt}
 use Rattle.dlmalloc.proofs.Extents.Tiling.{sized, tiles_le}
 
 pub used_append : (front back : List Extent) → used_of (front ++ back) ≡ used_of front ++ used_of back
-used_append front back = filter-append (λ (extent : Extent). is_used extent.kind) front back
+used_append front back = filter-append (λ extent. is_used extent.kind) front back
 
 -- so it is between others
 pub more_between : (front : List Extent) {less more : List Extent} (back : List Extent) {one : Extent} → HasMore less more one → HasMore (front ++ (less ++ back)) (front ++ (more ++ back)) one
 more_between front {less} {more} back h = record {
   front = used_of front ++ h.front;
   back = h.back ++ used_of back;
-  fewer = used_append front (less ++ back) ∙ (ap (λ (l : List Extent). used_of front ++ l) (used_append less back ∙ ap (λ (l : List Extent). l ++ used_of back) h.fewer) ∙ simp append_assoc);
-  further = used_append front (more ++ back) ∙ (ap (λ (l : List Extent). used_of front ++ l) (used_append more back ∙ ap (λ (l : List Extent). l ++ used_of back) h.further) ∙ simp append_assoc);
+  fewer = used_append front (less ++ back) ∙ (ap (λ l. used_of front ++ l) (used_append less back ∙ ap (λ l. l ++ used_of back) h.fewer) ∙ simp append_assoc);
+  further = used_append front (more ++ back) ∙ (ap (λ l. used_of front ++ l) (used_append more back ∙ ap (λ l. l ++ used_of back) h.further) ∙ simp append_assoc);
 }
 
 -- ---- each extent begins at an address of its own
@@ -56,18 +56,18 @@ module _ (k : ℕ) (extent : Extent) (extents : List Extent) where
   met here used = rw (used, here) refl
 
   step : {answer : Option Extent} → (b : Bool) → (extent.at == k) ≡ b → extent_at k (extent ∷ extents) ≡ answer → (if b then Some extent else extent_at k extents) ≡ answer
-  step {answer} b test there = subst (λ (b : Bool). (if b then Some extent else extent_at k extents) ≡ answer) test there
+  step {answer} b test there = subst (λ b. (if b then Some extent else extent_at k extents) ≡ answer) test there
 
   step_used : {answer : Option Extent} → (b u : Bool) → (extent.at == k) ≡ b → is_used extent.kind ≡ u → extent_at k (used_of (extent ∷ extents)) ≡ answer →
       (if u then (if b then Some extent else extent_at k later) else extent_at k later) ≡ answer
-  step_used {answer} b u test kind there = go u (subst (λ (u : Bool). extent_at k (if u then extent ∷ later else later) ≡ answer) kind there)
+  step_used {answer} b u test kind there = go u (subst (λ u. extent_at k (if u then extent ∷ later else later) ≡ answer) kind there)
     where
       go : (u : Bool) → extent_at k (if u then extent ∷ later else later) ≡ answer → (if u then (if b then Some extent else extent_at k later) else extent_at k later) ≡ answer
-      go true is = subst (λ (b : Bool). (if b then Some extent else extent_at k later) ≡ answer) test is
+      go true is = subst (λ b. (if b then Some extent else extent_at k later) ≡ answer) test is
       go false is = is
 
 the_extent : {one other : Extent} → Some one ≡ Some other → one ≡ other
-the_extent {one} is = ap (λ (o : Option Extent). unwrap_or o one) is
+the_extent {one} is = ap (λ o. unwrap_or o one) is
 
 pub used_there : (k : ℕ) (extents : List Extent) {used : Extent} → used.kind ≡ Used → extent_at k extents ≡ Some used → extent_at k (used_of extents) ≡ Some used
 used_there k [] is there = there
@@ -77,7 +77,7 @@ used_there k (extent ∷ extents) {used} is there = go (extent.at == k) refl (st
         extent_at k (used_of (extent ∷ extents)) ≡ Some used
     go true here found later =
         let same = the_extent found in
-        met k extent extents here (ap (λ (e : Extent). is_used e.kind) same ∙ ap is_used is) ∙ found
+        met k extent extents here (ap (λ e. is_used e.kind) same ∙ ap is_used is) ∙ found
     go false other found later = passed k extent extents other (later found)
 
 none_used : (k : ℕ) (extents : List Extent) → extent_at k extents ≡ None → extent_at k (used_of extents) ≡ None
@@ -97,7 +97,7 @@ used_back k (extent ∷ extents) {used} apart there = go (extent.at == k) refl (
         (extent_at k (used_of extents) ≡ Some used → extent_at k extents ≡ Some used) → extent_at k (extent ∷ extents) ≡ Some used
     go true here true is found later = rw here found
     go true here false isnt found later =
-        absurd (let none = none_used k extents (subst (λ (a : ℕ). extent_at a extents ≡ None) (nat_is here) apart.0) in let some = found in cc)
+        absurd (let none = none_used k extents (subst (λ a. extent_at a extents ≡ None) (nat_is here) apart.0) in let some = found in cc)
     go false other true is found later = rw other (later found)
     go false other false isnt found later = rw other (later found)
 
@@ -126,13 +126,13 @@ none_beside [] back one apart = apart.0
 none_beside (first ∷ front) back one apart = go (first.at == one.at) refl (none_beside front back one apart.1)
   where
     go : (b : Bool) → (first.at == one.at) ≡ b → extent_at one.at (front ++ back) ≡ None → (if b then Some first else extent_at one.at (front ++ back)) ≡ None
-    go true here later = absurd (is_there front back one (subst (λ (a : ℕ). extent_at a (front ++ one ∷ back) ≡ None) (nat_is here) apart.0))
+    go true here later = absurd (is_there front back one (subst (λ a. extent_at a (front ++ one ∷ back) ≡ None) (nat_is here) apart.0))
     go false other later = later
 
 -- others are found as before
 found_beside : (k : ℕ) (front back : List Extent) (one : Extent) → one.at ≢ k → extent_at k (front ++ one ∷ back) ≡ extent_at k (front ++ back)
 found_beside k [] back one apart = (let test : (one.at == k) ≡ false = grind (arith, nat_tests) in rw test refl)
-found_beside k (first ∷ front) back one apart = ap (λ (o : Option Extent). if first.at == k then Some first else o) (found_beside k front back one apart)
+found_beside k (first ∷ front) back one apart = ap (λ o. if first.at == k then Some first else o) (found_beside k front back one apart)
 
 pub one_more : (fewer further : HeapState) {one : Extent} → AreDistinct (extents_in fewer) → AreDistinct (extents_in further) → HasMore (extents_in fewer) (extents_in further) one → HasOneMore fewer further one.at
 one_more fewer further {one} apart apart' h = record {
@@ -148,5 +148,5 @@ one_more fewer further {one} apart apart' h = record {
     none : (k : ℕ) → one.at ≡ k → (used : Extent) → extent_at k (h.front ++ h.back) ≡ Some used → ⊥
     none k same used there =
         let gone = none_beside h.front h.back one (subst AreDistinct h.further (used_distinct (extents_in further) apart')) in
-        let here = subst (λ (a : ℕ). extent_at a (h.front ++ h.back) ≡ None) same gone in
+        let here = subst (λ a. extent_at a (h.front ++ h.back) ≡ None) same gone in
         cc

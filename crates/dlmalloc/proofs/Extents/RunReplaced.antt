@@ -18,7 +18,7 @@ run_of regions words segments parts {extent} there =
     let p = of_located (IsSegment regions words) l parts in
     let f = found extent.at extent l.segment.extents l.there in
     let end = l.segment.base + l.segment.size in
-    let s = tiles_split words Used l.segment.base f.front (extent ∷ f.back) end (subst (λ (es : List Extent). Tiles words Used l.segment.base es end) f.is p.extents) in
+    let s = tiles_split words Used l.segment.base f.front (extent ∷ f.back) end (subst (λ es. Tiles words Used l.segment.base es end) f.is p.extents) in
     let place : extent.at ≡ s.middle = s.second.0 in
     record {
       front = l.front;
@@ -28,9 +28,9 @@ run_of regions words segments parts {extent} there =
       first = f.front;
       last = f.back;
       extents = f.is;
-      first_stand = subst (λ (a : ℕ). Tiles words Used l.segment.base f.front a) (sym place) s.first;
+      first_stand = subst (λ a. Tiles words Used l.segment.base f.front a) (sym place) s.first;
       here = (refl, s.second.1, refl);
-      last_stand = subst (λ (a : ℕ). Tiles words extent.kind (a + extent.size) f.back end) (sym place) s.second.2;
+      last_stand = subst (λ a. Tiles words extent.kind (a + extent.size) f.back end) (sym place) s.second.2;
       some = (let long = (sized extent.kind extent.size s.second.1.size).1 in omega arith);
     }
 
@@ -75,7 +75,7 @@ module _ {A : Type 0} {regions : A → List Grant} {word : A → ℕ → ℕ} {h
 
   tail_kind : ends_segment (last_kind (last_kind (last_kind Used run.first) less) run.last) ≡ true
   tail_kind = ap ends_segment (sym (last_append (last_kind Used run.first) less run.last)) ∙ (ap ends_segment (sym (last_append Used run.first (less ++ run.last)))
-      ∙ (ap (λ (es : List Extent). ends_segment (last_kind Used es)) (sym run.extents) ∙ part.tail))
+      ∙ (ap (λ es. ends_segment (last_kind Used es)) (sym run.extents) ∙ part.tail))
 
   is_now : IsSegment (regions heap.system) (word new.system) run_now
   is_now = record {
@@ -86,14 +86,14 @@ module _ {A : Type 0} {regions : A → List Grant} {word : A → ℕ → ℕ} {h
     extents = moved Used run.segment.base (run.segment.base + run.segment.size) (run.segment.base + run.segment.size) run.first run.last run.first_stand move run.last_stand
         (λ k low high m. record { granted = part.run.covered k (omega arith) high; aligned = m }) run.some refl kind tail_kind;
     tail = ap ends_segment (last_append Used run.first (more ++ run.last)) ∙ (ap ends_segment (last_append (last_kind Used run.first) more run.last)
-        ∙ (ap (λ (k : Kind). ends_segment (last_kind k run.last)) kind ∙ tail_kind));
+        ∙ (ap (λ k. ends_segment (last_kind k run.last)) kind ∙ tail_kind));
   }
 
   pub changed : IsChanged (regions heap.system) (regions new.system) (word heap.system) (word new.system) run.segment run_now
   changed = record {
-    now = subst (λ (rs : List Grant). IsSegment rs (word new.system) run_now) (sym same) is_now;
+    now = subst (λ rs. IsSegment rs (word new.system) run_now) (sym same) is_now;
     kept = λ k inside spared. move.kept k inside (spared_first more run.last k (spared_second run.first (more ++ run.last) k spared));
-    others = λ other is beyond. (subst (λ (rs : List Grant). IsRun rs other.base other.size other.flags) (sym same) is.run, beyond);
+    others = λ other is beyond. (subst (λ rs. IsRun rs other.base other.size other.flags) (sym same) is.run, beyond);
     records = λ at there. (refl, refl, refl, stays at (λ here. tails at (record_of at (run.segment.base + run.segment.size)) here refl) there);
   }
 
@@ -127,7 +127,7 @@ module _ (regions : List Grant) {words : ℕ → ℕ} {segments : List Segment} 
 
   run_tail : ends_segment (last_kind (last_kind (last_kind Used run.first) less) run.last) ≡ true
   run_tail = ap ends_segment (sym (last_append (last_kind Used run.first) less run.last)) ∙ (ap ends_segment (sym (last_append Used run.first (less ++ run.last)))
-      ∙ (ap (λ (es : List Extent). ends_segment (last_kind Used es)) (sym run.extents) ∙ run_part.tail))
+      ∙ (ap (λ es. ends_segment (last_kind Used es)) (sym run.extents) ∙ run_part.tail))
 
   -- a run that ends no segment has an extent behind it
   pub has_next : ends_segment (last_kind (last_kind Used run.first) less) ≡ false → HasNext run.last
@@ -139,7 +139,7 @@ module _ (regions : List Grant) {words : ℕ → ℕ} {segments : List Segment} 
 
   module _ (n : HasNext run.last) where
     abbrev pub behind : Tiles words (last_kind (last_kind Used run.first) less) to (n.next ∷ n.rest) run_end
-    behind = subst (λ (es : List Extent). Tiles words (last_kind (last_kind Used run.first) less) to es run_end) n.is run.last_stand
+    behind = subst (λ es. Tiles words (last_kind (last_kind Used run.first) less) to es run_end) n.is run.last_stand
 
     -- it goes into the run
     abbrev pub with_next : IsRunOf words segments from (to + n.next.size) (less ++ n.next ∷ [])
@@ -150,10 +150,10 @@ module _ (regions : List Grant) {words : ℕ → ℕ} {segments : List Segment} 
       is = run.is;
       first = run.first;
       last = n.rest;
-      extents = run.extents ∙ (ap (λ (es : List Extent). run.first ++ (less ++ es)) n.is ∙ ap (λ (es : List Extent). run.first ++ es) (sym (append_assoc less (n.next ∷ []) n.rest)));
+      extents = run.extents ∙ (ap (λ es. run.first ++ (less ++ es)) n.is ∙ ap (λ es. run.first ++ es) (sym (append_assoc less (n.next ∷ []) n.rest)));
       first_stand = run.first_stand;
       here = tiles_append words (last_kind Used run.first) from less (n.next ∷ []) to (to + n.next.size) run.here (behind.0, behind.1, refl);
-      last_stand = subst (λ (k : Kind). Tiles words k (to + n.next.size) n.rest run_end) (sym (last_append (last_kind Used run.first) less (n.next ∷ []))) behind.2;
+      last_stand = subst (λ k. Tiles words k (to + n.next.size) n.rest run_end) (sym (last_append (last_kind Used run.first) less (n.next ∷ []))) behind.2;
       some = (let s = run.some in omega arith);
     }
 

@@ -36,7 +36,7 @@ shown_as heap extent = of extent.at extent.size extent.kind
 -- so it is found where the extent is
 pub shown_found : (heap : HeapState) (at : ℕ) (extents : List Extent) → extent_at at (map (shown heap) extents) ≡ option_map (shown heap) (extent_at at extents)
 shown_found heap at [] = refl
-shown_found heap at (extent ∷ extents) = ap (λ (begin : ℕ). if begin == at then Some (shown heap extent) else extent_at at (map (shown heap) extents)) (shown_as heap extent).place ∙ go (extent.at == at) (shown_found heap at extents)
+shown_found heap at (extent ∷ extents) = ap (λ begin. if begin == at then Some (shown heap extent) else extent_at at (map (shown heap) extents)) (shown_as heap extent).place ∙ go (extent.at == at) (shown_found heap at extents)
   where
     go : (b : Bool) → extent_at at (map (shown heap) extents) ≡ option_map (shown heap) (extent_at at extents) →
         (if b then Some (shown heap extent) else extent_at at (map (shown heap) extents)) ≡ option_map (shown heap) (if b then Some extent else extent_at at extents)
@@ -51,14 +51,14 @@ pub record IsPair (first second : Kind) : Type 0 where
   pub foot : is_foot second ≡ is_top first
 
 pub pair : (first second : Kind) → MayStand first second → IsPair first second
-pair first Used (inl is) = subst (λ (k : Kind). IsPair k Used) (sym is) (record { inner = refl; apart = refl; foot = refl })
-pair first Used (inr is) = subst (λ (k : Kind). IsPair k Used) (sym is) (record { inner = refl; apart = refl; foot = refl })
-pair first Free is = subst (λ (k : Kind). IsPair k Free) (sym is) (record { inner = refl; apart = refl; foot = refl })
+pair first Used (inl is) = subst (λ k. IsPair k Used) (sym is) (record { inner = refl; apart = refl; foot = refl })
+pair first Used (inr is) = subst (λ k. IsPair k Used) (sym is) (record { inner = refl; apart = refl; foot = refl })
+pair first Free is = subst (λ k. IsPair k Free) (sym is) (record { inner = refl; apart = refl; foot = refl })
 pair first Victim is = absurd is
-pair first Top is = subst (λ (k : Kind). IsPair k Top) (sym is) (record { inner = refl; apart = refl; foot = refl })
-pair first Record (inl is) = subst (λ (k : Kind). IsPair k Record) (sym is) (record { inner = refl; apart = refl; foot = refl })
-pair first Record (inr is) = subst (λ (k : Kind). IsPair k Record) (sym is) (record { inner = refl; apart = refl; foot = refl })
-pair first Foot is = subst (λ (k : Kind). IsPair k Foot) (sym is) (record { inner = refl; apart = refl; foot = refl })
+pair first Top is = subst (λ k. IsPair k Top) (sym is) (record { inner = refl; apart = refl; foot = refl })
+pair first Record (inl is) = subst (λ k. IsPair k Record) (sym is) (record { inner = refl; apart = refl; foot = refl })
+pair first Record (inr is) = subst (λ k. IsPair k Record) (sym is) (record { inner = refl; apart = refl; foot = refl })
+pair first Foot is = subst (λ k. IsPair k Foot) (sym is) (record { inner = refl; apart = refl; foot = refl })
 
 -- heads do not tell the victim
 pub no_victim_kind : (before kind : Kind) → MayStand before kind → kind ≢ Victim

@@ -18,7 +18,7 @@ tiles_le words before at (extent ∷ extents) end h = let rest = tiles_le words 
 -- ---- one list behind another
 
 pub tiles_append : (words : ℕ → ℕ) (before : Kind) (at : ℕ) (front back : List Extent) (middle end : ℕ) → Tiles words before at front middle → Tiles words (last_kind before front) middle back end → Tiles words before at (front ++ back) end
-tiles_append words before at [] back middle end h k = subst (λ (a : ℕ). Tiles words before a back end) (sym h) k
+tiles_append words before at [] back middle end h k = subst (λ a. Tiles words before a back end) (sym h) k
 tiles_append words before at (extent ∷ front) back middle end h k = (h.0, h.1, tiles_append words extent.kind (at + extent.size) front back middle end h.2 k)
 
 pub record Split (words : ℕ → ℕ) (before : Kind) (at : ℕ) (front back : List Extent) (end : ℕ) : Type 0 where

@@ -16,7 +16,7 @@ no_top (extent ∷ extents) are k {one} there is = go (extent.at == k) there (λ
   where
     go : (b : Bool) → (if b then Some extent else extent_at k extents) ≡ Some one → (extent_at k extents ≡ Some one → ⊥) → ⊥
     go true same later =
-        let kind : extent.kind ≡ Top = ap (λ (o : Option Extent). (unwrap_or o extent).kind) same ∙ is in
+        let kind : extent.kind ≡ Top = ap (λ o. (unwrap_or o extent).kind) same ∙ is in
         elim are.0 [ inl used ↦ (let no : Used ≡ Top = sym used ∙ kind in cc) | inr free ↦ (let no : Free ≡ Top = sym free ∙ kind in cc) ]
     go false found later = later found
 
@@ -35,19 +35,19 @@ module _ {regions : List Grant} {words : ℕ → ℕ} {segment : Segment} (part 
   pub topped : {at size : ℕ} → extent_at at segment.extents ≡ Some (extent at size Top) → Topped at size
   topped {at} {size} there =
       let f = found at (extent at size Top) segment.extents there in
-      let tiles = subst (λ (es : List Extent). Tiles words Used segment.base es end) f.is part.extents in
+      let tiles = subst (λ es. Tiles words Used segment.base es end) f.is part.extents in
       let s = tiles_split words Used segment.base f.front (extent at size Top ∷ f.back) end tiles in
       let place : at ≡ s.middle = s.second.0 in
       let tail : ends_segment (last_kind Top f.back) ≡ true =
-      ap ends_segment (sym (last_append Used f.front (extent at size Top ∷ f.back))) ∙ (ap (λ (es : List Extent). ends_segment (last_kind Used es)) (sym f.is) ∙ part.tail) in
+      ap ends_segment (sym (last_append Used f.front (extent at size Top ∷ f.back))) ∙ (ap (λ es. ends_segment (last_kind Used es)) (sym f.is) ∙ part.tail) in
       let b = behind_top words (s.middle + size) f.back end s.second.2 tail in
       let ends = b.1 in
       record {
         front = f.front;
-        is = f.is ∙ ap (λ (es : List Extent). f.front ++ extent at size Top ∷ es) b.0;
+        is = f.is ∙ ap (λ es. f.front ++ extent at size Top ∷ es) b.0;
         chunks = are_chunks words Used segment.base f.front (extent at size Top) f.back end (λ is. cc) tiles;
         ends = omega arith;
-        foot = ap (last_kind Used) (f.is ∙ ap (λ (es : List Extent). f.front ++ extent at size Top ∷ es) b.0) ∙ last_append Used f.front (extent at size Top ∷ extent (end - 80) 80 Foot ∷ []);
+        foot = ap (last_kind Used) (f.is ∙ ap (λ es. f.front ++ extent at size Top ∷ es) b.0) ∙ last_append Used f.front (extent at size Top ∷ extent (end - 80) 80 Foot ∷ []);
       }
 
   -- its foot is behind it
@@ -66,9 +66,9 @@ module _ {regions : List Grant} {words : ℕ → ℕ} {segment : Segment} (part 
   pub no_record : {at size : ℕ} (record_at : ℕ) → extent_at at segment.extents ≡ Some (extent at size Top) → extent_at record_at segment.extents ≡ Some (record_of record_at end) → ⊥
   no_record record_at there record_there =
       let f = found record_at (record_of record_at end) segment.extents record_there in
-      let s = tiles_split words Used segment.base f.front (record_of record_at end ∷ f.back) end (subst (λ (es : List Extent). Tiles words Used segment.base es end) f.is part.extents) in
+      let s = tiles_split words Used segment.base f.front (record_of record_at end ∷ f.back) end (subst (λ es. Tiles words Used segment.base es end) f.is part.extents) in
       let none = (nothing words Record (s.middle + (end - record_at)) f.back end none_behind_record s.second.2).0 in
-      let kind : last_kind Used segment.extents ≡ Record = ap (last_kind Used) (f.is ∙ ap (λ (es : List Extent). f.front ++ record_of record_at end ∷ es) none) ∙ last_append Used f.front (record_of record_at end ∷ []) in
+      let kind : last_kind Used segment.extents ≡ Record = ap (last_kind Used) (f.is ∙ ap (λ es. f.front ++ record_of record_at end ∷ es) none) ∙ last_append Used f.front (record_of record_at end ∷ []) in
       let no : Foot ≡ Record = sym (topped there).foot ∙ kind in
       cc
 
@@ -86,7 +86,7 @@ module _ {regions : List Grant} {words : ℕ → ℕ} {segment : Segment} (part 
       go false isnt found = absurd (foot (end - 80 == other) found)
         where
           foot : (b : Bool) → (if b then Some (extent (end - 80) 80 Foot) else None) ≡ Some (extent other other_size Top) → ⊥
-          foot true is = (let no : Foot ≡ Top = ap (λ (o : Option Extent). (unwrap_or o (extent other other_size Top)).kind) is in cc)
+          foot true is = (let no : Foot ≡ Top = ap (λ o. (unwrap_or o (extent other other_size Top)).kind) is in cc)
           foot false is = cc
 
 -- the segments that records tell have records
@@ -118,7 +118,7 @@ module _ {A : Type 0} {regions : A → List Grant} {word : A → ℕ → ℕ} {h
       ap (extent_at one.at) (all_among front segment back)
       ∙ distinct_later (extents_all front) (segment.extents ++ extents_all back) one.at (subst AreDistinct (all_among front segment back) all) (found_more one.at segment.extents (extents_all back) there) in
       let top_all : extent_at heap.top (extents_all (front ++ segment ∷ back)) ≡ Some (extent heap.top heap.top_size Top) = head_top front (subst (AreTold (word heap.system) heap) is sound.told) in
-      ap (λ (o : Option Extent). unwrap_or o one) (sym one_all ∙ (ap (λ (k : ℕ). extent_at k (extents_all (front ++ segment ∷ back))) place ∙ top_all))
+      ap (λ o. unwrap_or o one) (sym one_all ∙ (ap (λ k. extent_at k (extents_all (front ++ segment ∷ back))) place ∙ top_all))
     where
       head_top : (front : List Segment) → AreTold (word heap.system) heap (front ++ segment ∷ back) → extent_at heap.top (extents_all (front ++ segment ∷ back)) ≡ Some (extent heap.top heap.top_size Top)
       head_top [] h = found_more heap.top segment.extents (extents_all back) h.4

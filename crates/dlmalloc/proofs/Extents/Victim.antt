@@ -23,17 +23,17 @@ has_none words before from (extent ∷ extents) to at out h =
     rw test (has_none words extent.kind (from + extent.size) extents to at (grind arith) h.2)
 
 pub skip : (at : ℕ) (front back : List Extent) → find (has at) front ≡ None → find (has at) (front ++ back) ≡ find (has at) back
-skip at front back none = find-append (has at) front back ∙ ap (λ (o : Option Extent). option_or o (find (has at) back)) none
+skip at front back none = find-append (has at) front back ∙ ap (λ o. option_or o (find (has at) back)) none
 
 -- a free extent has its bytes
 has_one : (words : ℕ → ℕ) (before : Kind) (from : ℕ) (extents : List Extent) (to : ℕ) (one : Extent) (at : ℕ) (rest : List Extent) → Tiles words before from extents to → extent_at one.at extents ≡ Some one → one.kind ≡ Free →
     one.at ≤ at → at < one.at + one.size → find (has at) (extents ++ rest) ≡ Some one
 has_one words before from extents to one at rest h there free low high =
     let f = found one.at one extents there in
-    let s = tiles_split words before from f.front (one ∷ f.back) to (subst (λ (es : List Extent). Tiles words before from es to) f.is h) in
+    let s = tiles_split words before from f.front (one ∷ f.back) to (subst (λ es. Tiles words before from es to) f.is h) in
     let place = s.second.0 in
     let here : find (has at) extents ≡ Some one = ap (find (has at)) f.is ∙ (skip at f.front (one ∷ f.back) (has_none words before from f.front s.middle at (inr (omega arith)) s.first) ∙ has_here one f.back at free low high) in
-    find-append (has at) extents rest ∙ ap (λ (o : Option Extent). option_or o (find (has at) rest)) here
+    find-append (has at) extents rest ∙ ap (λ o. option_or o (find (has at) rest)) here
 
 pub has_in : (regions : List Grant) (words : ℕ → ℕ) (segments : List Segment) → AreSegments regions words segments → AreApart segments → {one : Extent} (at : ℕ) → extent_at one.at (extents_all segments) ≡ Some one → one.kind ≡ Free →
     one.at ≤ at → at < one.at + one.size → find (has at) (extents_all segments) ≡ Some one
@@ -51,7 +51,7 @@ has_in regions words (segment ∷ segments) parts apart {one} at there free low 
         let p = of_located (IsSegment regions words) l parts.1 in
         let is = in_part words Used l.segment.base l.segment.extents (l.segment.base + l.segment.size) p.extents l.there in
         let from = is.low in let to = is.high in
-        elim (of_located (λ (s : Segment). IsApartFrom segment s) l apart.0) [ inl before ↦ inr (omega arith) | inr behind ↦ inl (omega arith) ]
+        elim (of_located (λ s. IsApartFrom segment s) l apart.0) [ inl before ↦ inr (omega arith) | inr behind ↦ inl (omega arith) ]
 
 pub has_no_zero : (regions : List Grant) (words : ℕ → ℕ) (segments : List Segment) → AreSegments regions words segments → find (has 0) (extents_all segments) ≡ None
 has_no_zero regions words [] parts = refl
@@ -65,18 +65,18 @@ pub victim_same : (regions : List Grant) (words : ℕ → ℕ) (segments : List 
 victim_same regions words segments parts apart victim size there none = go (size == 0) refl
   where
     at_of : Option Extent → ℕ
-    at_of o = unwrap_or (option_map (λ (e : Extent). e.at) o) 0
+    at_of o = unwrap_or (option_map (λ e. e.at) o) 0
 
     go : (b : Bool) → (size == 0) ≡ b → victim ≡ victim_in victim (extents_all segments)
     go true is =
         let gone : victim ≡ 0 = none (nat_is is) in
-        gone ∙ sym (ap at_of (subst (λ (v : ℕ). find (has v) (extents_all segments) ≡ None) (sym gone) (has_no_zero regions words segments parts)))
+        gone ∙ sym (ap at_of (subst (λ v. find (has v) (extents_all segments) ≡ None) (sym gone) (has_no_zero regions words segments parts)))
     go false isnt =
         let some : size ≢ 0 = grind (arith, nat_tests) in
         sym (ap at_of (has_in regions words segments parts apart victim (there some) refl (omega arith) (omega arith)))
 
 -- none has a byte that lies in a segment apart from all
-pub has_none_beside : (regions : List Grant) (words : ℕ → ℕ) (segment : Segment) (segments : List Segment) → AreSegments regions words segments → AllByRecursion (λ (other : Segment). IsApartFrom other segment) segments →
+pub has_none_beside : (regions : List Grant) (words : ℕ → ℕ) (segment : Segment) (segments : List Segment) → AreSegments regions words segments → AllByRecursion (λ other. IsApartFrom other segment) segments →
     (at : ℕ) → segment.base ≤ at → at < segment.base + segment.size → find (has at) (extents_all segments) ≡ None
 has_none_beside regions words segment [] parts apart at low high = refl
 has_none_beside regions words segment (other ∷ segments) parts apart at low high =

@@ -57,7 +57,7 @@ none_left words before at (chunk ∷ chunks) end empty h =
 
 -- all are passed at the end
 pub all_passed : {words : ℕ → ℕ} {from to at : ℕ} {known : List Extent → Type 0} → to ≤ at → Passed words from to at known → known (chunks_between words from to)
-all_passed {words} {to} {at} {known} end p = subst known (sym (p.is ∙ (ap (λ (cs : List Extent). p.front ++ cs) (none_left words (last_kind Used p.front) at p.back to end p.behind) ∙ append-nil p.front))) p.so_far
+all_passed {words} {to} {at} {known} end p = subst known (sym (p.is ∙ (ap (λ cs. p.front ++ cs) (none_left words (last_kind Used p.front) at p.back to end p.behind) ∙ append-nil p.front))) p.so_far
 
 module _ {words : ℕ → ℕ} {from to at : ℕ} {known : List Extent → Type 0} (more : at < to) (p : Passed words from to at known) where
   pub ahead : Next words (last_kind Used p.front) at p.back to
@@ -65,7 +65,7 @@ module _ {words : ℕ → ℕ} {from to at : ℕ} {known : List Extent → Type 
 
   -- it is what its head tells
   pub is_told : chunk_told words at ≡ ahead.chunk
-  is_told = subst (λ (a : ℕ). chunk_told words a ≡ ahead.chunk) ahead.place (told ahead.kind ahead.stands)
+  is_told = subst (λ a. chunk_told words a ≡ ahead.chunk) ahead.place (told ahead.kind ahead.stands)
 
   pub at_low : from ≤ at
   at_low = tiles_le words Used from p.front at p.before
@@ -86,28 +86,28 @@ module _ {words : ℕ → ℕ} {from to at : ℕ} {known : List Extent → Type 
     is_chunk = sym (same ∙ is_told)
 
     pub begins_at : chunk.at ≡ at
-    begins_at = ap (λ (e : Extent). e.at) (sym is_chunk) ∙ ahead.place
+    begins_at = ap (λ e. e.at) (sym is_chunk) ∙ ahead.place
 
     pub used_or_free : IsChunkKind chunk.kind
-    used_or_free = subst (λ (e : Extent). IsChunkKind e.kind) is_chunk ahead.kind
+    used_or_free = subst (λ e. IsChunkKind e.kind) is_chunk ahead.kind
 
     later_le : at + ahead.chunk.size ≤ to
     later_le = tiles_le words ahead.chunk.kind (at + ahead.chunk.size) ahead.rest to ahead.later
 
     pub goes_to : at + chunk.size ≤ to
-    goes_to = subst (λ (e : Extent). at + e.size ≤ to) is_chunk later_le
+    goes_to = subst (λ e. at + e.size ≤ to) is_chunk later_le
 
     pub goes_on : 16 ≤ chunk.size
-    goes_on = subst (λ (e : Extent). 16 ≤ e.size) is_chunk (sized ahead.chunk.kind ahead.chunk.size ahead.stands.size).1
+    goes_on = subst (λ e. 16 ≤ e.size) is_chunk (sized ahead.chunk.kind ahead.chunk.size ahead.stands.size).1
 
     -- it is passed
     pub onward : (known' : List Extent → Type 0) → known' (p.front ++ chunk ∷ []) → Passed words from to (at + chunk.size) known'
     onward known' holds = record {
       front = p.front ++ chunk ∷ [];
       back = ahead.rest;
-      is = p.is ∙ (ap (λ (es : List Extent). p.front ++ es) (ahead.is ∙ ap (λ (e : Extent). e ∷ ahead.rest) is_chunk) ∙ sym (append_assoc p.front (chunk ∷ []) ahead.rest));
-      before = tiles_append words Used from p.front (chunk ∷ []) at (at + chunk.size) p.before (subst (λ (e : Extent). Tiles words (last_kind Used p.front) at (e ∷ []) (at + e.size)) is_chunk (ahead.place, ahead.stands, refl));
-      behind = subst (λ (k : Kind). Tiles words k (at + chunk.size) ahead.rest to) (sym (last_append Used p.front (chunk ∷ []))) (subst (λ (e : Extent). Tiles words e.kind (at + e.size) ahead.rest to) is_chunk ahead.later);
+      is = p.is ∙ (ap (λ es. p.front ++ es) (ahead.is ∙ ap (λ e. e ∷ ahead.rest) is_chunk) ∙ sym (append_assoc p.front (chunk ∷ []) ahead.rest));
+      before = tiles_append words Used from p.front (chunk ∷ []) at (at + chunk.size) p.before (subst (λ e. Tiles words (last_kind Used p.front) at (e ∷ []) (at + e.size)) is_chunk (ahead.place, ahead.stands, refl));
+      behind = subst (λ k. Tiles words k (at + chunk.size) ahead.rest to) (sym (last_append Used p.front (chunk ∷ []))) (subst (λ e. Tiles words e.kind (at + e.size) ahead.rest to) is_chunk ahead.later);
       are = ahead.are;
       so_far = holds;
     }
@@ -125,7 +125,7 @@ has_tail : {regions : List Grant} {words : ℕ → ℕ} {segment : Segment} → 
 has_tail {regions} {words} {segment} part {last} other there tail rest =
     let f = found last.at last segment.extents there in
     let end = segment.base + segment.size in
-    let tiles = subst (λ (es : List Extent). Tiles words Used segment.base es end) f.is part.extents in
+    let tiles = subst (λ es. Tiles words Used segment.base es end) f.is part.extents in
     let s = tiles_split words Used segment.base f.front (last ∷ f.back) end tiles in
     let place : last.at ≡ s.middle = s.second.0 in
     let long = (sized last.kind last.size s.second.1.size).1 in
@@ -133,15 +133,15 @@ has_tail {regions} {words} {segment} part {last} other there tail rest =
     let low = tiles_le words Used segment.base f.front s.middle s.first in
     let run : IsChunkRun regions words segment.base last.at = record {
       chunks = f.front;
-      stand = subst (λ (a : ℕ). Tiles words Used segment.base f.front a) (sym place) s.first;
+      stand = subst (λ a. Tiles words Used segment.base f.front a) (sym place) s.first;
       are = are_chunks words Used segment.base f.front last f.back end other tiles;
       granted = λ k above below. part.run.covered k above (omega arith);
       small = (let high = part.high in omega arith);
     } in
     record {
       run = run;
-      is = f.is ∙ (λ i. (sym (run_read run)) i ++ rest f.back (subst (λ (a : ℕ). Tiles words last.kind (a + last.size) f.back end) (sym place) s.second.2)
-          (ap ends_segment (sym (last_append Used f.front (last ∷ f.back))) ∙ (ap (λ (es : List Extent). ends_segment (last_kind Used es)) (sym f.is) ∙ part.tail)) i);
+      is = f.is ∙ (λ i. (sym (run_read run)) i ++ rest f.back (subst (λ a. Tiles words last.kind (a + last.size) f.back end) (sym place) s.second.2)
+          (ap ends_segment (sym (last_append Used f.front (last ∷ f.back))) ∙ (ap (λ es. ends_segment (last_kind Used es)) (sym f.is) ∙ part.tail)) i);
       above = omega arith;
     }
 
@@ -149,12 +149,12 @@ pub top_tail : {regions : List Grant} {words : ℕ → ℕ} {segment : Segment} 
     HasTail regions words segment top (extent top size Top ∷ extent (top + size) 80 Foot ∷ [])
 top_tail {words} {segment} part {top} {size} there = has_tail part (λ is. cc) there (extent top size Top ∷ extent (top + size) 80 Foot ∷ [])
     (λ back tiles tail. let b = behind_top words (top + size) back (segment.base + segment.size) tiles tail in let ends = b.1 in
-    ap (λ (es : List Extent). extent top size Top ∷ es) (b.0 ∙ (λ i. same_extent {at = segment.base + segment.size - 80} {at' = top + size} {size = 80} {size' = 80} {kind = Foot} {kind' = Foot} (omega arith) refl refl i ∷ [])))
+    ap (λ es. extent top size Top ∷ es) (b.0 ∙ (λ i. same_extent {at = segment.base + segment.size - 80} {at' = top + size} {size = 80} {size' = 80} {kind = Foot} {kind' = Foot} (omega arith) refl refl i ∷ [])))
 
 pub record_tail : {regions : List Grant} {words : ℕ → ℕ} {segment : Segment} → IsSegment regions words segment → (at : ℕ) → extent_at at segment.extents ≡ Some (record_of at (segment.base + segment.size)) →
     HasTail regions words segment at (record_of at (segment.base + segment.size) ∷ [])
 record_tail {words} {segment} part at there = has_tail part (λ is. cc) there (record_of at (segment.base + segment.size) ∷ [])
-    (λ back tiles tail. ap (λ (b : List Extent). record_of at (segment.base + segment.size) ∷ b) (nothing words Record (at + (segment.base + segment.size - at)) back (segment.base + segment.size) none_behind_record tiles).0)
+    (λ back tiles tail. ap (λ b. record_of at (segment.base + segment.size) ∷ b) (nothing words Record (at + (segment.base + segment.size - at)) back (segment.base + segment.size) none_behind_record tiles).0)
 
 -- ---- lists of what is passed
 
@@ -162,21 +162,21 @@ record_tail {words} {segment} part at there = has_tail part (λ is. cc) there (r
 pub mapped_more : (each : Extent → Extent) {old new : List Extent} (start front : List Extent) (extent : Extent) {item : Extent} → old ≡ start ++ map each front → item ≡ each extent → new ≡ old ++ item ∷ [] →
     new ≡ start ++ map each (front ++ extent ∷ [])
 mapped_more each start front extent was is added =
-    added ∙ (λ i. was i ++ is i ∷ []) ∙ append_assoc start (map each front) (each extent ∷ []) ∙ ap (λ (es : List Extent). start ++ es) (sym (map-append each front (extent ∷ [])))
+    added ∙ (λ i. was i ++ is i ∷ []) ∙ append_assoc start (map each front) (each extent ∷ []) ∙ ap (λ es. start ++ es) (sym (map-append each front (extent ∷ [])))
 
 -- and when some chunks and one extent that is shown as it is are
 pub mapped_run : (each : Extent → Extent) (front chunks : List Extent) (last : Extent) (old middle new : List Extent) → each last ≡ last → old ≡ map each front → middle ≡ old ++ map each chunks → new ≡ middle ++ last ∷ [] →
     new ≡ map each (front ++ (chunks ++ last ∷ []))
 mapped_run each front chunks last old middle new same was run added =
-    added ∙ (ap (λ (es : List Extent). es ++ last ∷ []) (run ∙ ap (λ (es : List Extent). es ++ map each chunks) was)
+    added ∙ (ap (λ es. es ++ last ∷ []) (run ∙ ap (λ es. es ++ map each chunks) was)
     ∙ (append_assoc (map each front) (map each chunks) (last ∷ [])
-    ∙ (ap (λ (es : List Extent). map each front ++ es) (ap (λ (e : Extent). map each chunks ++ e ∷ []) (sym same) ∙ sym (map-append each chunks (last ∷ [])))
+    ∙ (ap (λ es. map each front ++ es) (ap (λ e. map each chunks ++ e ∷ []) (sym same) ∙ sym (map-append each chunks (last ∷ [])))
     ∙ sym (map-append each front (chunks ++ last ∷ [])))))
 
 -- and when some chunks and two such extents are
 pub mapped_two : (each : Extent → Extent) (all chunks : List Extent) (first second : Extent) (none run one new : List Extent) → all ≡ chunks ++ first ∷ second ∷ [] → each first ≡ first → each second ≡ second → none ≡ [] → run ≡ none ++ map each chunks → one ≡ run ++ first ∷ [] → new ≡ one ++ second ∷ [] →
     new ≡ map each all
 mapped_two each all chunks first second none run one new is same same' empty ran added added' =
-    added' ∙ (ap (λ (es : List Extent). es ++ second ∷ []) (added ∙ ap (λ (es : List Extent). es ++ first ∷ []) (ran ∙ ap (λ (es : List Extent). es ++ map each chunks) empty))
+    added' ∙ (ap (λ es. es ++ second ∷ []) (added ∙ ap (λ es. es ++ first ∷ []) (ran ∙ ap (λ es. es ++ map each chunks) empty))
     ∙ (append_assoc (map each chunks) (first ∷ []) (second ∷ [])
     ∙ ((λ i. map each chunks ++ (sym same) i ∷ (sym same') i ∷ []) ∙ (sym (map-append each chunks (first ∷ second ∷ [])) ∙ ap (map each) (sym is)))))

@@ -41,7 +41,7 @@ module _ {A : Type 0} {regions : A → List Grant} {word : A → ℕ → ℕ} {h
     top = next.next
 
     kind : top.kind ≡ Top
-    kind = ap (λ (e : Extent). e.kind) next_is
+    kind = ap (λ e. e.kind) next_is
 
     stand : Tiles words Used (at + size) (next.next ∷ next.rest) (one.segment.base + one.segment.size)
     stand = behind (regions heap.system) sound.segments one next
@@ -56,7 +56,7 @@ module _ {A : Type 0} {regions : A → List Grant} {word : A → ℕ → ℕ} {h
     stand_foot = behind (regions heap.system) sound.segments two foot
 
     foot_kind : foot.next.kind ≡ Foot
-    foot_kind = only_foot foot.next.kind (subst (λ (k : Kind). MayStand k foot.next.kind) kind stand_foot.1.kind)
+    foot_kind = only_foot foot.next.kind (subst (λ k. MayStand k foot.next.kind) kind stand_foot.1.kind)
 
     abbrev three : IsRunOf words segments at (at + size + top.size + foot.next.size) (chunk ∷ top ∷ foot.next ∷ [])
     three = with_next (regions heap.system) sound.segments two foot
@@ -68,7 +68,7 @@ module _ {A : Type 0} {regions : A → List Grant} {word : A → ℕ → ℕ} {h
     left =
         let whole : size % 8 ≡ 0 = (let w = stands.size.0 in omega arith) in
         let told : pinuse_of (words (at + 8)) ≡ is_used (last_kind Used one.first) = ap pinuse_of stands.head ∙ pinuse_of-head_of size (is_used (last_kind Used one.first)) true whole in
-        subst (λ (f : ℕ). Left words one.segment.base one.first at f) (ap (λ (b : Bool). if b then at else at - words at) (sym told) ∙ sym from_is)
+        subst (λ f. Left words one.segment.base one.first at f) (ap (λ b. if b then at else at - words at) (sym told) ∙ sym from_is)
         (left_of words one.segment.base one.first at one.first_stand stands.kind)
 
     abbrev end : ℕ
@@ -91,7 +91,7 @@ module _ {A : Type 0} {regions : A → List Grant} {word : A → ℕ → ℕ} {h
     new_size = heap.top_size + (at + size - from)
 
     top_size : top.size ≡ heap.top_size
-    top_size = ap (λ (e : Extent). e.size) next_is
+    top_size = ap (λ e. e.size) next_is
 
     sum : from + new_size ≡ end
     sum = omega (arith, from_at, top_size)
@@ -133,7 +133,7 @@ module _ {A : Type 0} {regions : A → List Grant} {word : A → ℕ → ℕ} {h
         kind_of first is = go (first.at == k) is
           where
             go : (b : Bool) → (if b then Some first else None) ≡ Some one → one.kind ≡ first.kind
-            go true same = ap (λ (o : Option Extent). (unwrap_or o first).kind) (sym same)
+            go true same = ap (λ o. (unwrap_or o first).kind) (sym same)
             go false same = absurd (cc)
 
         above : extent_at k left.lefts ≡ Some one → from ≤ k
@@ -162,25 +162,25 @@ module _ {A : Type 0} {regions : A → List Grant} {word : A → ℕ → ℕ} {h
     in_less k bytes found = elim (found_either k left.lefts (chunk ∷ top ∷ []) found) [
       | inl first ↦ inl (beside_place words Used from left.lefts at left.beside left.lefts_stand k first)
       | inr later ↦ elim (found_either k (chunk ∷ []) (top ∷ []) later.1) [
-        | inl here ↦ absurd (let no : Used ≡ Free = ap (λ (e : Extent). e.kind) (the_one k chunk here) in cc)
-        | inr last ↦ absurd (let no : Top ≡ Free = sym kind ∙ ap (λ (e : Extent). e.kind) (the_one k top last.1) in cc)
+        | inl here ↦ absurd (let no : Used ≡ Free = ap (λ e. e.kind) (the_one k chunk here) in cc)
+        | inr last ↦ absurd (let no : Top ≡ Free = sym kind ∙ ap (λ e. e.kind) (the_one k top last.1) in cc)
       ]
     ]
 
     in_more : (k bytes : ℕ) → extent_at k more ≡ Some (extent k bytes Free) → IsIn k (from ∷ [])
-    in_more k bytes found = absurd (let no : Top ≡ Free = ap (λ (e : Extent). e.kind) (the_one k joint found) in cc)
+    in_more k bytes found = absurd (let no : Top ≡ Free = ap (λ e. e.kind) (the_one k joint found) in cc)
 
     right_there : IsThere (at + size) less
     right_there =
         let test : (at == at + size) ≡ false = nat_isnt (inl (let long = stands.size.1 in omega arith)) in (
           top,
           found_later (at + size) left.lefts (chunk ∷ top ∷ []) (none_outside words Used from left.lefts at (at + size) (inr (omega arith)) left.lefts_stand)
-              ∙ rw test (subst (λ (a : ℕ). extent_at a (top ∷ []) ≡ Some top) stand.0 (found_here top [])),
+              ∙ rw test (subst (λ a. extent_at a (top ∷ []) ≡ Some top) stand.0 (found_here top [])),
         )
 
     head_segment : (run.front ≡ []) × (at + size ≡ heap.top)
     head_segment = is_top sound run.front run.segment run.back run.is {at = (at + size)} {size = top.size}
-        (ap (extent_at (at + size)) (one.extents ∙ ap (λ (l : List Extent). one.first ++ (chunk ∷ l)) next.is)
+        (ap (extent_at (at + size)) (one.extents ∙ ap (λ l. one.first ++ (chunk ∷ l)) next.is)
         ∙ (found_later (at + size) one.first (chunk ∷ top ∷ next.rest) (none_outside words Used one.segment.base one.first at (at + size) (inr (omega arith)) one.first_stand)
         ∙ (let first : (at == at + size) ≡ false = nat_isnt (inl (let s = one.some in omega arith)) in
         let second : (top.at == at + size) ≡ true = (let p = stand.0 in grind (arith, nat_tests)) in
@@ -193,8 +193,8 @@ module _ {A : Type 0} {regions : A → List Grant} {word : A → ℕ → ℕ} {h
 
     module _ (system : A) (same : regions system ≡ regions heap.system) (stored : IsStored (regions heap.system) words (from + 8) (new_size + 1) (word system)) where
       move : IsMove (regions heap.system) words (word system) (last_kind Used run.first) from end end less more
-      move = subst (λ (k : Kind). IsMove (regions heap.system) words (word system) k from end end less more) (sym left.used)
-          (join_top (regions heap.system) words (word system) from less from_whole new_size end_whole sum (omega (arith, long, top_size)) (subst (λ (k : Kind). Tiles words k from less end) left.used run.here) stored)
+      move = subst (λ k. IsMove (regions heap.system) words (word system) k from end end less more) (sym left.used)
+          (join_top (regions heap.system) words (word system) from less from_whole new_size end_whole sum (omega (arith, long, top_size)) (subst (λ k. Tiles words k from less end) left.used run.here) stored)
 
       abbrev after : ℕ → ℕ → Dlmalloc A
       after victim victim_size = record heap { system = system; top = from; top_size = new_size; victim = victim; victim_size = victim_size }
@@ -210,17 +210,17 @@ module _ {A : Type 0} {regions : A → List Grant} {word : A → ℕ → ℕ} {h
           let is : extent from (foot.next.at - from) (joint_kind (top ∷ [])) ≡ joint = same_extent refl (omega (arith, stand_foot.0, sum)) kind in
           let free : is_free foot.next.kind ≡ false = ap is_free foot_kind in
           freed_run (regions heap.system) (word system) sound.segments sound.apart at size left.lefts (top ∷ []) foot.next left.beside (ap is_free kind) free wide
-          (subst (λ (e : Extent). Tiles (word system) Used run.segment.base (run.first ++ (e ∷ foot.next ∷ foot.rest)) (run.segment.base + run.segment.size)) (sym is)
-          (subst (λ (es : List Extent). Tiles (word system) Used run.segment.base (run.first ++ (joint ∷ es)) (run.segment.base + run.segment.size)) foot.is (step 0 0).changed.now.extents))
+          (subst (λ e. Tiles (word system) Used run.segment.base (run.first ++ (e ∷ foot.next ∷ foot.rest)) (run.segment.base + run.segment.size)) (sym is)
+          (subst (λ es. Tiles (word system) Used run.segment.base (run.first ++ (joint ∷ es)) (run.segment.base + run.segment.size)) foot.is (step 0 0).changed.now.extents))
           ∙ ((λ i. run.front ++ with_extents run.segment (run.first ++ (is i ∷ foot.next ∷ foot.rest)) ∷ run.back)
-          ∙ ap (λ (es : List Extent). run.front ++ with_extents run.segment (run.first ++ (joint ∷ es)) ∷ run.back) (sym foot.is))
+          ∙ ap (λ es. run.front ++ with_extents run.segment (run.first ++ (joint ∷ es)) ∷ run.back) (sym foot.is))
 
       abbrev Topped : ℕ → ℕ → Type 0
       Topped victim victim_size = IsFree regions word heap at size from (at + size) (after victim victim_size)
 
       topped_free : (victim victim_size : ℕ) → FreeMoves (state_of word heap) (state_of word (after victim victim_size)) (from ∷ (at + size) ∷ []) (from ∷ [])
       topped_free victim victim_size = free_moves sound (step victim victim_size) (from ∷ (at + size) ∷ []) (from ∷ []) in_less in_more
-          (λ k is. elim is [ inl same ↦ inl (inl same) | inr later ↦ elim later [ inl same ↦ inr (subst (λ (a : ℕ). IsThere a less) (sym same) right_there) | inr none ↦ absurd none ] ])
+          (λ k is. elim is [ inl same ↦ inl (inl same) | inr later ↦ elim later [ inl same ↦ inr (subst (λ a. IsThere a less) (sym same) right_there) | inr none ↦ absurd none ] ])
           (λ k is. elim is [ inl same ↦ inl (inl same) | inr none ↦ absurd none ])
 
       -- the top begins there
@@ -231,7 +231,7 @@ module _ {A : Type 0} {regions : A → List Grant} {word : A → ℕ → ℕ} {h
           victim ≡ victim_in heap.victim (extents_in (state_of word (after victim victim_size))) → Topped victim victim_size
       done {victim} victim_size named none left =
           let segments_are = read sound (step victim victim_size) ∙ sym state_segments in
-          let whole : victim ≡ victim_in heap.victim (extents_all (in_segments (freed_in at) segments)) = left ∙ ap (λ (ss : List Segment). victim_in heap.victim (extents_all ss)) segments_are in
+          let whole : victim ≡ victim_in heap.victim (extents_all (in_segments (freed_in at) segments)) = left ∙ ap (λ ss. victim_in heap.victim (extents_all ss)) segments_are in
           record {
             state = λ i. record { segments = segments_are i; victim = whole i; granularity = heap.granularity; rate = heap.rate; countdown = heap.countdown; trim_check = heap.trim_check };
             less = has_less sound (step victim victim_size) fewer;
@@ -239,12 +239,12 @@ module _ {A : Type 0} {regions : A → List Grant} {word : A → ℕ → ℕ} {h
             words = keeps_words sound (step victim victim_size);
             records = λ one is there. found_again sound (step victim victim_size) one.at (λ found. tails one.at one found is) there;
             free = topped_free victim victim_size;
-            joined = inl (refl, λ bytes free. (let no : Top ≡ Free = ap (λ (e : Extent). e.kind) (the_extent (sym (top_there victim victim_size) ∙ free)) in cc));
+            joined = inl (refl, λ bytes free. (let no : Top ≡ Free = ap (λ e. e.kind) (the_extent (sym (top_there victim victim_size) ∙ free)) in cc));
           }
 
       -- the victim went into it
       pub as_top_victim : from ≤ heap.victim → heap.victim < at + size → Topped 0 0
-      as_top_victim reached within = done 0 (λ some. absurd (some refl)) (λ none. refl) (sym (ap (λ (o : Option Extent). unwrap_or (option_map (λ (e : Extent). e.at) o) 0) gone))
+      as_top_victim reached within = done 0 (λ some. absurd (some refl)) (λ none. refl) (sym (ap (λ o. unwrap_or (option_map (λ e. e.at) o) 0) gone))
         where
           low : run.segment.base ≤ from
           low = tiles_le words Used run.segment.base run.first from run.first_stand
@@ -257,8 +257,8 @@ module _ {A : Type 0} {regions : A → List Grant} {word : A → ℕ → ℕ} {h
               ∙ has_none words (last_kind (last_kind Used run.first) less) end run.last (run.segment.base + run.segment.size) heap.victim (inl (omega arith)) run.last_stand
 
           gone : find (has heap.victim) (extents_all (segments_of word (after 0 0))) ≡ None
-          gone = ap (λ (ss : List Segment). find (has heap.victim) (extents_all ss)) (read sound (step 0 0))
-              ∙ (ap (λ (front : List Segment). find (has heap.victim) (extents_all (front ++ with_extents run.segment (run.first ++ (more ++ run.last)) ∷ run.back))) head_segment.0
+          gone = ap (λ ss. find (has heap.victim) (extents_all ss)) (read sound (step 0 0))
+              ∙ (ap (λ front. find (has heap.victim) (extents_all (front ++ with_extents run.segment (run.first ++ (more ++ run.last)) ∷ run.back))) head_segment.0
               ∙ (skip heap.victim (run.first ++ (more ++ run.last)) (extents_all run.back) here
               ∙ has_none_beside (regions heap.system) words run.segment run.back (all_back (IsSegment (regions heap.system) words) run.front (run.segment ∷ run.back) (subst (AreSegments (regions heap.system) words) run.is sound.segments)).1
               (back_apart run.front run.segment run.back (subst AreApart run.is sound.apart)) heap.victim (omega (arith, low, reached)) (omega (arith, high, within))))

@@ -29,7 +29,7 @@ module _ {A : Type 0} {regions : A → List Grant} {word : A → ℕ → ℕ} {h
   place = stands.0
 
   extents : run.segment.extents ≡ run.first ++ (chunk ∷ next.next ∷ next.rest)
-  extents = run.extents ∙ ap (λ (es : List Extent). run.first ++ (chunk ∷ es)) next.is
+  extents = run.extents ∙ ap (λ es. run.first ++ (chunk ∷ es)) next.is
 
   pub in_segment : extent_at next.next.at run.segment.extents ≡ Some next.next
   in_segment =
@@ -44,4 +44,4 @@ module _ {A : Type 0} {regions : A → List Grant} {word : A → ℕ → ℕ} {h
 
   -- a head does
   pub next_boundary : IsBoundary (state_of word heap) (at + size + 8)
-  next_boundary = record { extent = next.next; there = next_there; is = inl (ap (λ (a : ℕ). a + 8) (sym place)) }
+  next_boundary = record { extent = next.next; there = next_there; is = inl (ap (λ a. a + 8) (sym place)) }

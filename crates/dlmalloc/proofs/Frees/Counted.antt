@@ -25,7 +25,7 @@ found_by at (first ∷ extents) one distinct there = go (has at first) refl ther
     go : (b : Bool) → has at first ≡ b → (if b then Some first else find (has at) extents) ≡ Some one → (find (has at) extents ≡ Some one → IsFoundBy at extents one) → IsFoundBy at (first ∷ extents) one
     go true test same later =
         let is : first ≡ one = the_extent same in
-        record { there = subst (λ (e : Extent). extent_at e.at (first ∷ extents) ≡ Some e) is (found_here first extents); has_it = subst (λ (e : Extent). has at e ≡ true) is test }
+        record { there = subst (λ e. extent_at e.at (first ∷ extents) ≡ Some e) is (found_here first extents); has_it = subst (λ e. has at e ≡ true) is test }
     go false test found later = (let l = later found in record { there = distinct_later (first ∷ []) extents one.at distinct l.there; has_it = l.has_it })
 
 module _ {A : Type 0} {regions : A → List Grant} {word : A → ℕ → ℕ} {heap : Dlmalloc A} (sound : IsSound regions word heap) {at from : ℕ} (around : IsFreeAround (state_of word heap) at from) where
@@ -36,7 +36,7 @@ module _ {A : Type 0} {regions : A → List Grant} {word : A → ℕ → ℕ} {h
   place = around.place
 
   there : extent_at one.at (extents_all (segments_of word heap)) ≡ Some one
-  there = subst (λ (a : ℕ). extent_at a (extents_all (segments_of word heap)) ≡ Some one) (sym place) around.there
+  there = subst (λ a. extent_at a (extents_all (segments_of word heap)) ≡ Some one) (sym place) around.there
 
   pub some : 0 < heap.size
   some = some_segment word heap one.at there
@@ -76,8 +76,8 @@ module _ {A : Type 0} {regions : A → List Grant} {word : A → ℕ → ℕ} {h
   not_top : one.kind ≡ Free → from ≢ heap.top
   not_top is same =
       let top = top_among sound some in
-      let both : Some one ≡ Some (extent heap.top heap.top_size Top) = sym there ∙ (ap (λ (a : ℕ). extent_at a (extents_all (segments_of word heap))) (place ∙ same) ∙ top) in
-      let no : Free ≡ Top = sym is ∙ ap (λ (e : Extent). e.kind) (the_extent both) in
+      let both : Some one ≡ Some (extent heap.top heap.top_size Top) = sym there ∙ (ap (λ a. extent_at a (extents_all (segments_of word heap))) (place ∙ same) ∙ top) in
+      let no : Free ≡ Top = sym is ∙ ap (λ e. e.kind) (the_extent both) in
       cc
 
   -- no extent that is not the top has a byte of it
@@ -95,32 +95,32 @@ module _ {A : Type 0} {regions : A → List Grant} {word : A → ℕ → ℕ} {h
         where
           differ : (other : Extent) → IsFoundBy at (extents_all (segments_of word heap)) other → one.at ≢ other.at
           differ other f same =
-              let both : Some one ≡ Some other = sym there ∙ (ap (λ (a : ℕ). extent_at a (extents_all (segments_of word heap))) same ∙ f.there) in
-              let kind : is_free_below_top other.kind ≡ false = ap (λ (e : Extent). is_free_below_top e.kind) (sym (the_extent both)) ∙ ap is_free_below_top is in
+              let both : Some one ≡ Some other = sym there ∙ (ap (λ a. extent_at a (extents_all (segments_of word heap))) same ∙ f.there) in
+              let kind : is_free_below_top other.kind ≡ false = ap (λ e. is_free_below_top e.kind) (sym (the_extent both)) ∙ ap is_free_below_top is in
               let h = f.has_it in
               grind (arith, nat_tests)
 
   -- so its head tells whether it counts
   counted_told : {b : Bool} → b ≡ (not (from == heap.top) && (not (from == heap.victim) && nat_le 256 (size_of (word heap.system (from + 8))))) → b ≡ is_counted (state_of word heap) at
   counted_told b_is = b_is ∙ elim (kinds one.kind refl) [
-    | inl is ↦ (let same : (from == heap.top) ≡ true = ap (λ (n : ℕ). n == heap.top) (top_place is) ∙ nat_same heap.top in
-        ap (λ (c : Bool). not c && (not (from == heap.victim) && nat_le 256 (size_of (word heap.system (from + 8))))) same ∙ sym (none_plain is))
+    | inl is ↦ (let same : (from == heap.top) ≡ true = ap (λ n. n == heap.top) (top_place is) ∙ nat_same heap.top in
+        ap (λ c. not c && (not (from == heap.victim) && nat_le 256 (size_of (word heap.system (from + 8))))) same ∙ sym (none_plain is))
     | inr is ↦ (let other : (from == heap.top) ≡ false = (let n = not_top is in grind (arith, nat_tests)) in
         let found = has_in (regions heap.system) (word heap.system) (segments_of word heap) sound.segments sound.apart at there is (omega (arith, around.low, place)) (omega (arith, around.high, place)) in
-        let size : size_of (word heap.system (from + 8)) ≡ one.size = ap (λ (a : ℕ). size_of (word heap.system (a + 8))) (sym place) ∙ ap (λ (e : Extent). e.size) (told (inr is) is_in.stands) in
-        ap (λ (c : Bool). not c && (not (from == heap.victim) && nat_le 256 (size_of (word heap.system (from + 8))))) other
+        let size : size_of (word heap.system (from + 8)) ≡ one.size = ap (λ a. size_of (word heap.system (a + 8))) (sym place) ∙ ap (λ e. e.size) (told (inr is) is_in.stands) in
+        ap (λ c. not c && (not (from == heap.victim) && nat_le 256 (size_of (word heap.system (from + 8))))) other
         ∙ ((λ i. not (sym place i == heap.victim) && nat_le 256 (size i)) ∙ sym (counts_some found is)))
   ]
     where
       counts_some : find (has at) (extents_all (segments_of word heap)) ≡ Some one → one.kind ≡ Free → is_counted (state_of word heap) at ≡ (not (one.at == heap.victim) && nat_le 256 one.size)
-      counts_some found is = ap (is_large_binned (state_of word heap)) found ∙ ap (λ (plain : Bool). (plain && not (one.at == heap.victim)) && nat_le 256 one.size) (ap is_free_below_top is)
+      counts_some found is = ap (is_large_binned (state_of word heap)) found ∙ ap (λ plain. (plain && not (one.at == heap.victim)) && nat_le 256 one.size) (ap is_free_below_top is)
 
   -- not where it is the top, nor where it is the victim
   pub top_told : from ≡ heap.top → false ≡ is_counted (state_of word heap) at
-  top_told is = counted_told (sym (ap (λ (b : Bool). not b && (not (from == heap.victim) && nat_le 256 (size_of (word heap.system (from + 8))))) same))
+  top_told is = counted_told (sym (ap (λ b. not b && (not (from == heap.victim) && nat_le 256 (size_of (word heap.system (from + 8))))) same))
     where
       same : (from == heap.top) ≡ true
-      same = ap (λ (n : ℕ). n == heap.top) is ∙ nat_same heap.top
+      same = ap (λ n. n == heap.top) is ∙ nat_same heap.top
 
   other_top : from ≢ heap.top → (from == heap.top) ≡ false
   other_top other = grind (arith, nat_tests)
@@ -129,11 +129,11 @@ module _ {A : Type 0} {regions : A → List Grant} {word : A → ℕ → ℕ} {h
   victim_told other is = counted_told (sym (λ i. not (other_top other i) && (not (same i) && nat_le 256 (size_of (word heap.system (from + 8))))))
     where
       same : (from == heap.victim) ≡ true
-      same = ap (λ (n : ℕ). n == heap.victim) is ∙ nat_same heap.victim
+      same = ap (λ n. n == heap.victim) is ∙ nat_same heap.victim
 
   -- else by its size
   pub size_told : from ≢ heap.top → from ≢ heap.victim → {size : ℕ} → size ≡ size_of (word heap.system (from + 8)) → nat_le 256 size ≡ is_counted (state_of word heap) at
-  size_told other differs is = counted_told (ap (λ (n : ℕ). nat_le 256 n) is
+  size_told other differs is = counted_told (ap (λ n. nat_le 256 n) is
       ∙ sym (λ i. not (other_top other i) && (not (apart i) && nat_le 256 (size_of (word heap.system (from + 8))))))
     where
       apart : (from == heap.victim) ≡ false
@@ -150,21 +150,21 @@ module _ {A : Type 0} {regions : A → List Grant} {word : A → ℕ → ℕ} (f
   counts = is_counted (state_of word old) at
 
   gone_none : (counts && nat_le old.countdown 1) ≡ false → left_by_count frees parts (state_of word old) at ≡ []
-  gone_none none = ap (λ (b : Bool). if b then taken_back frees (handed_out parts (segments_of word old)) else []) none
+  gone_none none = ap (λ b. if b then taken_back frees (handed_out parts (segments_of word old)) else []) none
 
   -- nothing does
   pub counted_none : counts ≡ false → IsCounted regions word follows frees parts old at old
   counted_none none =
-      let gone = gone_none (ap (λ (b : Bool). b && nat_le old.countdown 1) none) in
+      let gone = gone_none (ap (λ b. b && nat_le old.countdown 1) none) in
       record {
-        state = sym (ap (λ (b : Bool). if b then (if nat_le old.countdown 1 then passed frees parts (state_of word old) else record (state_of word old) { countdown = old.countdown - 1 }) else state_of word old) none);
+        state = sym (ap (λ b. if b then (if nat_le old.countdown 1 then passed frees parts (state_of word old) else record (state_of word old) { countdown = old.countdown - 1 }) else state_of word old) none);
         sound = sound;
         used = record { still = λ used is there. there; before = λ used is there. there };
         kept = same_words (extents_in (state_of word old)) (word old.system);
         words = λ k inside was out. refl;
-        index = λ b. (b, λ n. sym (ap (λ (c : Bool). (if c && nat_le old.countdown 1 then after_pass frees parts (segments_of word old) b.index else b.index) n) none));
-        regions_are = sym (ap (λ (segments : List Segment). regions_without segments (regions old.system)) gone);
-        followed = subst (λ (segments : List Segment). follows old.system (releases segments) old.system) (sym gone) (follows_none old.system);
+        index = λ b. (b, λ n. sym (ap (λ c. (if c && nat_le old.countdown 1 then after_pass frees parts (segments_of word old) b.index else b.index) n) none));
+        regions_are = sym (ap (λ segments. regions_without segments (regions old.system)) gone);
+        followed = subst (λ segments. follows old.system (releases segments) old.system) (sym gone) (follows_none old.system);
       }
 
   -- the countdown falls
@@ -178,8 +178,8 @@ module _ {A : Type 0} {regions : A → List Grant} {word : A → ℕ → ℕ} (f
         kept = same_words (extents_in (state_of word old)) (word old.system);
         words = λ k inside was out. refl;
         index = λ b. (same_bins (old.countdown - 1) b, λ n. sym (λ i. (if is i && more i then after_pass frees parts (segments_of word old) b.index else b.index) n));
-        regions_are = sym (ap (λ (segments : List Segment). regions_without segments (regions old.system)) gone);
-        followed = subst (λ (segments : List Segment). follows old.system (releases segments) old.system) (sym gone) (follows_none old.system);
+        regions_are = sym (ap (λ segments. regions_without segments (regions old.system)) gone);
+        followed = subst (λ segments. follows old.system (releases segments) old.system) (sym gone) (follows_none old.system);
       }
 
   -- it ended, and a pass was made
@@ -194,6 +194,6 @@ module _ {A : Type 0} {regions : A → List Grant} {word : A → ℕ → ℕ} (f
         kept = p.kept;
         words = p.words;
         index = λ b. (let a = p.index b in (a.0, λ n. a.1 n ∙ sym (λ i. (if is i && ends i then after_pass frees parts (segments_of word old) b.index else b.index) n)));
-        regions_are = p.regions_are ∙ sym (ap (λ (segments : List Segment). regions_without segments (regions old.system)) gone);
-        followed = subst (λ (segments : List Segment). follows old.system (releases segments) new.system) (sym gone) p.followed;
+        regions_are = p.regions_are ∙ sym (ap (λ segments. regions_without segments (regions old.system)) gone);
+        followed = subst (λ segments. follows old.system (releases segments) new.system) (sym gone) p.followed;
       }

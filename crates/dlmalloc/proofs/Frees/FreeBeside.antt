@@ -18,7 +18,7 @@ one_free : (extent : Extent) → extent.kind ≡ Free → AllFree (extent ∷ []
 one_free extent free k one there = go (extent.at == k) there
   where
     go : (b : Bool) → (if b then Some extent else None) ≡ Some one → one.kind ≡ Free
-    go true is = ap (λ (o : Option Extent). (unwrap_or o extent).kind) (sym is) ∙ free
+    go true is = ap (λ o. (unwrap_or o extent).kind) (sym is) ∙ free
     go false is = absurd (cc)
 
 -- ---- what is found among them
@@ -27,7 +27,7 @@ pub the_one : (k : ℕ) (one : Extent) {other : Extent} → extent_at k (one ∷
 the_one k one {other} there = go (one.at == k) there
   where
     go : (b : Bool) → (if b then Some one else None) ≡ Some other → one ≡ other
-    go true is = ap (λ (o : Option Extent). unwrap_or o one) is
+    go true is = ap (λ o. unwrap_or o one) is
     go false is = absurd (cc)
 
 -- one that is joined begins where they do
@@ -42,8 +42,8 @@ beside_place words before from (extent ∷ next ∷ extents) to beside h k there
 
 -- where extents begin, one does
 pub first_there : (words : ℕ → ℕ) (before : Kind) (from : ℕ) (extents : List Extent) (next : Extent) (to : ℕ) → Tiles words before from (extents ++ next ∷ []) to → (one : Extent) × (extent_at from (extents ++ next ∷ []) ≡ Some one)
-first_there words before from [] next to h = (next, subst (λ (a : ℕ). extent_at a (next ∷ []) ≡ Some next) h.0 (found_here next []))
-first_there words before from (extent ∷ extents) next to h = (extent, subst (λ (a : ℕ). extent_at a (extent ∷ (extents ++ next ∷ [])) ≡ Some extent) h.0 (found_here extent (extents ++ next ∷ [])))
+first_there words before from [] next to h = (next, subst (λ a. extent_at a (next ∷ []) ≡ Some next) h.0 (found_here next []))
+first_there words before from (extent ∷ extents) next to h = (extent, subst (λ a. extent_at a (extent ∷ (extents ++ next ∷ [])) ≡ Some extent) h.0 (found_here extent (extents ++ next ∷ [])))
 
 -- the extents before one at an address: those that stay, and the free one that is joined, if there is one
 pub record Left (words : ℕ → ℕ) (base : ℕ) (extents : List Extent) (at from : ℕ) : Type 0 where
@@ -64,12 +64,12 @@ pub record LastOf (extents : List Extent) : Type 0 where
 
 last_of : (first : Extent) (extents : List Extent) → LastOf (first ∷ extents)
 last_of first [] = record { front = []; last = first; is = refl }
-last_of first (next ∷ extents) = let rest = last_of next extents in record { front = first ∷ rest.front; last = rest.last; is = ap (λ (es : List Extent). first ∷ es) rest.is }
+last_of first (next ∷ extents) = let rest = last_of next extents in record { front = first ∷ rest.front; last = rest.last; is = ap (λ es. first ∷ es) rest.is }
 
 pub left_of : (words : ℕ → ℕ) (base : ℕ) (extents : List Extent) (at : ℕ) → Tiles words Used base extents at → IsChunkKind (last_kind Used extents) →
     Left words base extents at (if is_used (last_kind Used extents) then at else at - words at)
 left_of words base extents at h (inl used) =
-    subst (λ (f : ℕ). Left words base extents at f) (ap (λ (k : Kind). if is_used k then at else at - words at) (sym used)) (record {
+    subst (λ f. Left words base extents at f) (ap (λ k. if is_used k then at else at - words at) (sym used)) (record {
       front = extents;
       lefts = [];
       is = sym (append-nil extents);
@@ -83,23 +83,23 @@ left_of words base extents at h (inl used) =
 left_of words base [] at h (inr free) = absurd (cc)
 left_of words base (first ∷ more) at h (inr free) =
     let l = last_of first more in
-    let s = tiles_split words Used base l.front (l.last ∷ []) at (subst (λ (es : List Extent). Tiles words Used base es at) l.is h) in
+    let s = tiles_split words Used base l.front (l.last ∷ []) at (subst (λ es. Tiles words Used base es at) l.is h) in
     let kind : l.last.kind ≡ Free = sym (last_append Used l.front (l.last ∷ [])) ∙ (ap (last_kind Used) (sym l.is) ∙ free) in
     let place : l.last.at ≡ s.middle = s.second.0 in
     let ends : s.middle + l.last.size ≡ at = s.second.2 in
-    let foot : words (l.last.at + l.last.size) ≡ l.last.size = s.second.1.foot (subst (λ (k : Kind). IsTrue (is_free_below_top k)) (sym kind) refl) in
+    let foot : words (l.last.at + l.last.size) ≡ l.last.size = s.second.1.foot (subst (λ k. IsTrue (is_free_below_top k)) (sym kind) refl) in
     let here : l.last.at + l.last.size ≡ at = omega arith in
     let size : words at ≡ l.last.size = ap words (sym here) ∙ foot in
     let from : s.middle ≡ at - words at = omega arith in
     let used : last_kind Used l.front ≡ Used = subst (MayStand (last_kind Used l.front)) kind s.second.1.kind in
-    subst (λ (f : ℕ). Left words base (first ∷ more) at f) (from ∙ ap (λ (k : Kind). if is_used k then at else at - words at) (sym free)) (record {
+    subst (λ f. Left words base (first ∷ more) at f) (from ∙ ap (λ k. if is_used k then at else at - words at) (sym free)) (record {
       front = l.front;
       lefts = l.last ∷ [];
       is = l.is;
       beside = ap is_free kind;
       used = used;
       front_stand = s.first;
-      lefts_stand = subst (λ (k : Kind). Tiles words k s.middle (l.last ∷ []) at) used s.second;
+      lefts_stand = subst (λ k. Tiles words k s.middle (l.last ∷ []) at) used s.second;
       free = one_free l.last kind;
       none = (let unused = ap is_used kind in rw unused refl);
     })
@@ -116,12 +116,12 @@ module _ (regions : List Grant) (words : ℕ → ℕ) (segments : List Segment) 
     is = r.is;
     first = l.front;
     last = r.last;
-    extents = r.extents ∙ (ap (λ (es : List Extent). es ++ (run ++ r.last)) l.is ∙ (append_assoc l.front l.lefts (run ++ r.last) ∙ ap (λ (es : List Extent). l.front ++ es) (sym (append_assoc l.lefts run r.last))));
+    extents = r.extents ∙ (ap (λ es. es ++ (run ++ r.last)) l.is ∙ (append_assoc l.front l.lefts (run ++ r.last) ∙ ap (λ es. l.front ++ es) (sym (append_assoc l.lefts run r.last))));
     first_stand = l.front_stand;
-    here = tiles_append words (last_kind Used l.front) from l.lefts run at to (subst (λ (k : Kind). Tiles words k from l.lefts at) (sym l.used) l.lefts_stand)
-        (subst (λ (k : Kind). Tiles words k at run to) (ap (last_kind Used) l.is ∙ last_append Used l.front l.lefts) r.here);
-    last_stand = subst (λ (k : Kind). Tiles words k to r.last (r.segment.base + r.segment.size))
-        (ap (λ (k : Kind). last_kind k run) (ap (last_kind Used) l.is ∙ last_append Used l.front l.lefts) ∙ sym (last_append (last_kind Used l.front) l.lefts run)) r.last_stand;
+    here = tiles_append words (last_kind Used l.front) from l.lefts run at to (subst (λ k. Tiles words k from l.lefts at) (sym l.used) l.lefts_stand)
+        (subst (λ k. Tiles words k at run to) (ap (last_kind Used) l.is ∙ last_append Used l.front l.lefts) r.here);
+    last_stand = subst (λ k. Tiles words k to r.last (r.segment.base + r.segment.size))
+        (ap (λ k. last_kind k run) (ap (last_kind Used) l.is ∙ last_append Used l.front l.lefts) ∙ sym (last_append (last_kind Used l.front) l.lefts run)) r.last_stand;
     some = (let s = r.some in let low = tiles_le words Used from l.lefts at l.lefts_stand in omega arith);
   }
 
@@ -157,9 +157,9 @@ module _ (regions : List Grant) {words : ℕ → ℕ} {segments : List Segment} 
       let whole = told_whole next_one.next.kind next_one.next.size stand.1.size in
       let told_size = told_size next_one.next.kind next_one.next.size in
       let head : words (at + size + 8) ≡ head_of told_size true true =
-      ap (λ (a : ℕ). words (a + 8)) (sym stand.0) ∙ (stand.1.head ∙ ap (λ (u : Bool). head_of told_size true u) (used_ends next_one.next.kind kind)) in
+      ap (λ a. words (a + 8)) (sym stand.0) ∙ (stand.1.head ∙ ap (λ u. head_of told_size true u) (used_ends next_one.next.kind kind)) in
       let told : free_of (words (at + size + 8)) ≡ false = ap free_of head ∙ rw (pinuse_of-head_of told_size true true whole, cinuse_of-head_of told_size true true whole) refl in
-      subst (λ (t : ℕ). Right words segments at size t) (ap (λ (b : Bool). if b then at + size + size_of (words (at + size + 8)) else at + size) (sym told)) (record {
+      subst (λ t. Right words segments at size t) (ap (λ b. if b then at + size + size_of (words (at + size + 8)) else at + size) (sym told)) (record {
         rights = [];
         next = next_one.next;
         run = with_next regions parts r next_one;
@@ -181,17 +181,17 @@ module _ (regions : List Grant) {words : ℕ → ℕ} {segments : List Segment} 
       let run = with_next regions parts r next_one in
       let n = has_next regions parts run (ap ends_segment free) in
       let b = behind regions parts run n in
-      let kind = behind_free n.next.kind (subst (λ (k : Kind). MayStand k n.next.kind) free b.1.kind) in
+      let kind = behind_free n.next.kind (subst (λ k. MayStand k n.next.kind) free b.1.kind) in
       let whole = told_whole q.kind q.size stand.1.size in
-      let is_size : told_size q.kind q.size ≡ q.size = ap (λ (k : Kind). told_size k q.size) free in
-      let sized : q.size % 8 ≡ 0 = subst (λ (n : ℕ). n % 8 ≡ 0) is_size whole in
+      let is_size : told_size q.kind q.size ≡ q.size = ap (λ k. told_size k q.size) free in
+      let sized : q.size % 8 ≡ 0 = subst (λ n. n % 8 ≡ 0) is_size whole in
       let head : words (at + size + 8) ≡ head_of q.size true false =
-      ap (λ (a : ℕ). words (a + 8)) (sym stand.0) ∙ (stand.1.head ∙ ((λ i. head_of (is_size i) true (is_used (free i))))) in
+      ap (λ a. words (a + 8)) (sym stand.0) ∙ (stand.1.head ∙ ((λ i. head_of (is_size i) true (is_used (free i))))) in
       let told : free_of (words (at + size + 8)) ≡ true = ap free_of head ∙ rw (pinuse_of-head_of q.size true false sized, cinuse_of-head_of q.size true false sized) refl in
       let bytes : size_of (words (at + size + 8)) ≡ q.size = ap size_of head ∙ size_of-head_of q.size true false sized in
       let unused : is_used q.kind ≡ false = ap is_used free in
-      let ends : at + size + q.size ≡ end_of words (at + size) = ap (λ (n : ℕ). at + size + n) (sym bytes) ∙ ap (λ (b : Bool). if b then at + size + size_of (words (at + size + 8)) else at + size) (sym told) in
-      subst (λ (t : ℕ). Right words segments at size t) ends (record {
+      let ends : at + size + q.size ≡ end_of words (at + size) = ap (λ n. at + size + n) (sym bytes) ∙ ap (λ b. if b then at + size + size_of (words (at + size + 8)) else at + size) (sym told) in
+      subst (λ t. Right words segments at size t) ends (record {
         rights = q ∷ [];
         next = n.next;
         run = with_next regions parts run n;
@@ -207,7 +207,7 @@ module _ (regions : List Grant) {words : ℕ → ℕ} {segments : List Segment} 
         told = λ more.
             let t = told_size n.next.kind n.next.size in
             let head_next : words (at + size + q.size + 8) ≡ head_of t false (is_used n.next.kind) =
-            ap (λ (a : ℕ). words (a + 8)) (sym b.0) ∙ (b.1.head ∙ ap (λ (u : Bool). head_of t u (is_used n.next.kind)) unused) in
+            ap (λ a. words (a + 8)) (sym b.0) ∙ (b.1.head ∙ ap (λ u. head_of t u (is_used n.next.kind)) unused) in
             ap pinuse_of head_next ∙ pinuse_of-head_of t false (is_used n.next.kind) (told_whole n.next.kind n.next.size b.1.size);
       })
 

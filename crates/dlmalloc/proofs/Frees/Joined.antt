@@ -14,7 +14,7 @@ module _ (regions : List Grant) (old new : ℕ → ℕ) (from : ℕ) (less : Lis
   join to {kind} next whole room touch behind is less_stand stored granted =
       let sum : from + (to - from) ≡ to = omega arith in
       let heads : new (to + 8) ≡ without_pinuse (old (to + 8)) =
-      subst (λ (a : ℕ). new (a + 8) ≡ without_pinuse (old (a + 8))) sum (stored.here.0 ((λ is. omega arith), ((λ is. omega arith), tt))) in
+      subst (λ a. new (a + 8) ≡ without_pinuse (old (a + 8))) sum (stored.here.0 ((λ is. omega arith), ((λ is. omega arith), tt))) in
       record {
         less_stand = less_stand;
         more_stand = (
@@ -30,11 +30,11 @@ module _ (regions : List Grant) (old new : ℕ → ℕ) (from : ℕ) (less : Lis
           (
             touch ∙ sym sum,
             rehung new Free behind is (may_stand next.kind Free is (inr refl))
-                (subst (λ (a : ℕ). new (a + 8) ≡ head_of (told_size next.kind next.size) false (is_used next.kind)) (sym touch)
-                (heads ∙ (ap (λ (a : ℕ). without_pinuse (old (a + 8))) (sym touch)
+                (subst (λ a. new (a + 8) ≡ head_of (told_size next.kind next.size) false (is_used next.kind)) (sym touch)
+                (heads ∙ (ap (λ a. without_pinuse (old (a + 8))) (sym touch)
                 ∙ (ap without_pinuse behind.head ∙ without_pinuse-head_of (told_size next.kind next.size) (is_used kind) (is_used next.kind) (told_whole next.kind next.size behind.size)))))
                 (λ k low high m. stored.elsewhere k (granted k (omega arith) high m) ((λ is. omega arith), ((λ is. omega arith), ((λ is. omega arith), tt)))),
-            ap (λ (a : ℕ). a + next.size) sum,
+            ap (λ a. a + next.size) sum,
           ),
         );
         kept = λ k word more. stored.elsewhere k word

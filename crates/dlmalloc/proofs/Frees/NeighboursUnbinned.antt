@@ -27,7 +27,7 @@ pub told_stays : {A : Type 0} {regions : A → List Grant} (word : A → ℕ →
 told_stays word heap sound at size there granted new only k low high inside = only k inside (λ f n free. out f n free (same_or_beside sound free there))
   where
     out : (f n : ℕ) → IsFreeAt (state_of word heap) f n → (extent at size Used ≡ extent f n Free) ⊎ ((at + size ≤ f) ⊎ (f + n ≤ at)) → (k < f + 16) ⊎ (f + n ≤ k)
-    out f n free (inl same) = absurd (let no : Used ≡ Free = ap (λ (e : Extent). e.kind) same in cc)
+    out f n free (inl same) = absurd (let no : Used ≡ Free = ap (λ e. e.kind) same in cc)
     out f n free (inr (inl before)) = inl (omega arith)
     out f n free (inr (inr behind)) = inr (omega arith)
 
@@ -37,7 +37,7 @@ whole_beside words before from [] to beside free h some = absurd (omega (arith, 
 whole_beside words before from (one ∷ []) to beside free h some =
     let place : one.at ≡ from = h.0 in
     let long : one.size ≡ to - from = (let end : from + one.size ≡ to = h.2 in omega arith) in
-    let here : extent_at from (one ∷ []) ≡ Some one = subst (λ (a : ℕ). extent_at a (one ∷ []) ≡ Some one) place (found_here one []) in
+    let here : extent_at from (one ∷ []) ≡ Some one = subst (λ a. extent_at a (one ∷ []) ≡ Some one) place (found_here one []) in
     let kind : one.kind ≡ Free = free from one here in
     here ∙ (λ i. Some (extent (place i) (long i) (kind i)))
 whole_beside words before from (one ∷ next ∷ extents) to beside free h some = absurd beside
@@ -49,10 +49,10 @@ module _ {A : Type 0} {regions : A → List Grant} {word : A → ℕ → ℕ} {h
 
   -- the chunk itself is not free
   pub not_free : {n : ℕ} → IsFreeAt (state_of word heap) at n → ⊥
-  not_free free = (let no : Used ≡ Free = ap (λ (e : Extent). e.kind) (the_extent (sym there ∙ free)) in cc)
+  not_free free = (let no : Used ≡ Free = ap (λ e. e.kind) (the_extent (sym there ∙ free)) in cc)
 
   pub left_none : at ≤ from → (n : ℕ) → IsFreeAt (state_of word heap) from n → ⊥
-  left_none low n free = (let same : from ≡ at = (let le = from_at sound there from_is in omega arith) in not_free (subst (λ (a : ℕ). IsFreeAt (state_of word heap) a n) same free))
+  left_none low n free = (let same : from ≡ at = (let le = from_at sound there from_is in omega arith) in not_free (subst (λ a. IsFreeAt (state_of word heap) a n) same free))
 
   pub left_free : from < at → IsFreeAt (state_of word heap) from (at - from)
   left_free some =
@@ -66,14 +66,14 @@ module _ {A : Type 0} {regions : A → List Grant} {word : A → ℕ → ℕ} {h
 
   module _ {to : ℕ} (to_is : to ≡ (if at + size == heap.top then at + size else if free_of (word heap.system (at + size + 8)) then at + size + size_of (word heap.system (at + size + 8)) else at + size)) where
     by_top : {b : Bool} → (at + size == heap.top) ≡ b → to ≡ (if b then at + size else end_of words (at + size))
-    by_top {b} is = to_is ∙ ap (λ (b : Bool). if b then at + size else end_of words (at + size)) is
+    by_top {b} is = to_is ∙ ap (λ b. if b then at + size else end_of words (at + size)) is
 
     -- at the top nothing is free behind it
     top_behind : at + size ≡ heap.top → 0 < heap.size → (n : ℕ) → IsFreeAt (state_of word heap) (at + size) n → ⊥
     top_behind is some n free =
         let top = top_among sound some in
-        let here : extent_at heap.top (extents_in (state_of word heap)) ≡ Some (extent (at + size) n Free) = subst (λ (a : ℕ). extent_at a (extents_in (state_of word heap)) ≡ Some (extent (at + size) n Free)) is free in
-        (let no : Free ≡ Top = ap (λ (e : Extent). e.kind) (the_extent (sym here ∙ top)) in cc)
+        let here : extent_at heap.top (extents_in (state_of word heap)) ≡ Some (extent (at + size) n Free) = subst (λ a. extent_at a (extents_in (state_of word heap)) ≡ Some (extent (at + size) n Free)) is free in
+        (let no : Free ≡ Top = ap (λ e. e.kind) (the_extent (sym here ∙ top)) in cc)
 
     module _ (some : 0 < heap.size) (goes_on : at + size ≢ heap.top) where
       abbrev r : Right words (segments_of word heap) at size to
@@ -93,7 +93,7 @@ module _ {A : Type 0} {regions : A → List Grant} {word : A → ℕ → ℕ} {h
           let ends : s.middle ≡ to = sym s.second.0 ∙ r.place in
           behind (at + size) (omega arith)
           (found_more (at + size) r.rights (r.next ∷ [])
-          (whole_beside words Used (at + size) r.rights to r.beside r.free (subst (λ (m : ℕ). Tiles words Used (at + size) r.rights m) ends s.first) more))
+          (whole_beside words Used (at + size) r.rights to r.beside r.free (subst (λ m. Tiles words Used (at + size) r.rights m) ends s.first) more))
 
       behind_none : to ≤ at + size → (n : ℕ) → IsFreeAt (state_of word heap) (at + size) n → ⊥
       behind_none less n free =
@@ -103,7 +103,7 @@ module _ {A : Type 0} {regions : A → List Grant} {word : A → ℕ → ℕ} {h
           let ends : s.middle ≡ to = sym s.second.0 ∙ r.place in
           let next : extent_at (at + size) (r.next ∷ []) ≡ Some f.0 =
           sym (found_later (at + size) r.rights (r.next ∷ []) (none_outside words Used (at + size) r.rights s.middle (at + size) (inr (omega arith)) s.first)) ∙ f.1 in
-          let kind : r.next.kind ≡ Free = ap (λ (e : Extent). e.kind) (the_one (at + size) r.next next ∙ same) in
+          let kind : r.next.kind ≡ Free = ap (λ e. e.kind) (the_one (at + size) r.next next ∙ same) in
           elim (r.kind) [ inl used ↦ (let no : Used ≡ Free = sym used ∙ kind in cc) | inr tail ↦ (let no : Record ≡ Free = sym tail ∙ kind in cc) ]
 
     pub right_free : 0 < heap.size → at + size < to → IsFreeAt (state_of word heap) (at + size) (to - (at + size))
@@ -130,7 +130,7 @@ module _ {A : Type 0} {regions : A → List Grant} {word : A → ℕ → ℕ} {h
         behind_left : at ≤ k
         behind_left = elim (dec_lt from at) [
           | yes more ↦ elim (same_or_beside sound (left_free more) free) [
-            | inl same ↦ absurd (out (inl (ap (λ (e : Extent). e.at) same)))
+            | inl same ↦ absurd (out (inl (ap (λ e. e.at) same)))
             | inr beside ↦ elim beside [ inl before ↦ absurd (omega (arith, before, low, long)) | inr after ↦ omega (arith, after, more) ]
           ]
           | no none ↦ omega (arith, none, low)
@@ -138,13 +138,13 @@ module _ {A : Type 0} {regions : A → List Grant} {word : A → ℕ → ℕ} {h
 
         behind_chunk : at + size ≤ k
         behind_chunk = elim (same_or_beside sound free there) [
-          | inl same ↦ absurd (let no : Used ≡ Free = ap (λ (e : Extent). e.kind) same in cc)
+          | inl same ↦ absurd (let no : Used ≡ Free = ap (λ e. e.kind) same in cc)
           | inr beside ↦ elim beside [ inl before ↦ before | inr after ↦ absurd (omega (arith, after, behind_left, long)) ]
         ]
 
         right_of_it : ⊥
         right_of_it = elim (same_or_beside sound (right_free some (omega (arith, behind_chunk, high))) free) [
-          | inl same ↦ out (inr (inl (ap (λ (e : Extent). e.at) same)))
+          | inl same ↦ out (inr (inl (ap (λ e. e.at) same)))
           | inr beside ↦ elim beside [ inl before ↦ omega (arith, before, behind_chunk, long) | inr after ↦ omega (arith, after, behind_chunk, high) ]
         ]
 

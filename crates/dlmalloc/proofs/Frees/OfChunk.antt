@@ -55,7 +55,7 @@ module _ {A : Type 0} {regions : A → List Grant} {word : A → ℕ → ℕ} {h
   module _ (no_top : (next_one (regions heap.system) sound.segments run_one).next.kind ≢ Top) {from : ℕ} (from_is : from ≡ (if pinuse_of (words (at + 8)) then at else at - words at))
       {to : ℕ} (to_is : to ≡ end_of words (at + size)) where
     pub right : Right words segments at size to
-    right = subst (λ (t : ℕ). Right words segments at size t) (sym to_is) (right_of (regions heap.system) sound.segments run_one no_top)
+    right = subst (λ t. Right words segments at size t) (sym to_is) (right_of (regions heap.system) sound.segments run_one no_top)
 
     stands : HasChunk words (last_kind Used right.run.first) chunk
     stands = right.run.here.1
@@ -64,7 +64,7 @@ module _ {A : Type 0} {regions : A → List Grant} {word : A → ℕ → ℕ} {h
     left =
         let whole : size % 8 ≡ 0 = (let w = stands.size.0 in omega arith) in
         let told : pinuse_of (words (at + 8)) ≡ is_used (last_kind Used right.run.first) = ap pinuse_of stands.head ∙ pinuse_of-head_of size (is_used (last_kind Used right.run.first)) true whole in
-        subst (λ (f : ℕ). Left words right.run.segment.base right.run.first at f) (ap (λ (b : Bool). if b then at else at - words at) (sym told) ∙ sym from_is)
+        subst (λ f. Left words right.run.segment.base right.run.first at f) (ap (λ b. if b then at else at - words at) (sym told) ∙ sym from_is)
         (left_of words right.run.segment.base right.run.first at right.run.first_stand stands.kind)
 
     abbrev pub next : Extent
@@ -134,7 +134,7 @@ module _ {A : Type 0} {regions : A → List Grant} {word : A → ℕ → ℕ} {h
         kind_one is = go (at == k) is
           where
             go : (b : Bool) → (if b then Some chunk else None) ≡ Some one → one.kind ≡ Used
-            go true same = ap (λ (o : Option Extent). (unwrap_or o chunk).kind) (sym same)
+            go true same = ap (λ o. (unwrap_or o chunk).kind) (sym same)
             go false same = absurd (cc)
 
         in_more : extent_at k (next ∷ []) ≡ Some one → extent_at k more ≡ Some one
@@ -193,8 +193,8 @@ module _ {A : Type 0} {regions : A → List Grant} {word : A → ℕ → ℕ} {h
     -- so it does not end at the top
     pub below_top : to ≢ heap.top
     below_top is =
-        let top = the_top sound run.front run.segment run.back run.is (ap (λ (k : ℕ). extent_at k run.segment.extents) right.place ∙ next_there) (right.place ∙ is) in
-        let kind : next.kind ≡ Top = ap (λ (e : Extent). e.kind) top in
+        let top = the_top sound run.front run.segment run.back run.is (ap (λ k. extent_at k run.segment.extents) right.place ∙ next_there) (right.place ∙ is) in
+        let kind : next.kind ≡ Top = ap (λ e. e.kind) top in
         elim (right.kind) [ inl used ↦ (let no : Used ≡ Top = sym used ∙ kind in cc) | inr record_kind ↦ (let no : Record ≡ Top = sym record_kind ∙ kind in cc) ]
 
     high_end : end < 2 ^ 64
@@ -216,7 +216,7 @@ module _ {A : Type 0} {regions : A → List Grant} {word : A → ℕ → ℕ} {h
     whole_size = omega (arith, to_whole, from_whole, room)
 
     pub end_told : to ≢ at + size → pinuse_of (words (from + (to - from) + 8)) ≡ false
-    end_told past = let sum : from + (to - from) ≡ to = omega (arith, room) in ap (λ (a : ℕ). pinuse_of (words (a + 8))) sum ∙ right.told past
+    end_told past = let sum : from + (to - from) ≡ to = omega (arith, room) in ap (λ a. pinuse_of (words (a + 8))) sum ∙ right.told past
 
     fewer : HasMore more less chunk
     fewer = record {
@@ -224,21 +224,21 @@ module _ {A : Type 0} {regions : A → List Grant} {word : A → ℕ → ℕ} {h
       back = used_of (next ∷ []);
       fewer = refl;
       further = used_append left.lefts (chunk ∷ (right.rights ++ next ∷ [])) ∙ ((λ i. left.none i ++ (chunk ∷ used_of (right.rights ++ next ∷ [])))
-          ∙ ap (λ (l : List Extent). chunk ∷ l) (used_append right.rights (next ∷ []) ∙ ap (λ (l : List Extent). l ++ used_of (next ∷ [])) right.none));
+          ∙ ap (λ l. chunk ∷ l) (used_append right.rights (next ∷ []) ∙ ap (λ l. l ++ used_of (next ∷ [])) right.none));
     }
 
     -- ---- the free ones of the run
 
     no_free_next : {k bytes : ℕ} → next ≡ extent k bytes Free → ⊥
     no_free_next is =
-        let kind : next.kind ≡ Free = ap (λ (e : Extent). e.kind) is in
+        let kind : next.kind ≡ Free = ap (λ e. e.kind) is in
         elim (right.kind) [ inl used ↦ (let no : Used ≡ Free = sym used ∙ kind in cc) | inr tail ↦ (let no : Record ≡ Free = sym tail ∙ kind in cc) ]
 
     in_less : (k bytes : ℕ) → extent_at k less ≡ Some (extent k bytes Free) → IsIn k (from ∷ (at + size) ∷ [])
     in_less k bytes found = elim (found_either k left.lefts (chunk ∷ (right.rights ++ next ∷ [])) found) [
       | inl first ↦ inl (beside_place words Used from left.lefts at left.beside left.lefts_stand k first)
       | inr later ↦ elim (found_either k (chunk ∷ []) (right.rights ++ next ∷ []) later.1) [
-        | inl here ↦ absurd (let no : Used ≡ Free = ap (λ (e : Extent). e.kind) (the_one k chunk here) in cc)
+        | inl here ↦ absurd (let no : Used ≡ Free = ap (λ e. e.kind) (the_one k chunk here) in cc)
         | inr behind ↦ elim (found_either k right.rights (next ∷ []) behind.1) [
           | inl beside ↦ (let s = tiles_split words Used (at + size) right.rights (next ∷ []) end right.run.here.2 in
               inr (inl (beside_place words Used (at + size) right.rights s.middle right.beside s.first k beside)))
@@ -249,7 +249,7 @@ module _ {A : Type 0} {regions : A → List Grant} {word : A → ℕ → ℕ} {h
 
     in_more : (k bytes : ℕ) → extent_at k more ≡ Some (extent k bytes Free) → IsIn k (from ∷ [])
     in_more k bytes found = elim (found_either k (joint ∷ []) (next ∷ []) found) [
-      | inl first ↦ inl (sym (ap (λ (e : Extent). e.at) (the_one k joint first)))
+      | inl first ↦ inl (sym (ap (λ e. e.at) (the_one k joint first)))
       | inr later ↦ absurd (no_free_next (the_one k next later.1))
     ]
 
@@ -266,8 +266,8 @@ module _ {A : Type 0} {regions : A → List Grant} {word : A → ℕ → ℕ} {h
         (stored : AreStored (regions heap.system) words ((from + (to - from) + 8, without_pinuse (words (from + (to - from) + 8))) ∷ (from + 8, head_of (to - from) true false) ∷ (from + (to - from), to - from) ∷ []) (word system)) where
       move : IsMove (regions heap.system) words (word system) (last_kind Used run.first) from end end less more
       move =
-          subst (λ (k : Kind). IsMove (regions heap.system) words (word system) k from end end less more) (sym left.used)
-          (join (regions heap.system) words (word system) from less from_whole to next to_whole room right.place right.stands right.kind (subst (λ (k : Kind). Tiles words k from less end) left.used run.here) stored
+          subst (λ k. IsMove (regions heap.system) words (word system) k from end end less more) (sym left.used)
+          (join (regions heap.system) words (word system) from less from_whole to next to_whole room right.place right.stands right.kind (subst (λ k. Tiles words k from less end) left.used run.here) stored
           (λ k above below m. word_there k (omega (arith, right.place, room, above)) (omega (arith, right.place, below)) m))
 
       kind_same : last_kind (last_kind Used run.first) more ≡ last_kind (last_kind Used run.first) less
@@ -282,10 +282,10 @@ module _ {A : Type 0} {regions : A → List Grant} {word : A → ℕ → ℕ} {h
 
       state_segments : in_segments (freed_in at) segments ≡ run.front ++ with_extents run.segment (run.first ++ (more ++ run.last)) ∷ run.back
       state_segments =
-          let is : extent from (next.at - from) (joint_kind right.rights) ≡ joint = same_extent refl (ap (λ (a : ℕ). a - from) right.place) right.joint in
+          let is : extent from (next.at - from) (joint_kind right.rights) ≡ joint = same_extent refl (ap (λ a. a - from) right.place) right.joint in
           freed_run (regions heap.system) (word system) sound.segments sound.apart at size left.lefts right.rights next left.beside right.beside not_free run
-          (subst (λ (e : Extent). Tiles (word system) Used run.segment.base (run.first ++ (e ∷ next ∷ run.last)) (run.segment.base + run.segment.size)) (sym is) (step 0 0).changed.now.extents)
-          ∙ ap (λ (e : Extent). run.front ++ with_extents run.segment (run.first ++ (e ∷ next ∷ run.last)) ∷ run.back) is
+          (subst (λ e. Tiles (word system) Used run.segment.base (run.first ++ (e ∷ next ∷ run.last)) (run.segment.base + run.segment.size)) (sym is) (step 0 0).changed.now.extents)
+          ∙ ap (λ e. run.front ++ with_extents run.segment (run.first ++ (e ∷ next ∷ run.last)) ∷ run.back) is
 
       abbrev Freed : ℕ → ℕ → Type 0
       Freed victim victim_size = IsFree regions word heap at size from to (after victim victim_size)
@@ -295,14 +295,14 @@ module _ {A : Type 0} {regions : A → List Grant} {word : A → ℕ → ℕ} {h
 
       freed_free : (victim victim_size : ℕ) → FreeMoves (state_of word heap) (state_of word (after victim victim_size)) (from ∷ (at + size) ∷ []) (from ∷ [])
       freed_free victim victim_size = free_moves sound (step victim victim_size) (from ∷ (at + size) ∷ []) (from ∷ []) in_less in_more
-          (λ k is. elim is [ inl same ↦ inl (inl same) | inr later ↦ elim later [ inl same ↦ inr (subst (λ (a : ℕ). IsThere a less) (sym same) right_there) | inr none ↦ absurd none ] ])
+          (λ k is. elim is [ inl same ↦ inl (inl same) | inr later ↦ elim later [ inl same ↦ inr (subst (λ a. IsThere a less) (sym same) right_there) | inr none ↦ absurd none ] ])
           (λ k is. elim is [ inl same ↦ inl (inl same) | inr none ↦ absurd none ])
 
       done : (victim victim_size : ℕ) → (victim_size ≢ 0 → extent_at victim (extents_in (state_of word (after victim victim_size))) ≡ Some (extent victim victim_size Free)) → (victim_size ≡ 0 → victim ≡ 0) →
           victim ≡ victim_in heap.victim (extents_in (state_of word (after victim victim_size))) → Freed victim victim_size
       done victim victim_size named none left =
           let segments_are = read sound (step victim victim_size) ∙ sym state_segments in
-          let whole : victim ≡ victim_in heap.victim (extents_all (in_segments (freed_in at) segments)) = left ∙ ap (λ (ss : List Segment). victim_in heap.victim (extents_all ss)) segments_are in
+          let whole : victim ≡ victim_in heap.victim (extents_all (in_segments (freed_in at) segments)) = left ∙ ap (λ ss. victim_in heap.victim (extents_all ss)) segments_are in
           record {
             state = λ i. record { segments = segments_are i; victim = whole i; granularity = heap.granularity; rate = heap.rate; countdown = heap.countdown; trim_check = heap.trim_check };
             less = has_less sound (step victim victim_size) fewer;
@@ -314,8 +314,8 @@ module _ {A : Type 0} {regions : A → List Grant} {word : A → ℕ → ℕ} {h
               λ is.
                   let top = found_again sound (step victim victim_size) heap.top (λ found. (tails heap.top found).1 refl)
                   (top_among sound (some_there sound (step victim victim_size))) in
-                  let here : extent_at heap.top (extents_in (state_of word (after victim victim_size))) ≡ Some joint = subst (λ (a : ℕ). extent_at a (extents_in (state_of word (after victim victim_size))) ≡ Some joint) is (joint_there victim victim_size) in
-                  (let no : Free ≡ Top = ap (λ (e : Extent). e.kind) (the_extent (sym here ∙ top)) in cc),
+                  let here : extent_at heap.top (extents_in (state_of word (after victim victim_size))) ≡ Some joint = subst (λ a. extent_at a (extents_in (state_of word (after victim victim_size))) ≡ Some joint) is (joint_there victim victim_size) in
+                  (let no : Free ≡ Top = ap (λ e. e.kind) (the_extent (sym here ∙ top)) in cc),
               joint_there victim victim_size,
             );
           }
@@ -323,7 +323,7 @@ module _ {A : Type 0} {regions : A → List Grant} {word : A → ℕ → ℕ} {h
       -- the victim was one of those that are joined
       pub as_victim : from ≤ heap.victim → heap.victim < to → Freed from (to - from)
       as_victim reached within = done from (to - from) (λ some. joint_there from (to - from)) (λ none. absurd (omega (arith, none, room)))
-          (sym (ap (λ (o : Option Extent). unwrap_or (option_map (λ (e : Extent). e.at) o) 0)
+          (sym (ap (λ o. unwrap_or (option_map (λ e. e.at) o) 0)
           (has_in (regions system) (word system) (segments_of word (after from (to - from))) (segments_now sound (step from (to - from))) (apart_now sound (step from (to - from))) heap.victim (joint_there from (to - from)) refl reached (omega (arith, within, room)))))
 
       -- it stays

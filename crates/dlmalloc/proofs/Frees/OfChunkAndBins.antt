@@ -49,15 +49,15 @@ module _ {A : Type 0} {regions : A → List Grant} {word : A → ℕ → ℕ} (f
       above false false more = omega arith
 
       to_above : at + size ≤ to
-      to_above = subst (λ (t : ℕ). at + size ≤ t) (sym to_is) (above (at + size == heap.top) (free_of (word heap.system (at + size + 8))) (size_of (word heap.system (at + size + 8))))
+      to_above = subst (λ t. at + size ≤ t) (sym to_is) (above (at + size == heap.top) (free_of (word heap.system (at + size + 8))) (size_of (word heap.system (at + size + 8))))
 
   -- the chunks beside it left their bins
   module _ {middle : Dlmalloc A} (left : IsRebinned regions word follows heap middle) where
     pub still_there : extent_at at (extents_in (state_of word middle)) ≡ Some (extent at size Used)
-    still_there = ap (λ (s : HeapState). extent_at at (extents_in s)) left.state ∙ there
+    still_there = ap (λ s. extent_at at (extents_in s)) left.state ∙ there
 
     top_same : middle.top ≡ heap.top
-    top_same = ap (λ (h : Dlmalloc A). h.top) left.fields
+    top_same = ap (λ h. h.top) left.fields
 
     same : (k : ℕ) → at ≤ k → k ≤ at + size + 8 → IsWordOf (regions heap.system) k → word middle.system k ≡ word heap.system k
     same = told_stays word heap sound at size there (regions heap.system) (word middle.system) left.words

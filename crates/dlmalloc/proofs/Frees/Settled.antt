@@ -23,7 +23,7 @@ find_only is (first ∷ extents) {one} distinct there holds only =
     go : (a : Bool) → is first ≡ a → (b : Bool) → (first.at == one.at) ≡ b → (if b then Some first else extent_at one.at extents) ≡ Some one → (extent_at one.at extents ≡ Some one → find is extents ≡ Some one) →
         (if a then Some first else find is extents) ≡ Some one
     go true test true same found rest = found
-    go true test false other found rest = absurd (let place = only first (found_here first extents) test in let no : (first.at == one.at) ≡ true = ap (λ (n : ℕ). n == one.at) place ∙ nat_same one.at in let both = sym no ∙ other in cc)
+    go true test false other found rest = absurd (let place = only first (found_here first extents) test in let no : (first.at == one.at) ≡ true = ap (λ n. n == one.at) place ∙ nat_same one.at in let both = sym no ∙ other in cc)
     go false test true same found rest = absurd (let both = sym test ∙ (ap is (the_extent found) ∙ holds) in cc)
     go false test false other found rest = rest found
 
@@ -63,7 +63,7 @@ module _ {A : Type 0} {regions : A → List Grant} {word : A → ℕ → ℕ} {h
   all = extents_all (segments_of word heap)
 
   there : extent_at one.at all ≡ Some one
-  there = subst (λ (a : ℕ). extent_at a all ≡ Some one) (sym around.place) around.there
+  there = subst (λ a. extent_at a all ≡ Some one) (sym around.place) around.there
 
   some : 0 < heap.size
   some = some_segment word heap one.at there
@@ -81,20 +81,20 @@ module _ {A : Type 0} {regions : A → List Grant} {word : A → ℕ → ℕ} {h
   top_there = top_among sound some
 
   pub above_top : from ≡ heap.top → is_above_check (state_of word heap) at ≡ nat_lt heap.trim_check heap.top_size
-  above_top is = ap (λ (o : Option Extent). nat_lt heap.trim_check (unwrap_or (option_map (λ (extent : Extent). extent.size) o) 0))
+  above_top is = ap (λ o. nat_lt heap.trim_check (unwrap_or (option_map (λ extent. extent.size) o) 0))
       (find_only (is_top_with at) all apart top_there holds (λ other found test. place_of found (top_with at other test).kind))
     where
       same : one ≡ extent heap.top heap.top_size Top
-      same = the_extent (sym there ∙ (ap (λ (a : ℕ). extent_at a all) (around.place ∙ is) ∙ top_there))
+      same = the_extent (sym there ∙ (ap (λ a. extent_at a all) (around.place ∙ is) ∙ top_there))
 
       size : one.size ≡ heap.top_size
-      size = ap (λ (e : Extent). e.size) same
+      size = ap (λ e. e.size) same
 
       holds : (nat_le heap.top at && nat_lt at (heap.top + heap.top_size)) ≡ true
       holds = (let low : heap.top ≤ at = omega (arith, around.low, is) in let high : at < heap.top + heap.top_size = omega (arith, around.high, is, size) in grind (arith, nat_tests))
 
   pub above_none : from ≢ heap.top → is_above_check (state_of word heap) at ≡ false
-  above_none differs = ap (λ (o : Option Extent). nat_lt heap.trim_check (unwrap_or (option_map (λ (extent : Extent). extent.size) o) 0))
+  above_none differs = ap (λ o. nat_lt heap.trim_check (unwrap_or (option_map (λ extent. extent.size) o) 0))
       (find_none (is_top_with at) all apart (λ other found test.
       (let t = top_with at other test in let low = t.low in let high = t.high in
       elim (beside (regions heap.system) (word heap.system) (segments_of word heap) sound.segments sound.apart there found (λ same. differs (sym around.place ∙ (same ∙ place_of found t.kind)))) [
@@ -113,37 +113,37 @@ module _ {A : Type 0} {regions : A → List Grant} {word : A → ℕ → ℕ} {h
       go : (b : Bool) → (from == heap.top) ≡ b → (from ≡ heap.top) × (at < heap.top + heap.top_size)
       go true is =
           let place : from ≡ heap.top = nat_is is in
-          let size : one.size ≡ heap.top_size = ap (λ (e : Extent). e.size) (the_extent (sym there ∙ (ap (λ (a : ℕ). extent_at a all) (around.place ∙ place) ∙ top_there))) in
+          let size : one.size ≡ heap.top_size = ap (λ e. e.size) (the_extent (sym there ∙ (ap (λ a. extent_at a all) (around.place ∙ place) ∙ top_there))) in
           (place, omega (arith, around.high, place, size))
-      go false isnt = absurd (let under = above_none (λ same. (let is : (from == heap.top) ≡ true = ap (λ (n : ℕ). n == heap.top) same ∙ nat_same heap.top in cc)) in cc)
+      go false isnt = absurd (let under = above_none (λ same. (let is : (from == heap.top) ≡ true = ap (λ n. n == heap.top) same ∙ nat_same heap.top in cc)) in cc)
 
 -- ---- so it is settled
 
 module _ {A : Type 0} (regions : A → List Grant) (word : A → ℕ → ℕ) (follows : A → List Event → A → Type 0) (frees parts : Bool) (unit : ℕ) (old : Dlmalloc A) (at : ℕ) (new : Dlmalloc A) where
   pub settled_counted : is_above_check (state_of word old) at ≡ false → IsCounted regions word follows frees parts old at new → IsSettled regions word follows frees parts unit old at new
   settled_counted none c = record {
-    state = c.state ∙ sym (ap (λ (b : Bool). if b then trimmed frees parts unit 0 (state_of word old) else counted frees parts (state_of word old) at) none);
+    state = c.state ∙ sym (ap (λ b. if b then trimmed frees parts unit 0 (state_of word old) else counted frees parts (state_of word old) at) none);
     sound = c.sound;
     used = c.used;
     kept = c.kept;
     words = λ k inside free own out. c.words k inside free out;
-    index = λ b. (let a = c.index b in (a.0, λ n. a.1 n ∙ sym (ap (λ (t : Bool). (if t then after_trim frees parts 0 (state_of word old) b.index else after_count frees parts (state_of word old) at b.index) n) none)));
-    regions_are = c.regions_are ∙ sym (ap (λ (b : Bool). if b then regions_trimmed frees parts unit 0 (state_of word old) (regions old.system) else regions_without (left_by_count frees parts (state_of word old) at) (regions old.system)) none);
-    followed = subst (λ (events : List Event). follows old.system events new.system)
-        (sym (ap (λ (b : Bool). if b then trim_releases frees parts unit 0 (state_of word old) else releases (left_by_count frees parts (state_of word old) at)) none)) c.followed;
+    index = λ b. (let a = c.index b in (a.0, λ n. a.1 n ∙ sym (ap (λ t. (if t then after_trim frees parts 0 (state_of word old) b.index else after_count frees parts (state_of word old) at b.index) n) none)));
+    regions_are = c.regions_are ∙ sym (ap (λ b. if b then regions_trimmed frees parts unit 0 (state_of word old) (regions old.system) else regions_without (left_by_count frees parts (state_of word old) at) (regions old.system)) none);
+    followed = subst (λ events. follows old.system events new.system)
+        (sym (ap (λ b. if b then trim_releases frees parts unit 0 (state_of word old) else releases (left_by_count frees parts (state_of word old) at)) none)) c.followed;
   }
 
   pub settled_trimmed : is_above_check (state_of word old) at ≡ true → {answer : Bool} → IsTrimmed regions word follows frees parts unit old 0 answer new → IsSettled regions word follows frees parts unit old at new
   settled_trimmed above t = record {
-    state = t.state ∙ sym (ap (λ (b : Bool). if b then trimmed frees parts unit 0 (state_of word old) else counted frees parts (state_of word old) at) above);
+    state = t.state ∙ sym (ap (λ b. if b then trimmed frees parts unit 0 (state_of word old) else counted frees parts (state_of word old) at) above);
     sound = t.sound;
     used = t.used;
     kept = t.kept;
     words = t.words;
-    index = λ b. (let a = t.index b in (a.0, λ n. a.1 n ∙ sym (ap (λ (t : Bool). (if t then after_trim frees parts 0 (state_of word old) b.index else after_count frees parts (state_of word old) at b.index) n) above)));
-    regions_are = t.regions_are ∙ sym (ap (λ (b : Bool). if b then regions_trimmed frees parts unit 0 (state_of word old) (regions old.system) else regions_without (left_by_count frees parts (state_of word old) at) (regions old.system)) above);
-    followed = subst (λ (events : List Event). follows old.system events new.system)
-        (sym (ap (λ (b : Bool). if b then trim_releases frees parts unit 0 (state_of word old) else releases (left_by_count frees parts (state_of word old) at)) above)) t.followed;
+    index = λ b. (let a = t.index b in (a.0, λ n. a.1 n ∙ sym (ap (λ t. (if t then after_trim frees parts 0 (state_of word old) b.index else after_count frees parts (state_of word old) at b.index) n) above)));
+    regions_are = t.regions_are ∙ sym (ap (λ b. if b then regions_trimmed frees parts unit 0 (state_of word old) (regions old.system) else regions_without (left_by_count frees parts (state_of word old) at) (regions old.system)) above);
+    followed = subst (λ events. follows old.system events new.system)
+        (sym (ap (λ b. if b then trim_releases frees parts unit 0 (state_of word old) else releases (left_by_count frees parts (state_of word old) at)) above)) t.followed;
   }
 
 -- where the chunk became part of the top
@@ -152,7 +152,7 @@ pub settled_top : {A : Type 0} {regions : A → List Grant} {word : A → ℕ �
     (old.trim_check < old.top_size → (answer : Bool) × IsTrimmed regions word follows frees parts unit old 0 answer new) → (old.top_size ≤ old.trim_check → new ≡ old) → IsSettled regions word follows frees parts unit old at new
 settled_top {A} {regions} {word} follows follows_none frees parts unit {old} sound at around is new above same = elim (dec_lt old.trim_check old.top_size) [
   | yes more ↦ (let t = above more in settled_trimmed regions word follows frees parts unit old at new (test_is ∙ over more) t.1)
-  | no less ↦ subst (λ (heap : Dlmalloc A). IsSettled regions word follows frees parts unit old at heap) (sym (same (omega (arith, less))))
+  | no less ↦ subst (λ heap. IsSettled regions word follows frees parts unit old at heap) (sym (same (omega (arith, less))))
       (settled_counted regions word follows frees parts unit old at old (test_is ∙ under less) (counted_none follows follows_none frees parts sound at (sym (top_told sound around is))))
 ]
   where

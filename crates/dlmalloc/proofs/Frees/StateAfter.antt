@@ -55,7 +55,7 @@ set_free_none words before from (extent ∷ extents) to at out h =
     let place = h.0 in
     let rest = set_free_none words extent.kind (from + extent.size) extents to at (grind arith) h.2 in
     let test : (extent.at == at) ≡ false = nat_isnt (grind arith) in
-    rw test (ap (λ (es : List Extent). extent ∷ es) rest)
+    rw test (ap (λ es. extent ∷ es) rest)
 
 -- ---- what joins
 
@@ -78,14 +78,14 @@ module _ (words : ℕ → ℕ) (kind : Kind) (at size : ℕ) (next : Extent) (re
       (merged (freed ∷ (rights ++ next ∷ rest)) ≡ extent at (next.at - at) (joint_kind rights) ∷ next ∷ rest) × (is_free (joint_kind rights) ≡ true) × (at + size ≤ next.at)
   joined_behind [] beside h =
       let place = h.0 in (
-        ap (before freed) (merged_same words kind (at + size) (next ∷ rest) end h) ∙ before_next_used freed next rest used ∙ ap (λ (e : Extent). e ∷ next ∷ rest) (same_extent refl (omega arith) refl),
+        ap (before freed) (merged_same words kind (at + size) (next ∷ rest) end h) ∙ before_next_used freed next rest used ∙ ap (λ e. e ∷ next ∷ rest) (same_extent refl (omega arith) refl),
         refl,
         omega arith,
       )
   joined_behind (q ∷ []) beside h =
       let first = h.0 in let place = h.2.0 in (
-        ap (λ (l : List Extent). before freed (before q l)) (merged_same words q.kind (at + size + q.size) (next ∷ rest) end h.2)
-            ∙ (ap (before freed) (before_next_used q next rest used) ∙ (before_free freed q (next ∷ rest) refl beside ∙ ap (λ (e : Extent). e ∷ next ∷ rest) (same_extent refl (omega arith) refl))),
+        ap (λ l. before freed (before q l)) (merged_same words q.kind (at + size + q.size) (next ∷ rest) end h.2)
+            ∙ (ap (before freed) (before_next_used q next rest used) ∙ (before_free freed q (next ∷ rest) refl beside ∙ ap (λ e. e ∷ next ∷ rest) (same_extent refl (omega arith) refl))),
         beside,
         omega arith,
       )
@@ -94,11 +94,11 @@ module _ (words : ℕ → ℕ) (kind : Kind) (at size : ℕ) (next : Extent) (re
   pub joined : (lefts rights : List Extent) → IsBeside lefts → IsBeside rights → (from : ℕ) (before : Kind) → Tiles words before from lefts at → Tiles words kind (at + size) (rights ++ next ∷ rest) end →
       merged (lefts ++ freed ∷ (rights ++ next ∷ rest)) ≡ extent from (next.at - from) (joint_kind rights) ∷ next ∷ rest
   joined [] rights left right from before h k =
-      (joined_behind rights right k).0 ∙ ap (λ (e : Extent). e ∷ next ∷ rest) (same_extent (sym h) (ap (λ (a : ℕ). next.at - a) (sym h)) refl)
+      (joined_behind rights right k).0 ∙ ap (λ e. e ∷ next ∷ rest) (same_extent (sym h) (ap (λ a. next.at - a) (sym h)) refl)
   joined (p ∷ []) rights left right from kind' h k =
       let b = joined_behind rights right k in
       let place = h.0 in let ends = h.2 in let low = b.2 in
-      ap (before p) b.0 ∙ (before_free p (extent at (next.at - at) (joint_kind rights)) (next ∷ rest) left b.1 ∙ ap (λ (e : Extent). e ∷ next ∷ rest) (same_extent place (omega arith) refl))
+      ap (before p) b.0 ∙ (before_free p (extent at (next.at - at) (joint_kind rights)) (next ∷ rest) left b.1 ∙ ap (λ e. e ∷ next ∷ rest) (same_extent place (omega arith) refl))
   joined (p ∷ q ∷ more) rights left right from before h k = absurd left
 
 -- ---- the state
@@ -133,16 +133,16 @@ freed_run regions {words} words' parts apart at size {from} {to} lefts rights ne
     inner = tiles_split words (last_kind Used run.first) from lefts (extent at size Used ∷ (rights ++ next ∷ [])) to run.here
 
     lefts_stand : Tiles words (last_kind Used run.first) from lefts at
-    lefts_stand = subst (λ (a : ℕ). Tiles words (last_kind Used run.first) from lefts a) (sym inner.second.0) inner.first
+    lefts_stand = subst (λ a. Tiles words (last_kind Used run.first) from lefts a) (sym inner.second.0) inner.first
 
     behind_kind : last_kind (last_kind Used run.first) (lefts ++ extent at size Used ∷ (rights ++ next ∷ [])) ≡ last_kind Used (rights ++ next ∷ [])
     behind_kind = last_append (last_kind Used run.first) lefts (extent at size Used ∷ (rights ++ next ∷ []))
 
     behind_stand : Tiles words Used (at + size) (rights ++ next ∷ run.last) (run.segment.base + run.segment.size)
-    behind_stand = subst (λ (es : List Extent). Tiles words Used (at + size) es (run.segment.base + run.segment.size)) (append_assoc rights (next ∷ []) run.last)
+    behind_stand = subst (λ es. Tiles words Used (at + size) es (run.segment.base + run.segment.size)) (append_assoc rights (next ∷ []) run.last)
         (tiles_append words Used (at + size) (rights ++ next ∷ []) run.last to (run.segment.base + run.segment.size)
-        (subst (λ (a : ℕ). Tiles words Used (a + size) (rights ++ next ∷ []) to) (sym inner.second.0) inner.second.2)
-        (subst (λ (k : Kind). Tiles words k to run.last (run.segment.base + run.segment.size)) behind_kind run.last_stand))
+        (subst (λ a. Tiles words Used (a + size) (rights ++ next ∷ []) to) (sym inner.second.0) inner.second.2)
+        (subst (λ k. Tiles words k to run.last (run.segment.base + run.segment.size)) behind_kind run.last_stand))
 
     some : 16 ≤ size
     some = (sized Used size inner.second.1.size).1
@@ -167,8 +167,8 @@ freed_run regions {words} words' parts apart at size {from} {to} lefts rights ne
         let one = set_free_none words Used run.segment.base run.first from at (inr reach) run.first_stand in
         let two = set_free_none words (last_kind Used run.first) from lefts at at (inr (omega arith)) lefts_stand in
         let three = set_free_none words Used (at + size) (rights ++ next ∷ run.last) (run.segment.base + run.segment.size) at (inl (omega (arith, some))) behind_stand in
-        ap (λ (l : List Extent). map (set_free at) (run.first ++ l))
-        (append_assoc lefts (extent at size Used ∷ (rights ++ next ∷ [])) run.last ∙ ap (λ (l : List Extent). lefts ++ extent at size Used ∷ l) (append_assoc rights (next ∷ []) run.last))
+        ap (λ l. map (set_free at) (run.first ++ l))
+        (append_assoc lefts (extent at size Used ∷ (rights ++ next ∷ [])) run.last ∙ ap (λ l. lefts ++ extent at size Used ∷ l) (append_assoc rights (next ∷ []) run.last))
         ∙ (map-append (set_free at) run.first (lefts ++ extent at size Used ∷ (rights ++ next ∷ run.last))
         ∙ (λ i. one i ++ (map-append (set_free at) lefts (extent at size Used ∷ (rights ++ next ∷ run.last)) ∙ (λ j. two j ++ (marked_chunk j ∷ three j))) i))
 

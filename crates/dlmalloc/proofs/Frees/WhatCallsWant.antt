@@ -72,14 +72,14 @@ module _ {A : Type 0} {regions : A → List Grant} {word : A → ℕ → ℕ} {h
   -- what stands behind it
   next_found : extent_at (at + size) one.segment.extents ≡ Some next.next
   next_found =
-      ap (extent_at (at + size)) (one.extents ∙ ap (λ (l : List Extent). one.first ++ (chunk ∷ l)) next.is)
+      ap (extent_at (at + size)) (one.extents ∙ ap (λ l. one.first ++ (chunk ∷ l)) next.is)
       ∙ (found_later (at + size) one.first (chunk ∷ next.next ∷ next.rest) (none_outside words Used one.segment.base one.first at (at + size) (inr (omega arith)) one.first_stand)
       ∙ (let first : (at == at + size) ≡ false = nat_isnt (inl (let s = one.some in omega arith)) in
       let second : (next.next.at == at + size) ≡ true = (let p = stand.0 in grind (arith, nat_tests)) in
       rw (first, second) refl))
 
   pub next_top : at + size ≡ heap.top → next.next ≡ extent heap.top heap.top_size Top
-  next_top is = the_top sound one.front one.segment one.back one.is (ap (λ (k : ℕ). extent_at k one.segment.extents) stand.0 ∙ next_found) (stand.0 ∙ is)
+  next_top is = the_top sound one.front one.segment one.back one.is (ap (λ k. extent_at k one.segment.extents) stand.0 ∙ next_found) (stand.0 ∙ is)
 
   pub no_top : at + size ≢ heap.top → next.next.kind ≢ Top
   no_top isnt kind = isnt (is_top sound one.front one.segment one.back one.is
@@ -88,7 +88,7 @@ module _ {A : Type 0} {regions : A → List Grant} {word : A → ℕ → ℕ} {h
   -- a free chunk behind it ends below 2 ^ 64
   pub end_below : at + size ≢ heap.top → free_of (words (at + size + 8)) ≡ true → at + size + size_of (words (at + size + 8)) < 2 ^ 64
   end_below more free =
-      let is : end_of words (at + size) ≡ at + size + size_of (words (at + size + 8)) = ap (λ (b : Bool). if b then at + size + size_of (words (at + size + 8)) else at + size) free in
+      let is : end_of words (at + size) ≡ at + size + size_of (words (at + size + 8)) = ap (λ b. if b then at + size + size_of (words (at + size + 8)) else at + size) free in
       let small = end_small sound there (no_top more) {from = (if pinuse_of (words (at + 8)) then at else at - words at)} refl {to = (end_of words (at + size))} refl in
       omega (arith, is, small)
 
@@ -97,7 +97,7 @@ module _ {A : Type 0} {regions : A → List Grant} {word : A → ℕ → ℕ} {h
     left_one =
         let whole : size % 8 ≡ 0 = (let w = stands.size.0 in omega arith) in
         let told : pinuse_of (words (at + 8)) ≡ is_used (last_kind Used one.first) = ap pinuse_of stands.head ∙ pinuse_of-head_of size (is_used (last_kind Used one.first)) true whole in
-        subst (λ (f : ℕ). Left words one.segment.base one.first at f) (ap (λ (b : Bool). if b then at else at - words at) (sym told) ∙ sym from_is)
+        subst (λ f. Left words one.segment.base one.first at f) (ap (λ b. if b then at else at - words at) (sym told) ∙ sym from_is)
         (left_of words one.segment.base one.first at one.first_stand stands.kind)
 
     pub from_at : from ≤ at
@@ -108,7 +108,7 @@ module _ {A : Type 0} {regions : A → List Grant} {word : A → ℕ → ℕ} {h
 
     pub foot_fits : pinuse_of (words (at + 8)) ≡ false → words at ≤ at
     foot_fits unused =
-        let is : from ≡ at - words at = from_is ∙ ap (λ (b : Bool). if b then at else at - words at) unused in
+        let is : from ≡ at - words at = from_is ∙ ap (λ b. if b then at else at - words at) unused in
         omega (arith, is, from_low, base)
 
     from_whole : from % 16 ≡ 0
@@ -123,7 +123,7 @@ module _ {A : Type 0} {regions : A → List Grant} {word : A → ℕ → ℕ} {h
 
     module _ {to : ℕ} (to_is : to ≡ (if at + size == heap.top then at + size else if free_of (words (at + size + 8)) then at + size + size_of (words (at + size + 8)) else at + size)) where
       by_top : (b : Bool) → (at + size == heap.top) ≡ b → to ≡ (if b then at + size else end_of words (at + size))
-      by_top b is = to_is ∙ ap (λ (b : Bool). if b then at + size else end_of words (at + size)) is
+      by_top b is = to_is ∙ ap (λ b. if b then at + size else end_of words (at + size)) is
 
       pub touches : to ≡ heap.top → at + size ≡ heap.top
       touches is = go (at + size == heap.top) refl
@@ -145,7 +145,7 @@ module _ {A : Type 0} {regions : A → List Grant} {word : A → ℕ → ℕ} {h
         to_eq = touches is ∙ sym is
 
         pub small_top : from + (heap.top_size + (to - from)) < 2 ^ 64
-        small_top = subst (λ (t : ℕ). from + (heap.top_size + (t - from)) < 2 ^ 64) to_eq (new_small sound there (next_top (touches is)) from_is)
+        small_top = subst (λ t. from + (heap.top_size + (t - from)) < 2 ^ 64) to_eq (new_small sound there (next_top (touches is)) from_is)
 
         pub from_some : 4096 ≤ from
         from_some = omega (arith, from_low, base)
@@ -154,7 +154,7 @@ module _ {A : Type 0} {regions : A → List Grant} {word : A → ℕ → ℕ} {h
         pub around_top : (new : Dlmalloc A) → IsSound regions word new → new.size ≡ heap.size → new.top ≡ from → new.top_size ≡ heap.top_size + (to - from) → IsFreeAround (state_of word new) at from
         around_top new sound' size_same top top_size = record {
           extent = extent new.top new.top_size Top;
-          there = ap (λ (k : ℕ). extent_at k (extents_in (state_of word new))) (sym top) ∙ top_among sound' (omega (arith, some_segment word heap at there, size_same));
+          there = ap (λ k. extent_at k (extents_in (state_of word new))) (sym top) ∙ top_among sound' (omega (arith, some_segment word heap at there, size_same));
           place = top;
           free = refl;
           low = from_at;
@@ -163,12 +163,12 @@ module _ {A : Type 0} {regions : A → List Grant} {word : A → ℕ → ℕ} {h
 
         module _ (system : A) (same : regions system ≡ regions heap.system) (stored : IsStored (regions heap.system) words (from + 8) (heap.top_size + (to - from) + 1) (word system)) where
           stored_at : IsStored (regions heap.system) words (from + 8) (heap.top_size + (at + size - from) + 1) (word system)
-          stored_at = subst (λ (t : ℕ). IsStored (regions heap.system) words (from + 8) (heap.top_size + (t - from) + 1) (word system)) (sym to_eq) stored
+          stored_at = subst (λ t. IsStored (regions heap.system) words (from + 8) (heap.top_size + (t - from) + 1) (word system)) (sym to_eq) stored
 
           pub top_victim : from ≤ heap.victim → heap.victim < to → IsFree regions word heap at size from to (record heap { system = system; top = from; top_size = heap.top_size + (to - from); victim = 0; victim_size = 0 })
-          top_victim reached within = subst (λ (t : ℕ). IsFree regions word heap at size from t (record heap { system = system; top = from; top_size = heap.top_size + (t - from); victim = 0; victim_size = 0 })) to_eq
+          top_victim reached within = subst (λ t. IsFree regions word heap at size from t (record heap { system = system; top = from; top_size = heap.top_size + (t - from); victim = 0; victim_size = 0 })) to_eq
               (as_top_victim sound there (next_top (touches is)) from_is system same stored_at reached (omega (arith, within, to_eq)))
 
           pub top_other : (heap.victim < from) ⊎ (to ≤ heap.victim) → IsFree regions word heap at size from to (record heap { system = system; top = from; top_size = heap.top_size + (to - from) })
-          top_other out = subst (λ (t : ℕ). IsFree regions word heap at size from t (record heap { system = system; top = from; top_size = heap.top_size + (t - from) })) to_eq
-              (as_top_other sound there (next_top (touches is)) from_is system same stored_at (subst (λ (t : ℕ). (heap.victim < from) ⊎ (t ≤ heap.victim)) (sym to_eq) out))
+          top_other out = subst (λ t. IsFree regions word heap at size from t (record heap { system = system; top = from; top_size = heap.top_size + (t - from) })) to_eq
+              (as_top_other sound there (next_top (touches is)) from_is system same stored_at (subst (λ t. (heap.victim < from) ⊎ (t ≤ heap.victim)) (sym to_eq) out))

@@ -80,7 +80,7 @@ module _ {A : Type 0} {regions : A → List Grant} {word : A → ℕ → ℕ} {f
 
   head_merged : (old.base ≡ middle.base) × (old.size ≡ middle.size)
   head_merged = same_head old disposed.sound sound some
-      (let same = first_changed (freed_in (address - 16)) (segments_of word old) in let is = ap (λ (heap : HeapState). heap.segments) disposed.state in (sym same.0 ∙ sym (ap first_base is), sym same.1 ∙ sym (ap first_size is)))
+      (let same = first_changed (freed_in (address - 16)) (segments_of word old) in let is = ap (λ heap. heap.segments) disposed.state in (sym same.0 ∙ sym (ap first_base is), sym same.1 ∙ sym (ap first_size is)))
 
   -- so does the rest, unless it became part of a top above the trim check
   head_left : ((new.base ≡ old.base) × (new.size ≡ old.size)) ⊎ IsBehindUsed old (state_of word new) (address - 16)
@@ -89,9 +89,9 @@ module _ {A : Type 0} {regions : A → List Grant} {word : A → ℕ → ℕ} {f
       go : (b : Bool) → is_above_check (state_of word middle) (address - 16) ≡ b → ((new.base ≡ old.base) × (new.size ≡ old.size)) ⊎ IsBehindUsed old (state_of word new) (address - 16)
       go false under =
           let state : state_of word new ≡ counted frees parts (state_of word middle) (address - 16)
-          = settled.state ∙ ap (λ (b : Bool). if b then trimmed frees parts unit 0 (state_of word middle) else counted frees parts (state_of word middle) (address - 16)) under in
+          = settled.state ∙ ap (λ b. if b then trimmed frees parts unit 0 (state_of word middle) else counted frees parts (state_of word middle) (address - 16)) under in
           let same = first_counted frees parts (state_of word middle) (address - 16) in
-          let is = ap (λ (heap : HeapState). heap.segments) state in
+          let is = ap (λ heap. heap.segments) state in
           let left = same_head new disposed.sound settled.sound some (ap first_base is ∙ same.0, ap first_size is ∙ same.1) in
           inl (left.0 ∙ sym head_merged.0, left.1 ∙ sym head_merged.1)
       go true above =
@@ -107,14 +107,14 @@ module _ {A : Type 0} {regions : A → List Grant} {word : A → ℕ → ℕ} {f
 
   inside : (k : ℕ) → IsWordOf (regions new.system) k → IsWordOf (regions old.system) k
   inside k is = record {
-    granted = subst (λ (rs : List Grant). IsTrue (is_granted rs k)) disposed.regions_same
-        (after_granted frees parts unit (state_of word middle) (address - 16) (regions middle.system) k (subst (λ (rs : List Grant). IsTrue (is_granted rs k)) settled.regions_are is.granted));
+    granted = subst (λ rs. IsTrue (is_granted rs k)) disposed.regions_same
+        (after_granted frees parts unit (state_of word middle) (address - 16) (regions middle.system) k (subst (λ rs. IsTrue (is_granted rs k)) settled.regions_are is.granted));
     aligned = is.aligned;
   }
 
   pub freed_whole : IsFreed regions word follows frees parts unit old address new
   freed_whole = record {
-    state = settled.state ∙ ap (λ (heap : HeapState). after_free frees parts unit heap (address - 16)) disposed.state;
+    state = settled.state ∙ ap (λ heap. after_free frees parts unit heap (address - 16)) disposed.state;
     less = record {
       kept = λ used is there. disposed.less.kept used is (settled.used.before used is there);
       only = λ used is there other. settled.used.still used is (disposed.less.only used is there other);
@@ -125,22 +125,22 @@ module _ {A : Type 0} {regions : A → List Grant} {word : A → ℕ → ℕ} {f
       heads = λ block there used. (let was = settled.used.before block used there in settled.kept.heads block was used ∙ disposed.kept.heads block was used);
     };
     words = λ k is free first last recorded.
-        settled.words k is (λ f. first (subst (λ (heap : HeapState). IsOwn heap k) disposed.state (inr f))) last (λ r. recorded (subst (λ (heap : HeapState). IsInRecord heap k) disposed.state r))
-        ∙ disposed.words k (inside k is) free (λ own. first (subst (λ (heap : HeapState). IsOwn heap k) disposed.state own));
+        settled.words k is (λ f. first (subst (λ heap. IsOwn heap k) disposed.state (inr f))) last (λ r. recorded (subst (λ heap. IsInRecord heap k) disposed.state r))
+        ∙ disposed.words k (inside k is) free (λ own. first (subst (λ heap. IsOwn heap k) disposed.state own));
     sound = settled.sound;
-    granularity = ap (λ (heap : HeapState). heap.granularity) settled.state
-        ∙ (granularity_after frees parts unit (state_of word middle) (address - 16) ∙ ap (λ (heap : HeapState). heap.granularity) disposed.state);
+    granularity = ap (λ heap. heap.granularity) settled.state
+        ∙ (granularity_after frees parts unit (state_of word middle) (address - 16) ∙ ap (λ heap. heap.granularity) disposed.state);
     head = head_left;
     regions_are = settled.regions_are ∙ (λ i. regions_after frees parts unit (disposed.state i) (address - 16) (disposed.regions_same i));
-    followed = subst (λ (heap : HeapState). follows old.system (free_releases frees parts unit heap (address - 16)) new.system) disposed.state
+    followed = subst (λ heap. follows old.system (free_releases frees parts unit heap (address - 16)) new.system) disposed.state
         (on old.system middle.system new.system [] (free_releases frees parts unit (state_of word middle) (address - 16)) (free_releases frees parts unit (state_of word middle) (address - 16)) disposed.followed settled.followed refl);
     order = λ b.
         let first = disposed.order b in
         let last = settled.index first.0 in (
           first.0.index,
-          subst (λ (heap : HeapState). HoldsBinned heap first.0.index) disposed.state first.0.holds,
+          subst (λ heap. HoldsBinned heap first.0.index) disposed.state first.0.holds,
           first.1,
-          (last.0, λ n. last.1 n ∙ ap (λ (heap : HeapState). index_after frees parts heap (address - 16) first.0.index n) disposed.state),
+          (last.0, λ n. last.1 n ∙ ap (λ heap. index_after frees parts heap (address - 16) first.0.index n) disposed.state),
         );
   }
 
@@ -150,9 +150,9 @@ module _ {A : Type 0} (zeros frees parts : A → Bool) (unit : A → ℕ) where
   -- so what holds by its rules holds by those that it had before
   pub by_rules : {old new : A} → IsFixed zeros frees parts unit old new → (Holds : Bool → Bool → ℕ → Type 0) → Holds (frees new) (parts new) (unit new) → Holds (frees old) (parts old) (unit old)
   by_rules {old} {new} same Holds holds =
-      subst (λ (b : Bool). Holds b (parts old) (unit old)) same.frees_same
-      (subst (λ (b : Bool). Holds (frees new) b (unit old)) same.parts_same
-      (subst (λ (n : ℕ). Holds (frees new) (parts new) n) same.unit_same holds))
+      subst (λ b. Holds b (parts old) (unit old)) same.frees_same
+      (subst (λ b. Holds (frees new) b (unit old)) same.parts_same
+      (subst (λ n. Holds (frees new) (parts new) n) same.unit_same holds))
 
   pub rules_found : (follows : A → List Event → A → Type 0) → ((x y : A) (events : List Event) → follows x events y → IsFixed zeros frees parts unit x y) → (regions : A → List Grant) (old : A) (heap : HeapState) (n : ℕ) (new : A) (heap' : HeapState) →
       IsFound follows regions old heap n new heap' → IsFixed zeros frees parts unit old new

@@ -142,10 +142,10 @@ module _ {A : Type 0} {regions : A → List Grant} {word : A → ℕ → ℕ} (f
     here_told = (
       payload_some,
       base,
-      size ∙ ap (λ (m : ℕ). grant.size + m) b.told.2,
+      size ∙ ap (λ m. grant.size + m) b.told.2,
       kept_in (payload + 24) (omega (arith, record_in.low, payload_some)) (omega (arith, record_long, payload_some)) (omega (arith, payload_whole)) (λ is. omega (arith, is)) (λ is. omega (arith, is)) ∙ b.told.3,
       record_now,
-      subst (λ (p : ℕ). AreRecords (word system) p b.back) (sym (kept_in (payload + 16) (omega (arith, record_in.low, payload_some)) (omega (arith, record_long, payload_some)) (omega (arith, payload_whole)) (λ is. omega (arith, is)) (λ is. omega (arith, is))))
+      subst (λ p. AreRecords (word system) p b.back) (sym (kept_in (payload + 16) (omega (arith, record_in.low, payload_some)) (omega (arith, record_long, payload_some)) (omega (arith, payload_whole)) (λ is. omega (arith, is)) (λ is. omega (arith, is))))
           (records_stay (regions heap.system) (word heap.system) (word system) b.back (back_parts told_new sound fresh same n multiple least room front b.segment b.back b.is b.joins IsUntold untold_outside kept_untold)
           (back_keeps told_new sound fresh same n multiple least room front b.segment b.back b.is b.joins IsUntold untold_outside kept_untold) (word heap.system (payload + 16)) b.told.5),
     )

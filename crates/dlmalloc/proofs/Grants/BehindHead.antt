@@ -94,14 +94,14 @@ module _ {A : Type 0} {regions : A → List Grant} {word : A → ℕ → ℕ} {h
   more_stand =
       let units = fresh.size_aligned in
       let place : heap.top + length_now + 8 ≡ heap.base + (heap.size + grant.size) - 72 = omega (arith, closes) in
-      subst (λ (end : ℕ). Tiles (word new.system) (last_kind Used old_run.first) heap.top more end) now_end
-      (top_stands (word new.system) heap.top length_now old_run.here.1.kind (top_whole sound some) (omega (arith, sizes.0, units)) (omega (arith, sizes.1)) (head ∙ ap (λ (n : ℕ). n + 1) (sym length_is)) (ap (word new.system) place ∙ foot))
+      subst (λ end. Tiles (word new.system) (last_kind Used old_run.first) heap.top more end) now_end
+      (top_stands (word new.system) heap.top length_now old_run.here.1.kind (top_whole sound some) (omega (arith, sizes.0, units)) (omega (arith, sizes.1)) (head ∙ ap (λ n. n + 1) (sym length_is)) (ap (word new.system) place ∙ foot))
 
   is_now : IsSegment (regions new.system) (word new.system) now
   is_now = record {
-    run = subst (λ (rs : List Grant). IsRun rs old_run.segment.base (old_run.segment.size + grant.size) old_run.segment.flags) (sym same)
+    run = subst (λ rs. IsRun rs old_run.segment.base (old_run.segment.size + grant.size) old_run.segment.flags) (sym same)
         (runs_joined (begins ∙ (λ i. was.base i + was.size i)) old_part.run
-        (subst (λ (f : ℕ). IsRun (regions heap.system) grant.base grant.size f) (equal ∙ was.flags) fresh.run) whole);
+        (subst (λ f. IsRun (regions heap.system) grant.base grant.size f) (equal ∙ was.flags) fresh.run) whole);
     low = old_part.low;
     high = omega (arith, fresh.high, begins, was.base, was.size);
     long = omega (arith, old_part.long);
@@ -114,7 +114,7 @@ module _ {A : Type 0} {regions : A → List Grant} {word : A → ℕ → ℕ} {h
   parts_now : AreSegments (regions new.system) (word new.system) (now ∷ old_run.back)
   parts_now = (is_now, parts_kept new sound fresh same some outside_kept)
 
-  longer_apart : (others : List Segment) → AreSegments (regions heap.system) (word heap.system) others → AllByRecursion (IsApartFrom old_run.segment) others → AllByRecursion (λ (segment : Segment). IsApartFrom segment (opened grant)) others → AllByRecursion (IsApartFrom now) others
+  longer_apart : (others : List Segment) → AreSegments (regions heap.system) (word heap.system) others → AllByRecursion (IsApartFrom old_run.segment) others → AllByRecursion (λ segment. IsApartFrom segment (opened grant)) others → AllByRecursion (IsApartFrom now) others
   longer_apart [] parts one two = tt
   longer_apart (other ∷ others) parts one two = (
     elim (one.0) [
@@ -135,20 +135,20 @@ module _ {A : Type 0} {regions : A → List Grant} {word : A → ℕ → ℕ} {h
   where_top : extent_at new.top now.extents ≡ Some (extent new.top new.top_size Top)
   where_top =
       let here : (heap.top == heap.top) ≡ true = nat_same heap.top in
-      ap (λ (t : ℕ). extent_at t now.extents) top ∙ (found_later heap.top old_run.first more (none_outside (word heap.system) Used old_run.segment.base old_run.first heap.top heap.top (inr (omega arith)) old_run.first_stand)
+      ap (λ t. extent_at t now.extents) top ∙ (found_later heap.top old_run.first more (none_outside (word heap.system) Used old_run.segment.base old_run.first heap.top heap.top (inr (omega arith)) old_run.first_stand)
       ∙ (rw here refl ∙ (λ i. Some (extent ((sym top) i) ((length_is ∙ sym top_size) i) Top))))
 
   size_some : 0 < new.size
-  size_some = subst (λ (n : ℕ). 0 < n) (sym size) (omega (arith, some))
+  size_some = subst (λ n. 0 < n) (sym size) (omega (arith, some))
 
   told_now : AreTold (word new.system) new (now ∷ old_run.back)
   told_now = (
     size_some,
     base ∙ was.base,
-    size ∙ ap (λ (n : ℕ). n + grant.size) was.size,
+    size ∙ ap (λ n. n + grant.size) was.size,
     flags ∙ was.flags,
     where_top,
-    subst (λ (p : ℕ). AreRecords (word new.system) p old_run.back) (sym no_next) (told_kept new sound fresh same some outside_kept),
+    subst (λ p. AreRecords (word new.system) p old_run.back) (sym no_next) (told_kept new sound fresh same some outside_kept),
   )
 
   extended_read : segments_of word new ≡ now ∷ old_run.back
@@ -157,7 +157,7 @@ module _ {A : Type 0} {regions : A → List Grant} {word : A → ℕ → ℕ} {h
   extents_were : extents_in (state_of word heap) ≡ old_run.first ++ (less ++ extents_all old_run.back)
   extents_were =
       ap extents_all (segments_are new sound fresh same some)
-      ∙ (ap (λ (es : List Extent). es ++ extents_all old_run.back) (old_run.extents ∙ ap (λ (es : List Extent). old_run.first ++ extent heap.top heap.top_size Top ∷ es) (last_is.0 ∙ (λ i. extent (foot_at i) 80 Foot ∷ [])))
+      ∙ (ap (λ es. es ++ extents_all old_run.back) (old_run.extents ∙ ap (λ es. old_run.first ++ extent heap.top heap.top_size Top ∷ es) (last_is.0 ∙ (λ i. extent (foot_at i) 80 Foot ∷ [])))
       ∙ append_assoc old_run.first less (extents_all old_run.back))
     where
       foot_at : old_run.segment.base + old_run.segment.size - 80 ≡ heap.top + heap.top_size
@@ -178,8 +178,8 @@ module _ {A : Type 0} {regions : A → List Grant} {word : A → ℕ → ℕ} {h
       (λ there. (λ i. extent_at (victim i) (extents_all (now ∷ old_run.back))) ∙ (found_now (sound.victim (λ none. there (victim_size ∙ none))) ∙ (λ i. Some (extent ((sym victim) i) ((sym victim_size) i) Free))))
     where
       no_free : (b d : Bool) → (if b then Some (extent heap.top heap.top_size Top) else if d then Some (extent (heap.top + heap.top_size) 80 Foot) else None) ≡ Some (extent heap.victim heap.victim_size Free) → ⊥
-      no_free true d found = (let no : Top ≡ Free = ap (λ (o : Option Extent). (unwrap_or o (extent heap.victim heap.victim_size Free)).kind) found in cc)
-      no_free false true found = (let no : Foot ≡ Free = ap (λ (o : Option Extent). (unwrap_or o (extent heap.victim heap.victim_size Free)).kind) found in cc)
+      no_free true d found = (let no : Top ≡ Free = ap (λ o. (unwrap_or o (extent heap.victim heap.victim_size Free)).kind) found in cc)
+      no_free false true found = (let no : Foot ≡ Free = ap (λ o. (unwrap_or o (extent heap.victim heap.victim_size Free)).kind) found in cc)
       no_free false false found = cc
 
       found_now : extent_at heap.victim (extents_in (state_of word heap)) ≡ Some (extent heap.victim heap.victim_size Free) → extent_at heap.victim (extents_all (now ∷ old_run.back)) ≡ Some (extent heap.victim heap.victim_size Free)
@@ -189,7 +189,7 @@ module _ {A : Type 0} {regions : A → List Grant} {word : A → ℕ → ℕ} {h
   pub extended_state : (n : ℕ) → state_of word new ≡ granted grant n (state_of word heap)
   extended_state n =
       (λ i. record { segments = segments_now i; victim = victim i; granularity = granularity i; rate = rate i; countdown = countdown i; trim_check = trim_check i })
-      ∙ (sym after ∙ ap (λ (ss : List Segment). granted grant n (record { segments = ss; victim = heap.victim; granularity = heap.granularity; rate = heap.rate; countdown = heap.countdown; trim_check = heap.trim_check }))
+      ∙ (sym after ∙ ap (λ ss. granted grant n (record { segments = ss; victim = heap.victim; granularity = heap.granularity; rate = heap.rate; countdown = heap.countdown; trim_check = heap.trim_check }))
       (sym (segments_are new sound fresh same some)))
     where
       here : is_behind grant old_run.segment ≡ true
@@ -201,12 +201,12 @@ module _ {A : Type 0} {regions : A → List Grant} {word : A → ℕ → ℕ} {h
 
       chunks : AreChunks old_run.first
       chunks = are_chunks (word heap.system) Used old_run.segment.base old_run.first (extent heap.top heap.top_size Top) old_run.last (old_run.segment.base + old_run.segment.size) (λ is. cc)
-          (subst (λ (es : List Extent). Tiles (word heap.system) Used old_run.segment.base es (old_run.segment.base + old_run.segment.size)) old_run.extents old_part.extents)
+          (subst (λ es. Tiles (word heap.system) Used old_run.segment.base es (old_run.segment.base + old_run.segment.size)) old_run.extents old_part.extents)
 
       grown_are : map (grown grant.size) old_run.segment.extents ≡ old_run.first ++ more
       grown_are =
           let place : old_run.segment.base + old_run.segment.size - 80 + grant.size ≡ heap.top + length_now = omega (arith, last_is.1) in
-          ap (map (grown grant.size)) (old_run.extents ∙ ap (λ (es : List Extent). old_run.first ++ extent heap.top heap.top_size Top ∷ es) last_is.0)
+          ap (map (grown grant.size)) (old_run.extents ∙ ap (λ es. old_run.first ++ extent heap.top heap.top_size Top ∷ es) last_is.0)
           ∙ (map-append (grown grant.size) old_run.first (extent heap.top heap.top_size Top ∷ extent (old_run.segment.base + old_run.segment.size - 80) 80 Foot ∷ [])
           ∙ (λ i. map_grown grant.size old_run.first chunks i ++ (extent heap.top length_now Top ∷ extent (place i) 80 Foot ∷ [])))
 
@@ -228,6 +228,6 @@ module _ {A : Type 0} {regions : A → List Grant} {word : A → ℕ → ℕ} {h
     where
       none_free : (top bytes k size : ℕ) → extent_at k (extent top bytes Top ∷ extent (top + bytes) 80 Foot ∷ []) ≡ Some (extent k size Free) → ⊥
       none_free top bytes k size found = elim (found_either k (extent top bytes Top ∷ []) (extent (top + bytes) 80 Foot ∷ []) found) [
-        | inl first ↦ (let no : Top ≡ Free = ap (λ (e : Extent). e.kind) (the_one k (extent top bytes Top) first) in cc)
-        | inr later ↦ (let no : Foot ≡ Free = ap (λ (e : Extent). e.kind) (the_one k (extent (top + bytes) 80 Foot) later.1) in cc)
+        | inl first ↦ (let no : Top ≡ Free = ap (λ e. e.kind) (the_one k (extent top bytes Top) first) in cc)
+        | inr later ↦ (let no : Foot ≡ Free = ap (λ e. e.kind) (the_one k (extent (top + bytes) 80 Foot) later.1) in cc)
       ]

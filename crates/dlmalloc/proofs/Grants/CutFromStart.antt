@@ -23,7 +23,7 @@ found_behind regions words segments parts apart {one} there goes_on =
     let run = run_of regions words segments parts there in
     let part = run_part regions parts run in
     let n = has_next regions parts run goes_on in
-    let is : run.segment.extents ≡ (run.first ++ one ∷ []) ++ n.next ∷ n.rest = run.extents ∙ (ap (λ (es : List Extent). run.first ++ one ∷ es) n.is ∙ sym (append_assoc run.first (one ∷ []) (n.next ∷ n.rest))) in
+    let is : run.segment.extents ≡ (run.first ++ one ∷ []) ++ n.next ∷ n.rest = run.extents ∙ (ap (λ es. run.first ++ one ∷ es) n.is ∙ sym (append_assoc run.first (one ∷ []) (n.next ∷ n.rest))) in
     record {
       next = n.next;
       place = (behind regions parts run n).0;
@@ -57,7 +57,7 @@ module _ {A : Type 0} {regions : A → List Grant} {word : A → ℕ → ℕ} {f
   was_free {at} {size} free = first.before (extent at size Free) (λ same. clash n same first.chunk) (λ same. clash (grant.size - n) same first.rest) free
     where
       clash : {place : ℕ} (bytes : ℕ) → at ≡ place → extent_at place (extents_in (state_of word middle)) ≡ Some (extent place bytes Used) → ⊥
-      clash {place} bytes same used = (let no : Used ≡ Free = ap (λ (e : Extent). e.kind) (the_extent (sym used ∙ (ap (λ (a : ℕ). extent_at a (extents_in (state_of word middle))) (sym same) ∙ free))) in cc)
+      clash {place} bytes same used = (let no : Used ≡ Free = ap (λ e. e.kind) (the_extent (sym used ∙ (ap (λ a. extent_at a (extents_in (state_of word middle))) (sym same) ∙ free))) in cc)
 
   pub no_free : (k : ℕ) → (IsInFree (state_of word old) k → ⊥) → IsInFree (state_of word middle) k → ⊥
   no_free k was f = was (record { at = f.at; size = f.size; free = was_free f.free; low = f.low; high = f.high })
@@ -67,9 +67,9 @@ module _ {A : Type 0} {regions : A → List Grant} {word : A → ℕ → ℕ} {f
   none_of_grant k low high f =
       let above = f.low in let below = f.high in
       elim (same_or_beside first.sound f.free first.chunk) [
-        | inl same ↦ (let no : Used ≡ Free = ap (λ (e : Extent). e.kind) same in cc)
+        | inl same ↦ (let no : Used ≡ Free = ap (λ e. e.kind) same in cc)
         | inr beside ↦ elim (same_or_beside first.sound f.free first.rest) [
-          | inl same ↦ (let no : Used ≡ Free = ap (λ (e : Extent). e.kind) same in cc)
+          | inl same ↦ (let no : Used ≡ Free = ap (λ e. e.kind) same in cc)
           | inr behind ↦ elim beside [
             | inl after ↦ elim behind [ inl out ↦ omega arith | inr between ↦ omega arith ]
             | inr before ↦ omega arith
@@ -109,11 +109,11 @@ module _ {A : Type 0} {regions : A → List Grant} {word : A → ℕ → ℕ} {f
   rest_there = found_behind (regions new.system) (word new.system) (segments_of word new) moved.sound.segments moved.sound.apart chunk_there refl
 
   into : (k : ℕ) → IsWordOf (regions old.system) k → IsWordOf (regions middle.system) k
-  into k inside = subst (λ (rs : List Grant). IsWordOf rs k) (sym first.regions_same) inside
+  into k inside = subst (λ rs. IsWordOf rs k) (sym first.regions_same) inside
 
   pub put_before_is : IsPutBefore regions word follows old grant n new
   put_before_is = record {
-    state = state ∙ ap (λ (s : HeapState). freed s (grant.base + n)) first.state;
+    state = state ∙ ap (λ s. freed s (grant.base + n)) first.state;
     sound = moved.sound;
     regions_same = moved.regions_same ∙ first.regions_same;
     followed = followed;
@@ -127,7 +127,7 @@ module _ {A : Type 0} {regions : A → List Grant} {word : A → ℕ → ℕ} {f
         (λ r. tag (record { extent = r.extent; there = records r.extent r.is r.there; is = r.is; low = r.low; high = r.high }));
     new_words = λ k inside low high own. moved.words k (into k inside) (none_of_grant first k low high) own ∙ first.new_words k inside low high
         (λ is. own (inl (record { extent = extent grant.base n Used; there = chunk_there; is = inl is })))
-        (λ is. own (inl (record { extent = rest_there.next; there = rest_there.there; is = inl (is ∙ ap (λ (a : ℕ). a + 8) (sym rest_there.place)) })));
+        (λ is. own (inl (record { extent = rest_there.next; there = rest_there.there; is = inl (is ∙ ap (λ a. a + 8) (sym rest_there.place)) })));
   }
 
 -- ---- so the chunk is cut out
@@ -139,10 +139,10 @@ module _ {A : Type 0} {regions : A → List Grant} {word : A → ℕ → ℕ} (z
     (zero : zeros old.system ≡ true → (k : ℕ) → grant.base ≤ k → k < grant.base + grant.size → k % 8 ≡ 0 → word middle k ≡ 0)
     {new : Dlmalloc A} (put : IsPutBefore regions word follows (record old { system = middle }) grant n new) (followed : follows old.system (Granted (round_up (n + 96) old.granularity) grant ∷ []) new.system) where
   more_put : HasOneMore (state_of word old) (state_of word new) grant.base
-  more_put = subst (λ (s : HeapState). HasOneMore s (state_of word new) grant.base) same put.more
+  more_put = subst (λ s. HasOneMore s (state_of word new) grant.base) same put.more
 
   words_put : OnlyOwnOrTagsChange (regions old.system) (state_of word old) (state_of word new) (word old.system) (word new.system)
-  words_put k inside was own tag = put.words k (word_kept grant with_it inside) out (λ f. was (subst (λ (s : HeapState). IsInFree s k) same f)) own tag ∙ words k inside
+  words_put k inside was own tag = put.words k (word_kept grant with_it inside) out (λ f. was (subst (λ s. IsInFree s k) same f)) own tag ∙ words k inside
     where
       out : (k < grant.base) ⊎ (grant.base + grant.size ≤ k)
       out = elim (dec_lt k grant.base) [
@@ -160,7 +160,7 @@ module _ {A : Type 0} {regions : A → List Grant} {word : A → ℕ → ℕ} (z
       record {
         none_chosen = none;
         full = full sound n none;
-        of_grant = λ is. (refl, put.state ∙ (ap (λ (s : HeapState). freed (prepended grant n s) (grant.base + n)) same ∙ sym (granted_before grant n (state_of word old) test)));
+        of_grant = λ is. (refl, put.state ∙ (ap (λ s. freed (prepended grant n s) (grant.base + n)) same ∙ sym (granted_before grant n (state_of word old) test)));
         of_top = λ is. absurd (cc);
         room = omega (arith, enough, good.long);
         place = inl refl;
@@ -173,7 +173,7 @@ module _ {A : Type 0} {regions : A → List Grant} {word : A → ℕ → ℕ} (z
     more = more_put;
     holds = λ size holds near. record {
       extent = extent grant.base n Used;
-      there = subst (λ (a : ℕ). extent_at a (extents_in (state_of word new)) ≡ Some (extent grant.base n Used)) back put.chunk;
+      there = subst (λ a. extent_at a (extents_in (state_of word new)) ≡ Some (extent grant.base n Used)) back put.chunk;
       low = omega arith;
       used = refl;
       holds = holds;
@@ -183,7 +183,7 @@ module _ {A : Type 0} {regions : A → List Grant} {word : A → ℕ → ℕ} (z
     words = words_put;
     own = λ is. absurd (with_other grant (sym (put.regions_same ∙ with_it) ∙ is));
     new_words = λ zeroed k inside fresh own.
-        let there = subst (λ (rs : List Grant). IsWordOf rs k) put.regions_same inside in
+        let there = subst (λ rs. IsWordOf rs k) put.regions_same inside in
         let within = word_fresh grant (regions old.system) with_it k there fresh in
         put.new_words k there within.0 within.1 own ∙ zero zeroed k within.0 within.1 inside.aligned;
     sound = put.sound;

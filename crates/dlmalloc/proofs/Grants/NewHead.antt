@@ -74,20 +74,20 @@ module _ {A : Type 0} {regions : A → List Grant} {word : A → ℕ → ℕ} {h
 
   rest_stand : Tiles (word new.system) (last_kind Used it.first) heap.top rest (it.segment.base + it.segment.size)
   rest_stand = left_stands (word new.system) heap.top heap.top_size (record { base = heap.base; size = heap.size; next = heap.next; flags = heap.flags }) it.here.1.kind (top_whole sound some) sizes.0 sizes.1 last_is.1
-      small small_is (subst (λ (a : ℕ). IsRecordAt (word new.system) a (record { base = heap.base; size = heap.size; next = heap.next; flags = heap.flags }) (it.segment.base + it.segment.size) small) at_is
-      (subst (λ (e : ℕ). IsRecordAt (word new.system) at (record { base = heap.base; size = heap.size; next = heap.next; flags = heap.flags }) e small) (λ i. was.base i + was.size i) recorded))
+      small small_is (subst (λ a. IsRecordAt (word new.system) a (record { base = heap.base; size = heap.size; next = heap.next; flags = heap.flags }) (it.segment.base + it.segment.size) small) at_is
+      (subst (λ e. IsRecordAt (word new.system) at (record { base = heap.base; size = heap.size; next = heap.next; flags = heap.flags }) e small) (λ i. was.base i + was.size i) recorded))
       (λ large. was_top large) left_foot
     where
       was_top : small ≡ false → word new.system (heap.top + 8) ≡ heap.top_size + 1
       was_top large =
-          let there : at ≡ heap.top + heap.top_size = at_is ∙ ap (λ (b : Bool). place b heap.top heap.top_size) large in
+          let there : at ≡ heap.top + heap.top_size = at_is ∙ ap (λ b. place b heap.top heap.top_size) large in
           inside_kept (heap.top + 8) (omega (arith, low_top)) (omega arith) (omega (arith, there, sizes.1)) (omega (arith, top_whole sound some))
           (λ is. absurd (omega (arith, is, sizes.1)))
-          ∙ (it.here.1.head ∙ (ap (λ (k : Kind). head_of heap.top_size (is_used k) false) it.here.1.kind ∙ omega arith))
+          ∙ (it.here.1.head ∙ (ap (λ k. head_of heap.top_size (is_used k) false) it.here.1.kind ∙ omega arith))
 
   is_now : IsSegment (regions new.system) (word new.system) now
   is_now = record {
-    run = subst (λ (rs : List Grant). IsRun rs it.segment.base it.segment.size it.segment.flags) (sym same) old_part.run;
+    run = subst (λ rs. IsRun rs it.segment.base it.segment.size it.segment.flags) (sym same) old_part.run;
     low = old_part.low;
     high = old_part.high;
     long = old_part.long;
@@ -119,11 +119,11 @@ module _ {A : Type 0} {regions : A → List Grant} {word : A → ℕ → ℕ} {h
   record_there : extent_at at now.extents ≡ Some (record_of at (it.segment.base + it.segment.size))
   record_there =
       found_later at it.first rest (none_outside (word heap.system) Used it.segment.base it.first heap.top at (inr bounds.0) it.first_stand)
-      ∙ subst (λ (a : ℕ). extent_at a rest ≡ Some (record_of a (it.segment.base + it.segment.size))) (sym at_is)
+      ∙ subst (λ a. extent_at a rest ≡ Some (record_of a (it.segment.base + it.segment.size))) (sym at_is)
       (left_record (word new.system) heap.top heap.top_size (record { base = heap.base; size = heap.size; next = heap.next; flags = heap.flags }) it.here.1.kind (top_whole sound some) sizes.0 sizes.1 last_is.1 small small_is)
 
   size_some : 0 < new.size
-  size_some = subst (λ (n : ℕ). 0 < n) (sym size) (omega (arith, fresh.long))
+  size_some = subst (λ n. 0 < n) (sym size) (omega (arith, fresh.long))
 
   told_now : AreTold (word new.system) new all
   told_now = (
@@ -132,13 +132,13 @@ module _ {A : Type 0} {regions : A → List Grant} {word : A → ℕ → ℕ} {h
     size,
     flags,
     (let here : (grant.base == new.top) ≡ true = (let t = top in grind (arith, nat_tests)) in rw here (λ i. Some (extent ((sym top) i) ((sym top_size) i) Top))),
-    subst (λ (p : ℕ). AreRecords (word new.system) p (now ∷ it.back)) (sym next) (
+    subst (λ p. AreRecords (word new.system) p (now ∷ it.back)) (sym next) (
       omega (arith, bounds.0, low_top, old_part.low),
       recorded.base ∙ was.base,
       recorded.size ∙ was.size,
       recorded.flags ∙ was.flags,
-      subst (λ (a : ℕ). extent_at a now.extents ≡ Some (record_of a (it.segment.base + it.segment.size))) back record_there,
-      subst (λ (p : ℕ). AreRecords (word new.system) p it.back) (sym recorded.next) (told_kept new sound fresh same some outside_kept),
+      subst (λ a. extent_at a now.extents ≡ Some (record_of a (it.segment.base + it.segment.size))) back record_there,
+      subst (λ p. AreRecords (word new.system) p it.back) (sym recorded.next) (told_kept new sound fresh same some outside_kept),
     ),
   )
     where
@@ -150,7 +150,7 @@ module _ {A : Type 0} {regions : A → List Grant} {word : A → ℕ → ℕ} {h
 
   extents_were : extents_in (state_of word heap) ≡ it.first ++ (before ++ extents_all it.back)
   extents_were = ap extents_all (segments_are new sound fresh same some)
-      ∙ (ap (λ (es : List Extent). es ++ extents_all it.back) (it.extents ∙ ap (λ (es : List Extent). it.first ++ extent heap.top heap.top_size Top ∷ es) last_is.0)
+      ∙ (ap (λ es. es ++ extents_all it.back) (it.extents ∙ ap (λ es. it.first ++ extent heap.top heap.top_size Top ∷ es) last_is.0)
       ∙ append_assoc it.first before (extents_all it.back))
 
   all_apart : AreDistinct (extents_all all)
@@ -165,16 +165,16 @@ module _ {A : Type 0} {regions : A → List Grant} {word : A → ℕ → ℕ} {h
       distinct_later (opened grant).extents (extents_all (now ∷ it.back)) k {extent = one} all_apart
       (replaced_found k it.first before rest (extents_all it.back) (append_assoc it.first rest (extents_all it.back)) (all_apart.1.1)
       (λ found. absurd (elim (of_two k (extent heap.top heap.top_size Top) (extent (it.segment.base + it.segment.size - 80) 80 Foot) found) [
-        | inl is ↦ no_top (ap (λ (e : Extent). e.kind) (sym is))
-        | inr is ↦ no_foot (ap (λ (e : Extent). e.kind) (sym is))
+        | inl is ↦ no_top (ap (λ e. e.kind) (sym is))
+        | inr is ↦ no_foot (ap (λ e. e.kind) (sym is))
       ])) (ap (extent_at k) (sym extents_were) ∙ there))
 
   found_before : (k : ℕ) (one : Extent) → one.kind ≡ Used → extent_at k (extents_all all) ≡ Some one → extent_at k (extents_in (state_of word heap)) ≡ Some one
   found_before k one used there =
       elim (found_either k (opened grant).extents (extents_all (now ∷ it.back)) there) [
         | inl of_grant ↦ absurd (elim (of_two k (extent grant.base (grant.base + grant.size - 80 - grant.base) Top) (extent (grant.base + grant.size - 80) 80 Foot) of_grant) [
-          | inl is ↦ (let no : Top ≡ Used = ap (λ (e : Extent). e.kind) is ∙ used in cc)
-          | inr is ↦ (let no : Foot ≡ Used = ap (λ (e : Extent). e.kind) is ∙ used in cc)
+          | inl is ↦ (let no : Top ≡ Used = ap (λ e. e.kind) is ∙ used in cc)
+          | inr is ↦ (let no : Foot ≡ Used = ap (λ e. e.kind) is ∙ used in cc)
         ])
         | inr later ↦ replaced_found k it.first rest before (extents_all it.back) extents_were distinct_old
             (λ found. absurd (left_other (word new.system) heap.top heap.top_size (record { base = heap.base; size = heap.size; next = heap.next; flags = heap.flags }) it.here.1.kind (top_whole sound some) sizes.0 sizes.1 last_is.1 small k one found used))
@@ -191,8 +191,8 @@ module _ {A : Type 0} {regions : A → List Grant} {word : A → ℕ → ℕ} {h
 
   in_before : (k size : ℕ) → extent_at k before ≡ Some (extent k size Free) → IsIn k []
   in_before k size found = elim (of_two k (extent heap.top heap.top_size Top) (extent (it.segment.base + it.segment.size - 80) 80 Foot) found) [
-    | inl is ↦ (let no : Top ≡ Free = ap (λ (e : Extent). e.kind) is in cc)
-    | inr is ↦ (let no : Foot ≡ Free = ap (λ (e : Extent). e.kind) is in cc)
+    | inl is ↦ (let no : Top ≡ Free = ap (λ e. e.kind) is in cc)
+    | inr is ↦ (let no : Foot ≡ Free = ap (λ e. e.kind) is in cc)
   ]
 
   pub added_free : FreeMoves (state_of word heap) (state_of word new) [] (left_free small heap.top)
@@ -206,8 +206,8 @@ module _ {A : Type 0} {regions : A → List Grant} {word : A → ℕ → ℕ} {h
         );
     was = λ k size free out. elim (found_either k (opened grant).extents (extents_all (now ∷ it.back)) (ap (extent_at k) (sym (all_retold regions word new all parts_now apart_now told_now)) ∙ free)) [
       | inl of_grant ↦ absurd (elim (of_two k (extent grant.base (grant.base + grant.size - 80 - grant.base) Top) (extent (grant.base + grant.size - 80) 80 Foot) of_grant) [
-        | inl is ↦ (let no : Top ≡ Free = ap (λ (e : Extent). e.kind) is in cc)
-        | inr is ↦ (let no : Foot ≡ Free = ap (λ (e : Extent). e.kind) is in cc)
+        | inl is ↦ (let no : Top ≡ Free = ap (λ e. e.kind) is in cc)
+        | inr is ↦ (let no : Foot ≡ Free = ap (λ e. e.kind) is in cc)
       ])
       | inr later ↦ (
           let found = free_stays it.first rest before (extents_all it.back) (subst AreDistinct extents_were distinct_old) (left_free small heap.top) [] (in_left small heap.top heap.top_size) (λ k none. absurd none) (ap (extent_at k) (sym (append_assoc it.first rest (extents_all it.back))) ∙ later.1) out in
@@ -220,7 +220,7 @@ module _ {A : Type 0} {regions : A → List Grant} {word : A → ℕ → ℕ} {h
       ap (extent_at heap.top) (all_retold regions word new all parts_now apart_now told_now)
       ∙ distinct_later (opened grant).extents (extents_all (now ∷ it.back)) heap.top all_apart (ap (extent_at heap.top) (append_assoc it.first rest (extents_all it.back))
       ∙ (found_later heap.top it.first (rest ++ extents_all it.back) (none_outside (word heap.system) Used it.segment.base it.first heap.top heap.top (inr (omega arith)) it.first_stand)
-      ∙ found_more heap.top rest (extents_all it.back) (subst (λ (b : Bool). extent_at heap.top (left b heap.top heap.top_size) ≡ Some (extent heap.top heap.top_size Free)) (sym large)
+      ∙ found_more heap.top rest (extents_all it.back) (subst (λ b. extent_at heap.top (left b heap.top heap.top_size) ≡ Some (extent heap.top heap.top_size Free)) (sym large)
       (found_here (extent heap.top heap.top_size Free) (extent (heap.top + heap.top_size) 80 Record ∷ [])))))
 
   pub added_sound : IsSound regions word new
@@ -263,7 +263,7 @@ module _ {A : Type 0} {regions : A → List Grant} {word : A → ℕ → ℕ} {h
             extent = extent heap.top heap.top_size Free;
             there = there heap.top (extent heap.top heap.top_size Free)
                 (found_later heap.top it.first rest (none_outside (word heap.system) Used it.segment.base it.first heap.top heap.top (inr (omega arith)) it.first_stand)
-                ∙ (ap (λ (b : Bool). extent_at heap.top (left b heap.top heap.top_size)) test ∙ found_here (extent heap.top heap.top_size Free) (extent (heap.top + heap.top_size) 80 Record ∷ [])));
+                ∙ (ap (λ b. extent_at heap.top (left b heap.top heap.top_size)) test ∙ found_here (extent heap.top heap.top_size Free) (extent (heap.top + heap.top_size) 80 Record ∷ [])));
             is = inr (refl, is);
           }))
 
@@ -277,7 +277,7 @@ module _ {A : Type 0} {regions : A → List Grant} {word : A → ℕ → ℕ} {h
   pub added_state : (n : ℕ) → state_of word new ≡ granted grant n (state_of word heap)
   added_state n =
       (λ i. record { segments = segments_now i; victim = victim i; granularity = granularity i; rate = rate i; countdown = countdown i; trim_check = trim_check i })
-      ∙ (sym after ∙ ap (λ (ss : List Segment). granted grant n (record { segments = ss; victim = heap.victim; granularity = heap.granularity; rate = heap.rate; countdown = heap.countdown; trim_check = heap.trim_check }))
+      ∙ (sym after ∙ ap (λ ss. granted grant n (record { segments = ss; victim = heap.victim; granularity = heap.granularity; rate = heap.rate; countdown = heap.countdown; trim_check = heap.trim_check }))
       (sym (segments_are new sound fresh same some)))
     where
       apart : is_behind grant it.segment ≡ false
@@ -292,11 +292,11 @@ module _ {A : Type 0} {regions : A → List Grant} {word : A → ℕ → ℕ} {h
 
       chunks : AreChunks it.first
       chunks = are_chunks (word heap.system) Used it.segment.base it.first (extent heap.top heap.top_size Top) it.last (it.segment.base + it.segment.size) (λ is. cc)
-          (subst (λ (es : List Extent). Tiles (word heap.system) Used it.segment.base es (it.segment.base + it.segment.size)) it.extents old_part.extents)
+          (subst (λ es. Tiles (word heap.system) Used it.segment.base es (it.segment.base + it.segment.size)) it.extents old_part.extents)
 
       closed_are : flat_map closed it.segment.extents ≡ it.first ++ rest
       closed_are =
-          ap (flat_map closed) (it.extents ∙ ap (λ (es : List Extent). it.first ++ extent heap.top heap.top_size Top ∷ es) last_is.0)
+          ap (flat_map closed) (it.extents ∙ ap (λ es. it.first ++ extent heap.top heap.top_size Top ∷ es) last_is.0)
           ∙ (flat_map-append closed it.first before
           ∙ (λ i. closed_chunks it.first chunks i ++ of_top small small_is i))
         where

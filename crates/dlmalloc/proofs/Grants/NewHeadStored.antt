@@ -17,12 +17,12 @@ record_place at top size is units long = go (nat_lt size 32) refl is
         let bytes : size ≡ 16 = omega (arith, small, units, long) in
         let sixteen : (size == 16) ≡ true = grind (arith, nat_tests) in
         let here : (at == top) ≡ true = grind (arith, nat_tests) in
-        (sixteen ∙ sym here, is ∙ ap (λ (b : Bool). place b top size) (sym here))
+        (sixteen ∙ sym here, is ∙ ap (λ b. place b top size) (sym here))
     go false test is =
         let large : 32 ≤ size = grind (arith, nat_tests) in
         let other : (size == 16) ≡ false = nat_isnt (inr (omega (arith, large))) in
         let beyond : (at == top) ≡ false = nat_isnt (inr (omega (arith, is, large))) in
-        (other ∙ sym beyond, is ∙ ap (λ (b : Bool). place b top size) (sym beyond))
+        (other ∙ sym beyond, is ∙ ap (λ b. place b top size) (sym beyond))
 
 -- it is in the segment
 pub record_bounds : (at top size : ℕ) {end : ℕ} → at ≡ (if nat_lt size 32 then top else top + size) → top % 16 ≡ 0 → size % 16 ≡ 0 → 16 ≤ size → top + size + 80 ≡ end → (top ≤ at) × (at + 80 ≤ end) × (at % 16 ≡ 0)
@@ -34,7 +34,7 @@ record_bounds at top size {end} is whole units long ends = go (nat_lt size 32) i
 
 -- beyond a top that is left as a free chunk
 pub large_at : {at : ℕ} (top size : ℕ) → at ≡ (if nat_lt size 32 then top else top + size) → 32 ≤ size → top + size ≤ at
-large_at top size is large = (let test : nat_lt size 32 ≡ false = grind (arith, nat_tests) in omega (arith, is ∙ ap (λ (b : Bool). if b then top else top + size) test))
+large_at top size is large = (let test : nat_lt size 32 ≡ false = grind (arith, nat_tests) in omega (arith, is ∙ ap (λ b. if b then top else top + size) test))
 
 -- a heap with a grant as its head segment, and a record at an address
 abbrev pub new_head : {A : Type 0} → Dlmalloc A → Grant → A → ℕ → Dlmalloc A
@@ -51,12 +51,12 @@ new_head heap grant system at = record heap {
 
 -- what a heap over another system tells is the same
 pub ends_same : {A : Type 0} (heap : Dlmalloc A) {middle : Dlmalloc A} → middle ≡ record heap { system = middle.system } → middle.base + middle.size ≡ heap.base + heap.size
-ends_same {A} heap is = ap (λ (h : Dlmalloc A). h.base + h.size) is
+ends_same {A} heap is = ap (λ h. h.base + h.size) is
 
 pub told_same : {A : Type 0} {words : ℕ → ℕ} (at : ℕ) (heap : Dlmalloc A) {middle : Dlmalloc A} → middle ≡ record heap { system = middle.system } →
     IsRecordAt words at (record { base = middle.base; size = middle.size; next = middle.next; flags = middle.flags }) (middle.base + middle.size) (at == middle.top) →
     IsRecordAt words at (record { base = heap.base; size = heap.size; next = heap.next; flags = heap.flags }) (heap.base + heap.size) (at == heap.top)
-told_same {A} {words} at heap is told = subst (λ (h : Dlmalloc A). IsRecordAt words at (record { base = h.base; size = h.size; next = h.next; flags = h.flags }) (h.base + h.size) (at == h.top)) is told
+told_same {A} {words} at heap is told = subst (λ h. IsRecordAt words at (record { base = h.base; size = h.size; next = h.next; flags = h.flags }) (h.base + h.size) (at == h.top)) is told
 
 module _ {A : Type 0} {regions : A → List Grant} {word : A → ℕ → ℕ} {heap : Dlmalloc A} (sound : IsSound regions word heap) (some : 0 < heap.size) where
   pub bounds_of : {at : ℕ} → at ≡ (if nat_lt heap.top_size 32 then heap.top else heap.top + heap.top_size) → (heap.top ≤ at) × (at + 80 ≤ heap.base + heap.size) × (at % 16 ≡ 0)
@@ -69,7 +69,7 @@ module _ {A : Type 0} {regions : A → List Grant} {word : A → ℕ → ℕ} {h
   beside_head grant fresh =
       let run = top_run sound some in
       let is = top_segment sound some in
-      let apart = (subst (AllByRecursion (λ (segment : Segment). IsApartFrom segment (opened grant))) (run.is ∙ ap (λ (front : List Segment). front ++ run.segment ∷ run.back) (top_front sound some)) fresh.apart).0 in
+      let apart = (subst (AllByRecursion (λ segment. IsApartFrom segment (opened grant))) (run.is ∙ ap (λ front. front ++ run.segment ∷ run.back) (top_front sound some)) fresh.apart).0 in
       elim apart [ inl before ↦ inl (omega (arith, before, is.base, is.size)) | inr behind ↦ inr (omega (arith, behind, is.base)) ]
 
 -- a record rests on its own words
@@ -123,7 +123,7 @@ module _ {A : Type 0} {regions : A → List Grant} {word : A → ℕ → ℕ} (f
 
   -- what was the top is free, if it has more than 16 bytes
   pub new_free : FreeMoves (state_of word heap) (state_of word (new_head heap grant system at)) [] (if nat_le 32 heap.top_size then heap.top ∷ [] else [])
-  new_free = subst (λ (come : List ℕ). FreeMoves (state_of word heap) (state_of word (new_head heap grant system at)) [] come) (small_is (at == heap.top) refl)
+  new_free = subst (λ come. FreeMoves (state_of word heap) (state_of word (new_head heap grant system at)) [] come) (small_is (at == heap.top) refl)
       (added_free (new_head heap grant system at) sound fresh same some beside no_join where_is.0 where_is.1 refl refl refl refl refl refl refl refl refl refl refl refl head foot recorded foot_stands kept_all)
 
   pub new_rest : 32 ≤ heap.top_size → IsFreeAt (state_of word (new_head heap grant system at)) heap.top heap.top_size

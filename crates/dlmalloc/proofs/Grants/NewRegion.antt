@@ -17,7 +17,7 @@ same_in segment grant (region ∷ regions) some apart = split (nat_lt grant.base
   where
     split : (b : Bool) → regions_in segment (with_grant grant regions) ≡ regions_in segment regions → regions_in segment (if b then grant ∷ region ∷ regions else region ∷ with_grant grant regions) ≡ regions_in segment (region ∷ regions)
     split true rest = not_in segment grant (region ∷ regions) some apart
-    split false rest = ap (λ (others : List Grant). if nat_lt region.base (segment.base + segment.size) && nat_lt segment.base (region.base + region.size) then region ∷ others else others) rest
+    split false rest = ap (λ others. if nat_lt region.base (segment.base + segment.size) && nat_lt segment.base (region.base + region.size) then region ∷ others else others) rest
 
 module _ {A : Type 0} {regions : A → List Grant} {word : A → ℕ → ℕ} {heap : Dlmalloc A} (sound : IsSound regions word heap) (system : A) {asked : ℕ} (enough : 128 ≤ asked) {grant : Grant} (good : IsGoodGrant asked grant)
     (apart : AllByRecursion (IsApart grant.base (grant.base + grant.size)) (regions heap.system)) (with_it : regions system ≡ with_grant grant (regions heap.system))
@@ -25,10 +25,10 @@ module _ {A : Type 0} {regions : A → List Grant} {word : A → ℕ → ℕ} {h
   long : 128 ≤ grant.size
   long = omega (arith, good.long, enough)
 
-  segments_apart : AllByRecursion (λ (segment : Segment). IsApartFrom segment (opened grant)) (segments_of word heap)
+  segments_apart : AllByRecursion (λ segment. IsApartFrom segment (opened grant)) (segments_of word heap)
   segments_apart = go (segments_of word heap) sound.segments
     where
-      go : (segments : List Segment) → AreSegments (regions heap.system) (word heap.system) segments → AllByRecursion (λ (segment : Segment). IsApartFrom segment (opened grant)) segments
+      go : (segments : List Segment) → AreSegments (regions heap.system) (word heap.system) segments → AllByRecursion (λ segment. IsApartFrom segment (opened grant)) segments
       go [] parts = tt
       go (segment ∷ segments) parts = (
         elim (run_apart parts.0.run (let some = parts.0.long in omega arith) grant (omega (arith, long)) apart) [ inl before ↦ inr before | inr behind ↦ inl behind ],
@@ -38,7 +38,7 @@ module _ {A : Type 0} {regions : A → List Grant} {word : A → ℕ → ℕ} {h
   pub keeps : KeepsRegions (segments_of word heap) (regions heap.system) (regions system)
   keeps = go (segments_of word heap) segments_apart
     where
-      go : (segments : List Segment) → AllByRecursion (λ (segment : Segment). IsApartFrom segment (opened grant)) segments → KeepsRegions segments (regions heap.system) (regions system)
+      go : (segments : List Segment) → AllByRecursion (λ segment. IsApartFrom segment (opened grant)) segments → KeepsRegions segments (regions heap.system) (regions system)
       go [] all = tt
       go (segment ∷ segments) all = (ap (regions_in segment) with_it ∙ same_in segment grant (regions heap.system) (omega (arith, long)) all.0, go segments all.1)
 
@@ -55,8 +55,8 @@ module _ {A : Type 0} {regions : A → List Grant} {word : A → ℕ → ℕ} {h
   -- and the grant can become part of it
   pub fresh_grant : IsFresh (regions system) (segments_of word (record heap { system = system })) grant
   fresh_grant = record {
-    run = subst (λ (rs : List Grant). IsRun rs grant.base grant.size grant.flags) (sym with_it) (run_alone (regions heap.system) grant apart);
-    apart = subst (AllByRecursion (λ (segment : Segment). IsApartFrom segment (opened grant))) (λ i. ((sym granted_same) i).segments) segments_apart;
+    run = subst (λ rs. IsRun rs grant.base grant.size grant.flags) (sym with_it) (run_alone (regions heap.system) grant apart);
+    apart = subst (AllByRecursion (λ segment. IsApartFrom segment (opened grant))) (λ i. ((sym granted_same) i).segments) segments_apart;
     long = long;
     base_aligned = good.base_aligned;
     size_aligned = good.size_aligned;

@@ -23,7 +23,7 @@ module _ {A : Type 0} {regions : A → List Grant} {word : A → ℕ → ℕ} {h
 
     pub opened_segment : IsSegment (regions new.system) (word new.system) (opened grant)
     opened_segment = record {
-      run = subst (λ (rs : List Grant). IsRun rs grant.base grant.size grant.flags) (sym same) fresh.run;
+      run = subst (λ rs. IsRun rs grant.base grant.size grant.flags) (sym same) fresh.run;
       low = fresh.low;
       high = fresh.high;
       long = omega (arith, fresh.long);
@@ -34,8 +34,8 @@ module _ {A : Type 0} {regions : A → List Grant} {word : A → ℕ → ℕ} {h
         stands : Tiles (word new.system) Used grant.base (opened grant).extents (grant.base + grant.size)
         stands =
             let place : grant.base + bytes + 8 ≡ grant.base + grant.size - 72 = omega (arith, fits) in
-            subst (λ (end : ℕ). Tiles (word new.system) Used grant.base (opened grant).extents end) fits
-            (subst (λ (at : ℕ). Tiles (word new.system) Used grant.base (extent grant.base bytes Top ∷ extent at 80 Foot ∷ []) (grant.base + bytes + 80)) (omega (arith, fits))
+            subst (λ end. Tiles (word new.system) Used grant.base (opened grant).extents end) fits
+            (subst (λ at. Tiles (word new.system) Used grant.base (extent grant.base bytes Top ∷ extent at 80 Foot ∷ []) (grant.base + bytes + 80)) (omega (arith, fits))
             (top_stands (word new.system) {before = Used} grant.base bytes refl fresh.base_aligned (omega (arith, fits, fresh.base_aligned, fresh.size_aligned)) (omega (arith, fits, fresh.long)) head (ap (word new.system) place ∙ foot)))
 
     -- ---- the first grant
@@ -46,7 +46,7 @@ module _ {A : Type 0} {regions : A → List Grant} {word : A → ℕ → ℕ} {h
         (countdown : new.countdown ≡ countdown_from heap.rate) (trim_check : new.trim_check ≡ trim_threshold) where
       told : AreTold (word new.system) new (opened grant ∷ [])
       told = (
-        subst (λ (n : ℕ). 0 < n) (sym size) (omega (arith, fresh.long)),
+        subst (λ n. 0 < n) (sym size) (omega (arith, fresh.long)),
         base,
         size,
         flags,
@@ -64,43 +64,43 @@ module _ {A : Type 0} {regions : A → List Grant} {word : A → ℕ → ℕ} {h
           go true is = victim_size ∙ (let t = is in grind (arith, nat_tests))
           go false isnt =
               let found = sound.victim (grind (arith, nat_tests)) in
-              absurd (let gone : extent_at heap.victim [] ≡ Some (extent heap.victim heap.victim_size Free) = ap (λ (ss : List Segment). extent_at heap.victim (flat_map (λ (s : Segment). s.extents) ss)) (sym (no_segments word heap none)) ∙ found in cc)
+              absurd (let gone : extent_at heap.victim [] ≡ Some (extent heap.victim heap.victim_size Free) = ap (λ ss. extent_at heap.victim (flat_map (λ s. s.extents) ss)) (sym (no_segments word heap none)) ∙ found in cc)
 
       pub opened_sound : IsSound regions word new
       opened_sound = retold_sound regions word new (opened grant ∷ []) (opened_segment, tt) (tt, tt) told (subst (IsGranularity) (sym granularity) sound.granularity)
-          (subst (λ (n : ℕ). 0 < n) (sym size) (omega (arith, fresh.long))) (λ gone. victim ∙ sound.no_victim (sym victim_size ∙ gone)) (λ some. absurd (some no_victim))
+          (subst (λ n. 0 < n) (sym size) (omega (arith, fresh.long))) (λ gone. victim ∙ sound.no_victim (sym victim_size ∙ gone)) (λ some. absurd (some no_victim))
 
       pub opened_state : (n : ℕ) → state_of word new ≡ granted grant n (state_of word heap)
       opened_state n =
           (λ i. record { segments = opened_read i; victim = victim i; granularity = granularity i; rate = rate i; countdown = countdown i; trim_check = trim_check i })
-          ∙ ap (λ (ss : List Segment). granted grant n (record { segments = ss; victim = heap.victim; granularity = heap.granularity; rate = heap.rate; countdown = heap.countdown; trim_check = heap.trim_check })) (sym (no_segments word heap none))
+          ∙ ap (λ ss. granted grant n (record { segments = ss; victim = heap.victim; granularity = heap.granularity; rate = heap.rate; countdown = heap.countdown; trim_check = heap.trim_check })) (sym (no_segments word heap none))
 
       -- no extent is in use before, nor after
       pub opened_used : HasSameUsed (state_of word heap) (state_of word new)
       opened_used = record {
         still = λ used is there.
-            absurd (let gone : None ≡ Some used = ap (λ (ss : List Segment). extent_at used.at (flat_map (λ (s : Segment). s.extents) ss)) (sym (no_segments word heap none)) ∙ there in cc);
+            absurd (let gone : None ≡ Some used = ap (λ ss. extent_at used.at (flat_map (λ s. s.extents) ss)) (sym (no_segments word heap none)) ∙ there in cc);
         before = λ used is there.
-            absurd (no_used used is (grant.base == used.at) (grant.base + grant.size - 80 == used.at) (ap (λ (ss : List Segment). extent_at used.at (flat_map (λ (s : Segment). s.extents) ss)) (sym opened_read) ∙ there));
+            absurd (no_used used is (grant.base == used.at) (grant.base + grant.size - 80 == used.at) (ap (λ ss. extent_at used.at (flat_map (λ s. s.extents) ss)) (sym opened_read) ∙ there));
       }
         where
           no_used : (used : Extent) → used.kind ≡ Used → (b d : Bool) → (if b then Some (extent grant.base bytes Top) else if d then Some (extent (grant.base + grant.size - 80) 80 Foot) else None) ≡ Some used → ⊥
-          no_used used is true d found = (let k : Top ≡ used.kind = ap (λ (o : Option Extent). (unwrap_or o used).kind) found in let no : Top ≡ Used = k ∙ is in cc)
-          no_used used is false true found = (let k : Foot ≡ used.kind = ap (λ (o : Option Extent). (unwrap_or o used).kind) found in let no : Foot ≡ Used = k ∙ is in cc)
+          no_used used is true d found = (let k : Top ≡ used.kind = ap (λ o. (unwrap_or o used).kind) found in let no : Top ≡ Used = k ∙ is in cc)
+          no_used used is false true found = (let k : Foot ≡ used.kind = ap (λ o. (unwrap_or o used).kind) found in let no : Foot ≡ Used = k ∙ is in cc)
           no_used used is false false found = cc
 
       -- no free extent but the top is there before, nor after
       pub opened_free : FreeMoves (state_of word heap) (state_of word new) [] []
       opened_free = record {
         stays = λ k size free out.
-            absurd (let gone : None ≡ Some (extent k size Free) = ap (λ (ss : List Segment). extent_at k (flat_map (λ (s : Segment). s.extents) ss)) (sym (no_segments word heap none)) ∙ free in cc);
+            absurd (let gone : None ≡ Some (extent k size Free) = ap (λ ss. extent_at k (flat_map (λ s. s.extents) ss)) (sym (no_segments word heap none)) ∙ free in cc);
         was = λ k size free out.
-            absurd (no_free k size (grant.base == k) (grant.base + grant.size - 80 == k) (ap (λ (ss : List Segment). extent_at k (flat_map (λ (s : Segment). s.extents) ss)) (sym opened_read) ∙ free));
+            absurd (no_free k size (grant.base == k) (grant.base + grant.size - 80 == k) (ap (λ ss. extent_at k (flat_map (λ s. s.extents) ss)) (sym opened_read) ∙ free));
       }
         where
           no_free : (k size : ℕ) (b d : Bool) → (if b then Some (extent grant.base bytes Top) else if d then Some (extent (grant.base + grant.size - 80) 80 Foot) else None) ≡ Some (extent k size Free) → ⊥
-          no_free k size true d found = (let no : Top ≡ Free = ap (λ (o : Option Extent). (unwrap_or o (extent k size Free)).kind) found in cc)
-          no_free k size false true found = (let no : Foot ≡ Free = ap (λ (o : Option Extent). (unwrap_or o (extent k size Free)).kind) found in cc)
+          no_free k size true d found = (let no : Top ≡ Free = ap (λ o. (unwrap_or o (extent k size Free)).kind) found in cc)
+          no_free k size false true found = (let no : Foot ≡ Free = ap (λ o. (unwrap_or o (extent k size Free)).kind) found in cc)
           no_free k size false false found = cc
 
   -- ---- the segments behind the head
@@ -116,7 +116,7 @@ module _ {A : Type 0} {regions : A → List Grant} {word : A → ℕ → ℕ} {h
     was_head = top_segment sound some
 
     pub segments_are : segments_of word heap ≡ run.segment ∷ run.back
-    segments_are = run.is ∙ ap (λ (front : List Segment). front ++ run.segment ∷ run.back) (top_front sound some)
+    segments_are = run.is ∙ ap (λ front. front ++ run.segment ∷ run.back) (top_front sound some)
 
     pub back_parts : AreSegments (regions heap.system) (word heap.system) run.back
     back_parts = (subst (AreSegments (regions heap.system) (word heap.system)) segments_are sound.segments).1
@@ -124,8 +124,8 @@ module _ {A : Type 0} {regions : A → List Grant} {word : A → ℕ → ℕ} {h
     pub back_apart : AllByRecursion (IsApartFrom run.segment) run.back × AreApart run.back
     back_apart = subst AreApart segments_are sound.apart
 
-    pub grant_apart : IsApartFrom run.segment (opened grant) × AllByRecursion (λ (segment : Segment). IsApartFrom segment (opened grant)) run.back
-    grant_apart = subst (AllByRecursion (λ (segment : Segment). IsApartFrom segment (opened grant))) segments_are fresh.apart
+    pub grant_apart : IsApartFrom run.segment (opened grant) × AllByRecursion (λ segment. IsApartFrom segment (opened grant)) run.back
+    grant_apart = subst (AllByRecursion (λ segment. IsApartFrom segment (opened grant))) segments_are fresh.apart
 
     back_told : AreRecords (word heap.system) heap.next run.back
     back_told = (subst (AreTold (word heap.system) heap) segments_are sound.told).5
@@ -134,7 +134,7 @@ module _ {A : Type 0} {regions : A → List Grant} {word : A → ℕ → ℕ} {h
     pub apart_grant : AllByRecursion (IsApartFrom (opened grant)) run.back
     apart_grant = go run.back grant_apart.1
       where
-        go : (others : List Segment) → AllByRecursion (λ (segment : Segment). IsApartFrom segment (opened grant)) others → AllByRecursion (IsApartFrom (opened grant)) others
+        go : (others : List Segment) → AllByRecursion (λ segment. IsApartFrom segment (opened grant)) others → AllByRecursion (IsApartFrom (opened grant)) others
         go [] all = tt
         go (other ∷ others) all = (apart_back other (opened grant) all.0, go others all.1)
 
@@ -143,7 +143,7 @@ module _ {A : Type 0} {regions : A → List Grant} {word : A → ℕ → ℕ} {h
       back_keeps = apart_stay (regions heap.system) (word heap.system) (word new.system) run.segment (opened grant) run.back back_parts back_apart.0 grant_apart.1 kept
 
       pub parts_kept : AreSegments (regions new.system) (word new.system) run.back
-      parts_kept = subst (λ (rs : List Grant). AreSegments rs (word new.system) run.back) (sym same) (parts_stay (regions heap.system) (word heap.system) (word new.system) run.back back_parts back_keeps)
+      parts_kept = subst (λ rs. AreSegments rs (word new.system) run.back) (sym same) (parts_stay (regions heap.system) (word heap.system) (word new.system) run.back back_parts back_keeps)
 
       pub told_kept : AreRecords (word new.system) heap.next run.back
       told_kept = records_stay (regions heap.system) (word heap.system) (word new.system) run.back back_parts back_keeps heap.next back_told

@@ -12,7 +12,7 @@ pub before_means : (grant : Grant) (segment : Segment) → is_before grant segme
 before_means grant segment test = (grind (arith, nat_tests), grind (arith, nat_tests))
 
 -- being apart goes both ways
-pub flip : (one : Segment) (others : List Segment) → AllByRecursion (λ (other : Segment). IsApartFrom other one) others → AllByRecursion (IsApartFrom one) others
+pub flip : (one : Segment) (others : List Segment) → AllByRecursion (λ other. IsApartFrom other one) others → AllByRecursion (IsApartFrom one) others
 flip one [] all = tt
 flip one (other ∷ others) all = (apart_back other one all.0, flip one others all.1)
 
@@ -35,8 +35,8 @@ module _ {A : Type 0} {regions : A → List Grant} {word : A → ℕ → ℕ} {h
   apart : AreApart (front ++ segment ∷ back)
   apart = subst AreApart is sound.apart
 
-  beside : AllByRecursion (λ (other : Segment). IsApartFrom other (opened grant)) (front ++ segment ∷ back)
-  beside = subst (AllByRecursion (λ (other : Segment). IsApartFrom other (opened grant))) is fresh.apart
+  beside : AllByRecursion (λ other. IsApartFrom other (opened grant)) (front ++ segment ∷ back)
+  beside = subst (AllByRecursion (λ other. IsApartFrom other (opened grant))) is fresh.apart
 
   pub the_part : IsSegment (regions heap.system) (word heap.system) segment
   the_part = all_at (IsSegment (regions heap.system) (word heap.system)) front segment back parts
@@ -47,11 +47,11 @@ module _ {A : Type 0} {regions : A → List Grant} {word : A → ℕ → ℕ} {h
   pub back_parts : AreSegments (regions heap.system) (word heap.system) back
   back_parts = (all_back (IsSegment (regions heap.system) (word heap.system)) front (segment ∷ back) parts).1
 
-  front_beside : AllByRecursion (λ (other : Segment). IsApartFrom other (opened grant)) front
-  front_beside = all_front (λ (other : Segment). IsApartFrom other (opened grant)) front (segment ∷ back) beside
+  front_beside : AllByRecursion (λ other. IsApartFrom other (opened grant)) front
+  front_beside = all_front (λ other. IsApartFrom other (opened grant)) front (segment ∷ back) beside
 
-  back_beside : AllByRecursion (λ (other : Segment). IsApartFrom other (opened grant)) back
-  back_beside = (all_back (λ (other : Segment). IsApartFrom other (opened grant)) front (segment ∷ back) beside).1
+  back_beside : AllByRecursion (λ other. IsApartFrom other (opened grant)) back
+  back_beside = (all_back (λ other. IsApartFrom other (opened grant)) front (segment ∷ back) beside).1
 
   outside_kept : (k : ℕ) → IsWordOf (regions heap.system) k → IsOutside segment k → IsOutside (opened grant) k → word new.system k ≡ word heap.system k
   outside_kept k inside first second = kept k inside
@@ -94,8 +94,8 @@ module _ {A : Type 0} {regions : A → List Grant} {word : A → ℕ → ℕ} {h
           foot = λ free. absurd (cc);
           fence = λ is. absurd (cc);
         },
-        subst (λ (end : ℕ). Tiles (word new.system) Used (grant.base + n + (grant.size - n)) segment.extents end) same_end
-            (subst (λ (at : ℕ). Tiles (word new.system) Used at segment.extents (segment.base + segment.size)) same_begin tiles),
+        subst (λ end. Tiles (word new.system) Used (grant.base + n + (grant.size - n)) segment.extents end) same_end
+            (subst (λ at. Tiles (word new.system) Used at segment.extents (segment.base + segment.size)) same_begin tiles),
       ),
     )
       where
@@ -110,9 +110,9 @@ module _ {A : Type 0} {regions : A → List Grant} {word : A → ℕ → ℕ} {h
 
     is_now : IsSegment (regions new.system) (word new.system) now
     is_now = record {
-      run = subst (λ (rs : List Grant). IsRun rs grant.base (grant.size + segment.size) segment.flags) (sym same)
+      run = subst (λ rs. IsRun rs grant.base (grant.size + segment.size) segment.flags) (sym same)
           (runs_joined place
-          (subst (λ (f : ℕ). IsRun (regions heap.system) grant.base grant.size f) (before_means grant segment joins).1 fresh.run) the_part.run whole);
+          (subst (λ f. IsRun (regions heap.system) grant.base grant.size f) (before_means grant segment joins).1 fresh.run) the_part.run whole);
       low = fresh.low;
       high = omega (arith, the_part.high, place);
       long = omega (arith, the_part.long);
@@ -122,9 +122,9 @@ module _ {A : Type 0} {regions : A → List Grant} {word : A → ℕ → ℕ} {h
 
     parts_now : AreSegments (regions new.system) (word new.system) (front ++ now ∷ back)
     parts_now = parts_around front back
-        (subst (λ (rs : List Grant). AreSegments rs (word new.system) front) (sym same) (parts_stay (regions heap.system) (word heap.system) (word new.system) front front_parts front_keeps))
+        (subst (λ rs. AreSegments rs (word new.system) front) (sym same) (parts_stay (regions heap.system) (word heap.system) (word new.system) front front_parts front_keeps))
         is_now
-        (subst (λ (rs : List Grant). AreSegments rs (word new.system) back) (sym same) (parts_stay (regions heap.system) (word heap.system) (word new.system) back back_parts back_keeps))
+        (subst (λ rs. AreSegments rs (word new.system) back) (sym same) (parts_stay (regions heap.system) (word heap.system) (word new.system) back back_parts back_keeps))
 
     -- what is apart from the segment and from the grant is apart from both as one
     step : (other : Segment) → 96 < other.size → IsApartFrom other segment → IsApartFrom other (opened grant) → IsApartFrom other now
@@ -136,11 +136,11 @@ module _ {A : Type 0} {regions : A → List Grant} {word : A → ℕ → ℕ} {h
       ]
     ]
 
-    now_back : (others : List Segment) → AreSegments (regions heap.system) (word heap.system) others → AllByRecursion (λ (other : Segment). IsApartFrom other segment) others → AllByRecursion (λ (other : Segment). IsApartFrom other (opened grant)) others → AllByRecursion (IsApartFrom now) others
+    now_back : (others : List Segment) → AreSegments (regions heap.system) (word heap.system) others → AllByRecursion (λ other. IsApartFrom other segment) others → AllByRecursion (λ other. IsApartFrom other (opened grant)) others → AllByRecursion (IsApartFrom now) others
     now_back [] p one two = tt
     now_back (other ∷ others) p one two = (apart_back other now (step other p.0.long one.0 two.0), now_back others p.1 one.1 two.1)
 
-    around : (others : List Segment) → AreSegments (regions heap.system) (word heap.system) others → AreApart (others ++ segment ∷ back) → AllByRecursion (λ (other : Segment). IsApartFrom other (opened grant)) others → AreApart (others ++ now ∷ back)
+    around : (others : List Segment) → AreSegments (regions heap.system) (word heap.system) others → AreApart (others ++ segment ∷ back) → AllByRecursion (λ other. IsApartFrom other (opened grant)) others → AreApart (others ++ now ∷ back)
     around [] p all two = (now_back back back_parts (back_apart front segment back apart) back_beside, all.1)
     around (other ∷ others) p all two = (all_with (IsApartFrom other) others segment now back (λ one. step other p.0.long one two.0) all.0, around others p.1 all.1 two.1)
 
@@ -206,7 +206,7 @@ module _ {A : Type 0} {regions : A → List Grant} {word : A → ℕ → ℕ} {h
         let test : (other.base == grant.base + grant.size) ≡ false = nat_isnt (elim one [ inl below ↦ inl (omega arith) | inr above ↦ inr (omega arith) ]) in
         rw test refl
 
-    same_others : (others : List Segment) → AreSegments (regions heap.system) (word heap.system) others → AllByRecursion (λ (other : Segment). IsApartFrom other segment) others → map (joined grant n) others ≡ others
+    same_others : (others : List Segment) → AreSegments (regions heap.system) (word heap.system) others → AllByRecursion (λ other. IsApartFrom other segment) others → map (joined grant n) others ≡ others
     same_others [] p one = refl
     same_others (other ∷ others) p one = λ i. same_other other p.0.long one.0 i ∷ same_others others p.1 one.1 i
 

@@ -18,7 +18,7 @@ pub record PassedBehind {A : Type 0} (word : A → ℕ → ℕ) (heap : Dlmalloc
   pub reached : payload ≡ payload_behind (word heap.system) heap.next passed
   pub none : list_any (is_before grant) (head ∷ passed) ≡ false
 
-abbrev pub as_passed : {A : Type 0} {word : A → ℕ → ℕ} {heap : Dlmalloc A} {grant : Grant} {payload : ℕ} → PassedBehind word heap grant payload → PassedSegments word heap payload (λ (ss : List Segment). ⊤)
+abbrev pub as_passed : {A : Type 0} {word : A → ℕ → ℕ} {heap : Dlmalloc A} {grant : Grant} {payload : ℕ} → PassedBehind word heap grant payload → PassedSegments word heap payload (λ ss. ⊤)
 as_passed p = record { passed = p.head ∷ p.passed; rest = p.rest; is = p.is; some = omega arith; told = p.told; so_far = tt }
 
 -- the payload behind one more
@@ -122,7 +122,7 @@ module _ {A : Type 0} {regions : A → List Grant} {word : A → ℕ → ℕ} {h
       front = p.passed;
       segment = segment;
       back = others;
-      is = p.is ∙ ap (λ (ss : List Segment). p.head ∷ (p.passed ++ ss)) rest_is;
+      is = p.is ∙ ap (λ ss. p.head ∷ (p.passed ++ ss)) rest_is;
       joins = test_is test;
       reached = p.reached;
       told = told_rest;
@@ -133,15 +133,15 @@ module _ {A : Type 0} {regions : A → List Grant} {word : A → ℕ → ℕ} {h
       head = p.head;
       passed = p.passed ++ segment ∷ [];
       rest = others;
-      is = p.is ∙ (ap (λ (ss : List Segment). p.head ∷ (p.passed ++ ss)) rest_is ∙ ap (λ (ss : List Segment). p.head ∷ ss) (sym (append_assoc p.passed (segment ∷ []) others)));
+      is = p.is ∙ (ap (λ ss. p.head ∷ (p.passed ++ ss)) rest_is ∙ ap (λ ss. p.head ∷ ss) (sym (append_assoc p.passed (segment ∷ []) others)));
       told = told_rest.5;
-      reached = ap (λ (k : ℕ). word heap.system (k + 16)) p.reached ∙ sym (behind_more (word heap.system) heap.next p.passed segment);
+      reached = ap (λ k. word heap.system (k + 16)) p.reached ∙ sym (behind_more (word heap.system) heap.next p.passed segment);
       none = any_more grant (p.head ∷ p.passed) segment p.none (test_is test);
     }
 
   -- where no record is left, the grant is before no segment
   pub none_behind : {payload : ℕ} → PassedBehind word heap grant payload → payload ≡ 0 → list_any (is_before grant) (segments_of word heap) ≡ false
-  none_behind {payload} p empty = ap (list_any (is_before grant)) (p.is ∙ (ap (λ (ss : List Segment). p.head ∷ (p.passed ++ ss)) (nothing p.rest p.told))) ∙ (list_any-append (is_before grant) (p.head ∷ p.passed) [] ∙ (let none = p.none in rw none refl))
+  none_behind {payload} p empty = ap (list_any (is_before grant)) (p.is ∙ (ap (λ ss. p.head ∷ (p.passed ++ ss)) (nothing p.rest p.told))) ∙ (list_any-append (is_before grant) (p.head ∷ p.passed) [] ∙ (let none = p.none in rw none refl))
     where
       nothing : (rest : List Segment) → AreRecords (word heap.system) payload rest → rest ≡ []
       nothing [] h = refl
@@ -151,14 +151,14 @@ module _ {A : Type 0} {regions : A → List Grant} {word : A → ℕ → ℕ} {h
 
 module _ (regions : List Grant) (old new : ℕ → ℕ) (rest now : List Segment) where
   pub told_around : (front : List Segment) {payload : ℕ} (start : ℕ) → payload ≡ payload_behind old start front → AreSegments regions old front → AllByRecursion (KeepsIts old new) front → AreRecords old start (front ++ rest) → AreRecords new payload now → AreRecords new start (front ++ now)
-  told_around [] start reached parts same h here = subst (λ (p : ℕ). AreRecords new p now) reached here
+  told_around [] start reached parts same h here = subst (λ p. AreRecords new p now) reached here
   told_around (other ∷ front) start reached parts same h here = (
     h.0,
     at start (omega arith) (omega arith) whole ∙ h.1,
     at (start + 8) (omega arith) (omega arith) (omega (arith, whole)) ∙ h.2,
     at (start + 24) (omega arith) (omega arith) (omega (arith, whole)) ∙ h.3,
     h.4,
-    subst (λ (p : ℕ). AreRecords new p (front ++ now)) (sym (at (start + 16) (omega arith) (omega arith) (omega (arith, whole)))) (told_around front (old (start + 16)) reached parts.1 same.1 h.5 here),
+    subst (λ p. AreRecords new p (front ++ now)) (sym (at (start + 16) (omega arith) (omega arith) (omega (arith, whole)))) (told_around front (old (start + 16)) reached parts.1 same.1 h.5 here),
   )
     where
       r : IsIn old other.base (other.base + other.size) (record_of (start - 16) (other.base + other.size))

@@ -17,7 +17,7 @@ module _ {A : Type 0} {regions : A → List Grant} {word : A → ℕ → ℕ} {h
   chunk_place = (found (address - 16) block.extent (extents_in (state_of word heap)) block.there).place
 
   chunk_there : extent_at block.extent.at (extents_in (state_of word heap)) ≡ Some block.extent
-  chunk_there = ap (λ (a : ℕ). extent_at a (extents_in (state_of word heap))) chunk_place ∙ block.there
+  chunk_there = ap (λ a. extent_at a (extents_in (state_of word heap))) chunk_place ∙ block.there
 
   chunk_inside : IsInside (regions heap.system) block.extent
   chunk_inside = used_inside regions word heap sound block.extent block.used chunk_there
@@ -71,7 +71,7 @@ module _ {A : Type 0} {regions : A → List Grant} {word : A → ℕ → ℕ} {z
           let told = first_told sound in
           let told_then = first_told out.same.sound in
           let more = first_granted grant bytes (state_of word old) behind.0 in
-          let bytes_then : out.filled.size ≡ old.size + grant.size = told_then.0 ∙ (first.1 ∙ (more.1 ∙ ap (λ (n : ℕ). n + grant.size) (sym told.0))) in
+          let bytes_then : out.filled.size ≡ old.size + grant.size = told_then.0 ∙ (first.1 ∙ (more.1 ∙ ap (λ n. n + grant.size) (sym told.0))) in
           (told_then.1 (omega (arith, bytes_then, some)) ∙ (first.0 ∙ (more.0 ∙ sym (told.1 some))), bytes_then)
 
       -- a block that was the last of the longer head segment would have been in the region
@@ -110,7 +110,7 @@ module _ {A : Type 0} {regions : A → List Grant} {word : A → ℕ → ℕ} {z
       at ≤ chunk.at → chunk.at < at + bytes → (grant : Grant) → regions out.filled.system ≡ with_grant grant (regions old.system) → HasByteOf grant (regions new.system)
   still_cut middle bytes at (inl here) stays same low high grant with_it = absurd (with_other grant (sym with_it ∙ (same ∙ here.2)))
   still_cut middle bytes at (inr cut) stays same low high grant with_it =
-      subst (λ (g : Grant). HasByteOf g (regions new.system)) (one_more cut.0 grant (regions old.system) (sym (same ∙ cut.3) ∙ with_it))
+      subst (λ g. HasByteOf g (regions new.system)) (one_more cut.0 grant (regions old.system) (sym (same ∙ cut.3) ∙ with_it))
       (still_new cut.1 cut.4 stays low high)
 
   still_low : IsServed regions word zeros follows old size address out.middle → (grant : Grant) → regions out.filled.system ≡ with_grant grant (regions old.system) → HasByteOf grant (regions new.system)

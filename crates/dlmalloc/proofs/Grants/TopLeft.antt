@@ -10,8 +10,8 @@ pub of_two : (k : ℕ) (one two : Extent) {it : Extent} → extent_at k (one ∷
 of_two k one two {it} there = go (one.at == k) (two.at == k) there
   where
     go : (a b : Bool) → (if a then Some one else if b then Some two else None) ≡ Some it → (one ≡ it) ⊎ (two ≡ it)
-    go true b found = inl (ap (λ (o : Option Extent). unwrap_or o one) found)
-    go false true found = inr (ap (λ (o : Option Extent). unwrap_or o two) found)
+    go true b found = inl (ap (λ o. unwrap_or o one) found)
+    go false true found = inr (ap (λ o. unwrap_or o two) found)
     go false false found = absurd (cc)
 
 -- chunks stay where a top is closed
@@ -32,15 +32,15 @@ abbrev pub left_free : Bool → ℕ → List ℕ
 left_free small top = if small then [] else top ∷ []
 
 pub in_left : (small : Bool) (top size k bytes : ℕ) → extent_at k (left small top size) ≡ Some (extent k bytes Free) → IsIn k (left_free small top)
-in_left true top size k bytes found = (let no : Record ≡ Free = ap (λ (e : Extent). e.kind) (the_one k (extent top 96 Record) found) in cc)
+in_left true top size k bytes found = (let no : Record ≡ Free = ap (λ e. e.kind) (the_one k (extent top 96 Record) found) in cc)
 in_left false top size k bytes found = elim (found_either k (extent top size Free ∷ []) (extent (top + size) 80 Record ∷ []) found) [
-  | inl first ↦ inl (sym (ap (λ (e : Extent). e.at) (the_one k (extent top size Free) first)))
-  | inr later ↦ absurd (let no : Record ≡ Free = ap (λ (e : Extent). e.kind) (the_one k (extent (top + size) 80 Record) later.1) in cc)
+  | inl first ↦ inl (sym (ap (λ e. e.at) (the_one k (extent top size Free) first)))
+  | inr later ↦ absurd (let no : Record ≡ Free = ap (λ e. e.kind) (the_one k (extent (top + size) 80 Record) later.1) in cc)
 ]
 
 pub left_there : (small : Bool) (top size k : ℕ) → IsIn k (left_free small top) → IsThere k (left small top size)
 left_there true top size k is = absurd is
-left_there false top size k (inl same) = (extent top size Free, subst (λ (a : ℕ). extent_at a (left false top size) ≡ Some (extent top size Free)) (sym same) (found_here (extent top size Free) (extent (top + size) 80 Record ∷ [])))
+left_there false top size k (inl same) = (extent top size Free, subst (λ a. extent_at a (left false top size) ≡ Some (extent top size Free)) (sym same) (found_here (extent top size Free) (extent (top + size) 80 Record ∷ [])))
 left_there false top size k (inr none) = absurd none
 
 abbrev pub place : Bool → ℕ → ℕ → ℕ
@@ -56,7 +56,7 @@ module _ (words : ℕ → ℕ) {before : Kind} (at size : ℕ) {end : ℕ} (told
           whole = whole;
           size = inr refl;
           kind = inl used;
-          head = recorded.head ∙ ap (λ (k : Kind). head_of 48 (is_used k) true) (sym used);
+          head = recorded.head ∙ ap (λ k. head_of 48 (is_used k) true) (sym used);
           foot = λ free. absurd (cc);
           fence = λ is k low high m. recorded.fences k low (omega (arith, high, s, ends_at)) m;
         },
@@ -69,7 +69,7 @@ module _ (words : ℕ → ℕ) {before : Kind} (at size : ℕ) {end : ℕ} (told
           whole = whole;
           size = (units, more);
           kind = used;
-          head = head refl ∙ (omega arith ∙ ap (λ (k : Kind). head_of size (is_used k) false) (sym used));
+          head = head refl ∙ (omega arith ∙ ap (λ k. head_of size (is_used k) false) (sym used));
           foot = λ free. foot refl;
           fence = λ is. absurd (cc);
         },
@@ -117,9 +117,9 @@ module _ (words : ℕ → ℕ) {before : Kind} (at size : ℕ) {end : ℕ} (told
   left_other true k one there is = go (at == k) there
     where
       go : (b : Bool) → (if b then Some (extent at 96 Record) else None) ≡ Some one → ⊥
-      go true found = (let kind : Record ≡ one.kind = ap (λ (o : Option Extent). (unwrap_or o one).kind) found in let no : Record ≡ Used = kind ∙ is in cc)
+      go true found = (let kind : Record ≡ one.kind = ap (λ o. (unwrap_or o one).kind) found in let no : Record ≡ Used = kind ∙ is in cc)
       go false found = cc
   left_other false k one there is = elim (of_two k (extent at size Free) (extent (at + size) 80 Record) there) [
-    | inl free ↦ (let no : Free ≡ Used = ap (λ (e : Extent). e.kind) free ∙ is in cc)
-    | inr tail ↦ (let no : Record ≡ Used = ap (λ (e : Extent). e.kind) tail ∙ is in cc)
+    | inl free ↦ (let no : Free ≡ Used = ap (λ e. e.kind) free ∙ is in cc)
+    | inr tail ↦ (let no : Record ≡ Used = ap (λ e. e.kind) tail ∙ is in cc)
   ]

@@ -34,14 +34,14 @@ admitted_binned stays sound j free same = binned_same stays sound j.sound (λ k 
 
 -- the top is no other free extent
 pub top_not_free : {A : Type 0} {regions : A → List Grant} {word : A → ℕ → ℕ} {heap : Dlmalloc A} → IsSound regions word heap → 0 < heap.size → {size : ℕ} → IsFreeAt (state_of word heap) heap.top size → ⊥
-top_not_free sound some free = (let no : Free ≡ Top = ap (λ (e : Extent). e.kind) (the_extent (sym free ∙ top_among sound some)) in cc)
+top_not_free sound some free = (let no : Free ≡ Top = ap (λ e. e.kind) (the_extent (sym free ∙ top_among sound some)) in cc)
 
 module _ (stays : IndexStays) {A : Type 0} {regions : A → List Grant} {word : A → ℕ → ℕ} {follows : A → List Event → A → Type 0} {heap : Dlmalloc A} {grant : Grant} {new : Dlmalloc A} (sound : IsSound regions word heap) (some : 0 < heap.size) (j : IsAdmitted regions word follows heap grant new)
     (moves : FreeMoves (state_of word heap) (state_of word new) [] (if nat_le 32 heap.top_size then heap.top ∷ [] else [])) (same : IsSameBins heap new) (b : IsBinned regions word heap) where
   abbrev pub little_left : heap.top_size < 32 → IsBinned regions word new
   little_left few =
       let test : nat_le 32 heap.top_size ≡ false = grind (arith, nat_tests) in
-      admitted_binned stays sound j (subst (λ (b : Bool). FreeMoves (state_of word heap) (state_of word new) [] (if b then heap.top ∷ [] else [])) test moves) same b
+      admitted_binned stays sound j (subst (λ b. FreeMoves (state_of word heap) (state_of word new) [] (if b then heap.top ∷ [] else [])) test moves) same b
 
   -- the victim is not the top
   pub top_no_victim : heap.top ≢ new.victim
@@ -57,14 +57,14 @@ module _ (stays : IndexStays) {A : Type 0} {regions : A → List Grant} {word : 
       go true test = (let low = free_low sound top in let zero = sound.no_victim (grind (arith, nat_tests)) in omega (arith, low, zero, victim))
       go false test =
           let found = sound.victim (λ none. (let t : (heap.victim_size == 0) ≡ true = (let e = none in grind (arith, nat_tests)) in cc)) in
-          let here : extent_at heap.victim (extents_in (state_of word heap)) ≡ Some (extent heap.top heap.top_size Top) = subst (λ (a : ℕ). extent_at a (extents_in (state_of word heap)) ≡ Some (extent heap.top heap.top_size Top)) victim top in
-          (let no : Free ≡ Top = ap (λ (e : Extent). e.kind) (the_extent (sym found ∙ here)) in cc)
+          let here : extent_at heap.victim (extents_in (state_of word heap)) ≡ Some (extent heap.top heap.top_size Top) = subst (λ a. extent_at a (extents_in (state_of word heap)) ≡ Some (extent heap.top heap.top_size Top)) victim top in
+          (let no : Free ≡ Top = ap (λ e. e.kind) (the_extent (sym found ∙ here)) in cc)
 
   abbrev pub top_left : 32 ≤ heap.top_size → IsBinnedBut (heap.top ∷ []) regions word new
   top_left many =
       let test : nat_le 32 heap.top_size ≡ true = grind (arith, nat_tests) in
       binned_moved stays sound j.sound (λ k was is boundary tag tag'. j.words k was boundary tag') same.bins [] (heap.top ∷ []) [] (heap.top ∷ [])
-      (subst (λ (b : Bool). FreeMoves (state_of word heap) (state_of word new) [] (if b then heap.top ∷ [] else [])) test moves) (record {
+      (subst (λ b. FreeMoves (state_of word heap) (state_of word new) [] (if b then heap.top ∷ [] else [])) test moves) (record {
         gone = λ k none n free other. none;
         come = λ k is n free other. is;
         still = λ k out which n free other. elim which [ inl victim ↦ absurd (other (victim ∙ sym same.victim)) | inr none ↦ absurd none ];
@@ -77,18 +77,18 @@ module _ (stays : IndexStays) {A : Type 0} {regions : A → List Grant} {word : 
   joined_binned {last} r fields follows_on none_in = record {
     state = λ n. r.state ∙ j.state n;
     sound = r.sound;
-    there = subst (λ (h : Dlmalloc A). 0 < h.size) (sym fields) j.there;
-    room = subst (λ (h : Dlmalloc A). grant.size ≤ h.top_size + 80) (sym fields) j.room;
-    begins = subst (λ (h : Dlmalloc A). BeginsTop heap grant h.top) (sym fields) j.begins;
+    there = subst (λ h. 0 < h.size) (sym fields) j.there;
+    room = subst (λ h. grant.size ≤ h.top_size + 80) (sym fields) j.room;
+    begins = subst (λ h. BeginsTop heap grant h.top) (sym fields) j.begins;
     regions_same = r.regions_same ∙ j.regions_same;
     followed = follows_on heap.system new.system last.system [] [] [] j.followed r.followed refl;
     used = subst (HasSameUsed (state_of word heap)) (sym r.state) j.used;
     words = λ k inside was own recorded.
-        r.words k (subst (λ (rs : List Grant). IsWordOf rs k) (sym j.regions_same) inside) (out_of (state_of word new) k (λ f. own (inr (subst (λ (s : HeapState). IsInFree s k) (sym r.state) f))))
-        ∙ j.words k inside (λ boundary. own (inl (subst (λ (s : HeapState). IsBoundary s k) (sym r.state) boundary))) (λ tag. recorded (subst (λ (s : HeapState). IsInRecord s k) (sym r.state) tag));
+        r.words k (subst (λ rs. IsWordOf rs k) (sym j.regions_same) inside) (out_of (state_of word new) k (λ f. own (inr (subst (λ s. IsInFree s k) (sym r.state) f))))
+        ∙ j.words k inside (λ boundary. own (inl (subst (λ s. IsBoundary s k) (sym r.state) boundary))) (λ tag. recorded (subst (λ s. IsInRecord s k) (sym r.state) tag));
     new_words = λ k inside low high not_top not_foot.
-        r.words k (subst (λ (rs : List Grant). IsWordOf rs k) (sym j.regions_same) inside) (out_of (state_of word new) k (none_in k low high))
-        ∙ j.new_words k inside low high (λ is. not_top (is ∙ ap (λ (h : Dlmalloc A). h.top + 8) (sym fields))) (λ is. not_foot (is ∙ ap (λ (h : Dlmalloc A). h.top + h.top_size + 8) (sym fields)));
+        r.words k (subst (λ rs. IsWordOf rs k) (sym j.regions_same) inside) (out_of (state_of word new) k (none_in k low high))
+        ∙ j.new_words k inside low high (λ is. not_top (is ∙ ap (λ h. h.top + 8) (sym fields))) (λ is. not_foot (is ∙ ap (λ h. h.top + h.top_size + 8) (sym fields)));
   }
 
 -- ---- no word of the grant is in a free extent
@@ -102,7 +102,7 @@ module _ {A : Type 0} {regions : A → List Grant} {word : A → ℕ → ℕ} {h
       let p = of_located (IsSegment (regions heap.system) (word heap.system)) l sound.segments in
       let is = in_part (word heap.system) Used l.segment.base l.segment.extents (l.segment.base + l.segment.size) p.extents l.there in
       let low = is.low in let high = is.high in
-      elim (of_located (λ (segment : Segment). IsApartFrom segment (opened grant)) l fresh.apart) [ inl before ↦ inl (omega arith) | inr behind ↦ inr (omega arith) ]
+      elim (of_located (λ segment. IsApartFrom segment (opened grant)) l fresh.apart) [ inl before ↦ inl (omega arith) | inr behind ↦ inr (omega arith) ]
 
   pub none_in_grant : (k : ℕ) → grant.base ≤ k → k < grant.base + grant.size → IsInFree (state_of word new) k → ⊥
   none_in_grant k low high f = go (f.at == heap.top) refl
@@ -116,8 +116,8 @@ module _ {A : Type 0} {regions : A → List Grant} {word : A → ℕ → ℕ} {h
       go : (t : Bool) → (f.at == heap.top) ≡ t → ⊥
       go true is =
           let place = nat_is is in
-          out heap.top_size Top (subst (λ (a : ℕ). extent_at a (extents_in (state_of word heap)) ≡ Some (extent a heap.top_size Top)) (sym place) (top_among sound some))
-          (one_size (state_of word new) (subst (λ (a : ℕ). IsFreeAt (state_of word new) a f.size) place f.free) rest)
+          out heap.top_size Top (subst (λ a. extent_at a (extents_in (state_of word heap)) ≡ Some (extent a heap.top_size Top)) (sym place) (top_among sound some))
+          (one_size (state_of word new) (subst (λ a. IsFreeAt (state_of word new) a f.size) place f.free) rest)
       go false is =
-          let m = subst (λ (b : Bool). FreeMoves (state_of word heap) (state_of word new) [] (if b then heap.top ∷ [] else [])) test moves in
+          let m = subst (λ b. FreeMoves (state_of word heap) (state_of word new) [] (if b then heap.top ∷ [] else [])) test moves in
           out f.size Free (m.was f.at f.size f.free (λ came. elim came [ inl same ↦ (let no : (f.at == heap.top) ≡ true = (let e = same in grind (arith, nat_tests)) in cc) | inr none ↦ none ])).0 refl

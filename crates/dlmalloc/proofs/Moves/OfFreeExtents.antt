@@ -15,7 +15,7 @@ not_both [] back k apart here there = (let some = here in cc)
 not_both (first ∷ front) back k {one} apart here there = go (first.at == k) refl here (λ later. not_both front back k apart.1 later there)
   where
     go : (b : Bool) → (first.at == k) ≡ b → (if b then Some first else extent_at k front) ≡ Some one → (extent_at k front ≡ Some one → ⊥) → ⊥
-    go true test is rest = (let none = subst (λ (a : ℕ). extent_at a (front ++ back) ≡ None) (nat_is test) apart.0 in let some = distinct_later front back k apart.1 there in cc)
+    go true test is rest = (let none = subst (λ a. extent_at a (front ++ back) ≡ None) (nat_is test) apart.0 in let some = distinct_later front back k apart.1 there in cc)
     go false test is rest = rest is
 
 distinct_second : (front back : List Extent) → AreDistinct (front ++ back) → AreDistinct back

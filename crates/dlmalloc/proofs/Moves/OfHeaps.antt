@@ -62,7 +62,7 @@ module _ {A : Type 0} {regions : A → List Grant} {word : A → ℕ → ℕ} {h
   -- the segments of the new heap
   pub read : segments_of word new ≡ step.front ++ step.now ∷ step.back
   read = segments_read (regions new.system) word new (step.front ++ step.now ∷ step.back) now_segments step.told
-      (subst (λ (n : ℕ). n ≤ suc (2 ^ 64)) (ap length step.is ∙ as_many step.front step.segment step.now step.back) (segments_few word heap))
+      (subst (λ n. n ≤ suc (2 ^ 64)) (ap length step.is ∙ as_many step.front step.segment step.now step.back) (segments_few word heap))
 
   pub segments_now : AreSegments (regions new.system) (word new.system) (segments_of word new)
   segments_now = subst (AreSegments (regions new.system) (word new.system)) (sym read) now_segments
@@ -79,8 +79,8 @@ module _ {A : Type 0} {regions : A → List Grant} {word : A → ℕ → ℕ} {h
 
   around : (segment : Segment) (run : List Extent) → segment.extents ≡ step.first ++ (run ++ step.last) → extents_all (step.front ++ segment ∷ step.back) ≡ before ++ (run ++ behind)
   around segment run is =
-      all_among step.front segment step.back ∙ (ap (λ (es : List Extent). extents_all step.front ++ (es ++ extents_all step.back)) is
-      ∙ (ap (λ (es : List Extent). extents_all step.front ++ es) (append_assoc step.first (run ++ step.last) (extents_all step.back) ∙ ap (λ (es : List Extent). step.first ++ es) (append_assoc run step.last (extents_all step.back)))
+      all_among step.front segment step.back ∙ (ap (λ es. extents_all step.front ++ (es ++ extents_all step.back)) is
+      ∙ (ap (λ es. extents_all step.front ++ es) (append_assoc step.first (run ++ step.last) (extents_all step.back) ∙ ap (λ es. step.first ++ es) (append_assoc run step.last (extents_all step.back)))
       ∙ sym (append_assoc (extents_all step.front) step.first (run ++ behind))))
 
   pub all_old : extents_in (state_of word heap) ≡ before ++ (less ++ behind)
@@ -171,15 +171,15 @@ module _ {A : Type 0} {regions : A → List Grant} {word : A → ℕ → ℕ} {h
 
   pub has_more : (one : Extent) → HasMore less more one → HasOneMore (state_of word heap) (state_of word new) one.at
   has_more one h = one_more (state_of word heap) (state_of word new) distinct_old distinct_new
-      (subst (λ (es : List Extent). HasMore es (extents_in (state_of word new)) one) (sym all_old) (subst (λ (es : List Extent). HasMore (before ++ (less ++ behind)) es one) (sym all_new) (more_between before behind h)))
+      (subst (λ es. HasMore es (extents_in (state_of word new)) one) (sym all_old) (subst (λ es. HasMore (before ++ (less ++ behind)) es one) (sym all_new) (more_between before behind h)))
 
   pub has_less : {one : Extent} → HasMore more less one → HasOneMore (state_of word new) (state_of word heap) one.at
   has_less {one} h = one_more (state_of word new) (state_of word heap) distinct_new distinct_old
-      (subst (λ (es : List Extent). HasMore es (extents_in (state_of word heap)) one) (sym all_new) (subst (λ (es : List Extent). HasMore (before ++ (more ++ behind)) es one) (sym all_old) (more_between before behind h)))
+      (subst (λ es. HasMore es (extents_in (state_of word heap)) one) (sym all_new) (subst (λ es. HasMore (before ++ (more ++ behind)) es one) (sym all_old) (more_between before behind h)))
 
   -- where as many are in use, the same are
   same_used : used_of less ≡ used_of more → used_of (extents_in (state_of word heap)) ≡ used_of (extents_in (state_of word new))
-  same_used same = ap used_of all_old ∙ (used_append before (less ++ behind) ∙ (ap (λ (es : List Extent). used_of before ++ es) (used_append less behind ∙ (ap (λ (es : List Extent). es ++ used_of behind) same ∙ sym (used_append more behind)))
+  same_used same = ap used_of all_old ∙ (used_append before (less ++ behind) ∙ (ap (λ es. used_of before ++ es) (used_append less behind ∙ (ap (λ es. es ++ used_of behind) same ∙ sym (used_append more behind)))
       ∙ sym (used_append before (more ++ behind)))) ∙ ap used_of (sym all_new)
 
   pub used_still : used_of less ≡ used_of more → (k : ℕ) (used : Extent) → used.kind ≡ Used → extent_at k (extents_in (state_of word heap)) ≡ Some used → extent_at k (extents_in (state_of word new)) ≡ Some used
@@ -200,4 +200,4 @@ module _ {A : Type 0} {regions : A → List Grant} {word : A → ℕ → ℕ} {h
   pub stays_sound : regions new.system ≡ regions heap.system → new.granularity ≡ heap.granularity → new.base ≡ heap.base → new.size ≡ heap.size → new.flags ≡ heap.flags →
       (new.victim_size ≡ 0 → new.victim ≡ 0) → (new.victim_size ≢ 0 → extent_at new.victim (extents_in (state_of word new)) ≡ Some (extent new.victim new.victim_size Free)) → IsSound regions word new
   stays_sound same granularity base size flags none named =
-      keeps_sound (subst IsGranularity (sym granularity) sound.granularity) (subst (λ (n : ℕ). 0 < n) (sym size) some_there) none named
+      keeps_sound (subst IsGranularity (sym granularity) sound.granularity) (subst (λ n. 0 < n) (sym size) some_there) none named

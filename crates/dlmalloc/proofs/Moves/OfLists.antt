@@ -39,7 +39,7 @@ module _ {regions : List Grant} {old new : ℕ → ℕ} (before : Kind) (base : 
       (spared_behind new (last_kind before front) from more to' k move.more_stand (omega arith))) in
       tiles_append new before base front (more ++ back) from end before_kept
       (tiles_append new (last_kind before front) from more back to' end move.more_stand
-      (subst (λ (kind : Kind). Tiles new kind to' back end) (sym kind) (subst (λ (a : ℕ). Tiles new (last_kind (last_kind before front) less) a back end) (sym same) behind)))
+      (subst (λ kind. Tiles new kind to' back end) (sym kind) (subst (λ a. Tiles new (last_kind (last_kind before front) less) a back end) (sym same) behind)))
     where
       inside : (k : ℕ) → k ≤ end → (k ≡ end → IsTrue (is_free_below_top (last_kind (last_kind (last_kind before front) less) back))) → k < end
       inside k high free = elim (dec_lt k end) [ yes below ↦ below | no beyond ↦ absurd (no_plain (last_kind (last_kind (last_kind before front) less) back) tail (free (omega arith))) ]
@@ -62,7 +62,7 @@ pub record Standing (words : ℕ → ℕ) (from : ℕ) (to : ℕ) (block : Exten
   pub head : words (block.at + 8) ≡ head_of block.size before true
 
 used_size : {kind : Kind} (size : ℕ) → kind ≡ Used → IsSize kind size → (size % 16 ≡ 0) × (32 ≤ size)
-used_size size is h = subst (λ (k : Kind). IsSize k size) is h
+used_size size is h = subst (λ k. IsSize k size) is h
 
 pub last_append : (before : Kind) (front back : List Extent) → last_kind before (front ++ back) ≡ last_kind (last_kind before front) back
 last_append before [] back = refl
@@ -80,14 +80,14 @@ pub standing : (words : ℕ → ℕ) (before : Kind) (from : ℕ) (extents : Lis
     extent_at block.at extents ≡ Some block → block.kind ≡ Used → Standing words from to block
 standing words before from extents to {block} h tail there used =
     let f = found block.at block extents there in
-    let s = tiles_split words before from f.front (block ∷ f.back) to (subst (λ (es : List Extent). Tiles words before from es to) f.is h) in
+    let s = tiles_split words before from f.front (block ∷ f.back) to (subst (λ es. Tiles words before from es to) f.is h) in
     let size = used_size block.size used s.second.1.size in
     let place = s.second.0 in
     let low = tiles_le words before from f.front s.middle s.first in
     let last : ends_segment (last_kind block.kind f.back) ≡ true =
-    ap ends_segment (sym (last_append before f.front (block ∷ f.back))) ∙ (ap (λ (es : List Extent). ends_segment (last_kind before es)) (sym f.is) ∙ tail) in
-    let high = goes_on words (s.middle + block.size) f.back to (subst (λ (kind : Kind). Tiles words kind (s.middle + block.size) f.back to) used s.second.2)
-    (subst (λ (kind : Kind). ends_segment (last_kind kind f.back) ≡ true) used last) in
+    ap ends_segment (sym (last_append before f.front (block ∷ f.back))) ∙ (ap (λ es. ends_segment (last_kind before es)) (sym f.is) ∙ tail) in
+    let high = goes_on words (s.middle + block.size) f.back to (subst (λ kind. Tiles words kind (s.middle + block.size) f.back to) used s.second.2)
+    (subst (λ kind. ends_segment (last_kind kind f.back) ≡ true) used last) in
     record {
       low = omega arith;
       high = omega arith;
@@ -95,5 +95,5 @@ standing words before from extents to {block} h tail there used =
       size_whole = size.0;
       long = size.1;
       before = is_used (last_kind before f.front);
-      head = subst (λ (kind : Kind). words (block.at + 8) ≡ head_of (told_size kind block.size) (is_used (last_kind before f.front)) (is_used kind)) used s.second.1.head;
+      head = subst (λ kind. words (block.at + 8) ≡ head_of (told_size kind block.size) (is_used (last_kind before f.front)) (is_used kind)) used s.second.1.head;
     }

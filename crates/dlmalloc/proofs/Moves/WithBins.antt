@@ -31,10 +31,10 @@ module _ {A : Type 0} (regions : A → List Grant) (word : A → ℕ → ℕ) (f
   turned {first} {second} {third} {last} one moved two = record {
     sound = two.sound;
     words = λ k inside was own.
-        let then : IsWordOf (regions second.system) k = subst (λ (rs : List Grant). IsWordOf rs k) (sym one.regions_same) inside in
-        let behind : IsWordOf (regions third.system) k = subst (λ (rs : List Grant). IsWordOf rs k) (sym moved.regions_same) then in
-        two.words k behind (out_of (state_of word third) k (λ f. own (inr (subst (λ (s : HeapState). IsInFree s k) (sym two.state) f))))
-        ∙ (moved.words k then (λ b. own (inl (subst (λ (s : HeapState). IsBoundary s k) (sym two.state) b)))
+        let then : IsWordOf (regions second.system) k = subst (λ rs. IsWordOf rs k) (sym one.regions_same) inside in
+        let behind : IsWordOf (regions third.system) k = subst (λ rs. IsWordOf rs k) (sym moved.regions_same) then in
+        two.words k behind (out_of (state_of word third) k (λ f. own (inr (subst (λ s. IsInFree s k) (sym two.state) f))))
+        ∙ (moved.words k then (λ b. own (inl (subst (λ s. IsBoundary s k) (sym two.state) b)))
         ∙ one.words k inside (out_of (state_of word first) k was));
     regions_same = two.regions_same ∙ (moved.regions_same ∙ one.regions_same);
     followed = follows_on first.system third.system last.system [] [] [] (follows_on first.system second.system third.system [] [] [] one.followed moved.followed refl) two.followed refl;

@@ -29,7 +29,7 @@ padded_holds size = go (nat_lt size 23) refl
 
 pub enlarged_is : (size align : ℕ) {n : ℕ} → n ≡ padded size → n + align + 24 ≡ enlarged size align
 unfolding enlarged
-enlarged_is size align is = ap (λ (m : ℕ). m + align + 24) is
+enlarged_is size align is = ap (λ m. m + align + 24) is
 
 pub too_large : (bound size align : ℕ) → bound ≤ size + align → bound ≤ enlarged size align
 too_large bound size align more =
@@ -54,10 +54,10 @@ module _ {A : Type 0} {regions : A → List Grant} {word : A → ℕ → ℕ} {h
   place = (found (ptr - 16) block.extent (extents_in (state_of word heap)) block.there).place
 
   inside : IsInside (regions heap.system) block.extent
-  inside = used_inside regions word heap sound block.extent block.used (ap (λ (a : ℕ). extent_at a (extents_in (state_of word heap))) place ∙ block.there)
+  inside = used_inside regions word heap sound block.extent block.used (ap (λ a. extent_at a (extents_in (state_of word heap))) place ∙ block.there)
 
   pub chunk_whole : (ptr - 16) % 16 ≡ 0
-  chunk_whole = subst (λ (a : ℕ). a % 16 ≡ 0) place inside.whole
+  chunk_whole = subst (λ a. a % 16 ≡ 0) place inside.whole
 
   pub chunk_small : 32 ≤ n → ptr - 16 + align + 64 < 2 ^ 64
   chunk_small least = omega (arith, inside.high, block.holds, place, least)
@@ -65,7 +65,7 @@ module _ {A : Type 0} {regions : A → List Grant} {word : A → ℕ → ℕ} {h
   pub place_here : IsPowerOfTwo align → 16 < align → 32 ≤ n → {told : ℕ} → told ≡ size_of (word heap.system (ptr - 16 + 8)) → {at : ℕ} → at ≡ aligned_place (ptr - 16) align → HasAlignedPlace align (ptr - 16) told n at
   place_here power large least {told} is_told {at} is =
       let there = block_chunk regions word heap sound ptr (n + align + 24) block told is_told in
-      let same : block.extent.size ≡ told = ap (λ (e : Extent). e.size) (the_extent (sym block.there ∙ there)) in
+      let same : block.extent.size ≡ told = ap (λ e. e.size) (the_extent (sym block.there ∙ there)) in
       let long : n + align + 32 ≤ told = omega (arith, block.holds, same) in
       let end : ptr - 16 + told + 16 < 2 ^ 64 = omega (arith, inside.high, place, same) in
       let p = subst (IsAlignedPlace (ptr - 16) align) (sym is) (is_place (ptr - 16) align power large chunk_whole) in
@@ -104,7 +104,7 @@ served_aligned {regions} {word} {zeros} {follows} {old} {middle} {new} size {ali
     let in_use = left.held in
     let block : IsBlock (state_of word new) (result + 16) size = record {
       extent = extent result in_use.0 Used;
-      there = ap (λ (a : ℕ). extent_at a (extents_in (state_of word new))) (sym back) ∙ in_use.1;
+      there = ap (λ a. extent_at a (extents_in (state_of word new))) (sym back) ∙ in_use.1;
       low = omega arith;
       used = refl;
       holds = omega (arith, in_use.2, holds);
@@ -112,27 +112,27 @@ served_aligned {regions} {word} {zeros} {follows} {old} {middle} {new} size {ali
     } in
     let placed = block_placed regions word new left.sound (result + 16) size block in
     let same_words : (k : ℕ) → IsWordOf (regions middle.system) k → IsPassedOver (state_of word middle) (lead_freed (state_of word middle) (greater - 16) (result + 16 - 16)) (state_of word new) k → word new.system k ≡ word middle.system k
-    = λ k inside over. left.words k inside (subst (λ (p : ℕ). IsPassedOver (state_of word middle) (lead_freed (state_of word middle) (greater - 16) p) (state_of word new) k) (sym back) over) in
+    = λ k inside over. left.words k inside (subst (λ p. IsPassedOver (state_of word middle) (lead_freed (state_of word middle) (greater - 16) p) (state_of word new) k) (sym back) over) in
     record {
       middle = middle;
       greater = greater;
-      served = subst (λ (m : ℕ). IsServed regions word zeros follows old m greater middle) (enlarged_is size align is) served;
-      place = ap (λ (p : ℕ). p + 16) left.place;
-      state = subst (λ (m : ℕ). state_of word new ≡ aligned (state_of word middle) (greater - 16) align m) is left.state;
+      served = subst (λ m. IsServed regions word zeros follows old m greater middle) (enlarged_is size align is) served;
+      place = ap (λ p. p + 16) left.place;
+      state = subst (λ m. state_of word new ≡ aligned (state_of word middle) (greater - 16) align m) is left.state;
       low = omega arith;
       block = block;
       multiple = left.multiple;
       aligned_at_16 = placed.aligned;
       granted = placed.granted;
-      more = subst (λ (p : ℕ). HasOneMore (state_of word old) (state_of word new) p) back (more_on served.more left.others);
+      more = subst (λ p. HasOneMore (state_of word old) (state_of word new) p) back (more_on served.more left.others);
       kept = keeps_on served.kept
           (left.kept (extents_in (state_of word old)) (λ used there kind. (served.more.new used there kind, served.more.kept used there kind)));
       words = same_words;
       new_words = λ zero k inside fresh over.
-          let there = subst (λ (rs : List Grant). IsWordOf rs k) left.regions_same inside in
+          let there = subst (λ rs. IsWordOf rs k) left.regions_same inside in
           same_words k there over ∙ served.new_words zero k there fresh over.0;
       sound = left.sound;
       regions_same = left.regions_same;
       followed = left.followed;
-      order = subst (λ (p : ℕ). KeepsOrderThrough regions word (lead_freed (state_of word middle) (greater - 16) p) middle new) back left.order;
+      order = subst (λ p. KeepsOrderThrough regions word (lead_freed (state_of word middle) (greater - 16) p) middle new) back left.order;
     }

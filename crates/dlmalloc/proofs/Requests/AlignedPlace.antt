@@ -57,7 +57,7 @@ module _ (at align : ℕ) (power : IsPowerOfTwo align) (large : 16 < align) (who
             lead = inr (omega (arith, first_low, large, units));
             high = omega (arith, few);
             whole = omega (arith, first_low, large, units, first_whole);
-            aligned = ap (λ (n : ℕ). n % align) again ∙ (add-mod_right first align ∙ first_aligned);
+            aligned = ap (λ n. n % align) again ∙ (add-mod_right first align ∙ first_aligned);
           }
       go false is false far =
           let more : at + 48 < first = grind (arith, nat_tests) in
@@ -67,5 +67,5 @@ module _ (at align : ℕ) (power : IsPowerOfTwo align) (large : 16 < align) (who
             lead = inr (omega (arith, more));
             high = omega (arith, first_high);
             whole = omega (arith, more, first_whole);
-            aligned = ap (λ (n : ℕ). n % align) again ∙ first_aligned;
+            aligned = ap (λ n. n % align) again ∙ first_aligned;
           }

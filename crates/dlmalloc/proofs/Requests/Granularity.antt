@@ -8,7 +8,7 @@ pub granularity_whole : (g : ℕ) → IsPowerOfTwo g → 16 ≤ g → g % 16 ≡
 granularity_whole g power least =
     elim (dec_lt power.0 4) [
       | yes few ↦ absurd (let low : power.0 ≤ 3 = omega arith in let small : 2 ^ power.0 ≤ 2 ^ 3 = pow_mono low in let is = power.1 in omega arith)
-      | no many ↦ whole (power.0 - 4) (power.1 ∙ ap (λ (k : ℕ). 2 ^ k) (sum power.0 (omega arith)))
+      | no many ↦ whole (power.0 - 4) (power.1 ∙ ap (λ k. 2 ^ k) (sum power.0 (omega arith)))
     ]
   where
     sum : (k : ℕ) → 4 ≤ k → k ≡ 4 + (k - 4)
@@ -22,7 +22,7 @@ pub granularities_whole : (q g : ℕ) → IsPowerOfTwo g → 16 ≤ g → q * g 
 granularities_whole q g power least =
     let whole = granularity_whole g power least in
     let units : g ≡ g / 16 * 16 = omega arith in
-    ap (λ (u : ℕ). q * u % 16) units ∙ (ap (λ (u : ℕ). u % 16) (sym (mul_assoc q (g / 16) 16)) ∙ mul-mod_left (q * (g / 16)) 16)
+    ap (λ u. q * u % 16) units ∙ (ap (λ u. u % 16) (sym (mul_assoc q (g / 16) 16)) ∙ mul-mod_left (q * (g / 16)) 16)
 
 -- what is asked for is a whole number of granularities, with room for the chunk
 pub asked_whole : (n g : ℕ) → IsPowerOfTwo g → 16 ≤ g → (n + (g - 1)) / g * g % 16 ≡ 0

@@ -35,22 +35,22 @@ request_small g size {n} power least less whole near is = go (g == 16) refl (nat
 pub replaced_segments : (at : ℕ) (others : Extent → List Extent) (segments : List Segment) → flat_map (λ segment. segment.extents) (in_segments (replaced at others) segments) ≡ replaced at others (flat_map (λ segment. segment.extents) segments)
 replaced_segments at others [] = refl
 replaced_segments at others (segment ∷ segments) =
-    ap (λ (l : List Extent). replaced at others segment.extents ++ l) (replaced_segments at others segments)
-    ∙ sym (flat_map-append (λ (extent : Extent). if extent.at == at then others extent else extent ∷ []) segment.extents (flat_map (λ segment. segment.extents) segments))
+    ap (λ l. replaced at others segment.extents ++ l) (replaced_segments at others segments)
+    ∙ sym (flat_map-append (λ extent. if extent.at == at then others extent else extent ∷ []) segment.extents (flat_map (λ segment. segment.extents) segments))
 
 replaced_found : (at : ℕ) (others : Extent → List Extent) (extents : List Extent) (extent first : Extent) (rest : List Extent) → extent_at at extents ≡ Some extent → others extent ≡ first ∷ rest → first.at ≡ at → extent_at at (replaced at others extents) ≡ Some first
 replaced_found at others [] extent first rest found is place = absurd (cc)
 replaced_found at others (one ∷ extents) extent first rest found is place = go (one.at == at) refl found (replaced_found at others extents extent first rest)
   where
     here : (first.at == at) ≡ true
-    here = subst (λ (k : ℕ). (first.at == k) ≡ true) place (nat_same first.at)
+    here = subst (λ k. (first.at == k) ≡ true) place (nat_same first.at)
 
     go : (b : Bool) → (one.at == at) ≡ b → (if b then Some one else extent_at at extents) ≡ Some extent →
         (extent_at at extents ≡ Some extent → others extent ≡ first ∷ rest → first.at ≡ at → extent_at at (replaced at others extents) ≡ Some first) →
         extent_at at ((if b then others one else one ∷ []) ++ replaced at others extents) ≡ Some first
     go true test found later =
-        let same : one ≡ extent = ap (λ (o : Option Extent). unwrap_or o one) found in
-        subst (λ (l : List Extent). extent_at at (l ++ replaced at others extents) ≡ Some first) (sym (ap others same ∙ is)) (rw here refl)
+        let same : one ≡ extent = ap (λ o. unwrap_or o one) found in
+        subst (λ l. extent_at at (l ++ replaced at others extents) ≡ Some first) (sym (ap others same ∙ is)) (rw here refl)
     go false test found later = rw test (later found is place)
 
 or_false : (a b : Bool) → (a || b) ≡ false → b ≡ false
@@ -99,4 +99,4 @@ pub none_chosen_empty : {A : Type 0} (regions : A → List Grant) (word : A → 
 none_chosen_empty regions word heap none n least =
     let some : nat_le n 0 ≡ false = grind (arith, nat_tests) in
     let more : nat_lt n 0 ≡ false = grind (arith, nat_tests) in
-    ap (λ (l : List Segment). chosen (record (state_of word heap) { segments = l }) n) (no_segments word heap none) ∙ rw (some, more) refl
+    ap (λ l. chosen (record (state_of word heap) { segments = l }) n) (no_segments word heap none) ∙ rw (some, more) refl

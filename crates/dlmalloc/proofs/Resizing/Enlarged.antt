@@ -29,16 +29,16 @@ in_two first second k found =
 pub no_kind : (first second : Extent) (kind : Kind) → first.kind ≢ kind → second.kind ≢ kind → (k : ℕ) {one : Extent} → extent_at k (first ∷ second ∷ []) ≡ Some one → one.kind ≢ kind
 no_kind first second kind no_first no_second k found is =
     elim (in_two first second k found) [
-      | inl here ↦ no_first (ap (λ (e : Extent). e.kind) here ∙ is)
-      | inr behind ↦ no_second (ap (λ (e : Extent). e.kind) behind ∙ is)
+      | inl here ↦ no_first (ap (λ e. e.kind) here ∙ is)
+      | inr behind ↦ no_second (ap (λ e. e.kind) behind ∙ is)
     ]
 
 -- and but for the first none is in use, where the second is not
 pub no_other : (first second : Extent) → second.kind ≢ Used → {used : Extent} → used.kind ≡ Used → used.at ≢ first.at → extent_at used.at (first ∷ second ∷ []) ≡ Some used → ⊥
 no_other first second free {used} is other found =
     elim (in_two first second used.at found) [
-      | inl here ↦ other (ap (λ (e : Extent). e.at) (sym here))
-      | inr behind ↦ free (ap (λ (e : Extent). e.kind) behind ∙ is)
+      | inl here ↦ other (ap (λ e. e.at) (sym here))
+      | inr behind ↦ free (ap (λ e. e.kind) behind ∙ is)
     ]
 
 -- ---- the two
@@ -65,7 +65,7 @@ module _ {A : Type 0} {regions : A → List Grant} {word : A → ℕ → ℕ} {h
     behind = extent (at + size) length kind
 
     pub two : IsRunOf words segments at (at + size + length) (chunk ∷ behind ∷ [])
-    two = subst (λ (e : Extent). IsRunOf words segments at (at + size + e.size) (chunk ∷ e ∷ [])) is (with_next (regions heap.system) sound.segments one next)
+    two = subst (λ e. IsRunOf words segments at (at + size + e.size) (chunk ∷ e ∷ [])) is (with_next (regions heap.system) sound.segments one next)
 
     pub low : two.segment.base ≤ at
     low = tiles_le words Used two.segment.base two.first at two.first_stand
@@ -97,7 +97,7 @@ module _ {A : Type 0} {regions : A → List Grant} {word : A → ℕ → ℕ} {h
           victim ≡ (grown_into (state_of word heap) chunk behind n).victim → IsEnlarged regions word heap chunk behind n whole after
       enlarged others step now parts held kept only none named left = record {
         state = (
-            let segments_are = read sound step ∙ (now ∙ (ap (λ (es : List Extent). two.front ++ with_extents two.segment (two.first ++ (es ++ two.last)) ∷ two.back) (sym parts)
+            let segments_are = read sound step ∙ (now ∙ (ap (λ es. two.front ++ with_extents two.segment (two.first ++ (es ++ two.last)) ∷ two.back) (sym parts)
             ∙ sym (both_run (regions heap.system) words sound.segments sound.apart chunk behind (λ one behind. cut n (joined one behind)) two))) in
             λ i. record { segments = segments_are i; victim = left i; granularity = heap.granularity; rate = heap.rate; countdown = heap.countdown; trim_check = heap.trim_check });
         held = found_new sound step at (extent at whole Used) held;

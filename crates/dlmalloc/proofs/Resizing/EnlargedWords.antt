@@ -17,7 +17,7 @@ both_none words before from (extent ∷ next ∷ extents) to at others out h =
     let place = h.0 in
     let rest = both_none words extent.kind (from + extent.size) (next ∷ extents) to at others (grind arith) h.2 in
     let test : (extent.at == at) ≡ false = nat_isnt (grind arith) in
-    rw test (ap (λ (es : List Extent). extent ∷ es) rest)
+    rw test (ap (λ es. extent ∷ es) rest)
 
 both_here : (words : ℕ → ℕ) (before : Kind) (from : ℕ) (first : List Extent) (one next : Extent) (last : List Extent) (others : Extent → Extent → List Extent) → Tiles words before from first one.at →
     replaced_both one.at others (first ++ (one ∷ next ∷ last)) ≡ first ++ (others one next ++ last)
@@ -28,14 +28,14 @@ both_here words before from (extent ∷ []) one next last others h =
     let place = h.0 in
     let test : (extent.at == one.at) ≡ false = nat_isnt (grind arith) in
     let rest = both_here words extent.kind (from + extent.size) [] one next last others h.2 in
-    rw test (ap (λ (es : List Extent). extent ∷ es) rest)
+    rw test (ap (λ es. extent ∷ es) rest)
 both_here words before from (extent ∷ second ∷ first) one next last others h =
     let long = (sized extent.kind extent.size h.1.size).1 in
     let later = tiles_le words extent.kind (from + extent.size) (second ∷ first) one.at h.2 in
     let place = h.0 in
     let test : (extent.at == one.at) ≡ false = nat_isnt (grind arith) in
     let rest = both_here words extent.kind (from + extent.size) (second ∷ first) one next last others h.2 in
-    rw test (ap (λ (es : List Extent). extent ∷ es) rest)
+    rw test (ap (λ es. extent ∷ es) rest)
 
 pub both_run : (regions : List Grant) (words : ℕ → ℕ) {segments : List Segment} → AreSegments regions words segments → AreApart segments → (one next : Extent) {to : ℕ} (others : Extent → Extent → List Extent) →
     (run : IsRunOf words segments one.at to (one ∷ next ∷ [])) →
@@ -70,7 +70,7 @@ module _ (regions : List Grant) {old : ℕ → ℕ} (new : ℕ → ℕ) {before 
     whole = stands.whole;
     size = (whole, least);
     kind = stands.kind;
-    head = head ∙ ap (λ (b : Bool). head_of n b true) told;
+    head = head ∙ ap (λ b. head_of n b true) told;
     foot = λ free. absurd (cc);
     fence = λ is. absurd (cc);
   }
@@ -154,12 +154,12 @@ module _ (regions : List Grant) {old : ℕ → ℕ} (new : ℕ → ℕ) {before 
           (
             sum,
             rehung new Used after kind (may_stand next.kind Used kind (inl refl))
-                (subst (λ (a : ℕ). new (a + 8) ≡ head_of (told_size next.kind next.size) true (is_used next.kind)) (sym sum)
-                (stored.here.1.0 tt ∙ (ap (λ (a : ℕ). with_pinuse (old (a + 8))) (sym sum)
+                (subst (λ a. new (a + 8) ≡ head_of (told_size next.kind next.size) true (is_used next.kind)) (sym sum)
+                (stored.here.1.0 tt ∙ (ap (λ a. with_pinuse (old (a + 8))) (sym sum)
                 ∙ (ap with_pinuse after.head ∙ with_pinuse-head_of (told_size next.kind next.size) false (is_used next.kind) (told_whole next.kind next.size after.size)))))
                 (λ k low high m. stored.elsewhere k (granted k (omega arith) high m) ((λ is. omega (arith, sum, low, is)), ((λ is. omega (arith, sum, low, is)), tt))),
             omega arith,
           ),
         );
-        kept = λ k word more. stored.elsewhere k word (more.0, ((λ is. no_head k next.kind next.at next.size after.size more.1.0 (is ∙ ap (λ (a : ℕ). a + 8) (sym sum))), tt));
+        kept = λ k word more. stored.elsewhere k word (more.0, ((λ is. no_head k next.kind next.at next.size after.size more.1.0 (is ∙ ap (λ a. a + 8) (sym sum))), tt));
       }

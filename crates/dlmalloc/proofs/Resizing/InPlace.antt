@@ -59,10 +59,10 @@ module _ {A : Type 0} {regions : A → List Grant} {word : A → ℕ → ℕ} {h
       there ∙ (λ i. Some (extent at (sym sizes i) Used))
 
   after_there : extent_at (at + size) (extents_in (state_of word heap)) ≡ Some after
-  after_there = ap (λ (a : ℕ). extent_at a (extents_in (state_of word heap))) (sym (place sound there)) ∙ next_there sound there
+  after_there = ap (λ a. extent_at a (extents_in (state_of word heap))) (sym (place sound there)) ∙ next_there sound there
 
   pub top_behind : at + size ≡ heap.top → extent_at (at + size) (extents_in (state_of word heap)) ≡ Some (extent (at + size) heap.top_size Top)
-  top_behind touch = after_there ∙ ap Some (next_top sound there touch ∙ ap (λ (a : ℕ). extent a heap.top_size Top) (sym touch))
+  top_behind touch = after_there ∙ ap Some (next_top sound there touch ∙ ap (λ a. extent a heap.top_size Top) (sym touch))
 
   stand : Tiles words Used (at + size) (after ∷ (next sound there).rest) ((one sound there).segment.base + (one sound there).segment.size)
   stand = behind (regions heap.system) sound.segments (one sound there) (next sound there)
@@ -71,7 +71,7 @@ module _ {A : Type 0} {regions : A → List Grant} {word : A → ℕ → ℕ} {h
   whole = told_whole after.kind after.size stand.1.size
 
   head : words (at + size + 8) ≡ head_of (told_size after.kind after.size) true (is_used after.kind)
-  head = ap (λ (a : ℕ). words (a + 8)) (sym stand.0) ∙ stand.1.head
+  head = ap (λ a. words (a + 8)) (sym stand.0) ∙ stand.1.head
 
   free_told : free_of (words (at + size + 8)) ≡ not (is_used after.kind)
   free_told = ap free_of head ∙ rw (pinuse_of-head_of (told_size after.kind after.size) true (is_used after.kind) whole, cinuse_of-head_of (told_size after.kind after.size) true (is_used after.kind) whole) refl
@@ -82,14 +82,14 @@ module _ {A : Type 0} {regions : A → List Grant} {word : A → ℕ → ℕ} {h
     free_behind free {told} is = go after.kind refl stand.1.kind
       where
         go : (kind : Kind) → after.kind ≡ kind → MayStand Used kind → extent_at (at + size) (extents_in (state_of word heap)) ≡ Some (extent (at + size) told Free)
-        go Used kind may = absurd (let no : true ≡ false = sym free ∙ (free_told ∙ ap (λ (k : Kind). not (is_used k)) kind) in cc)
+        go Used kind may = absurd (let no : true ≡ false = sym free ∙ (free_told ∙ ap (λ k. not (is_used k)) kind) in cc)
         go Free kind may =
             let size_told : size_of (words (at + size + 8)) ≡ told_size after.kind after.size = ap size_of head ∙ size_of-head_of (told_size after.kind after.size) true (is_used after.kind) whole in
-            let sizes : told ≡ after.size = is ∙ (size_told ∙ ap (λ (k : Kind). told_size k after.size) kind) in
+            let sizes : told ≡ after.size = is ∙ (size_told ∙ ap (λ k. told_size k after.size) kind) in
             after_there ∙ (λ i. Some (extent (stand.0 i) (sym sizes i) (kind i)))
         go Victim kind may = absurd may
         go Top kind may = absurd (no_top sound there no_touch kind)
-        go Record kind may = absurd (let no : true ≡ false = sym free ∙ (free_told ∙ ap (λ (k : Kind). not (is_used k)) kind) in cc)
+        go Record kind may = absurd (let no : true ≡ false = sym free ∙ (free_told ∙ ap (λ k. not (is_used k)) kind) in cc)
         go Foot kind may = absurd (let no : Used ≡ Top = may in cc)
 
     -- it is in use, or a record: nothing of it can be taken
@@ -97,11 +97,11 @@ module _ {A : Type 0} {regions : A → List Grant} {word : A → ℕ → ℕ} {h
     used_behind n more used = has_no_room (state_of word heap) n there more after_there (go after.kind refl stand.1.kind)
       where
         of_kind : (kind : Kind) → after.kind ≡ kind → has_room n (joined (extent at size Used) (extent after.at after.size kind)) ≡ false → has_room n (joined (extent at size Used) after) ≡ false
-        of_kind kind is none = subst (λ (k : Kind). has_room n (joined (extent at size Used) (extent after.at after.size k)) ≡ false) (sym is) none
+        of_kind kind is none = subst (λ k. has_room n (joined (extent at size Used) (extent after.at after.size k)) ≡ false) (sym is) none
 
         go : (kind : Kind) → after.kind ≡ kind → MayStand Used kind → has_room n (joined (extent at size Used) after) ≡ false
         go Used kind may = of_kind Used kind refl
-        go Free kind may = absurd (let no : false ≡ true = sym used ∙ (free_told ∙ ap (λ (k : Kind). not (is_used k)) kind) in cc)
+        go Free kind may = absurd (let no : false ≡ true = sym used ∙ (free_told ∙ ap (λ k. not (is_used k)) kind) in cc)
         go Victim kind may = absurd may
         go Top kind may = absurd (no_top sound there no_touch kind)
         go Record kind may = of_kind Record kind refl

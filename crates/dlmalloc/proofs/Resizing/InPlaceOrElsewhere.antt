@@ -24,7 +24,7 @@ widest heap ptr n block = let holds = block.holds in record {
 
 -- the size that is found at an address
 pub size_at : (heap : HeapState) (at : ℕ) (one : Extent) → extent_at at (extents_in heap) ≡ Some one → size_where (λ extent. extent.at == at) (extents_in heap) ≡ one.size
-size_at heap at one there = ap (λ (o : Option Extent). unwrap_or (option_map (λ (extent : Extent). extent.size) o) 0) there
+size_at heap at one there = ap (λ o. unwrap_or (option_map (λ extent. extent.size) o) 0) there
 
 -- its chunk
 pub chunk_there : {heap : HeapState} {ptr n : ℕ} (block : IsBlock heap ptr n) → extent_at (ptr - 16) (extents_in heap) ≡ Some (extent (ptr - 16) block.extent.size Used)
@@ -32,7 +32,7 @@ chunk_there {heap} {ptr} block = block.there ∙ (λ i. Some (extent ((found (pt
 
 -- where an address is told, a block is there
 pub block_told : (heap : HeapState) {ptr : Option ℕ} {address : ℕ} → ptr ≡ Some address → IfSome ptr (λ at. (size : ℕ) × IsBlock heap at size) → (size : ℕ) × IsBlock heap address size
-block_told heap is block = subst (λ (o : Option ℕ). IfSome o (λ at. (size : ℕ) × IsBlock heap at size)) is block
+block_told heap is block = subst (λ o. IfSome o (λ at. (size : ℕ) × IsBlock heap at size)) is block
 
 -- what is found among the others is found, and elsewhere
 pub other_there : (at : ℕ) (extents : List Extent) (k : ℕ) {one : Extent} → extent_at k (others_at at extents) ≡ Some one → (one.at ≢ at) × (extent_at k extents ≡ Some one)
@@ -42,21 +42,21 @@ other_there at (first ∷ extents) k {one} there = go (first.at == at) (first.at
     go : (here is : Bool) → (first.at == at) ≡ here → (first.at == k) ≡ is → (extent_at k (others_at at extents) ≡ Some one → (one.at ≢ at) × (extent_at k extents ≡ Some one)) →
         (one.at ≢ at) × (extent_at k (first ∷ extents) ≡ Some one)
     go true is at_first at_k rest =
-        let later = rest (subst (λ (b : Bool). extent_at k (if not b then first ∷ others_at at extents else others_at at extents) ≡ Some one) at_first there) in
+        let later = rest (subst (λ b. extent_at k (if not b then first ∷ others_at at extents else others_at at extents) ≡ Some one) at_first there) in
         let apart : (first.at == k) ≡ false = differ first.at k (λ same. later.0 (place_found k extents later.1 ∙ (sym same ∙ nat_is at_first))) in
         (later.0, rw apart later.1)
     go false true at_first at_k rest =
-        let with_first : extent_at k (first ∷ others_at at extents) ≡ Some one = subst (λ (b : Bool). extent_at k (if not b then first ∷ others_at at extents else others_at at extents) ≡ Some one) at_first there in
-        let same : Some first ≡ Some one = subst (λ (b : Bool). (if b then Some first else extent_at k (others_at at extents)) ≡ Some one) at_k with_first in (
+        let with_first : extent_at k (first ∷ others_at at extents) ≡ Some one = subst (λ b. extent_at k (if not b then first ∷ others_at at extents else others_at at extents) ≡ Some one) at_first there in
+        let same : Some first ≡ Some one = subst (λ b. (if b then Some first else extent_at k (others_at at extents)) ≡ Some one) at_k with_first in (
           (λ place. (
-              let is : first.at ≡ at = ap (λ (e : Extent). e.at) (the_extent same) ∙ place in
+              let is : first.at ≡ at = ap (λ e. e.at) (the_extent same) ∙ place in
               let yes : (first.at == at) ≡ true = rw is (nat_same at) in
               let no : true ≡ false = sym yes ∙ at_first in cc)),
           rw at_k same,
         )
     go false false at_first at_k rest =
-        let with_first : extent_at k (first ∷ others_at at extents) ≡ Some one = subst (λ (b : Bool). extent_at k (if not b then first ∷ others_at at extents else others_at at extents) ≡ Some one) at_first there in
-        let later = rest (subst (λ (b : Bool). (if b then Some first else extent_at k (others_at at extents)) ≡ Some one) at_k with_first) in
+        let with_first : extent_at k (first ∷ others_at at extents) ≡ Some one = subst (λ b. extent_at k (if not b then first ∷ others_at at extents else others_at at extents) ≡ Some one) at_first there in
+        let later = rest (subst (λ b. (if b then Some first else extent_at k (others_at at extents)) ≡ Some one) at_k with_first) in
         (later.0, rw at_k later.1)
 
 -- ---- where it stands
@@ -75,11 +75,11 @@ stays_there {regions} {word} old new {ptr} held size whole sound block kept_byte
       let inside = used_inside regions word new moved.sound chunk refl there in
       let low = block.low in
       kept_in regions word old moved.sound moved.words chunk there refl (ptr + k) (omega (arith, low)) (omega (arith, low, less, holds, fits)) (record {
-        granted = subst (λ (rs : List Grant). IsTrue (is_granted rs (ptr + k))) moved.regions_same (inside.granted (ptr + k) (omega (arith, low)) (omega (arith, low, less, holds, fits)));
+        granted = subst (λ rs. IsTrue (is_granted rs (ptr + k))) moved.regions_same (inside.granted (ptr + k) (omega (arith, low)) (omega (arith, low, less, holds, fits)));
         aligned = omega (arith, low, m, inside.whole);
       })
       (let place = (found (ptr - 16) block.extent (extents_in (state_of word old)) block.there).place in
-      not_in_free sound (ap (λ (a : ℕ). extent_at a (extents_in (state_of word old))) place ∙ block.there) block.used (ptr + k) (omega (arith, low, place)) (omega (arith, low, place, less, kept_bytes)));
+      not_in_free sound (ap (λ a. extent_at a (extents_in (state_of word old))) place ∙ block.there) block.used (ptr + k) (omega (arith, low, place)) (omega (arith, low, place, less, kept_bytes)));
   kept = blocks_law sound moved.sound moved.words (others_at (ptr - 16) (extents_in (state_of word old)))
       (λ other there used.
       let is = other_there (ptr - 16) (extents_in (state_of word old)) other.at there in
@@ -111,13 +111,13 @@ module _ {A : Type 0} {regions : A → List Grant} {word : A → ℕ → ℕ} (z
   place = (found (ptr - 16) block.extent (extents_in (state_of word old)) block.there).place
 
   there : extent_at block.extent.at (extents_in (state_of word old)) ≡ Some block.extent
-  there = ap (λ (a : ℕ). extent_at a (extents_in (state_of word old))) place ∙ block.there
+  there = ap (λ a. extent_at a (extents_in (state_of word old))) place ∙ block.there
 
   -- the old one is there still
   still : IsBlock (state_of word middle) ptr (block.extent.size - 8)
   still = widest (state_of word middle) ptr n (record {
     extent = block.extent;
-    there = ap (λ (a : ℕ). extent_at a (extents_in (state_of word middle))) (sym place) ∙ more.kept block.extent block.used there;
+    there = ap (λ a. extent_at a (extents_in (state_of word middle))) (sym place) ∙ more.kept block.extent block.used there;
     low = block.low;
     used = block.used;
     holds = block.holds;
@@ -156,7 +156,7 @@ module _ {A : Type 0} {regions : A → List Grant} {word : A → ℕ → ℕ} (z
     copied_binned stays = same_binned new_block.0 new_block.1 stays (min held size) few_to system same copied.elsewhere
 
     pub copied_block : IsBlock (state_of word filled) ptr (block.extent.size - 8)
-    copied_block = subst (λ (s : HeapState). IsBlock s ptr (block.extent.size - 8)) (sym copied_heap.state) still
+    copied_block = subst (λ s. IsBlock s ptr (block.extent.size - 8)) (sym copied_heap.state) still
 
     -- ---- and the old one was freed
 
@@ -168,11 +168,11 @@ module _ {A : Type 0} {regions : A → List Grant} {word : A → ℕ → ℕ} (z
       cut_place = place_found (address - 16) (extents_in (state_of word middle)) new_block.1.there
 
       cut_there : extent_at cut.at (extents_in (state_of word middle)) ≡ Some cut
-      cut_there = ap (λ (a : ℕ). extent_at a (extents_in (state_of word middle))) cut_place ∙ new_block.1.there
+      cut_there = ap (λ a. extent_at a (extents_in (state_of word middle))) cut_place ∙ new_block.1.there
 
       -- what is in use then, elsewhere, is in use in the end
       ends : {used : Extent} → used.kind ≡ Used → extent_at used.at (extents_in (state_of word middle)) ≡ Some used → used.at ≢ ptr - 16 → extent_at used.at (extents_in (state_of word new)) ≡ Some used
-      ends {used} is found other = freed.less.only used is (ap (λ (s : HeapState). extent_at used.at (extents_in s)) copied_heap.state ∙ found) other
+      ends {used} is found other = freed.less.only used is (ap (λ s. extent_at used.at (extents_in s)) copied_heap.state ∙ found) other
 
       cut_new : extent_at cut.at (extents_in (state_of word new)) ≡ Some cut
       cut_new = ends new_block.1.used cut_there (λ same. more.new block.extent block.used there (place ∙ (sym same ∙ cut_place)))
@@ -180,7 +180,7 @@ module _ {A : Type 0} {regions : A → List Grant} {word : A → ℕ → ℕ} (z
       pub moved_block : IsBlock (state_of word new) address size
       moved_block = record {
         extent = cut;
-        there = ap (λ (a : ℕ). extent_at a (extents_in (state_of word new))) (sym cut_place) ∙ cut_new;
+        there = ap (λ a. extent_at a (extents_in (state_of word new))) (sym cut_place) ∙ cut_new;
         low = new_block.1.low;
         used = new_block.1.used;
         holds = new_block.1.holds;
@@ -212,7 +212,7 @@ module _ {A : Type 0} {regions : A → List Grant} {word : A → ℕ → ℕ} (z
             let then_there = more.kept other used is.1 in
             let inside = used_inside regions word middle new_block.0 other used then_there in
             freed.kept.heads other (ends used then_there is.0) used
-            ∙ (ap (λ (w : ℕ). w / 2) (copied.elsewhere (other.at + 8) (record { granted = inside.granted (other.at + 8) (omega arith) (omega arith); aligned = omega (arith, inside.whole) })
+            ∙ (ap (λ w. w / 2) (copied.elsewhere (other.at + 8) (record { granted = inside.granted (other.at + 8) (omega arith) (omega arith); aligned = omega (arith, inside.whole) })
             (beside other used is.1 (other.at + 8) (omega arith) (omega (arith, inside.long))))
             ∙ first_kept.heads other is.1 used);
       }

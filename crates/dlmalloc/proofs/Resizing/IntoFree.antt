@@ -30,7 +30,7 @@ module _ {A : Type 0} {regions : A → List Grant} {word : A → ℕ → ℕ} {h
 
   next_is : (next sound there).next ≡ free
   next_is = the_extent (sym (next_there sound there)
-      ∙ (ap (λ (a : ℕ). extent_at a (extents_in (state_of word heap))) (place sound there) ∙ free_there))
+      ∙ (ap (λ a. extent_at a (extents_in (state_of word heap))) (place sound there) ∙ free_there))
 
   abbrev both : IsRunOf words segments at (at + size + length) (chunk ∷ free ∷ [])
   both = two sound there next_is
@@ -132,8 +132,8 @@ module _ {A : Type 0} {regions : A → List Grant} {word : A → ℕ → ℕ} {h
           split heap.victim heap.victim_size sound.no_victim
           (λ some. found_again sound (split_step heap.victim heap.victim_size) heap.victim
           (λ found. absurd (elim (in_two chunk free heap.victim found) [
-            | inl here ↦ (let no : Used ≡ Free = ap (λ (e : Extent). e.kind) here in cc)
-            | inr behind ↦ isnt (ap (λ (e : Extent). e.at) behind)
+            | inl here ↦ (let no : Used ≡ Free = ap (λ e. e.kind) here in cc)
+            | inr behind ↦ isnt (ap (λ e. e.at) behind)
           ])) (sound.victim some))
           (rw test refl)
 
@@ -148,19 +148,19 @@ module _ {A : Type 0} {regions : A → List Grant} {word : A → ℕ → ℕ} {h
       split_rest victim victim_size = found_new sound (split_step victim victim_size) (at + n) (extent (at + n) (size + length - n) Free) rest_there
 
       pub split_free : (victim victim_size : ℕ) → FreeMoves (state_of word heap) (state_of word (after victim victim_size)) ((at + size) ∷ []) (if nat_le (n + 32) (size + length) then (at + n) ∷ [] else [])
-      split_free victim victim_size = subst (λ (b : Bool). FreeMoves (state_of word heap) (state_of word (after victim victim_size)) ((at + size) ∷ []) (if b then (at + n) ∷ [] else [])) (sym has_rest)
+      split_free victim victim_size = subst (λ b. FreeMoves (state_of word heap) (state_of word (after victim victim_size)) ((at + size) ∷ []) (if b then (at + n) ∷ [] else [])) (sym has_rest)
           (free_moves sound (split_step victim victim_size) ((at + size) ∷ []) ((at + n) ∷ []) only_free
           (λ k bytes found. elim (in_two (extent at n Used) (extent (at + n) (size + length - n) Free) k found) [
-            | inl here ↦ absurd (let no : Used ≡ Free = ap (λ (e : Extent). e.kind) here in cc)
-            | inr behind ↦ inl (sym (ap (λ (e : Extent). e.at) behind))
+            | inl here ↦ absurd (let no : Used ≡ Free = ap (λ e. e.kind) here in cc)
+            | inr behind ↦ inl (sym (ap (λ e. e.at) behind))
           ])
-          (λ k is. elim is [ inl place ↦ inr (free, subst (λ (a : ℕ). extent_at a (chunk ∷ free ∷ []) ≡ Some free) (sym place) (found_free [])) | inr none ↦ absurd none ])
-          (λ k is. elim is [ inl place ↦ inr (extent (at + n) (size + length - n) Free, subst (λ (a : ℕ). extent_at a parts ≡ Some (extent (at + n) (size + length - n) Free)) (sym place) rest_there) | inr none ↦ absurd none ]))
+          (λ k is. elim is [ inl place ↦ inr (free, subst (λ a. extent_at a (chunk ∷ free ∷ []) ≡ Some free) (sym place) (found_free [])) | inr none ↦ absurd none ])
+          (λ k is. elim is [ inl place ↦ inr (extent (at + n) (size + length - n) Free, subst (λ a. extent_at a parts ≡ Some (extent (at + n) (size + length - n) Free)) (sym place) rest_there) | inr none ↦ absurd none ]))
         where
           only_free : (k bytes : ℕ) → extent_at k (chunk ∷ free ∷ []) ≡ Some (extent k bytes Free) → IsIn k ((at + size) ∷ [])
           only_free k bytes found = elim (in_two chunk free k found) [
-            | inl here ↦ absurd (let no : Used ≡ Free = ap (λ (e : Extent). e.kind) here in cc)
-            | inr behind ↦ inl (sym (ap (λ (e : Extent). e.at) behind))
+            | inl here ↦ absurd (let no : Used ≡ Free = ap (λ e. e.kind) here in cc)
+            | inr behind ↦ inl (sym (ap (λ e. e.at) behind))
           ]
 
     -- ---- nothing of it stays free
@@ -185,7 +185,7 @@ module _ {A : Type 0} {regions : A → List Grant} {word : A → ℕ → ℕ} {h
           let some : (size + length == 0) ≡ false = nat_isnt (inr (omega (arith, least, room))) in
           let place = stands_third.0 in
           grown_whole (regions heap.system) (word system) stands length last stands_free stands_third.1 stands_third.0
-          (subst (λ (t : Bool). AreStored (regions heap.system) words ((at + 8, head_of (size + length) (pinuse_of (words (at + 8))) true)
+          (subst (λ t. AreStored (regions heap.system) words ((at + 8, head_of (size + length) (pinuse_of (words (at + 8))) true)
           ∷ (at + (size + length) + 8, with_pinuse (if t then head_of (size + length) (pinuse_of (words (at + 8))) true else words (at + (size + length) + 8))) ∷ []) (word system)) some stored)
           (λ k above under m. run_word (regions heap.system) sound.segments both k
           (omega (arith, low sound there next_is, place, above)) (omega (arith, place, below, under)) m)
@@ -199,14 +199,14 @@ module _ {A : Type 0} {regions : A → List Grant} {word : A → ℕ → ℕ} {h
           ]
         where
           go : (b : Bool) → (at == k) ≡ b → extent_at k (chunk ∷ free ∷ []) ≡ None → extent_at k (last ∷ []) ≡ Some tail → extent_at k all ≡ Some tail
-          go true here none found = absurd (let no : Some chunk ≡ None = subst (λ (b : Bool). (if b then Some chunk else extent_at k (free ∷ [])) ≡ None) here none in cc)
+          go true here none found = absurd (let no : Some chunk ≡ None = subst (λ b. (if b then Some chunk else extent_at k (free ∷ [])) ≡ None) here none in cc)
           go false apart none found = rw apart found
 
       no_chunk : {kind : Kind} → Used ≢ kind → (tail : Extent) → tail.kind ≡ kind → chunk ≡ tail → ⊥
-      no_chunk other tail is here = other (ap (λ (e : Extent). e.kind) here ∙ is)
+      no_chunk other tail is here = other (ap (λ e. e.kind) here ∙ is)
 
       no_free : {kind : Kind} → Free ≢ kind → (tail : Extent) → tail.kind ≡ kind → free ≡ tail → ⊥
-      no_free other tail is here = other (ap (λ (e : Extent). e.kind) here ∙ is)
+      no_free other tail is here = other (ap (λ e. e.kind) here ∙ is)
 
       abbrev whole_step : (victim victim_size : ℕ) → IsStep regions word heap (after victim victim_size) three all
       whole_step victim victim_size = step_beside (after victim victim_size) sound same run move refl
@@ -221,13 +221,13 @@ module _ {A : Type 0} {regions : A → List Grant} {word : A → ℕ → ℕ} {h
       was used other found =
           elim (found_either used.at (extent at (size + length) Used ∷ []) (last ∷ []) found) [
             | inl here ↦ absurd (elim (in_two (extent at (size + length) Used) last used.at found) [
-              | inl one ↦ other (ap (λ (e : Extent). e.at) (sym one))
+              | inl one ↦ other (ap (λ e. e.at) (sym one))
               | inr one ↦ (let first : (at == used.at) ≡ false = differ at used.at (λ e. other (sym e)) in
-                  let no : None ≡ Some used = subst (λ (b : Bool). (if b then Some (extent at (size + length) Used) else None) ≡ Some used) first here in cc)
+                  let no : None ≡ Some used = subst (λ b. (if b then Some (extent at (size + length) Used) else None) ≡ Some used) first here in cc)
             ])
             | inr later ↦ (
-                let one : last ≡ used = elim (in_two (extent at (size + length) Used) last used.at found) [ inl one ↦ absurd (other (ap (λ (e : Extent). e.at) (sym one))) | inr one ↦ one ] in
-                let place : used.at ≡ at + size + length = ap (λ (e : Extent). e.at) (sym one) ∙ stands_third.0 in
+                let one : last ≡ used = elim (in_two (extent at (size + length) Used) last used.at found) [ inl one ↦ absurd (other (ap (λ e. e.at) (sym one))) | inr one ↦ one ] in
+                let place : used.at ≡ at + size + length = ap (λ e. e.at) (sym one) ∙ stands_third.0 in
                 let first : (at == used.at) ≡ false = differ at used.at (λ e. other (sym e)) in
                 let second : (at + size == used.at) ≡ false = nat_isnt (inl (omega (arith, place, stands_free.size.1))) in
                 rw (first, second) later.1)
@@ -238,9 +238,9 @@ module _ {A : Type 0} {regions : A → List Grant} {word : A → ℕ → ℕ} {h
           victim ≡ (grown_into (state_of word heap) chunk free n).victim → IsEnlarged regions word heap chunk free n (size + length) (after victim victim_size)
       whole victim victim_size none named left =
           enlarged sound there next_is n (size + length) system same heap.top heap.top_size victim victim_size (extent at (size + length) Used ∷ []) (whole_step victim victim_size)
-          (ap (λ (es : List Extent). both.front ++ with_extents both.segment (both.first ++ (extent at (size + length) Used ∷ es)) ∷ both.back) (sym third.is))
+          (ap (λ es. both.front ++ with_extents both.segment (both.first ++ (extent at (size + length) Used ∷ es)) ∷ both.back) (sym third.is))
           (rw no_rest refl) (let here = nat_same at in rw here refl)
-          (λ used is other found. still used.at found (λ here. other (ap (λ (e : Extent). e.at) (sym here))) (no_free (λ is. cc) used is))
+          (λ used is other found. still used.at found (λ here. other (ap (λ e. e.at) (sym here))) (no_free (λ is. cc) used is))
           (λ used is other found. was used other found)
           none named left
 
@@ -258,29 +258,29 @@ module _ {A : Type 0} {regions : A → List Grant} {word : A → ℕ → ℕ} {h
           (λ some. found_again sound (whole_step heap.victim heap.victim_size) heap.victim
           (λ found. still heap.victim found
           (no_chunk {kind = Free} (λ is. cc) (extent heap.victim heap.victim_size Free) refl)
-          (λ here. isnt (ap (λ (e : Extent). e.at) here))) (sound.victim some))
+          (λ here. isnt (ap (λ e. e.at) here))) (sound.victim some))
           (rw test refl)
 
       pub whole_free : (victim victim_size : ℕ) → FreeMoves (state_of word heap) (state_of word (after victim victim_size)) ((at + size) ∷ []) (if nat_le (n + 32) (size + length) then (at + n) ∷ [] else [])
-      whole_free victim victim_size = subst (λ (b : Bool). FreeMoves (state_of word heap) (state_of word (after victim victim_size)) ((at + size) ∷ []) (if b then (at + n) ∷ [] else [])) (sym no_rest)
+      whole_free victim victim_size = subst (λ b. FreeMoves (state_of word heap) (state_of word (after victim victim_size)) ((at + size) ∷ []) (if b then (at + n) ∷ [] else [])) (sym no_rest)
           (free_moves sound (whole_step victim victim_size) ((at + size) ∷ []) [] only_free
           (λ k bytes found. elim (in_two (extent at (size + length) Used) last k found) [
-            | inl here ↦ (let no : Used ≡ Free = ap (λ (e : Extent). e.kind) here in cc)
+            | inl here ↦ (let no : Used ≡ Free = ap (λ e. e.kind) here in cc)
             | inr behind ↦ no_last k bytes behind
           ])
-          (λ k is. elim is [ inl place ↦ inr (free, subst (λ (a : ℕ). extent_at a three ≡ Some free) (sym place) (found_free (last ∷ []))) | inr none ↦ absurd none ])
+          (λ k is. elim is [ inl place ↦ inr (free, subst (λ a. extent_at a three ≡ Some free) (sym place) (found_free (last ∷ []))) | inr none ↦ absurd none ])
           (λ k none. absurd none))
         where
           no_last : (k bytes : ℕ) → last ≡ extent k bytes Free → ⊥
           no_last k bytes is =
-              let kind : last.kind ≡ Free = ap (λ (e : Extent). e.kind) is in
+              let kind : last.kind ≡ Free = ap (λ e. e.kind) is in
               elim (behind_free last.kind stands_third.1.kind) [ inl used ↦ (let no : Used ≡ Free = sym used ∙ kind in cc) | inr tail ↦ (let no : Record ≡ Free = sym tail ∙ kind in cc) ]
 
           only_free : (k bytes : ℕ) → extent_at k three ≡ Some (extent k bytes Free) → IsIn k ((at + size) ∷ [])
           only_free k bytes found = elim (found_either k (chunk ∷ free ∷ []) (last ∷ []) found) [
             | inl first ↦ elim (in_two chunk free k first) [
-              | inl here ↦ absurd (let no : Used ≡ Free = ap (λ (e : Extent). e.kind) here in cc)
-              | inr behind ↦ inl (sym (ap (λ (e : Extent). e.at) behind))
+              | inl here ↦ absurd (let no : Used ≡ Free = ap (λ e. e.kind) here in cc)
+              | inr behind ↦ inl (sym (ap (λ e. e.at) behind))
             ]
             | inr later ↦ absurd (no_last k bytes (the_one k last later.1))
           ]
@@ -291,7 +291,7 @@ module _ {A : Type 0} {regions : A → List Grant} {word : A → ℕ → ℕ} {h
       AreStored (regions middle) (word middle) ((at + n + 8, head_of (size + length - n) true false) ∷ (at + n + (size + length - n), size + length - n) ∷ []) (word system) →
       AreStored (regions heap.system) words ((at + 8, head_of n (pinuse_of (words (at + 8))) true) ∷ (at + n + 8, head_of (size + length - n) true false) ∷ (at + n + (size + length - n), size + length - n) ∷ []) (word system)
   free_stores middle system value same first second =
-      let last = subst (λ (rs : List Grant). AreStored rs (word middle) ((at + n + 8, head_of (size + length - n) true false) ∷ (at + n + (size + length - n), size + length - n) ∷ []) (word system)) same second in
+      let last = subst (λ rs. AreStored rs (word middle) ((at + n + 8, head_of (size + length - n) true false) ∷ (at + n + (size + length - n), size + length - n) ∷ []) (word system)) same second in
       record {
         here = ((λ apart. last.elsewhere (at + 8) (free_head_there at (omega arith) (omega arith) (omega (arith, free_at_whole))).granted apart ∙ first.here.0 (apart.0, tt)), last.here);
         elsewhere = λ k is apart. last.elsewhere k is apart.1 ∙ first.elsewhere k is (apart.0, (apart.1.0, tt));

@@ -27,7 +27,7 @@ module _ {A : Type 0} {regions : A → List Grant} {word : A → ℕ → ℕ} {h
   top = extent (at + size) heap.top_size Top
 
   next_is : (next sound there).next ≡ top
-  next_is = next_top sound there touch ∙ ap (λ (a : ℕ). extent a heap.top_size Top) (sym touch)
+  next_is = next_top sound there touch ∙ ap (λ a. extent a heap.top_size Top) (sym touch)
 
   abbrev both : IsRunOf words segments at (at + size + heap.top_size) (chunk ∷ top ∷ [])
   both = two sound there next_is
@@ -66,7 +66,7 @@ module _ {A : Type 0} {regions : A → List Grant} {word : A → ℕ → ℕ} {h
       (stored_rest : IsStored (regions middle) (word middle) (at + n + 8) (rest + 1) (word system)) where
     stored : AreStored (regions heap.system) words ((at + 8, head_of n (pinuse_of (words (at + 8))) true) ∷ (at + n + 8, rest + 1) ∷ []) (word system)
     stored = stored_over (head_of n (pinuse_of (words (at + 8))) true) value top_first_head.granted stored_first
-        (subst (λ (rs : List Grant). IsStored rs (word middle) (at + n + 8) (rest + 1) (word system)) same_middle stored_rest)
+        (subst (λ rs. IsStored rs (word middle) (at + n + 8) (rest + 1) (word system)) same_middle stored_rest)
 
     abbrev after : Dlmalloc A
     after = record heap { system = system; top = at + n; top_size = rest }
@@ -82,9 +82,9 @@ module _ {A : Type 0} {regions : A → List Grant} {word : A → ℕ → ℕ} {h
 
     move : IsMove (regions heap.system) words (word system) (last_kind Used both.first) at (at + size + heap.top_size) (at + size + heap.top_size) (chunk ∷ top ∷ []) parts
     move =
-        subst (λ (r : ℕ). IsMove (regions heap.system) words (word system) (last_kind Used both.first) at (at + size + heap.top_size) (at + size + heap.top_size) (chunk ∷ top ∷ []) (extent at n Used ∷ extent (at + n) r Top ∷ [])) (sym rest_is)
+        subst (λ r. IsMove (regions heap.system) words (word system) (last_kind Used both.first) at (at + size + heap.top_size) (at + size + heap.top_size) (chunk ∷ top ∷ []) (extent at n Used ∷ extent (at + n) r Top ∷ [])) (sym rest_is)
         (grown_top (regions heap.system) (word system) stands n stands_top whole least rest_room
-        (subst (λ (r : ℕ). AreStored (regions heap.system) words ((at + 8, head_of n (pinuse_of (words (at + 8))) true) ∷ (at + n + 8, r + 1) ∷ []) (word system)) rest_is stored))
+        (subst (λ r. AreStored (regions heap.system) words ((at + 8, head_of n (pinuse_of (words (at + 8))) true) ∷ (at + n + 8, r + 1) ∷ []) (word system)) rest_is stored))
 
     abbrev step : IsStep regions word heap after (chunk ∷ top ∷ []) parts
     step =

@@ -28,7 +28,7 @@ split_used {old} {before} at size n stands whole least room stored =
           whole = place;
           size = (whole, least);
           kind = stands.kind;
-          head = stored.here.0 ((λ is. omega arith), tt) ∙ ap (λ (b : Bool). head_of n b true) told;
+          head = stored.here.0 ((λ is. omega arith), tt) ∙ ap (λ b. head_of n b true) told;
           foot = λ free. absurd (cc);
           fence = λ is. absurd (cc);
         },
@@ -94,7 +94,7 @@ module _ {A : Type 0} {regions : A → List Grant} {word : A → ℕ → ℕ} {h
       AreStored (regions heap.system) (word heap.system) ((at + 8, head_of n (pinuse_of (word heap.system (at + 8))) true) ∷ (at + n + 8, head_of (size - n) true true) ∷ []) (word system)
   stores middle system value same first second =
       stored_over (head_of n (pinuse_of (word heap.system (at + 8))) true) value first_head.granted first
-      (subst (λ (rs : List Grant). IsStored rs (word middle) (at + n + 8) (head_of (size - n) true true) (word system)) same second)
+      (subst (λ rs. IsStored rs (word middle) (at + n + 8) (head_of (size - n) true true) (word system)) same second)
 
   module _ (middle system : A) (same_middle : regions middle ≡ regions heap.system) (same_system : regions system ≡ regions middle) (value : ℕ)
       (first : AreStored (regions heap.system) (word heap.system) ((at + 8, head_of n (pinuse_of (word heap.system (at + 8))) true) ∷ (at + n + 8, value) ∷ []) (word middle))
@@ -112,10 +112,10 @@ module _ {A : Type 0} {regions : A → List Grant} {word : A → ℕ → ℕ} {h
     both = extent at n Used ∷ extent (at + n) (size - n) Used ∷ []
 
     used_one : (k : ℕ) {one : Extent} → extent_at k (chunk ∷ []) ≡ Some one → Used ≡ one.kind
-    used_one k there = ap (λ (e : Extent). e.kind) (found_one k chunk there)
+    used_one k there = ap (λ e. e.kind) (found_one k chunk there)
 
     place_one : (k : ℕ) {one : Extent} → extent_at k (chunk ∷ []) ≡ Some one → at ≡ one.at
-    place_one k there = ap (λ (e : Extent). e.at) (found_one k chunk there)
+    place_one k there = ap (λ e. e.at) (found_one k chunk there)
 
     abbrev split_step : IsStep regions word heap after (chunk ∷ []) both
     split_step = step_beside after sound same run
@@ -166,7 +166,7 @@ module _ {A : Type 0} {regions : A → List Grant} {word : A → ℕ → ℕ} {h
     split_free = free_moves sound split_step [] []
         (λ k bytes found. (let no : Used ≡ Free = used_one k found in cc))
         (λ k bytes found. elim (found_either k (extent at n Used ∷ []) (extent (at + n) (size - n) Used ∷ []) found) [
-          | inl first ↦ (let no : Used ≡ Free = ap (λ (e : Extent). e.kind) (found_one k (extent at n Used) first) in cc)
-          | inr later ↦ (let no : Used ≡ Free = ap (λ (e : Extent). e.kind) (found_one k (extent (at + n) (size - n) Used) later.1) in cc)
+          | inl first ↦ (let no : Used ≡ Free = ap (λ e. e.kind) (found_one k (extent at n Used) first) in cc)
+          | inr later ↦ (let no : Used ≡ Free = ap (λ e. e.kind) (found_one k (extent (at + n) (size - n) Used) later.1) in cc)
         ])
         (λ k none. absurd none) (λ k none. absurd none)

@@ -19,7 +19,7 @@ module _ {A : Type 0} {regions : A → List Grant} {word : A → ℕ → ℕ} {f
     (frees : FreeMoves (state_of word heap) (state_of word middle) [] []) (moved : IsTurned regions word follows middle new) where
   -- a word that is granted before is granted after the split
   still : (k : ℕ) → IsWordOf (regions heap.system) k → IsWordOf (regions middle.system) k
-  still k is = subst (λ (rs : List Grant). IsWordOf rs k) (sym split.regions_same) is
+  still k is = subst (λ rs. IsWordOf rs k) (sym split.regions_same) is
 
   -- what is in no free extent is in none after the split
   no_free : (k : ℕ) → (IsInFree (state_of word heap) k → ⊥) → IsInFree (state_of word middle) k → ⊥
@@ -37,7 +37,7 @@ module _ {A : Type 0} {regions : A → List Grant} {word : A → ℕ → ℕ} {f
 
   module _ (state : state_of word new ≡ freed (state_of word middle) (at + n)) (less : HasOneMore (state_of word new) (state_of word middle) (at + n)) where
     pub tail_state : state_of word new ≡ tail_freed (state_of word heap) at n
-    tail_state = state ∙ ap (λ (s : HeapState). freed s (at + n)) split.state
+    tail_state = state ∙ ap (λ s. freed s (at + n)) split.state
 
     pub tail_first : extent_at at (extents_in (state_of word new)) ≡ Some (extent at n Used)
     tail_first = less.only (extent at n Used) refl split.first (λ same. absurd (let e : at ≡ at + n = same in omega (arith, least)))
@@ -60,7 +60,7 @@ module _ {A : Type 0} {regions : A → List Grant} {word : A → ℕ → ℕ} {f
 
   module _ (state : state_of word new ≡ freed (state_of word middle) at) (less : HasOneMore (state_of word new) (state_of word middle) at) where
     pub lead_state : state_of word new ≡ freed (exchanged (state_of word heap) at (halves n)) at
-    lead_state = state ∙ ap (λ (s : HeapState). freed s at) split.state
+    lead_state = state ∙ ap (λ s. freed s at) split.state
 
     pub lead_second : extent_at (at + n) (extents_in (state_of word new)) ≡ Some (extent (at + n) (size - n) Used)
     lead_second = less.only (extent (at + n) (size - n) Used) refl split.second (λ same. absurd (let e : at + n ≡ at = same in omega (arith, least)))

@@ -31,7 +31,7 @@ record_read words payload = record { base = words payload; size = words (payload
 
 -- the parity of flags is that of their last 32 bits
 pub parity : {flags word : ℕ} → word ≡ flags → (word % 2 ^ 32 % 2 == 0) ≡ (flags % 2 == 0)
-parity is = ap (λ (n : ℕ). n == 0) (omega (arith, is))
+parity is = ap (λ n. n == 0) (omega (arith, is))
 
 -- all words of segments stay, where granted words do
 pub all_keep : (regions : List Grant) (old new : ℕ → ℕ) → ((k : ℕ) → IsWordOf regions k → new k ≡ old k) → (segments : List Segment) → AreSegments regions old segments → AllByRecursion (KeepsIts old new) segments
@@ -57,7 +57,7 @@ module _ {A : Type 0} (regions : A → List Grant) (word : A → ℕ → ℕ) (f
   pub given_told : (takes : Bool) (told segment : Segment) (old new : A) (bytes : ℕ) → told.base ≡ segment.base → told.size ≡ segment.size → is_own told ≡ is_own segment →
       AreGivenBack regions word follows (taken_back takes (filter is_own (told ∷ []))) old bytes new → AreGivenBack regions word follows (taken_back takes (filter is_own (segment ∷ []))) old bytes new
   given_told takes told segment old new bytes base size own given =
-      subst (λ (b : Bool). AreGivenBack regions word follows (taken_back takes (cond b (segment ∷ []) [])) old bytes new) own (go takes (is_own told) given)
+      subst (λ b. AreGivenBack regions word follows (taken_back takes (cond b (segment ∷ []) [])) old bytes new) own (go takes (is_own told) given)
     where
       go : (takes own : Bool) → AreGivenBack regions word follows (taken_back takes (cond own (told ∷ []) [])) old bytes new → AreGivenBack regions word follows (taken_back takes (cond own (segment ∷ []) [])) old bytes new
       go true true given = given_same regions word follows follows_on told segment true old new base size given
@@ -71,16 +71,16 @@ module _ {A : Type 0} (regions : A → List Grant) (word : A → ℕ → ℕ) (f
     where
       kept : regions new ≡ regions old → ((k : ℕ) → IsWordOf (regions new) k → word new k ≡ word old k) → AreSegments (regions new) (word new) others × AllByRecursion (KeepsIts (word old) (word new)) others
       kept same words =
-          let keeps = all_keep (regions old) (word old) (word new) (λ k inside. words k (subst (λ (rs : List Grant). IsWordOf rs k) (sym same) inside)) others parts.1 in
-          (subst (λ (rs : List Grant). AreSegments rs (word new) others) (sym same) (parts_stay (regions old) (word old) (word new) others parts.1 keeps), keeps)
+          let keeps = all_keep (regions old) (word old) (word new) (λ k inside. words k (subst (λ rs. IsWordOf rs k) (sym same) inside)) others parts.1 in
+          (subst (λ rs. AreSegments rs (word new) others) (sym same) (parts_stay (regions old) (word old) (word new) others parts.1 keeps), keeps)
 
       go : (takes own : Bool) → AreGivenBack regions word follows (taken_back takes (cond own (segment ∷ []) [])) old bytes new → AreSegments (regions new) (word new) others × AllByRecursion (KeepsIts (word old) (word new)) others
       go true true given =
           let some : 0 < segment.size = (let l = parts.0.long in omega arith) in
           let run = parts.0.run in
           let gone : regions new ≡ without segment.base (segment.base + segment.size) (regions old) = given.regions_are in
-          let keeps = apart_keeps segment run some (word old) (word new) (λ k inside. given.words k (subst (λ (rs : List Grant). IsWordOf rs k) (sym gone) inside)) others parts.1 apart in
-          (subst (λ (rs : List Grant). AreSegments rs (word new) others) (sym gone) (apart_segments segment run some (word old) (word new) others parts.1 apart keeps), keeps)
+          let keeps = apart_keeps segment run some (word old) (word new) (λ k inside. given.words k (subst (λ rs. IsWordOf rs k) (sym gone) inside)) others parts.1 apart in
+          (subst (λ rs. AreSegments rs (word new) others) (sym gone) (apart_segments segment run some (word old) (word new) others parts.1 apart keeps), keeps)
       go true false given = kept given.regions_are given.words
       go false own given = kept given.regions_are given.words
 
@@ -101,7 +101,7 @@ module _ {A : Type 0} (regions : A → List Grant) (word : A → ℕ → ℕ) (f
           some = omega (arith, length-append done (segment ∷ []));
           parts = stay.0;
           told = records_stay (regions old) (word old) (word new) others parts.1 stay.1 next records;
-          given = subst (λ (gone : List Segment). AreGivenBack regions word follows gone heap.system (released + bytes) new)
+          given = subst (λ gone. AreGivenBack regions word follows gone heap.system (released + bytes) new)
               (sym (ap (taken_back takes) (filter-append is_own done (segment ∷ [])) ∙ taken_append takes (filter is_own done) (filter is_own (segment ∷ []))))
               (given_on regions word follows follows_on old new before here);
         }
@@ -118,19 +118,19 @@ module _ {A : Type 0} (regions : A → List Grant) (word : A → ℕ → ℕ) (f
         go : (segments : List Segment) → segments_of word heap ≡ segments → AreSegments (regions heap.system) (word heap.system) segments → AreTold (word heap.system) heap segments → Destroying regions word follows takes heap told.next bytes new
         go [] is parts h = absurd (some h)
         go (segment ∷ segments) is parts h =
-            subst (λ (n : ℕ). Destroying regions word follows takes heap told.next n new) (omega arith)
+            subst (λ n. Destroying regions word follows takes heap told.next n new) (omega arith)
             (given_next [] segment segments is 0 parts (nothing takes)
-            (told_of told) (ap (λ (t : SegmentRecord). t.base) read ∙ h.1) (ap (λ (t : SegmentRecord). t.size) read ∙ h.2) (ap (λ (t : SegmentRecord). t.flags % 2 == 0) read ∙ ap (λ (f : ℕ). f % 2 == 0) h.3) given told.next (subst (λ (p : ℕ). AreRecords (word heap.system) p segments) (ap (λ (t : SegmentRecord). t.next) (sym read)) h.5))
+            (told_of told) (ap (λ t. t.base) read ∙ h.1) (ap (λ t. t.size) read ∙ h.2) (ap (λ t. t.flags % 2 == 0) read ∙ ap (λ f. f % 2 == 0) h.3) given told.next (subst (λ p. AreRecords (word heap.system) p segments) (ap (λ t. t.next) (sym read)) h.5))
 
     -- the head segment is a run
     pub head_is_run : heap.size ≢ 0 → {told : SegmentRecord} → told ≡ record { base = heap.base; size = heap.size; next = heap.next; flags = heap.flags } → IsWholeRun (regions heap.system) told.base (told.base + told.size)
-    head_is_run some read = subst (λ (t : SegmentRecord). IsWholeRun (regions heap.system) t.base (t.base + t.size)) (sym read) (go (segments_of word heap) sound.segments sound.told)
+    head_is_run some read = subst (λ t. IsWholeRun (regions heap.system) t.base (t.base + t.size)) (sym read) (go (segments_of word heap) sound.segments sound.told)
       where
         go : (segments : List Segment) → AreSegments (regions heap.system) (word heap.system) segments → AreTold (word heap.system) heap segments → IsWholeRun (regions heap.system) heap.base (heap.base + heap.size)
         go [] parts h = absurd (some h)
         go (segment ∷ segments) parts h =
-            subst (λ (base : ℕ). IsWholeRun (regions heap.system) base (base + heap.size)) (sym h.1)
-            (subst (λ (size : ℕ). IsWholeRun (regions heap.system) segment.base (segment.base + size)) (sym h.2)
+            subst (λ base. IsWholeRun (regions heap.system) base (base + heap.size)) (sym h.1)
+            (subst (λ size. IsWholeRun (regions heap.system) segment.base (segment.base + size)) (sym h.2)
             (whole_run (let long = parts.0.long in omega arith) parts.0.run))
 
     -- the records that are read are those that are left
@@ -141,8 +141,8 @@ module _ {A : Type 0} (regions : A → List Grant) (word : A → ℕ → ℕ) (f
     module _ {payload released : ℕ} {old : A} (d : Destroying regions word follows takes heap payload released old) where
       -- all are given back
       pub destroyed : payload ≡ 0 → AreGivenBack regions word follows (taken_back takes (filter is_own (segments_of word heap))) heap.system released old
-      destroyed none = subst (λ (segments : List Segment). AreGivenBack regions word follows (taken_back takes (filter is_own segments)) heap.system released old)
-          (sym (d.is ∙ (ap (λ (rest : List Segment). d.done ++ rest) (none_ahead (word old) d.rest none d.told) ∙ append-nil d.done))) d.given
+      destroyed none = subst (λ segments. AreGivenBack regions word follows (taken_back takes (filter is_own segments)) heap.system released old)
+          (sym (d.is ∙ (ap (λ rest. d.done ++ rest) (none_ahead (word old) d.rest none d.told) ∙ append-nil d.done))) d.given
 
       module _ (more : payload ≢ 0) where
         abbrev pub a : Ahead (word old) payload d.rest
@@ -152,7 +152,7 @@ module _ {A : Type 0} (regions : A → List Grant) (word : A → ℕ → ℕ) (f
         parts_are = subst (AreSegments (regions old) (word old)) a.is d.parts
 
         pub there_is : segments_of word heap ≡ d.done ++ a.segment ∷ a.others
-        there_is = d.is ∙ ap (λ (rest : List Segment). d.done ++ rest) a.is
+        there_is = d.is ∙ ap (λ rest. d.done ++ rest) a.is
 
         -- what reading the record wants
         pub read_high : payload + 32 < 2 ^ 64
@@ -164,21 +164,21 @@ module _ {A : Type 0} (regions : A → List Grant) (word : A → ℕ → ℕ) (f
 
         module _ {told : SegmentRecord} (read : told ≡ record_read (word old) payload) where
           pub base_is : told.base ≡ a.segment.base
-          base_is = ap (λ (t : SegmentRecord). t.base) read ∙ a.told.1
+          base_is = ap (λ t. t.base) read ∙ a.told.1
 
           pub size_is : told.size ≡ a.segment.size
-          size_is = ap (λ (t : SegmentRecord). t.size) read ∙ a.told.2
+          size_is = ap (λ t. t.size) read ∙ a.told.2
 
           pub is_run : IsWholeRun (regions old) told.base (told.base + told.size)
           is_run =
-              subst (λ (base : ℕ). IsWholeRun (regions old) base (base + told.size)) (sym base_is)
-              (subst (λ (size : ℕ). IsWholeRun (regions old) a.segment.base (a.segment.base + size)) (sym size_is)
+              subst (λ base. IsWholeRun (regions old) base (base + told.size)) (sym base_is)
+              (subst (λ size. IsWholeRun (regions old) a.segment.base (a.segment.base + size)) (sym size_is)
               (whole_run (let long = parts_are.0.long in omega arith) parts_are.0.run))
 
           module _ {bytes : ℕ} {new : A} (given : AreGivenBack regions word follows (taken_back takes (filter is_own (told_of told ∷ []))) old bytes new) where
             abbrev pub on_given : Destroying regions word follows takes heap told.next (released + bytes) new
             on_given = given_next d.done a.segment a.others there_is released parts_are d.given (told_of told) base_is size_is
-                (ap (λ (t : SegmentRecord). t.flags % 2 == 0) read ∙ parity a.told.3) given told.next (subst (λ (p : ℕ). AreRecords (word old) p a.others) (ap (λ (t : SegmentRecord). t.next) (sym read)) a.told.5)
+                (ap (λ t. t.flags % 2 == 0) read ∙ parity a.told.3) given told.next (subst (λ p. AreRecords (word old) p a.others) (ap (λ t. t.next) (sym read)) a.told.5)
 
             pub sum_fits : released + bytes < 2 ^ 64
             sum_fits =

@@ -19,17 +19,17 @@ module _ {regions : List Grant} {words : ℕ → ℕ} {segment : Segment} (part 
       | inr last ↦ (let no : Record ≡ Used = sym last ∙ used in cc)
     ];
     record_at = at;
-    short = there ∙ ap (λ (size : ℕ). Some (extent at size Record)) short;
+    short = there ∙ ap (λ size. Some (extent at size Record)) short;
   }
     where
       is : segment.extents ≡ extent segment.base (segment.size - 80) Free ∷ record_of at end ∷ []
       is = unused_extents part at there test
 
       short : end - at ≡ 80
-      short = (let tiles = subst (λ (es : List Extent). Tiles words Used segment.base es end) is part.extents in let place = tiles.2.0 in let long = part.long in omega (arith, place, long))
+      short = (let tiles = subst (λ es. Tiles words Used segment.base es end) is part.extents in let place = tiles.2.0 in let long = part.long in omega (arith, place, long))
 
   idle_unused : IsIdle segment → is_unused segment ≡ true
-  idle_unused idle = ap (λ (es : List Extent). is_unused (with_extents segment es)) b.is ∙ rw (free, fits) refl
+  idle_unused idle = ap (λ es. is_unused (with_extents segment es)) b.is ∙ rw (free, fits) refl
     where
       b : Rattle.dlmalloc.proofs.Extents.FreeParted.IsBare part idle.unused
       b = bare part idle.unused
@@ -38,19 +38,19 @@ module _ {regions : List Grant} {words : ℕ → ℕ} {segment : Segment} (part 
       free = elim b.free [
         | inl is ↦ ap is_free_below_top is
         | inr top ↦ absurd (no_record part at
-            (ap (extent_at b.one.at) b.is ∙ (found_here b.one (b.last ∷ []) ∙ ap (λ (kind : Rattle.dlmalloc_chunks.specs.declared.extent.Kind.Kind). Some (extent b.one.at b.one.size kind)) top)) there)
+            (ap (extent_at b.one.at) b.is ∙ (found_here b.one (b.last ∷ []) ∙ ap (λ kind. Some (extent b.one.at b.one.size kind)) top)) there)
       ]
 
       last : b.last ≡ extent idle.record_at 80 Record
       last = elim (either part idle.unused idle.record_at idle.short) [
-        | inl one ↦ absurd (let no : is_free_below_top Record ≡ true = sym (ap (λ (e : Extent). is_free_below_top e.kind) one) ∙ free in cc)
+        | inl one ↦ absurd (let no : is_free_below_top Record ≡ true = sym (ap (λ e. is_free_below_top e.kind) one) ∙ free in cc)
         | inr is ↦ is
       ]
 
       fits : (b.one.size + 80 == segment.size) ≡ true
       fits =
-          let tiles = subst (λ (es : List Extent). Tiles words Used segment.base es (segment.base + segment.size)) b.is part.extents in
-          let size : b.last.size ≡ 80 = ap (λ (e : Extent). e.size) last in
+          let tiles = subst (λ es. Tiles words Used segment.base es (segment.base + segment.size)) b.is part.extents in
+          let size : b.last.size ≡ 80 = ap (λ e. e.size) last in
           let whole = tiles.2.2 in
           let is : b.one.size + 80 ≡ segment.size = omega (arith, size, whole) in
           grind (arith, nat_tests)
@@ -74,7 +74,7 @@ module _ {regions : List Grant} {words : ℕ → ℕ} {segment : Segment} (part 
 
 module _ {A : Type 0} {regions : A → List Grant} {word : A → ℕ → ℕ} {heap : Dlmalloc A} (sound : IsSound regions word heap) (parts : Bool) where
   in_records : (segments : List Segment) → AreSegments (regions heap.system) (word heap.system) segments → (payload : ℕ) → AreRecords (word heap.system) payload segments →
-      AllByRecursion (λ (segment : Segment). IsTrue (may_leave parts segment) ↔ (IsTrue parts × IsTrue (is_own segment) × IsIdle segment)) segments
+      AllByRecursion (λ segment. IsTrue (may_leave parts segment) ↔ (IsTrue parts × IsTrue (is_own segment) × IsIdle segment)) segments
   in_records [] all payload h = tt
   in_records (segment ∷ segments) all payload h = (
     leaves_idle all.0 (payload - 16) h.4 parts,

@@ -3,10 +3,10 @@ use Rattle.dlmalloc.proofs.Names.{◌≡◌, ℕ, ◌-◌, Bool, true, false, �
 
 -- what a step makes of an index at a size depends on the index there
 pub with_same : (size chunk : ℕ) (i j : ℕ → List ℕ) (n : ℕ) → i n ≡ j n → with_chunk size chunk i n ≡ with_chunk size chunk j n
-with_same size chunk i j n same = ap (λ (chunks : List ℕ). if n == size then chunks ++ chunk ∷ [] else chunks) same
+with_same size chunk i j n same = ap (λ chunks. if n == size then chunks ++ chunk ∷ [] else chunks) same
 
 without_same : (size chunk : ℕ) (i j : ℕ → List ℕ) (n : ℕ) → i n ≡ j n → without_chunk size chunk i n ≡ without_chunk size chunk j n
-without_same size chunk i j n same = ap (λ (chunks : List ℕ). if n == size then removed chunk chunks else chunks) same
+without_same size chunk i j n same = ap (λ chunks. if n == size then removed chunk chunks else chunks) same
 
 -- what a visit makes of an index, by whether the segment is handed out, and taken
 abbrev left_of : Segment → (ℕ → List ℕ) → ℕ → List ℕ
@@ -39,7 +39,7 @@ visits_on frees parts (first ∷ done) segment index n = visits_on frees parts d
 -- the three ways of a visit
 module _ (frees parts : Bool) (segment : Segment) (index : ℕ → List ℕ) (n : ℕ) where
   pub visit_none : false ≡ may_leave parts segment → index n ≡ after_visit frees parts segment index n
-  visit_none is = ap (λ (m : Bool). made_of segment m frees index n) is
+  visit_none is = ap (λ m. made_of segment m frees index n) is
 
   module _ {base size : ℕ} (base_is : base ≡ segment.base) (size_is : size ≡ segment.size - 80) (may : true ≡ may_leave parts segment) where
     pub visit_left : true ≡ frees → without_chunk size base index n ≡ after_visit frees parts segment index n

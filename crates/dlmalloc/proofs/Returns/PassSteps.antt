@@ -5,7 +5,7 @@ use Rattle.std.proofs.lemmas.List.{length-map}
 -- a freed chunk leaves the segments
 pub freed_pass : (old : HeapState) (at : ℕ) {new : HeapState} → new ≡ freed old at → pass_steps new ≡ pass_steps old
 freed_pass old at is = ap pass_steps is
-    ∙ ap (λ (n : ℕ). 512 * n) (length-map old.segments (λ (segment : Segment). record segment { extents = freed_in at segment.extents }))
+    ∙ ap (λ n. 512 * n) (length-map old.segments (λ segment. record segment { extents = freed_in at segment.extents }))
 
 -- so does a cut of the top
 cut_pass : (less : ℕ) (segments : List Segment) (victim granularity rate countdown trim_check : ℕ) →
@@ -24,8 +24,8 @@ after_cut_pass parts unit pad old is = ap pass_steps is ∙ go (is_cut parts uni
 pub found_pass : {A : Type 0} (follows : A → List Event → A → Type 0) (regions : A → List Grant) (system : A) (old : HeapState) (n : ℕ) (system' : A) (new : HeapState) →
     IsFound follows regions system old n system' new → chosen old n ≢ None → pass_steps new ≡ pass_steps old
 found_pass follows regions system old n system' new (inl here) some =
-    ap (λ (k : ℕ). 512 * k) (sym (many new) ∙ (ap length here.0 ∙ many old))
+    ap (λ k. 512 * k) (sym (many new) ∙ (ap length here.0 ∙ many old))
   where
     many : (heap : HeapState) → length (spans heap) ≡ length heap.segments
-    many heap = length-map heap.segments (λ (segment : Segment). record segment { extents = [] })
+    many heap = length-map heap.segments (λ segment. record segment { extents = [] })
 found_pass follows regions system old n system' new (inr there) some = absurd (some there.1)

@@ -27,7 +27,7 @@ victim_after parts segments victim = if list_any (λ segment. segment.base == vi
 
 all_filtered : (segments : List Segment) → filter (λ segment. true) segments ≡ segments
 all_filtered [] = refl
-all_filtered (segment ∷ segments) = ap (λ (rest : List Segment). segment ∷ rest) (all_filtered segments)
+all_filtered (segment ∷ segments) = ap (λ rest. segment ∷ rest) (all_filtered segments)
 
 none_filtered : (segments : List Segment) → filter (λ segment. false) segments ≡ []
 none_filtered [] = refl
@@ -35,7 +35,7 @@ none_filtered (segment ∷ segments) = none_filtered segments
 
 remaining_is : (frees parts : Bool) (head : Segment) (segments : List Segment) → head ∷ remaining frees parts segments ≡ (if frees then staying parts (head ∷ segments) else head ∷ segments)
 remaining_is true parts head segments = refl
-remaining_is false parts head segments = ap (λ (rest : List Segment). head ∷ rest) (all_filtered segments)
+remaining_is false parts head segments = ap (λ rest. head ∷ rest) (all_filtered segments)
 
 leaving_is : (frees parts : Bool) (head : Segment) (segments : List Segment) → leaving frees parts segments ≡ taken_back frees (handed_out parts (head ∷ segments))
 leaving_is true parts head segments = refl
@@ -77,10 +77,10 @@ module _ {A : Type 0} (regions : A → List Grant) (word : A → ℕ → ℕ) (f
     before = λ extent there. one.before extent (two.before extent there);
     words = λ k inside was out.
         two.words k inside (λ f. was (record { at = f.at; size = f.size; free = one.before (extent f.at f.size Free) f.free; low = f.low; high = f.high })) (λ r. out (record { extent = r.extent; there = one.before r.extent r.there; is = r.is; low = r.low; high = r.high }))
-        ∙ one.words k (record { granted = still_granted second (regions middle.system) k (subst (λ (rs : List Grant). IsTrue (is_granted rs k)) two.regions_are inside.granted); aligned = inside.aligned }) was out;
+        ∙ one.words k (record { granted = still_granted second (regions middle.system) k (subst (λ rs. IsTrue (is_granted rs k)) two.regions_are inside.granted); aligned = inside.aligned }) was out;
     regions_are = two.regions_are ∙ (ap (regions_without second) one.regions_are ∙ sym (without_append first second (regions old.system)));
     followed = follows_on old.system middle.system new.system (releases first) (releases second) (releases (first ++ second)) one.followed two.followed
-        (sym (map-append (λ (segment : Segment). Released segment.base segment.size 0) first second));
+        (sym (map-append (λ segment. Released segment.base segment.size 0) first second));
   }
 
   -- the blocks keep their words
@@ -88,7 +88,7 @@ module _ {A : Type 0} (regions : A → List Grant) (word : A → ℕ → ℕ) (f
   blocks_left old new sound left = record {
     words = λ block there used k low high m. left.words k (inside block there used k (omega (arith, low)) high m) (not_in_free sound there used k (omega (arith, low)) high) (λ r. no_record_is block there used k (omega (arith, low)) high m r);
     heads = λ block there used. (let is = stands block there used in
-        ap (λ (w : ℕ). w / 2) (left.words (block.at + 8) (inside block there used (block.at + 8) (omega arith) (omega (arith, is.long)) (omega (arith, is.whole))) (not_in_free sound there used (block.at + 8) (omega arith) (omega (arith, is.long))) (λ r. no_record_is block there used (block.at + 8) (omega arith) (omega (arith, is.long)) (omega (arith, is.whole)) r)));
+        ap (λ w. w / 2) (left.words (block.at + 8) (inside block there used (block.at + 8) (omega arith) (omega (arith, is.long)) (omega (arith, is.whole))) (not_in_free sound there used (block.at + 8) (omega arith) (omega (arith, is.long))) (λ r. no_record_is block there used (block.at + 8) (omega arith) (omega (arith, is.long)) (omega (arith, is.whole)) r)));
   }
     where
       no_record_is : (block : Extent) → extent_at block.at (extents_in (state_of word old)) ≡ Some block → block.kind ≡ Used → (k : ℕ) → block.at ≤ k → k < block.at + block.size + 8 → k % 8 ≡ 0 → IsInRecord (state_of word old) k → ⊥
@@ -162,7 +162,7 @@ module _ {A : Type 0} {regions : A → List Grant} {word : A → ℕ → ℕ} (f
   module _ {before payload count released : ℕ} {now : Dlmalloc A} (p : Passing regions word follows frees parts old before payload count released now) where
     -- the bytes that left are fewer than addresses
     pub few_released : released ≤ bytes_of p.done
-    few_released = omega (arith, p.bytes_are, bytes_filter (λ (segment : Segment). frees && may_leave parts segment) p.done)
+    few_released = omega (arith, p.bytes_are, bytes_filter (λ segment. frees && may_leave parts segment) p.done)
 
     -- no more are visited than there are
     pub passed_few : count ≤ length (segments_of word old)
@@ -175,13 +175,13 @@ module _ {A : Type 0} {regions : A → List Grant} {word : A → ℕ → ℕ} (f
       pub bounded : bytes_of p.done + ahead.segment.size < 2 ^ 64
       bounded =
           let all = bytes_few (regions old.system) (word old.system) (segments_of word old) sound.segments sound.apart in
-          let sum = ap bytes_of (p.was ∙ ap (λ (rest : List Segment). p.head ∷ (p.done ++ rest)) ahead.is) in
+          let sum = ap bytes_of (p.was ∙ ap (λ rest. p.head ∷ (p.done ++ rest)) ahead.is) in
           let both = bytes_append p.done (ahead.segment ∷ ahead.others) in
           omega (arith, all, sum, both)
 
       ahead_part : IsSegment (regions now.system) (word now.system) ahead.segment
       ahead_part = all_at (IsSegment (regions now.system) (word now.system)) (p.head ∷ remaining frees parts p.done) ahead.segment ahead.others
-          (subst (AreSegments (regions now.system) (word now.system)) (p.is ∙ ap (λ (rest : List Segment). p.head ∷ (remaining frees parts p.done ++ rest)) ahead.is) p.left.sound.segments)
+          (subst (AreSegments (regions now.system) (word now.system)) (p.is ∙ ap (λ rest. p.head ∷ (remaining frees parts p.done ++ rest)) ahead.is) p.left.sound.segments)
 
       -- what reading its record wants
       pub read_high : payload + 32 < 2 ^ 64
@@ -206,14 +206,14 @@ module _ {A : Type 0} {regions : A → List Grant} {word : A → ℕ → ℕ} (f
           segment = ahead.segment;
           back = ahead.others;
           payload = payload;
-          is = p.is ∙ ap (λ (rest : List Segment). p.head ∷ (remaining frees parts p.done ++ rest)) ahead.is;
+          is = p.is ∙ ap (λ rest. p.head ∷ (remaining frees parts p.done ++ rest)) ahead.is;
           records = ahead.told;
           linked = p.linked;
           read = read;
         }
 
         pub told_size : told.size ≡ ahead.segment.size
-        told_size = ap (λ (t : SegmentRecord). t.size) read ∙ ahead.told.2
+        told_size = ap (λ t. t.size) read ∙ ahead.told.2
 
         pub sum_fits : released + told.size < 2 ^ 64
         sum_fits = omega (arith, few_released, bounded, told_size)
@@ -221,15 +221,15 @@ module _ {A : Type 0} {regions : A → List Grant} {word : A → ℕ → ℕ} (f
         module _ (follows_on : (x y z : A) (a b c : List Event) → follows x a y → follows y b z → a ++ b ≡ c → follows x c z)
             {b : Bool} (b_is : b ≡ (frees && may_leave parts ahead.segment)) {new : Dlmalloc A} (v : IsVisited regions word follows (may_leave parts ahead.segment) b now before told chained new) (next : IsReindexed regions word (after_visit frees parts ahead.segment) now new) where
           stay_is : remaining frees parts (p.done ++ ahead.segment ∷ []) ≡ remaining frees parts p.done ++ (if not b then ahead.segment ∷ [] else [])
-          stay_is = filter-append (λ (segment : Segment). not (frees && may_leave parts segment)) p.done (ahead.segment ∷ [])
-              ∙ ap (λ (t : Bool). remaining frees parts p.done ++ cond (not t) (ahead.segment ∷ []) []) (sym b_is)
+          stay_is = filter-append (λ segment. not (frees && may_leave parts segment)) p.done (ahead.segment ∷ [])
+              ∙ ap (λ t. remaining frees parts p.done ++ cond (not t) (ahead.segment ∷ []) []) (sym b_is)
 
           gone_is : leaving frees parts (p.done ++ ahead.segment ∷ []) ≡ leaving frees parts p.done ++ (if b then ahead.segment ∷ [] else [])
-          gone_is = filter-append (λ (segment : Segment). frees && may_leave parts segment) p.done (ahead.segment ∷ [])
-              ∙ ap (λ (t : Bool). leaving frees parts p.done ++ cond t (ahead.segment ∷ []) []) (sym b_is)
+          gone_is = filter-append (λ segment. frees && may_leave parts segment) p.done (ahead.segment ∷ [])
+              ∙ ap (λ t. leaving frees parts p.done ++ cond t (ahead.segment ∷ []) []) (sym b_is)
 
           joined : (b : Bool) (segments others : List Segment) → segments ++ (if b then others else ahead.segment ∷ others) ≡ (segments ++ (if not b then ahead.segment ∷ [] else [])) ++ others
-          joined true segments others = ap (λ (ss : List Segment). ss ++ others) (sym (append-nil segments))
+          joined true segments others = ap (λ ss. ss ++ others) (sym (append-nil segments))
           joined false segments others = sym (append_assoc segments (ahead.segment ∷ []) others)
 
           front_is : (b : Bool) (segments : List Segment) → (if b then segments else segments ++ ahead.segment ∷ []) ≡ segments ++ (if not b then ahead.segment ∷ [] else [])
@@ -237,7 +237,7 @@ module _ {A : Type 0} {regions : A → List Grant} {word : A → ℕ → ℕ} (f
           front_is false segments = refl
 
           victim_is : (a m : Bool) → (if m && ahead.segment.base == (if a then 0 else old.victim) then 0 else (if a then 0 else old.victim))
-              ≡ (if a || list_any (λ (segment : Segment). segment.base == old.victim) (cond m (ahead.segment ∷ []) []) then 0 else old.victim)
+              ≡ (if a || list_any (λ segment. segment.base == old.victim) (cond m (ahead.segment ∷ []) []) then 0 else old.victim)
           victim_is true m = none (m && ahead.segment.base == 0)
             where
               none : (b : Bool) → ◌≡◌ {A = ℕ} (if b then 0 else 0) 0
@@ -260,16 +260,16 @@ module _ {A : Type 0} {regions : A → List Grant} {word : A → ℕ → ℕ} (f
             head = p.head;
             done = p.done ++ ahead.segment ∷ [];
             rest = ahead.others;
-            was = p.was ∙ (ap (λ (rest : List Segment). p.head ∷ (p.done ++ rest)) ahead.is ∙ ap (λ (segments : List Segment). p.head ∷ segments) (sym (append_assoc p.done (ahead.segment ∷ []) ahead.others)));
-            is = v.segments ∙ ap (λ (segments : List Segment). p.head ∷ segments)
-                (joined b (remaining frees parts p.done) ahead.others ∙ ap (λ (segments : List Segment). segments ++ ahead.others) (sym stay_is));
+            was = p.was ∙ (ap (λ rest. p.head ∷ (p.done ++ rest)) ahead.is ∙ ap (λ segments. p.head ∷ segments) (sym (append_assoc p.done (ahead.segment ∷ []) ahead.others)));
+            is = v.segments ∙ ap (λ segments. p.head ∷ segments)
+                (joined b (remaining frees parts p.done) ahead.others ∙ ap (λ segments. segments ++ ahead.others) (sym stay_is));
             records = v.records;
-            linked = subst (λ (front : List Segment). IsLinked (word new.system) new.next (if b then before else payload) told.next front) (front_is b (remaining frees parts p.done) ∙ sym stay_is) v.linked;
-            victim = v.victim ∙ (ap (λ (victim : ℕ). if may_leave parts ahead.segment && ahead.segment.base == victim then 0 else victim) p.victim
-                ∙ (victim_is (list_any (λ (segment : Segment). segment.base == old.victim) (filter (may_leave parts) p.done)) (may_leave parts ahead.segment)
-                ∙ ap (λ (a : Bool). if a then 0 else old.victim) (sym (ap (list_any (λ (segment : Segment). segment.base == old.victim)) (filter-append (may_leave parts) p.done (ahead.segment ∷ []))
-                ∙ list_any-append (λ (segment : Segment). segment.base == old.victim) (filter (may_leave parts) p.done) (filter (may_leave parts) (ahead.segment ∷ []))))));
-            left = subst (λ (gone : List Segment). HaveLeft regions word follows gone old new) (sym gone_is)
+            linked = subst (λ front. IsLinked (word new.system) new.next (if b then before else payload) told.next front) (front_is b (remaining frees parts p.done) ∙ sym stay_is) v.linked;
+            victim = v.victim ∙ (ap (λ victim. if may_leave parts ahead.segment && ahead.segment.base == victim then 0 else victim) p.victim
+                ∙ (victim_is (list_any (λ segment. segment.base == old.victim) (filter (may_leave parts) p.done)) (may_leave parts ahead.segment)
+                ∙ ap (λ a. if a then 0 else old.victim) (sym (ap (list_any (λ segment. segment.base == old.victim)) (filter-append (may_leave parts) p.done (ahead.segment ∷ []))
+                ∙ list_any-append (λ segment. segment.base == old.victim) (filter (may_leave parts) p.done) (filter (may_leave parts) (ahead.segment ∷ []))))));
+            left = subst (λ gone. HaveLeft regions word follows gone old new) (sym gone_is)
                 (left_on regions word follows follows_on p.left v.left);
             index = λ b.
                 let was = p.index b in
@@ -292,16 +292,16 @@ module _ {A : Type 0} {regions : A → List Grant} {word : A → ℕ → ℕ} (f
       rest_none = none_ahead (word now.system) p.rest none p.records
 
       was_all : segments_of word old ≡ p.head ∷ p.done
-      was_all = p.was ∙ ap (λ (segments : List Segment). p.head ∷ segments) (ap (λ (rest : List Segment). p.done ++ rest) rest_none ∙ append-nil p.done)
+      was_all = p.was ∙ ap (λ segments. p.head ∷ segments) (ap (λ rest. p.done ++ rest) rest_none ∙ append-nil p.done)
 
       is_all : segments_of word now ≡ p.head ∷ remaining frees parts p.done
-      is_all = p.is ∙ ap (λ (segments : List Segment). p.head ∷ segments) (ap (λ (rest : List Segment). remaining frees parts p.done ++ rest) rest_none ∙ append-nil (remaining frees parts p.done))
+      is_all = p.is ∙ ap (λ segments. p.head ∷ segments) (ap (λ rest. remaining frees parts p.done ++ rest) rest_none ∙ append-nil (remaining frees parts p.done))
 
       segments_are : segments_of word now ≡ (if frees then staying parts (segments_of word old) else segments_of word old)
-      segments_are = is_all ∙ (remaining_is frees parts p.head p.done ∙ ap (λ (segments : List Segment). if frees then staying parts segments else segments) (sym was_all))
+      segments_are = is_all ∙ (remaining_is frees parts p.head p.done ∙ ap (λ segments. if frees then staying parts segments else segments) (sym was_all))
 
-      victim_now : now.victim ≡ (if list_any (λ (segment : Segment). segment.base == old.victim) (handed_out parts (segments_of word old)) then 0 else old.victim)
-      victim_now = p.victim ∙ ap (λ (segments : List Segment). if list_any (λ (segment : Segment). segment.base == old.victim) (handed_out parts segments) then 0 else old.victim) (sym was_all)
+      victim_now : now.victim ≡ (if list_any (λ segment. segment.base == old.victim) (handed_out parts (segments_of word old)) then 0 else old.victim)
+      victim_now = p.victim ∙ ap (λ segments. if list_any (λ segment. segment.base == old.victim) (handed_out parts segments) then 0 else old.victim) (sym was_all)
 
       countdown_is : countdown ≡ max (visited (segments_of word old)) (countdown_from old.rate)
       countdown_is = begins ∙ (λ i. max (count_is i) (countdown_from (p.rate_same i)))
@@ -310,7 +310,7 @@ module _ {A : Type 0} {regions : A → List Grant} {word : A → ℕ → ℕ} (f
           count_is = p.counted ∙ ap visited (sym was_all)
 
       gone_are : leaving frees parts p.done ≡ taken_back frees (handed_out parts (segments_of word old))
-      gone_are = leaving_is frees parts p.head p.done ∙ ap (λ (segments : List Segment). taken_back frees (handed_out parts segments)) (sym was_all)
+      gone_are = leaving_is frees parts p.head p.done ∙ ap (λ segments. taken_back frees (handed_out parts segments)) (sym was_all)
 
       pub passed_all : IsPassed regions word follows frees parts old released passed_heap
       passed_all = record {
@@ -321,8 +321,8 @@ module _ {A : Type 0} {regions : A → List Grant} {word : A → ℕ → ℕ} (f
         kept = blocks_left regions word follows old now sound p.left;
         index = λ b.
             let was = p.index b in
-            (same_bins countdown was.0, λ n. was.1 n ∙ sym (ap (λ (segments : List Segment). after_pass frees parts segments b.index n) was_all));
+            (same_bins countdown was.0, λ n. was.1 n ∙ sym (ap (λ segments. after_pass frees parts segments b.index n) was_all));
         words = p.left.words;
-        regions_are = p.left.regions_are ∙ ap (λ (gone : List Segment). regions_without gone (regions old.system)) gone_are;
-        followed = subst (λ (gone : List Segment). follows old.system (releases gone) now.system) gone_are p.left.followed;
+        regions_are = p.left.regions_are ∙ ap (λ gone. regions_without gone (regions old.system)) gone_are;
+        followed = subst (λ gone. follows old.system (releases gone) now.system) gone_are p.left.followed;
       }

@@ -44,7 +44,7 @@ behind_stays : (regions : List Grant) (old new : ℕ → ℕ) (payload : ℕ) (f
 behind_stays regions old new payload [] rest parts keeps h = refl
 behind_stays regions old new payload (segment ∷ front) rest parts keeps h =
     behind_stays regions old new (old (payload + 16)) front rest parts.1 keeps.1 h.5
-    ∙ ap (λ (p : ℕ). payload_behind new p front) (sym (keeps.0 (payload + 16)
+    ∙ ap (λ p. payload_behind new p front) (sym (keeps.0 (payload + 16)
     (omega (arith, payload_low parts.0 payload h.0 h.4)) (omega (arith, payload_high parts.0 payload h.0 h.4)) (omega (arith, payload_whole parts.0 payload h.0 h.4))))
 
 module _ {A : Type 0} {regions : A → List Grant} {word : A → ℕ → ℕ} {heap : Dlmalloc A} (sound : IsSound regions word heap) (some : 0 < heap.size) {before : ℕ} {told : SegmentRecord} (c : IsChained word heap before told) where
@@ -82,19 +82,19 @@ module _ {A : Type 0} {regions : A → List Grant} {word : A → ℕ → ℕ} {h
   sized = omega (arith, part.long)
 
   pub base_is : told.base ≡ c.segment.base
-  base_is = ap (λ (t : SegmentRecord). t.base) c.read ∙ c.records.1
+  base_is = ap (λ t. t.base) c.read ∙ c.records.1
 
   pub size_is : told.size ≡ c.segment.size
-  size_is = ap (λ (t : SegmentRecord). t.size) c.read ∙ c.records.2
+  size_is = ap (λ t. t.size) c.read ∙ c.records.2
 
   next_is : told.next ≡ words (c.payload + 16)
-  next_is = ap (λ (t : SegmentRecord). t.next) c.read
+  next_is = ap (λ t. t.next) c.read
 
   own_is : (told.flags % 2 == 0) ≡ is_own c.segment
-  own_is = ap (λ (t : SegmentRecord). t.flags % 2 == 0) c.read ∙ parity c.records.3
+  own_is = ap (λ t. t.flags % 2 == 0) c.read ∙ parity c.records.3
 
   back_told : AreRecords words told.next c.back
-  back_told = subst (λ (p : ℕ). AreRecords words p c.back) (sym next_is) c.records.5
+  back_told = subst (λ p. AreRecords words p c.back) (sym next_is) c.records.5
 
   -- ---- what a look at it wants
 
@@ -105,8 +105,8 @@ module _ {A : Type 0} {regions : A → List Grant} {word : A → ℕ → ℕ} {h
   long_told = omega (arith, size_is, part.long)
 
   pub run_told : IsWholeRun granted told.base (told.base + told.size)
-  run_told = subst (λ (base : ℕ). IsWholeRun granted base (base + told.size)) (sym base_is)
-      (subst (λ (size : ℕ). IsWholeRun granted c.segment.base (c.segment.base + size)) (sym size_is) (whole_run sized part.run))
+  run_told = subst (λ base. IsWholeRun granted base (base + told.size)) (sym base_is)
+      (subst (λ size. IsWholeRun granted c.segment.base (c.segment.base + size)) (sym size_is) (whole_run sized part.run))
 
   pub test_is : (takes : Bool) → (told.flags % 2 == 0 && (takes && (free_of (words (told.base + 8)) && size_of (words (told.base + 8)) == told.size - 80))) ≡ may_leave takes c.segment
   test_is takes = λ i. own_is i && (takes && unused i)
@@ -116,7 +116,7 @@ module _ {A : Type 0} {regions : A → List Grant} {word : A → ℕ → ℕ} {h
 
   -- where it is unused, its first chunk is free
   pub first_is_free : is_unused c.segment ≡ true → IsFreeAt (state_of word heap) told.base (told.size - 80)
-  first_is_free unused = subst (λ (base : ℕ). IsFreeAt (state_of word heap) base (told.size - 80)) (sym base_is) (subst (λ (size : ℕ). IsFreeAt (state_of word heap) c.segment.base (size - 80)) (sym size_is)
+  first_is_free unused = subst (λ base. IsFreeAt (state_of word heap) base (told.size - 80)) (sym base_is) (subst (λ size. IsFreeAt (state_of word heap) c.segment.base (size - 80)) (sym size_is)
       (among_all granted words sound.segments sound.apart (c.head ∷ c.front) c.segment c.back c.is c.segment.base (
       ap (extent_at c.segment.base) (unused_extents part (c.payload - 16) c.records.4 unused)
       ∙ found_here (extent c.segment.base (c.segment.size - 80) Free) (record_of (c.payload - 16) (c.segment.base + c.segment.size) ∷ [])
@@ -129,7 +129,7 @@ module _ {A : Type 0} {regions : A → List Grant} {word : A → ℕ → ℕ} {h
     where
       go : IsLinked words heap.next before c.payload c.front → c.payload ≡ payload_behind words heap.next c.front
       go (inl h) = h.2 ∙ sym (ap (payload_behind words heap.next) h.0)
-      go (inr l) = l.tells ∙ (ap (λ (b : ℕ). words (b + 16)) l.reached ∙ (sym (behind_more words heap.next l.first l.last) ∙ ap (payload_behind words heap.next) (sym l.is)))
+      go (inr l) = l.tells ∙ (ap (λ b. words (b + 16)) l.reached ∙ (sym (behind_more words heap.next l.first l.last) ∙ ap (payload_behind words heap.next) (sym l.is)))
 
   -- the heap, whose victim is forgotten, or is not
   abbrev pub forgetful : Bool → Dlmalloc A
@@ -181,7 +181,7 @@ module _ {A : Type 0} {regions : A → List Grant} {word : A → ℕ → ℕ} {h
   -- so it does where the victim was forgotten that began with it
   pub stays_handed : (follows : A → List Event → A → Type 0) → ((x : A) → follows x [] x) → IsVisited regions word follows true false heap before told c
       (record heap { victim = if told.base == heap.victim then 0 else heap.victim; victim_size = if told.base == heap.victim then 0 else heap.victim_size })
-  stays_handed follows follows_none = subst (λ (base : ℕ). IsVisited regions word follows true false heap before told c (forgetful (base == heap.victim))) (sym base_is) (stays follows follows_none true)
+  stays_handed follows follows_none = subst (λ base. IsVisited regions word follows true false heap before told c (forgetful (base == heap.victim))) (sym base_is) (stays follows follows_none true)
 
   -- and its free extents stay
   pub free_kept : FreeMoves (state_of word heap) (state_of word (record heap { victim = if told.base == heap.victim then 0 else heap.victim; victim_size = if told.base == heap.victim then 0 else heap.victim_size })) [] []
@@ -192,30 +192,30 @@ module _ {A : Type 0} {regions : A → List Grant} {word : A → ℕ → ℕ} {h
   -- the record before it, where there is one
   module _ (l : IsToldByLast words heap.next before c.payload c.front) where
     split_is : c.front ++ c.segment ∷ c.back ≡ l.first ++ l.last ∷ (c.segment ∷ c.back)
-    split_is = ap (λ (front : List Segment). front ++ c.segment ∷ c.back) l.is ∙ append_assoc l.first (l.last ∷ []) (c.segment ∷ c.back)
+    split_is = ap (λ front. front ++ c.segment ∷ c.back) l.is ∙ append_assoc l.first (l.last ∷ []) (c.segment ∷ c.back)
 
     joined_is : c.front ++ c.back ≡ l.first ++ l.last ∷ c.back
-    joined_is = ap (λ (front : List Segment). front ++ c.back) l.is ∙ append_assoc l.first (l.last ∷ []) c.back
+    joined_is = ap (λ front. front ++ c.back) l.is ∙ append_assoc l.first (l.last ∷ []) c.back
 
     split_parts : AreSegments granted words (c.head ∷ (l.first ++ l.last ∷ (c.segment ∷ c.back)))
-    split_parts = subst (λ (segments : List Segment). AreSegments granted words (c.head ∷ segments)) split_is parts
+    split_parts = subst (λ segments. AreSegments granted words (c.head ∷ segments)) split_is parts
 
     split_apart : AreApart (c.head ∷ (l.first ++ l.last ∷ (c.segment ∷ c.back)))
-    split_apart = subst (λ (segments : List Segment). AreApart (c.head ∷ segments)) split_is apart
+    split_apart = subst (λ segments. AreApart (c.head ∷ segments)) split_is apart
 
     split_told : AreRecords words heap.next (l.first ++ l.last ∷ (c.segment ∷ c.back))
     split_told = subst (AreRecords words heap.next) split_is heap_told.5
 
     last_told : AreRecords words before (l.last ∷ (c.segment ∷ c.back))
-    last_told = subst (λ (p : ℕ). AreRecords words p (l.last ∷ (c.segment ∷ c.back))) (sym l.reached) (records_behind words heap.next l.first (l.last ∷ (c.segment ∷ c.back)) split_told)
+    last_told = subst (λ p. AreRecords words p (l.last ∷ (c.segment ∷ c.back))) (sym l.reached) (records_behind words heap.next l.first (l.last ∷ (c.segment ∷ c.back)) split_told)
 
     last_part : IsSegment granted words l.last
     last_part = all_at (IsSegment granted words) (c.head ∷ l.first) l.last (c.segment ∷ c.back) split_parts
 
-    last_behind : AllByRecursion (λ (other : Segment). IsApartFrom other l.last) (c.segment ∷ c.back)
+    last_behind : AllByRecursion (λ other. IsApartFrom other l.last) (c.segment ∷ c.back)
     last_behind = back_apart (c.head ∷ l.first) l.last (c.segment ∷ c.back) split_apart
 
-    last_front : AllByRecursion (λ (other : Segment). IsApartFrom other l.last) (c.head ∷ l.first)
+    last_front : AllByRecursion (λ other. IsApartFrom other l.last) (c.head ∷ l.first)
     last_front = front_apart (c.head ∷ l.first) l.last (c.segment ∷ c.back) split_apart
 
     low_is : l.last.base + 16 ≤ before
@@ -234,7 +234,7 @@ module _ {A : Type 0} {regions : A → List Grant} {word : A → ℕ → ℕ} {h
     link_in : IsInRecord (state_of word heap) (before + 16)
     link_in = record {
       extent = record_of (before - 16) (l.last.base + l.last.size);
-      there = among_all granted words sound.segments sound.apart (c.head ∷ l.first) l.last (c.segment ∷ c.back) (c.is ∙ ap (λ (segments : List Segment). c.head ∷ segments) split_is)
+      there = among_all granted words sound.segments sound.apart (c.head ∷ l.first) l.last (c.segment ∷ c.back) (c.is ∙ ap (λ segments. c.head ∷ segments) split_is)
           (before - 16) last_told.4;
       is = refl;
       low = omega (arith, low_is);
@@ -257,7 +257,7 @@ module _ {A : Type 0} {regions : A → List Grant} {word : A → ℕ → ℕ} {h
 
       go : IsLinked words heap.next before c.payload c.front → IsWordOf rest (before + 16)
       go (inl h) = absurd (more h.1)
-      go (inr l) = subst (λ (rs : List Grant). IsWordOf rs (before + 16)) (sym gone_is)
+      go (inr l) = subst (λ rs. IsWordOf rs (before + 16)) (sym gone_is)
           (word_stays c.segment part.run sized (link_word l) (beside_gone l (before + 16) (omega (arith, low_is l)) (omega (arith, high_is l))))
 
   module _ (system : A) (told_gone : regions system ≡ without told.base (told.base + told.size) granted)
@@ -270,7 +270,7 @@ module _ {A : Type 0} {regions : A → List Grant} {word : A → ℕ → ℕ} {h
     next = if before == 0 then told.next else heap.next
 
     kept_outside : (k : ℕ) → IsWordOf granted k → IsOutside c.segment k → (before ≢ 0 → k ≢ before + 16) → word system k ≡ words k
-    kept_outside k inside out other = kept k (subst (λ (rs : List Grant). IsWordOf rs k) (sym gone) (word_stays c.segment part.run sized inside out)) other
+    kept_outside k inside out other = kept k (subst (λ rs. IsWordOf rs k) (sym gone) (word_stays c.segment part.run sized inside out)) other
 
     -- what is left of the segments and of the chain
     record IsRest : Type 0 where
@@ -281,19 +281,19 @@ module _ {A : Type 0} {regions : A → List Grant} {word : A → ℕ → ℕ} {h
 
     at_head : (c.front ≡ []) × (before ≡ 0) × (c.payload ≡ heap.next) → IsRest
     at_head h = record {
-      segments = subst (λ (front : List Segment). AreSegments (regions system) (word system) (c.head ∷ (front ++ c.back))) (sym h.0)
-          (subst (λ (rs : List Grant). AreSegments rs (word system) (c.head ∷ c.back)) (sym gone)
+      segments = subst (λ front. AreSegments (regions system) (word system) (c.head ∷ (front ++ c.back))) (sym h.0)
+          (subst (λ rs. AreSegments rs (word system) (c.head ∷ c.back)) (sym gone)
           (apart_segments c.segment part.run sized words (word system) (c.head ∷ c.back) (front_parts.0, back_parts) (front_beside.0, back_beside) keeps));
-      records = subst (λ (front : List Segment). AreRecords (word system) next (front ++ c.back)) (sym h.0) (subst (λ (p : ℕ). AreRecords (word system) p c.back) (sym next_now) behind);
+      records = subst (λ front. AreRecords (word system) next (front ++ c.back)) (sym h.0) (subst (λ p. AreRecords (word system) p c.back) (sym next_now) behind);
       behind = behind;
       linked = inl (h.0, h.1, sym next_now);
     }
       where
         next_now : next ≡ told.next
-        next_now = ap (λ (b : ℕ). if b == 0 then told.next else heap.next) h.1
+        next_now = ap (λ b. if b == 0 then told.next else heap.next) h.1
 
         keeps : AllByRecursion (KeepsIts words (word system)) (c.head ∷ c.back)
-        keeps = apart_keeps c.segment part.run sized words (word system) (λ k inside. kept k (subst (λ (rs : List Grant). IsWordOf rs k) (sym gone) inside) (λ more. absurd (more h.1)))
+        keeps = apart_keeps c.segment part.run sized words (word system) (λ k inside. kept k (subst (λ rs. IsWordOf rs k) (sym gone) inside) (λ more. absurd (more h.1)))
             (c.head ∷ c.back) (front_parts.0, back_parts) (front_beside.0, back_beside)
 
         behind : AreRecords (word system) told.next c.back
@@ -301,34 +301,34 @@ module _ {A : Type 0} {regions : A → List Grant} {word : A → ℕ → ℕ} {h
 
     behind_last : IsToldByLast words heap.next before c.payload c.front → IsRest
     behind_last l = record {
-      segments = subst (λ (segments : List Segment). AreSegments (regions system) (word system) (c.head ∷ segments)) (sym (joined_is l))
-          (subst (λ (rs : List Grant). AreSegments rs (word system) (c.head ∷ (l.first ++ l.last ∷ c.back))) (sym gone)
+      segments = subst (λ segments. AreSegments (regions system) (word system) (c.head ∷ segments)) (sym (joined_is l))
+          (subst (λ rs. AreSegments rs (word system) (c.head ∷ (l.first ++ l.last ∷ c.back))) (sym gone)
           (parts_around (c.head ∷ l.first) c.back
           (apart_segments c.segment part.run sized words (word system) (c.head ∷ l.first) first_parts first_beside first_keeps)
           last_now
           (apart_segments c.segment part.run sized words (word system) c.back back_parts back_beside back_keeps)));
-      records = subst (λ (segments : List Segment). AreRecords (word system) next segments) (sym (joined_is l)) (subst (λ (p : ℕ). AreRecords (word system) p (l.first ++ l.last ∷ c.back)) (sym next_now)
+      records = subst (λ segments. AreRecords (word system) next segments) (sym (joined_is l)) (subst (λ p. AreRecords (word system) p (l.first ++ l.last ∷ c.back)) (sym next_now)
           (told_around granted words (word system) (l.last ∷ (c.segment ∷ c.back)) (l.last ∷ c.back) l.first heap.next l.reached first_parts.1 first_keeps.1 (split_told l) (
             (last_told l).0,
             stored before (omega arith) (omega arith) (omega (arith, whole)) (λ is. omega (arith, is)) ∙ (last_told l).1,
             stored (before + 8) (omega arith) (omega arith) (omega (arith, whole)) (λ is. omega (arith, is)) ∙ (last_told l).2,
             stored (before + 24) (omega arith) (omega arith) (omega (arith, whole)) (λ is. omega (arith, is)) ∙ (last_told l).3,
             (last_told l).4,
-            subst (λ (p : ℕ). AreRecords (word system) p c.back) (sym (here l.some)) behind,
+            subst (λ p. AreRecords (word system) p c.back) (sym (here l.some)) behind,
           )));
       behind = behind;
       linked = inr (record {
         first = l.first;
         last = l.last;
         is = l.is;
-        reached = l.reached ∙ (behind_stays granted words (word system) heap.next l.first (l.last ∷ (c.segment ∷ c.back)) first_parts.1 first_keeps.1 (split_told l) ∙ ap (λ (p : ℕ). payload_behind (word system) p l.first) (sym next_now));
+        reached = l.reached ∙ (behind_stays granted words (word system) heap.next l.first (l.last ∷ (c.segment ∷ c.back)) first_parts.1 first_keeps.1 (split_told l) ∙ ap (λ p. payload_behind (word system) p l.first) (sym next_now));
         some = l.some;
         tells = sym (here l.some);
       });
     }
       where
         next_now : next ≡ heap.next
-        next_now = (let s = l.some in let other : (before == 0) ≡ false = grind (arith, nat_tests) in ap (λ (b : Bool). if b then told.next else heap.next) other)
+        next_now = (let s = l.some in let other : (before == 0) ≡ false = grind (arith, nat_tests) in ap (λ b. if b then told.next else heap.next) other)
 
         whole : before % 16 ≡ 0
         whole = payload_whole (last_part l) before (last_told l).0 (last_told l).4
@@ -396,7 +396,7 @@ module _ {A : Type 0} {regions : A → List Grant} {word : A → ℕ → ℕ} {h
       all_old = ap extents_all c.is ∙ all_among (c.head ∷ c.front) c.segment c.back
 
       all_new : extents_all now ≡ extents_all (c.head ∷ c.front) ++ ([] ++ extents_all c.back)
-      all_new = flat_map-append (λ (segment : Segment). segment.extents) (c.head ∷ c.front) c.back
+      all_new = flat_map-append (λ segment. segment.extents) (c.head ∷ c.front) c.back
 
       in_new : extents_in (state_of word left_heap) ≡ extents_all now
       in_new = all_retold regions word left_heap now rest.segments apart_now told_now
@@ -419,7 +419,7 @@ module _ {A : Type 0} {regions : A → List Grant} {word : A → ℕ → ℕ} {h
       first_free : IsThere told.base c.segment.extents
       first_free = (
         extent c.segment.base (c.segment.size - 80) Free,
-        ap (λ (k : ℕ). extent_at k c.segment.extents) base_is ∙ (
+        ap (λ k. extent_at k c.segment.extents) base_is ∙ (
             ap (extent_at c.segment.base) (unused_extents part (c.payload - 16) c.records.4 unused)
             ∙ found_here (extent c.segment.base (c.segment.size - 80) Free) (record_of (c.payload - 16) (c.segment.base + c.segment.size) ∷ [])
             ),
@@ -435,7 +435,7 @@ module _ {A : Type 0} {regions : A → List Grant} {word : A → ℕ → ℕ} {h
             | inr tail ↦ absurd (let no : Free ≡ Record = tail in cc)
           ])
           (λ k size found. absurd (cc))
-          (λ k is. elim is [ inl same ↦ inr (subst (λ (a : ℕ). IsThere a c.segment.extents) (sym same) first_free) | inr none ↦ absurd none ])
+          (λ k is. elim is [ inl same ↦ inr (subst (λ a. IsThere a c.segment.extents) (sym same) first_free) | inr none ↦ absurd none ])
           (λ k none. absurd none)
 
       none_used : (k : ℕ) (one : Extent) → one.kind ≡ Used → extent_at k c.segment.extents ≡ Some one → ⊥
@@ -452,7 +452,7 @@ module _ {A : Type 0} {regions : A → List Grant} {word : A → ℕ → ℕ} {h
       victim_there true test more = absurd (more refl)
       victim_there false test more = found_still heap.victim (sound.victim more)
           (λ found. elim (in_gone heap.victim found) [
-            | inl free ↦ (let yes : (told.base == heap.victim) ≡ true = ap (λ (b : ℕ). b == heap.victim) (base_is ∙ free.1) ∙ nat_same heap.victim in let no = sym test ∙ yes in cc)
+            | inl free ↦ (let yes : (told.base == heap.victim) ≡ true = ap (λ b. b == heap.victim) (base_is ∙ free.1) ∙ nat_same heap.victim in let no = sym test ∙ yes in cc)
             | inr tail ↦ (let no : Free ≡ Record = tail in cc)
           ])
 
@@ -471,7 +471,7 @@ module _ {A : Type 0} {regions : A → List Grant} {word : A → ℕ → ℕ} {h
           before = λ one there. found_before one.at there;
           words = λ k inside was out. left_words k inside out;
           regions_are = gone;
-          followed = subst (λ (events : List Event). follows heap.system events system) (λ i. Released (base_is i) (size_is i) 0 ∷ []) followed;
+          followed = subst (λ events. follows heap.system events system) (λ i. Released (base_is i) (size_is i) 0 ∷ []) followed;
         };
         granularity_same = refl;
         rate_same = refl;

@@ -19,8 +19,8 @@ without_append (segment ∷ front) back regions = without_append front back (wit
 pub whole_run : {regions : List Grant} {base size flags : ℕ} → 0 < size → IsRun regions base size flags → IsWholeRun regions base (base + size)
 whole_run {regions} {base} {size} {flags} some run = record { some = omega (arith, some); granted = run.covered; whole = go regions run.whole }
   where
-    go : (regions : List Grant) → AllByRecursion (λ (region : Grant). IsApart base (base + size) region ⊎ IsWithin base (base + size) flags region) regions →
-        AllByRecursion (λ (region : Grant). IsApart base (base + size) region ⊎ IsWholeWithin base (base + size) region) regions
+    go : (regions : List Grant) → AllByRecursion (λ region. IsApart base (base + size) region ⊎ IsWithin base (base + size) flags region) regions →
+        AllByRecursion (λ region. IsApart base (base + size) region ⊎ IsWholeWithin base (base + size) region) regions
     go [] all = tt
     go (region ∷ regions) all = (elim all.0 [ inl apart ↦ inl apart | inr within ↦ inr (within.0, within.1) ], go regions all.1)
 
@@ -41,14 +41,14 @@ module _ (low high : ℕ) where
             | inr within ↦ inr (within.0, omega (arith, above, below, within.1), within.2)
           ]
 
-  all_shorter : (base end flags : ℕ) (regions : List Grant) → AllByRecursion (λ (region : Grant). IsApart base end region ⊎ IsWithin base end flags region) regions →
-      AllByRecursion (λ (region : Grant). IsApart base end region ⊎ IsWithin base end flags region) (without low high regions)
+  all_shorter : (base end flags : ℕ) (regions : List Grant) → AllByRecursion (λ region. IsApart base end region ⊎ IsWithin base end flags region) regions →
+      AllByRecursion (λ region. IsApart base end region ⊎ IsWithin base end flags region) (without low high regions)
   all_shorter base end flags [] all = tt
   all_shorter base end flags (region ∷ regions) all = go (begins_in low high region) (all_shorter base end flags regions all.1)
     where
-      go : (b : Bool) → AllByRecursion (λ (region : Grant). IsApart base end region ⊎ IsWithin base end flags region) (without low high regions) →
-          AllByRecursion (λ (region : Grant). IsApart base end region ⊎ IsWithin base end flags region)
-          (map (λ (r : Grant). up_to low r) (cond (not b) (region ∷ filter (λ (r : Grant). not (begins_in low high r)) regions) (filter (λ (r : Grant). not (begins_in low high r)) regions)))
+      go : (b : Bool) → AllByRecursion (λ region. IsApart base end region ⊎ IsWithin base end flags region) (without low high regions) →
+          AllByRecursion (λ region. IsApart base end region ⊎ IsWithin base end flags region)
+          (map (λ r. up_to low r) (cond (not b) (region ∷ filter (λ r. not (begins_in low high r)) regions) (filter (λ r. not (begins_in low high r)) regions)))
       go true rest = rest
       go false rest = (shorter base end flags region all.0, rest)
 
@@ -63,7 +63,7 @@ module _ {regions : List Grant} (gone : Segment) (run : IsRun regions gone.base 
       let whole = (whole_run some run).whole in
       let same = granted_without gone.base gone.base (gone.base + gone.size) regions k whole (omega arith) (omega arith) in
       let beside : (nat_le gone.base k && nat_lt k (gone.base + gone.size)) ≡ false = elim out [ inl below ↦ grind (arith, nat_tests) | inr above ↦ grind (arith, nat_tests) ] in
-      same ∙ (ap (λ (b : Bool). is_granted regions k && not b) beside ∙ and_true (is_granted regions k))
+      same ∙ (ap (λ b. is_granted regions k && not b) beside ∙ and_true (is_granted regions k))
     where
       and_true : (b : Bool) → (b && true) ≡ b
       and_true true = refl
@@ -176,7 +176,7 @@ below_most : (k : ℕ) (segments : List Segment) → AreApart segments → bytes
 below_most zero segments apart = omega (arith, none_below segments)
 below_most (suc k) segments apart = (let one = bytes_one k segments apart in let rest = below_most k segments apart in omega arith)
 
-all_below : (k : ℕ) (segments : List Segment) → AllByRecursion (λ (segment : Segment). segment.base + segment.size ≤ k) segments → bytes_below k segments ≡ bytes_of segments
+all_below : (k : ℕ) (segments : List Segment) → AllByRecursion (λ segment. segment.base + segment.size ≤ k) segments → bytes_below k segments ≡ bytes_of segments
 unfolding bytes_below part_below
 all_below k [] below = refl
 all_below k (segment ∷ segments) below =
@@ -191,7 +191,7 @@ bytes_few regions words segments parts apart =
     let all = all_below (2 ^ 64 - 1) segments (ends segments parts) in
     omega (arith, most, all)
   where
-    ends : (segments : List Segment) → AreSegments regions words segments → AllByRecursion (λ (segment : Segment). segment.base + segment.size ≤ 2 ^ 64 - 1) segments
+    ends : (segments : List Segment) → AreSegments regions words segments → AllByRecursion (λ segment. segment.base + segment.size ≤ 2 ^ 64 - 1) segments
     ends [] parts = tt
     ends (segment ∷ segments) parts = ((let high = parts.0.high in omega arith), ends segments parts.1)
 
@@ -212,10 +212,10 @@ module _ {A : Type 0} (regions : A → List Grant) (word : A → ℕ → ℕ) (f
       AreGivenBack regions word follows (first ++ second) old (a + b) new
   given_on {first} {second} {old} middle new one two = record {
     bytes_are = (λ i. one.bytes_are i + two.bytes_are i) ∙ sym (bytes_append first second);
-    words = λ k inside. two.words k inside ∙ one.words k (record { granted = still_granted second (regions middle) k (subst (λ (rs : List Grant). IsTrue (is_granted rs k)) two.regions_are inside.granted); aligned = inside.aligned });
+    words = λ k inside. two.words k inside ∙ one.words k (record { granted = still_granted second (regions middle) k (subst (λ rs. IsTrue (is_granted rs k)) two.regions_are inside.granted); aligned = inside.aligned });
     regions_are = two.regions_are ∙ (ap (regions_without second) one.regions_are ∙ sym (without_append first second (regions old)));
     followed = follows_on old middle new (releases first) (releases second) (releases (first ++ second)) one.followed two.followed
-        (sym (map-append (λ (segment : Segment). Released segment.base segment.size 0) first second));
+        (sym (map-append (λ segment. Released segment.base segment.size 0) first second));
   }
 
   -- one that another tells is the same
@@ -226,5 +226,5 @@ module _ {A : Type 0} (regions : A → List Grant) (word : A → ℕ → ℕ) (f
     bytes_are = given.bytes_are ∙ (λ i. size i + 0);
     words = given.words;
     regions_are = given.regions_are ∙ (λ i. without (base i) (base i + size i) (regions old));
-    followed = subst (λ (events : List Event). follows old events new) (λ i. Released (base i) (size i) 0 ∷ []) given.followed;
+    followed = subst (λ events. follows old events new) (λ i. Released (base i) (size i) 0 ∷ []) given.followed;
   }

@@ -26,8 +26,8 @@ map_shrunk less (chunk ∷ chunks) are = λ i. same are.0 i ∷ map_shrunk less 
 
 -- a top and a foot are no other extent
 no_end : (top size foot : ℕ) (one : Extent) → one.kind ≢ Top → one.kind ≢ Foot → (b d : Bool) → (if b then Some (extent top size Top) else if d then Some (extent foot 80 Foot) else None) ≡ Some one → ⊥
-no_end top size foot one no_top no_foot true d found = no_top (sym (ap (λ (o : Option Extent). (unwrap_or o one).kind) found))
-no_end top size foot one no_top no_foot false true found = no_foot (sym (ap (λ (o : Option Extent). (unwrap_or o one).kind) found))
+no_end top size foot one no_top no_foot true d found = no_top (sym (ap (λ o. (unwrap_or o one).kind) found))
+no_end top size foot one no_top no_foot false true found = no_foot (sym (ap (λ o. (unwrap_or o one).kind) found))
 no_end top size foot one no_top no_foot false false found = cc
 
 module _ {A : Type 0} {regions : A → List Grant} {word : A → ℕ → ℕ} {heap : Dlmalloc A} (sound : IsSound regions word heap) (some : 0 < heap.size) where
@@ -41,7 +41,7 @@ module _ {A : Type 0} {regions : A → List Grant} {word : A → ℕ → ℕ} {h
   was = top_segment sound some
 
   segments_are : segments_of word heap ≡ run.segment ∷ run.back
-  segments_are = run.is ∙ ap (λ (front : List Segment). front ++ run.segment ∷ run.back) (top_front sound some)
+  segments_are = run.is ∙ ap (λ front. front ++ run.segment ∷ run.back) (top_front sound some)
 
   parts : AreSegments (regions heap.system) (word heap.system) (run.segment ∷ run.back)
   parts = subst (AreSegments (regions heap.system) (word heap.system)) segments_are sound.segments
@@ -65,7 +65,7 @@ module _ {A : Type 0} {regions : A → List Grant} {word : A → ℕ → ℕ} {h
   low = top_low sound some
 
   head_run : IsRun (regions heap.system) heap.base heap.size heap.flags
-  head_run = subst (λ (f : ℕ). IsRun (regions heap.system) heap.base heap.size f) (sym was.flags) (subst (λ (n : ℕ). IsRun (regions heap.system) heap.base n run.segment.flags) (sym was.size) (subst (λ (b : ℕ). IsRun (regions heap.system) b run.segment.size run.segment.flags) (sym was.base) part.run))
+  head_run = subst (λ f. IsRun (regions heap.system) heap.base heap.size f) (sym was.flags) (subst (λ n. IsRun (regions heap.system) heap.base n run.segment.flags) (sym was.size) (subst (λ b. IsRun (regions heap.system) b run.segment.size run.segment.flags) (sym was.base) part.run))
 
   -- its bytes can be given back
   pub head_given : IsGivenRun (regions heap.system) heap.base (heap.base + heap.size)
@@ -86,7 +86,7 @@ module _ {A : Type 0} {regions : A → List Grant} {word : A → ℕ → ℕ} {h
 
     module _ (system : A) (gone : regions system ≡ without (heap.base + (heap.size - less)) (heap.base + heap.size) (regions heap.system)) where
       rest_run : IsRun (regions system) heap.base (heap.size - less) heap.flags
-      rest_run = subst (λ (rs : List Grant). IsRun rs heap.base (heap.size - less) heap.flags) (sym gone) (run_shortened head_run less within all)
+      rest_run = subst (λ rs. IsRun rs heap.base (heap.size - less) heap.flags) (sym gone) (run_shortened head_run less within all)
 
       -- a word of what is left
       pub still_word : (k : ℕ) → heap.base ≤ k → k < heap.base + (heap.size - less) → k % 8 ≡ 0 → IsWordOf (regions system) k
@@ -122,8 +122,8 @@ module _ {A : Type 0} {regions : A → List Grant} {word : A → ℕ → ℕ} {h
         now_end = omega (arith, last_is.1, room, was.base, was.size, closes, low)
 
         now_run : IsRun (regions system) run.segment.base (run.segment.size - less) run.segment.flags
-        now_run = subst (λ (f : ℕ). IsRun (regions system) run.segment.base (run.segment.size - less) f) was.flags
-            (subst (λ (n : ℕ). IsRun (regions system) run.segment.base (n - less) heap.flags) was.size (subst (λ (b : ℕ). IsRun (regions system) b (heap.size - less) heap.flags) was.base rest_run))
+        now_run = subst (λ f. IsRun (regions system) run.segment.base (run.segment.size - less) f) was.flags
+            (subst (λ n. IsRun (regions system) run.segment.base (n - less) heap.flags) was.size (subst (λ b. IsRun (regions system) b (heap.size - less) heap.flags) was.base rest_run))
 
         -- words of the chunks before the top stay, and so do those of other segments
         first_kept : (k : ℕ) → IsWordOf (regions system) k → k ≤ heap.top → word system k ≡ word heap.system k
@@ -143,8 +143,8 @@ module _ {A : Type 0} {regions : A → List Grant} {word : A → ℕ → ℕ} {h
         more_stand : Tiles (word system) (last_kind Used run.first) heap.top more (run.segment.base + (run.segment.size - less))
         more_stand =
             let place : heap.top + length_now + 8 ≡ heap.base + (heap.size - less) - 72 = omega (arith, closes, low, room) in
-            subst (λ (end : ℕ). Tiles (word system) (last_kind Used run.first) heap.top more end) now_end
-            (top_stands (word system) heap.top length_now run.here.1.kind (top_whole sound some) (omega (arith, sizes.0, units, room)) (omega (arith, room)) (head ∙ ap (λ (n : ℕ). n + 1) (sym length_is)) (ap (word system) place ∙ foot))
+            subst (λ end. Tiles (word system) (last_kind Used run.first) heap.top more end) now_end
+            (top_stands (word system) heap.top length_now run.here.1.kind (top_whole sound some) (omega (arith, sizes.0, units, room)) (omega (arith, room)) (head ∙ ap (λ n. n + 1) (sym length_is)) (ap (word system) place ∙ foot))
 
         is_now : IsSegment (regions system) (word system) now
         is_now = record {
@@ -159,7 +159,7 @@ module _ {A : Type 0} {regions : A → List Grant} {word : A → ℕ → ℕ} {h
         }
 
         back_parts : AreSegments (regions system) (word heap.system) run.back
-        back_parts = subst (λ (rs : List Grant). AreSegments rs (word heap.system) run.back) (sym gone)
+        back_parts = subst (λ rs. AreSegments rs (word heap.system) run.back) (sym gone)
             (segments_beside head_run less within (word heap.system) run.segment run.back (sym was.base) (sym was.size) parts.1 apart.0)
 
         back_keeps : AllByRecursion (KeepsIts (word heap.system) (word system)) run.back
@@ -185,7 +185,7 @@ module _ {A : Type 0} {regions : A → List Grant} {word : A → ℕ → ℕ} {h
         told_now = (
           rest_some,
           was.base,
-          ap (λ (n : ℕ). n - less) was.size,
+          ap (λ n. n - less) was.size,
           was.flags,
           where_top,
           records_stay (regions system) (word heap.system) (word system) run.back back_parts back_keeps heap.next told.5,
@@ -194,7 +194,7 @@ module _ {A : Type 0} {regions : A → List Grant} {word : A → ℕ → ℕ} {h
         extents_were : extents_in (state_of word heap) ≡ run.first ++ (old ++ extents_all run.back)
         extents_were =
             ap extents_all segments_are
-            ∙ (ap (λ (es : List Extent). es ++ extents_all run.back) (run.extents ∙ ap (λ (es : List Extent). run.first ++ extent heap.top heap.top_size Top ∷ es) (last_is.0 ∙ (λ i. extent (foot_at i) 80 Foot ∷ [])))
+            ∙ (ap (λ es. es ++ extents_all run.back) (run.extents ∙ ap (λ es. run.first ++ extent heap.top heap.top_size Top ∷ es) (last_is.0 ∙ (λ i. extent (foot_at i) 80 Foot ∷ [])))
             ∙ append_assoc run.first old (extents_all run.back))
           where
             foot_at : run.segment.base + run.segment.size - 80 ≡ heap.top + heap.top_size
@@ -238,16 +238,16 @@ module _ {A : Type 0} {regions : A → List Grant} {word : A → ℕ → ℕ} {h
         shortened_state : state_of word after ≡ cut_top less (state_of word heap)
         shortened_state =
             (λ i. record { segments = segments_now i; victim = heap.victim; granularity = heap.granularity; rate = heap.rate; countdown = heap.countdown; trim_check = trim_threshold })
-            ∙ ap (λ (ss : List Segment). cut_top less (record { segments = ss; victim = heap.victim; granularity = heap.granularity; rate = heap.rate; countdown = heap.countdown; trim_check = heap.trim_check })) (sym segments_are)
+            ∙ ap (λ ss. cut_top less (record { segments = ss; victim = heap.victim; granularity = heap.granularity; rate = heap.rate; countdown = heap.countdown; trim_check = heap.trim_check })) (sym segments_are)
           where
             chunks : AreChunks run.first
             chunks = are_chunks (word heap.system) Used run.segment.base run.first (extent heap.top heap.top_size Top) run.last (run.segment.base + run.segment.size) (λ is. cc)
-                (subst (λ (es : List Extent). Tiles (word heap.system) Used run.segment.base es (run.segment.base + run.segment.size)) run.extents part.extents)
+                (subst (λ es. Tiles (word heap.system) Used run.segment.base es (run.segment.base + run.segment.size)) run.extents part.extents)
 
             shrunk_are : map (shrunk less) run.segment.extents ≡ run.first ++ more
             shrunk_are =
                 let place : run.segment.base + run.segment.size - 80 - less ≡ heap.top + length_now = omega (arith, last_is.1, room) in
-                ap (map (shrunk less)) (run.extents ∙ ap (λ (es : List Extent). run.first ++ extent heap.top heap.top_size Top ∷ es) last_is.0)
+                ap (map (shrunk less)) (run.extents ∙ ap (λ es. run.first ++ extent heap.top heap.top_size Top ∷ es) last_is.0)
                 ∙ (map-append (shrunk less) run.first (extent heap.top heap.top_size Top ∷ extent (run.segment.base + run.segment.size - 80) 80 Foot ∷ [])
                 ∙ (λ i. map_shrunk less run.first chunks i ++ (extent heap.top length_now Top ∷ extent (place i) 80 Foot ∷ [])))
 

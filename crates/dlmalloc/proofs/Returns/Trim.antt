@@ -66,16 +66,16 @@ module _ {A : Type 0} (word : A → ℕ → ℕ) (heap : Dlmalloc A) (pad : ℕ)
   pub untouched : {regions : A → List Grant} (follows : A → List Event → A → Type 0) (frees parts : Bool) (unit : ℕ) → IsSound regions word heap → follows heap.system [] heap.system → is_trimmed pad (state_of word heap) ≡ false →
       IsTrimmed regions word follows frees parts unit heap pad false heap
   untouched {regions} follows frees parts unit sound none isnt = record {
-    answer_is = sym (ap (λ (b : Bool). b && gives_back frees parts unit pad (state_of word heap)) isnt);
-    state = sym (ap (λ (b : Bool). if b then (if gives_back frees parts unit pad (state_of word heap) then passed frees parts (after_cut parts unit pad (state_of word heap)) else given_up (passed frees parts (after_cut parts unit pad (state_of word heap)))) else state_of word heap) isnt);
+    answer_is = sym (ap (λ b. b && gives_back frees parts unit pad (state_of word heap)) isnt);
+    state = sym (ap (λ b. if b then (if gives_back frees parts unit pad (state_of word heap) then passed frees parts (after_cut parts unit pad (state_of word heap)) else given_up (passed frees parts (after_cut parts unit pad (state_of word heap)))) else state_of word heap) isnt);
     sound = sound;
     used = record { still = λ used is there. there; before = λ used is there. there };
     kept = record { words = λ block there used k low high m. refl; heads = λ block there used. refl };
     words = λ k inside was own recorded. refl;
-    index = λ b. (b, λ n. sym (ap (λ (t : Bool). (if t then after_pass frees parts (segments_of word heap) b.index else b.index) n) isnt));
-    regions_are = sym (ap (λ (b : Bool). if b then regions_without (taken_back frees (handed_out parts (segments_of word heap))) (regions_cut parts unit pad (state_of word heap) (regions heap.system)) else regions heap.system) isnt);
-    followed = subst (λ (es : List Event). follows heap.system es heap.system)
-        (sym (ap (λ (b : Bool). if b then cut_off parts unit pad (state_of word heap) ++ releases (taken_back frees (handed_out parts (segments_of word heap))) else []) isnt)) none;
+    index = λ b. (b, λ n. sym (ap (λ t. (if t then after_pass frees parts (segments_of word heap) b.index else b.index) n) isnt));
+    regions_are = sym (ap (λ b. if b then regions_without (taken_back frees (handed_out parts (segments_of word heap))) (regions_cut parts unit pad (state_of word heap) (regions heap.system)) else regions heap.system) isnt);
+    followed = subst (λ es. follows heap.system es heap.system)
+        (sym (ap (λ b. if b then cut_off parts unit pad (state_of word heap) ++ releases (taken_back frees (handed_out parts (segments_of word heap))) else []) isnt)) none;
   }
 
 -- a cut changes the head segment alone, which a pass does not visit
@@ -111,11 +111,11 @@ module _ {A : Type 0} (word : A → ℕ → ℕ) (heap : Dlmalloc A) (parts : Bo
 module _ {A : Type 0} {regions : A → List Grant} {word : A → ℕ → ℕ} {follows : A → List Event → A → Type 0} {frees parts : Bool} {unit pad : ℕ} {old middle after : Dlmalloc A} (made : is_trimmed pad (state_of word old) ≡ true)
     (cut : IsCutBack regions word follows parts unit old pad middle) (some : 0 < middle.size) {bytes : ℕ} (pass : IsPassed regions word follows frees parts middle bytes after) where
   handed_same : handed_out parts (segments_of word middle) ≡ handed_out parts (segments_of word old)
-  handed_same = ap (λ (s : HeapState). handed_out parts s.segments) cut.state ∙ handed_cut word old parts unit pad
+  handed_same = ap (λ s. handed_out parts s.segments) cut.state ∙ handed_cut word old parts unit pad
 
   -- whether bytes went back
   pub answer : {cut_answer : Bool} → cut_answer ≡ is_cut parts unit pad (state_of word old) → (cut_answer || nat_lt 0 bytes) ≡ gives_back frees parts unit pad (state_of word old)
-  answer is = λ i. is i || nat_lt 0 ((pass.bytes_are ∙ ap (λ (ss : List Segment). bytes_of (taken_back frees ss)) handed_same) i)
+  answer is = λ i. is i || nat_lt 0 ((pass.bytes_are ∙ ap (λ ss. bytes_of (taken_back frees ss)) handed_same) i)
 
   state_after : state_of word after ≡ passed frees parts (after_cut parts unit pad (state_of word old))
   state_after = pass.state ∙ ap (passed frees parts) cut.state
@@ -133,7 +133,7 @@ module _ {A : Type 0} {regions : A → List Grant} {word : A → ℕ → ℕ} {f
   -- a word that is granted still was granted before the pass
   inside_middle : (k : ℕ) → IsWordOf (regions after.system) k → IsWordOf (regions middle.system) k
   inside_middle k inside = record {
-    granted = still_granted (taken_back frees (handed_out parts (segments_of word middle))) (regions middle.system) k (subst (λ (rs : List Grant). IsTrue (is_granted rs k)) pass.regions_are inside.granted);
+    granted = still_granted (taken_back frees (handed_out parts (segments_of word middle))) (regions middle.system) k (subst (λ rs. IsTrue (is_granted rs k)) pass.regions_are inside.granted);
     aligned = inside.aligned;
   }
 
@@ -143,9 +143,9 @@ module _ {A : Type 0} {regions : A → List Grant} {word : A → ℕ → ℕ} {f
       (index : IsReindexed regions word (after_trim frees parts pad (state_of word old)) old (record after { trim_check = check })) where
     pub is_done : IsTrimmed regions word follows frees parts unit old pad gives (record after { trim_check = check })
     is_done = record {
-      answer_is = answer_is ∙ sym (ap (λ (b : Bool). b && gives_back frees parts unit pad (state_of word old)) made);
+      answer_is = answer_is ∙ sym (ap (λ b. b && gives_back frees parts unit pad (state_of word old)) made);
       state = state ∙ ((λ i. if answer_is i then state_after i else given_up (state_after i))
-          ∙ sym (ap (λ (b : Bool). if b then (if gives_back frees parts unit pad (state_of word old) then passed frees parts (after_cut parts unit pad (state_of word old)) else given_up (passed frees parts (after_cut parts unit pad (state_of word old)))) else state_of word old) made));
+          ∙ sym (ap (λ b. if b then (if gives_back frees parts unit pad (state_of word old) then passed frees parts (after_cut parts unit pad (state_of word old)) else given_up (passed frees parts (after_cut parts unit pad (state_of word old)))) else state_of word old) made));
       sound = sound;
       used = record {
         still = λ used is there. pass.used.still used is (cut.stays.used.still used is there);
@@ -160,10 +160,10 @@ module _ {A : Type 0} {regions : A → List Grant} {word : A → ℕ → ℕ} {f
           (λ is. own (inl (record { extent = extent (middle.top + middle.top_size) 80 Foot; there = foot_found; is = inl is })));
       index = index;
       regions_are = pass.regions_are ∙ ((λ i. regions_without (taken_back frees (handed_same i)) (cut.regions_are i))
-          ∙ sym (ap (λ (b : Bool). if b then regions_without (taken_back frees (handed_out parts (segments_of word old))) (regions_cut parts unit pad (state_of word old) (regions old.system)) else regions old.system) made));
-      followed = subst (λ (es : List Event). follows old.system es after.system)
+          ∙ sym (ap (λ b. if b then regions_without (taken_back frees (handed_out parts (segments_of word old))) (regions_cut parts unit pad (state_of word old) (regions old.system)) else regions old.system) made));
+      followed = subst (λ es. follows old.system es after.system)
           ((λ i. cut_off parts unit pad (state_of word old) ++ releases (taken_back frees (handed_same i)))
-          ∙ sym (ap (λ (b : Bool). if b then cut_off parts unit pad (state_of word old) ++ releases (taken_back frees (handed_out parts (segments_of word old))) else []) made)) followed;
+          ∙ sym (ap (λ b. if b then cut_off parts unit pad (state_of word old) ++ releases (taken_back frees (handed_out parts (segments_of word old))) else []) made)) followed;
     }
 
 -- ---- giving up
@@ -183,7 +183,7 @@ module _ {A : Type 0} {regions : A → List Grant} {word : A → ℕ → ℕ} {h
 
   pub gave_up : 0 < heap.size → state_of word (record heap { trim_check = if nat_lt heap.trim_check heap.top_size then 2 ^ 64 - 1 else heap.trim_check }) ≡ given_up (state_of word heap)
   gave_up some = go (nat_lt heap.trim_check heap.top_size)
-      ∙ sym (ap (λ (top : ℕ). if nat_lt heap.trim_check top then record (state_of word heap) { trim_check = 2 ^ 64 - 1 } else state_of word heap) (top_size_is sound some))
+      ∙ sym (ap (λ top. if nat_lt heap.trim_check top then record (state_of word heap) { trim_check = 2 ^ 64 - 1 } else state_of word heap) (top_size_is sound some))
     where
       go : (b : Bool) → state_of word (record heap { trim_check = if b then 2 ^ 64 - 1 else heap.trim_check }) ≡ (if b then record (state_of word heap) { trim_check = 2 ^ 64 - 1 } else state_of word heap)
       go true = refl
@@ -211,8 +211,8 @@ module _ {A : Type 0} {regions : A → List Grant} {word : A → ℕ → ℕ} {f
   same = fixed old.system middle.system (cut_off (parts old.system) (unit old.system) pad (state_of word old)) cut.followed
 
   pass : IsPassed regions word follows (frees old.system) (parts old.system) middle bytes after
-  pass = subst (λ (b : Bool). IsPassed regions word follows b (parts old.system) middle bytes after) same.frees_same
-      (subst (λ (b : Bool). IsPassed regions word follows (frees middle.system) b middle bytes after) same.parts_same given)
+  pass = subst (λ b. IsPassed regions word follows b (parts old.system) middle bytes after) same.frees_same
+      (subst (λ b. IsPassed regions word follows (frees middle.system) b middle bytes after) same.parts_same given)
 
   abbrev events : List Event
   events = cut_off (parts old.system) (unit old.system) pad (state_of word old) ++ releases (taken_back (frees old.system) (handed_out (parts old.system) (segments_of word middle)))
@@ -230,10 +230,10 @@ module _ {A : Type 0} {regions : A → List Grant} {word : A → ℕ → ℕ} {f
       let a = pass.index was.0 in (
         a.0,
         λ n. a.1 n
-            ∙ (ap (λ (segments : List Segment). after_pass (frees old.system) (parts old.system) segments was.0.index n) (ap (λ (s : HeapState). s.segments) cut.state)
+            ∙ (ap (λ segments. after_pass (frees old.system) (parts old.system) segments was.0.index n) (ap (λ s. s.segments) cut.state)
             ∙ (pass_cut word old (frees old.system) (parts old.system) (unit old.system) pad was.0.index n
             ∙ (pass_same (frees old.system) (parts old.system) (segments_of word old) was.0.index b.index was.1 n
-            ∙ sym (ap (λ (t : Bool). (if t then after_pass (frees old.system) (parts old.system) (segments_of word old) b.index else b.index) n) (is_made word old pad small some_old))))),
+            ∙ sym (ap (λ t. (if t then after_pass (frees old.system) (parts old.system) (segments_of word old) b.index else b.index) n) (is_made word old pad small some_old))))),
       )
 
   pub trim_gave : (is_cut_off || nat_lt 0 bytes) ≡ true → IsTrimmed regions word follows (frees old.system) (parts old.system) (unit old.system) old pad true after
@@ -246,7 +246,7 @@ module _ {A : Type 0} {regions : A → List Grant} {word : A → ℕ → ℕ} {f
       go : (b : Bool) → (after.size == 0) ≡ b → 0 < after.size
       go true none =
           let top = top_found (is_made word old pad small some_old) cut some pass in
-          let isnt : None ≡ Some (extent middle.top middle.top_size Top) = ap (λ (ss : List Segment). extent_at middle.top (extents_all ss)) (sym (no_segments word after (grind (arith, nat_tests)))) ∙ top in
+          let isnt : None ≡ Some (extent middle.top middle.top_size Top) = ap (λ ss. extent_at middle.top (extents_all ss)) (sym (no_segments word after (grind (arith, nat_tests)))) ∙ top in
           absurd (cc)
       go false some = grind (arith, nat_tests)
 

@@ -12,10 +12,10 @@ use Rattle.dlmalloc.proofs.Requests.Granularity.{granularities_whole}
 module _ {A : Type 0} {regions : A → List Grant} {word : A → ℕ → ℕ} {heap : Dlmalloc A} (sound : IsSound regions word heap) (some : 0 < heap.size) where
   -- the bytes that go, by the size of the top
   pub cut_is : (pad : ℕ) → cut_of (state_of word heap) pad ≡ (heap.top_size - (pad + 81)) / heap.granularity * heap.granularity
-  cut_is pad = ap (λ (top : ℕ). if nat_lt (pad + 80) top then (top - pad - 80 - 1) / heap.granularity * heap.granularity else 0) (top_size_is sound some) ∙ go (nat_lt (pad + 80) heap.top_size) refl
+  cut_is pad = ap (λ top. if nat_lt (pad + 80) top then (top - pad - 80 - 1) / heap.granularity * heap.granularity else 0) (top_size_is sound some) ∙ go (nat_lt (pad + 80) heap.top_size) refl
     where
       go : (b : Bool) → nat_lt (pad + 80) heap.top_size ≡ b → (if b then (heap.top_size - pad - 80 - 1) / heap.granularity * heap.granularity else 0) ≡ (heap.top_size - (pad + 81)) / heap.granularity * heap.granularity
-      go true more = let same : heap.top_size - pad - 80 - 1 ≡ heap.top_size - (pad + 81) = omega arith in ap (λ (n : ℕ). n / heap.granularity * heap.granularity) same
+      go true more = let same : heap.top_size - pad - 80 - 1 ≡ heap.top_size - (pad + 81) = omega arith in ap (λ n. n / heap.granularity * heap.granularity) same
       go false few =
           let less : heap.top_size ≤ pad + 80 = grind (arith, nat_tests) in
           let none : heap.top_size - (pad + 81) ≡ 0 = omega arith in
@@ -34,7 +34,7 @@ module _ {A : Type 0} {regions : A → List Grant} {word : A → ℕ → ℕ} {h
 
   module _ (pad : ℕ) {cut : ℕ} (is : cut ≡ (heap.top_size - (pad + 81)) / heap.granularity * heap.granularity) where
     pub cut_whole : cut % 16 ≡ 0
-    cut_whole = ap (λ (n : ℕ). n % 16) is ∙ granularities_whole ((heap.top_size - (pad + 81)) / heap.granularity) heap.granularity sound.granularity.0 sound.granularity.1
+    cut_whole = ap (λ n. n % 16) is ∙ granularities_whole ((heap.top_size - (pad + 81)) / heap.granularity) heap.granularity sound.granularity.0 sound.granularity.1
 
     pub cut_room : 0 < cut → cut + 80 < heap.top_size
     cut_room more = omega (arith, is, div-mul-le_self (heap.top_size - (pad + 81)) heap.granularity, more)
@@ -62,18 +62,18 @@ binned_but_top stays sound keeps some = binned_same stays sound keeps.sound
 module _ {A : Type 0} (regions : A → List Grant) (word : A → ℕ → ℕ) (follows : A → List Event → A → Type 0) (parts : Bool) (unit : ℕ) (heap : Dlmalloc A) (pad : ℕ) where
   not_cut : IsSound regions word heap → follows heap.system [] heap.system → is_cut parts unit pad (state_of word heap) ≡ false → IsCutBack regions word follows parts unit heap pad heap
   not_cut sound none isnt = record {
-    state = sym (ap (λ (b : Bool). if b then cut_top (cut_of (state_of word heap) pad) (state_of word heap) else state_of word heap) isnt);
+    state = sym (ap (λ b. if b then cut_top (cut_of (state_of word heap) pad) (state_of word heap) else state_of word heap) isnt);
     stays = all_kept sound;
-    regions_are = sym (ap (λ (b : Bool). if b then without_end (cut_of (state_of word heap) pad) (segments_of word heap) (regions heap.system) else regions heap.system) isnt);
-    followed = subst (λ (es : List Event). follows heap.system es heap.system) (sym (ap (λ (b : Bool). if b then end_released (cut_of (state_of word heap) pad) (segments_of word heap) else []) isnt)) none;
+    regions_are = sym (ap (λ b. if b then without_end (cut_of (state_of word heap) pad) (segments_of word heap) (regions heap.system) else regions heap.system) isnt);
+    followed = subst (λ es. follows heap.system es heap.system) (sym (ap (λ b. if b then end_released (cut_of (state_of word heap) pad) (segments_of word heap) else []) isnt)) none;
   }
 
   was_cut : 0 < heap.size → is_cut parts unit pad (state_of word heap) ≡ true → (new : Dlmalloc A) → IsShortened regions word follows heap (cut_of (state_of word heap) pad) new → IsCutBack regions word follows parts unit heap pad new
   was_cut some was new cut = record {
-    state = cut.state ∙ sym (ap (λ (b : Bool). if b then cut_top (cut_of (state_of word heap) pad) (state_of word heap) else state_of word heap) was);
+    state = cut.state ∙ sym (ap (λ b. if b then cut_top (cut_of (state_of word heap) pad) (state_of word heap) else state_of word heap) was);
     stays = cut.stays;
-    regions_are = cut.regions_are ∙ (sym (head_end (cut_of (state_of word heap) pad) (regions heap.system)) ∙ sym (ap (λ (b : Bool). if b then without_end (cut_of (state_of word heap) pad) (segments_of word heap) (regions heap.system) else regions heap.system) was));
-    followed = subst (λ (es : List Event). follows heap.system es new.system) (sym (head_event (cut_of (state_of word heap) pad)) ∙ sym (ap (λ (b : Bool). if b then end_released (cut_of (state_of word heap) pad) (segments_of word heap) else []) was)) cut.followed;
+    regions_are = cut.regions_are ∙ (sym (head_end (cut_of (state_of word heap) pad) (regions heap.system)) ∙ sym (ap (λ b. if b then without_end (cut_of (state_of word heap) pad) (segments_of word heap) (regions heap.system) else regions heap.system) was));
+    followed = subst (λ es. follows heap.system es new.system) (sym (head_event (cut_of (state_of word heap) pad)) ∙ sym (ap (λ b. if b then end_released (cut_of (state_of word heap) pad) (segments_of word heap) else []) was)) cut.followed;
   }
     where
       there : (heap.size == 0) ≡ false
@@ -88,4 +88,4 @@ module _ {A : Type 0} (regions : A → List Grant) (word : A → ℕ → ℕ) (f
   pub cut_back : IsSound regions word heap → 0 < heap.size → follows heap.system [] heap.system → (new : Dlmalloc A) (answer : Bool) → answer ≡ is_cut parts unit pad (state_of word heap) →
       (answer ≡ true → IsShortened regions word follows heap (cut_of (state_of word heap) pad) new) → (answer ≡ false → new ≡ heap) → IsCutBack regions word follows parts unit heap pad new
   cut_back sound some none new true is cut same = was_cut some (sym is) new (cut refl)
-  cut_back sound some none new false is cut same = subst (λ (h : Dlmalloc A). IsCutBack regions word follows parts unit heap pad h) (sym (same refl)) (not_cut sound none (sym is))
+  cut_back sound some none new false is cut same = subst (λ h. IsCutBack regions word follows parts unit heap pad h) (sym (same refl)) (not_cut sound none (sym is))

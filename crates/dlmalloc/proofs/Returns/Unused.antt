@@ -22,8 +22,8 @@ pub two_found : (base size at end : ℕ) (k : ℕ) {one : Extent} → extent_at 
 two_found base size at end k {one} there = go (base == k) refl (at == k) there
   where
     go : (b : Bool) → (base == k) ≡ b → (c : Bool) → (if b then Some (extent base size Free) else if c then Some (record_of at end) else None) ≡ Some one → ((one.kind ≡ Free) × (base ≡ k)) ⊎ (one.kind ≡ Record)
-    go true is c found = inl (ap (λ (e : Extent). e.kind) (sym (the_extent found)), nat_is is)
-    go false isnt true found = inr (ap (λ (e : Extent). e.kind) (sym (the_extent found)))
+    go true is c found = inl (ap (λ e. e.kind) (sym (the_extent found)), nat_is is)
+    go false isnt true found = inr (ap (λ e. e.kind) (sym (the_extent found)))
     go false isnt false found = absurd (cc)
 
 module _ {regions : List Grant} {words : ℕ → ℕ} {segment : Segment} (part : IsSegment regions words segment) (at : ℕ) (there : extent_at at segment.extents ≡ Some (record_of at (segment.base + segment.size))) where
@@ -43,7 +43,7 @@ module _ {regions : List Grant} {words : ℕ → ℕ} {segment : Segment} (part 
   long = elim (record_in.stands.size) [ inl short ↦ omega arith | inr longer ↦ omega arith ]
 
   extents_are : segment.extents ≡ chunks ++ record_of at end ∷ []
-  extents_are = tail.is ∙ ap (λ (es : List Extent). es ++ record_of at end ∷ []) (run_read tail.run)
+  extents_are = tail.is ∙ ap (λ es. es ++ record_of at end ∷ []) (run_read tail.run)
 
   base_whole : segment.base % 16 ≡ 0
   base_whole = go chunks tail.run.stand
@@ -67,19 +67,19 @@ module _ {regions : List Grant} {words : ℕ → ℕ} {segment : Segment} (part 
       go : (chunks : List Extent) → Tiles words Used segment.base chunks at → AreChunks chunks → segment.extents ≡ chunks ++ record_of at end ∷ [] →
           (free_of (words (segment.base + 8)) && size_of (words (segment.base + 8)) == segment.size - 80) ≡ is_unused segment
       go [] h are is =
-          let used : free_of (words (segment.base + 8)) ≡ false = ap (λ (a : ℕ). free_of (words (a + 8))) h ∙ (ap free_of record_in.stands.head ∙ record_in_use 48 (is_used record_in.before) refl) in
-          ap (λ (b : Bool). b && size_of (words (segment.base + 8)) == segment.size - 80) used ∙ sym (ap (λ (es : List Extent). is_unused (with_extents segment es)) is)
+          let used : free_of (words (segment.base + 8)) ≡ false = ap (λ a. free_of (words (a + 8))) h ∙ (ap free_of record_in.stands.head ∙ record_in_use 48 (is_used record_in.before) refl) in
+          ap (λ b. b && size_of (words (segment.base + 8)) == segment.size - 80) used ∙ sym (ap (λ es. is_unused (with_extents segment es)) is)
       go (chunk ∷ chunks) h are is =
           let same : extent segment.base (size_of (words (segment.base + 8))) (kind_of (words (segment.base + 8))) ≡ chunk =
-          subst (λ (a : ℕ). extent a (size_of (words (a + 8))) (kind_of (words (a + 8))) ≡ chunk) h.0 (told are.0 h.1) in
-          let free : free_of (words (segment.base + 8)) ≡ is_free_below_top chunk.kind = sym (plain_told (free_of (words (segment.base + 8)))) ∙ ap (λ (e : Extent). is_free_below_top e.kind) same in
+          subst (λ a. extent a (size_of (words (a + 8))) (kind_of (words (a + 8))) ≡ chunk) h.0 (told are.0 h.1) in
+          let free : free_of (words (segment.base + 8)) ≡ is_free_below_top chunk.kind = sym (plain_told (free_of (words (segment.base + 8)))) ∙ ap (λ e. is_free_below_top e.kind) same in
           let size : (size_of (words (segment.base + 8)) == segment.size - 80) ≡ (chunk.size + 80 == segment.size) =
-          ap (λ (e : Extent). e.size == segment.size - 80) same ∙ left_of chunk.size segment.size part.long in
-          (λ i. free i && size i) ∙ sym (ap (λ (es : List Extent). is_unused (with_extents segment es)) is)
+          ap (λ e. e.size == segment.size - 80) same ∙ left_of chunk.size segment.size part.long in
+          (λ i. free i && size i) ∙ sym (ap (λ es. is_unused (with_extents segment es)) is)
 
   -- then it is one free extent and the record
   pub unused_extents : is_unused segment ≡ true → segment.extents ≡ extent segment.base (segment.size - 80) Free ∷ record_of at end ∷ []
-  unused_extents test = extents_are ∙ go chunks tail.run.stand tail.run.are (sym (ap (λ (es : List Extent). is_unused (with_extents segment es)) extents_are) ∙ test)
+  unused_extents test = extents_are ∙ go chunks tail.run.stand tail.run.are (sym (ap (λ es. is_unused (with_extents segment es)) extents_are) ∙ test)
     where
       of_kind : (kind : Kind) → IsChunkKind kind → is_free_below_top kind ≡ true → kind ≡ Free
       of_kind kind (inl is) plain = absurd (let no = sym (ap is_free_below_top is) ∙ plain in cc)

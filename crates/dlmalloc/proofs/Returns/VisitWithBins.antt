@@ -32,7 +32,7 @@ module _ {A : Type 0} {regions : A → List Grant} {word : A → ℕ → ℕ} {h
       room = payload_high part payload some there
 
       out : (at size : ℕ) → (record_of (payload - 16) (segment.base + segment.size) ≡ record { at = at; size = size; kind = Free }) ⊎ ((payload - 16 + (segment.base + segment.size - (payload - 16)) ≤ at) ⊎ (at + size ≤ payload - 16)) → (k < at + 16) ⊎ (at + size ≤ k)
-      out at size (inl is) = absurd (let no : Record ≡ Free = ap (λ (e : Extent). e.kind) is in cc)
+      out at size (inl is) = absurd (let no : Record ≡ Free = ap (λ e. e.kind) is in cc)
       out at size (inr (inl before)) = inl (omega (arith, before, room, some, high))
       out at size (inr (inr behind)) = inr (omega (arith, behind, low))
 
@@ -45,7 +45,7 @@ module _ {A : Type 0} {regions : A → List Grant} {word : A → ℕ → ℕ} {h
         keeps (payload + 8) (omega arith) (omega arith) (omega (arith, whole)) ∙ h.2,
         keeps (payload + 24) (omega arith) (omega arith) (omega (arith, whole)) ∙ h.3,
         h.4,
-        subst (λ (p : ℕ). AreRecords now p segments) (sym (keeps (payload + 16) (omega arith) (omega arith) (omega (arith, whole)))) rest,
+        subst (λ p. AreRecords now p segments) (sym (keeps (payload + 16) (omega arith) (omega arith) (omega (arith, whole)))) rest,
       )
     where
       whole : payload % 16 ≡ 0
@@ -58,7 +58,7 @@ module _ {A : Type 0} {regions : A → List Grant} {word : A → ℕ → ℕ} {h
   behind_still front [] rest is parts payload h = refl
   behind_still front (segment ∷ first) rest is parts payload h =
       behind_still (front ++ segment ∷ []) first rest (is ∙ sym (append_assoc front (segment ∷ []) (first ++ rest))) parts.1 (words (payload + 16)) h.5
-      ∙ ap (λ (p : ℕ). payload_behind now p first) (sym (record_stays front (first ++ rest) is parts.0 payload h.0 h.4 (payload + 16) (omega arith) (omega arith) (omega (arith, payload_whole parts.0 payload h.0 h.4))))
+      ∙ ap (λ p. payload_behind now p first) (sym (record_stays front (first ++ rest) is parts.0 payload h.0 h.4 (payload + 16) (omega arith) (omega arith) (omega (arith, payload_whole parts.0 payload h.0 h.4))))
 
   -- what tells the next record
   pub linked_still : (head : Segment) (front back : List Segment) → segments_of word heap ≡ head ∷ (front ++ back) → (before payload : ℕ) → IsLinked words heap.next before payload front → IsLinked now new.next before payload front
@@ -67,14 +67,14 @@ module _ {A : Type 0} {regions : A → List Grant} {word : A → ℕ → ℕ} {h
     first = l.first;
     last = l.last;
     is = l.is;
-    reached = l.reached ∙ (behind_still (head ∷ []) l.first (l.last ∷ back) split parts.1 heap.next told.5 ∙ ap (λ (p : ℕ). payload_behind now p l.first) (sym next));
+    reached = l.reached ∙ (behind_still (head ∷ []) l.first (l.last ∷ back) split parts.1 heap.next told.5 ∙ ap (λ p. payload_behind now p l.first) (sym next));
     some = l.some;
     tells = l.tells ∙ sym (record_stays (head ∷ l.first) back split last_part before last_told.0 last_told.4 (before + 16) (omega arith) (omega arith)
         (omega (arith, payload_whole last_part before last_told.0 last_told.4)));
   })
     where
       split : segments_of word heap ≡ head ∷ (l.first ++ l.last ∷ back)
-      split = is ∙ (ap (λ (front : List Segment). head ∷ (front ++ back)) l.is ∙ ap (λ (segments : List Segment). head ∷ segments) (append_assoc l.first (l.last ∷ []) back))
+      split = is ∙ (ap (λ front. head ∷ (front ++ back)) l.is ∙ ap (λ segments. head ∷ segments) (append_assoc l.first (l.last ∷ []) back))
 
       parts : AreSegments granted words (head ∷ (l.first ++ l.last ∷ back))
       parts = subst (AreSegments granted words) split sound.segments
@@ -86,7 +86,7 @@ module _ {A : Type 0} {regions : A → List Grant} {word : A → ℕ → ℕ} {h
       last_part = all_at (IsSegment granted words) (head ∷ l.first) l.last back parts
 
       last_told : AreRecords words before (l.last ∷ back)
-      last_told = subst (λ (p : ℕ). AreRecords words p (l.last ∷ back)) (sym l.reached) (records_behind words heap.next l.first (l.last ∷ back) told.5)
+      last_told = subst (λ p. AreRecords words p (l.last ∷ back)) (sym l.reached) (records_behind words heap.next l.first (l.last ∷ back) told.5)
 
   -- a segment's record is read the same
   pub read_still : {before : ℕ} {told : SegmentRecord} (c : IsChained word heap before told) →
@@ -115,7 +115,7 @@ module _ {A : Type 0} {regions : A → List Grant} {word : A → ℕ → ℕ} {h
     segment = c.segment;
     back = c.back;
     payload = c.payload;
-    is = ap (λ (s : HeapState). s.segments) state ∙ c.is;
+    is = ap (λ s. s.segments) state ∙ c.is;
     records = records_still (c.head ∷ c.front) (c.segment ∷ c.back) c.is (all_back (IsSegment granted words) (c.head ∷ c.front) (c.segment ∷ c.back) (subst (AreSegments granted words) c.is sound.segments)) c.payload c.records;
     linked = linked_still c.head c.front (c.segment ∷ c.back) c.is before c.payload c.linked;
     read = read_still c;
@@ -125,7 +125,7 @@ module _ {A : Type 0} {regions : A → List Grant} {word : A → ℕ → ℕ} {h
 
 module _ {A : Type 0} {regions : A → List Grant} {word : A → ℕ → ℕ} {follows : A → List Event → A → Type 0} {heap new : Dlmalloc A} (sound : IsSound regions word heap) (same : IsRebinned regions word follows heap new) where
   pub next_same : new.next ≡ heap.next
-  next_same = ap (λ (h : Dlmalloc A). h.next) same.fields
+  next_same = ap (λ h. h.next) same.fields
 
   abbrev pub chained_then : {before : ℕ} {told : SegmentRecord} → IsChained word heap before told → IsChained word new before told
   chained_then c = chained_on sound new same.state next_same same.words c
@@ -135,18 +135,18 @@ module _ {A : Type 0} {regions : A → List Grant} {word : A → ℕ → ℕ} {f
   none_left = record {
     sound = same.sound;
     used = record {
-      still = λ used is there. ap (λ (s : HeapState). extent_at used.at (extents_in s)) same.state ∙ there;
-      before = λ used is there. ap (λ (s : HeapState). extent_at used.at (extents_in s)) (sym same.state) ∙ there;
+      still = λ used is there. ap (λ s. extent_at used.at (extents_in s)) same.state ∙ there;
+      before = λ used is there. ap (λ s. extent_at used.at (extents_in s)) (sym same.state) ∙ there;
     };
-    before = λ one there. ap (λ (s : HeapState). extent_at one.at (extents_in s)) (sym same.state) ∙ there;
-    words = λ k inside was out. same.words k (subst (λ (rs : List Grant). IsWordOf rs k) same.regions_same inside) (out_of (state_of word heap) k was);
+    before = λ one there. ap (λ s. extent_at one.at (extents_in s)) (sym same.state) ∙ there;
+    words = λ k inside was out. same.words k (subst (λ rs. IsWordOf rs k) same.regions_same inside) (out_of (state_of word heap) k was);
     regions_are = same.regions_same;
     followed = same.followed;
   }
 
   -- the same words of the heap before are changed back
   only_back : OnlyFreeChange (regions new.system) (state_of word new) (word new.system) (word heap.system)
-  only_back = λ k inside out. sym (same.words k (subst (λ (rs : List Grant). IsWordOf rs k) same.regions_same inside) (λ at size free. out at size (subst (λ (s : HeapState). IsFreeAt s at size) (sym same.state) free)))
+  only_back = λ k inside out. sym (same.words k (subst (λ rs. IsWordOf rs k) same.regions_same inside) (λ at size free. out at size (subst (λ s. IsFreeAt s at size) (sym same.state) free)))
 
   -- a segment may leave as before
   pub may_still : 0 < heap.size → (parts : Bool) {before : ℕ} {told : SegmentRecord} →
@@ -163,48 +163,48 @@ module _ {A : Type 0} {regions : A → List Grant} {word : A → ℕ → ℕ} (f
     segments = v.segments;
     records = v.records;
     linked = v.linked;
-    victim = v.victim ∙ ap (λ (h : Dlmalloc A). if handed && c.segment.base == h.victim then 0 else h.victim) same.fields;
+    victim = v.victim ∙ ap (λ h. if handed && c.segment.base == h.victim then 0 else h.victim) same.fields;
     left = left_on regions word follows follows_on (none_left sound same) v.left;
-    granularity_same = v.granularity_same ∙ ap (λ (h : Dlmalloc A). h.granularity) same.fields;
-    rate_same = v.rate_same ∙ ap (λ (h : Dlmalloc A). h.rate) same.fields;
-    trim_check_same = v.trim_check_same ∙ ap (λ (h : Dlmalloc A). h.trim_check) same.fields;
-    size_same = v.size_same ∙ ap (λ (h : Dlmalloc A). h.size) same.fields;
+    granularity_same = v.granularity_same ∙ ap (λ h. h.granularity) same.fields;
+    rate_same = v.rate_same ∙ ap (λ h. h.rate) same.fields;
+    trim_check_same = v.trim_check_same ∙ ap (λ h. h.trim_check) same.fields;
+    size_same = v.size_same ∙ ap (λ h. h.size) same.fields;
   }
 
   -- they went into bins behind one that stays
   pub visited_binned : {handed : Bool} (new : Dlmalloc A) {last : Dlmalloc A} → IsVisited regions word follows handed false heap before told c new → IsRebinned regions word follows new last → IsVisited regions word follows handed false heap before told c last
   visited_binned new {last} v same = record {
-    segments = ap (λ (s : HeapState). s.segments) same.state ∙ v.segments;
+    segments = ap (λ s. s.segments) same.state ∙ v.segments;
     records = records_still v.left.sound last same.state next_same same.words (c.head ∷ (c.front ++ c.segment ∷ [])) c.back split
         (all_back (IsSegment (regions new.system) (word new.system)) (c.head ∷ (c.front ++ c.segment ∷ [])) c.back (subst (AreSegments (regions new.system) (word new.system)) split v.left.sound.segments)) told.next v.records;
     linked = linked_still v.left.sound last same.state next_same same.words c.head (c.front ++ c.segment ∷ []) c.back split c.payload told.next v.linked;
-    victim = ap (λ (h : Dlmalloc A). h.victim) same.fields ∙ v.victim;
+    victim = ap (λ h. h.victim) same.fields ∙ v.victim;
     left = left_on regions word follows follows_on v.left (none_left v.left.sound same);
-    granularity_same = ap (λ (h : Dlmalloc A). h.granularity) same.fields ∙ v.granularity_same;
-    rate_same = ap (λ (h : Dlmalloc A). h.rate) same.fields ∙ v.rate_same;
-    trim_check_same = ap (λ (h : Dlmalloc A). h.trim_check) same.fields ∙ v.trim_check_same;
-    size_same = ap (λ (h : Dlmalloc A). h.size) same.fields ∙ v.size_same;
+    granularity_same = ap (λ h. h.granularity) same.fields ∙ v.granularity_same;
+    rate_same = ap (λ h. h.rate) same.fields ∙ v.rate_same;
+    trim_check_same = ap (λ h. h.trim_check) same.fields ∙ v.trim_check_same;
+    size_same = ap (λ h. h.size) same.fields ∙ v.size_same;
   }
     where
       next_same : last.next ≡ new.next
-      next_same = ap (λ (h : Dlmalloc A). h.next) same.fields
+      next_same = ap (λ h. h.next) same.fields
 
       split : segments_of word new ≡ c.head ∷ ((c.front ++ c.segment ∷ []) ++ c.back)
-      split = v.segments ∙ ap (λ (segments : List Segment). c.head ∷ segments) (sym (append_assoc c.front (c.segment ∷ []) c.back))
+      split = v.segments ∙ ap (λ segments. c.head ∷ segments) (sym (append_assoc c.front (c.segment ∷ []) c.back))
 
 -- ---- the bins where a segment is handed out whose first chunk is in none
 
 module _ {A : Type 0} {regions : A → List Grant} {word : A → ℕ → ℕ} {follows : A → List Event → A → Type 0} {old new : Dlmalloc A} (sound : IsSound regions word old) {before : ℕ} {told : SegmentRecord} {c : IsChained word old before told}
     {leaves : Bool} (visited : IsVisited regions word follows true leaves old before told c new) where
   base_is : told.base ≡ c.segment.base
-  base_is = ap (λ (t : SegmentRecord). t.base) c.read ∙ c.records.1
+  base_is = ap (λ t. t.base) c.read ∙ c.records.1
 
   victim : {b : Bool} → (told.base == old.victim) ≡ b → new.victim ≡ (if b then 0 else old.victim)
-  victim {b} test = visited.victim ∙ (ap (λ (base : ℕ). if base == old.victim then 0 else old.victim) (sym base_is) ∙ ap (λ (b : Bool). if b then 0 else old.victim) test)
+  victim {b} test = visited.victim ∙ (ap (λ base. if base == old.victim then 0 else old.victim) (sym base_is) ∙ ap (λ b. if b then 0 else old.victim) test)
 
   -- it begins behind the first page
   base_some : 4096 ≤ told.base
-  base_some = subst (λ (base : ℕ). 4096 ≤ base) (sym base_is) (all_at (IsSegment (regions old.system) (word old.system)) (c.head ∷ c.front) c.segment c.back (subst (AreSegments (regions old.system) (word old.system)) c.is sound.segments)).low
+  base_some = subst (λ base. 4096 ≤ base) (sym base_is) (all_at (IsSegment (regions old.system) (word old.system)) (c.head ∷ c.front) c.segment c.back (subst (AreSegments (regions old.system) (word old.system)) c.is sound.segments)).low
 
   -- its first chunk is not the victim any more
   pub not_victim : told.base ≢ new.victim
@@ -212,7 +212,7 @@ module _ {A : Type 0} {regions : A → List Grant} {word : A → ℕ → ℕ} {f
     where
       go : (b : Bool) → (told.base == old.victim) ≡ b → told.base ≢ new.victim
       go true test = λ is. absurd (let none : told.base ≡ 0 = is ∙ victim test in omega (arith, none, base_some))
-      go false test = λ is. (let yes : (told.base == old.victim) ≡ true = ap (λ (b : ℕ). b == old.victim) (is ∙ victim test) ∙ nat_same old.victim in let no = sym test ∙ yes in cc)
+      go false test = λ is. (let yes : (told.base == old.victim) ≡ true = ap (λ b. b == old.victim) (is ∙ victim test) ∙ nat_same old.victim in let no = sym test ∙ yes in cc)
 
   -- the victim was that, or stays
   pub was_base : (k : ℕ) → k ≡ old.victim → k ≢ new.victim → k ≡ told.base

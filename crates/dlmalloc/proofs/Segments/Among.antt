@@ -13,7 +13,7 @@ abbrev pub with_extents : Segment → List Extent → Segment
 with_extents segment extents = record { base = segment.base; size = segment.size; flags = segment.flags; extents = extents }
 
 pub all_among : (front : List Segment) (segment : Segment) (back : List Segment) → extents_all (front ++ segment ∷ back) ≡ extents_all front ++ (segment.extents ++ extents_all back)
-all_among front segment back = flat_map-append (λ (s : Segment). s.extents) front (segment ∷ back)
+all_among front segment back = flat_map-append (λ s. s.extents) front (segment ∷ back)
 
 -- ---- one of some segments
 
@@ -48,7 +48,7 @@ located at (segment ∷ segments) there =
     elim (found_either at segment.extents (extents_all segments) there) [
       | inl here ↦ record { front = []; segment = segment; back = segments; is = refl; there = here }
       | inr later ↦ (let rest = located at segments later.1 in
-          record { front = segment ∷ rest.front; segment = rest.segment; back = rest.back; is = ap (λ (ss : List Segment). segment ∷ ss) rest.is; there = rest.there })
+          record { front = segment ∷ rest.front; segment = rest.segment; back = rest.back; is = ap (λ ss. segment ∷ ss) rest.is; there = rest.there })
     ]
 
 -- what holds of all holds of it
@@ -71,14 +71,14 @@ pub apart_back : (one other : Segment) → IsApartFrom one other → IsApartFrom
 apart_back one other (inl before) = inr before
 apart_back one other (inr behind) = inl behind
 
-pub front_apart : (front : List Segment) (segment : Segment) (back : List Segment) → AreApart (front ++ segment ∷ back) → AllByRecursion (λ (other : Segment). IsApartFrom other segment) front
+pub front_apart : (front : List Segment) (segment : Segment) (back : List Segment) → AreApart (front ++ segment ∷ back) → AllByRecursion (λ other. IsApartFrom other segment) front
 front_apart [] segment back apart = tt
 front_apart (first ∷ front) segment back apart = (all_at (IsApartFrom first) front segment back apart.0, front_apart front segment back apart.1)
 
-pub back_apart : (front : List Segment) (segment : Segment) (back : List Segment) → AreApart (front ++ segment ∷ back) → AllByRecursion (λ (other : Segment). IsApartFrom other segment) back
+pub back_apart : (front : List Segment) (segment : Segment) (back : List Segment) → AreApart (front ++ segment ∷ back) → AllByRecursion (λ other. IsApartFrom other segment) back
 back_apart [] segment back apart = go back apart.0
   where
-    go : (back : List Segment) → AllByRecursion (IsApartFrom segment) back → AllByRecursion (λ (other : Segment). IsApartFrom other segment) back
+    go : (back : List Segment) → AllByRecursion (IsApartFrom segment) back → AllByRecursion (λ other. IsApartFrom other segment) back
     go [] all = tt
     go (other ∷ back) all = (apart_back segment other all.0, go back all.1)
 back_apart (first ∷ front) segment back apart = back_apart front segment back apart.1
@@ -123,7 +123,7 @@ distinct_later [] back k distinct there = there
 distinct_later (first ∷ front) back k {extent} distinct there = go (first.at == k) refl (distinct_later front back k distinct.1 there)
   where
     go : (b : Bool) → (first.at == k) ≡ b → extent_at k (front ++ back) ≡ Some extent → (if b then Some first else extent_at k (front ++ back)) ≡ Some extent
-    go true here later = absurd (let none = subst (λ (a : ℕ). extent_at a (front ++ back) ≡ None) (nat_is here) distinct.0 in let some = later in cc)
+    go true here later = absurd (let none = subst (λ a. extent_at a (front ++ back) ≡ None) (nat_is here) distinct.0 in let some = later in cc)
     go false other later = later
 
 -- an extent in its segment
@@ -136,7 +136,7 @@ pub record IsIn (words : ℕ → ℕ) (from to : ℕ) (extent : Extent) : Type 0
 pub in_part : (words : ℕ → ℕ) (before : Kind) (from : ℕ) (extents : List Extent) (to : ℕ) {extent : Extent} → Tiles words before from extents to → extent_at extent.at extents ≡ Some extent → IsIn words from to extent
 in_part words before from extents to {extent} h there =
     let f = found extent.at extent extents there in
-    let s = tiles_split words before from f.front (extent ∷ f.back) to (subst (λ (es : List Extent). Tiles words before from es to) f.is h) in
+    let s = tiles_split words before from f.front (extent ∷ f.back) to (subst (λ es. Tiles words before from es to) f.is h) in
     let place = s.second.0 in
     let low = tiles_le words before from f.front s.middle s.first in
     let high = tiles_le words extent.kind (s.middle + extent.size) f.back to s.second.2 in
@@ -146,7 +146,7 @@ in_part words before from extents to {extent} h there =
 pub among_all : (regions : List Grant) (words : ℕ → ℕ) {segments : List Segment} → AreSegments regions words segments → AreApart segments → (front : List Segment) (segment : Segment) (back : List Segment) → segments ≡ front ++ segment ∷ back → (k : ℕ) {one : Extent} →
     extent_at k segment.extents ≡ Some one → extent_at k (extents_all segments) ≡ Some one
 among_all regions words {segments} parts apart front segment back is k there =
-    ap (λ (ss : List Segment). extent_at k (extents_all ss)) is ∙ (ap (extent_at k) (all_among front segment back)
+    ap (λ ss. extent_at k (extents_all ss)) is ∙ (ap (extent_at k) (all_among front segment back)
     ∙ distinct_later (extents_all front) (segment.extents ++ extents_all back) k
     (subst AreDistinct (ap extents_all is ∙ all_among front segment back) (all_distinct regions words segments parts apart))
     (found_more k segment.extents (extents_all back) there))

@@ -33,7 +33,7 @@ first_spans one other same = (
   sym (bare one.segments).1 ∙ (ap first_size same ∙ (bare other.segments).1),
 )
   where
-    bare : (segments : List Segment) → HasSameFirst (map {B = Segment} (λ (segment : Segment). record segment { extents = [] }) segments) segments
+    bare : (segments : List Segment) → HasSameFirst (map {B = Segment} (λ segment. record segment { extents = [] }) segments) segments
     bare [] = (refl, refl)
     bare (segment ∷ segments) = (refl, refl)
 
@@ -116,7 +116,7 @@ module _ {A : Type 0} {regions : A → List Grant} {word : A → ℕ → ℕ} {h
         long = (used_inside regions word heap sound used is there).long
 
         kind_of : (other : Extent) → used.at ≡ other.at → extent_at other.at (extents_in (state_of word heap)) ≡ Some other → Used ≡ other.kind
-        kind_of other same found = sym is ∙ ap (λ (e : Extent). e.kind) (the_extent (sym there ∙ (ap (λ (a : ℕ). extent_at a (extents_in (state_of word heap))) same ∙ found)))
+        kind_of other same found = sym is ∙ ap (λ e. e.kind) (the_extent (sym there ∙ (ap (λ a. extent_at a (extents_in (state_of word heap))) same ∙ found)))
 
         no_top : Used ≡ Top → ⊥
         no_top same = cc

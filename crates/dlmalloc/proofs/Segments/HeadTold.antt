@@ -28,7 +28,7 @@ module _ {A : Type 0} {regions regions' : List Grant} {old words : ℕ → ℕ} 
     head.size,
     head.flags,
     head.top,
-    subst (λ (p : ℕ). AreRecords words p back) (sym next) (records_behind changed back apart.0 parts.1 heap.next h.5),
+    subst (λ p. AreRecords words p back) (sym next) (records_behind changed back apart.0 parts.1 heap.next h.5),
   )
   told_head (first ∷ front) back none apart parts h head = absurd (cc)
 
@@ -36,20 +36,20 @@ module _ {A : Type 0} {regions regions' : List Grant} {old words : ℕ → ℕ} 
   pub told_same : (front back : List Segment) → AreApart (front ++ segment ∷ back) → AreSegments regions old (front ++ segment ∷ back) → AreTold old heap (front ++ segment ∷ back) → HasSameHead heap new → segment'.base ≡ segment.base → segment'.size ≡ segment.size → segment'.flags ≡ segment.flags →
       (extent_at heap.top segment.extents ≡ Some (extent heap.top heap.top_size Top) → extent_at heap.top segment'.extents ≡ Some (extent heap.top heap.top_size Top)) → AreTold words new (front ++ segment' ∷ back)
   told_same [] back apart parts h same base size flags top = (
-    subst (λ (n : ℕ). 0 < n) (sym same.size) h.0,
+    subst (λ n. 0 < n) (sym same.size) h.0,
     same.base ∙ (h.1 ∙ sym base),
     same.size ∙ (h.2 ∙ sym size),
     same.flags ∙ (h.3 ∙ sym flags),
-    ap (λ (t : ℕ). extent_at t segment'.extents) same.top ∙ (top h.4 ∙ (λ i. Some (extent ((sym same.top) i) ((sym same.top_size) i) Top))),
-    subst (λ (p : ℕ). AreRecords words p back) (sym next) (records_behind changed back apart.0 parts.1 heap.next h.5),
+    ap (λ t. extent_at t segment'.extents) same.top ∙ (top h.4 ∙ (λ i. Some (extent ((sym same.top) i) ((sym same.top_size) i) Top))),
+    subst (λ p. AreRecords words p back) (sym next) (records_behind changed back apart.0 parts.1 heap.next h.5),
   )
   told_same (first ∷ front) back apart parts h same base size flags top = (
-    subst (λ (n : ℕ). 0 < n) (sym same.size) h.0,
+    subst (λ n. 0 < n) (sym same.size) h.0,
     same.base ∙ h.1,
     same.size ∙ h.2,
     same.flags ∙ h.3,
-    ap (λ (t : ℕ). extent_at t first.extents) same.top ∙ (h.4 ∙ (λ i. Some (extent ((sym same.top) i) ((sym same.top_size) i) Top))),
-    subst (λ (p : ℕ). AreRecords words p (front ++ segment' ∷ back)) (sym next) (records_after changed front back apart.1 parts.1 heap.next h.5),
+    ap (λ t. extent_at t first.extents) same.top ∙ (h.4 ∙ (λ i. Some (extent ((sym same.top) i) ((sym same.top_size) i) Top))),
+    subst (λ p. AreRecords words p (front ++ segment' ∷ back)) (sym next) (records_after changed front back apart.1 parts.1 heap.next h.5),
   )
 
 -- the first of the segments is told by the fields

@@ -18,7 +18,7 @@ no_segments word heap none = let test : (heap.size == 0) ≡ true = grind (arith
 pub some_segment : {A : Type 0} (word : A → ℕ → ℕ) (heap : Dlmalloc A) (k : ℕ) {one : Extent} → extent_at k (extents_all (segments_of word heap)) ≡ Some one → 0 < heap.size
 some_segment word heap k {one} there = elim (dec_lt 0 heap.size) [
   | yes some ↦ some
-  | no none ↦ absurd (let gone : extent_at k [] ≡ Some one = ap (λ (segments : List Segment). extent_at k (extents_all segments)) (sym (no_segments word heap (omega (arith, none)))) ∙ there in cc)
+  | no none ↦ absurd (let gone : extent_at k [] ≡ Some one = ap (λ segments. extent_at k (extents_all segments)) (sym (no_segments word heap (omega (arith, none)))) ∙ there in cc)
 ]
 
 -- a top and its foot, as their heads tell them
@@ -30,7 +30,7 @@ top_stands words at size used place whole long head foot = (
     whole = place;
     size = (whole, long);
     kind = used;
-    head = head ∙ (omega arith ∙ ap (λ (k : Kind). head_of size (is_used k) false) (sym used));
+    head = head ∙ (omega arith ∙ ap (λ k. head_of size (is_used k) false) (sym used));
     foot = λ free. absurd (cc);
     fence = λ is. absurd (cc);
   },
@@ -67,7 +67,7 @@ module _ {A : Type 0} {regions : A → List Grant} {word : A → ℕ → ℕ} {h
 
   tail_behind : ends_segment (last_kind Top top_run.last) ≡ true
   tail_behind = ap ends_segment (sym (last_append (last_kind Used top_run.first) (extent heap.top heap.top_size Top ∷ []) top_run.last)) ∙ (ap ends_segment (sym (last_append Used top_run.first (extent heap.top heap.top_size Top ∷ top_run.last)))
-      ∙ (ap (λ (es : List Extent). ends_segment (last_kind Used es)) (sym top_run.extents) ∙ top_part.tail))
+      ∙ (ap (λ es. ends_segment (last_kind Used es)) (sym top_run.extents) ∙ top_part.tail))
 
   pub top_last : (top_run.last ≡ extent (top_run.segment.base + top_run.segment.size - 80) 80 Foot ∷ []) × (heap.top + heap.top_size + 80 ≡ top_run.segment.base + top_run.segment.size)
   top_last = behind_top (word heap.system) (heap.top + heap.top_size) top_run.last (top_run.segment.base + top_run.segment.size) top_run.last_stand tail_behind

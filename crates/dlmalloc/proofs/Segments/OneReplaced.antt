@@ -37,7 +37,7 @@ all_spared heap k (extent ∷ extents) distinct there apart = (
 )
   where
     go : (other : Extent) → extent_at other.at extents ≡ Some other → (b : Bool) → (extent.at == other.at) ≡ b → (if b then Some extent else extent_at other.at extents) ≡ Some other
-    go other found true same = absurd (let none = subst (λ (a : ℕ). extent_at a extents ≡ None) (nat_is same) distinct.0 in let some = found in cc)
+    go other found true same = absurd (let none = subst (λ a. extent_at a extents ≡ None) (nat_is same) distinct.0 in let some = found in cc)
     go other found false isnt = found
 
 module _ {regions regions' : List Grant} {old new : ℕ → ℕ} {segment segment' : Segment} (changed : IsChanged regions regions' old new segment segment') where
@@ -94,7 +94,7 @@ module _ {regions regions' : List Grant} {old new : ℕ → ℕ} {segment segmen
     at (payload + 8) (omega arith) (omega arith) (omega (arith, whole)) ∙ size,
     at (payload + 24) (omega arith) (omega arith) (omega (arith, whole)) ∙ flags,
     there,
-    subst (λ (p : ℕ). AreRecords new p others) (sym (at (payload + 16) (omega arith) (omega arith) (omega (arith, whole)))) rest,
+    subst (λ p. AreRecords new p others) (sym (at (payload + 16) (omega arith) (omega arith) (omega (arith, whole)))) rest,
   )
     where
       r : IsIn new other.base (other.base + other.size) (record_of (payload - 16) (other.base + other.size))

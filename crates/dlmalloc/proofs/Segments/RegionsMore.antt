@@ -5,28 +5,28 @@ use Rattle.heap_memory.specs.RegionLaws.{granted_kept, granted_new, granted_spli
 -- a word that was granted still is
 pub word_kept : (grant : Grant) {old new : List Grant} → new ≡ with_grant grant old → {k : ℕ} → IsWordOf old k → IsWordOf new k
 word_kept grant {old} with_it {k} inside = record {
-  granted = subst (λ (rs : List Grant). IsTrue (is_granted rs k)) (sym with_it) (granted_kept grant old k inside.granted);
+  granted = subst (λ rs. IsTrue (is_granted rs k)) (sym with_it) (granted_kept grant old k inside.granted);
   aligned = inside.aligned;
 }
 
 -- a word of the grant is granted
 pub word_new : (grant : Grant) (old : List Grant) {new : List Grant} → new ≡ with_grant grant old → (k : ℕ) → grant.base ≤ k → k < grant.base + grant.size → k % 8 ≡ 0 → IsWordOf new k
 word_new grant old with_it k low high multiple = record {
-  granted = subst (λ (rs : List Grant). IsTrue (is_granted rs k)) (sym with_it) (granted_new grant old k low high);
+  granted = subst (λ rs. IsTrue (is_granted rs k)) (sym with_it) (granted_new grant old k low high);
   aligned = multiple;
 }
 
 -- and each that was not granted before is a word of the grant
 pub word_fresh : (grant : Grant) (old : List Grant) {new : List Grant} → new ≡ with_grant grant old → (k : ℕ) → IsWordOf new k → (IsWordOf old k → ⊥) → (grant.base ≤ k) × (k < grant.base + grant.size)
 word_fresh grant old with_it k inside fresh =
-    elim (granted_split grant old k (subst (λ (rs : List Grant). IsTrue (is_granted rs k)) with_it inside.granted)) [
+    elim (granted_split grant old k (subst (λ rs. IsTrue (is_granted rs k)) with_it inside.granted)) [
       | inl within ↦ within
       | inr was ↦ absurd (fresh (record { granted = was; aligned = inside.aligned }))
     ]
 
 -- where nothing is granted, no word is
 pub none_fresh : {old new : List Grant} → new ≡ old → (k : ℕ) → IsWordOf new k → (IsWordOf old k → ⊥) → ⊥
-none_fresh same k inside fresh = fresh (subst (λ (rs : List Grant). IsWordOf rs k) same inside)
+none_fresh same k inside fresh = fresh (subst (λ rs. IsWordOf rs k) same inside)
 
 -- regions with a further one are others
 pub with_other : (grant : Grant) {regions : List Grant} → with_grant grant regions ≡ regions → ⊥
@@ -49,8 +49,8 @@ one_more grant other (region ∷ regions) same = go (nat_lt grant.base region.ba
         (if a then grant ∷ region ∷ regions else region ∷ with_grant grant regions) ≡ (if b then other ∷ region ∷ regions else region ∷ with_grant other regions) →
         (with_grant grant regions ≡ with_grant other regions → grant ≡ other) → grant ≡ other
     go true first true second same rest = cc
-    go true first false second same rest = absurd (let is : grant ≡ region = cc in let place : grant.base ≡ region.base = ap (λ (g : Grant). g.base) is in grind (arith, nat_tests))
-    go false first true second same rest = absurd (let is : region ≡ other = cc in let place : region.base ≡ other.base = ap (λ (g : Grant). g.base) is in grind (arith, nat_tests))
+    go true first false second same rest = absurd (let is : grant ≡ region = cc in let place : grant.base ≡ region.base = ap (λ g. g.base) is in grind (arith, nat_tests))
+    go false first true second same rest = absurd (let is : region ≡ other = cc in let place : region.base ≡ other.base = ap (λ g. g.base) is in grind (arith, nat_tests))
     go false first false second same rest = rest (cc)
 
 -- ---- runs of regions
@@ -86,8 +86,8 @@ runs_joined {regions} {base} {one} {next} {two} {flags} place first second whole
   whole = go regions first.whole second.whole whole;
 }
   where
-    go : (regions : List Grant) → AllByRecursion (λ (region : Grant). IsApart base (base + one) region ⊎ IsWithin base (base + one) flags region) regions → AllByRecursion (λ (region : Grant). IsApart next (next + two) region ⊎ IsWithin next (next + two) flags region) regions → AllByRecursion IsWhole regions →
-        AllByRecursion (λ (region : Grant). IsApart base (base + (one + two)) region ⊎ IsWithin base (base + (one + two)) flags region) regions
+    go : (regions : List Grant) → AllByRecursion (λ region. IsApart base (base + one) region ⊎ IsWithin base (base + one) flags region) regions → AllByRecursion (λ region. IsApart next (next + two) region ⊎ IsWithin next (next + two) flags region) regions → AllByRecursion IsWhole regions →
+        AllByRecursion (λ region. IsApart base (base + (one + two)) region ⊎ IsWithin base (base + (one + two)) flags region) regions
     go [] a b whole = tt
     go (region ∷ regions) a b whole = (each a.0 b.0, go regions a.1 b.1 whole.1)
       where
@@ -102,10 +102,10 @@ runs_joined {regions} {base} {one} {next} {two} {flags} place first second whole
 pub run_alone : (regions : List Grant) (grant : Grant) → AllByRecursion (IsApart grant.base (grant.base + grant.size)) regions → IsRun (with_grant grant regions) grant.base grant.size grant.flags
 run_alone regions grant apart = record {
   covered = λ k low high. granted_new grant regions k low high;
-  whole = all_with (λ (region : Grant). IsApart grant.base (grant.base + grant.size) region ⊎ IsWithin grant.base (grant.base + grant.size) grant.flags region) grant regions (inr (omega arith, omega arith, refl)) (go regions apart);
+  whole = all_with (λ region. IsApart grant.base (grant.base + grant.size) region ⊎ IsWithin grant.base (grant.base + grant.size) grant.flags region) grant regions (inr (omega arith, omega arith, refl)) (go regions apart);
 }
   where
     go : (regions : List Grant) → AllByRecursion (IsApart grant.base (grant.base + grant.size)) regions →
-        AllByRecursion (λ (region : Grant). IsApart grant.base (grant.base + grant.size) region ⊎ IsWithin grant.base (grant.base + grant.size) grant.flags region) regions
+        AllByRecursion (λ region. IsApart grant.base (grant.base + grant.size) region ⊎ IsWithin grant.base (grant.base + grant.size) grant.flags region) regions
     go [] apart = tt
     go (region ∷ regions) apart = (inl apart.0, go regions apart.1)

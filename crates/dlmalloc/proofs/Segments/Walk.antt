@@ -71,7 +71,7 @@ module _ {A : Type 0} {regions : A → List Grant} {word : A → ℕ → ℕ} {h
     where
       go : (segments : List Segment) → AreSegments (regions heap.system) (word heap.system) segments → AreTold (word heap.system) heap segments → IsChunkRun (regions heap.system) (word heap.system) heap.base heap.top
       go [] parts h = absurd (omega (arith, some, h))
-      go (segment ∷ segments) parts h = subst (λ (base : ℕ). IsChunkRun (regions heap.system) (word heap.system) base heap.top) (sym h.1) (top_tail parts.0 h.4).run
+      go (segment ∷ segments) parts h = subst (λ base. IsChunkRun (regions heap.system) (word heap.system) base heap.top) (sym h.1) (top_tail parts.0 h.4).run
 
   module _ {payload : ℕ} {known : List Segment → Type 0} (p : PassedSegments word heap payload known) where
     parts_left : AreSegments (regions heap.system) (word heap.system) p.rest
@@ -85,7 +85,7 @@ module _ {A : Type 0} {regions : A → List Grant} {word : A → ℕ → ℕ} {h
 
     -- all are passed where no record is left
     pub all_segments : payload ≡ 0 → known (segments_of word heap)
-    all_segments none = subst known (sym (p.is ∙ (ap (λ (ss : List Segment). p.passed ++ ss) (empty p.rest p.told) ∙ append-nil p.passed))) p.so_far
+    all_segments none = subst known (sym (p.is ∙ (ap (λ ss. p.passed ++ ss) (empty p.rest p.told) ∙ append-nil p.passed))) p.so_far
       where
         empty : (rest : List Segment) → AreRecords (word heap.system) payload rest → rest ≡ []
         empty [] h = refl
@@ -143,14 +143,14 @@ module _ {A : Type 0} {regions : A → List Grant} {word : A → ℕ → ℕ} {h
 
       -- its run of chunks
       pub payload_run : IsChunkRun (regions heap.system) words (words payload) (payload - 16)
-      payload_run = subst (λ (base : ℕ). IsChunkRun (regions heap.system) words base (payload - 16)) (sym ahead_segment.base) tail_there.run
+      payload_run = subst (λ base. IsChunkRun (regions heap.system) words base (payload - 16)) (sym ahead_segment.base) tail_there.run
 
       -- it is passed
       pub onward_segment : (known' : List Segment → Type 0) → known' (p.passed ++ segment ∷ []) → PassedSegments word heap (words (payload + 16)) known'
       onward_segment known' holds = record {
         passed = p.passed ++ segment ∷ [];
         rest = ahead_segment.others;
-        is = p.is ∙ (ap (λ (ss : List Segment). p.passed ++ ss) ahead_segment.is ∙ sym (append_assoc p.passed (segment ∷ []) ahead_segment.others));
+        is = p.is ∙ (ap (λ ss. p.passed ++ ss) ahead_segment.is ∙ sym (append_assoc p.passed (segment ∷ []) ahead_segment.others));
         some = (let sum = length-append p.passed (segment ∷ []) in omega arith);
         told = ahead_segment.told;
         so_far = holds;
@@ -161,7 +161,7 @@ module _ {A : Type 0} {regions : A → List Grant} {word : A → ℕ → ℕ} {h
       extents_told = tail_there.is ∙ (λ i. chunks_between words ((sym ahead_segment.base) i) (payload - 16) ++ record_of (payload - 16) ((sym ahead_segment.base) i + (sym ahead_segment.size) i) ∷ [])
 
       pub passed_more : extents_all (p.passed ++ segment ∷ []) ≡ extents_all p.passed ++ (chunks_between words (words payload) (payload - 16) ++ record_of (payload - 16) (words payload + words (payload + 8)) ∷ [])
-      passed_more = all_among p.passed segment [] ∙ ap (λ (es : List Extent). extents_all p.passed ++ es) (append-nil segment.extents ∙ extents_told)
+      passed_more = all_among p.passed segment [] ∙ ap (λ es. extents_all p.passed ++ es) (append-nil segment.extents ∙ extents_told)
 
       -- and fewer are left
       pub fewer_left : length (records_from words (2 ^ 64) (words (payload + 16))) < length (records_from words (2 ^ 64) payload)

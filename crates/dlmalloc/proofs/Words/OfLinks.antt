@@ -17,7 +17,7 @@ module _ {A : Type 0} {regions : A → List Grant} {word : A → ℕ → ℕ} {h
 
   -- its head says that the chunk before it is in use, and that it is not
   pub free_head : word heap.system (at + 8) ≡ head_of size true false
-  free_head = let s = stands in s.1.head ∙ ap (λ (k : Kind). head_of size (is_used k) false) s.1.kind
+  free_head = let s = stands in s.1.head ∙ ap (λ k. head_of size (is_used k) false) s.1.kind
 
   -- it is a chunk that bins may hold
   pub is_chunk : IsChunk (regions heap.system) (word heap.system) size at
@@ -47,14 +47,14 @@ module _ {A : Type 0} {regions : A → List Grant} {word : A → ℕ → ℕ} {h
   same_or_beside {one} there = go (one.at == at) refl
     where
       go : (b : Bool) → (one.at == at) ≡ b → (one ≡ chunk) ⊎ AreBeside one chunk
-      go true test = inl (the_extent (sym there ∙ (ap (λ (a : ℕ). extent_at a (extents_all (segments_of word heap))) (nat_is test) ∙ free)))
+      go true test = inl (the_extent (sym there ∙ (ap (λ a. extent_at a (extents_all (segments_of word heap))) (nat_is test) ∙ free)))
       go false test = inr (beside (regions heap.system) (word heap.system) (segments_of word heap) sound.segments sound.apart there free
           (λ same. (let no : (one.at == at) ≡ true = (let e = same in grind (arith, nat_tests)) in cc)))
 
   -- the words in it, from 16 bytes on, are at no boundary
   pub no_boundary : (k : ℕ) → at + 16 ≤ k → k < at + size → IsBoundary (state_of word heap) k → ⊥
   no_boundary k low high b = elim (same_or_beside b.there) [
-    | inl same ↦ (let place : b.extent.at ≡ at = ap (λ (e : Extent). e.at) same in let long : b.extent.size ≡ size = ap (λ (e : Extent). e.size) same in
+    | inl same ↦ (let place : b.extent.at ≡ at = ap (λ e. e.at) same in let long : b.extent.size ≡ size = ap (λ e. e.size) same in
         elim (b.is) [ inl head ↦ omega arith | inr end ↦ (let e = end.1 in omega arith) ])
     | inr apart ↦ (let long = (sized b.extent.kind b.extent.size (stands_there (regions heap.system) (word heap.system) (segments_of word heap) sound.segments b.there).1.size).1 in
         elim apart [
@@ -66,7 +66,7 @@ module _ {A : Type 0} {regions : A → List Grant} {word : A → ℕ → ℕ} {h
   -- and in no record
   pub no_record : (k : ℕ) → at + 8 ≤ k → k < at + size → IsInRecord (state_of word heap) k → ⊥
   no_record k low high b = elim (same_or_beside b.there) [
-    | inl same ↦ (let no : Free ≡ Record = ap (λ (e : Extent). e.kind) (sym same) ∙ b.is in cc)
+    | inl same ↦ (let no : Free ≡ Record = ap (λ e. e.kind) (sym same) ∙ b.is in cc)
     | inr apart ↦ (let above = b.low in let below = b.high in elim apart [ inl before ↦ omega arith | inr behind ↦ omega arith ])
   ]
 

@@ -34,11 +34,11 @@ module _ {regions : List Grant} {old : ℕ → ℕ} {segment : Segment} (part : 
     pub recorded_tiles : Tiles new Used segment.base segment.extents (segment.base + segment.size)
     recorded_tiles =
         let f = found (payload - 16) (record_of (payload - 16) end) segment.extents there in
-        let s = tiles_split old Used segment.base f.front (record_of (payload - 16) end ∷ f.back) end (subst (λ (es : List Extent). Tiles old Used segment.base es end) f.is part.extents) in
+        let s = tiles_split old Used segment.base f.front (record_of (payload - 16) end ∷ f.back) end (subst (λ es. Tiles old Used segment.base es end) f.is part.extents) in
         let at : payload - 16 ≡ s.middle = s.second.0 in
         let low = tiles_le old Used segment.base f.front s.middle s.first in
         let last = nothing old Record (s.middle + (end - (payload - 16))) f.back end none_behind_record s.second.2 in
-        subst (λ (es : List Extent). Tiles new Used segment.base es end) (sym f.is)
+        subst (λ es. Tiles new Used segment.base es end) (sym f.is)
         (tiles_append new Used segment.base f.front (record_of (payload - 16) end ∷ f.back) s.middle end
         (tiles_kept old new Used segment.base f.front s.middle s.first
         (λ k above below m free. kept k above (omega (arith, below, at, long, some)) m (inl (omega (arith, below, at, some))))) (
@@ -51,7 +51,7 @@ module _ {regions : List Grant} {old : ℕ → ℕ} {segment : Segment} (part : 
             foot = λ free. absurd (cc);
             fence = λ is k above below m. kept k (omega (arith, above, at, low)) (omega (arith, below, long)) m (inr (omega (arith, above, some))) ∙ s.second.1.fence is k above below m;
           },
-          subst (λ (es : List Extent). Tiles new Record (s.middle + (end - (payload - 16))) es end) (sym last.0) last.1,
+          subst (λ es. Tiles new Record (s.middle + (end - (payload - 16))) es end) (sym last.0) last.1,
         ))
 
     pub recorded_stays : IsSegment regions new segment

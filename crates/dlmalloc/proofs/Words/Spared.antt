@@ -63,9 +63,9 @@ pub inner_spared : (words : ℕ → ℕ) (before : Kind) (from : ℕ) (extents :
     extent_at block.at extents ≡ Some block → is_used block.kind ≡ true → (k : ℕ) → block.at + 16 ≤ k → k < block.at + block.size + 8 → AllSpare extents k
 inner_spared words before from extents to {block} h there used k low high =
     let f = found block.at block extents there in
-    let s = tiles_split words before from f.front (block ∷ f.back) to (subst (λ (es : List Extent). Tiles words before from es to) f.is h) in
+    let s = tiles_split words before from f.front (block ∷ f.back) to (subst (λ es. Tiles words before from es to) f.is h) in
     let place : block.at ≡ s.middle = s.second.0 in
-    subst (λ (es : List Extent). AllSpare es k) (sym f.is)
+    subst (λ es. AllSpare es k) (sym f.is)
     (spared_append f.front (block ∷ f.back) k (spared_behind words before from f.front s.middle k s.first (omega arith)) (
       inner block.kind block.at block.size k used low,
       spared_before words block.kind (s.middle + block.size) f.back to k s.second.2 (omega arith),

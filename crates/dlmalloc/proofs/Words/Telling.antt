@@ -83,7 +83,7 @@ module _ {A : Type 0} {regions : A → List Grant} {word : A → ℕ → ℕ} {h
 
   -- each segment is one still
   still_in : (front segments : List Segment) → segments_of word heap ≡ front ++ segments → AreSegments (regions heap.system) words segments →
-      AllByRecursion (λ (segment : Segment). IsRun (regions heap.system) segment.base segment.size segment.flags → IsRun (regions system) segment.base segment.size segment.flags) segments → AreSegments (regions system) now segments
+      AllByRecursion (λ segment. IsRun (regions heap.system) segment.base segment.size segment.flags → IsRun (regions system) segment.base segment.size segment.flags) segments → AreSegments (regions system) now segments
   still_in front [] is parts runs = tt
   still_in front (segment ∷ segments) is parts runs = (
     record {
@@ -111,7 +111,7 @@ module _ {A : Type 0} {regions : A → List Grant} {word : A → ℕ → ℕ} {h
         keeps (payload + 8) (omega arith) (omega arith) (omega (arith, whole)) ∙ h.2,
         keeps (payload + 24) (omega arith) (omega arith) (omega (arith, whole)) ∙ h.3,
         h.4,
-        subst (λ (p : ℕ). AreRecords now p segments) (sym (keeps (payload + 16) (omega arith) (omega arith) (omega (arith, whole)))) rest,
+        subst (λ p. AreRecords now p segments) (sym (keeps (payload + 16) (omega arith) (omega arith) (omega (arith, whole)))) rest,
       )
     where
       r : IsIn words segment.base (segment.base + segment.size) (record_of (payload - 16) (segment.base + segment.size))
@@ -148,7 +148,7 @@ module _ {A : Type 0} {regions : A → List Grant} {word : A → ℕ → ℕ} {h
     told = subst (AreTold now after) (sym still_read) still_told;
     none = sound.none;
     no_victim = sound.no_victim;
-    victim = λ some. ap (λ (ss : List Segment). extent_at heap.victim (extents_all ss)) still_read ∙ sound.victim some;
+    victim = λ some. ap (λ ss. extent_at heap.victim (extents_all ss)) still_read ∙ sound.victim some;
   }
 
   pub state_told : state_of word after ≡ state_of word heap

@@ -12,13 +12,13 @@ listed heap at size is = go (extent_at at (extents_in heap)) refl is
   where
     as_used : (one : Extent) → extent_at at (extents_in heap) ≡ Some one → (victim : Bool) → is_victim heap one ≡ victim → Some (told (shown heap one)) ≡ Some (Used, size) → extent_at at (extents_in heap) ≡ Some (extent at size Used)
     as_used one there true test is =
-        let other : Some (Victim, one.size) ≡ Some (Used, size) = subst (λ (b : Bool). Some (told (if b then record one { kind = Victim } else one)) ≡ Some (Used, size)) test is in
-        let kinds : Victim ≡ Used = ap (λ (o : Option (Kind × ℕ)). (unwrap_or o (Used, size)).0) other in
+        let other : Some (Victim, one.size) ≡ Some (Used, size) = subst (λ b. Some (told (if b then record one { kind = Victim } else one)) ≡ Some (Used, size)) test is in
+        let kinds : Victim ≡ Used = ap (λ o. (unwrap_or o (Used, size)).0) other in
         absurd (cc)
     as_used one there false test is =
-        let same : Some (told one) ≡ Some (Used, size) = subst (λ (b : Bool). Some (told (if b then record one { kind = Victim } else one)) ≡ Some (Used, size)) test is in
-        let kinds : one.kind ≡ Used = ap (λ (o : Option (Kind × ℕ)). (unwrap_or o (Used, size)).0) same in
-        let sizes : one.size ≡ size = ap (λ (o : Option (Kind × ℕ)). (unwrap_or o (Used, size)).1) same in
+        let same : Some (told one) ≡ Some (Used, size) = subst (λ b. Some (told (if b then record one { kind = Victim } else one)) ≡ Some (Used, size)) test is in
+        let kinds : one.kind ≡ Used = ap (λ o. (unwrap_or o (Used, size)).0) same in
+        let sizes : one.size ≡ size = ap (λ o. (unwrap_or o (Used, size)).1) same in
         let place : one.at ≡ at = (found at one (extents_in heap) there).place in
         there ∙ (λ i. Some (extent (place i) (sizes i) (kinds i)))
 
@@ -34,7 +34,7 @@ returns g c =
     let size = c.in-Some-Used-default.size in
     let low : 16 ≤ c.args.address = omega arith in
     let is : option_map told (option_map (shown state) (extent_at at (extents_in state))) ≡ Some (Used, size) =
-    sym (ap (λ (l : List Extent). option_map told (extent_at at l)) c.as_slice.ensures ∙ ap (option_map told) (c.in_ok-extents.ensures.found at))
+    sym (ap (λ l. option_map told (extent_at at l)) c.as_slice.ensures ∙ ap (option_map told) (c.in_ok-extents.ensures.found at))
     ∙ (sym c.chunk_at.ensures ∙ (c.in-Some-Used-default.is ∙ (λ i. Some (c.in-Some-Used-default.field-0-0-is i, size)))) in
     let there = listed state at size is in
     (low, (used_inside regions_of word_of heap c.requires (extent at size Used) refl there).long, there)

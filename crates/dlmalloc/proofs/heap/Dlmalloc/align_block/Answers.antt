@@ -40,8 +40,8 @@ returns-clause-small g c = (place_here c.requires.sound c.args.n c.args.align c.
 pub returns-clause-state : goal.returns-clause-state
 returns-clause-state g c =
     let place = c.aligned_place-place.result in
-    subst (λ (p : ℕ). state_of g.A.Links.word c.free_behind.new.self ≡ tail_cut (lead_freed (state_of g.A.Links.word c.args.self.now) (c.args.ptr - 16) p) p c.args.n) c.aligned_place-place.ensures.place
-    (c.free_behind.ensures.state ∙ ap (λ (s : HeapState). tail_cut s place c.args.n) c.free_before.ensures.state)
+    subst (λ p. state_of g.A.Links.word c.free_behind.new.self ≡ tail_cut (lead_freed (state_of g.A.Links.word c.args.self.now) (c.args.ptr - 16) p) p c.args.n) c.aligned_place-place.ensures.place
+    (c.free_behind.ensures.state ∙ ap (λ s. tail_cut s place c.args.n) c.free_before.ensures.state)
 
 pub returns-clause-others : goal.returns-clause-others
 returns-clause-others g c =
@@ -55,12 +55,12 @@ returns-clause-kept g c =
 
 pub returns-clause-words : goal.returns-clause-words
 returns-clause-words g c = λ k inside passed.
-    let lead = λ (own : IsOwn (state_of g.A.Links.word c.free_before.new.self) k). passed.1 (subst (λ (s : HeapState). IsOwn s k) c.free_before.ensures.state own) in
-    c.free_behind.ensures.moved.words k (subst (λ (rs : List Grant). IsWordOf rs k) (sym c.free_before.ensures.regions) inside) (λ free. lead (inr free)) passed.2
+    let lead = λ (own : IsOwn (state_of g.A.Links.word c.free_before.new.self) k). passed.1 (subst (λ s. IsOwn s k) c.free_before.ensures.state own) in
+    c.free_behind.ensures.moved.words k (subst (λ rs. IsWordOf rs k) (sym c.free_before.ensures.regions) inside) (λ free. lead (inr free)) passed.2
     ∙ c.free_before.ensures.words k inside passed.0 lead
 
 pub returns-clause-order : goal.returns-clause-order
 returns-clause-order g c = λ b.
     let lead = c.free_before.ensures.order b in
     let tail = c.free_behind.ensures.order lead.0 in
-    (lead.0.index, subst (λ (s : HeapState). HoldsBinned s lead.0.index) c.free_before.ensures.state lead.0.holds, lead.1, tail)
+    (lead.0.index, subst (λ s. HoldsBinned s lead.0.index) c.free_before.ensures.state lead.0.holds, lead.1, tail)

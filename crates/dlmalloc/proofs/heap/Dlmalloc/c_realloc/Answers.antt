@@ -47,9 +47,9 @@ returns-in-Some-clause-resized g c =
     let least = size_at state (address - 16) block.1.extent block.1.there in
     let holds = block.1.holds in
     let new = c.resize_or_move.new.self in
-    subst (λ (ptr : Option ℕ). IfOk c.resize_or_move.result (λ at. IfSome ptr (λ from.
+    subst (λ ptr. IfOk c.resize_or_move.result (λ at. IfSome ptr (λ from.
     IsResized g.A.Links.regions g.A.Links.word g.A.Allocator.zeros g.A.Links.follows (g.A.Allocator.frees c.args.self.now.system) (g.A.Allocator.parts c.args.self.now.system) (g.A.Allocator.unit c.args.self.now.system) c.args.self.now from (size_where (λ extent. extent.at == from - 16) (extents_in state) - 8) 16 c.args.new_size at new))) (sym c.in-Some.is)
-    (subst (λ (held : ℕ). IfOk c.resize_or_move.result (λ at. IsResized g.A.Links.regions g.A.Links.word g.A.Allocator.zeros g.A.Links.follows (g.A.Allocator.frees c.args.self.now.system) (g.A.Allocator.parts c.args.self.now.system) (g.A.Allocator.unit c.args.self.now.system) c.args.self.now address (held - 8) 16 c.args.new_size at new)) (sym sizes) c.resize_or_move.ensures.resized)
+    (subst (λ held. IfOk c.resize_or_move.result (λ at. IsResized g.A.Links.regions g.A.Links.word g.A.Allocator.zeros g.A.Links.follows (g.A.Allocator.frees c.args.self.now.system) (g.A.Allocator.parts c.args.self.now.system) (g.A.Allocator.unit c.args.self.now.system) c.args.self.now address (held - 8) 16 c.args.new_size at new)) (sym sizes) c.resize_or_move.ensures.resized)
 
 pub returns-in-Some-clause-given : goal.returns-in-Some-clause-given
 returns-in-Some-clause-given g c =
@@ -60,9 +60,9 @@ returns-in-Some-clause-given g c =
     let address = c.in-Some.address in
     let told = block_chunk g.A.Links.regions g.A.Links.word old c.requires.sound address block.0 block.1 c.size-size.result c.size-size.ensures.value in
     let sizes = size_at state (address - 16) (extent (address - 16) c.size-size.result Used) told in
-    subst (λ (ptr : Option ℕ). IfOk c.resize_or_move.result (λ at. IfSome ptr (λ from.
+    subst (λ ptr. IfOk c.resize_or_move.result (λ at. IfSome ptr (λ from.
     IsGivenSize g.A.Links.regions g.A.Links.word g.A.Links.follows (g.A.Allocator.frees old.system) (g.A.Allocator.parts old.system) (g.A.Allocator.unit old.system) old from (size_where (λ extent. extent.at == from - 16) (extents_in state) - 8) 16 c.args.new_size at new))) (sym c.in-Some.is)
-    (subst (λ (held : ℕ). IfOk c.resize_or_move.result (λ at. IsGivenSize g.A.Links.regions g.A.Links.word g.A.Links.follows (g.A.Allocator.frees old.system) (g.A.Allocator.parts old.system) (g.A.Allocator.unit old.system) old address (held - 8) 16 c.args.new_size at new)) (sym sizes)
+    (subst (λ held. IfOk c.resize_or_move.result (λ at. IsGivenSize g.A.Links.regions g.A.Links.word g.A.Links.follows (g.A.Allocator.frees old.system) (g.A.Allocator.parts old.system) (g.A.Allocator.unit old.system) old address (held - 8) 16 c.args.new_size at new)) (sym sizes)
     (IfOk-weaker c.resize_or_move.result
     (λ at. IsResized g.A.Links.regions g.A.Links.word g.A.Allocator.zeros g.A.Links.follows (g.A.Allocator.frees old.system) (g.A.Allocator.parts old.system) (g.A.Allocator.unit old.system) old address (c.size-size.result - 8) 16 c.args.new_size at new)
     (λ at. IsGivenSize g.A.Links.regions g.A.Links.word g.A.Links.follows (g.A.Allocator.frees old.system) (g.A.Allocator.parts old.system) (g.A.Allocator.unit old.system) old address (c.size-size.result - 8) 16 c.args.new_size at new)
@@ -93,7 +93,7 @@ returns-in-Some-clause-counted g c = λ some.
     let told = block_chunk g.A.Links.regions g.A.Links.word c.args.self.now c.requires.sound address block.0 block.1 c.size-size.result c.size-size.ensures.value in
     let sizes = size_at state (address - 16) (extent (address - 16) c.size-size.result Used) told in
     let read = c.size-size.ensures.counted in
-    let moved = subst (λ (held : ℕ). c.resize_or_move.new.steps ≤ c.size-size.new.steps + 9216 + 2 * words_in (min (held - 8) c.args.new_size) + pass_steps state) (sym sizes) (c.resize_or_move.ensures.counted some) in
-    subst (λ (ptr : Option ℕ). IfSome ptr (λ from.
+    let moved = subst (λ held. c.resize_or_move.new.steps ≤ c.size-size.new.steps + 9216 + 2 * words_in (min (held - 8) c.args.new_size) + pass_steps state) (sym sizes) (c.resize_or_move.ensures.counted some) in
+    subst (λ ptr. IfSome ptr (λ from.
     c.resize_or_move.new.steps ≤ c.args.steps.now + 10240 + 2 * words_in (min (size_where (λ extent. extent.at == from - 16) (extents_in state) - 8) c.args.new_size) + pass_steps state)) (sym c.in-Some.is)
     (omega (arith, read, moved))

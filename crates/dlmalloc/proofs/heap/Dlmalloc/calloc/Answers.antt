@@ -8,7 +8,7 @@ pub fill_counted-requires : goal.fill_counted-requires
 fill_counted-requires g c =
     let middle = c.malloc.new.self in
     let served = served_block g.A.Links.regions g.A.Links.word g.A.Allocator.zeros g.A.Links.follows c.args.self.now c.args.size c.args.align c.in-Ok.address c.malloc.new.self c.in-Ok.ensures.served in
-    subst (λ (n : ℕ). AreWordsOf (g.A.Links.regions middle.system) c.in-Ok.address n) (sym c.words_in.ensures)
+    subst (λ n. AreWordsOf (g.A.Links.regions middle.system) c.in-Ok.address n) (sym c.words_in.ensures)
     (block_words served.0 served.1 c.args.size (omega arith))
 
 pub returns-in-Ok-clause-served : goal.returns-in-Ok-clause-served
@@ -17,7 +17,7 @@ returns-in-Ok-clause-served g c =
     let system = c.fill_counted.new.self in
     let served = served_block g.A.Links.regions g.A.Links.word g.A.Allocator.zeros g.A.Links.follows c.args.self.now c.args.size c.args.align c.in-Ok.address c.malloc.new.self c.in-Ok.ensures.served in
     let filled = c.fill_counted.ensures in
-    let cleared = subst (λ (n : ℕ). AreFilled (g.A.Links.regions middle.system) (g.A.Links.word middle.system) c.in-Ok.address n 0 (g.A.Links.word system)) c.words_in.ensures filled.filled in
+    let cleared = subst (λ n. AreFilled (g.A.Links.regions middle.system) (g.A.Links.word middle.system) c.in-Ok.address n 0 (g.A.Links.word system)) c.words_in.ensures filled.filled in
     record {
       middle = middle;
       served = c.in-Ok.ensures.served;
@@ -33,7 +33,7 @@ returns-in-Ok-clause-sound g c =
     let system = c.fill_counted.new.self in
     let served = served_block g.A.Links.regions g.A.Links.word g.A.Allocator.zeros g.A.Links.follows c.args.self.now c.args.size c.args.align c.in-Ok.address c.malloc.new.self c.in-Ok.ensures.served in
     let filled = c.fill_counted.ensures in
-    let cleared = subst (λ (n : ℕ). AreFilled (g.A.Links.regions middle.system) (g.A.Links.word middle.system) c.in-Ok.address n 0 (g.A.Links.word system)) c.words_in.ensures filled.filled in
+    let cleared = subst (λ n. AreFilled (g.A.Links.regions middle.system) (g.A.Links.word middle.system) c.in-Ok.address n 0 (g.A.Links.word system)) c.words_in.ensures filled.filled in
     (same_heap served.0 served.1 g.A.Links.follows c.args.size (omega arith) system filled.regions filled.follows cleared.elsewhere).sound
 
 pub returns-in-Ok-clause-handed : goal.returns-in-Ok-clause-handed
@@ -42,7 +42,7 @@ returns-in-Ok-clause-handed g c =
     let system = c.fill_counted.new.self in
     let served = served_block g.A.Links.regions g.A.Links.word g.A.Allocator.zeros g.A.Links.follows c.args.self.now c.args.size c.args.align c.in-Ok.address c.malloc.new.self c.in-Ok.ensures.served in
     let filled = c.fill_counted.ensures in
-    let cleared = subst (λ (n : ℕ). AreFilled (g.A.Links.regions middle.system) (g.A.Links.word middle.system) c.in-Ok.address n 0 (g.A.Links.word system)) c.words_in.ensures filled.filled in
+    let cleared = subst (λ n. AreFilled (g.A.Links.regions middle.system) (g.A.Links.word middle.system) c.in-Ok.address n 0 (g.A.Links.word system)) c.words_in.ensures filled.filled in
     handed_written g.A.Links.follows_on middle c.in-Ok.ensures.handed
     (same_heap served.0 served.1 g.A.Links.follows c.args.size (omega arith) system filled.regions filled.follows cleared.elsewhere) cleared.elsewhere
 
@@ -52,7 +52,7 @@ returns-in-Ok-clause-linked g c =
     let system = c.fill_counted.new.self in
     let served = served_block g.A.Links.regions g.A.Links.word g.A.Allocator.zeros g.A.Links.follows c.args.self.now c.args.size c.args.align c.in-Ok.address c.malloc.new.self c.in-Ok.ensures.served in
     let filled = c.fill_counted.ensures in
-    let cleared = subst (λ (n : ℕ). AreFilled (g.A.Links.regions middle.system) (g.A.Links.word middle.system) c.in-Ok.address n 0 (g.A.Links.word system)) c.words_in.ensures filled.filled in
+    let cleared = subst (λ n. AreFilled (g.A.Links.regions middle.system) (g.A.Links.word middle.system) c.in-Ok.address n 0 (g.A.Links.word system)) c.words_in.ensures filled.filled in
     same_binned served.0 served.1 c.index_stays.ensures c.args.size (omega arith) system filled.regions cleared.elsewhere c.malloc.ensures.linked
 
 pub returns-in-Ok-clause-counted : goal.returns-in-Ok-clause-counted

@@ -135,10 +135,10 @@ returns g c =
     ∙ (put.elsewhere (heap.top + heap.top_size) (into (heap.top + heap.top_size) (head_word c.requires.sound there (heap.top + heap.top_size) (omega (arith, above)) (omega (arith, e)) (omega (arith, top_whole c.requires.sound there, sizes.0))))
     (inl (large_at heap.top heap.top_size left.place large)) ∙ left.foot large))
     (λ k inside out free not_top not_foot. made.elsewhere k (onto k inside) not_top not_foot ∙ (put.elsewhere k (into k inside) (elim out [ inl before ↦ inl before | inr behind ↦ inr (omega (arith, behind, end_same)) ]) ∙ left.elsewhere k inside free)) in
-    let is = made.fields ∙ ap (λ (h : Dlmalloc _). new_head h grant new.system at) left.fields in
+    let is = made.fields ∙ ap (λ h. new_head h grant new.system at) left.fields in
     record {
-      joined = subst (λ (h : Dlmalloc _). IsAdmitted regions word g.A.Links.follows heap grant h) (sym is) joined;
-      free = subst (λ (h : Dlmalloc _). FreeMoves (state_of word heap) (state_of word h) [] (if nat_le 32 heap.top_size then heap.top ∷ [] else [])) (sym is) free;
-      rest = λ many. subst (λ (h : Dlmalloc _). IsFreeAt (state_of word h) heap.top heap.top_size) (sym is) (rest many);
-      same = subst (λ (h : Dlmalloc _). IsSameBins heap h) (sym is) (record { bins = refl; victim = refl });
+      joined = subst (λ h. IsAdmitted regions word g.A.Links.follows heap grant h) (sym is) joined;
+      free = subst (λ h. FreeMoves (state_of word heap) (state_of word h) [] (if nat_le 32 heap.top_size then heap.top ∷ [] else [])) (sym is) free;
+      rest = λ many. subst (λ h. IsFreeAt (state_of word h) heap.top heap.top_size) (sym is) (rest many);
+      same = subst (λ h. IsSameBins heap h) (sym is) (record { bins = refl; victim = refl });
     }

@@ -9,4 +9,4 @@ turned false = refl
 pub returns : goal.returns
 returns g c =
     let head = g.A.Links.word c.args.self.now.system (c.args.at + 8) in
-    same_extent refl c.size.ensures.value (c.kind_where.ensures ∙ (ap (λ (b : Bool). if b then Used else Free) c.inuse.ensures.value ∙ turned (free_of head)))
+    same_extent refl c.size.ensures.value (c.kind_where.ensures ∙ (ap (λ b. if b then Used else Free) c.inuse.ensures.value ∙ turned (free_of head)))

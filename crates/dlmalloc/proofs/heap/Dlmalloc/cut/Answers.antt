@@ -24,7 +24,7 @@ returns-in-Some-Top-clause-cut g c =
     let is = ap Some c.in-Some-Top.field-0-is in
     let chosen = c.in-Some-Top.ensures.top is in
     let fits = c.in-Some-Top.ensures.top_fits is in
-    subst (λ (k : ℕ). IsCutOut g.A.Links.regions g.A.Links.word g.A.Allocator.zeros g.A.Links.follows heap c.args.n k c.take_top.new.self) (sym c.take_top.ensures.chunk)
+    subst (λ k. IsCutOut g.A.Links.regions g.A.Links.word g.A.Allocator.zeros g.A.Links.follows heap c.args.n k c.take_top.new.self) (sym c.take_top.ensures.chunk)
     (cut_here g.A.Allocator.zeros g.A.Links.follows c.requires.sound c.args.n
     chosen (omega arith) (free_below c.requires.sound chosen.there) c.take_top.ensures.state c.take_top.ensures.more
     (as_turned g.A.Allocator.zeros g.A.Links.follows c.requires.sound c.args.n c.take_top.ensures.moved))
@@ -49,7 +49,7 @@ returns-in-Some-Top-clause-member g c = λ size is.
 pub returns-in-Some-Top-clause-linked : goal.returns-in-Some-Top-clause-linked
 returns-in-Some-Top-clause-linked g c =
     let e = c.take_top.ensures in
-    binned_beside c.index_stays.ensures c.requires.sound e.moved e.bins e.free (ap (λ (s : HeapState). s.victim) e.state) c.requires.linked
+    binned_beside c.index_stays.ensures c.requires.sound e.moved e.bins e.free (ap (λ s. s.victim) e.state) c.requires.linked
 
 pub returns-clause-member : goal.returns-clause-member
 returns-clause-member g c = none_member g.A.Links.regions g.A.Links.word c.args.self.now c.args.n (elim c.if-self-gt0.branch [
@@ -66,7 +66,7 @@ returns-clause-counted g c = λ some. absurd (some (elim c.if-self-gt0.branch [
 pub returns-in-Some-Top-clause-order : goal.returns-in-Some-Top-clause-order
 returns-in-Some-Top-clause-order g c = λ b.
     let e = c.take_top.ensures in
-    (binned_beside c.index_stays.ensures c.requires.sound e.moved e.bins e.free (ap (λ (s : HeapState). s.victim) e.state) b, order_same b.index)
+    (binned_beside c.index_stays.ensures c.requires.sound e.moved e.bins e.free (ap (λ s. s.victim) e.state) b, order_same b.index)
 
 pub take-requires-clause-member : goal.take-requires-clause-member
 take-requires-clause-member g c = c.in-Some-Chunk.ensures.member c.in-Some-Chunk.place (ap Some c.in-Some-Chunk.field-0-is)

@@ -12,7 +12,7 @@ returns-in-None-clause-cut g c =
     let new = c.take_top.new.self in
     let grown = c.in_ok-chunk.ensures.top c.in-None.is in
     let events = Granted (round_up (c.args.n + 96) heap.granularity) grown.grant ∷ [] in
-    subst (λ (k : ℕ). IsCutOut g.A.Links.regions g.A.Links.word g.A.Allocator.zeros g.A.Links.follows heap c.args.n k new) (sym c.take_top.ensures.chunk)
+    subst (λ k. IsCutOut g.A.Links.regions g.A.Links.word g.A.Allocator.zeros g.A.Links.follows heap c.args.n k new) (sym c.take_top.ensures.chunk)
     (cut_new g.A.Allocator.zeros g.A.Links.follows c.requires.sound c.args.n grown
     c.take_top.ensures.state c.take_top.ensures.more c.take_top.ensures.moved c.take_top.ensures.head c.take_top.ensures.foot c.take_top.ensures.others
     c.requires.none
@@ -31,11 +31,11 @@ pub returns-in-None-clause-linked : goal.returns-in-None-clause-linked
 returns-in-None-clause-linked g c =
     let grown = c.in_ok-chunk.ensures.top c.in-None.is in
     let e = c.take_top.ensures in
-    binned_beside c.index_stays.ensures grown.sound e.moved e.bins e.free (ap (λ (s : HeapState). s.victim) e.state) c.grow.ensures.linked
+    binned_beside c.index_stays.ensures grown.sound e.moved e.bins e.free (ap (λ s. s.victim) e.state) c.grow.ensures.linked
 
 pub returns-in-None-clause-order : goal.returns-in-None-clause-order
 returns-in-None-clause-order g c = λ b.
     let grown = c.in_ok-chunk.ensures.top c.in-None.is in
     let e = c.take_top.ensures in
     let after = c.grow.ensures.order b in
-    (binned_beside c.index_stays.ensures grown.sound e.moved e.bins e.free (ap (λ (s : HeapState). s.victim) e.state) after.0, after.1)
+    (binned_beside c.index_stays.ensures grown.sound e.moved e.bins e.free (ap (λ s. s.victim) e.state) after.0, after.1)

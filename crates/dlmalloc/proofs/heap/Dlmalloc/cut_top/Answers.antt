@@ -49,7 +49,7 @@ returns-clause-cut g c = λ is.
     let taken = c.if-not-free_part.false in
     let after : Dlmalloc _ = record heap { system = new.system; size = heap.size - less; top_size = heap.base + (heap.size - less) - 80 - heap.top; trim_check = trim_threshold } in
     let is : new ≡ after = closed.fields in
-    subst (λ (h : Dlmalloc _). IsShortened regions word g.A.Links.follows heap less h) (sym is)
+    subst (λ h. IsShortened regions word g.A.Links.follows heap less h) (sym is)
     (is_shortened c.requires.sound c.requires.there less c.requires.whole c.requires.room whole new.system (closed.regions ∙ freed.regions taken) closed.head closed.foot_head
     (λ k inside at_top at_foot. (let was = subst (λ rs. IsWordOf rs k) closed.regions inside in closed.elsewhere k was at_top at_foot ∙ freed.words k was))
     g.A.Links.follows (g.A.Links.follows_on heap.system middle new.system (Released heap.base heap.size (heap.size - less) ∷ []) [] (Released heap.base heap.size (heap.size - less) ∷ []) (freed.follows taken) closed.follows refl))
@@ -58,4 +58,4 @@ pub returns-clause-there : goal.returns-clause-there
 returns-clause-there g c =
     let heap = c.args.self.now in
     let left : 0 < heap.size - c.args.cut = rest_some c.requires.sound c.requires.there c.args.cut c.requires.whole c.requires.room (whole_each (g.A.Links.regions heap.system) (g.A.Links.whole heap.system)) in
-    subst (λ (h : Dlmalloc _). 0 < h.size) (sym c.close_top.ensures.fields) left
+    subst (λ h. 0 < h.size) (sym c.close_top.ensures.fields) left

@@ -41,14 +41,14 @@ unbin_between-requires-2-clause-sound g c = c.unbin_between.ensures.same.sound
 pub unbin_between-requires-2-clause-free : goal.unbin_between-requires-2-clause-free
 unbin_between-requires-2-clause-free g c = λ more.
     let there = some g.A.Links.follows c.requires.sound c.requires.chunk c.free_begin-from.result c.free_end-to.result c.free_begin-from.ensures.value c.free_end-to.ensures.value in
-    subst (λ (s : HeapState). IsFreeAt s (c.args.at + c.args.size) (c.free_end-to.result - (c.args.at + c.args.size))) (sym c.unbin_between.ensures.same.state)
+    subst (λ s. IsFreeAt s (c.args.at + c.args.size) (c.free_end-to.result - (c.args.at + c.args.size))) (sym c.unbin_between.ensures.same.state)
     (right_free c.requires.sound c.requires.chunk c.free_begin-from.ensures.value c.free_end-to.ensures.value there more)
 
 pub unbin_between-requires-2-clause-none : goal.unbin_between-requires-2-clause-none
 unbin_between-requires-2-clause-none g c = λ less n free.
     let there = some g.A.Links.follows c.requires.sound c.requires.chunk c.free_begin-from.result c.free_end-to.result c.free_begin-from.ensures.value c.free_end-to.ensures.value in
     right_none c.requires.sound c.requires.chunk c.free_begin-from.ensures.value c.free_end-to.ensures.value there less n
-    (subst (λ (s : HeapState). IsFreeAt s (c.args.at + c.args.size) n) c.unbin_between.ensures.same.state free)
+    (subst (λ s. IsFreeAt s (c.args.at + c.args.size) n) c.unbin_between.ensures.same.state free)
 
 pub unbin_between-requires-2-clause-binned : goal.unbin_between-requires-2-clause-binned
 unbin_between-requires-2-clause-binned g c = (
@@ -118,10 +118,10 @@ returns g c =
           (λ is. joined_other g.A.Links.follows c.requires.sound c.requires.chunk from to begin end (b.holds.free from (to - from) is)),
     ) in
     record {
-      state = last.state ∙ (e.state ∙ ap (λ (s : HeapState). freed s c.args.at) left.state);
-      less = subst (λ (s : HeapState). HasOneMore s (state_of word old) c.args.at) (sym last.state) (subst (λ (s : HeapState). HasOneMore (state_of word c.join_free.new.self) s c.args.at) left.state e.less);
-      records = λ one is there. ap (λ (s : HeapState). extent_at one.at (extents_in s)) last.state ∙ e.records one is (ap (λ (s : HeapState). extent_at one.at (extents_in s)) left.state ∙ there);
-      around = subst (λ (s : HeapState). IsFreeAround s c.args.at c.free_begin-from.result) (sym last.state) e.around;
+      state = last.state ∙ (e.state ∙ ap (λ s. freed s c.args.at) left.state);
+      less = subst (λ s. HasOneMore s (state_of word old) c.args.at) (sym last.state) (subst (λ s. HasOneMore (state_of word c.join_free.new.self) s c.args.at) left.state e.less);
+      records = λ one is there. ap (λ s. extent_at one.at (extents_in s)) last.state ∙ e.records one is (ap (λ s. extent_at one.at (extents_in s)) left.state ∙ there);
+      around = subst (λ s. IsFreeAround s c.args.at c.free_begin-from.result) (sym last.state) e.around;
       moved = turned g.A.Links.regions word g.A.Links.follows g.A.Links.follows_on left e.moved last;
       linked = (order c.requires.linked).0;
       order = order;

@@ -58,7 +58,7 @@ returns g c =
     let after : Dlmalloc _ = record heap { system = new.system; size = heap.size + grant.size; top_size = heap.base + (heap.size + grant.size) - 80 - heap.top; trim_check = trim_threshold } in
     let is : new ≡ after = closed.fields in
     record {
-      joined = subst (λ (h : Dlmalloc _). IsAdmitted regions word g.A.Links.follows heap grant h) (sym is) (record {
+      joined = subst (λ h. IsAdmitted regions word g.A.Links.follows heap grant h) (sym is) (record {
         state = extended_state after c.requires.sound fresh closed.regions there m.0 m.1 c.requires.behind whole refl refl refl refl refl refl refl refl refl refl refl refl closed.head closed.foot_head closed.elsewhere;
         sound = extended_sound after c.requires.sound fresh closed.regions there m.0 m.1 c.requires.behind whole refl refl refl refl refl refl refl refl refl refl refl refl closed.head closed.foot_head closed.elsewhere;
         there = some;
@@ -70,6 +70,6 @@ returns g c =
         words = extended_words after c.requires.sound fresh closed.regions there m.0 m.1 c.requires.behind whole refl refl refl refl refl refl refl refl refl refl refl refl closed.head closed.foot_head closed.elsewhere;
         new_words = λ k inside low high a b. closed.elsewhere k inside a (λ at_foot. b (omega arith));
       });
-      free = subst (λ (h : Dlmalloc _). FreeMoves (state_of word heap) (state_of word h) [] []) (sym is) (extended_free after c.requires.sound fresh closed.regions there m.0 m.1 c.requires.behind whole refl refl refl refl refl refl refl refl refl refl refl refl closed.head closed.foot_head closed.elsewhere);
-      same = subst (λ (h : Dlmalloc _). IsSameBins heap h) (sym is) (record { bins = refl; victim = refl });
+      free = subst (λ h. FreeMoves (state_of word heap) (state_of word h) [] []) (sym is) (extended_free after c.requires.sound fresh closed.regions there m.0 m.1 c.requires.behind whole refl refl refl refl refl refl refl refl refl refl refl refl closed.head closed.foot_head closed.elsewhere);
+      same = subst (λ h. IsSameBins heap h) (sym is) (record { bins = refl; victim = refl });
     }

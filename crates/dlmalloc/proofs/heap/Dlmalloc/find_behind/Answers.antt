@@ -25,7 +25,7 @@ overflow_add-payload g c = let high = told_high c.requires.sound c.requires.ther
 pub loop-payload-smaller : goal.loop-payload-smaller
 loop-payload-smaller g c =
     let words = g.A.Links.word c.args.self.now.system in
-    subst (λ (p : ℕ). length (records_from words (2 ^ 64) p) < length (records_from words (2 ^ 64) c.loop-payload.payload)) (sym c.load_counted-payload.ensures.value)
+    subst (λ p. length (records_from words (2 ^ 64) p) < length (records_from words (2 ^ 64) c.loop-payload.payload)) (sym c.load_counted-payload.ensures.value)
     (fewer_left c.requires.sound (as_passed c.loop-payload.invariant) c.loop-payload-test.true)
 
 pub loop-payload-preserved : goal.loop-payload-preserved

@@ -24,7 +24,7 @@ returns-in-Some g c =
     let enough = fit.enough in
     record {
       least = fit_least c.requires.sound b c.args.n fit ∙ ap Some (sym size);
-      there = subst (λ (n : ℕ). IsFreeAt (state_of word heap) at n) (sym size) free;
+      there = subst (λ n. IsFreeAt (state_of word heap) at n) (sym size) free;
       other = fit_other c.requires.sound b c.args.n fit;
       fits = omega (arith, enough, size);
       member = λ index linked. c.in-Some.ensures.fit index linked;

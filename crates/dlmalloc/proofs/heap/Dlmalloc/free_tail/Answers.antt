@@ -41,9 +41,9 @@ returns-clause-moved g c =
 pub dispose_chunk-requires-clause-linked : goal.dispose_chunk-requires-clause-linked
 dispose_chunk-requires-clause-linked g c =
     let e = c.split.ensures in
-    binned_beside c.index_stays.ensures c.requires.sound e.moved e.bins e.free (ap (λ (s : HeapState). s.victim) e.state) c.requires.linked
+    binned_beside c.index_stays.ensures c.requires.sound e.moved e.bins e.free (ap (λ s. s.victim) e.state) c.requires.linked
 
 pub returns-clause-order : goal.returns-clause-order
 returns-clause-order g c = λ b.
     let e = c.split.ensures in
-    c.dispose_chunk.ensures.order (binned_beside c.index_stays.ensures c.requires.sound e.moved e.bins e.free (ap (λ (s : HeapState). s.victim) e.state) b)
+    c.dispose_chunk.ensures.order (binned_beside c.index_stays.ensures c.requires.sound e.moved e.bins e.free (ap (λ s. s.victim) e.state) b)

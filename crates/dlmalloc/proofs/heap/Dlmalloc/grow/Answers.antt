@@ -14,7 +14,7 @@ returns-in_err-grant-clause-err g c =
     let heap = c.args.self.now in
     let denied = c.in_err-grant.ensures in
     let events : ℕ → GrantFault → List Event = λ bytes fault. Refused bytes fault ∷ [] in
-    let followed = subst (λ (bytes : ℕ). g.A.Links.follows heap.system (events bytes c.in_err-grant.field-0.0) c.alloc.new.self) c.asked-asked.ensures.asked denied.err_follows in
+    let followed = subst (λ bytes. g.A.Links.follows heap.system (events bytes c.in_err-grant.field-0.0) c.alloc.new.self) c.asked-asked.ensures.asked denied.err_follows in
     if_err c.from_residual.result _ c.from_residual.ensures.1
     (as_it_was g.A.Links.regions g.A.Links.word heap c.requires.sound c.index_stays.ensures g.A.Links.follows g.A.Allocator.refuses (events (round_up (c.args.n + 96) heap.granularity) c.in_err-grant.field-0.0) c.alloc.new.self denied.err denied.words followed denied.err_refuses)
 
@@ -61,11 +61,11 @@ returns-in-Some-clause-cut g c = λ at is.
     let put = c.put_before.ensures.put in
     let same = granted_same c.requires.sound middle (omega arith) given.good given.apart given.regions given.words in
     let followed = g.A.Links.follows_on heap.system middle new.system (Granted asked grant ∷ []) [] (Granted asked grant ∷ []) given.follows put.followed refl in
-    let at_is : grant.base ≡ at = ap (λ (o : Option ℕ). unwrap_or o grant.base) is in
-    subst (λ (a : ℕ). IsCutOut regions word g.A.Allocator.zeros g.A.Links.follows heap c.args.n a new) at_is
+    let at_is : grant.base ≡ at = ap (λ o. unwrap_or o grant.base) is in
+    subst (λ a. IsCutOut regions word g.A.Allocator.zeros g.A.Links.follows heap c.args.n a new) at_is
     (cut_before g.A.Allocator.zeros c.requires.sound enough c.requires.none given.good (omega arith) given.apart middle given.regions same
-    (subst (λ (ss : List Segment). is_put_before grant ss ≡ true) (λ i. (same i).segments) c.in-Some.ensures.some)
-    given.words given.zeros put (subst (λ (bytes : ℕ). g.A.Links.follows heap.system (Granted bytes grant ∷ []) new.system) c.asked-asked.ensures.asked followed))
+    (subst (λ ss. is_put_before grant ss ≡ true) (λ i. (same i).segments) c.in-Some.ensures.some)
+    given.words given.zeros put (subst (λ bytes. g.A.Links.follows heap.system (Granted bytes grant ∷ []) new.system) c.asked-asked.ensures.asked followed))
 
 pub returns-in-None-clause-top : goal.returns-in-None-clause-top
 returns-in-None-clause-top g c = λ is.
@@ -86,8 +86,8 @@ returns-in-None-clause-top g c = λ is.
     let followed = g.A.Links.follows_on heap.system middle new.system (Granted asked grant ∷ []) [] (Granted asked grant ∷ []) given.follows joined.followed refl in
     record {
       grant = grant;
-      followed = subst (λ (bytes : ℕ). g.A.Links.follows heap.system (Granted bytes grant ∷ []) new.system) c.asked-asked.ensures.asked followed;
-      apart = subst (λ (ss : List Segment). is_put_before grant ss ≡ false) (λ i. (same i).segments) (c.in-None.ensures.none refl);
+      followed = subst (λ bytes. g.A.Links.follows heap.system (Granted bytes grant ∷ []) new.system) c.asked-asked.ensures.asked followed;
+      apart = subst (λ ss. is_put_before grant ss ≡ false) (λ i. (same i).segments) (c.in-None.ensures.none refl);
       state = joined.state c.args.n ∙ ap (granted grant c.args.n) same;
       sound = joined.sound;
       there = joined.there;

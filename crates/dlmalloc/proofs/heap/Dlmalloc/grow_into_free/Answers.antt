@@ -26,10 +26,10 @@ pub join_part-requires-clause-sound : goal.join_part-requires-clause-sound
 join_part-requires-clause-sound g c = c.unbin.ensures.same.sound
 
 pub join_part-requires-clause-chunk : goal.join_part-requires-clause-chunk
-join_part-requires-clause-chunk g c = ap (λ (s : HeapState). extent_at c.args.at (extents_in s)) c.unbin.ensures.same.state ∙ c.requires.chunk
+join_part-requires-clause-chunk g c = ap (λ s. extent_at c.args.at (extents_in s)) c.unbin.ensures.same.state ∙ c.requires.chunk
 
 pub join_part-requires-clause-next : goal.join_part-requires-clause-next
-join_part-requires-clause-next g c = ap (λ (s : HeapState). extent_at (c.args.at + c.args.size) (extents_in s)) c.unbin.ensures.same.state ∙ c.requires.next
+join_part-requires-clause-next g c = ap (λ s. extent_at (c.args.at + c.args.size) (extents_in s)) c.unbin.ensures.same.state ∙ c.requires.next
 
 pub returns-then-was_victim : goal.returns-then-was_victim
 returns-then-was_victim g c =
@@ -44,9 +44,9 @@ returns-then-was_victim g c =
     let after = into_victim c.index_stays.ensures one.same.sound c.args.at c.args.size c.args.free c.args.n e.moved e.state e.free e.bins mine (none_binned left.0 (λ n free. mine)) in
     (after.0, order_left b.index left.0.index after.0.index (lessened_as c.args.free (c.args.at + c.args.size) b.index left.0.index left.1) after.1) in
     record {
-      state = e.state ∙ ap (λ (s : HeapState). grown_into s (extent c.args.at c.args.size Used) (extent (c.args.at + c.args.size) c.args.free Free) c.args.n) one.same.state;
+      state = e.state ∙ ap (λ s. grown_into s (extent c.args.at c.args.size Used) (extent (c.args.at + c.args.size) c.args.free Free) c.args.n) one.same.state;
       held = e.held;
-      others = subst (λ (s : HeapState). HasSameOthers s (state_of word new) c.args.at c.args.at) one.same.state e.others;
+      others = subst (λ s. HasSameOthers s (state_of word new) c.args.at c.args.at) one.same.state e.others;
       moved = turned regions word g.A.Links.follows g.A.Links.follows_on one.same e.moved (not_rebinned g.A.Links.follows e.moved.sound (g.A.Links.follows_none new.system));
       linked = (order c.requires.linked).0;
       order = order;
@@ -69,9 +69,9 @@ returns-then-rest-lt-LEAST_CHUNK g c =
       order_less b.index left.0.index (lessened_as c.args.free (c.args.at + c.args.size) b.index left.0.index left.1),
     ) in
     record {
-      state = e.state ∙ ap (λ (s : HeapState). grown_into s (extent c.args.at c.args.size Used) (extent (c.args.at + c.args.size) c.args.free Free) c.args.n) one.same.state;
+      state = e.state ∙ ap (λ s. grown_into s (extent c.args.at c.args.size Used) (extent (c.args.at + c.args.size) c.args.free Free) c.args.n) one.same.state;
       held = e.held;
-      others = subst (λ (s : HeapState). HasSameOthers s (state_of word new) c.args.at c.args.at) one.same.state e.others;
+      others = subst (λ s. HasSameOthers s (state_of word new) c.args.at c.args.at) one.same.state e.others;
       moved = turned regions word g.A.Links.follows g.A.Links.follows_on one.same e.moved (not_rebinned g.A.Links.follows e.moved.sound (g.A.Links.follows_none new.system));
       linked = (order c.requires.linked).0;
       order = order;
@@ -126,12 +126,12 @@ returns g c =
       after.0,
       in_order rest_size rest b.index left.0.index after.0.index (lessened_as c.args.free (c.args.at + c.args.size) b.index left.0.index left.1) (added_as rest_size rest left.0.index after.0.index after.1)
           (λ is. part_came c.index_stays.ensures one.same.sound c.args.at c.args.size c.args.free c.args.n e.moved e.state e.free e.bins other (omega arith) (let m = c.requires.more in omega arith)
-          (subst (λ (s : HeapState). IsFreeAt s rest rest_size) (sym one.same.state) (b.holds.free rest rest_size is))),
+          (subst (λ s. IsFreeAt s rest rest_size) (sym one.same.state) (b.holds.free rest rest_size is))),
     ) in
     record {
-      state = last.same.state ∙ (e.state ∙ ap (λ (s : HeapState). grown_into s (extent c.args.at c.args.size Used) (extent (c.args.at + c.args.size) c.args.free Free) c.args.n) one.same.state);
-      held = (e.held.0, ap (λ (s : HeapState). extent_at c.args.at (extents_in s)) last.same.state ∙ e.held.1, e.held.2, e.held.3);
-      others = subst (λ (s : HeapState). HasSameOthers (state_of word c.args.self.now) s c.args.at c.args.at) (sym last.same.state) (subst (λ (s : HeapState). HasSameOthers s (state_of word joined) c.args.at c.args.at) one.same.state e.others);
+      state = last.same.state ∙ (e.state ∙ ap (λ s. grown_into s (extent c.args.at c.args.size Used) (extent (c.args.at + c.args.size) c.args.free Free) c.args.n) one.same.state);
+      held = (e.held.0, ap (λ s. extent_at c.args.at (extents_in s)) last.same.state ∙ e.held.1, e.held.2, e.held.3);
+      others = subst (λ s. HasSameOthers (state_of word c.args.self.now) s c.args.at c.args.at) (sym last.same.state) (subst (λ s. HasSameOthers s (state_of word joined) c.args.at c.args.at) one.same.state e.others);
       moved = turned regions word g.A.Links.follows g.A.Links.follows_on one.same e.moved last.same;
       linked = (order c.requires.linked).0;
       order = order;

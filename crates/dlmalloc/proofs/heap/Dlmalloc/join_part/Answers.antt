@@ -45,7 +45,7 @@ pub set_size_and_pinuse_of_free_chunk-requires-clause-head : goal.set_size_and_p
 set_size_and_pinuse_of_free_chunk-requires-clause-head g c =
     let m = free_at_whole c.requires.sound c.args.n c.requires.chunk c.requires.next c.requires.whole c.requires.more c.requires.room in
     let whole = c.requires.whole in let room = c.requires.room in
-    subst (λ (rs : List Grant). HasHead rs (c.args.at + c.args.n)) (sym c.set_inuse-else-rest-lt-LEAST_CHUNK.ensures.regions)
+    subst (λ rs. HasHead rs (c.args.at + c.args.n)) (sym c.set_inuse-else-rest-lt-LEAST_CHUNK.ensures.regions)
     (free_head_there c.requires.sound c.args.n c.requires.chunk c.requires.next c.requires.whole c.requires.more c.requires.room (c.args.at + c.args.n) (omega arith) (omega arith) (omega arith))
 
 pub set_size_and_pinuse_of_free_chunk-requires-clause-foot : goal.set_size_and_pinuse_of_free_chunk-requires-clause-foot
@@ -53,7 +53,7 @@ set_size_and_pinuse_of_free_chunk-requires-clause-foot g c =
     let m = free_at_whole c.requires.sound c.args.n c.requires.chunk c.requires.next c.requires.whole c.requires.more c.requires.room in
     let w = free_sizes_whole c.requires.sound c.args.n c.requires.chunk c.requires.next c.requires.whole c.requires.more c.requires.room in
     let room = c.requires.room in
-    subst (λ (rs : List Grant). HasFoot rs (c.args.at + c.args.n + (c.args.size + c.args.free - c.args.n))) (sym c.set_inuse-else-rest-lt-LEAST_CHUNK.ensures.regions)
+    subst (λ rs. HasFoot rs (c.args.at + c.args.n + (c.args.size + c.args.free - c.args.n))) (sym c.set_inuse-else-rest-lt-LEAST_CHUNK.ensures.regions)
     (free_foot_there c.requires.sound c.args.n c.requires.chunk c.requires.next c.requires.whole c.requires.more c.requires.room (c.args.at + c.args.n + (c.args.size + c.args.free - c.args.n)) (omega arith) (omega arith) (omega arith))
 
 pub overflow_add-self : goal.overflow_add-self

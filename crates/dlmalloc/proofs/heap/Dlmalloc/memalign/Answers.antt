@@ -12,7 +12,7 @@ returns-then-size-limit-clause-refused g c =
       | then-size-limit-via-else-size-limit+then-align-limit w ↦ (let t = w.if-align-limit.true in omega arith)
     ] in
     record {
-      refused = too_large (limit c.args.self.now.granularity) c.args.size c.args.align (subst (λ (bound : ℕ). bound ≤ c.args.size + c.args.align) c.max_request-limit.ensures.is more);
+      refused = too_large (limit c.args.self.now.granularity) c.args.size c.args.align (subst (λ bound. bound ≤ c.args.size + c.args.align) c.max_request-limit.ensures.is more);
       same = record { followed = search rules; refused = search rules; state = refl; sound = c.requires.sound; regions_same = refl; words = λ k is. refl; index = λ b. (b, λ n. refl) };
     }
 
@@ -34,7 +34,7 @@ returns-in-Ok-clause-served g c =
 
 pub returns-in-Err-clause-refused : goal.returns-in-Err-clause-refused
 returns-in-Err-clause-refused g c =
-    subst (λ (m : ℕ). IsRefusedWith g.A.Links.regions g.A.Links.word g.A.Links.follows g.A.Allocator.refuses g.A.Allocator.denies c.args.self.now m c.in-Err.error c.c_malloc.new.self)
+    subst (λ m. IsRefusedWith g.A.Links.regions g.A.Links.word g.A.Links.follows g.A.Allocator.refuses g.A.Allocator.denies c.args.self.now m c.in-Err.error c.c_malloc.new.self)
     (enlarged_is c.args.size c.args.align c.request2size-n.ensures.is) c.in-Err.ensures.refused
 
 pub returns-in-Ok-clause-member : goal.returns-in-Ok-clause-member
@@ -44,10 +44,10 @@ returns-in-Ok-clause-member g c =
 
 pub returns-in-Ok-clause-counted : goal.returns-in-Ok-clause-counted
 returns-in-Ok-clause-counted g c = λ some.
-    let few = c.c_malloc.ensures.counted (λ none. some (subst (λ (m : ℕ). chosen (state_of g.A.Links.word c.args.self.now) (padded m) ≡ None) (enlarged_is c.args.size c.args.align c.request2size-n.ensures.is) none)) in
+    let few = c.c_malloc.ensures.counted (λ none. some (subst (λ m. chosen (state_of g.A.Links.word c.args.self.now) (padded m) ≡ None) (enlarged_is c.args.size c.args.align c.request2size-n.ensures.is) none)) in
     omega arith
 
 pub returns-in-Err-clause-counted : goal.returns-in-Err-clause-counted
 returns-in-Err-clause-counted g c = λ some.
-    let few = c.c_malloc.ensures.counted (λ none. some (subst (λ (m : ℕ). chosen (state_of g.A.Links.word c.args.self.now) (padded m) ≡ None) (enlarged_is c.args.size c.args.align c.request2size-n.ensures.is) none)) in
+    let few = c.c_malloc.ensures.counted (λ none. some (subst (λ m. chosen (state_of g.A.Links.word c.args.self.now) (padded m) ≡ None) (enlarged_is c.args.size c.args.align c.request2size-n.ensures.is) none)) in
     omega arith

@@ -7,24 +7,24 @@ use Rattle.dlmalloc.proofs.heap.Dlmalloc.move_block.Goals as goal
 pub copy_counted-requires-clause-from : goal.copy_counted-requires-clause-from
 copy_counted-requires-clause-from g c =
     let count = c.words_in.ensures ∙ ap words_in c.min.ensures in
-    subst (λ (n : ℕ). AreWordsOf (g.A.Links.regions c.malloc.new.self.system) c.args.ptr n) (sym count) (from_words g.A.Allocator.zeros g.A.Links.follows c.args.held c.args.align c.args.size c.in-Ok.address c.requires.sound c.requires.block.1 c.requires.held c.malloc.new.self c.in-Ok.ensures.served)
+    subst (λ n. AreWordsOf (g.A.Links.regions c.malloc.new.self.system) c.args.ptr n) (sym count) (from_words g.A.Allocator.zeros g.A.Links.follows c.args.held c.args.align c.args.size c.in-Ok.address c.requires.sound c.requires.block.1 c.requires.held c.malloc.new.self c.in-Ok.ensures.served)
 
 pub copy_counted-requires-clause-to : goal.copy_counted-requires-clause-to
 copy_counted-requires-clause-to g c =
     let count = c.words_in.ensures ∙ ap words_in c.min.ensures in
-    subst (λ (n : ℕ). AreWordsOf (g.A.Links.regions c.malloc.new.self.system) c.in-Ok.address n) (sym count) (to_words g.A.Allocator.zeros g.A.Links.follows c.args.held c.args.align c.args.size c.in-Ok.address c.requires.sound c.requires.block.1 c.requires.held c.malloc.new.self c.in-Ok.ensures.served)
+    subst (λ n. AreWordsOf (g.A.Links.regions c.malloc.new.self.system) c.in-Ok.address n) (sym count) (to_words g.A.Allocator.zeros g.A.Links.follows c.args.held c.args.align c.args.size c.in-Ok.address c.requires.sound c.requires.block.1 c.requires.held c.malloc.new.self c.in-Ok.ensures.served)
 
 pub copy_counted-requires-clause-apart : goal.copy_counted-requires-clause-apart
 copy_counted-requires-clause-apart g c =
     let count = c.words_in.ensures ∙ ap words_in c.min.ensures in
-    subst (λ (n : ℕ). (c.args.ptr + 8 * n ≤ c.in-Ok.address) ⊎ (c.in-Ok.address + 8 * n ≤ c.args.ptr)) (sym count) (words_apart g.A.Allocator.zeros g.A.Links.follows c.args.held c.args.align c.args.size c.in-Ok.address c.requires.sound c.requires.block.1 c.requires.held c.malloc.new.self c.in-Ok.ensures.served)
+    subst (λ n. (c.args.ptr + 8 * n ≤ c.in-Ok.address) ⊎ (c.in-Ok.address + 8 * n ≤ c.args.ptr)) (sym count) (words_apart g.A.Allocator.zeros g.A.Links.follows c.args.held c.args.align c.args.size c.in-Ok.address c.requires.sound c.requires.block.1 c.requires.held c.malloc.new.self c.in-Ok.ensures.served)
 
 pub free_and_settle-requires-clause-sound : goal.free_and_settle-requires-clause-sound
 free_and_settle-requires-clause-sound g c =
     let middle = c.malloc.new.self in
     let system = c.copy_counted.new.self in
     let count = c.words_in.ensures ∙ ap words_in c.min.ensures in
-    let copied = subst (λ (n : ℕ). AreCopied (g.A.Links.regions middle.system) (g.A.Links.word middle.system) c.args.ptr c.in-Ok.address n (g.A.Links.word system)) count c.copy_counted.ensures.copied in
+    let copied = subst (λ n. AreCopied (g.A.Links.regions middle.system) (g.A.Links.word middle.system) c.args.ptr c.in-Ok.address n (g.A.Links.word system)) count c.copy_counted.ensures.copied in
     (copied_heap g.A.Allocator.zeros g.A.Links.follows c.args.held c.args.align c.args.size c.in-Ok.address c.requires.sound c.requires.block.1 c.requires.held c.malloc.new.self c.in-Ok.ensures.served system c.copy_counted.ensures.regions c.copy_counted.ensures.follows copied).sound
 
 pub free_and_settle-requires-clause-linked : goal.free_and_settle-requires-clause-linked
@@ -32,7 +32,7 @@ free_and_settle-requires-clause-linked g c =
     let middle = c.malloc.new.self in
     let system = c.copy_counted.new.self in
     let count = c.words_in.ensures ∙ ap words_in c.min.ensures in
-    let copied = subst (λ (n : ℕ). AreCopied (g.A.Links.regions middle.system) (g.A.Links.word middle.system) c.args.ptr c.in-Ok.address n (g.A.Links.word system)) count c.copy_counted.ensures.copied in
+    let copied = subst (λ n. AreCopied (g.A.Links.regions middle.system) (g.A.Links.word middle.system) c.args.ptr c.in-Ok.address n (g.A.Links.word system)) count c.copy_counted.ensures.copied in
     copied_binned g.A.Allocator.zeros g.A.Links.follows c.args.held c.args.align c.args.size c.in-Ok.address c.requires.sound c.requires.block.1 c.requires.held c.malloc.new.self c.in-Ok.ensures.served system c.copy_counted.ensures.regions c.copy_counted.ensures.follows copied c.index_stays.ensures c.malloc.ensures.linked
 
 pub free_and_settle-requires-clause-block : goal.free_and_settle-requires-clause-block
@@ -40,7 +40,7 @@ free_and_settle-requires-clause-block g c =
     let middle = c.malloc.new.self in
     let system = c.copy_counted.new.self in
     let count = c.words_in.ensures ∙ ap words_in c.min.ensures in
-    let copied = subst (λ (n : ℕ). AreCopied (g.A.Links.regions middle.system) (g.A.Links.word middle.system) c.args.ptr c.in-Ok.address n (g.A.Links.word system)) count c.copy_counted.ensures.copied in
+    let copied = subst (λ n. AreCopied (g.A.Links.regions middle.system) (g.A.Links.word middle.system) c.args.ptr c.in-Ok.address n (g.A.Links.word system)) count c.copy_counted.ensures.copied in
     (c.requires.block.1.extent.size - 8, copied_block g.A.Allocator.zeros g.A.Links.follows c.args.held c.args.align c.args.size c.in-Ok.address c.requires.sound c.requires.block.1 c.requires.held c.malloc.new.self c.in-Ok.ensures.served system c.copy_counted.ensures.regions c.copy_counted.ensures.follows copied)
 
 pub returns-in-Ok-clause-elsewhere : goal.returns-in-Ok-clause-elsewhere
@@ -48,7 +48,7 @@ returns-in-Ok-clause-elsewhere g c =
     let middle = c.malloc.new.self in
     let system = c.copy_counted.new.self in
     let count = c.words_in.ensures ∙ ap words_in c.min.ensures in
-    let copied = subst (λ (n : ℕ). AreCopied (g.A.Links.regions middle.system) (g.A.Links.word middle.system) c.args.ptr c.in-Ok.address n (g.A.Links.word system)) count c.copy_counted.ensures.copied in
+    let copied = subst (λ n. AreCopied (g.A.Links.regions middle.system) (g.A.Links.word middle.system) c.args.ptr c.in-Ok.address n (g.A.Links.word system)) count c.copy_counted.ensures.copied in
     let filled = record middle { system = system } in
     let new = c.free_and_settle.new.self in
     let start = c.args.self.now.system in
@@ -78,7 +78,7 @@ returns-in-Ok-clause-counted g c = λ some.
     let middle = c.malloc.new.self in
     let system = c.copy_counted.new.self in
     let count = c.words_in.ensures ∙ ap words_in c.min.ensures in
-    let copied = subst (λ (n : ℕ). AreCopied (g.A.Links.regions middle.system) (g.A.Links.word middle.system) c.args.ptr c.in-Ok.address n (g.A.Links.word system)) count c.copy_counted.ensures.copied in
+    let copied = subst (λ n. AreCopied (g.A.Links.regions middle.system) (g.A.Links.word middle.system) c.args.ptr c.in-Ok.address n (g.A.Links.word system)) count c.copy_counted.ensures.copied in
     let same = copied_heap g.A.Allocator.zeros g.A.Links.follows c.args.held c.args.align c.args.size c.in-Ok.address c.requires.sound c.requires.block.1 c.requires.held c.malloc.new.self c.in-Ok.ensures.served system c.copy_counted.ensures.regions c.copy_counted.ensures.follows copied in
     let segments = ap pass_steps same.state ∙ found_pass g.A.Links.follows g.A.Links.regions old.system (state_of g.A.Links.word old) (padded (asked c.args.size c.args.align)) middle.system (state_of g.A.Links.word middle) c.in-Ok.ensures.handed.found some in
     let cut = c.malloc.ensures.counted some in

@@ -45,7 +45,7 @@ returns g c =
     let some : 0 < grant.size = omega arith in
     let sound = opened_sound after c.requires.sound fresh made.regions made.head made.foot_head c.requires.none refl refl refl refl refl refl refl refl refl refl c.countdown_from-self.ensures refl in
     record {
-      joined = subst (λ (h : Dlmalloc _). IsAdmitted regions word g.A.Links.follows heap grant h) (sym is) (record {
+      joined = subst (λ h. IsAdmitted regions word g.A.Links.follows heap grant h) (sym is) (record {
         state = opened_state after c.requires.sound fresh made.regions made.head made.foot_head c.requires.none refl refl refl refl refl refl refl refl refl refl c.countdown_from-self.ensures refl;
         sound = sound;
         there = some;
@@ -57,6 +57,6 @@ returns g c =
         words = λ k inside apart recorded. (let tags = head_tags sound some k apart in made.elsewhere k inside tags.0 (λ is. tags.1 (omega arith)));
         new_words = λ k inside low high a b. made.elsewhere k inside a (λ is. b (omega arith));
       });
-      free = subst (λ (h : Dlmalloc _). FreeMoves (state_of word heap) (state_of word h) [] []) (sym is) (opened_free after c.requires.sound fresh made.regions made.head made.foot_head c.requires.none refl refl refl refl refl refl refl refl refl refl c.countdown_from-self.ensures refl);
-      same = subst (λ (h : Dlmalloc _). IsSameBins heap h) (sym is) (record { bins = refl; victim = refl });
+      free = subst (λ h. FreeMoves (state_of word heap) (state_of word h) [] []) (sym is) (opened_free after c.requires.sound fresh made.regions made.head made.foot_head c.requires.none refl refl refl refl refl refl refl refl refl refl c.countdown_from-self.ensures refl);
+      same = subst (λ h. IsSameBins heap h) (sym is) (record { bins = refl; victim = refl });
     }

@@ -14,13 +14,13 @@ pub returns-then-not-may_leave-clause-answer : goal.returns-then-not-may_leave-c
 returns-then-not-may_leave-clause-answer g c = λ chained.
     let heap = c.args.self.now in
     let may = sym c.if-not-may_leave.true ∙ (c.may_leave.ensures.told ∙ test_is c.requires.sound c.requires.there chained (g.A.Allocator.parts heap.system)) in
-    never (g.A.Allocator.frees heap.system) ∙ ap (λ (b : Bool). g.A.Allocator.frees heap.system && b) may
+    never (g.A.Allocator.frees heap.system) ∙ ap (λ b. g.A.Allocator.frees heap.system && b) may
 
 pub returns-then-not-may_leave-clause-visited : goal.returns-then-not-may_leave-clause-visited
 returns-then-not-may_leave-clause-visited g c = λ chained.
     let heap = c.args.self.now in
     let may = sym c.if-not-may_leave.true ∙ (c.may_leave.ensures.told ∙ test_is c.requires.sound c.requires.there chained (g.A.Allocator.parts heap.system)) in
-    subst (λ (handed : Bool). IsVisited g.A.Links.regions g.A.Links.word g.A.Links.follows handed false heap c.args.before c.args.told.now chained heap) may
+    subst (λ handed. IsVisited g.A.Links.regions g.A.Links.word g.A.Links.follows handed false heap c.args.before c.args.told.now chained heap) may
     (stays c.requires.sound c.requires.there chained g.A.Links.follows g.A.Links.follows_none false)
 
 pub overflow_sub-size : goal.overflow_sub-size
@@ -40,7 +40,7 @@ pub hand_out-requires-clause-sound : goal.hand_out-requires-clause-sound
 hand_out-requires-clause-sound g c = c.unbin.ensures.same.sound
 
 pub hand_out-requires-clause-there : goal.hand_out-requires-clause-there
-hand_out-requires-clause-there g c = subst (λ (now : Dlmalloc g.row.A.Denot). 0 < now.size) (sym c.unbin.ensures.same.fields) c.requires.there
+hand_out-requires-clause-there g c = subst (λ now. 0 < now.size) (sym c.unbin.ensures.same.fields) c.requires.there
 
 pub hand_out-requires-clause-chained : goal.hand_out-requires-clause-chained
 hand_out-requires-clause-chained g c = chained_then c.requires.sound c.unbin.ensures.same c.requires.chained
@@ -48,7 +48,7 @@ hand_out-requires-clause-chained g c = chained_then c.requires.sound c.unbin.ens
 pub hand_out-requires-clause-may : goal.hand_out-requires-clause-may
 hand_out-requires-clause-may g c = λ chained.
     let fixed = g.met.A.Allocator.fixed c.args.self.now.system c.unbin.new.self.system _ c.unbin.ensures.same.followed in
-    ap (λ (parts : Bool). may_leave parts chained.segment) fixed.parts_same
+    ap (λ parts. may_leave parts chained.segment) fixed.parts_same
     ∙ may_still c.requires.sound c.unbin.ensures.same c.requires.there (g.A.Allocator.parts c.args.self.now.system)
     (sym c.may_leave.ensures.told ∙ c.if-not-may_leave.false) chained
 
@@ -77,18 +77,18 @@ returns-then-hand_out g c =
     chained_then c.requires.sound c.unbin.ensures.same chained in
     let visited : (chained : IsChained g.A.Links.word heap c.args.before told) → IsVisited g.A.Links.regions g.A.Links.word g.A.Links.follows true true heap c.args.before told chained new = λ chained.
     visited_then g.A.Links.follows g.A.Links.follows_on c.requires.sound chained c.unbin.ensures.same
-    (subst (λ (leaves : Bool). IsVisited g.A.Links.regions g.A.Links.word g.A.Links.follows true leaves middle c.args.before told (chain chained) new) c.if-hand_out.true (e.visited (chain chained))) in
-    let moves = subst (λ (left : Bool). FreeMoves (state_of g.A.Links.word middle) (state_of g.A.Links.word new) (if left then told.base ∷ [] else []) []) c.if-hand_out.true e.free in
+    (subst (λ leaves. IsVisited g.A.Links.regions g.A.Links.word g.A.Links.follows true leaves middle c.args.before told (chain chained) new) c.if-hand_out.true (e.visited (chain chained))) in
+    let moves = subst (λ left. FreeMoves (state_of g.A.Links.word middle) (state_of g.A.Links.word new) (if left then told.base ∷ [] else []) []) c.if-hand_out.true e.free in
     let after : (loose : IsBinnedBut (told.base ∷ []) g.A.Links.regions g.A.Links.word middle) → IsBinned g.A.Links.regions g.A.Links.word new = λ loose.
     binned_without c.index_stays.ensures c.unbin.ensures.same.sound (e.visited (chain c.requires.chained)) e.words e.bins moves loose in
     record {
       answer = λ chained. (λ i. takes i && may chained i);
-      visited = λ chained. subst (λ (handed : Bool). IsVisited g.A.Links.regions g.A.Links.word g.A.Links.follows handed true heap c.args.before told chained new) (may chained) (visited chained);
+      visited = λ chained. subst (λ handed. IsVisited g.A.Links.regions g.A.Links.word g.A.Links.follows handed true heap c.args.before told chained new) (may chained) (visited chained);
       linked = after (c.unbin.ensures.loose [] c.requires.linked (λ none. none)).0;
       index = λ chained b.
           let left = c.unbin.ensures.loose [] b (λ none. none) in
           let base = base_is c.requires.sound c.requires.there chained in
-          let size = ap (λ (n : ℕ). n - 80) (size_is c.requires.sound c.requires.there chained) in
+          let size = ap (λ n. n - 80) (size_is c.requires.sound c.requires.there chained) in
           (after left.0, λ n. left.1 n ∙ visit_left frees parts chained.segment b.index n base size (may chained) takes);
       counted = (let tested = c.may_leave.ensures.counted in let left = c.unbin.ensures.counted in let handed = e.counted in omega (arith, tested, left, handed));
     }
@@ -108,8 +108,8 @@ bin-requires-clause-free g c =
     let chained = c.requires.chained in
     let may = sym c.if-not-may_leave.false ∙ (c.may_leave.ensures.told ∙ test_is c.requires.sound c.requires.there chained (g.A.Allocator.parts heap.system)) in
     let first = first_is_free c.requires.sound c.requires.there chained (last_test (is_own chained.segment) (g.A.Allocator.parts heap.system) (is_unused chained.segment) may) in
-    let moves = subst (λ (left : Bool). FreeMoves (state_of g.A.Links.word middle) (state_of g.A.Links.word new) (if left then told.base ∷ [] else []) []) c.if-hand_out.false c.hand_out.ensures.free in
-    (moves.stays told.base (told.size - 80) (subst (λ (s : HeapState). IsFreeAt s told.base (told.size - 80)) (sym c.unbin.ensures.same.state) first) (λ none. none)).0
+    let moves = subst (λ left. FreeMoves (state_of g.A.Links.word middle) (state_of g.A.Links.word new) (if left then told.base ∷ [] else []) []) c.if-hand_out.false c.hand_out.ensures.free in
+    (moves.stays told.base (told.size - 80) (subst (λ s. IsFreeAt s told.base (told.size - 80)) (sym c.unbin.ensures.same.state) first) (λ none. none)).0
 
 pub bin-requires-clause-other : goal.bin-requires-clause-other
 bin-requires-clause-other g c =
@@ -125,7 +125,7 @@ bin-requires-clause-loose g c =
     let chain = chained_then c.requires.sound c.unbin.ensures.same c.requires.chained in (
       [],
       loose_still c.index_stays.ensures c.unbin.ensures.same.sound (e.visited chain) e.words e.bins
-          (subst (λ (left : Bool). FreeMoves (state_of g.A.Links.word middle) (state_of g.A.Links.word new) (if left then told.base ∷ [] else []) []) c.if-hand_out.false e.free)
+          (subst (λ left. FreeMoves (state_of g.A.Links.word middle) (state_of g.A.Links.word new) (if left then told.base ∷ [] else []) []) c.if-hand_out.false e.free)
           (c.unbin.ensures.loose [] c.requires.linked (λ none. none)).0,
     )
 
@@ -146,19 +146,19 @@ returns g c =
     chained_then c.requires.sound c.unbin.ensures.same chained in
     let visited : (chained : IsChained g.A.Links.word heap c.args.before told) → IsVisited g.A.Links.regions g.A.Links.word g.A.Links.follows true false heap c.args.before told chained new = λ chained.
     visited_then g.A.Links.follows g.A.Links.follows_on c.requires.sound chained c.unbin.ensures.same
-    (subst (λ (leaves : Bool). IsVisited g.A.Links.regions g.A.Links.word g.A.Links.follows true leaves middle c.args.before told (chain chained) new) c.if-hand_out.false (e.visited (chain chained))) in
-    let moves = subst (λ (left : Bool). FreeMoves (state_of g.A.Links.word middle) (state_of g.A.Links.word new) (if left then told.base ∷ [] else []) []) c.if-hand_out.false e.free in
+    (subst (λ leaves. IsVisited g.A.Links.regions g.A.Links.word g.A.Links.follows true leaves middle c.args.before told (chain chained) new) c.if-hand_out.false (e.visited (chain chained))) in
+    let moves = subst (λ left. FreeMoves (state_of g.A.Links.word middle) (state_of g.A.Links.word new) (if left then told.base ∷ [] else []) []) c.if-hand_out.false e.free in
     let after : (loose : IsBinnedBut (told.base ∷ []) g.A.Links.regions g.A.Links.word middle) → IsBinnedBut (told.base ∷ []) g.A.Links.regions g.A.Links.word new = λ loose.
     loose_still c.index_stays.ensures c.unbin.ensures.same.sound (e.visited (chain c.requires.chained)) e.words e.bins moves loose in
     record {
       answer = λ chained. (λ i. takes i && may chained i);
-      visited = λ chained. subst (λ (handed : Bool). IsVisited g.A.Links.regions g.A.Links.word g.A.Links.follows handed false heap c.args.before told chained c.bin.new.self) (may chained)
+      visited = λ chained. subst (λ handed. IsVisited g.A.Links.regions g.A.Links.word g.A.Links.follows handed false heap c.args.before told chained c.bin.new.self) (may chained)
           (visited_binned g.A.Links.follows g.A.Links.follows_on c.requires.sound chained new (visited chained) c.bin.ensures.same);
       linked = (c.bin.ensures.binned [] (after (c.unbin.ensures.loose [] c.requires.linked (λ none. none)).0) (λ none. none)).0;
       index = λ chained b.
           let left = c.unbin.ensures.loose [] b (λ none. none) in
           let base = base_is c.requires.sound c.requires.there chained in
-          let size = ap (λ (n : ℕ). n - 80) (size_is c.requires.sound c.requires.there chained) in
+          let size = ap (λ n. n - 80) (size_is c.requires.sound c.requires.there chained) in
           let last = c.bin.ensures.binned [] (after left.0) (λ none. none) in
           (last.0, λ n. last.1 n ∙ (with_same (told.size - 80) told.base left.0.index (without_chunk (told.size - 80) told.base b.index) n (left.1 n) ∙ visit_kept frees parts chained.segment b.index n base size (may chained) takes));
       counted = (let tested = c.may_leave.ensures.counted in let left = c.unbin.ensures.counted in let handed = e.counted in let put = c.bin.ensures.counted in omega (arith, tested, left, handed, put));

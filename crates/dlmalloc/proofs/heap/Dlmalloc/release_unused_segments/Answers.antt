@@ -53,31 +53,31 @@ loop-payload-preserved g c =
     let answer : c.release_segment.result ≡ (g.A.Allocator.frees old.system && may_leave (g.A.Allocator.parts old.system) one.segment) =
     c.release_segment.ensures.answer chain ∙ (λ i. fixed.frees_same i && may_leave (fixed.parts_same i) one.segment) in
     let index : IsReindexed g.A.Links.regions g.A.Links.word (after_visit (g.A.Allocator.frees old.system) (g.A.Allocator.parts old.system) one.segment) now c.release_segment.new.self =
-    subst (λ (frees : Bool). IsReindexed g.A.Links.regions g.A.Links.word (after_visit frees (g.A.Allocator.parts old.system) one.segment) now c.release_segment.new.self) fixed.frees_same
-    (subst (λ (parts : Bool). IsReindexed g.A.Links.regions g.A.Links.word (after_visit (g.A.Allocator.frees now.system) parts one.segment) now c.release_segment.new.self) fixed.parts_same (c.release_segment.ensures.index chain)) in
-    let visited = subst (λ (parts : Bool). IsVisited g.A.Links.regions g.A.Links.word g.A.Links.follows (may_leave parts one.segment) c.release_segment.result now c.loop-payload.before c.record_at-told.result chain c.release_segment.new.self) fixed.parts_same (c.release_segment.ensures.visited chain) in (
+    subst (λ frees. IsReindexed g.A.Links.regions g.A.Links.word (after_visit frees (g.A.Allocator.parts old.system) one.segment) now c.release_segment.new.self) fixed.frees_same
+    (subst (λ parts. IsReindexed g.A.Links.regions g.A.Links.word (after_visit (g.A.Allocator.frees now.system) parts one.segment) now c.release_segment.new.self) fixed.parts_same (c.release_segment.ensures.index chain)) in
+    let visited = subst (λ parts. IsVisited g.A.Links.regions g.A.Links.word g.A.Links.follows (may_leave parts one.segment) c.release_segment.result now c.loop-payload.before c.record_at-told.result chain c.release_segment.new.self) fixed.parts_same (c.release_segment.ensures.visited chain) in (
       elim c.if-release_segment.branch [
         | then-release_segment w ↦
-            subst (λ (b : ℕ). Passing g.A.Links.regions g.A.Links.word g.A.Links.follows (g.A.Allocator.frees old.system) (g.A.Allocator.parts old.system) old b c.record_at-told.result.next (c.loop-payload.visited + 1) c.if-release_segment.released c.release_segment.new.self) (sym w.before-is)
-            (subst (λ (r : ℕ). Passing g.A.Links.regions g.A.Links.word g.A.Links.follows (g.A.Allocator.frees old.system) (g.A.Allocator.parts old.system) old c.loop-payload.before c.record_at-told.result.next (c.loop-payload.visited + 1) r c.release_segment.new.self) (sym w.released-is)
+            subst (λ b. Passing g.A.Links.regions g.A.Links.word g.A.Links.follows (g.A.Allocator.frees old.system) (g.A.Allocator.parts old.system) old b c.record_at-told.result.next (c.loop-payload.visited + 1) c.if-release_segment.released c.release_segment.new.self) (sym w.before-is)
+            (subst (λ r. Passing g.A.Links.regions g.A.Links.word g.A.Links.follows (g.A.Allocator.frees old.system) (g.A.Allocator.parts old.system) old c.loop-payload.before c.record_at-told.result.next (c.loop-payload.visited + 1) r c.release_segment.new.self) (sym w.released-is)
             (on_passing g.A.Links.follows (g.A.Allocator.frees c.args.self.now.system) (g.A.Allocator.parts c.args.self.now.system) c.requires.sound c.loop-payload.invariant.0 c.loop-payload-test.true c.record_at-told.ensures.told g.A.Links.follows_on (sym w.if-release_segment.true ∙ answer)
-            (subst (λ (b : Bool). IsVisited g.A.Links.regions g.A.Links.word g.A.Links.follows (may_leave (g.A.Allocator.parts old.system) one.segment) b now c.loop-payload.before c.record_at-told.result chain c.release_segment.new.self) w.if-release_segment.true visited) index))
+            (subst (λ b. IsVisited g.A.Links.regions g.A.Links.word g.A.Links.follows (may_leave (g.A.Allocator.parts old.system) one.segment) b now c.loop-payload.before c.record_at-told.result chain c.release_segment.new.self) w.if-release_segment.true visited) index))
         | else-release_segment w ↦
-            subst (λ (b : ℕ). Passing g.A.Links.regions g.A.Links.word g.A.Links.follows (g.A.Allocator.frees old.system) (g.A.Allocator.parts old.system) old b c.record_at-told.result.next (c.loop-payload.visited + 1) c.if-release_segment.released c.release_segment.new.self) (sym w.before-is)
-            (subst (λ (r : ℕ). Passing g.A.Links.regions g.A.Links.word g.A.Links.follows (g.A.Allocator.frees old.system) (g.A.Allocator.parts old.system) old c.loop-payload.payload c.record_at-told.result.next (c.loop-payload.visited + 1) r c.release_segment.new.self) (sym w.released-is)
+            subst (λ b. Passing g.A.Links.regions g.A.Links.word g.A.Links.follows (g.A.Allocator.frees old.system) (g.A.Allocator.parts old.system) old b c.record_at-told.result.next (c.loop-payload.visited + 1) c.if-release_segment.released c.release_segment.new.self) (sym w.before-is)
+            (subst (λ r. Passing g.A.Links.regions g.A.Links.word g.A.Links.follows (g.A.Allocator.frees old.system) (g.A.Allocator.parts old.system) old c.loop-payload.payload c.record_at-told.result.next (c.loop-payload.visited + 1) r c.release_segment.new.self) (sym w.released-is)
             (on_passing g.A.Links.follows (g.A.Allocator.frees c.args.self.now.system) (g.A.Allocator.parts c.args.self.now.system) c.requires.sound c.loop-payload.invariant.0 c.loop-payload-test.true c.record_at-told.ensures.told g.A.Links.follows_on (sym w.if-release_segment.false ∙ answer)
-            (subst (λ (b : Bool). IsVisited g.A.Links.regions g.A.Links.word g.A.Links.follows (may_leave (g.A.Allocator.parts old.system) one.segment) b now c.loop-payload.before c.record_at-told.result chain c.release_segment.new.self) w.if-release_segment.false visited) index))
+            (subst (λ b. IsVisited g.A.Links.regions g.A.Links.word g.A.Links.follows (may_leave (g.A.Allocator.parts old.system) one.segment) b now c.loop-payload.before c.record_at-told.result chain c.release_segment.new.self) w.if-release_segment.false visited) index))
       ],
       c.release_segment.ensures.linked,
       (let read = c.record_at-told.ensures.counted in let gone = c.release_segment.ensures.counted in let before = c.loop-payload.invariant.2 in omega arith),
     )
 
 pub returns-clause-passed : goal.returns-clause-passed
-returns-clause-passed g c = subst (λ (now : Dlmalloc g.row.A.Denot). IsPassed g.A.Links.regions g.A.Links.word g.A.Links.follows (g.A.Allocator.frees c.args.self.now.system) (g.A.Allocator.parts c.args.self.now.system) c.args.self.now c.loop-payload.released now)
+returns-clause-passed g c = subst (λ now. IsPassed g.A.Links.regions g.A.Links.word g.A.Links.follows (g.A.Allocator.frees c.args.self.now.system) (g.A.Allocator.parts c.args.self.now.system) c.args.self.now c.loop-payload.released now)
     (sym c.begin_countdown.ensures) (passed_all g.A.Links.follows (g.A.Allocator.frees c.args.self.now.system) (g.A.Allocator.parts c.args.self.now.system) c.requires.sound c.loop-payload.invariant.0 c.loop-payload-test.false (max c.loop-payload.visited (countdown_from c.loop-payload.self.rate)) refl)
 
 pub returns-clause-linked : goal.returns-clause-linked
-returns-clause-linked g c = subst (λ (now : Dlmalloc g.row.A.Denot). IsBinned g.A.Links.regions g.A.Links.word now) (sym c.begin_countdown.ensures)
+returns-clause-linked g c = subst (λ now. IsBinned g.A.Links.regions g.A.Links.word now) (sym c.begin_countdown.ensures)
     (same_bins (max c.loop-payload.visited (countdown_from c.loop-payload.self.rate)) c.loop-payload.invariant.1)
 
 pub returns-clause-counted : goal.returns-clause-counted

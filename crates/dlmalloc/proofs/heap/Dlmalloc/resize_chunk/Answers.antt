@@ -112,12 +112,12 @@ returns-then-next-self-clause-moved g c = as_turned g.A.Allocator.zeros g.A.Link
 pub returns-then-next-self-clause-linked : goal.returns-then-next-self-clause-linked
 returns-then-next-self-clause-linked g c =
     let e = c.grow_into_top.ensures in
-    binned_beside c.index_stays.ensures c.requires.sound e.moved e.bins e.free (ap (λ (s : HeapState). s.victim) e.state) c.requires.linked
+    binned_beside c.index_stays.ensures c.requires.sound e.moved e.bins e.free (ap (λ s. s.victim) e.state) c.requires.linked
 
 pub returns-then-next-self-clause-order : goal.returns-then-next-self-clause-order
 returns-then-next-self-clause-order g c = λ b.
     let e = c.grow_into_top.ensures in
-    (binned_beside c.index_stays.ensures c.requires.sound e.moved e.bins e.free (ap (λ (s : HeapState). s.victim) e.state) b, order_same b.index)
+    (binned_beside c.index_stays.ensures c.requires.sound e.moved e.bins e.free (ap (λ s. s.victim) e.state) b, order_same b.index)
 
 pub returns-else-size-n-ge-LEAST_CHUNK-clause-order : goal.returns-else-size-n-ge-LEAST_CHUNK-clause-order
 returns-else-size-n-ge-LEAST_CHUNK-clause-order g c = λ b. (b, order_same b.index)

@@ -19,11 +19,11 @@ returns-then-resize_chunk-clause-resized g c =
       refl,
       stays_there old new c.args.held c.args.size held.0 c.requires.sound c.requires.block.1
           (held_there c.args.held c.requires.block.1 c.requires.held) small
-          (subst (λ (n : ℕ). c.args.size + 8 ≤ n) request.is request.holds)
-          (subst (λ (n : ℕ). n ≤ c.args.size + 32) request.is request.near)
-          (subst (λ (n : ℕ). n ≤ held.0) request.is held.2)
-          (subst (λ (n : ℕ). held.0 < n + 32) request.is held.3)
-          (subst (λ (n : ℕ). in_place (state_of g.A.Links.word old) (c.args.ptr - 16) n ≡ Some (state_of g.A.Links.word new)) request.is (done.resized c.if-resize_chunk.true))
+          (subst (λ n. c.args.size + 8 ≤ n) request.is request.holds)
+          (subst (λ n. n ≤ c.args.size + 32) request.is request.near)
+          (subst (λ n. n ≤ held.0) request.is held.2)
+          (subst (λ n. held.0 < n + 32) request.is held.3)
+          (subst (λ n. in_place (state_of g.A.Links.word old) (c.args.ptr - 16) n ≡ Some (state_of g.A.Links.word new)) request.is (done.resized c.if-resize_chunk.true))
           held.1
           done.others
           done.moved
@@ -46,7 +46,7 @@ returns-clause-member g c =
     IfOk-weaker c.move_block.result
     (λ address. IsMemberServed g.A.Links.regions g.A.Links.word c.resize_chunk.new.self c.args.size c.args.align address)
     (λ address. address ≢ c.args.ptr → IsMemberServed g.A.Links.regions g.A.Links.word old c.args.size c.args.align address)
-    (λ address member other. subst (λ (heap : Dlmalloc g.row.A.Denot). IsMemberServed g.A.Links.regions g.A.Links.word heap c.args.size c.args.align address) same member)
+    (λ address member other. subst (λ heap. IsMemberServed g.A.Links.regions g.A.Links.word heap c.args.size c.args.align address) same member)
     c.move_block.ensures.member
 
 pub returns-clause-counted : goal.returns-clause-counted
@@ -54,10 +54,10 @@ returns-clause-counted g c = λ some.
     let old = c.args.self.now in
     let same : c.resize_chunk.new.self ≡ old = c.resize_chunk.ensures.same c.if-resize_chunk.false in
     let few = c.resize_chunk.ensures.none_counted c.if-resize_chunk.false in
-    let segments = ap (λ (heap : Dlmalloc g.row.A.Denot). pass_steps (state_of g.A.Links.word heap)) same in
-    let moved = c.move_block.ensures.counted (subst (λ (heap : Dlmalloc g.row.A.Denot). chosen (state_of g.A.Links.word heap) (padded (asked c.args.size c.args.align)) ≢ None) (sym same) some) in
+    let segments = ap (λ heap. pass_steps (state_of g.A.Links.word heap)) same in
+    let moved = c.move_block.ensures.counted (subst (λ heap. chosen (state_of g.A.Links.word heap) (padded (asked c.args.size c.args.align)) ≢ None) (sym same) some) in
     omega (arith, few, segments, moved)
 
 pub returns-clause-in_place_counted : goal.returns-clause-in_place_counted
 returns-clause-in_place_counted g c = λ some.
-    absurd (some (subst (λ (n : ℕ). in_place (state_of g.A.Links.word c.args.self.now) (c.args.ptr - 16) n ≡ None) c.request2size.ensures.is (c.resize_chunk.ensures.none c.if-resize_chunk.false)))
+    absurd (some (subst (λ n. in_place (state_of g.A.Links.word c.args.self.now) (c.args.ptr - 16) n ≡ None) c.request2size.ensures.is (c.resize_chunk.ensures.none c.if-resize_chunk.false)))

@@ -18,7 +18,7 @@ set_size_and_pinuse_of_inuse_chunk-requires-clause-size g c = rest_whole c.requi
 
 pub set_size_and_pinuse_of_inuse_chunk-requires-clause-head : goal.set_size_and_pinuse_of_inuse_chunk-requires-clause-head
 set_size_and_pinuse_of_inuse_chunk-requires-clause-head g c =
-    subst (λ (rs : List Grant). HasHead rs (c.args.at + c.args.n)) (sym c.set_inuse.ensures.regions)
+    subst (λ rs. HasHead rs (c.args.at + c.args.n)) (sym c.set_inuse.ensures.regions)
     (second_head c.requires.sound c.args.n c.requires.chunk c.requires.whole c.requires.least c.requires.room)
 
 pub returns-clause-state : goal.returns-clause-state

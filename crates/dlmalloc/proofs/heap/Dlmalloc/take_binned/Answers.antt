@@ -14,7 +14,7 @@ pub cut_chunk-requires-clause-sound : goal.cut_chunk-requires-clause-sound
 cut_chunk-requires-clause-sound g c = c.unbin_fit.ensures.same.sound
 
 pub cut_chunk-requires-clause-chunk : goal.cut_chunk-requires-clause-chunk
-cut_chunk-requires-clause-chunk g c = ap (λ (s : HeapState). extent_at c.args.at (extents_in s)) c.unbin_fit.ensures.same.state ∙ c.requires.chunk
+cut_chunk-requires-clause-chunk g c = ap (λ s. extent_at c.args.at (extents_in s)) c.unbin_fit.ensures.same.state ∙ c.requires.chunk
 
 pub unbin_fit-requires-clause-member : goal.unbin_fit-requires-clause-member
 unbin_fit-requires-clause-member g c = (c.args.n, c.requires.member)
@@ -35,8 +35,8 @@ returns-then-rest-lt-LEAST_CHUNK g c =
     let left = one.loose [] b (λ none. none) in
     (whole_taken c.index_stays.ensures one.same.sound c.args.size c.args.n e.moved e.state e.free e.bins (λ is. c.requires.other (is ∙ ap (λ h. h.victim) one.same.fields)) left.0 (omega arith), order_less b.index left.0.index (lessened_as c.args.size c.args.at b.index left.0.index left.1)) in
     record {
-      state = e.state ∙ ap (λ (s : HeapState). taken s (extent c.args.at c.args.size Free) c.args.n) one.same.state;
-      more = subst (λ (s : HeapState). HasOneMore s (state_of word new) c.args.at) one.same.state e.more;
+      state = e.state ∙ ap (λ s. taken s (extent c.args.at c.args.size Free) c.args.n) one.same.state;
+      more = subst (λ s. HasOneMore s (state_of word new) c.args.at) one.same.state e.more;
       moved = turned regions word g.A.Links.follows g.A.Links.follows_on one.same e.moved (not_rebinned g.A.Links.follows e.moved.sound (g.A.Links.follows_none new.system));
       linked = (order c.requires.linked).0;
       order = order;
@@ -54,8 +54,8 @@ bin_some-requires-clause-free g c = λ some.
     let e = c.cut_chunk.ensures in
     let at = ap (λ h. h.victim) same.fields in
     let size = ap (λ h. h.victim_size) same.fields in
-    subst (λ (v : ℕ). extent_at v (extents_in (state_of g.A.Links.word c.cut_chunk.new.self)) ≡ Some (extent v c.args.self.now.victim_size Free)) at
-    (subst (λ (n : ℕ). extent_at c.unbin_fit.new.self.victim (extents_in (state_of g.A.Links.word c.cut_chunk.new.self)) ≡ Some (extent c.unbin_fit.new.self.victim n Free)) size
+    subst (λ v. extent_at v (extents_in (state_of g.A.Links.word c.cut_chunk.new.self)) ≡ Some (extent v c.args.self.now.victim_size Free)) at
+    (subst (λ n. extent_at c.unbin_fit.new.self.victim (extents_in (state_of g.A.Links.word c.cut_chunk.new.self)) ≡ Some (extent c.unbin_fit.new.self.victim n Free)) size
     (old_victim_free c.index_stays.ensures same.sound e.moved e.bins c.args.at (c.args.at + c.args.n) e.free (λ is. c.requires.other (is ∙ at)) (λ none. some (sym size ∙ none))))
 
 pub bin_some-requires-clause-none : goal.bin_some-requires-clause-none
@@ -65,7 +65,7 @@ bin_some-requires-clause-none g c = λ none n free.
     let at = ap (λ h. h.victim) same.fields in
     let size = ap (λ h. h.victim_size) same.fields in
     old_victim_none c.index_stays.ensures same.sound e.moved e.bins c.args.at (c.args.at + c.args.n) (size ∙ none) n
-    (subst (λ (v : ℕ). extent_at v (extents_in (state_of g.A.Links.word c.cut_chunk.new.self)) ≡ Some (extent v n Free)) (sym at) free)
+    (subst (λ v. extent_at v (extents_in (state_of g.A.Links.word c.cut_chunk.new.self)) ≡ Some (extent v n Free)) (sym at) free)
 
 pub bin_some-requires-clause-other : goal.bin_some-requires-clause-other
 bin_some-requires-clause-other g c = λ some is.
@@ -110,8 +110,8 @@ returns-then-n-lt-LEAST_LARGE g c =
     let after = last.binned [] loose (λ none. none) in
     (after.0, in_order c.args.self.now.victim_size c.args.self.now.victim b.index left.0.index after.0.index (lessened_as c.args.size c.args.at b.index left.0.index left.1) after.1 (λ is. b.holds.no_victim c.args.self.now.victim c.args.self.now.victim_size is refl)) in
     record {
-      state = last.same.state ∙ (e.state ∙ ap (λ (s : HeapState). taken s (extent c.args.at c.args.size Free) c.args.n) one.same.state);
-      more = subst (λ (s : HeapState). HasOneMore (state_of word c.args.self.now) s c.args.at) (sym last.same.state) (subst (λ (s : HeapState). HasOneMore s (state_of word cut) c.args.at) one.same.state e.more);
+      state = last.same.state ∙ (e.state ∙ ap (λ s. taken s (extent c.args.at c.args.size Free) c.args.n) one.same.state);
+      more = subst (λ s. HasOneMore (state_of word c.args.self.now) s c.args.at) (sym last.same.state) (subst (λ s. HasOneMore s (state_of word cut) c.args.at) one.same.state e.more);
       moved = turned regions word g.A.Links.follows g.A.Links.follows_on one.same e.moved last.same;
       linked = (order c.requires.linked).0;
       order = order;
@@ -172,11 +172,11 @@ returns g c =
     let new_one = rest_came c.index_stays.ensures one.same.sound c.args.size c.args.n e.moved e.state e.free e.bins other (omega arith) in (
       after.0,
       in_order (c.args.size - c.args.n) rest b.index left.0.index after.0.index (lessened_as c.args.size c.args.at b.index left.0.index left.1) (added_as (c.args.size - c.args.n) rest left.0.index after.0.index after.1)
-          (λ is. new_one (c.args.size - c.args.n) (subst (λ (s : HeapState). IsFreeAt s rest (c.args.size - c.args.n)) (sym one.same.state) (b.holds.free rest (c.args.size - c.args.n) is)) (let least = c.requires.least in omega arith)),
+          (λ is. new_one (c.args.size - c.args.n) (subst (λ s. IsFreeAt s rest (c.args.size - c.args.n)) (sym one.same.state) (b.holds.free rest (c.args.size - c.args.n) is)) (let least = c.requires.least in omega arith)),
     ) in
     record {
-      state = last.same.state ∙ (e.state ∙ ap (λ (s : HeapState). taken s (extent c.args.at c.args.size Free) c.args.n) one.same.state);
-      more = subst (λ (s : HeapState). HasOneMore (state_of word c.args.self.now) s c.args.at) (sym last.same.state) (subst (λ (s : HeapState). HasOneMore s (state_of word cut) c.args.at) one.same.state e.more);
+      state = last.same.state ∙ (e.state ∙ ap (λ s. taken s (extent c.args.at c.args.size Free) c.args.n) one.same.state);
+      more = subst (λ s. HasOneMore (state_of word c.args.self.now) s c.args.at) (sym last.same.state) (subst (λ s. HasOneMore s (state_of word cut) c.args.at) one.same.state e.more);
       moved = turned regions word g.A.Links.follows g.A.Links.follows_on one.same e.moved last.same;
       linked = (order c.requires.linked).0;
       order = order;

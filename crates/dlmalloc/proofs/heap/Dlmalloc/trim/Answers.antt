@@ -39,12 +39,12 @@ returns-clause-trimmed g c =
     let none = c.if-released-gt0.false in
     let test : nat_lt 0 c.release_unused_segments-released.result ≡ false = grind (arith, nat_tests) in
     let given : (c.trim_top-is_cut.result || nat_lt 0 c.release_unused_segments-released.result) ≡ false = rw (first, test) refl in
-    subst (λ (h : Dlmalloc _). IsTrimmed g.A.Links.regions g.A.Links.word g.A.Links.follows (g.A.Allocator.frees heap.system) (g.A.Allocator.parts heap.system) (g.A.Allocator.unit heap.system) heap c.args.pad false h) (sym c.give_up.ensures)
+    subst (λ h. IsTrimmed g.A.Links.regions g.A.Links.word g.A.Links.follows (g.A.Allocator.frees heap.system) (g.A.Allocator.parts heap.system) (g.A.Allocator.unit heap.system) heap c.args.pad false h) (sym c.give_up.ensures)
     (trim_gave_up g.A.Allocator.zeros g.A.Allocator.frees g.A.Allocator.parts g.A.Allocator.unit g.met.A.Allocator.fixed g.A.Links.follows_on
     some small c.trim_top-is_cut.ensures.cut c.trim_top-is_cut.ensures.there c.release_unused_segments-released.ensures.passed c.trim_top-is_cut.ensures.answer c.trim_top-is_cut.ensures.index given)
 
 pub returns-clause-linked : goal.returns-clause-linked
-returns-clause-linked g c = subst (λ (h : Dlmalloc _). IsBinned g.A.Links.regions g.A.Links.word h) (sym c.give_up.ensures)
+returns-clause-linked g c = subst (λ h. IsBinned g.A.Links.regions g.A.Links.word h) (sym c.give_up.ensures)
     (same_check
     (if nat_lt c.release_unused_segments-released.new.self.trim_check c.release_unused_segments-released.new.self.top_size then 2 ^ 64 - 1 else c.release_unused_segments-released.new.self.trim_check)
     c.release_unused_segments-released.ensures.linked)

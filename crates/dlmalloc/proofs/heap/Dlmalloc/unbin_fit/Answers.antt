@@ -9,7 +9,7 @@ unlink_fit-requires g c =
     let r = c.requires.binned in
     let fit = c.requires.member.1 r.1.index r.1.linked in
     let size = one_size (state_of g.A.Links.word c.args.self.now) (r.1.holds.free c.args.at fit.size fit.binned) c.requires.free in
-    let oldest = subst (λ (n : ℕ). 256 ≤ n → c.args.at ≡ first_or 0 (r.1.index n)) size fit.oldest in
+    let oldest = subst (λ n. 256 ≤ n → c.args.at ≡ first_or 0 (r.1.index n)) size fit.oldest in
     record { linked = (r.1.index, r.1.linked, is_binned c.requires.sound c.requires.free r.1 c.requires.other r.2, oldest) }
 
 pub returns-clause-loose : goal.returns-clause-loose
