@@ -29,7 +29,7 @@ module _ {A : Type 0} (regions : A → List Grant) (word : A → ℕ → ℕ) (h
       let place : aligned_place (address - 16) align ≡ address - 16 = (let test : ((address - 16 + 16) % align == 0) ≡ true = (let h = here in grind (arith, nat_tests)) in rw test refl) in (
         address - 16,
         subst (λ m. IsMember regions word heap (padded m) (address - 16)) (sym same) (member fit (subst (λ m. chosen (state_of word heap) (padded m) ≡ Some (OfBins fit)) same is)),
-        (let p = place in omega (arith, low, p)),
+        (let p = place in omega arith),
       )
 
   -- above it, at the aligned place in it

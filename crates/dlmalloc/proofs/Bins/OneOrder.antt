@@ -48,8 +48,8 @@ came_unique [] [] a b to from = refl
 came_unique [] (second ∷ two) a b to from = absurd (from second (inl refl))
 came_unique (first ∷ one) [] a b to from = absurd (to first (inl refl))
 came_unique (first ∷ []) (second ∷ []) a b to from = elim (to first (inl refl)) [ inl same ↦ ap (λ k. k ∷ []) same | inr none ↦ absurd none ]
-came_unique (first ∷ []) (second ∷ third ∷ two) a b to from = absurd (omega (arith, b))
-came_unique (first ∷ third ∷ one) (second ∷ two) a b to from = absurd (omega (arith, a))
+came_unique (first ∷ []) (second ∷ third ∷ two) a b to from = absurd (omega arith)
+came_unique (first ∷ third ∷ one) (second ∷ two) a b to from = absurd (omega arith)
 
 pub one_order : (old one two : List ℕ) → AreDistinct old → IsInOrder old one → IsInOrder old two → ((k : ℕ) → IsIn k one → IsIn k two) → ((k : ℕ) → IsIn k two → IsIn k one) → one ≡ two
 one_order old one two distinct a b to from =

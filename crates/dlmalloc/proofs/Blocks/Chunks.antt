@@ -19,9 +19,9 @@ module _ {A : Type 0} (regions : A → List Grant) (word : A → ℕ → ℕ) (h
 
   pub block_placed : IsPlaced (regions heap.system) ptr size
   block_placed = record {
-    aligned = omega (arith, place, block.low, inside.whole);
-    granted = λ k low high. inside.granted k (omega (arith, place, block.low, low)) (omega (arith, place, block.low, block.holds, inside.long, high));
-    small = omega (arith, place, block.low, block.holds, inside.long, inside.high);
+    aligned = omega (arith, place, inside.whole);
+    granted = λ k low high. inside.granted k (omega (arith, place)) (omega (arith, place, inside.long));
+    small = omega (arith, place, inside.long, inside.high);
   }
 
   pub block_head : HasHead (regions heap.system) (ptr - 16)
@@ -37,7 +37,7 @@ module _ {A : Type 0} (regions : A → List Grant) (word : A → ℕ → ℕ) (h
       let l = located block.extent.at (segments_of word heap) there in
       let p = of_located (IsSegment (regions heap.system) (word heap.system)) l sound.segments in
       let s = standing (word heap.system) Used l.segment.base l.segment.extents (l.segment.base + l.segment.size) p.extents p.tail l.there block.used in
-      let sizes : told ≡ block.extent.size = is ∙ (ap (λ a. size_of (word heap.system (a + 8))) (sym place) ∙ (ap size_of s.head ∙ size_of-head_of block.extent.size s.before true (omega (arith, s.size_whole)))) in
+      let sizes : told ≡ block.extent.size = is ∙ (ap (λ a. size_of (word heap.system (a + 8))) (sym place) ∙ (ap size_of s.head ∙ size_of-head_of block.extent.size s.before true (omega arith))) in
       block.there ∙ (λ i. Some (same_extent {at = block.extent.at} {at' = ptr - 16} {size = block.extent.size} {size' = told} {kind = block.extent.kind} {kind' = Used} place (sym sizes) block.used i))
 
 -- a block was freed

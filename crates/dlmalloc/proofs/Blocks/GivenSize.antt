@@ -49,10 +49,10 @@ module _ {A : Type 0} (regions : A → List Grant) (word : A → ℕ → ℕ) (h
 
   -- a block lies in granted bytes, at a multiple of 16
   pub whole : address % 16 ≡ 0
-  whole = omega (arith, place, block.low, inside.whole)
+  whole = omega (arith, place, inside.whole)
 
   pub bytes_granted : (k : ℕ) → address ≤ k → k < address + max size 1 → IsTrue (is_granted (regions heap.system) k)
-  bytes_granted k low high = inside.granted k (omega (arith, place, block.low, low)) (omega (arith, place, block.low, block.holds, inside.long, high))
+  bytes_granted k low high = inside.granted k (omega (arith, place)) (omega (arith, place, inside.long))
 
 -- ---- a block with another size
 
@@ -119,7 +119,7 @@ module _ {A : Type 0} {regions : A → List Grant} {word : A → ℕ → ℕ} (z
       ];
       between = out.same.sound;
       still = still_granted sound power block out;
-      here = λ same. absurd (handed.more.new block.extent block.used there_before (omega (arith, place_before, same)));
+      here = λ same. absurd (handed.more.new block.extent block.used there_before (omega (arith, place_before)));
       elsewhere = λ differs. out.freed;
       granularity = out.freed.granularity ∙ (ap (λ h. h.granularity) out.same.state ∙ handed.granularity);
       small = handed.small;
@@ -165,10 +165,10 @@ handed_written {regions} {word} on {old} middle {new} {size} {address} handed sa
   kept = record {
     words = λ other there used k low high m.
         let inside = used_inside regions word middle handed.sound other used (handed.more.kept other used there) in
-        elsewhere k (record { granted = inside.granted k (omega (arith, low)) (omega (arith, high)); aligned = m }) (beside other used there k (omega (arith, low)) high) ∙ handed.kept.words other there used k low high m;
+        elsewhere k (record { granted = inside.granted k (omega arith) (omega arith); aligned = m }) (beside other used there k (omega arith) high) ∙ handed.kept.words other there used k low high m;
     heads = λ other there used.
         let inside = used_inside regions word middle handed.sound other used (handed.more.kept other used there) in
-        ap (λ w. w / 2) (elsewhere (other.at + 8) (record { granted = inside.granted (other.at + 8) (omega arith) (omega (arith, inside.long)); aligned = omega (arith, inside.whole) }) (beside other used there (other.at + 8) (omega arith) (omega (arith, inside.long))))
+        ap (λ w. w / 2) (elsewhere (other.at + 8) (record { granted = inside.granted (other.at + 8) (omega arith) (omega arith); aligned = omega arith }) (beside other used there (other.at + 8) (omega arith) (omega arith)))
         ∙ handed.kept.heads other there used;
   };
   sound = same.sound;
@@ -185,6 +185,6 @@ handed_written {regions} {word} on {old} middle {new} {size} {address} handed sa
         let holds = handed.block.holds in
         let size_whole = (used_inside regions word middle handed.sound handed.block.extent handed.block.used cut_there).size_whole in
         elim (used_apart regions word middle handed.sound other handed.block.extent (handed.more.kept other used there) cut_there (λ same. handed.more.new other used there (same ∙ cut_place))) [
-          | inl before ↦ inl (omega (arith, cut_place, handed.low, high, before))
-          | inr behind ↦ inr (omega (arith, cut_place, handed.low, holds, size_whole, low, behind))
+          | inl before ↦ inl (omega (arith, cut_place))
+          | inr behind ↦ inr (omega (arith, cut_place))
         ]

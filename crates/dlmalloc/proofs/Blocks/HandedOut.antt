@@ -72,9 +72,9 @@ low_multiple align address power few whole = subst (λ a. address % a ≡ 0) (sy
 
     go : (k : ℕ) → k ≤ 4 → address % 2 ^ k ≡ 0
     go zero less = omega arith
-    go (suc zero) less = omega (arith, whole)
-    go (suc (suc zero)) less = omega (arith, whole)
-    go (suc (suc (suc zero))) less = omega (arith, whole)
+    go (suc zero) less = omega arith
+    go (suc (suc zero)) less = omega arith
+    go (suc (suc (suc zero))) less = omega arith
     go (suc (suc (suc (suc zero)))) less = whole
     go (suc (suc (suc (suc (suc k))))) less = absurd (omega arith)
 

@@ -15,14 +15,14 @@ module _ {A : Type 0} {regions : A → List Grant} {word : A → ℕ → ℕ} {h
   inside = used_inside regions word heap sound block.extent block.used there
 
   fits : (n : ℕ) → n ≤ size → 8 * words_in n + 8 ≤ block.extent.size
-  fits n less = omega (arith, block.holds, inside.size_whole, less)
+  fits n less = omega (arith, inside.size_whole)
 
   -- the words that hold its first bytes
   pub block_words : (n : ℕ) → n ≤ size → AreWordsOf (regions heap.system) address (words_in n)
   block_words n less = record {
-    granted = λ k low high. inside.granted k (omega (arith, place, block.low, low)) (omega (arith, place, block.low, fits n less, high));
-    aligned = omega (arith, place, block.low, inside.whole);
-    small = omega (arith, place, block.low, fits n less, inside.high);
+    granted = λ k low high. inside.granted k (omega (arith, place)) (omega (arith, place, fits n less));
+    aligned = omega (arith, place, inside.whole);
+    small = omega (arith, place, fits n less, inside.high);
   }
 
   -- where they alone change, words of blocks alone do
@@ -30,8 +30,8 @@ module _ {A : Type 0} {regions : A → List Grant} {word : A → ℕ → ℕ} {h
       OnlyBlocksChange (regions heap.system) (state_of word heap) (word heap.system) new
   only_block n less new elsewhere k is within apart =
       elsewhere k is (elim (apart block.extent block.used there) [
-        | inl before ↦ inl (omega (arith, place, block.low, before))
-        | inr behind ↦ inr (omega (arith, place, block.low, fits n less, behind))
+        | inl before ↦ inl (omega (arith, place))
+        | inr behind ↦ inr (omega (arith, place, fits n less))
       ])
 
   pub same_heap : (follows : A → List Event → A → Type 0) (n : ℕ) → n ≤ size → (system : A) → regions system ≡ regions heap.system → follows heap.system [] system →

@@ -63,8 +63,8 @@ pub no_record : (regions : List Grant) (words : ℕ → ℕ) (segments : List Se
     extent_at tail.at (extents_all segments) ≡ Some tail → tail.kind ≡ Record → (k : ℕ) → block.at ≤ k → k < block.at + block.size + 8 → k % 8 ≡ 0 → tail.at < k → k < tail.at + tail.size → ⊥
 no_record regions words segments parts apart {block} {tail} there used tail_there is k low high m above below =
     elim (beside regions words segments parts apart there tail_there differ) [
-      | inl before ↦ omega (arith, before, high, m, above, whole)
-      | inr behind ↦ omega (arith, behind, low, below)
+      | inl before ↦ omega (arith, whole)
+      | inr behind ↦ omega arith
     ]
   where
     differ : block.at ≡ tail.at → ⊥
@@ -103,9 +103,9 @@ kept_in_tags {regions} {word} granted before old {new} sound same block there us
     same k is was
     (λ own. elim own [
       | inl boundary ↦ no_boundary k boundary.extent.kind boundary.extent.at boundary.extent.size (spared_found (extents_in (state_of word new)) k boundary.extent.at spared boundary.there) boundary.is
-      | inr free ↦ not_in_free sound there used k (omega (arith, low)) high free
+      | inr free ↦ not_in_free sound there used k (omega arith) high free
     ])
-    (λ recorded. no_record (regions new.system) (word new.system) (segments_of word new) sound.segments sound.apart there used recorded.there recorded.is k (omega (arith, low)) high is.aligned recorded.low recorded.high)
+    (λ recorded. no_record (regions new.system) (word new.system) (segments_of word new) sound.segments sound.apart there used recorded.there recorded.is k (omega arith) high is.aligned recorded.low recorded.high)
 
 pub kept_in : {A : Type 0} (regions : A → List Grant) (word : A → ℕ → ℕ) (old : Dlmalloc A) {new : Dlmalloc A} → IsSound regions word new →
     OnlyOwnChange (regions old.system) (state_of word old) (state_of word new) (word old.system) (word new.system) → (block : Extent) → extent_at block.at (extents_in (state_of word new)) ≡ Some block → block.kind ≡ Used →
@@ -119,7 +119,7 @@ module _ {A : Type 0} {regions : A → List Grant} {word : A → ℕ → ℕ} {o
   blocks_kept : ((block : Extent) → extent_at block.at blocks ≡ Some block → block.kind ≡ Used → (k : ℕ) → block.at + 16 ≤ k → k < block.at + block.size + 8 → IsTrue (is_granted granted k)) → KeepsBlocks blocks (word old.system) (word new.system)
   blocks_kept inside = record {
     words = λ block there used k low high m. kept_in_tags granted (state_of word old) (word old.system) sound' same block (both block there used).1 used k low high (record { granted = inside block there used k low high; aligned = m })
-        (not_in_free sound (both block there used).0 used k (omega (arith, low)) high);
+        (not_in_free sound (both block there used).0 used k (omega arith) high);
     heads = λ block there used.
         let b = both block there used in
         let l = located block.at (segments_of word old) b.0 in

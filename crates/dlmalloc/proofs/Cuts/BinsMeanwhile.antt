@@ -87,7 +87,7 @@ module _ (stays : IndexStays) {A : Type 0} {regions : A → List Grant} {word : 
   rest_no_victim moves other same some is = go (old.victim_size == 0) refl
     where
       go : (t : Bool) → (old.victim_size == 0) ≡ t → ⊥
-      go true test = (let zero = sound.no_victim (nat_is test) in let sum : rest ≡ 0 = is ∙ (same ∙ zero) in omega (arith, sum, some))
+      go true test = (let zero = sound.no_victim (nat_is test) in let sum : rest ≡ 0 = is ∙ (same ∙ zero) in omega arith)
       go false test = rest_other new sound moves rest (inl refl)
           (sound.victim (λ none. (let t : (old.victim_size == 0) ≡ true = (let e = none in grind (arith, nat_tests)) in cc))) other (is ∙ same)
 
@@ -189,7 +189,7 @@ module _ (stays : IndexStays) {A : Type 0} {regions : A → List Grant} {word : 
       large_taken many = binned_rest stays sound moved bins at (at + n) parts (victim_is ∙ victim_of_large (state_of word old) at size n other room many)
 
       pub large_other : 256 ≤ n → at + n ≢ new.victim
-      large_other many = rest_no_victim stays sound moved bins at (at + n) parts other (victim_is ∙ victim_of_large (state_of word old) at size n other room many) (omega (arith, many))
+      large_other many = rest_no_victim stays sound moved bins at (at + n) parts other (victim_is ∙ victim_of_large (state_of word old) at size n other room many) (omega arith)
 
 -- ---- a chunk takes the free one behind it, or bytes of it
 

@@ -112,7 +112,7 @@ module _ {A : Type 0} {regions : A → List Grant} {word : A → ℕ → ℕ} {h
   top_size_is = go (segments_of word heap) sound.segments sound.told
     where
       go : (segments : List Segment) → AreSegments (regions heap.system) (word heap.system) segments → AreTold (word heap.system) heap segments → size_where (λ extent. is_top extent.kind) (extents_all segments) ≡ heap.top_size
-      go [] parts h = absurd (omega (arith, some, h))
+      go [] parts h = absurd (omega arith)
       go (segment ∷ segments) parts h =
           let t = top_tail parts.0 h.4 in
           let chunks = t.run.chunks in

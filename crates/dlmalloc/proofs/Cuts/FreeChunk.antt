@@ -122,7 +122,7 @@ module _ {A : Type 0} {regions : A → List Grant} {word : A → ℕ → ℕ} {h
           let first : (at == at + n) ≡ false = nat_isnt (inl (omega arith)) in
           let second : (at + n == at + n) ≡ true = nat_same (at + n) in
           found_new sound (split_step (at + n) (size - n)) (at + n) (extent (at + n) (size - n) Free) (rw (first, second) refl))
-          (λ none. absurd (omega (arith, none))) (left why)
+          (λ none. absurd (omega arith)) (left why)
         where
           left : (at ≡ heap.victim) ⊎ (n < 256) → at + n ≡ victim_after (state_of word heap) n chunk
           left (inl is) = let test : (at == heap.victim) ≡ true = (let e = is in grind (arith, nat_tests)) in rw (test, has_rest) refl
@@ -198,7 +198,7 @@ module _ {A : Type 0} {regions : A → List Grant} {word : A → ℕ → ℕ} {h
           (ap (λ es. run.front ++ with_extents run.segment (run.first ++ (extent at size Used ∷ es)) ∷ run.back) (sym next.is)) (rw no_rest refl)
           (extent at size Used) refl (record { front = []; back = used_of (next.next ∷ []); fewer = refl; further = refl }) named none left
           (subst (λ b. FreeMoves (state_of word heap) (state_of word (after victim victim_size)) (at ∷ []) (if b then (at + n) ∷ [] else [])) (sym no_rest) whole_free)
-          (λ more. absurd (omega (arith, more, small)))
+          (λ more. absurd (omega arith))
         where
           next_kind : (next.next.kind ≡ Used) ⊎ (next.next.kind ≡ Record)
           next_kind = behind_free next.next.kind (behind (regions heap.system) sound.segments run next).1.kind
@@ -265,15 +265,15 @@ module _ {A : Type 0} {regions : A → List Grant} {word : A → ℕ → ℕ} {h
   pub head_there : (k : ℕ) → at ≤ k → k ≤ at + size → k % 8 ≡ 0 → HasHead (regions heap.system) k
   head_there k low high m = record {
     aligned = m;
-    small = omega (arith, end_small, high);
-    granted = run_word (regions heap.system) sound.segments run (k + 8) (omega (arith, low_room, low)) (omega (arith, head_room, high)) (omega (arith, m));
+    small = omega (arith, end_small);
+    granted = run_word (regions heap.system) sound.segments run (k + 8) (omega (arith, low_room)) (omega (arith, head_room)) (omega arith);
   }
 
   pub foot_there : (k : ℕ) → at ≤ k → k ≤ at + size → k % 8 ≡ 0 → HasFoot (regions heap.system) k
   foot_there k low high m = record {
     aligned = m;
-    small = omega (arith, end_small, high);
-    granted = run_word (regions heap.system) sound.segments run k (omega (arith, low_room, low)) (omega (arith, head_room, high)) m;
+    small = omega (arith, end_small);
+    granted = run_word (regions heap.system) sound.segments run k (omega (arith, low_room)) (omega (arith, head_room)) m;
   }
 
   -- the stores of two calls, as one

@@ -41,7 +41,7 @@ told_whole Free size h = let w = h.0 in omega arith
 told_whole Victim size h = let w = h.0 in omega arith
 told_whole Top size h = let w = h.0 in omega arith
 told_whole Record size h = refl
-told_whole Foot size h = omega (arith, h)
+told_whole Foot size h = omega arith
 
 -- a word that an extent spares is not its head
 pub no_head : (k : ℕ) (kind : Kind) (at size : ℕ) → IsSize kind size → IsSpared k kind at size → k ≢ at + 8

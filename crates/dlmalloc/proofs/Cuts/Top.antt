@@ -37,7 +37,7 @@ module _ {A : Type 0} {regions : A → List Grant} {word : A → ℕ → ℕ} {h
   high = tiles_le (word heap.system) Top (heap.top + heap.top_size) run.last (run.segment.base + run.segment.size) run.last_stand
 
   room : n + 16 ≤ heap.top_size
-  room = omega (arith, multiple, fits, stands.size.0)
+  room = omega (arith, stands.size.0)
 
   pub end_small : heap.top + heap.top_size < 2 ^ 64
   end_small = omega (arith, high, (run_part (regions heap.system) sound.segments run).high)
@@ -48,15 +48,15 @@ module _ {A : Type 0} {regions : A → List Grant} {word : A → ℕ → ℕ} {h
   pub head_there : (k : ℕ) → heap.top ≤ k → k + 16 ≤ heap.top + heap.top_size → k % 8 ≡ 0 → HasHead (regions heap.system) k
   head_there k above below m = record {
     aligned = m;
-    small = omega (arith, end_small, below);
-    granted = run_word (regions heap.system) sound.segments run (k + 8) (omega (arith, low, above)) (omega (arith, high, below)) (omega (arith, m));
+    small = omega (arith, end_small);
+    granted = run_word (regions heap.system) sound.segments run (k + 8) (omega (arith, low)) (omega (arith, high)) (omega arith);
   }
 
   pub top_head : HasHead (regions heap.system) heap.top
   top_head = head_there heap.top (omega arith) (omega (arith, room)) (omega (arith, stands.whole))
 
   pub rest_head : HasHead (regions heap.system) (heap.top + n)
-  rest_head = head_there (heap.top + n) (omega arith) (omega (arith, room)) (omega (arith, stands.whole, multiple))
+  rest_head = head_there (heap.top + n) (omega arith) (omega (arith, room)) (omega (arith, stands.whole))
 
   module _ (system : A) (same : regions system ≡ regions heap.system)
       (stored : AreStored (regions heap.system) (word heap.system) ((heap.top + 8, head_of n true true) ∷ (heap.top + n + 8, heap.top_size - n + 1) ∷ []) (word system)) where

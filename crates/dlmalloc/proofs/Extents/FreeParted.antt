@@ -124,7 +124,7 @@ module _ {regions : List Grant} {words : ℕ → ℕ} {segment : Segment} (part 
               let none = none_behind words one.kind (segment.base + one.size) back (segment.base + segment.size) (ap ends_segment same) h.2 in
               let end = subst (λ es. Tiles words one.kind (segment.base + one.size) es (segment.base + segment.size)) none h.2 in
               let long = part.long in
-              elim (subst (λ kind. IsSize kind one.size) same size) [ inl short ↦ omega (arith, end) | inr longer ↦ omega (arith, end) ])
+              elim (subst (λ kind. IsSize kind one.size) same size) [ inl short ↦ omega arith | inr longer ↦ omega arith ])
           by_kind Foot same may size = absurd (let no = subst (MayStand Used) same may in cc)
 
   one_free : {kind : Kind} → bare.one.kind ≡ kind → HasOneFree kind segment.extents

@@ -56,7 +56,7 @@ told {words} {before} {chunk} is h =
 pub chunks_read : (words : ℕ → ℕ) (before : Kind) (most at : ℕ) (chunks : List Extent) (end : ℕ) → end ≤ at + 16 * most → Tiles words before at chunks end → AreChunks chunks → chunks_from words most at end ≡ chunks
 unfolding chunks_from
 chunks_read words before zero at [] end few h are = refl
-chunks_read words before (suc most) at [] end few h are = rw (le-ltb at end (omega (arith, h))) refl
+chunks_read words before (suc most) at [] end few h are = rw (le-ltb at end (omega arith)) refl
 chunks_read words before zero at (chunk ∷ chunks) end few h are =
     absurd (let rest = tiles_le words chunk.kind (at + chunk.size) chunks end h.2 in let long = (sized chunk.kind chunk.size h.1.size).1 in omega arith)
 chunks_read words before (suc most) at (chunk ∷ chunks) end few h are =
@@ -143,13 +143,13 @@ pub records_read : (regions : List Grant) (words : ℕ → ℕ) (most payload : 
 unfolding records_from
 records_read regions words zero payload [] few parts h = refl
 records_read regions words (suc most) payload [] few parts h = (let none : (payload == 0) ≡ true = grind (arith, nat_tests) in rw none refl)
-records_read regions words zero payload (segment ∷ segments) few parts h = absurd (omega (arith, few))
+records_read regions words zero payload (segment ∷ segments) few parts h = absurd (omega arith)
 records_read regions words (suc most) payload (segment ∷ segments) few parts h =
     let some : (payload == 0) ≡ false = nat_isnt (inr (let l = h.0 in omega arith)) in
     let extents = read_record parts.0 (payload - 16) h.4 in
     let whole : chunks_from words (words (payload + 8) / 16) (words payload) (payload - 16) ++ record_of (payload - 16) (words payload + words (payload + 8)) ∷ [] ≡ segment.extents =
     (λ i. chunks_from words (h.2 i / 16) (h.1 i) (payload - 16) ++ record_of (payload - 16) (h.1 i + h.2 i) ∷ []) ∙ extents in
-    rw some (λ i. (record { base = h.1 i; size = h.2 i; flags = h.3 i; extents = whole i }) ∷ records_read regions words most (words (payload + 16)) segments (omega (arith, few)) parts.1 h.5 i)
+    rw some (λ i. (record { base = h.1 i; size = h.2 i; flags = h.3 i; extents = whole i }) ∷ records_read regions words most (words (payload + 16)) segments (omega arith) parts.1 h.5 i)
 
 -- they are no more than are looked for
 pub records_few : (words : ℕ → ℕ) (most payload : ℕ) → length (records_from words most payload) ≤ most

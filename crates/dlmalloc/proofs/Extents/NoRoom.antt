@@ -90,7 +90,7 @@ module _ (words : ℕ → ℕ) (n from : ℕ) where
 
   meets_one : (before : Kind) (at : ℕ) (extents : List Extent) (end : ℕ) → Tiles words before at extents end → AreDistinct extents → at ≤ from + 63 + further before →
       ((one : Extent) → extent_at one.at extents ≡ Some one → (one.kind ≡ Free) ⊎ (one.kind ≡ Top) → one.size ≤ n) → Outcome extents end
-  meets_one before at [] end h distinct near short = inr (let most = last_near before in omega (arith, h))
+  meets_one before at [] end h distinct near short = inr (let most = last_near before in omega arith)
   meets_one before at (first ∷ extents) end h distinct near short =
       by_kind first.kind refl h.1.kind h.1.size (λ near. meets_one first.kind (at + first.size) extents end h.2 distinct.1 near
       (λ other there. short other (distinct_later (first ∷ []) extents other.at distinct there)))

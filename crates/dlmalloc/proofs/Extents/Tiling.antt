@@ -8,11 +8,11 @@ sized Free size h = (h.0, (let l = h.1 in omega arith))
 sized Victim size h = (h.0, (let l = h.1 in omega arith))
 sized Top size h = h
 sized Record size h = elim h [ inl short ↦ (omega arith, omega arith) | inr long ↦ (omega arith, omega arith) ]
-sized Foot size h = (omega (arith, h), omega (arith, h))
+sized Foot size h = (omega arith, omega arith)
 
 -- extents end behind their beginning
 pub tiles_le : (words : ℕ → ℕ) (before : Kind) (at : ℕ) (extents : List Extent) (end : ℕ) → Tiles words before at extents end → at ≤ end
-tiles_le words before at [] end h = omega (arith, h)
+tiles_le words before at [] end h = omega arith
 tiles_le words before at (extent ∷ extents) end h = let rest = tiles_le words extent.kind (at + extent.size) extents end h.2 in omega arith
 
 -- ---- one list behind another

@@ -129,7 +129,7 @@ pub top_among : {A : Type 0} {regions : A → List Grant} {word : A → ℕ → 
 top_among {word} {heap} sound some = go (segments_of word heap) sound.told
   where
     go : (segments : List Segment) → AreTold (word heap.system) heap segments → extent_at heap.top (extents_all segments) ≡ Some (extent heap.top heap.top_size Top)
-    go [] h = absurd (omega (arith, some, h))
+    go [] h = absurd (omega arith)
     go (segment ∷ segments) h = found_more heap.top segment.extents (extents_all segments) h.4
 
 -- and so is its foot
@@ -137,6 +137,6 @@ pub foot_among : {A : Type 0} {regions : A → List Grant} {word : A → ℕ →
 foot_among {regions} {word} {heap} sound some = go (segments_of word heap) sound.segments sound.told
   where
     go : (segments : List Segment) → AreSegments (regions heap.system) (word heap.system) segments → AreTold (word heap.system) heap segments → extent_at (heap.top + heap.top_size) (extents_all segments) ≡ Some (extent (heap.top + heap.top_size) 80 Foot)
-    go [] parts h = absurd (omega (arith, some, h))
+    go [] parts h = absurd (omega arith)
     go (segment ∷ segments) parts h = found_more (heap.top + heap.top_size) segment.extents (extents_all segments)
         (foot_there parts.0 h.4)

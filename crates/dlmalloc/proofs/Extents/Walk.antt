@@ -13,12 +13,12 @@ pub run_read : {regions : List Grant} {words : ℕ → ℕ} {from to : ℕ} (run
 run_read {words} {from} {to} run = chunks_read words Used (to / 16) from run.chunks to (whole run.chunks run.stand) run.stand run.are
   where
     whole : (chunks : List Extent) → Tiles words Used from chunks to → to ≤ from + 16 * (to / 16)
-    whole [] h = omega (arith, h)
-    whole (chunk ∷ chunks) h = let place = h.0 in let w = h.1.whole in let e = end words chunk.kind (from + chunk.size) chunks to h.2 (omega (arith, place, w, (sized chunk.kind chunk.size h.1.size).0)) in omega arith
+    whole [] h = omega arith
+    whole (chunk ∷ chunks) h = let place = h.0 in let w = h.1.whole in let e = end words chunk.kind (from + chunk.size) chunks to h.2 (omega (arith, (sized chunk.kind chunk.size h.1.size).0)) in omega arith
       where
         end : (words : ℕ → ℕ) (before : Kind) (at : ℕ) (chunks : List Extent) (to : ℕ) → Tiles words before at chunks to → at % 16 ≡ 0 → to % 16 ≡ 0
-        end words before at [] to h w = omega (arith, h, w)
-        end words before at (chunk ∷ chunks) to h w = end words chunk.kind (at + chunk.size) chunks to h.2 (omega (arith, w, (sized chunk.kind chunk.size h.1.size).0))
+        end words before at [] to h w = omega arith
+        end words before at (chunk ∷ chunks) to h w = end words chunk.kind (at + chunk.size) chunks to h.2 (omega (arith, (sized chunk.kind chunk.size h.1.size).0))
 
 -- the chunks of a range up to an address, of which something is known
 pub record Passed (words : ℕ → ℕ) (from to at : ℕ) (known : List Extent → Type 0) : Type 0 where
@@ -42,7 +42,7 @@ pub record Next (words : ℕ → ℕ) (before : Kind) (at : ℕ) (back : List Ex
   pub are : AreChunks rest
 
 next : (words : ℕ → ℕ) (before : Kind) (at : ℕ) (back : List Extent) (to : ℕ) → at < to → Tiles words before at back to → AreChunks back → Next words before at back to
-next words before at [] to more h are = absurd (omega (arith, h))
+next words before at [] to more h are = absurd (omega arith)
 next words before at (chunk ∷ rest) to more h are = record { chunk = chunk; rest = rest; is = refl; place = h.0; stands = h.1; later = h.2; kind = are.0; are = are.1 }
 
 -- nothing is passed at the beginning
@@ -77,8 +77,8 @@ module _ {words : ℕ → ℕ} {from to at : ℕ} {known : List Extent → Type 
   pub head_there : {regions : List Grant} → IsChunkRun regions words from to → HasHead regions at
   head_there run = record {
     aligned = omega (arith, at_whole);
-    small = omega (arith, run.small, more);
-    granted = record { granted = run.granted (at + 8) (omega (arith, at_low)) (omega (arith, more)); aligned = omega (arith, at_whole) };
+    small = omega arith;
+    granted = record { granted = run.granted (at + 8) (omega (arith, at_low)) (omega arith); aligned = omega (arith, at_whole) };
   }
 
   module _ {chunk : Extent} (same : chunk ≡ chunk_told words at) where

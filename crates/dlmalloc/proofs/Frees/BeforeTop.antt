@@ -261,7 +261,7 @@ module _ {A : Type 0} {regions : A → List Grant} {word : A → ℕ → ℕ} {h
               ∙ (ap (λ front. find (has heap.victim) (extents_all (front ++ with_extents run.segment (run.first ++ (more ++ run.last)) ∷ run.back))) head_segment.0
               ∙ (skip heap.victim (run.first ++ (more ++ run.last)) (extents_all run.back) here
               ∙ has_none_beside (regions heap.system) words run.segment run.back (all_back (IsSegment (regions heap.system) words) run.front (run.segment ∷ run.back) (subst (AreSegments (regions heap.system) words) run.is sound.segments)).1
-              (back_apart run.front run.segment run.back (subst AreApart run.is sound.apart)) heap.victim (omega (arith, low, reached)) (omega (arith, high, within))))
+              (back_apart run.front run.segment run.back (subst AreApart run.is sound.apart)) heap.victim (omega (arith, low)) (omega (arith, high))))
 
       -- it stays
       pub as_top_other : (heap.victim < from) ⊎ (at + size ≤ heap.victim) → Topped heap.victim heap.victim_size

@@ -89,8 +89,8 @@ module _ {A : Type 0} {regions : A → List Grant} {word : A → ℕ → ℕ} {h
       go (Some other) same =
           let f = found_by at (extents_all (segments_of word heap)) other (all_distinct (regions heap.system) (word heap.system) (segments_of word heap) sound.segments sound.apart) same in
           absurd (elim (beside (regions heap.system) (word heap.system) (segments_of word heap) sound.segments sound.apart there f.there (differ other f)) [
-            | inl before ↦ (let low : other.at ≤ at = (let h = f.has_it in grind (arith, nat_tests)) in omega (arith, before, low, around.high, place))
-            | inr behind ↦ (let high : at < other.at + other.size = (let h = f.has_it in grind (arith, nat_tests)) in omega (arith, behind, high, around.low, place))
+            | inl before ↦ (let low : other.at ≤ at = (let h = f.has_it in grind (arith, nat_tests)) in omega (arith, place))
+            | inr behind ↦ (let high : at < other.at + other.size = (let h = f.has_it in grind (arith, nat_tests)) in omega (arith, place))
           ])
         where
           differ : (other : Extent) → IsFoundBy at (extents_all (segments_of word heap)) other → one.at ≢ other.at
@@ -106,7 +106,7 @@ module _ {A : Type 0} {regions : A → List Grant} {word : A → ℕ → ℕ} {h
     | inl is ↦ (let same : (from == heap.top) ≡ true = ap (λ n. n == heap.top) (top_place is) ∙ nat_same heap.top in
         ap (λ c. not c && (not (from == heap.victim) && nat_le 256 (size_of (word heap.system (from + 8))))) same ∙ sym (none_plain is))
     | inr is ↦ (let other : (from == heap.top) ≡ false = (let n = not_top is in grind (arith, nat_tests)) in
-        let found = has_in (regions heap.system) (word heap.system) (segments_of word heap) sound.segments sound.apart at there is (omega (arith, around.low, place)) (omega (arith, around.high, place)) in
+        let found = has_in (regions heap.system) (word heap.system) (segments_of word heap) sound.segments sound.apart at there is (omega (arith, place)) (omega (arith, place)) in
         let size : size_of (word heap.system (from + 8)) ≡ one.size = ap (λ a. size_of (word heap.system (a + 8))) (sym place) ∙ ap (λ e. e.size) (told (inr is) is_in.stands) in
         ap (λ c. not c && (not (from == heap.victim) && nat_le 256 (size_of (word heap.system (from + 8))))) other
         ∙ ((λ i. not (sym place i == heap.victim) && nat_le 256 (size i)) ∙ sym (counts_some found is)))

@@ -33,7 +33,7 @@ told_stays word heap sound at size there granted new only k low high inside = on
 
 -- the one extent that is joined, where there is one
 whole_beside : (words : ℕ → ℕ) (before : Kind) (from : ℕ) (extents : List Extent) (to : ℕ) → IsBeside extents → AllFree extents → Tiles words before from extents to → from < to → extent_at from extents ≡ Some (extent from (to - from) Free)
-whole_beside words before from [] to beside free h some = absurd (omega (arith, h, some))
+whole_beside words before from [] to beside free h some = absurd (omega arith)
 whole_beside words before from (one ∷ []) to beside free h some =
     let place : one.at ≡ from = h.0 in
     let long : one.size ≡ to - from = (let end : from + one.size ≡ to = h.2 in omega arith) in
@@ -131,21 +131,21 @@ module _ {A : Type 0} {regions : A → List Grant} {word : A → ℕ → ℕ} {h
         behind_left = elim (dec_lt from at) [
           | yes more ↦ elim (same_or_beside sound (left_free more) free) [
             | inl same ↦ absurd (out (inl (ap (λ e. e.at) same)))
-            | inr beside ↦ elim beside [ inl before ↦ absurd (omega (arith, before, low, long)) | inr after ↦ omega (arith, after, more) ]
+            | inr beside ↦ elim beside [ inl before ↦ absurd (omega (arith, long)) | inr after ↦ omega arith ]
           ]
-          | no none ↦ omega (arith, none, low)
+          | no none ↦ omega arith
         ]
 
         behind_chunk : at + size ≤ k
         behind_chunk = elim (same_or_beside sound free there) [
           | inl same ↦ absurd (let no : Used ≡ Free = ap (λ e. e.kind) same in cc)
-          | inr beside ↦ elim beside [ inl before ↦ before | inr after ↦ absurd (omega (arith, after, behind_left, long)) ]
+          | inr beside ↦ elim beside [ inl before ↦ before | inr after ↦ absurd (omega (arith, behind_left, long)) ]
         ]
 
         right_of_it : ⊥
-        right_of_it = elim (same_or_beside sound (right_free some (omega (arith, behind_chunk, high))) free) [
+        right_of_it = elim (same_or_beside sound (right_free some (omega (arith, behind_chunk))) free) [
           | inl same ↦ out (inr (inl (ap (λ e. e.at) same)))
-          | inr beside ↦ elim beside [ inl before ↦ omega (arith, before, behind_chunk, long) | inr after ↦ omega (arith, after, behind_chunk, high) ]
+          | inr beside ↦ elim beside [ inl before ↦ omega (arith, behind_chunk, long) | inr after ↦ omega (arith, behind_chunk) ]
         ]
 
     -- what is in no bin once they are joined is the joined one

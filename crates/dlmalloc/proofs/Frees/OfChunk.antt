@@ -111,7 +111,7 @@ module _ {A : Type 0} {regions : A → List Grant} {word : A → ℕ → ℕ} {h
     high = tiles_le words (last_kind (last_kind Used run.first) less) end run.last (run.segment.base + run.segment.size) run.last_stand
 
     pub word_there : (k : ℕ) → from ≤ k → k < end → k % 8 ≡ 0 → IsWordOf (regions heap.system) k
-    word_there k above below m = run_word (regions heap.system) sound.segments run k (omega (arith, low, above)) (omega (arith, high, below)) m
+    word_there k above below m = run_word (regions heap.system) sound.segments run k (omega (arith, low)) (omega (arith, high)) m
 
     last_less : last_kind (last_kind Used run.first) less ≡ next.kind
     last_less = last_append (last_kind Used run.first) left.lefts (chunk ∷ (right.rights ++ next ∷ [])) ∙ last_append Used right.rights (next ∷ [])
@@ -140,7 +140,7 @@ module _ {A : Type 0} {regions : A → List Grant} {word : A → ℕ → ℕ} {h
         in_more : extent_at k (next ∷ []) ≡ Some one → extent_at k more ≡ Some one
         in_more is =
             let place = found_place k next one is in
-            let test : (from == k) ≡ false = nat_isnt (inl (omega (arith, place, right.place, room))) in
+            let test : (from == k) ≡ false = nat_isnt (inl (omega (arith, right.place, room))) in
             rw test is
 
     tails : (k : ℕ) {tail : Extent} → extent_at k less ≡ Some tail → (tail.kind ≡ Record → extent_at k more ≡ Some tail) × (tail.kind ≡ Top → extent_at k more ≡ Some tail)
@@ -160,16 +160,16 @@ module _ {A : Type 0} {regions : A → List Grant} {word : A → ℕ → ℕ} {h
         ∙ rw (test, test') (found_later k right.rights (next ∷ []) (none_right k out))
       where
         apart : (k < from) ⊎ (to ≤ k) → (at < k) ⊎ (k < at)
-        apart (inl a) = inr (omega (arith, from_at, a))
-        apart (inr b) = inl (omega (arith, right.reach, stands.size.1, b))
+        apart (inl a) = inr (omega (arith, from_at))
+        apart (inr b) = inl (omega (arith, right.reach, stands.size.1))
 
         apart' : (k < from) ⊎ (to ≤ k) → (from < k) ⊎ (k < from)
         apart' (inl a) = inr a
-        apart' (inr b) = inl (omega (arith, room, b))
+        apart' (inr b) = inl (omega (arith, room))
 
         outer : (k < from) ⊎ (to ≤ k) → (k < from) ⊎ (at ≤ k)
         outer (inl a) = inl a
-        outer (inr b) = inr (omega (arith, right.reach, b))
+        outer (inr b) = inr (omega (arith, right.reach))
 
         none_right : (k : ℕ) → (k < from) ⊎ (to ≤ k) → extent_at k right.rights ≡ None
         none_right k out =
@@ -178,8 +178,8 @@ module _ {A : Type 0} {regions : A → List Grant} {word : A → ℕ → ℕ} {h
             none_outside words Used (at + size) right.rights s.middle k (outer' s.middle place out) s.first
           where
             outer' : (m : ℕ) → m ≡ to → (k < from) ⊎ (to ≤ k) → (k < at + size) ⊎ (m ≤ k)
-            outer' m is (inl a) = inl (omega (arith, from_at, a))
-            outer' m is (inr b) = inr (omega (arith, is, b))
+            outer' m is (inl a) = inl (omega (arith, from_at))
+            outer' m is (inr b) = inr (omega arith)
 
     -- what stands behind it is found there
     next_there : extent_at to run.segment.extents ≡ Some next
@@ -268,7 +268,7 @@ module _ {A : Type 0} {regions : A → List Grant} {word : A → ℕ → ℕ} {h
       move =
           subst (λ k. IsMove (regions heap.system) words (word system) k from end end less more) (sym left.used)
           (join (regions heap.system) words (word system) from less from_whole to next to_whole room right.place right.stands right.kind (subst (λ k. Tiles words k from less end) left.used run.here) stored
-          (λ k above below m. word_there k (omega (arith, right.place, room, above)) (omega (arith, right.place, below)) m))
+          (λ k above below m. word_there k (omega (arith, right.place, room)) (omega (arith, right.place)) m))
 
       kind_same : last_kind (last_kind Used run.first) more ≡ last_kind (last_kind Used run.first) less
       kind_same = sym last_less
@@ -322,9 +322,9 @@ module _ {A : Type 0} {regions : A → List Grant} {word : A → ℕ → ℕ} {h
 
       -- the victim was one of those that are joined
       pub as_victim : from ≤ heap.victim → heap.victim < to → Freed from (to - from)
-      as_victim reached within = done from (to - from) (λ some. joint_there from (to - from)) (λ none. absurd (omega (arith, none, room)))
+      as_victim reached within = done from (to - from) (λ some. joint_there from (to - from)) (λ none. absurd (omega (arith, room)))
           (sym (ap (λ o. unwrap_or (option_map (λ e. e.at) o) 0)
-          (has_in (regions system) (word system) (segments_of word (after from (to - from))) (segments_now sound (step from (to - from))) (apart_now sound (step from (to - from))) heap.victim (joint_there from (to - from)) refl reached (omega (arith, within, room)))))
+          (has_in (regions system) (word system) (segments_of word (after from (to - from))) (segments_now sound (step from (to - from))) (apart_now sound (step from (to - from))) heap.victim (joint_there from (to - from)) refl reached (omega (arith, room)))))
 
       -- it stays
       pub as_other : (heap.victim < from) ⊎ (to ≤ heap.victim) → Freed heap.victim heap.victim_size

@@ -36,8 +36,8 @@ module _ {A : Type 0} {regions : A → List Grant} {word : A → ℕ → ℕ} (f
         let same = one_size (state_of word heap) free (left_free sound there from_is before) in
         let long = used_long in
         let end = to_above in
-        omega (arith, before)
-    | no here ↦ left_none sound there from_is (omega (arith, here)) (to - from) free
+        omega arith
+    | no here ↦ left_none sound there from_is (omega arith) (to - from) free
   ]
     where
       used_long : 0 < size

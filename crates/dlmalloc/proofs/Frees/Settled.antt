@@ -91,15 +91,15 @@ module _ {A : Type 0} {regions : A → List Grant} {word : A → ℕ → ℕ} {h
       size = ap (λ e. e.size) same
 
       holds : (nat_le heap.top at && nat_lt at (heap.top + heap.top_size)) ≡ true
-      holds = (let low : heap.top ≤ at = omega (arith, around.low, is) in let high : at < heap.top + heap.top_size = omega (arith, around.high, is, size) in grind (arith, nat_tests))
+      holds = (let low : heap.top ≤ at = omega arith in let high : at < heap.top + heap.top_size = omega (arith, size) in grind (arith, nat_tests))
 
   pub above_none : from ≢ heap.top → is_above_check (state_of word heap) at ≡ false
   above_none differs = ap (λ o. nat_lt heap.trim_check (unwrap_or (option_map (λ extent. extent.size) o) 0))
       (find_none (is_top_with at) all apart (λ other found test.
       (let t = top_with at other test in let low = t.low in let high = t.high in
       elim (beside (regions heap.system) (word heap.system) (segments_of word heap) sound.segments sound.apart there found (λ same. differs (sym around.place ∙ (same ∙ place_of found t.kind)))) [
-        | inl before ↦ omega (arith, before, low, around.high, around.place)
-        | inr behind ↦ omega (arith, behind, high, around.low, around.place)
+        | inl before ↦ omega arith
+        | inr behind ↦ omega arith
       ])))
       ∙ never heap.trim_check
     where
@@ -114,7 +114,7 @@ module _ {A : Type 0} {regions : A → List Grant} {word : A → ℕ → ℕ} {h
       go true is =
           let place : from ≡ heap.top = nat_is is in
           let size : one.size ≡ heap.top_size = ap (λ e. e.size) (the_extent (sym there ∙ (ap (λ a. extent_at a all) (around.place ∙ place) ∙ top_there))) in
-          (place, omega (arith, around.high, place, size))
+          (place, omega arith)
       go false isnt = absurd (let under = above_none (λ same. (let is : (from == heap.top) ≡ true = ap (λ n. n == heap.top) same ∙ nat_same heap.top in cc)) in cc)
 
 -- ---- so it is settled
@@ -152,7 +152,7 @@ pub settled_top : {A : Type 0} {regions : A → List Grant} {word : A → ℕ �
     (old.trim_check < old.top_size → (answer : Bool) × IsTrimmed regions word follows frees parts unit old 0 answer new) → (old.top_size ≤ old.trim_check → new ≡ old) → IsSettled regions word follows frees parts unit old at new
 settled_top {A} {regions} {word} follows follows_none frees parts unit {old} sound at around is new above same = elim (dec_lt old.trim_check old.top_size) [
   | yes more ↦ (let t = above more in settled_trimmed regions word follows frees parts unit old at new (test_is ∙ over more) t.1)
-  | no less ↦ subst (λ heap. IsSettled regions word follows frees parts unit old at heap) (sym (same (omega (arith, less))))
+  | no less ↦ subst (λ heap. IsSettled regions word follows frees parts unit old at heap) (sym (same (omega arith)))
       (settled_counted regions word follows frees parts unit old at old (test_is ∙ under less) (counted_none follows follows_none frees parts sound at (sym (top_told sound around is))))
 ]
   where
@@ -163,4 +163,4 @@ settled_top {A} {regions} {word} follows follows_none frees parts unit {old} sou
     over more = grind (arith, nat_tests)
 
     under : (old.trim_check < old.top_size → ⊥) → nat_lt old.trim_check old.top_size ≡ false
-    under less = (let most : old.top_size ≤ old.trim_check = omega (arith, less) in grind (arith, nat_tests))
+    under less = (let most : old.top_size ≤ old.trim_check = omega arith in grind (arith, nat_tests))

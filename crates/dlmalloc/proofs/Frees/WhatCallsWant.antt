@@ -51,7 +51,7 @@ module _ {A : Type 0} {regions : A → List Grant} {word : A → ℕ → ℕ} {h
   base = (run_part (regions heap.system) sound.segments one).low
 
   granted : (k : ℕ) → one.segment.base ≤ k → k < at + size + 16 → k % 8 ≡ 0 → IsWordOf (regions heap.system) k
-  granted k low below m = run_word (regions heap.system) sound.segments one k low (omega (arith, head_room, below)) m
+  granted k low below m = run_word (regions heap.system) sound.segments one k low (omega (arith, head_room)) m
 
   pub head_there : HasHead (regions heap.system) at
   head_there = record { aligned = omega (arith, stands.whole); small = omega (arith, head_room, high); granted = granted (at + 8) (omega (arith, low_room)) (omega arith) (omega (arith, stands.whole)) }
@@ -90,7 +90,7 @@ module _ {A : Type 0} {regions : A → List Grant} {word : A → ℕ → ℕ} {h
   end_below more free =
       let is : end_of words (at + size) ≡ at + size + size_of (words (at + size + 8)) = ap (λ b. if b then at + size + size_of (words (at + size + 8)) else at + size) free in
       let small = end_small sound there (no_top more) {from = (if pinuse_of (words (at + 8)) then at else at - words at)} refl {to = (end_of words (at + size))} refl in
-      omega (arith, is, small)
+      omega arith
 
   module _ {from : ℕ} (from_is : from ≡ (if pinuse_of (words (at + 8)) then at else at - words at)) where
     pub left_one : Left words one.segment.base one.first at from
@@ -109,13 +109,13 @@ module _ {A : Type 0} {regions : A → List Grant} {word : A → ℕ → ℕ} {h
     pub foot_fits : pinuse_of (words (at + 8)) ≡ false → words at ≤ at
     foot_fits unused =
         let is : from ≡ at - words at = from_is ∙ ap (λ b. if b then at else at - words at) unused in
-        omega (arith, is, from_low, base)
+        omega (arith, from_low, base)
 
     from_whole : from % 16 ≡ 0
     from_whole = go left_one.lefts left_one.lefts_stand
       where
         go : (lefts : List Extent) → Tiles words Used from lefts at → from % 16 ≡ 0
-        go [] h = omega (arith, h, stands.whole)
+        go [] h = omega (arith, stands.whole)
         go (p ∷ lefts) h = let place = h.0 in let whole = h.1.whole in omega arith
 
     pub from_there : HasHead (regions heap.system) from
@@ -154,11 +154,11 @@ module _ {A : Type 0} {regions : A → List Grant} {word : A → ℕ → ℕ} {h
         pub around_top : (new : Dlmalloc A) → IsSound regions word new → new.size ≡ heap.size → new.top ≡ from → new.top_size ≡ heap.top_size + (to - from) → IsFreeAround (state_of word new) at from
         around_top new sound' size_same top top_size = record {
           extent = extent new.top new.top_size Top;
-          there = ap (λ k. extent_at k (extents_in (state_of word new))) (sym top) ∙ top_among sound' (omega (arith, some_segment word heap at there, size_same));
+          there = ap (λ k. extent_at k (extents_in (state_of word new))) (sym top) ∙ top_among sound' (omega (arith, some_segment word heap at there));
           place = top;
           free = refl;
           low = from_at;
-          high = omega (arith, one.some, to_eq, top_size, from_at);
+          high = omega (arith, one.some, to_eq, from_at);
         }
 
         module _ (system : A) (same : regions system ≡ regions heap.system) (stored : IsStored (regions heap.system) words (from + 8) (heap.top_size + (to - from) + 1) (word system)) where
@@ -167,7 +167,7 @@ module _ {A : Type 0} {regions : A → List Grant} {word : A → ℕ → ℕ} {h
 
           pub top_victim : from ≤ heap.victim → heap.victim < to → IsFree regions word heap at size from to (record heap { system = system; top = from; top_size = heap.top_size + (to - from); victim = 0; victim_size = 0 })
           top_victim reached within = subst (λ t. IsFree regions word heap at size from t (record heap { system = system; top = from; top_size = heap.top_size + (t - from); victim = 0; victim_size = 0 })) to_eq
-              (as_top_victim sound there (next_top (touches is)) from_is system same stored_at reached (omega (arith, within, to_eq)))
+              (as_top_victim sound there (next_top (touches is)) from_is system same stored_at reached (omega (arith, to_eq)))
 
           pub top_other : (heap.victim < from) ⊎ (to ≤ heap.victim) → IsFree regions word heap at size from to (record heap { system = system; top = from; top_size = heap.top_size + (to - from) })
           top_other out = subst (λ t. IsFree regions word heap at size from t (record heap { system = system; top = from; top_size = heap.top_size + (t - from) })) to_eq

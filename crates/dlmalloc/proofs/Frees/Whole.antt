@@ -98,10 +98,10 @@ module _ {A : Type 0} {regions : A → List Grant} {word : A → ℕ → ℕ} {f
           let place = top_around disposed.sound around above in
           let low = around.low in
           inr (record {
-            within = omega (arith, place.1, ends disposed.sound some, head_merged.0, head_merged.1);
+            within = omega (arith, ends disposed.sound some, head_merged.0, head_merged.1);
             behind = λ used is there. elim (beside_top disposed.sound some is (settled.used.before used is there)) [
-              | inl before ↦ inl (omega (arith, before, place.0, low))
-              | inr beyond ↦ inr (omega (arith, beyond, head_merged.0, head_merged.1))
+              | inl before ↦ inl (omega arith)
+              | inr beyond ↦ inr (omega (arith, head_merged.0, head_merged.1))
             ];
           })
 

@@ -10,9 +10,9 @@ use Rattle.dlmalloc.proofs.Grants.SegmentBehind.{told_around}
 -- the heads of the two parts of a grant are granted
 pub part_head : {regions : List Grant} {segments : List Segment} {grant : Grant} → IsFresh regions segments grant → (k : ℕ) → grant.base ≤ k → k + 16 ≤ grant.base + grant.size → k % 16 ≡ 0 → HasHead regions k
 part_head fresh k low high m = record {
-  aligned = omega (arith, m);
-  small = omega (arith, high, fresh.high);
-  granted = record { granted = fresh.run.covered (k + 8) (omega (arith, low)) (omega (arith, high)); aligned = omega (arith, m) };
+  aligned = omega arith;
+  small = omega arith;
+  granted = record { granted = fresh.run.covered (k + 8) (omega arith) (omega arith); aligned = omega arith };
 }
 
 -- what is found behind the two parts of a grant
@@ -42,8 +42,8 @@ module _ {A : Type 0} {regions : A → List Grant} {word : A → ℕ → ℕ} (f
     told_are = subst (AreTold (word heap.system) heap) b.is sound.told
 
     keeps_its : KeepsIts (word heap.system) (word system) b.segment
-    keeps_its k low high m = kept k (record { granted = parts_are.0.run.covered k (omega (arith, low)) high; aligned = m })
-        (λ is. omega (arith, is, low, place_is, fresh.long)) (λ is. omega (arith, is, low, place_is, room))
+    keeps_its k low high m = kept k (record { granted = parts_are.0.run.covered k (omega arith) high; aligned = m })
+        (λ is. omega (arith, place_is)) (λ is. omega (arith, place_is))
 
     tiles_now : Tiles (word system) Used b.segment.base b.segment.extents (b.segment.base + b.segment.size)
     tiles_now = (one_stays (regions heap.system) (word heap.system) (word system) parts_are.0 keeps_its).extents
@@ -57,7 +57,7 @@ module _ {A : Type 0} {regions : A → List Grant} {word : A → ℕ → ℕ} (f
       refl,
       omega (arith, told_are.2),
       told_are.3,
-      behind_two grant n b.segment heap.top place_is (omega (arith, room)) top_in.low told_are.4,
+      behind_two grant n b.segment heap.top place_is (omega arith) top_in.low told_are.4,
       records_stay (regions heap.system) (word heap.system) (word system) b.back parts_are.1
           (back_keeps head_now sound fresh same n multiple least room [] b.segment b.back b.is b.joins (λ k. ⊤) (λ k out. tt) (λ k inside a c u. kept k inside a c)) heap.next told_are.5,
     )
@@ -112,8 +112,8 @@ module _ {A : Type 0} {regions : A → List Grant} {word : A → ℕ → ℕ} (f
 
     untold_outside : (k : ℕ) → IsOutside b.segment k → IsUntold k
     untold_outside k out = (
-      (λ is. elim out [ inl below ↦ omega (arith, is, below, record_in.low, payload_some) | inr above ↦ omega (arith, is, above, record_long, payload_some) ]),
-      (λ is. elim out [ inl below ↦ omega (arith, is, below, record_in.low, payload_some) | inr above ↦ omega (arith, is, above, record_long, payload_some) ]),
+      (λ is. elim out [ inl below ↦ omega (arith, record_in.low, payload_some) | inr above ↦ omega (arith, record_long, payload_some) ]),
+      (λ is. elim out [ inl below ↦ omega (arith, record_in.low, payload_some) | inr above ↦ omega (arith, record_long, payload_some) ]),
     )
 
     kept_untold : (k : ℕ) → IsWordOf (regions heap.system) k → k ≢ grant.base + 8 → k ≢ grant.base + n + 8 → IsUntold k → word system k ≡ word heap.system k
@@ -121,18 +121,18 @@ module _ {A : Type 0} {regions : A → List Grant} {word : A → ℕ → ℕ} (f
 
     -- a word of the segment
     kept_in : (k : ℕ) → b.segment.base < k → k < end → k % 8 ≡ 0 → k ≢ payload → k ≢ payload + 8 → word system k ≡ word heap.system k
-    kept_in k low high m not_base not_size = kept k (record { granted = segment_part.run.covered k (omega (arith, low)) high; aligned = m })
-        (λ is. omega (arith, is, low, segment_place, fresh.long)) (λ is. omega (arith, is, low, segment_place, room)) not_base not_size
+    kept_in k low high m not_base not_size = kept k (record { granted = segment_part.run.covered k (omega arith) high; aligned = m })
+        (λ is. omega (arith, segment_place)) (λ is. omega (arith, segment_place)) not_base not_size
 
     tiles_told : Tiles (word system) Used b.segment.base b.segment.extents end
     tiles_told = recorded_tiles segment_part payload payload_some b.told.4 (word system)
-        (λ k low high m out. kept_in k low high m (λ is. elim out [ inl below ↦ omega (arith, is, below) | inr above ↦ omega (arith, is, above) ]) (λ is. elim out [ inl below ↦ omega (arith, is, below) | inr above ↦ omega (arith, is, above) ]))
+        (λ k low high m out. kept_in k low high m (λ is. elim out [ inl below ↦ omega arith | inr above ↦ omega arith ]) (λ is. elim out [ inl below ↦ omega arith | inr above ↦ omega arith ]))
 
     abbrev now_told : Segment
     now_told = put_before grant n b.segment
 
     record_now : extent_at (payload - 16) now_told.extents ≡ Some (record_of (payload - 16) (now_told.base + now_told.size))
-    record_now = behind_two grant n b.segment (payload - 16) segment_place (omega (arith, room)) record_in.low b.told.4
+    record_now = behind_two grant n b.segment (payload - 16) segment_place (omega arith) record_in.low b.told.4
         ∙ (λ i. Some (record_of (payload - 16) (same_end i)))
       where
         same_end : end ≡ grant.base + (grant.size + b.segment.size)
@@ -143,9 +143,9 @@ module _ {A : Type 0} {regions : A → List Grant} {word : A → ℕ → ℕ} (f
       payload_some,
       base,
       size ∙ ap (λ m. grant.size + m) b.told.2,
-      kept_in (payload + 24) (omega (arith, record_in.low, payload_some)) (omega (arith, record_long, payload_some)) (omega (arith, payload_whole)) (λ is. omega (arith, is)) (λ is. omega (arith, is)) ∙ b.told.3,
+      kept_in (payload + 24) (omega (arith, record_in.low, payload_some)) (omega (arith, record_long, payload_some)) (omega (arith, payload_whole)) (λ is. omega arith) (λ is. omega arith) ∙ b.told.3,
       record_now,
-      subst (λ p. AreRecords (word system) p b.back) (sym (kept_in (payload + 16) (omega (arith, record_in.low, payload_some)) (omega (arith, record_long, payload_some)) (omega (arith, payload_whole)) (λ is. omega (arith, is)) (λ is. omega (arith, is))))
+      subst (λ p. AreRecords (word system) p b.back) (sym (kept_in (payload + 16) (omega (arith, record_in.low, payload_some)) (omega (arith, record_long, payload_some)) (omega (arith, payload_whole)) (λ is. omega arith) (λ is. omega arith)))
           (records_stay (regions heap.system) (word heap.system) (word system) b.back (back_parts told_new sound fresh same n multiple least room front b.segment b.back b.is b.joins IsUntold untold_outside kept_untold)
           (back_keeps told_new sound fresh same n multiple least room front b.segment b.back b.is b.joins IsUntold untold_outside kept_untold) (word heap.system (payload + 16)) b.told.5),
     )
@@ -158,8 +158,8 @@ module _ {A : Type 0} {regions : A → List Grant} {word : A → ℕ → ℕ} (f
 
     recorded : (k : ℕ) → (IsInRecord (state_of word told_new) k → ⊥) → IsUntold k
     recorded k tag = (
-      (λ is. tag (in_it (omega (arith, is, payload_some)) (omega (arith, is, record_long, payload_some)))),
-      (λ is. tag (in_it (omega (arith, is, payload_some)) (omega (arith, is, record_long, payload_some)))),
+      (λ is. tag (in_it (omega (arith, payload_some)) (omega (arith, record_long, payload_some)))),
+      (λ is. tag (in_it (omega (arith, payload_some)) (omega (arith, record_long, payload_some)))),
     )
       where
         there : extent_at (payload - 16) (extents_in (state_of word told_new)) ≡ Some (record_of (payload - 16) (now_told.base + now_told.size))
@@ -167,7 +167,7 @@ module _ {A : Type 0} {regions : A → List Grant} {word : A → ℕ → ℕ} (f
             (among_new told_new sound fresh same n multiple least room front b.segment b.back b.is b.joins IsUntold untold_outside kept_untold whole first second tiles_told told_after (payload - 16) record_now)
 
         in_it : payload - 16 < k → k < end → IsInRecord (state_of word told_new) k
-        in_it low high = record { extent = record_of (payload - 16) (now_told.base + now_told.size); there = there; is = refl; low = low; high = omega (arith, high, segment_place, record_long, payload_some) }
+        in_it low high = record { extent = record_of (payload - 16) (now_told.base + now_told.size); there = there; is = refl; low = low; high = omega (arith, segment_place, record_long, payload_some) }
 
     pub before_told : IsPrepended regions word follows heap grant n told_new
     before_told = is_prepended told_new sound fresh same n multiple least room front b.segment b.back b.is b.joins IsUntold untold_outside kept_untold
@@ -188,7 +188,7 @@ module _ {A : Type 0} {regions : A → List Grant} {word : A → ℕ → ℕ} {h
       let part = (subst (AreSegments (regions heap.system) (word heap.system)) b.is sound.segments).0 in
       let told = subst (AreTold (word heap.system) heap) b.is sound.told in
       let place = (before_means grant b.segment b.joins).0 in
-      (omega (arith, place, told.1), omega (arith, part.high, told.1, told.2))
+      (omega arith, omega arith)
 
   pub told_place : {payload : ℕ} → IsToldBehind word heap grant payload → ToldPlace (regions heap.system) (word heap.system) grant payload
   told_place {payload} b =
@@ -200,9 +200,9 @@ module _ {A : Type 0} {regions : A → List Grant} {word : A → ℕ → ℕ} {h
       let some = b.told.0 in
       let place = (before_means grant b.segment b.joins).0 in
       record {
-        base_word = record { granted = part.run.covered payload (omega (arith, r.low, some)) (omega (arith, long, some)); aligned = omega (arith, r.stands.whole, some) };
-        size_word = record { granted = part.run.covered (payload + 8) (omega (arith, r.low, some)) (omega (arith, long, some)); aligned = omega (arith, r.stands.whole, some) };
-        high = omega (arith, long, some, part.high);
-        sum = omega (arith, place, part.high, b.told.2);
-        apart = λ k low high above below. omega (arith, low, below, place, r.low, some);
+        base_word = record { granted = part.run.covered payload (omega arith) (omega arith); aligned = omega arith };
+        size_word = record { granted = part.run.covered (payload + 8) (omega arith) (omega arith); aligned = omega arith };
+        high = omega arith;
+        sum = omega arith;
+        apart = λ k low high above below. omega arith;
       }

@@ -77,17 +77,17 @@ module _ {A : Type 0} {regions : A → List Grant} {word : A → ℕ → ℕ} {h
 
   -- words of the chunks before the top stay, and so do those of other segments
   first_kept : (k : ℕ) → IsWordOf (regions heap.system) k → k ≤ heap.top → word new.system k ≡ word heap.system k
-  first_kept k inside below = kept k inside (λ is. omega (arith, is, below)) (λ is. omega (arith, is, below, closes, fresh.long))
+  first_kept k inside below = kept k inside (λ is. omega arith) (λ is. omega (arith, closes))
 
   outside_kept : (k : ℕ) → IsWordOf (regions heap.system) k → IsOutside old_run.segment k → IsOutside (opened grant) k → word new.system k ≡ word heap.system k
   outside_kept k inside first second = kept k inside
       (λ is. elim first [
-        | inl below ↦ omega (arith, is, below, was.base, top_low sound some)
-        | inr above ↦ omega (arith, is, above, last_is.1)
+        | inl below ↦ omega (arith, was.base, top_low sound some)
+        | inr above ↦ omega (arith, last_is.1)
       ])
       (λ is. elim second [
-        | inl below ↦ omega (arith, is, below, begins, fresh.long)
-        | inr above ↦ omega (arith, is, above, begins, fresh.long)
+        | inl below ↦ omega arith
+        | inr above ↦ omega arith
       ])
 
   more_stand : Tiles (word new.system) (last_kind Used old_run.first) heap.top more (old_run.segment.base + (old_run.segment.size + grant.size))
@@ -95,7 +95,7 @@ module _ {A : Type 0} {regions : A → List Grant} {word : A → ℕ → ℕ} {h
       let units = fresh.size_aligned in
       let place : heap.top + length_now + 8 ≡ heap.base + (heap.size + grant.size) - 72 = omega (arith, closes) in
       subst (λ end. Tiles (word new.system) (last_kind Used old_run.first) heap.top more end) now_end
-      (top_stands (word new.system) heap.top length_now old_run.here.1.kind (top_whole sound some) (omega (arith, sizes.0, units)) (omega (arith, sizes.1)) (head ∙ ap (λ n. n + 1) (sym length_is)) (ap (word new.system) place ∙ foot))
+      (top_stands (word new.system) heap.top length_now old_run.here.1.kind (top_whole sound some) (omega (arith, sizes.0)) (omega (arith, sizes.1)) (head ∙ ap (λ n. n + 1) (sym length_is)) (ap (word new.system) place ∙ foot))
 
   is_now : IsSegment (regions new.system) (word new.system) now
   is_now = record {
@@ -103,11 +103,11 @@ module _ {A : Type 0} {regions : A → List Grant} {word : A → ℕ → ℕ} {h
         (runs_joined (begins ∙ (λ i. was.base i + was.size i)) old_part.run
         (subst (λ f. IsRun (regions heap.system) grant.base grant.size f) (equal ∙ was.flags) fresh.run) whole);
     low = old_part.low;
-    high = omega (arith, fresh.high, begins, was.base, was.size);
+    high = omega (arith, was.base, was.size);
     long = omega (arith, old_part.long);
     extents = tiles_append (word new.system) Used old_run.segment.base old_run.first more heap.top (old_run.segment.base + (old_run.segment.size + grant.size))
         (tiles_kept (word heap.system) (word new.system) Used old_run.segment.base old_run.first heap.top old_run.first_stand
-        (λ k above below m free. first_kept k (record { granted = old_part.run.covered k (omega arith) (omega (arith, last_is.1, below)); aligned = m }) below)) more_stand;
+        (λ k above below m free. first_kept k (record { granted = old_part.run.covered k (omega arith) (omega (arith, last_is.1)); aligned = m }) below)) more_stand;
     tail = ap ends_segment (last_append Used old_run.first more);
   }
 
@@ -120,8 +120,8 @@ module _ {A : Type 0} {regions : A → List Grant} {word : A → ℕ → ℕ} {h
     elim (one.0) [
       | inr before ↦ inr before
       | inl behind ↦ elim (two.0) [
-        | inl ahead ↦ absurd (omega (arith, ahead, behind, begins, was.base, was.size, parts.0.long))
-        | inr past ↦ inl (omega (arith, past, begins, was.base, was.size))
+        | inl ahead ↦ absurd (omega (arith, was.base, was.size))
+        | inr past ↦ inl (omega (arith, was.base, was.size))
       ]
     ],
     longer_apart others parts.1 one.1 two.1,
@@ -139,7 +139,7 @@ module _ {A : Type 0} {regions : A → List Grant} {word : A → ℕ → ℕ} {h
       ∙ (rw here refl ∙ (λ i. Some (extent ((sym top) i) ((length_is ∙ sym top_size) i) Top))))
 
   size_some : 0 < new.size
-  size_some = subst (λ n. 0 < n) (sym size) (omega (arith, some))
+  size_some = subst (λ n. 0 < n) (sym size) (omega arith)
 
   told_now : AreTold (word new.system) new (now ∷ old_run.back)
   told_now = (
@@ -216,7 +216,7 @@ module _ {A : Type 0} {regions : A → List Grant} {word : A → ℕ → ℕ} {h
   pub extended_words : OnlyTagsChange (regions heap.system) (state_of word new) (word heap.system) (word new.system)
   extended_words k inside boundary recorded =
       let tags = head_tags extended_sound size_some k boundary in
-      kept k inside (λ is. tags.0 (omega (arith, is, top))) (λ is. tags.1 (omega (arith, is, top, top_size, closes)))
+      kept k inside (λ is. tags.0 (omega arith)) (λ is. tags.1 (omega (arith, closes)))
 
   -- no free extent but the top changes
   pub extended_free : FreeMoves (state_of word heap) (state_of word new) [] []

@@ -103,7 +103,7 @@ module _ {A : Type 0} {regions : A → List Grant} {word : A → ℕ → ℕ} {f
     (records : (one : Extent) → one.kind ≡ Record → extent_at one.at (extents_in (state_of word middle)) ≡ Some one → extent_at one.at (extents_in (state_of word new)) ≡ Some one)
     (followed : follows old.system [] new.system) where
   chunk_there : extent_at grant.base (extents_in (state_of word new)) ≡ Some (extent grant.base n Used)
-  chunk_there = less.only (extent grant.base n Used) refl first.chunk (λ is. omega (arith, is, least))
+  chunk_there = less.only (extent grant.base n Used) refl first.chunk (λ is. omega arith)
 
   rest_there : IsFoundBehind (segments_of word new) (extent grant.base n Used)
   rest_there = found_behind (regions new.system) (word new.system) (segments_of word new) moved.sound.segments moved.sound.apart chunk_there refl
@@ -162,14 +162,14 @@ module _ {A : Type 0} {regions : A → List Grant} {word : A → ℕ → ℕ} (z
         full = full sound n none;
         of_grant = λ is. (refl, put.state ∙ (ap (λ s. freed (prepended grant n s) (grant.base + n)) same ∙ sym (granted_before grant n (state_of word old) test)));
         of_top = λ is. absurd (cc);
-        room = omega (arith, enough, good.long);
+        room = omega arith;
         place = inl refl;
       },
       followed,
       put.regions_same ∙ with_it,
       beside,
     );
-    small = omega (arith, good.high, long);
+    small = omega arith;
     more = more_put;
     holds = λ size holds near. record {
       extent = extent grant.base n Used;
@@ -177,7 +177,7 @@ module _ {A : Type 0} {regions : A → List Grant} {word : A → ℕ → ℕ} (z
       low = omega arith;
       used = refl;
       holds = holds;
-      little = omega (arith, near);
+      little = omega arith;
     };
     kept = blocks_law_tags sound put.sound words_put (extents_in (state_of word old)) (λ block there used. (there, more_put.kept block used there));
     words = words_put;

@@ -54,8 +54,8 @@ module _ {A : Type 0} {regions : A → List Grant} {word : A → ℕ → ℕ} {h
   bounds = go small small_is at_is
     where
       go : (b : Bool) → (heap.top_size == 16) ≡ b → at ≡ place b heap.top heap.top_size → (heap.top ≤ at) × (at + 80 ≤ heap.base + heap.size)
-      go true is at_is = (omega (arith, at_is), omega (arith, at_is, closes))
-      go false isnt at_is = (omega (arith, at_is), omega (arith, at_is, closes))
+      go true is at_is = (omega arith, omega (arith, closes))
+      go false isnt at_is = (omega arith, omega (arith, closes))
 
   abbrev rest : List Extent
   rest = left small heap.top heap.top_size
@@ -68,9 +68,9 @@ module _ {A : Type 0} {regions : A → List Grant} {word : A → ℕ → ℕ} {h
 
   -- a word of the segment before the record is none of those written
   inside_kept : (k : ℕ) → it.segment.base ≤ k → k ≤ heap.top + 8 → k ≤ at → k % 8 ≡ 0 → (k ≡ heap.top + heap.top_size → small ≡ true) → word new.system k ≡ word heap.system k
-  inside_kept k low below before m free = kept k (record { granted = old_part.run.covered k low (omega (arith, below, last_is.1, sizes.1)); aligned = m }) (inl before) free
-      (λ is. elim (grant_beside) [ inl a ↦ omega (arith, a, is, below, last_is.1, sizes.1) | inr b ↦ omega (arith, b, is, low, fresh.long) ])
-      (λ is. elim (grant_beside) [ inl a ↦ omega (arith, a, is, below, last_is.1, sizes.1, fresh.long) | inr b ↦ omega (arith, b, is, low, fresh.long) ])
+  inside_kept k low below before m free = kept k (record { granted = old_part.run.covered k low (omega (arith, last_is.1, sizes.1)); aligned = m }) (inl before) free
+      (λ is. elim (grant_beside) [ inl a ↦ omega (arith, last_is.1, sizes.1) | inr b ↦ omega arith ])
+      (λ is. elim (grant_beside) [ inl a ↦ omega (arith, last_is.1, sizes.1) | inr b ↦ omega arith ])
 
   rest_stand : Tiles (word new.system) (last_kind Used it.first) heap.top rest (it.segment.base + it.segment.size)
   rest_stand = left_stands (word new.system) heap.top heap.top_size (record { base = heap.base; size = heap.size; next = heap.next; flags = heap.flags }) it.here.1.kind (top_whole sound some) sizes.0 sizes.1 last_is.1
@@ -81,8 +81,8 @@ module _ {A : Type 0} {regions : A → List Grant} {word : A → ℕ → ℕ} {h
       was_top : small ≡ false → word new.system (heap.top + 8) ≡ heap.top_size + 1
       was_top large =
           let there : at ≡ heap.top + heap.top_size = at_is ∙ ap (λ b. place b heap.top heap.top_size) large in
-          inside_kept (heap.top + 8) (omega (arith, low_top)) (omega arith) (omega (arith, there, sizes.1)) (omega (arith, top_whole sound some))
-          (λ is. absurd (omega (arith, is, sizes.1)))
+          inside_kept (heap.top + 8) (omega (arith, low_top)) (omega arith) (omega (arith, sizes.1)) (omega (arith, top_whole sound some))
+          (λ is. absurd (omega (arith, sizes.1)))
           ∙ (it.here.1.head ∙ (ap (λ k. head_of heap.top_size (is_used k) false) it.here.1.kind ∙ omega arith))
 
   is_now : IsSegment (regions new.system) (word new.system) now
@@ -93,16 +93,16 @@ module _ {A : Type 0} {regions : A → List Grant} {word : A → ℕ → ℕ} {h
     long = old_part.long;
     extents = tiles_append (word new.system) Used it.segment.base it.first rest heap.top (it.segment.base + it.segment.size)
         (tiles_kept (word heap.system) (word new.system) Used it.segment.base it.first heap.top it.first_stand
-        (λ k above below m free. inside_kept k (omega (arith, above)) (omega (arith, below)) (omega (arith, below, bounds.0)) m (λ is. absurd (omega (arith, is, below, sizes.1))))) rest_stand;
+        (λ k above below m free. inside_kept k (omega arith) (omega arith) (omega (arith, bounds.0)) m (λ is. absurd (omega (arith, sizes.1))))) rest_stand;
     tail = ap ends_segment (last_append Used it.first rest) ∙ left_tail (word new.system) heap.top heap.top_size (record { base = heap.base; size = heap.size; next = heap.next; flags = heap.flags }) it.here.1.kind (top_whole sound some) sizes.0 sizes.1 last_is.1 small;
   }
 
   outside_kept : (k : ℕ) → IsWordOf (regions heap.system) k → IsOutside it.segment k → IsOutside (opened grant) k → word new.system k ≡ word heap.system k
   outside_kept k inside first second = kept k inside
-      (elim first [ inl below ↦ inl (omega (arith, below, low_top, bounds.0)) | inr above ↦ inr (omega (arith, above, was.base, was.size)) ])
-      (λ is. absurd (elim first [ inl below ↦ omega (arith, is, below, low_top) | inr above ↦ omega (arith, is, above, last_is.1) ]))
-      (λ is. elim second [ inl below ↦ omega (arith, is, below) | inr above ↦ omega (arith, is, above, fresh.long) ])
-      (λ is. elim second [ inl below ↦ omega (arith, is, below, fresh.long) | inr above ↦ omega (arith, is, above, fresh.long) ])
+      (elim first [ inl below ↦ inl (omega (arith, low_top, bounds.0)) | inr above ↦ inr (omega (arith, was.base, was.size)) ])
+      (λ is. absurd (elim first [ inl below ↦ omega (arith, low_top) | inr above ↦ omega (arith, last_is.1) ]))
+      (λ is. elim second [ inl below ↦ omega arith | inr above ↦ omega arith ])
+      (λ is. elim second [ inl below ↦ omega arith | inr above ↦ omega arith ])
 
   abbrev all : List Segment
   all = opened grant ∷ now ∷ it.back
@@ -123,7 +123,7 @@ module _ {A : Type 0} {regions : A → List Grant} {word : A → ℕ → ℕ} {h
       (left_record (word new.system) heap.top heap.top_size (record { base = heap.base; size = heap.size; next = heap.next; flags = heap.flags }) it.here.1.kind (top_whole sound some) sizes.0 sizes.1 last_is.1 small small_is)
 
   size_some : 0 < new.size
-  size_some = subst (λ n. 0 < n) (sym size) (omega (arith, fresh.long))
+  size_some = subst (λ n. 0 < n) (sym size) (omega arith)
 
   told_now : AreTold (word new.system) new all
   told_now = (
@@ -232,7 +232,7 @@ module _ {A : Type 0} {regions : A → List Grant} {word : A → ℕ → ℕ} {h
   pub added_words : OnlyTagsChange (regions heap.system) (state_of word new) (word heap.system) (word new.system)
   added_words k inside boundary recording =
       let tags = head_tags added_sound size_some k boundary in
-      kept k inside out free (λ is. tags.0 (omega (arith, is, top))) (λ is. tags.1 (omega (arith, is, top, top_size, fresh.long)))
+      kept k inside out free (λ is. tags.0 (omega arith)) (λ is. tags.1 (omega arith))
     where
       there : (k : ℕ) (one : Extent) → extent_at k now.extents ≡ Some one → extent_at k (extents_in (state_of word new)) ≡ Some one
       there k one found =
@@ -249,7 +249,7 @@ module _ {A : Type 0} {regions : A → List Grant} {word : A → ℕ → ℕ} {h
             there = there at (record_of at (it.segment.base + it.segment.size)) record_there;
             is = refl;
             low = above;
-            high = omega (arith, within, was.base, was.size, bounds.1);
+            high = omega (arith, was.base, was.size, bounds.1);
           }))
         ]
       ]
@@ -270,9 +270,9 @@ module _ {A : Type 0} {regions : A → List Grant} {word : A → ℕ → ℕ} {h
   -- of the grant the heads of the top and of its foot alone are written
   pub added_new : (k : ℕ) → IsWordOf (regions heap.system) k → grant.base ≤ k → k < grant.base + grant.size → k ≢ new.top + 8 → k ≢ new.top + new.top_size + 8 → word new.system k ≡ word heap.system k
   added_new k inside low high not_top not_foot = kept k inside
-      (elim (grant_beside) [ inl a ↦ inr (omega (arith, a, low, was.base, was.size)) | inr b ↦ inl (omega (arith, b, high, low_top, bounds.0)) ])
-      (λ is. absurd (elim (grant_beside) [ inl a ↦ omega (arith, a, low, is, last_is.1) | inr b ↦ omega (arith, b, high, is, low_top) ]))
-      (λ is. not_top (omega (arith, is, top))) (λ is. not_foot (omega (arith, is, top, top_size, fresh.long)))
+      (elim (grant_beside) [ inl a ↦ inr (omega (arith, was.base, was.size)) | inr b ↦ inl (omega (arith, low_top, bounds.0)) ])
+      (λ is. absurd (elim (grant_beside) [ inl a ↦ omega (arith, last_is.1) | inr b ↦ omega (arith, low_top) ]))
+      (λ is. not_top (omega arith)) (λ is. not_foot (omega arith))
 
   pub added_state : (n : ℕ) → state_of word new ≡ granted grant n (state_of word heap)
   added_state n =

@@ -14,14 +14,14 @@ record_place at top size is units long = go (nat_lt size 32) refl is
     go : (b : Bool) → nat_lt size 32 ≡ b → at ≡ (if b then top else top + size) → ((size == 16) ≡ (at == top)) × (at ≡ place (at == top) top size)
     go true test is =
         let small : size < 32 = grind (arith, nat_tests) in
-        let bytes : size ≡ 16 = omega (arith, small, units, long) in
+        let bytes : size ≡ 16 = omega arith in
         let sixteen : (size == 16) ≡ true = grind (arith, nat_tests) in
         let here : (at == top) ≡ true = grind (arith, nat_tests) in
         (sixteen ∙ sym here, is ∙ ap (λ b. place b top size) (sym here))
     go false test is =
         let large : 32 ≤ size = grind (arith, nat_tests) in
-        let other : (size == 16) ≡ false = nat_isnt (inr (omega (arith, large))) in
-        let beyond : (at == top) ≡ false = nat_isnt (inr (omega (arith, is, large))) in
+        let other : (size == 16) ≡ false = nat_isnt (inr (omega arith)) in
+        let beyond : (at == top) ≡ false = nat_isnt (inr (omega arith)) in
         (other ∙ sym beyond, is ∙ ap (λ b. place b top size) (sym beyond))
 
 -- it is in the segment
@@ -29,8 +29,8 @@ pub record_bounds : (at top size : ℕ) {end : ℕ} → at ≡ (if nat_lt size 3
 record_bounds at top size {end} is whole units long ends = go (nat_lt size 32) is
   where
     go : (b : Bool) → at ≡ (if b then top else top + size) → (top ≤ at) × (at + 80 ≤ end) × (at % 16 ≡ 0)
-    go true is = (omega (arith, is), omega (arith, is, ends), omega (arith, is, whole))
-    go false is = (omega (arith, is), omega (arith, is, ends), omega (arith, is, whole, units))
+    go true is = (omega arith, omega arith, omega arith)
+    go false is = (omega arith, omega arith, omega arith)
 
 -- beyond a top that is left as a free chunk
 pub large_at : {at : ℕ} (top size : ℕ) → at ≡ (if nat_lt size 32 then top else top + size) → 32 ≤ size → top + size ≤ at
@@ -70,17 +70,17 @@ module _ {A : Type 0} {regions : A → List Grant} {word : A → ℕ → ℕ} {h
       let run = top_run sound some in
       let is = top_segment sound some in
       let apart = (subst (AllByRecursion (λ segment. IsApartFrom segment (opened grant))) (run.is ∙ ap (λ front. front ++ run.segment ∷ run.back) (top_front sound some)) fresh.apart).0 in
-      elim apart [ inl before ↦ inl (omega (arith, before, is.base, is.size)) | inr behind ↦ inr (omega (arith, behind, is.base)) ]
+      elim apart [ inl before ↦ inl (omega arith) | inr behind ↦ inr (omega arith) ]
 
 -- a record rests on its own words
 pub record_kept : {old : ℕ → ℕ} (new : ℕ → ℕ) {at : ℕ} {told : SegmentRecord} {end : ℕ} {behind : Bool} → at % 8 ≡ 0 → at + 80 ≤ end → ((k : ℕ) → at < k → k < end → k % 8 ≡ 0 → new k ≡ old k) → IsRecordAt old at told end behind → IsRecordAt new at told end behind
 record_kept new {at} whole room same h = record {
-  head = same (at + 8) (omega arith) (omega (arith, room)) (omega (arith, whole)) ∙ h.head;
-  base = same (at + 16) (omega arith) (omega (arith, room)) (omega (arith, whole)) ∙ h.base;
-  size = same (at + 16 + 8) (omega arith) (omega (arith, room)) (omega (arith, whole)) ∙ h.size;
-  next = same (at + 16 + 16) (omega arith) (omega (arith, room)) (omega (arith, whole)) ∙ h.next;
-  flags = same (at + 16 + 24) (omega arith) (omega (arith, room)) (omega (arith, whole)) ∙ h.flags;
-  fences = λ k low high m. same k (omega (arith, low)) high m ∙ h.fences k low high m;
+  head = same (at + 8) (omega arith) (omega arith) (omega arith) ∙ h.head;
+  base = same (at + 16) (omega arith) (omega arith) (omega arith) ∙ h.base;
+  size = same (at + 16 + 8) (omega arith) (omega arith) (omega arith) ∙ h.size;
+  next = same (at + 16 + 16) (omega arith) (omega arith) (omega arith) ∙ h.next;
+  flags = same (at + 16 + 24) (omega arith) (omega arith) (omega arith) ∙ h.flags;
+  fences = λ k low high m. same k (omega arith) high m ∙ h.fences k low high m;
 }
 
 module _ {A : Type 0} {regions : A → List Grant} {word : A → ℕ → ℕ} (follows : A → List Event → A → Type 0) {heap : Dlmalloc A} (sound : IsSound regions word heap) {grant : Grant}
@@ -107,8 +107,8 @@ module _ {A : Type 0} {regions : A → List Grant} {word : A → ℕ → ℕ} (f
   joined_new followed = record {
     state = added_state (new_head heap grant system at) sound fresh same some beside no_join where_is.0 where_is.1 refl refl refl refl refl refl refl refl refl refl refl refl head foot recorded foot_stands kept_all;
     sound = added_sound (new_head heap grant system at) sound fresh same some beside no_join where_is.0 where_is.1 refl refl refl refl refl refl refl refl refl refl refl refl head foot recorded foot_stands kept_all;
-    there = omega (arith, fresh.long);
-    room = omega (arith, fresh.long);
+    there = omega arith;
+    room = omega arith;
     begins = inl refl;
     regions_same = same;
     followed = followed;

@@ -23,7 +23,7 @@ module _ {A : Type 0} {regions : A → List Grant} {word : A → ℕ → ℕ} {h
     (apart : AllByRecursion (IsApart grant.base (grant.base + grant.size)) (regions heap.system)) (with_it : regions system ≡ with_grant grant (regions heap.system))
     (words : (k : ℕ) → IsWordOf (regions heap.system) k → word system k ≡ word heap.system k) where
   long : 128 ≤ grant.size
-  long = omega (arith, good.long, enough)
+  long = omega arith
 
   segments_apart : AllByRecursion (λ segment. IsApartFrom segment (opened grant)) (segments_of word heap)
   segments_apart = go (segments_of word heap) sound.segments

@@ -19,14 +19,14 @@ module _ {A : Type 0} {regions : A → List Grant} {word : A → ℕ → ℕ} {h
     bytes = grant.base + grant.size - 80 - grant.base
 
     fits : grant.base + bytes + 80 ≡ grant.base + grant.size
-    fits = omega (arith, fresh.long)
+    fits = omega arith
 
     pub opened_segment : IsSegment (regions new.system) (word new.system) (opened grant)
     opened_segment = record {
       run = subst (λ rs. IsRun rs grant.base grant.size grant.flags) (sym same) fresh.run;
       low = fresh.low;
       high = fresh.high;
-      long = omega (arith, fresh.long);
+      long = omega arith;
       extents = stands;
       tail = refl;
     }
@@ -36,7 +36,7 @@ module _ {A : Type 0} {regions : A → List Grant} {word : A → ℕ → ℕ} {h
             let place : grant.base + bytes + 8 ≡ grant.base + grant.size - 72 = omega (arith, fits) in
             subst (λ end. Tiles (word new.system) Used grant.base (opened grant).extents end) fits
             (subst (λ at. Tiles (word new.system) Used grant.base (extent grant.base bytes Top ∷ extent at 80 Foot ∷ []) (grant.base + bytes + 80)) (omega (arith, fits))
-            (top_stands (word new.system) {before = Used} grant.base bytes refl fresh.base_aligned (omega (arith, fits, fresh.base_aligned, fresh.size_aligned)) (omega (arith, fits, fresh.long)) head (ap (word new.system) place ∙ foot)))
+            (top_stands (word new.system) {before = Used} grant.base bytes refl fresh.base_aligned (omega (arith, fits)) (omega (arith, fits)) head (ap (word new.system) place ∙ foot)))
 
     -- ---- the first grant
 
@@ -46,7 +46,7 @@ module _ {A : Type 0} {regions : A → List Grant} {word : A → ℕ → ℕ} {h
         (countdown : new.countdown ≡ countdown_from heap.rate) (trim_check : new.trim_check ≡ trim_threshold) where
       told : AreTold (word new.system) new (opened grant ∷ [])
       told = (
-        subst (λ n. 0 < n) (sym size) (omega (arith, fresh.long)),
+        subst (λ n. 0 < n) (sym size) (omega arith),
         base,
         size,
         flags,
@@ -68,7 +68,7 @@ module _ {A : Type 0} {regions : A → List Grant} {word : A → ℕ → ℕ} {h
 
       pub opened_sound : IsSound regions word new
       opened_sound = retold_sound regions word new (opened grant ∷ []) (opened_segment, tt) (tt, tt) told (subst (IsGranularity) (sym granularity) sound.granularity)
-          (subst (λ n. 0 < n) (sym size) (omega (arith, fresh.long))) (λ gone. victim ∙ sound.no_victim (sym victim_size ∙ gone)) (λ some. absurd (some no_victim))
+          (subst (λ n. 0 < n) (sym size) (omega arith)) (λ gone. victim ∙ sound.no_victim (sym victim_size ∙ gone)) (λ some. absurd (some no_victim))
 
       pub opened_state : (n : ℕ) → state_of word new ≡ granted grant n (state_of word heap)
       opened_state n =

@@ -55,8 +55,8 @@ module _ {A : Type 0} {regions : A → List Grant} {word : A → ℕ → ℕ} {h
 
   outside_kept : (k : ℕ) → IsWordOf (regions heap.system) k → IsOutside segment k → IsOutside (opened grant) k → word new.system k ≡ word heap.system k
   outside_kept k inside first second = kept k inside
-      (λ at. elim second [ inl below ↦ omega (arith, at, below) | inr above ↦ omega (arith, at, above, fresh.long) ])
-      (λ at. elim second [ inl below ↦ omega (arith, at, below) | inr above ↦ omega (arith, at, above, room) ])
+      (λ at. elim second [ inl below ↦ omega arith | inr above ↦ omega arith ])
+      (λ at. elim second [ inl below ↦ omega arith | inr above ↦ omega arith ])
       (untold k first)
 
   pub front_keeps : AllByRecursion (KeepsIts (word heap.system) (word new.system)) front
@@ -87,8 +87,8 @@ module _ {A : Type 0} {regions : A → List Grant} {word : A → ℕ → ℕ} {h
       (
         refl,
         record {
-          whole = omega (arith, fresh.base_aligned, multiple);
-          size = (omega (arith, fresh.size_aligned, multiple, room), omega (arith, room));
+          whole = omega arith;
+          size = (omega arith, omega arith);
           kind = inl refl;
           head = second;
           foot = λ free. absurd (cc);
@@ -103,7 +103,7 @@ module _ {A : Type 0} {regions : A → List Grant} {word : A → ℕ → ℕ} {h
         same_end = omega (arith, place)
 
         same_begin : segment.base ≡ grant.base + n + (grant.size - n)
-        same_begin = omega (arith, place, room)
+        same_begin = omega (arith, place)
 
     tail_is : ends_segment (last_kind Used now.extents) ≡ true
     tail_is = the_part.tail
@@ -131,8 +131,8 @@ module _ {A : Type 0} {regions : A → List Grant} {word : A → ℕ → ℕ} {h
     step other long one two = elim two [
       | inl before ↦ inl before
       | inr behind ↦ elim one [
-        | inl below ↦ absurd (omega (arith, behind, below, place, long))
-        | inr above ↦ inr (omega (arith, above, place))
+        | inl below ↦ absurd (omega (arith, place))
+        | inr above ↦ inr (omega (arith, place))
       ]
     ]
 
@@ -178,7 +178,7 @@ module _ {A : Type 0} {regions : A → List Grant} {word : A → ℕ → ℕ} {h
 
     rest_there : extent_at (grant.base + n) (extents_all (front ++ now ∷ back)) ≡ Some (extent (grant.base + n) (grant.size - n) Used)
     rest_there =
-        let other : (grant.base == grant.base + n) ≡ false = nat_isnt (inl (omega (arith, least))) in
+        let other : (grant.base == grant.base + n) ≡ false = nat_isnt (inl (omega arith)) in
         let here = nat_same (grant.base + n) in
         of_two (grant.base + n) {one = (extent (grant.base + n) (grant.size - n) Used)} (rw (other, here) refl)
 
@@ -236,12 +236,12 @@ module _ {A : Type 0} {regions : A → List Grant} {word : A → ℕ → ℕ} {h
         still = λ one there. in_now one.at (found_now one.at there);
         before = λ one not_chunk not_rest there. found_before one.at one not_chunk not_rest (ap (extent_at one.at) (sym (all_retold regions word new (front ++ now ∷ back) parts_now apart_now told)) ∙ there);
         apart = λ one there. (
-          (λ at. none_in_grant one.at (omega (arith, at)) (omega (arith, at, room)) there),
-          (λ at. none_in_grant one.at (omega (arith, at)) (omega (arith, at, room)) there),
+          (λ at. none_in_grant one.at (omega arith) (omega arith) there),
+          (λ at. none_in_grant one.at (omega arith) (omega arith) there),
         );
         words = λ k inside out tag. kept k inside
-            (λ at. elim out [ inl below ↦ omega (arith, at, below) | inr above ↦ omega (arith, at, above, room) ])
-            (λ at. elim out [ inl below ↦ omega (arith, at, below) | inr above ↦ omega (arith, at, above, room) ])
+            (λ at. elim out [ inl below ↦ omega arith | inr above ↦ omega arith ])
+            (λ at. elim out [ inl below ↦ omega arith | inr above ↦ omega arith ])
             (recorded k tag);
-        new_words = λ k inside low high not_first not_second. kept k inside not_first not_second (untold k (inl (omega (arith, high, place))));
+        new_words = λ k inside low high not_first not_second. kept k inside not_first not_second (untold k (inl (omega (arith, place))));
       }

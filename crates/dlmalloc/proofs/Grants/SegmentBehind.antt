@@ -43,7 +43,7 @@ module _ {A : Type 0} {regions : A → List Grant} {word : A → ℕ → ℕ} {h
   head_told = go (segments_of word heap) refl sound.told
     where
       go : (segments : List Segment) → segments_of word heap ≡ segments → AreTold (word heap.system) heap segments → HeadTold
-      go [] is h = absurd (omega (arith, some, h))
+      go [] is h = absurd (omega arith)
       go (segment ∷ segments) is h = record {
         segment = segment;
         back = segments;
@@ -105,8 +105,8 @@ module _ {A : Type 0} {regions : A → List Grant} {word : A → ℕ → ℕ} {h
     -- the four words of its record
     pub told_word : (k : ℕ) → payload ≤ k → k < payload + 32 → k % 8 ≡ payload % 8 → IsWordOf (regions heap.system) k
     told_word k low high m = record {
-      granted = part.run.covered k (omega (arith, at_in.low, told_rest.0, low)) (omega (arith, long, told_rest.0, high));
-      aligned = omega (arith, at_in.stands.whole, told_rest.0, m);
+      granted = part.run.covered k (omega (arith, at_in.low, told_rest.0)) (omega (arith, long, told_rest.0));
+      aligned = omega (arith, at_in.stands.whole, told_rest.0);
     }
 
     pub told_high : payload + 32 < 2 ^ 64
@@ -174,7 +174,7 @@ module _ (regions : List Grant) (old new : ℕ → ℕ) (rest now : List Segment
       long = elim (r.stands.size) [ inl short ↦ omega arith | inr longer ↦ omega arith ]
 
       at : (k : ℕ) → start ≤ k → k < start + 32 → k % 8 ≡ 0 → new k ≡ old k
-      at k low high m = same.0 k (omega (arith, r.low, low, some)) (omega (arith, r.high, long, high, some)) m
+      at k low high m = same.0 k (omega (arith, r.low, some)) (omega (arith, r.high, long, some)) m
 
 -- where there is no segment, it is put before none
 pub put_empty : {A : Type 0} (word : A → ℕ → ℕ) (heap : Dlmalloc A) (grant : Grant) → heap.size ≡ 0 → is_put_before grant (segments_of word heap) ≡ false

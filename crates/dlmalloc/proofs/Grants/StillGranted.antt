@@ -72,13 +72,13 @@ module _ {A : Type 0} {regions : A → List Grant} {word : A → ℕ → ℕ} {z
           let told_then = first_told out.same.sound in
           let more = first_granted grant bytes (state_of word old) behind.0 in
           let bytes_then : out.filled.size ≡ old.size + grant.size = told_then.0 ∙ (first.1 ∙ (more.1 ∙ ap (λ n. n + grant.size) (sym told.0))) in
-          (told_then.1 (omega (arith, bytes_then, some)) ∙ (first.0 ∙ (more.0 ∙ sym (told.1 some))), bytes_then)
+          (told_then.1 (omega (arith, some)) ∙ (first.0 ∙ (more.0 ∙ sym (told.1 some))), bytes_then)
 
       -- a block that was the last of the longer head segment would have been in the region
       not_last : chunk.at + chunk.size ≤ from - 16 → from - 16 < grant.base + grant.size → ⊥
       not_last before within = elim (beside_top sound some block.used from_there) [
-        | inl sooner ↦ omega (arith, before, sooner, from_place, at_top, low, from_inside.long)
-        | inr beyond ↦ none_granted grant.base (grant.base + grant.size) (regions old.system) fresh (from - 16) (omega (arith, beyond, end, from_place)) within
+        | inl sooner ↦ omega (arith, from_place, at_top, from_inside.long)
+        | inr beyond ↦ none_granted grant.base (grant.base + grant.size) (regions old.system) fresh (from - 16) (omega (arith, end, from_place)) within
             (from_inside.granted (from - 16) (omega (arith, from_place)) (omega (arith, from_place, from_inside.long)))
       ]
 
@@ -88,20 +88,20 @@ module _ {A : Type 0} {regions : A → List Grant} {word : A → ℕ → ℕ} {z
           | inl whole ↦ (
             grant.base,
             omega arith,
-            omega (arith, taken.room),
-            head_granted out.freed.sound (omega (arith, whole.1, longer.1, some)) grant.base (omega (arith, end, whole.0, longer.0)) (omega (arith, end, whole.0, whole.1, longer.0, longer.1, taken.room)),
+            omega arith,
+            head_granted out.freed.sound (omega (arith, longer.1, some)) grant.base (omega (arith, end, longer.0)) (omega (arith, end, longer.0, longer.1)),
           )
           | inr last ↦ absurd (elim (last.behind chunk out.block.used there) [
-            | inl before ↦ not_last before (omega (arith, last.within, longer.0, longer.1, end))
-            | inr beyond ↦ omega (arith, below, beyond, longer.0, longer.1, end)
+            | inl before ↦ not_last before (omega (arith, longer.0, longer.1, end))
+            | inr beyond ↦ omega (arith, longer.0, longer.1, end)
           ])
         ]
-        | no above ↦ (chunk.at, omega (arith, above), omega (arith, high, at_top, top_ends, end, taken.room), inside.granted chunk.at (omega arith) (omega (arith, inside.long)))
+        | no above ↦ (chunk.at, omega arith, omega (arith, at_top, top_ends, end), inside.granted chunk.at (omega arith) (omega (arith, inside.long)))
       ]
 
     still_new : HasByteOf grant (regions new.system)
     still_new = elim taken.place [
-      | inl here ↦ (chunk.at, omega (arith, here, low), omega (arith, here, high, taken.room), inside.granted chunk.at (omega arith) (omega (arith, inside.long)))
+      | inl here ↦ (chunk.at, omega arith, omega arith, inside.granted chunk.at (omega arith) (omega (arith, inside.long)))
       | inr behind ↦ still_behind behind
     ]
 
@@ -118,12 +118,12 @@ module _ {A : Type 0} {regions : A → List Grant} {word : A → ℕ → ℕ} {z
 
   still_high : 16 < align → IsServedAligned regions word zeros follows old size align address out.middle → (grant : Grant) → regions out.filled.system ≡ with_grant grant (regions old.system) → HasByteOf grant (regions new.system)
   still_high large served =
-      let p = is_place (served.greater - 16) align power large (omega (arith, served.served.aligned, served.served.low)) in
+      let p = is_place (served.greater - 16) align power large (omega arith) in
       let more = enlarged_is size align {n = (padded size)} refl in
       still_cut served.middle (padded (enlarged size align)) (served.greater - 16) served.served.cut
       (ap spans out.same.state ∙ (ap spans served.state ∙ spans_aligned (state_of word served.middle) (served.greater - 16) align (padded size)))
       (out.same.regions_same ∙ served.regions_same)
-      (omega (arith, place, served.place, p.low)) (omega (arith, place, served.place, p.high, more, padded_holds (enlarged size align), padded_holds size))
+      (omega (arith, place)) (omega (arith, place, padded_holds (enlarged size align), padded_holds size))
 
   pub still_granted : (grant : Grant) → regions out.filled.system ≡ with_grant grant (regions old.system) → HasByteOf grant (regions new.system)
   still_granted = elim out.served [

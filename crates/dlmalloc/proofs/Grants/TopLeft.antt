@@ -58,9 +58,9 @@ module _ (words : ℕ → ℕ) {before : Kind} (at size : ℕ) {end : ℕ} (told
           kind = inl used;
           head = recorded.head ∙ ap (λ k. head_of 48 (is_used k) true) (sym used);
           foot = λ free. absurd (cc);
-          fence = λ is k low high m. recorded.fences k low (omega (arith, high, s, ends_at)) m;
+          fence = λ is k low high m. recorded.fences k low (omega arith) m;
         },
-        omega (arith, s, ends_at),
+        omega arith,
       )
   left_stands false isnt recorded head foot =
       let more = large isnt in (
@@ -76,12 +76,12 @@ module _ (words : ℕ → ℕ) {before : Kind} (at size : ℕ) {end : ℕ} (told
         (
           refl,
           record {
-            whole = omega (arith, whole, units);
+            whole = omega arith;
             size = inl refl;
             kind = inr refl;
             head = recorded.head;
             foot = λ free. absurd (cc);
-            fence = λ is k low high m. recorded.fences k low (omega (arith, high, ends_at)) m;
+            fence = λ is k low high m. recorded.fences k low (omega arith) m;
           },
           ends_at,
         ),
@@ -89,7 +89,7 @@ module _ (words : ℕ → ℕ) {before : Kind} (at size : ℕ) {end : ℕ} (told
     where
       large : (size == 16) ≡ false → 32 ≤ size
       large test = elim (dec_lt size 32) [
-        | yes small ↦ absurd (let sixteen : size ≡ 16 = omega (arith, small, units, long) in let yes : (size == 16) ≡ true = grind (arith, nat_tests) in cc)
+        | yes small ↦ absurd (let sixteen : size ≡ 16 = omega arith in let yes : (size == 16) ≡ true = grind (arith, nat_tests) in cc)
         | no more ↦ omega arith
       ]
 
@@ -105,11 +105,11 @@ module _ (words : ℕ → ℕ) {before : Kind} (at size : ℕ) {end : ℕ} (told
       rw here (λ i. Some (extent at (bytes s i) Record))
     where
       bytes : size ≡ 16 → 96 ≡ end - at
-      bytes s = omega (arith, s, ends_at)
+      bytes s = omega arith
   left_record false isnt =
-      let first : (at == at + size) ≡ false = nat_isnt (inl (omega (arith, long))) in
+      let first : (at == at + size) ≡ false = nat_isnt (inl (omega arith)) in
       let second = nat_same (at + size) in
-      let bytes : 80 ≡ end - (at + size) = omega (arith, ends_at) in
+      let bytes : 80 ≡ end - (at + size) = omega arith in
       rw (first, second) (λ i. Some (extent (at + size) (bytes i) Record))
 
   -- no block, and no other chunk, is

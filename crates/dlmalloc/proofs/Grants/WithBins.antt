@@ -54,7 +54,7 @@ module _ (stays : IndexStays) {A : Type 0} {regions : A → List Grant} {word : 
       top = top_among sound some
 
       go : (t : Bool) → (heap.victim_size == 0) ≡ t → ⊥
-      go true test = (let low = free_low sound top in let zero = sound.no_victim (grind (arith, nat_tests)) in omega (arith, low, zero, victim))
+      go true test = (let low = free_low sound top in let zero = sound.no_victim (grind (arith, nat_tests)) in omega (arith, victim))
       go false test =
           let found = sound.victim (λ none. (let t : (heap.victim_size == 0) ≡ true = (let e = none in grind (arith, nat_tests)) in cc)) in
           let here : extent_at heap.victim (extents_in (state_of word heap)) ≡ Some (extent heap.top heap.top_size Top) = subst (λ a. extent_at a (extents_in (state_of word heap)) ≡ Some (extent heap.top heap.top_size Top)) victim top in

@@ -17,7 +17,7 @@ segments_read regions word heap (segment ∷ segments) parts told few =
     let extents : chunks_from words (heap.size / 16) heap.base heap.top ++ top_and_foot heap.top (heap.base + heap.size) ≡ segment.extents =
     (λ i. chunks_from words (told.2 i / 16) (told.1 i) heap.top ++ top_and_foot heap.top (told.1 i + told.2 i)) ∙ read_top parts.0 told.4 in
     rw some (λ i. (record { base = told.1 i; size = told.2 i; flags = told.3 i; extents = extents i })
-    ∷ records_read regions words (2 ^ 64) heap.next segments (omega (arith, few)) parts.1 told.5 i)
+    ∷ records_read regions words (2 ^ 64) heap.next segments (omega arith) parts.1 told.5 i)
 
 -- they are no more than can be read
 pub segments_few : {A : Type 0} (word : A → ℕ → ℕ) (heap : Dlmalloc A) → length (segments_of word heap) ≤ suc (2 ^ 64)
@@ -162,7 +162,7 @@ module _ {A : Type 0} {regions : A → List Grant} {word : A → ℕ → ℕ} {h
     segments = segments_now;
     apart = apart_now;
     told = subst (AreTold (word new.system) new) (sym read) step.told;
-    none = λ gone. absurd (omega (arith, gone, some));
+    none = λ gone. absurd (omega arith);
     no_victim = none;
     victim = named;
   }

@@ -17,7 +17,7 @@ limit_small granularity least = go (granularity == 16) refl
   where
     go : (b : Bool) → (granularity == 16) ≡ b → (if b then 2 ^ 64 - 135 else 2 ^ 64 - granularity - 103) + 119 ≤ 2 ^ 64
     go true is = omega arith
-    go false is = omega (arith, least)
+    go false is = omega arith
 
 pub padded_holds : (size : ℕ) → size + 8 ≤ padded size
 unfolding padded
@@ -60,24 +60,24 @@ module _ {A : Type 0} {regions : A → List Grant} {word : A → ℕ → ℕ} {h
   chunk_whole = subst (λ a. a % 16 ≡ 0) place inside.whole
 
   pub chunk_small : 32 ≤ n → ptr - 16 + align + 64 < 2 ^ 64
-  chunk_small least = omega (arith, inside.high, block.holds, place, least)
+  chunk_small least = omega (arith, inside.high, place)
 
   pub place_here : IsPowerOfTwo align → 16 < align → 32 ≤ n → {told : ℕ} → told ≡ size_of (word heap.system (ptr - 16 + 8)) → {at : ℕ} → at ≡ aligned_place (ptr - 16) align → HasAlignedPlace align (ptr - 16) told n at
   place_here power large least {told} is_told {at} is =
       let there = block_chunk regions word heap sound ptr (n + align + 24) block told is_told in
       let same : block.extent.size ≡ told = ap (λ e. e.size) (the_extent (sym block.there ∙ there)) in
-      let long : n + align + 32 ≤ told = omega (arith, block.holds, same) in
-      let end : ptr - 16 + told + 16 < 2 ^ 64 = omega (arith, inside.high, place, same) in
+      let long : n + align + 32 ≤ told = omega arith in
+      let end : ptr - 16 + told + 16 < 2 ^ 64 = omega (arith, inside.high, place) in
       let p = subst (IsAlignedPlace (ptr - 16) align) (sym is) (is_place (ptr - 16) align power large chunk_whole) in
-      let first : at - (ptr - 16) + n ≤ told = omega (arith, p.high, p.low, long) in
+      let first : at - (ptr - 16) + n ≤ told = omega arith in
       record {
         lead = p.lead;
-        whole = omega (arith, p.low, chunk_whole, p.whole);
-        first = omega (arith, first);
-        room = omega (arith, first, least);
-        rest = omega (arith, first);
+        whole = omega (arith, chunk_whole);
+        first = omega arith;
+        room = omega arith;
+        rest = omega arith;
         multiple = p.aligned;
-        small = omega (arith, p.low, first, end);
+        small = omega arith;
       }
 
 -- ---- the block that is handed out
@@ -107,8 +107,8 @@ served_aligned {regions} {word} {zeros} {follows} {old} {middle} {new} size {ali
       there = ap (λ a. extent_at a (extents_in (state_of word new))) (sym back) ∙ in_use.1;
       low = omega arith;
       used = refl;
-      holds = omega (arith, in_use.2, holds);
-      little = omega (arith, in_use.3, near);
+      holds = omega arith;
+      little = omega arith;
     } in
     let placed = block_placed regions word new left.sound (result + 16) size block in
     let same_words : (k : ℕ) → IsWordOf (regions middle.system) k → IsPassedOver (state_of word middle) (lead_freed (state_of word middle) (greater - 16) (result + 16 - 16)) (state_of word new) k → word new.system k ≡ word middle.system k

@@ -20,20 +20,20 @@ module _ (at align : ℕ) (power : IsPowerOfTwo align) (large : 16 < align) (who
   parts = mod-add-div' (at + 16 + (align - 1)) align
 
   less : (at + 16 + (align - 1)) % align < align
-  less = mod-lt (at + 16 + (align - 1)) (omega (arith, large))
+  less = mod-lt (at + 16 + (align - 1)) (omega arith)
 
   -- it is a multiple, at least and not far from what is rounded up
   pub first_low : at + 16 ≤ first
-  first_low = omega (arith, parts, less, large)
+  first_low = omega (arith, parts, less)
 
   pub first_high : first ≤ at + 16 + (align - 1)
   first_high = omega (arith, parts)
 
   units : align % 16 ≡ 0
-  units = granularity_whole align power (omega (arith, large))
+  units = granularity_whole align power (omega arith)
 
   first_whole : first % 16 ≡ 0
-  first_whole = asked_whole (at + 16) align power (omega (arith, large))
+  first_whole = asked_whole (at + 16) align power (omega arith)
 
   first_aligned : first % align ≡ 0
   first_aligned = mul-mod_left ((at + 16 + (align - 1)) / align) align
@@ -51,21 +51,21 @@ module _ (at align : ℕ) (power : IsPowerOfTwo align) (large : 16 < align) (who
       }
       go false is true short =
           let few : first ≤ at + 48 = grind (arith, nat_tests) in
-          let again : first + align - 16 + 16 ≡ first + align = omega (arith, large) in
+          let again : first + align - 16 + 16 ≡ first + align = omega arith in
           record {
-            low = omega (arith, first_low, large);
-            lead = inr (omega (arith, first_low, large, units));
-            high = omega (arith, few);
-            whole = omega (arith, first_low, large, units, first_whole);
+            low = omega (arith, first_low);
+            lead = inr (omega (arith, first_low, units));
+            high = omega arith;
+            whole = omega (arith, first_low, units, first_whole);
             aligned = ap (λ n. n % align) again ∙ (add-mod_right first align ∙ first_aligned);
           }
       go false is false far =
           let more : at + 48 < first = grind (arith, nat_tests) in
-          let again : first - 16 + 16 ≡ first = omega (arith, more) in
+          let again : first - 16 + 16 ≡ first = omega arith in
           record {
-            low = omega (arith, more);
-            lead = inr (omega (arith, more));
+            low = omega arith;
+            lead = inr (omega arith);
             high = omega (arith, first_high);
-            whole = omega (arith, more, first_whole);
+            whole = omega (arith, first_whole);
             aligned = ap (λ n. n % align) again ∙ first_aligned;
           }

@@ -79,8 +79,8 @@ module _ {A : Type 0} {regions : A → List Grant} {word : A → ℕ → ℕ} {h
     pub head_there : (k : ℕ) → at ≤ k → k + 16 ≤ two.segment.base + two.segment.size → k % 8 ≡ 0 → HasHead (regions heap.system) k
     head_there k above below m = record {
       aligned = m;
-      small = omega (arith, end_small, below);
-      granted = run_word (regions heap.system) sound.segments two (k + 8) (omega (arith, low, above)) (omega arith) (omega (arith, m));
+      small = omega (arith, end_small);
+      granted = run_word (regions heap.system) sound.segments two (k + 8) (omega (arith, low)) (omega arith) (omega arith);
     }
 
     -- what a step leaves, in which the chunk takes bytes

@@ -145,7 +145,7 @@ module _ (regions : List Grant) {old : ℕ → ℕ} (new : ℕ → ℕ) {before 
       let units_free = behind.size.0 in
       let long_free = behind.size.1 in
       let kind = behind_free next.kind after.kind in
-      let sum : next.at ≡ at + (size + free) = omega (arith, touch) in
+      let sum : next.at ≡ at + (size + free) = omega arith in
       record {
         less_stand = (refl, stands, (refl, behind, (touch, after, refl)));
         more_stand = (
@@ -157,7 +157,7 @@ module _ (regions : List Grant) {old : ℕ → ℕ} (new : ℕ → ℕ) {before 
                 (subst (λ a. new (a + 8) ≡ head_of (told_size next.kind next.size) true (is_used next.kind)) (sym sum)
                 (stored.here.1.0 tt ∙ (ap (λ a. with_pinuse (old (a + 8))) (sym sum)
                 ∙ (ap with_pinuse after.head ∙ with_pinuse-head_of (told_size next.kind next.size) false (is_used next.kind) (told_whole next.kind next.size after.size)))))
-                (λ k low high m. stored.elsewhere k (granted k (omega arith) high m) ((λ is. omega (arith, sum, low, is)), ((λ is. omega (arith, sum, low, is)), tt))),
+                (λ k low high m. stored.elsewhere k (granted k (omega arith) high m) ((λ is. omega arith), ((λ is. omega arith), tt))),
             omega arith,
           ),
         );

@@ -69,17 +69,17 @@ stays_there {regions} {word} old new {ptr} held size whole sound block kept_byte
   order = order;
   small = small;
   state = state;
-  block = record { extent = chunk; there = there; low = block.low; used = refl; holds = omega (arith, holds, fits); little = omega (arith, near, little) };
+  block = record { extent = chunk; there = there; low = block.low; used = refl; holds = omega arith; little = omega arith };
   others = others;
   contents = λ k less m.
       let inside = used_inside regions word new moved.sound chunk refl there in
       let low = block.low in
-      kept_in regions word old moved.sound moved.words chunk there refl (ptr + k) (omega (arith, low)) (omega (arith, low, less, holds, fits)) (record {
-        granted = subst (λ rs. IsTrue (is_granted rs (ptr + k))) moved.regions_same (inside.granted (ptr + k) (omega (arith, low)) (omega (arith, low, less, holds, fits)));
-        aligned = omega (arith, low, m, inside.whole);
+      kept_in regions word old moved.sound moved.words chunk there refl (ptr + k) (omega arith) (omega arith) (record {
+        granted = subst (λ rs. IsTrue (is_granted rs (ptr + k))) moved.regions_same (inside.granted (ptr + k) (omega arith) (omega arith));
+        aligned = omega arith;
       })
       (let place = (found (ptr - 16) block.extent (extents_in (state_of word old)) block.there).place in
-      not_in_free sound (ap (λ a. extent_at a (extents_in (state_of word old))) place ∙ block.there) block.used (ptr + k) (omega (arith, low, place)) (omega (arith, low, place, less, kept_bytes)));
+      not_in_free sound (ap (λ a. extent_at a (extents_in (state_of word old))) place ∙ block.there) block.used (ptr + k) (omega arith) (omega arith));
   kept = blocks_law sound moved.sound moved.words (others_at (ptr - 16) (extents_in (state_of word old)))
       (λ other there used.
       let is = other_there (ptr - 16) (extents_in (state_of word old)) other.at there in
@@ -94,7 +94,7 @@ stays_there {regions} {word} old new {ptr} held size whole sound block kept_byte
 
 -- what is held of a block is in its chunk
 pub held_there : {heap : HeapState} {ptr n : ℕ} (held : ℕ) (block : IsBlock heap ptr n) → held + 8 ≤ size_where (λ extent. extent.at == ptr - 16) (extents_in heap) → held + 8 ≤ block.extent.size
-held_there {heap} {ptr} held block fits = omega (arith, fits, size_at heap (ptr - 16) block.extent block.there)
+held_there {heap} {ptr} held block fits = omega (arith, size_at heap (ptr - 16) block.extent block.there)
 
 module _ {A : Type 0} {regions : A → List Grant} {word : A → ℕ → ℕ} (zeros : A → Bool) (follows : A → List Event → A → Type 0) {old : Dlmalloc A} {ptr : ℕ} (held align size address : ℕ) {n : ℕ} (sound : IsSound regions word old) (block : IsBlock (state_of word old) ptr n)
     (fits : held + 8 ≤ size_where (λ extent. extent.at == ptr - 16) (extents_in (state_of word old))) (middle : Dlmalloc A) (served : IsServedAt regions word zeros follows old size align address middle) where
@@ -125,7 +125,7 @@ module _ {A : Type 0} {regions : A → List Grant} {word : A → ℕ → ℕ} (z
   })
 
   few_from : min held size ≤ block.extent.size - 8
-  few_from = omega (arith, fits, size_at (state_of word old) (ptr - 16) block.extent block.there)
+  few_from = omega (arith, size_at (state_of word old) (ptr - 16) block.extent block.there)
 
   pub few_to : min held size ≤ size
   few_to = omega arith
@@ -139,9 +139,9 @@ module _ {A : Type 0} {regions : A → List Grant} {word : A → ℕ → ℕ} (z
   pub words_apart : (ptr + 8 * words_in (min held size) ≤ address) ⊎ (address + 8 * words_in (min held size) ≤ ptr)
   words_apart =
       let low = block.low in let new_low = new_block.1.low in let few = few_from in
-      elim (blocks_apart new_block.0 ptr (block.extent.size - 8) address size still new_block.1 (λ same. more.new block.extent block.used there (omega (arith, place, same)))) [
-        | inl before ↦ inl (omega (arith, few, before))
-        | inr behind ↦ inr (omega (arith, behind))
+      elim (blocks_apart new_block.0 ptr (block.extent.size - 8) address size still new_block.1 (λ same. more.new block.extent block.used there (omega (arith, place)))) [
+        | inl before ↦ inl (omega arith)
+        | inr behind ↦ inr (omega arith)
       ]
 
   module _ (system : A) (same : regions system ≡ regions middle.system) (followed : follows middle.system [] system)
@@ -193,9 +193,9 @@ module _ {A : Type 0} {regions : A → List Grant} {word : A → ℕ → ℕ} (z
           let low = block.low in let new_low = new_block.1.low in let holds = new_block.1.holds in let few = few_from in let old_holds = block.holds in
           let whole = (used_inside regions word middle new_block.0 cut new_block.1.used cut_there).whole in
           let old_whole = (used_inside regions word old sound block.extent block.used there).whole in
-          freed.kept.words cut cut_new new_block.1.used (address + k) (omega (arith, cut_place, new_low)) (omega (arith, cut_place, new_low, holds, less)) (omega (arith, cut_place, new_low, whole, m))
-          ∙ (copied.here k (omega (arith, less)) m
-          ∙ first_kept.words block.extent there block.used (ptr + k) (omega (arith, place, low)) (omega (arith, place, low, few, old_holds, less)) (omega (arith, place, low, old_whole, m)))
+          freed.kept.words cut cut_new new_block.1.used (address + k) (omega (arith, cut_place)) (omega (arith, cut_place)) (omega (arith, cut_place))
+          ∙ (copied.here k (omega arith) m
+          ∙ first_kept.words block.extent there block.used (ptr + k) (omega (arith, place)) (omega (arith, place)) (omega (arith, place)))
 
       -- every other block keeps its words
       pub moved_kept : KeepsBlocks (others_at (ptr - 16) (extents_in (state_of word old))) (word old.system) (word new.system)
@@ -205,15 +205,15 @@ module _ {A : Type 0} {regions : A → List Grant} {word : A → ℕ → ℕ} (z
             let then_there = more.kept other used is.1 in
             let inside = used_inside regions word middle new_block.0 other used then_there in
             freed.kept.words other (ends used then_there is.0) used k low high m
-            ∙ (copied.elsewhere k (record { granted = inside.granted k (omega (arith, low)) (omega (arith, high)); aligned = m }) (beside other used is.1 k (omega (arith, low)) high)
+            ∙ (copied.elsewhere k (record { granted = inside.granted k (omega arith) (omega arith); aligned = m }) (beside other used is.1 k (omega arith) high)
             ∙ first_kept.words other is.1 used k low high m);
         heads = λ other found used.
             let is = other_there (ptr - 16) (extents_in (state_of word old)) other.at found in
             let then_there = more.kept other used is.1 in
             let inside = used_inside regions word middle new_block.0 other used then_there in
             freed.kept.heads other (ends used then_there is.0) used
-            ∙ (ap (λ w. w / 2) (copied.elsewhere (other.at + 8) (record { granted = inside.granted (other.at + 8) (omega arith) (omega arith); aligned = omega (arith, inside.whole) })
-            (beside other used is.1 (other.at + 8) (omega arith) (omega (arith, inside.long))))
+            ∙ (ap (λ w. w / 2) (copied.elsewhere (other.at + 8) (record { granted = inside.granted (other.at + 8) (omega arith) (omega arith); aligned = omega arith })
+            (beside other used is.1 (other.at + 8) (omega arith) (omega arith)))
             ∙ first_kept.heads other is.1 used);
       }
         where
@@ -222,6 +222,6 @@ module _ {A : Type 0} {regions : A → List Grant} {word : A → ℕ → ℕ} (z
               let new_low = new_block.1.low in let holds = new_block.1.holds in
               let size_whole = (used_inside regions word middle new_block.0 cut new_block.1.used cut_there).size_whole in
               elim (used_apart regions word middle new_block.0 other cut (more.kept other used found) cut_there (λ same. more.new other used found (same ∙ cut_place))) [
-                | inl before ↦ inl (omega (arith, cut_place, new_low, high, before))
-                | inr behind ↦ inr (omega (arith, cut_place, new_low, holds, size_whole, low, behind))
+                | inl before ↦ inl (omega (arith, cut_place))
+                | inr behind ↦ inr (omega (arith, cut_place))
               ]

@@ -42,7 +42,7 @@ module _ {A : Type 0} {regions : A → List Grant} {word : A → ℕ → ℕ} {h
   stands_free = both.here.2.1
 
   least : 32 ≤ n
-  least = omega (arith, stands.size.1, more)
+  least = omega (arith, stands.size.1)
 
   -- what stands behind the free one
   abbrev third : HasNext both.last
@@ -67,14 +67,14 @@ module _ {A : Type 0} {regions : A → List Grant} {word : A → ℕ → ℕ} {h
   free_sizes_whole = omega (arith, stands.size.0, stands_free.size.0)
 
   pub free_head_there : (k : ℕ) → at ≤ k → k ≤ at + size + length → k % 8 ≡ 0 → HasHead (regions heap.system) k
-  free_head_there k above under m = head_there sound there next_is k above (omega (arith, end_room, under)) m
+  free_head_there k above under m = head_there sound there next_is k above (omega (arith, end_room)) m
 
   pub free_foot_there : (k : ℕ) → at ≤ k → k ≤ at + size + length → k % 8 ≡ 0 → HasFoot (regions heap.system) k
   free_foot_there k above under m = record {
     aligned = m;
-    small = omega (arith, free_end_small, under);
+    small = omega (arith, free_end_small);
     granted = run_word (regions heap.system) sound.segments both k
-        (omega (arith, low sound there next_is, above)) (omega (arith, end_room, under)) m;
+        (omega (arith, low sound there next_is)) (omega (arith, end_room)) m;
   }
 
   -- the free chunk is found in a run
@@ -118,7 +118,7 @@ module _ {A : Type 0} {regions : A → List Grant} {word : A → ℕ → ℕ} {h
       pub into_victim : at + size ≡ heap.victim → IsEnlarged regions word heap chunk free n n (after (at + n) (size + length - n))
       into_victim is =
           let test : (at + size == heap.victim) ≡ true = (let e = is in grind (arith, nat_tests)) in
-          split (at + n) (size + length - n) (λ none. absurd (omega (arith, none, rest_room)))
+          split (at + n) (size + length - n) (λ none. absurd (omega arith))
           (λ some.
           let first : (at == at + n) ≡ false = nat_isnt (inl (omega (arith, least))) in
           let second : (at + n == at + n) ≡ true = nat_same (at + n) in
@@ -182,13 +182,13 @@ module _ {A : Type 0} {regions : A → List Grant} {word : A → ℕ → ℕ} {h
 
       move : IsMove (regions heap.system) words (word system) (last_kind Used both.first) at (at + size + length + last.size) (at + size + length + last.size) three all
       move =
-          let some : (size + length == 0) ≡ false = nat_isnt (inr (omega (arith, least, room))) in
+          let some : (size + length == 0) ≡ false = nat_isnt (inr (omega (arith, least))) in
           let place = stands_third.0 in
           grown_whole (regions heap.system) (word system) stands length last stands_free stands_third.1 stands_third.0
           (subst (λ t. AreStored (regions heap.system) words ((at + 8, head_of (size + length) (pinuse_of (words (at + 8))) true)
           ∷ (at + (size + length) + 8, with_pinuse (if t then head_of (size + length) (pinuse_of (words (at + 8))) true else words (at + (size + length) + 8))) ∷ []) (word system)) some stored)
           (λ k above under m. run_word (regions heap.system) sound.segments both k
-          (omega (arith, low sound there next_is, place, above)) (omega (arith, place, below, under)) m)
+          (omega (arith, low sound there next_is)) (omega (arith, below)) m)
 
       -- what is found among the three, and is neither of the two that are one now, still is
       still : (k : ℕ) {tail : Extent} → extent_at k three ≡ Some tail → (chunk ≡ tail → ⊥) → (free ≡ tail → ⊥) → extent_at k all ≡ Some tail
@@ -229,7 +229,7 @@ module _ {A : Type 0} {regions : A → List Grant} {word : A → ℕ → ℕ} {h
                 let one : last ≡ used = elim (in_two (extent at (size + length) Used) last used.at found) [ inl one ↦ absurd (other (ap (λ e. e.at) (sym one))) | inr one ↦ one ] in
                 let place : used.at ≡ at + size + length = ap (λ e. e.at) (sym one) ∙ stands_third.0 in
                 let first : (at == used.at) ≡ false = differ at used.at (λ e. other (sym e)) in
-                let second : (at + size == used.at) ≡ false = nat_isnt (inl (omega (arith, place, stands_free.size.1))) in
+                let second : (at + size == used.at) ≡ false = nat_isnt (inl (omega (arith, stands_free.size.1))) in
                 rw (first, second) later.1)
           ]
 

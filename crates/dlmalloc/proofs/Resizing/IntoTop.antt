@@ -39,10 +39,10 @@ module _ {A : Type 0} {regions : A → List Grant} {word : A → ℕ → ℕ} {h
   stands_top = both.here.2.1
 
   least : 32 ≤ n
-  least = omega (arith, stands.size.1, more)
+  least = omega (arith, stands.size.1)
 
   rest_room : n + 16 ≤ size + heap.top_size
-  rest_room = omega (arith, whole, room, stands.size.0, stands_top.size.0)
+  rest_room = omega (arith, stands.size.0, stands_top.size.0)
 
   below : at + size + heap.top_size ≤ both.segment.base + both.segment.size
   below = high sound there next_is
@@ -51,7 +51,7 @@ module _ {A : Type 0} {regions : A → List Grant} {word : A → ℕ → ℕ} {h
   top_first_head = head_there sound there next_is at (omega arith) (omega (arith, below, rest_room)) (omega (arith, stands.whole))
 
   pub top_rest_head : HasHead (regions heap.system) (at + n)
-  top_rest_head = head_there sound there next_is (at + n) (omega arith) (omega (arith, below, rest_room)) (omega (arith, stands.whole, whole))
+  top_rest_head = head_there sound there next_is (at + n) (omega arith) (omega (arith, below, rest_room)) (omega (arith, stands.whole))
 
   head_segment : both.front ≡ []
   head_segment = (is_top sound both.front both.segment both.back both.is {at = (at + size)} {size = heap.top_size}

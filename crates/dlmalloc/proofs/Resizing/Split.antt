@@ -74,18 +74,18 @@ module _ {A : Type 0} {regions : A → List Grant} {word : A → ℕ → ℕ} {h
   head_there : (k : ℕ) → at ≤ k → k + 16 ≤ at + size → k % 8 ≡ 0 → HasHead (regions heap.system) k
   head_there k above below m = record {
     aligned = m;
-    small = omega (arith, end_small, below);
-    granted = run_word (regions heap.system) sound.segments run (k + 8) (omega (arith, low, above)) (omega (arith, high, below)) (omega (arith, m));
+    small = omega (arith, end_small);
+    granted = run_word (regions heap.system) sound.segments run (k + 8) (omega (arith, low)) (omega (arith, high)) (omega arith);
   }
 
   pub first_head : HasHead (regions heap.system) at
-  first_head = head_there at (omega arith) (omega (arith, room)) (omega (arith, stands.whole))
+  first_head = head_there at (omega arith) (omega arith) (omega (arith, stands.whole))
 
   pub second_head : HasHead (regions heap.system) (at + n)
-  second_head = head_there (at + n) (omega arith) (omega (arith, room)) (omega (arith, stands.whole, whole))
+  second_head = head_there (at + n) (omega arith) (omega arith) (omega (arith, stands.whole))
 
   pub rest_whole : (size - n) % 8 ≡ 0
-  rest_whole = omega (arith, stands.size.0, whole, room)
+  rest_whole = omega (arith, stands.size.0)
 
   -- the stores of two calls, as one
   stores : (middle system : A) (value : ℕ) → regions middle ≡ regions heap.system →
@@ -124,7 +124,7 @@ module _ {A : Type 0} {regions : A → List Grant} {word : A → ℕ → ℕ} {h
         (λ k tail found is. absurd (let no : Used ≡ Top = used_one k found ∙ is in cc))
 
     apart : (at == at + n) ≡ false
-    apart = nat_isnt (inl (omega (arith, least)))
+    apart = nat_isnt (inl (omega arith))
 
     pub split_state : state_of word after ≡ exchanged (state_of word heap) at (halves n)
     split_state =

@@ -40,7 +40,7 @@ module _ {A : Type 0} {regions : A → List Grant} {word : A → ℕ → ℕ} {f
     tail_state = state ∙ ap (λ s. freed s (at + n)) split.state
 
     pub tail_first : extent_at at (extents_in (state_of word new)) ≡ Some (extent at n Used)
-    tail_first = less.only (extent at n Used) refl split.first (λ same. absurd (let e : at ≡ at + n = same in omega (arith, least)))
+    tail_first = less.only (extent at n Used) refl split.first (λ same. absurd (let e : at ≡ at + n = same in omega arith))
 
     pub tail_others : HasSameOthers (state_of word heap) (state_of word new) at at
     tail_others = record {
@@ -63,7 +63,7 @@ module _ {A : Type 0} {regions : A → List Grant} {word : A → ℕ → ℕ} {f
     lead_state = state ∙ ap (λ s. freed s at) split.state
 
     pub lead_second : extent_at (at + n) (extents_in (state_of word new)) ≡ Some (extent (at + n) (size - n) Used)
-    lead_second = less.only (extent (at + n) (size - n) Used) refl split.second (λ same. absurd (let e : at + n ≡ at = same in omega (arith, least)))
+    lead_second = less.only (extent (at + n) (size - n) Used) refl split.second (λ same. absurd (let e : at + n ≡ at = same in omega arith))
 
     pub lead_others : HasOneMoved (state_of word heap) (state_of word new) at (at + n)
     lead_others = record {

@@ -23,7 +23,7 @@ ahead_of words payload (segment ∷ others) more h = record { segment = segment;
 
 pub none_ahead : (words : ℕ → ℕ) {payload : ℕ} (rest : List Segment) → payload ≡ 0 → AreRecords words payload rest → rest ≡ []
 none_ahead words [] none h = refl
-none_ahead words (segment ∷ rest) none h = absurd (let some = h.0 in omega (arith, some, none))
+none_ahead words (segment ∷ rest) none h = absurd (let some = h.0 in omega arith)
 
 -- what is read of a record
 abbrev pub record_read : (ℕ → ℕ) → ℕ → SegmentRecord
@@ -31,7 +31,7 @@ record_read words payload = record { base = words payload; size = words (payload
 
 -- the parity of flags is that of their last 32 bits
 pub parity : {flags word : ℕ} → word ≡ flags → (word % 2 ^ 32 % 2 == 0) ≡ (flags % 2 == 0)
-parity is = ap (λ n. n == 0) (omega (arith, is))
+parity is = ap (λ n. n == 0) (omega arith)
 
 -- all words of segments stay, where granted words do
 pub all_keep : (regions : List Grant) (old new : ℕ → ℕ) → ((k : ℕ) → IsWordOf regions k → new k ≡ old k) → (segments : List Segment) → AreSegments regions old segments → AllByRecursion (KeepsIts old new) segments
@@ -160,7 +160,7 @@ module _ {A : Type 0} (regions : A → List Grant) (word : A → ℕ → ℕ) (f
 
         pub read_word : (k : ℕ) → payload ≤ k → k < payload + 32 → k % 8 ≡ payload % 8 → IsWordOf (regions old) k
         read_word k low high m = payload_word parts_are.0 payload a.told.0 a.told.4 k low high
-            (omega (arith, m, payload_whole parts_are.0 payload a.told.0 a.told.4))
+            (omega (arith, payload_whole parts_are.0 payload a.told.0 a.told.4))
 
         module _ {told : SegmentRecord} (read : told ≡ record_read (word old) payload) where
           pub base_is : told.base ≡ a.segment.base
@@ -186,11 +186,11 @@ module _ {A : Type 0} (regions : A → List Grant) (word : A → ℕ → ℕ) (f
                 let sum = ap bytes_of on_given.is ∙ bytes_append on_given.done on_given.rest in
                 let some = taken_few takes (filter is_own on_given.done) in
                 let own = bytes_filter is_own on_given.done in
-                omega (arith, on_given.given.bytes_are, all, sum, some, own)
+                omega (arith, on_given.given.bytes_are)
 
             pub fewer_given : length (records_from (word new) (2 ^ 64) told.next) < length (records_from (word old) (2 ^ 64) payload)
             fewer_given =
                 let now = ap length (records_left new on_given) in
                 let was = ap length (records_left old d) in
                 let all = ap length a.is in
-                omega (arith, now, was, all)
+                omega arith

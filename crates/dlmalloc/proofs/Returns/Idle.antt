@@ -26,7 +26,7 @@ module _ {regions : List Grant} {words : ℕ → ℕ} {segment : Segment} (part 
       is = unused_extents part at there test
 
       short : end - at ≡ 80
-      short = (let tiles = subst (λ es. Tiles words Used segment.base es end) is part.extents in let place = tiles.2.0 in let long = part.long in omega (arith, place, long))
+      short = (let tiles = subst (λ es. Tiles words Used segment.base es end) is part.extents in let place = tiles.2.0 in let long = part.long in omega arith)
 
   idle_unused : IsIdle segment → is_unused segment ≡ true
   idle_unused idle = ap (λ es. is_unused (with_extents segment es)) b.is ∙ rw (free, fits) refl
@@ -52,7 +52,7 @@ module _ {regions : List Grant} {words : ℕ → ℕ} {segment : Segment} (part 
           let tiles = subst (λ es. Tiles words Used segment.base es (segment.base + segment.size)) b.is part.extents in
           let size : b.last.size ≡ 80 = ap (λ e. e.size) last in
           let whole = tiles.2.2 in
-          let is : b.one.size + 80 ≡ segment.size = omega (arith, size, whole) in
+          let is : b.one.size + 80 ≡ segment.size = omega arith in
           grind (arith, nat_tests)
 
   both : (b c : Bool) → IsTrue (b && c) → IsTrue b × IsTrue c

@@ -86,9 +86,9 @@ module _ {A : Type 0} (regions : A → List Grant) (word : A → ℕ → ℕ) (f
   -- the blocks keep their words
   blocks_left : {segments : List Segment} (old new : Dlmalloc A) → IsSound regions word old → HaveLeft regions word follows segments old new → KeepsBlocks (extents_in (state_of word old)) (word old.system) (word new.system)
   blocks_left old new sound left = record {
-    words = λ block there used k low high m. left.words k (inside block there used k (omega (arith, low)) high m) (not_in_free sound there used k (omega (arith, low)) high) (λ r. no_record_is block there used k (omega (arith, low)) high m r);
+    words = λ block there used k low high m. left.words k (inside block there used k (omega arith) high m) (not_in_free sound there used k (omega arith) high) (λ r. no_record_is block there used k (omega arith) high m r);
     heads = λ block there used. (let is = stands block there used in
-        ap (λ w. w / 2) (left.words (block.at + 8) (inside block there used (block.at + 8) (omega arith) (omega (arith, is.long)) (omega (arith, is.whole))) (not_in_free sound there used (block.at + 8) (omega arith) (omega (arith, is.long))) (λ r. no_record_is block there used (block.at + 8) (omega arith) (omega (arith, is.long)) (omega (arith, is.whole)) r)));
+        ap (λ w. w / 2) (left.words (block.at + 8) (inside block there used (block.at + 8) (omega arith) (omega arith) (omega arith)) (not_in_free sound there used (block.at + 8) (omega arith) (omega arith)) (λ r. no_record_is block there used (block.at + 8) (omega arith) (omega arith) (omega arith) r)));
   }
     where
       no_record_is : (block : Extent) → extent_at block.at (extents_in (state_of word old)) ≡ Some block → block.kind ≡ Used → (k : ℕ) → block.at ≤ k → k < block.at + block.size + 8 → k % 8 ≡ 0 → IsInRecord (state_of word old) k → ⊥
@@ -132,7 +132,7 @@ module _ {A : Type 0} {regions : A → List Grant} {word : A → ℕ → ℕ} (f
   begun_passing some follows_none = go (segments_of word old) refl sound.told
     where
       go : (segments : List Segment) → segments_of word old ≡ segments → AreTold (word old.system) old segments → Passing regions word follows frees parts old 0 old.next 0 0 old
-      go [] is h = absurd (omega (arith, some, h))
+      go [] is h = absurd (omega arith)
       go (head ∷ segments) is h = record {
         head = head;
         done = [];
@@ -162,11 +162,11 @@ module _ {A : Type 0} {regions : A → List Grant} {word : A → ℕ → ℕ} (f
   module _ {before payload count released : ℕ} {now : Dlmalloc A} (p : Passing regions word follows frees parts old before payload count released now) where
     -- the bytes that left are fewer than addresses
     pub few_released : released ≤ bytes_of p.done
-    few_released = omega (arith, p.bytes_are, bytes_filter (λ segment. frees && may_leave parts segment) p.done)
+    few_released = omega (arith, bytes_filter (λ segment. frees && may_leave parts segment) p.done)
 
     -- no more are visited than there are
     pub passed_few : count ≤ length (segments_of word old)
-    passed_few = omega (arith, p.counted, ap length p.was, length-append p.done p.rest)
+    passed_few = omega (arith, ap length p.was, length-append p.done p.rest)
 
     module _ (more : payload ≢ 0) where
       abbrev pub ahead : Ahead (word now.system) payload p.rest
@@ -177,7 +177,7 @@ module _ {A : Type 0} {regions : A → List Grant} {word : A → ℕ → ℕ} (f
           let all = bytes_few (regions old.system) (word old.system) (segments_of word old) sound.segments sound.apart in
           let sum = ap bytes_of (p.was ∙ ap (λ rest. p.head ∷ (p.done ++ rest)) ahead.is) in
           let both = bytes_append p.done (ahead.segment ∷ ahead.others) in
-          omega (arith, all, sum, both)
+          omega arith
 
       ahead_part : IsSegment (regions now.system) (word now.system) ahead.segment
       ahead_part = all_at (IsSegment (regions now.system) (word now.system)) (p.head ∷ remaining frees parts p.done) ahead.segment ahead.others
@@ -189,11 +189,11 @@ module _ {A : Type 0} {regions : A → List Grant} {word : A → ℕ → ℕ} (f
 
       pub read_word : (k : ℕ) → payload ≤ k → k < payload + 32 → k % 8 ≡ payload % 8 → IsWordOf (regions now.system) k
       read_word k low high m = payload_word ahead_part payload ahead.told.0 ahead.told.4 k low high
-          (omega (arith, m, payload_whole ahead_part payload ahead.told.0 ahead.told.4))
+          (omega (arith, payload_whole ahead_part payload ahead.told.0 ahead.told.4))
 
       -- where one is left, fewer are visited than there are
       pub more_left : count + 1 < length (segments_of word old)
-      more_left = omega (arith, p.counted, ap length p.was, length-append p.done p.rest, ap length ahead.is)
+      more_left = omega (arith, ap length p.was, length-append p.done p.rest, ap length ahead.is)
 
       pub count_fits : count + 1 < 2 ^ 64
       count_fits = omega (arith, more_left, few (regions old.system) (word old.system) (segments_of word old) sound.segments sound.apart)
@@ -251,7 +251,7 @@ module _ {A : Type 0} {regions : A → List Grant} {word : A → ℕ → ℕ} (f
           victim_is false false = refl
 
           bytes_now : (b : Bool) → (if b then released + told.size else released) ≡ bytes_of (leaving frees parts p.done ++ (if b then ahead.segment ∷ [] else []))
-          bytes_now true = omega (arith, p.bytes_are, told_size, bytes_append (leaving frees parts p.done) (ahead.segment ∷ []))
+          bytes_now true = omega (arith, told_size, bytes_append (leaving frees parts p.done) (ahead.segment ∷ []))
           bytes_now false = p.bytes_are ∙ ap bytes_of (sym (append-nil (leaving frees parts p.done)))
 
           -- one more is
@@ -276,8 +276,8 @@ module _ {A : Type 0} {regions : A → List Grant} {word : A → ℕ → ℕ} (f
                 let is = next was.0 in
                 (is.0, λ n. is.1 n ∙ (visit_same frees parts ahead.segment was.0.index (after_visits frees parts p.done b.index) n (was.1 n) ∙ visits_on frees parts p.done ahead.segment b.index n));
             bytes_are = bytes_now b ∙ ap bytes_of (sym gone_is);
-            counted = omega (arith, p.counted, length-append p.done (ahead.segment ∷ []));
-            some = omega (arith, p.some, v.size_same);
+            counted = omega (arith, length-append p.done (ahead.segment ∷ []));
+            some = omega arith;
             granularity_same = v.granularity_same ∙ p.granularity_same;
             rate_same = v.rate_same ∙ p.rate_same;
             trim_check_same = v.trim_check_same ∙ p.trim_check_same;

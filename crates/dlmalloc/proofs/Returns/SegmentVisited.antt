@@ -162,7 +162,7 @@ module _ {A : Type 0} {regions : A → List Grant} {word : A → ℕ → ℕ} {h
   stays follows follows_none handed = record {
     segments = c.is;
     records = back_told;
-    linked = inr (record { first = c.front; last = c.segment; is = refl; reached = reached; some = (λ none. omega (arith, none, c.records.0)); tells = next_is });
+    linked = inr (record { first = c.front; last = c.segment; is = refl; reached = reached; some = (λ none. omega arith); tells = next_is });
     victim = refl;
     left = record {
       sound = forgetful_sound (handed && c.segment.base == heap.victim);
@@ -226,7 +226,7 @@ module _ {A : Type 0} {regions : A → List Grant} {word : A → ℕ → ℕ} {h
 
     -- a byte of the record's segment is none of the one that leaves
     beside_gone : (k : ℕ) → l.last.base ≤ k → k < l.last.base + l.last.size → IsOutside c.segment k
-    beside_gone k low high = elim (last_behind.0) [ inl first ↦ inr (omega (arith, first, low)) | inr second ↦ inl (omega (arith, second, high)) ]
+    beside_gone k low high = elim (last_behind.0) [ inl first ↦ inr (omega arith) | inr second ↦ inl (omega arith) ]
 
     link_word : IsWordOf granted (before + 16)
     link_word = payload_word last_part before last_told.0 last_told.4 (before + 16) (omega arith) (omega arith) (omega (arith, payload_whole last_part before last_told.0 last_told.4))
@@ -246,7 +246,7 @@ module _ {A : Type 0} {regions : A → List Grant} {word : A → ℕ → ℕ} {h
   link_small = go c.linked
     where
       go : IsLinked words heap.next before c.payload c.front → before + 32 < 2 ^ 64
-      go (inl h) = omega (arith, h.1)
+      go (inl h) = omega arith
       go (inr l) = omega (arith, high_is l, (last_part l).high)
 
   pub link_granted : {rest : List Grant} → rest ≡ without told.base (told.base + told.size) granted → before ≢ 0 → IsWordOf rest (before + 16)
@@ -310,9 +310,9 @@ module _ {A : Type 0} {regions : A → List Grant} {word : A → ℕ → ℕ} {h
       records = subst (λ segments. AreRecords (word system) next segments) (sym (joined_is l)) (subst (λ p. AreRecords (word system) p (l.first ++ l.last ∷ c.back)) (sym next_now)
           (told_around granted words (word system) (l.last ∷ (c.segment ∷ c.back)) (l.last ∷ c.back) l.first heap.next l.reached first_parts.1 first_keeps.1 (split_told l) (
             (last_told l).0,
-            stored before (omega arith) (omega arith) (omega (arith, whole)) (λ is. omega (arith, is)) ∙ (last_told l).1,
-            stored (before + 8) (omega arith) (omega arith) (omega (arith, whole)) (λ is. omega (arith, is)) ∙ (last_told l).2,
-            stored (before + 24) (omega arith) (omega arith) (omega (arith, whole)) (λ is. omega (arith, is)) ∙ (last_told l).3,
+            stored before (omega arith) (omega arith) (omega (arith, whole)) (λ is. omega arith) ∙ (last_told l).1,
+            stored (before + 8) (omega arith) (omega arith) (omega (arith, whole)) (λ is. omega arith) ∙ (last_told l).2,
+            stored (before + 24) (omega arith) (omega arith) (omega (arith, whole)) (λ is. omega arith) ∙ (last_told l).3,
             (last_told l).4,
             subst (λ p. AreRecords (word system) p c.back) (sym (here l.some)) behind,
           )));
@@ -342,7 +342,7 @@ module _ {A : Type 0} {regions : A → List Grant} {word : A → ℕ → ℕ} {h
         -- a word outside the last of those segments stays
         kept_beside : (k : ℕ) → IsWordOf granted k → IsOutside c.segment k → IsOutside l.last k → word system k ≡ words k
         kept_beside k inside out beside = kept_outside k inside out
-            (λ more is. elim beside [ inl below ↦ omega (arith, is, below, low_is l) | inr above ↦ omega (arith, is, above, high_is l) ])
+            (λ more is. elim beside [ inl below ↦ omega (arith, low_is l) | inr above ↦ omega (arith, high_is l) ])
 
         first_keeps : AllByRecursion (KeepsIts words (word system)) (c.head ∷ l.first)
         first_keeps = apart_stay granted words (word system) c.segment l.last (c.head ∷ l.first) first_parts first_beside (last_front l) kept_beside
@@ -352,13 +352,13 @@ module _ {A : Type 0} {regions : A → List Grant} {word : A → ℕ → ℕ} {h
 
         stored : (k : ℕ) → before ≤ k → k < before + 32 → k % 8 ≡ 0 → (k ≡ before + 16 → ⊥) → word system k ≡ words k
         stored k low high m other = kept_outside k (payload_word (last_part l) before (last_told l).0 (last_told l).4 k low high m)
-            (beside_gone l k (omega (arith, low, low_is l)) (omega (arith, high, high_is l))) (λ more. other)
+            (beside_gone l k (omega (arith, low_is l)) (omega (arith, high_is l))) (λ more. other)
 
         last_now : IsSegment (without c.segment.base (c.segment.base + c.segment.size) granted) (word system) l.last
         last_now =
             let is = recorded_stays (last_part l) before (last_told l).0 (last_told l).4 (word system)
-            (λ k low high m out. kept_outside k (record { granted = (last_part l).run.covered k (omega (arith, low)) high; aligned = m }) (beside_gone l k (omega (arith, low)) high)
-            (λ more same. elim out [ inl below ↦ omega (arith, same, below) | inr above ↦ omega (arith, same, above) ])) in
+            (λ k low high m out. kept_outside k (record { granted = (last_part l).run.covered k (omega arith) high; aligned = m }) (beside_gone l k (omega arith) high)
+            (λ more same. elim out [ inl below ↦ omega arith | inr above ↦ omega arith ])) in
             record { run = run_stays c.segment part.run sized l.last (last_behind l).0 is.run; low = is.low; high = is.high; long = is.long; extents = is.extents; tail = is.tail }
 
         behind : AreRecords (word system) told.next c.back

@@ -17,7 +17,7 @@ without_append (segment ∷ front) back regions = without_append front back (wit
 
 -- the bytes of a segment are a run of whole regions
 pub whole_run : {regions : List Grant} {base size flags : ℕ} → 0 < size → IsRun regions base size flags → IsWholeRun regions base (base + size)
-whole_run {regions} {base} {size} {flags} some run = record { some = omega (arith, some); granted = run.covered; whole = go regions run.whole }
+whole_run {regions} {base} {size} {flags} some run = record { some = omega arith; granted = run.covered; whole = go regions run.whole }
   where
     go : (regions : List Grant) → AllByRecursion (λ region. IsApart base (base + size) region ⊎ IsWithin base (base + size) flags region) regions →
         AllByRecursion (λ region. IsApart base (base + size) region ⊎ IsWholeWithin base (base + size) region) regions
@@ -36,9 +36,9 @@ module _ (low high : ℕ) where
           let above : region.base < low = grind (arith, nat_tests) in
           let below : low < region.base + region.size = grind (arith, nat_tests) in
           elim is [
-            | inl (inl before) ↦ inl (inl (omega (arith, above, below, before)))
+            | inl (inl before) ↦ inl (inl (omega arith))
             | inl (inr behind) ↦ inl (inr behind)
-            | inr within ↦ inr (within.0, omega (arith, above, below, within.1), within.2)
+            | inr within ↦ inr (within.0, omega arith, within.2)
           ]
 
   all_shorter : (base end flags : ℕ) (regions : List Grant) → AllByRecursion (λ region. IsApart base end region ⊎ IsWithin base end flags region) regions →
@@ -76,7 +76,7 @@ module _ {regions : List Grant} (gone : Segment) (run : IsRun regions gone.base 
   -- a run that is apart stays one
   pub run_stays : (segment : Segment) → IsApartFrom gone segment → IsRun regions segment.base segment.size segment.flags → IsRun after segment.base segment.size segment.flags
   run_stays segment apart other = record {
-    covered = λ k low high. subst IsTrue (sym (outside_same k (elim apart [ inl before ↦ inr (omega (arith, before, low)) | inr behind ↦ inl (omega (arith, behind, high)) ]))) (other.covered k low high);
+    covered = λ k low high. subst IsTrue (sym (outside_same k (elim apart [ inl before ↦ inr (omega arith) | inr behind ↦ inl (omega arith) ]))) (other.covered k low high);
     whole = all_shorter gone.base (gone.base + gone.size) segment.base (segment.base + segment.size) segment.flags regions other.whole;
   }
 
@@ -91,7 +91,7 @@ module _ {regions : List Grant} (gone : Segment) (run : IsRun regions gone.base 
   pub apart_keeps : (old new : ℕ → ℕ) → ((k : ℕ) → IsWordOf after k → new k ≡ old k) → (segments : List Segment) → AreSegments regions old segments → AllByRecursion (IsApartFrom gone) segments → AllByRecursion (KeepsIts old new) segments
   apart_keeps old new kept [] parts apart = tt
   apart_keeps old new kept (segment ∷ segments) parts apart = (
-    λ k low high m. kept k (word_stays {k = k} (record { granted = parts.0.run.covered k (omega arith) high; aligned = m }) (elim (apart.0) [ inl before ↦ inr (omega (arith, before, low)) | inr behind ↦ inl (omega (arith, behind, high)) ])),
+    λ k low high m. kept k (word_stays {k = k} (record { granted = parts.0.run.covered k (omega arith) high; aligned = m }) (elim (apart.0) [ inl before ↦ inr (omega arith) | inr behind ↦ inl (omega arith) ])),
     apart_keeps old new kept segments parts.1 apart.1,
   )
 
@@ -106,8 +106,8 @@ bytes_filter is [] = omega arith
 bytes_filter is (segment ∷ segments) = go (is segment) (bytes_filter is segments)
   where
     go : (b : Bool) → bytes_of (filter is segments) ≤ bytes_of segments → bytes_of (cond b (segment ∷ filter is segments) (filter is segments)) ≤ segment.size + bytes_of segments
-    go true rest = omega (arith, rest)
-    go false rest = omega (arith, rest)
+    go true rest = omega arith
+    go false rest = omega arith
 
 -- the bytes of a segment below an address
 part_below : ℕ → Segment → ℕ
@@ -123,11 +123,11 @@ part_same k segment out = go (nat_lt (suc k) (segment.base + segment.size)) refl
   where
     go : (b : Bool) → nat_lt (suc k) (segment.base + segment.size) ≡ b → (c : Bool) → nat_lt k (segment.base + segment.size) ≡ c →
         (if b then suc k - segment.base else segment.size) ≡ (if c then k - segment.base else segment.size)
-    go true next true here = elim out [ inl below ↦ omega (arith, below) | inr above ↦ absurd (let t : k < segment.base + segment.size = grind (arith, nat_tests) in omega (arith, t, above)) ]
-    go true next false here = absurd (let t : suc k < segment.base + segment.size = grind (arith, nat_tests) in let f : segment.base + segment.size ≤ k = grind (arith, nat_tests) in omega (arith, t, f))
+    go true next true here = elim out [ inl below ↦ omega arith | inr above ↦ absurd (let t : k < segment.base + segment.size = grind (arith, nat_tests) in omega arith) ]
+    go true next false here = absurd (let t : suc k < segment.base + segment.size = grind (arith, nat_tests) in let f : segment.base + segment.size ≤ k = grind (arith, nat_tests) in omega arith)
     go false next true here =
         let f : segment.base + segment.size ≤ suc k = grind (arith, nat_tests) in let t : k < segment.base + segment.size = grind (arith, nat_tests) in
-        elim out [ inl below ↦ omega (arith, f, t, below) | inr above ↦ absurd (omega (arith, t, above)) ]
+        elim out [ inl below ↦ omega arith | inr above ↦ absurd (omega arith) ]
     go false next false here = refl
 
 part_one : (k : ℕ) (segment : Segment) → part_below (suc k) segment ≤ suc (part_below k segment)
@@ -137,15 +137,15 @@ part_one k segment = go (nat_lt (suc k) (segment.base + segment.size)) refl (nat
     go : (b : Bool) → nat_lt (suc k) (segment.base + segment.size) ≡ b → (c : Bool) → nat_lt k (segment.base + segment.size) ≡ c →
         (if b then suc k - segment.base else segment.size) ≤ suc (if c then k - segment.base else segment.size)
     go true next true here = omega arith
-    go true next false here = absurd (let t : suc k < segment.base + segment.size = grind (arith, nat_tests) in let f : segment.base + segment.size ≤ k = grind (arith, nat_tests) in omega (arith, t, f))
-    go false next true here = (let f : segment.base + segment.size ≤ suc k = grind (arith, nat_tests) in let t : k < segment.base + segment.size = grind (arith, nat_tests) in omega (arith, f, t))
+    go true next false here = absurd (let t : suc k < segment.base + segment.size = grind (arith, nat_tests) in let f : segment.base + segment.size ≤ k = grind (arith, nat_tests) in omega arith)
+    go false next true here = (let f : segment.base + segment.size ≤ suc k = grind (arith, nat_tests) in let t : k < segment.base + segment.size = grind (arith, nat_tests) in omega arith)
     go false next false here = omega arith
 
 bytes_same : (k : ℕ) (segment : Segment) (segments : List Segment) → segment.base ≤ k → k < segment.base + segment.size → AllByRecursion (IsApartFrom segment) segments → bytes_below (suc k) segments ≡ bytes_below k segments
 unfolding bytes_below
 bytes_same k segment [] low high apart = refl
 bytes_same k segment (other ∷ segments) low high apart =
-    let one = part_same k other (elim (apart.0) [ inl before ↦ inl (omega (arith, before, high)) | inr behind ↦ inr (omega (arith, behind, low)) ]) in
+    let one = part_same k other (elim (apart.0) [ inl before ↦ inl (omega arith) | inr behind ↦ inr (omega arith) ]) in
     let rest = bytes_same k segment segments low high apart.1 in
     λ i. one i + rest i
 
@@ -156,10 +156,10 @@ bytes_one k (segment ∷ segments) apart =
     let one = part_one k segment in
     let rest = bytes_one k segments apart.1 in
     elim (dec_lt k segment.base) [
-      | yes below ↦ (let same = part_same k segment (inl below) in omega (arith, same, rest))
+      | yes below ↦ (let same = part_same k segment (inl below) in omega arith)
       | no low ↦ elim (dec_lt k (segment.base + segment.size)) [
-        | yes high ↦ (let others = bytes_same k segment segments (omega (arith, low)) high apart.0 in omega (arith, one, others))
-        | no above ↦ (let same = part_same k segment (inr (omega (arith, above))) in omega (arith, same, rest))
+        | yes high ↦ (let others = bytes_same k segment segments (omega arith) high apart.0 in omega arith)
+        | no above ↦ (let same = part_same k segment (inr (omega arith)) in omega arith)
       ]
     ]
 
@@ -169,8 +169,8 @@ none_below [] = refl
 none_below (segment ∷ segments) = go (nat_lt zero (segment.base + segment.size)) refl (none_below segments)
   where
     go : (b : Bool) → nat_lt zero (segment.base + segment.size) ≡ b → bytes_below zero segments ≡ 0 → (if b then zero - segment.base else segment.size) + bytes_below zero segments ≡ 0
-    go true some rest = omega (arith, rest)
-    go false none rest = (let f : segment.base + segment.size ≤ zero = grind (arith, nat_tests) in omega (arith, rest, f))
+    go true some rest = omega arith
+    go false none rest = (let f : segment.base + segment.size ≤ zero = grind (arith, nat_tests) in omega arith)
 
 below_most : (k : ℕ) (segments : List Segment) → AreApart segments → bytes_below k segments ≤ k
 below_most zero segments apart = omega (arith, none_below segments)
@@ -182,14 +182,14 @@ all_below k [] below = refl
 all_below k (segment ∷ segments) below =
     let rest = all_below k segments below.1 in
     let here : nat_lt k (segment.base + segment.size) ≡ false = (let b = below.0 in grind (arith, nat_tests)) in
-    rw here (omega (arith, rest))
+    rw here (omega arith)
 
 -- all bytes of segments that are apart are fewer than addresses
 pub bytes_few : (regions : List Grant) (words : ℕ → ℕ) (segments : List Segment) → AreSegments regions words segments → AreApart segments → bytes_of segments < 2 ^ 64
 bytes_few regions words segments parts apart =
     let most = below_most (2 ^ 64 - 1) segments apart in
     let all = all_below (2 ^ 64 - 1) segments (ends segments parts) in
-    omega (arith, most, all)
+    omega arith
   where
     ends : (segments : List Segment) → AreSegments regions words segments → AllByRecursion (λ segment. segment.base + segment.size ≤ 2 ^ 64 - 1) segments
     ends [] parts = tt

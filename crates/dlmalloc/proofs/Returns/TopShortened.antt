@@ -73,14 +73,14 @@ module _ {A : Type 0} {regions : A → List Grant} {word : A → ℕ → ℕ} {h
 
   module _ (less : ℕ) (units : less % 16 ≡ 0) (room : less + 80 < heap.top_size) (all : AllByRecursion IsWhole (regions heap.system)) where
     pub within : less ≤ heap.size
-    within = omega (arith, closes, low, room)
+    within = omega (arith, closes, low)
 
     -- what is left is some bytes, in units of 16
     pub rest_some : 0 < heap.size - less
-    rest_some = omega (arith, closes, low, room)
+    rest_some = omega (arith, closes, low)
 
     pub rest_whole : IsTrue (are_whole (regions heap.system)) → (heap.size - less) % 16 ≡ 0
-    rest_whole tests = omega (arith, run_aligned heap.base (heap.base + heap.size) (regions heap.system) head_given tests, end_whole sound some, units, within)
+    rest_whole tests = omega (arith, run_aligned heap.base (heap.base + heap.size) (regions heap.system) head_given tests, end_whole sound some, within)
 
     -- ---- when they are given back
 
@@ -93,10 +93,10 @@ module _ {A : Type 0} {regions : A → List Grant} {word : A → ℕ → ℕ} {h
       still_word k above below m = record { granted = rest_run.covered k above below; aligned = m }
 
       pub top_still : IsWordOf (regions system) (heap.top + 8)
-      top_still = still_word (heap.top + 8) (omega (arith, low)) (omega (arith, closes, room)) (omega (arith, top_whole sound some))
+      top_still = still_word (heap.top + 8) (omega (arith, low)) (omega (arith, closes)) (omega (arith, top_whole sound some))
 
       pub foot_still : IsWordOf (regions system) (heap.base + (heap.size - less) - 72)
-      foot_still = still_word (heap.base + (heap.size - less) - 72) (omega (arith, closes, low, room)) (omega (arith, closes, low, room)) (omega (arith, end_whole sound some, units, within, closes, low, room))
+      foot_still = still_word (heap.base + (heap.size - less) - 72) (omega (arith, closes, low)) (omega (arith, closes, low)) (omega (arith, end_whole sound some, within, closes, low))
 
       module _ (head : word system (heap.top + 8) ≡ heap.base + (heap.size - less) - 80 - heap.top + 1) (foot : word system (heap.base + (heap.size - less) - 72) ≡ 80)
           (kept : (k : ℕ) → IsWordOf (regions system) k → k ≢ heap.top + 8 → k ≢ heap.base + (heap.size - less) - 72 → word system k ≡ word heap.system k) where
@@ -107,7 +107,7 @@ module _ {A : Type 0} {regions : A → List Grant} {word : A → ℕ → ℕ} {h
         length_now = heap.top_size - less
 
         length_is : length_now ≡ heap.base + (heap.size - less) - 80 - heap.top
-        length_is = omega (arith, closes, low, room)
+        length_is = omega (arith, closes, low)
 
         abbrev old : List Extent
         old = extent heap.top heap.top_size Top ∷ extent (heap.top + heap.top_size) 80 Foot ∷ []
@@ -119,7 +119,7 @@ module _ {A : Type 0} {regions : A → List Grant} {word : A → ℕ → ℕ} {h
         now = record { base = run.segment.base; size = run.segment.size - less; flags = run.segment.flags; extents = run.first ++ more }
 
         now_end : heap.top + length_now + 80 ≡ run.segment.base + (run.segment.size - less)
-        now_end = omega (arith, last_is.1, room, was.base, was.size, closes, low)
+        now_end = omega (arith, last_is.1, was.base, was.size, closes, low)
 
         now_run : IsRun (regions system) run.segment.base (run.segment.size - less) run.segment.flags
         now_run = subst (λ f. IsRun (regions system) run.segment.base (run.segment.size - less) f) was.flags
@@ -127,34 +127,34 @@ module _ {A : Type 0} {regions : A → List Grant} {word : A → ℕ → ℕ} {h
 
         -- words of the chunks before the top stay, and so do those of other segments
         first_kept : (k : ℕ) → IsWordOf (regions system) k → k ≤ heap.top → word system k ≡ word heap.system k
-        first_kept k inside below = kept k inside (λ is. omega (arith, is, below)) (λ is. omega (arith, is, below, closes, low, room))
+        first_kept k inside below = kept k inside (λ is. omega arith) (λ is. omega (arith, closes, low))
 
         outside_kept : (k : ℕ) → IsWordOf (regions system) k → IsOutside run.segment k → IsOutside run.segment k → word system k ≡ word heap.system k
         outside_kept k inside first second = kept k inside
             (λ is. elim first [
-              | inl below ↦ omega (arith, is, below, was.base, low)
-              | inr above ↦ omega (arith, is, above, last_is.1)
+              | inl below ↦ omega (arith, was.base, low)
+              | inr above ↦ omega (arith, last_is.1)
             ])
             (λ is. elim first [
-              | inl below ↦ omega (arith, is, below, was.base, closes, low, room)
-              | inr above ↦ omega (arith, is, above, was.base, was.size, closes, low, room)
+              | inl below ↦ omega (arith, was.base, closes, low)
+              | inr above ↦ omega (arith, was.base, was.size, closes, low)
             ])
 
         more_stand : Tiles (word system) (last_kind Used run.first) heap.top more (run.segment.base + (run.segment.size - less))
         more_stand =
-            let place : heap.top + length_now + 8 ≡ heap.base + (heap.size - less) - 72 = omega (arith, closes, low, room) in
+            let place : heap.top + length_now + 8 ≡ heap.base + (heap.size - less) - 72 = omega (arith, closes, low) in
             subst (λ end. Tiles (word system) (last_kind Used run.first) heap.top more end) now_end
-            (top_stands (word system) heap.top length_now run.here.1.kind (top_whole sound some) (omega (arith, sizes.0, units, room)) (omega (arith, room)) (head ∙ ap (λ n. n + 1) (sym length_is)) (ap (word system) place ∙ foot))
+            (top_stands (word system) heap.top length_now run.here.1.kind (top_whole sound some) (omega (arith, sizes.0)) (omega arith) (head ∙ ap (λ n. n + 1) (sym length_is)) (ap (word system) place ∙ foot))
 
         is_now : IsSegment (regions system) (word system) now
         is_now = record {
           run = now_run;
           low = part.low;
           high = omega (arith, part.high);
-          long = omega (arith, now_end, room, was.base, low);
+          long = omega (arith, now_end, was.base, low);
           extents = tiles_append (word system) Used run.segment.base run.first more heap.top (run.segment.base + (run.segment.size - less))
               (tiles_kept (word heap.system) (word system) Used run.segment.base run.first heap.top run.first_stand
-              (λ k above below m free. first_kept k (still_word k (omega (arith, above, was.base)) (omega (arith, below, closes, room)) m) below)) more_stand;
+              (λ k above below m free. first_kept k (still_word k (omega (arith, was.base)) (omega (arith, closes)) m) below)) more_stand;
           tail = ap ends_segment (last_append Used run.first more);
         }
 
@@ -173,7 +173,7 @@ module _ {A : Type 0} {regions : A → List Grant} {word : A → ℕ → ℕ} {h
           where
             shorter : (others : List Segment) → AllByRecursion (IsApartFrom run.segment) others → AllByRecursion (IsApartFrom now) others
             shorter [] all = tt
-            shorter (other ∷ others) all = (elim (all.0) [ inl before ↦ inl (omega (arith, before)) | inr behind ↦ inr behind ], shorter others all.1)
+            shorter (other ∷ others) all = (elim (all.0) [ inl before ↦ inl (omega arith) | inr behind ↦ inr behind ], shorter others all.1)
 
         where_top : extent_at heap.top now.extents ≡ Some (extent heap.top after.top_size Top)
         where_top =
@@ -246,7 +246,7 @@ module _ {A : Type 0} {regions : A → List Grant} {word : A → ℕ → ℕ} {h
 
             shrunk_are : map (shrunk less) run.segment.extents ≡ run.first ++ more
             shrunk_are =
-                let place : run.segment.base + run.segment.size - 80 - less ≡ heap.top + length_now = omega (arith, last_is.1, room) in
+                let place : run.segment.base + run.segment.size - 80 - less ≡ heap.top + length_now = omega (arith, last_is.1) in
                 ap (map (shrunk less)) (run.extents ∙ ap (λ es. run.first ++ extent heap.top heap.top_size Top ∷ es) last_is.0)
                 ∙ (map-append (shrunk less) run.first (extent heap.top heap.top_size Top ∷ extent (run.segment.base + run.segment.size - 80) 80 Foot ∷ [])
                 ∙ (λ i. map_shrunk less run.first chunks i ++ (extent heap.top length_now Top ∷ extent (place i) 80 Foot ∷ [])))
@@ -256,7 +256,7 @@ module _ {A : Type 0} {regions : A → List Grant} {word : A → ℕ → ℕ} {h
                 ∙ (λ i. (record { base = run.segment.base; size = run.segment.size - less; flags = run.segment.flags; extents = (sym shrunk_are) i }) ∷ run.back)
 
         shortened_words : (k : ℕ) → IsWordOf (regions system) k → k ≢ after.top + 8 → k ≢ after.top + after.top_size + 8 → word system k ≡ word heap.system k
-        shortened_words k inside at_top at_foot = kept k inside at_top (λ is. at_foot (omega (arith, is, closes, low, room)))
+        shortened_words k inside at_top at_foot = kept k inside at_top (λ is. at_foot (omega (arith, closes, low)))
 
         -- the heads of the top and of its foot are at boundaries
         shortened_boundaries : OnlyBoundariesChange (regions system) (state_of word after) (word heap.system) (word system)

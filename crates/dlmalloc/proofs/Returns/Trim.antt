@@ -29,7 +29,7 @@ module _ {A : Type 0} {regions : A → List Grant} {word : A → ℕ → ℕ} {h
   in_head k one found = go (segments_of word heap) sound.segments sound.told
     where
       go : (segments : List Segment) → AreSegments (regions heap.system) (word heap.system) segments → AreTold (word heap.system) heap segments → extent_at k (extents_all (if frees then staying parts segments else segments)) ≡ Some one
-      go [] are h = absurd (omega (arith, some, h))
+      go [] are h = absurd (omega arith)
       go (head ∷ segments) are h = by frees
         where
           here : extent_at k head.extents ≡ Some one

@@ -37,7 +37,7 @@ module _ {A : Type 0} {regions : A → List Grant} {word : A → ℕ → ℕ} {h
     cut_whole = ap (λ n. n % 16) is ∙ granularities_whole ((heap.top_size - (pad + 81)) / heap.granularity) heap.granularity sound.granularity.0 sound.granularity.1
 
     pub cut_room : 0 < cut → cut + 80 < heap.top_size
-    cut_room more = omega (arith, is, div-mul-le_self (heap.top_size - (pad + 81)) heap.granularity, more)
+    cut_room more = omega (arith, div-mul-le_self (heap.top_size - (pad + 81)) heap.granularity)
 
 -- ---- whether it was cut
 

@@ -49,15 +49,15 @@ module _ {regions : List Grant} {words : ℕ → ℕ} {segment : Segment} (part 
   base_whole = go chunks tail.run.stand
     where
       go : (chunks : List Extent) → Tiles words Used segment.base chunks at → segment.base % 16 ≡ 0
-      go [] h = omega (arith, record_in.stands.whole, h)
-      go (chunk ∷ chunks) h = omega (arith, h.0, h.1.whole)
+      go [] h = omega (arith, record_in.stands.whole)
+      go (chunk ∷ chunks) h = omega arith
 
   -- its first head is granted
   pub first_head : HasHead regions segment.base
   first_head = record {
     aligned = omega (arith, base_whole);
-    small = omega (arith, part.high, part.long);
-    granted = record { granted = part.run.covered (segment.base + 8) (omega arith) (omega (arith, part.long)); aligned = omega (arith, base_whole) };
+    small = omega arith;
+    granted = record { granted = part.run.covered (segment.base + 8) (omega arith) (omega arith); aligned = omega (arith, base_whole) };
   }
 
   -- and it tells whether the segment is free up to its record
@@ -95,6 +95,6 @@ module _ {regions : List Grant} {words : ℕ → ℕ} {segment : Segment} (part 
       go (chunk ∷ chunks) h are test =
           let b = both (is_free_below_top chunk.kind) (chunk.size + 80 == segment.size) test in
           let size = nat_is b.1 in
-          let none : chunks ≡ [] = none_left words chunk.kind (segment.base + chunk.size) chunks at (omega (arith, long, size)) h.2 in
-          let same : chunk ≡ extent segment.base (segment.size - 80) Free = same_extent {at = chunk.at} {at' = segment.base} {size = chunk.size} {size' = segment.size - 80} {kind = chunk.kind} {kind' = Free} h.0 (omega (arith, size)) (of_kind chunk.kind are.0 b.0) in
+          let none : chunks ≡ [] = none_left words chunk.kind (segment.base + chunk.size) chunks at (omega (arith, long)) h.2 in
+          let same : chunk ≡ extent segment.base (segment.size - 80) Free = same_extent {at = chunk.at} {at' = segment.base} {size = chunk.size} {size' = segment.size - 80} {kind = chunk.kind} {kind' = Free} h.0 (omega arith) (of_kind chunk.kind are.0 b.0) in
           λ i. same i ∷ (none i ++ record_of at end ∷ [])

@@ -33,8 +33,8 @@ module _ {A : Type 0} {regions : A → List Grant} {word : A → ℕ → ℕ} {h
 
       out : (at size : ℕ) → (record_of (payload - 16) (segment.base + segment.size) ≡ record { at = at; size = size; kind = Free }) ⊎ ((payload - 16 + (segment.base + segment.size - (payload - 16)) ≤ at) ⊎ (at + size ≤ payload - 16)) → (k < at + 16) ⊎ (at + size ≤ k)
       out at size (inl is) = absurd (let no : Record ≡ Free = ap (λ e. e.kind) is in cc)
-      out at size (inr (inl before)) = inl (omega (arith, before, room, some, high))
-      out at size (inr (inr behind)) = inr (omega (arith, behind, low))
+      out at size (inr (inl before)) = inl (omega (arith, room))
+      out at size (inr (inr behind)) = inr (omega arith)
 
   pub records_still : (front segments : List Segment) → segments_of word heap ≡ front ++ segments → AreSegments granted words segments → (payload : ℕ) → AreRecords words payload segments → AreRecords now payload segments
   records_still front [] is parts payload h = h
@@ -211,7 +211,7 @@ module _ {A : Type 0} {regions : A → List Grant} {word : A → ℕ → ℕ} {f
   not_victim = go (told.base == old.victim) refl
     where
       go : (b : Bool) → (told.base == old.victim) ≡ b → told.base ≢ new.victim
-      go true test = λ is. absurd (let none : told.base ≡ 0 = is ∙ victim test in omega (arith, none, base_some))
+      go true test = λ is. absurd (let none : told.base ≡ 0 = is ∙ victim test in omega (arith, base_some))
       go false test = λ is. (let yes : (told.base == old.victim) ≡ true = ap (λ b. b == old.victim) (is ∙ victim test) ∙ nat_same old.victim in let no = sym test ∙ yes in cc)
 
   -- the victim was that, or stays
@@ -227,7 +227,7 @@ module _ {A : Type 0} {regions : A → List Grant} {word : A → ℕ → ℕ} {f
   was_victim k is free other = go (told.base == old.victim) refl
     where
       go : (b : Bool) → (told.base == old.victim) ≡ b → ⊥
-      go true test = (let none : k ≡ 0 = is ∙ victim test in let low = (is_chunk sound free).low in absurd (omega (arith, none, low)))
+      go true test = (let none : k ≡ 0 = is ∙ victim test in let low = (is_chunk sound free).low in absurd (omega arith))
       go false test = other (is ∙ victim test)
 
 module _ (index_stays : IndexStays) {A : Type 0} {regions : A → List Grant} {word : A → ℕ → ℕ} {follows : A → List Event → A → Type 0} {old new : Dlmalloc A} (sound : IsSound regions word old) {before : ℕ} {told : SegmentRecord} {c : IsChained word old before told}

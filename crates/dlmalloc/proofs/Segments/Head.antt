@@ -73,7 +73,7 @@ module _ {A : Type 0} {regions : A → List Grant} {word : A → ℕ → ℕ} {h
   first_told = go (segments_of word heap) sound.told
     where
       go : (segments : List Segment) → AreTold (word heap.system) heap segments → (heap.size ≡ first_size segments) × (0 < heap.size → heap.base ≡ first_base segments)
-      go [] told = (told, λ some. omega (arith, some, told))
+      go [] told = (told, λ some. omega arith)
       go (segment ∷ segments) told = (told.2, λ some. told.1)
 
   -- a grant that is behind it
@@ -82,7 +82,7 @@ module _ {A : Type 0} {regions : A → List Grant} {word : A → ℕ → ℕ} {h
     where
       go : (segments : List Segment) → AreTold (word heap.system) heap segments → is_behind_head grant segments ≡ true → grant.base ≡ heap.base + heap.size
       go [] told is = absurd (cc)
-      go (segment ∷ segments) told is = let means = behind_means grant segment is in omega (arith, means.0, told.1, told.2)
+      go (segment ∷ segments) told is = let means = behind_means grant segment is in omega arith
 
   -- the top is where the field says
   pub top_place : (at : ℕ) {size : ℕ} → extent_at at (extents_in (state_of word heap)) ≡ Some (extent at size Top) → at ≡ heap.top
@@ -93,7 +93,7 @@ module _ {A : Type 0} {regions : A → List Grant} {word : A → ℕ → ℕ} {h
     pub head_granted : (k : ℕ) → heap.base ≤ k → k < heap.base + heap.size → IsTrue (is_granted (regions heap.system) k)
     head_granted k low high =
         let is = top_segment sound some in
-        (top_part sound some).run.covered k (omega (arith, low, is.base)) (omega (arith, high, is.base, is.size))
+        (top_part sound some).run.covered k (omega arith) (omega arith)
 
     -- what is in use ends before the top, or is beyond the segment
     pub beside_top : {used : Extent} → used.kind ≡ Used → extent_at used.at (extents_in (state_of word heap)) ≡ Some used → (used.at + used.size ≤ heap.top) ⊎ (heap.base + heap.size ≤ used.at)
@@ -101,8 +101,8 @@ module _ {A : Type 0} {regions : A → List Grant} {word : A → ℕ → ℕ} {h
         elim (used_apart regions word heap sound used (extent heap.top heap.top_size Top) there top (λ same. no_top (kind_of (extent heap.top heap.top_size Top) same top))) [
           | inl before ↦ inl before
           | inr behind ↦ elim (used_apart regions word heap sound used (extent (heap.top + heap.top_size) 80 Foot) there foot (λ same. no_foot (kind_of (extent (heap.top + heap.top_size) 80 Foot) same foot))) [
-            | inl less ↦ (let low : heap.top + heap.top_size ≤ used.at = behind in let high : used.at + used.size ≤ heap.top + heap.top_size = less in absurd (omega (arith, low, high, long)))
-            | inr more ↦ (let low : heap.top + heap.top_size + 80 ≤ used.at = more in inr (omega (arith, low, ends sound some)))
+            | inl less ↦ (let low : heap.top + heap.top_size ≤ used.at = behind in let high : used.at + used.size ≤ heap.top + heap.top_size = less in absurd (omega (arith, long)))
+            | inr more ↦ (let low : heap.top + heap.top_size + 80 ≤ used.at = more in inr (omega (arith, ends sound some)))
           ]
         ]
       where
@@ -131,4 +131,4 @@ same_head {one} other sound_one sound_other some same =
     let told = first_told sound_one in
     let told_other = first_told sound_other in
     let size : other.size ≡ one.size = told_other.0 ∙ (same.1 ∙ sym told.0) in
-    (told_other.1 (omega (arith, some, size)) ∙ (same.0 ∙ sym (told.1 some)), size)
+    (told_other.1 (omega arith) ∙ (same.0 ∙ sym (told.1 some)), size)

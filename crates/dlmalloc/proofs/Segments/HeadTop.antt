@@ -18,7 +18,7 @@ no_segments word heap none = let test : (heap.size == 0) ≡ true = grind (arith
 pub some_segment : {A : Type 0} (word : A → ℕ → ℕ) (heap : Dlmalloc A) (k : ℕ) {one : Extent} → extent_at k (extents_all (segments_of word heap)) ≡ Some one → 0 < heap.size
 some_segment word heap k {one} there = elim (dec_lt 0 heap.size) [
   | yes some ↦ some
-  | no none ↦ absurd (let gone : extent_at k [] ≡ Some one = ap (λ segments. extent_at k (extents_all segments)) (sym (no_segments word heap (omega (arith, none)))) ∙ there in cc)
+  | no none ↦ absurd (let gone : extent_at k [] ≡ Some one = ap (λ segments. extent_at k (extents_all segments)) (sym (no_segments word heap (omega arith))) ∙ there in cc)
 ]
 
 -- a top and its foot, as their heads tell them
@@ -98,7 +98,7 @@ module _ {A : Type 0} {regions : A → List Grant} {word : A → ℕ → ℕ} {h
 
   -- a word of the head segment
   pub head_word : (k : ℕ) → heap.base ≤ k → k < heap.base + heap.size → k % 8 ≡ 0 → IsWordOf (regions heap.system) k
-  head_word k low high m = record { granted = top_part.run.covered k (omega (arith, low, top_segment.base)) (omega (arith, high, top_segment.base, top_segment.size)); aligned = m }
+  head_word k low high m = record { granted = top_part.run.covered k (omega (arith, top_segment.base)) (omega (arith, top_segment.base, top_segment.size)); aligned = m }
 
   pub end_whole : (heap.base + heap.size) % 16 ≡ 0
   end_whole = omega (arith, ends, top_whole, top_sizes.0)

@@ -101,14 +101,14 @@ module _ {regions regions' : List Grant} {old new : ℕ → ℕ} {segment segmen
       r = in_part new Used other.base other.extents (other.base + other.size) part.extents there
 
       whole : payload % 8 ≡ 0
-      whole = omega (arith, r.stands.whole, some)
+      whole = omega (arith, r.stands.whole)
 
       long : 80 ≤ other.base + other.size - (payload - 16)
       long = elim (r.stands.size) [ inl short ↦ omega arith | inr longer ↦ omega arith ]
 
       at : (k : ℕ) → payload ≤ k → k < payload + 32 → k % 8 ≡ 0 → new k ≡ old k
-      at k low high m = same k (omega (arith, r.low, low, some)) (omega (arith, r.high, long, high, some)) m
-          (inner_spared new Used other.base other.extents (other.base + other.size) part.extents there refl k (omega (arith, low, some)) (omega (arith, long, high, some)))
+      at k low high m = same k (omega (arith, r.low)) (omega (arith, r.high, long)) m
+          (inner_spared new Used other.base other.extents (other.base + other.size) part.extents there refl k (omega arith) (omega (arith, long)))
 
   pub records_behind : (back : List Segment) → AllByRecursion (IsApartFrom segment) back → AreSegments regions old back → (payload : ℕ) → AreRecords old payload back → AreRecords new payload back
   records_behind [] apart parts payload h = h
@@ -120,7 +120,7 @@ module _ {regions regions' : List Grant} {old new : ℕ → ℕ} {segment segmen
   pub records_after : (front back : List Segment) → AreApart (front ++ segment ∷ back) → AreSegments regions old (front ++ segment ∷ back) → (payload : ℕ) → AreRecords old payload (front ++ segment ∷ back) → AreRecords new payload (front ++ segment' ∷ back)
   records_after [] back apart parts payload h =
       let is = changed.records (payload - 16) h.4 in
-      record_told changed.now (λ k low high m spared. changed.kept k (record { granted = parts.0.run.covered k (omega (arith, is.0)) (omega (arith, is.0, is.1)); aligned = m }) spared) back payload h.0
+      record_told changed.now (λ k low high m spared. changed.kept k (record { granted = parts.0.run.covered k (omega arith) (omega arith); aligned = m }) spared) back payload h.0
       (h.1 ∙ sym is.0) (h.2 ∙ sym is.1) (h.3 ∙ sym is.2) (is.3 ∙ (λ i. Some (record_of (payload - 16) (sym is.0 i + sym is.1 i))))
       (records_behind back apart.0 parts.1 (old (payload + 16)) h.5)
   records_after (other ∷ front) back apart parts payload h =

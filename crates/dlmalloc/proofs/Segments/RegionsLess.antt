@@ -68,7 +68,7 @@ module _ {regions : List Grant} {base size flags : ℕ} (run : IsRun regions bas
     segments_beside words segment [] from bytes parts apart = tt
     segments_beside words segment (other ∷ others) from bytes parts apart = (
       record {
-        run = run_beside parts.0.run (elim apart.0 [ inl before ↦ inl (omega (arith, from, bytes, before)) | inr behind ↦ inr (omega (arith, from, behind)) ]);
+        run = run_beside parts.0.run (elim apart.0 [ inl before ↦ inl (omega arith) | inr behind ↦ inr (omega arith) ]);
         low = parts.0.low;
         high = parts.0.high;
         long = parts.0.long;

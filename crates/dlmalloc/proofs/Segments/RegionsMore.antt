@@ -92,8 +92,8 @@ runs_joined {regions} {base} {one} {next} {two} {flags} place first second whole
     go (region ∷ regions) a b whole = (each a.0 b.0, go regions a.1 b.1 whole.1)
       where
         each : IsApart base (base + one) region ⊎ IsWithin base (base + one) flags region → IsApart next (next + two) region ⊎ IsWithin next (next + two) flags region → IsApart base (base + (one + two)) region ⊎ IsWithin base (base + (one + two)) flags region
-        each (inr within) b = inr (within.0, omega (arith, within.1), within.2)
-        each (inl a) (inr within) = inr (omega (arith, within.0, place), omega (arith, within.1, place), within.2)
+        each (inr within) b = inr (within.0, omega arith, within.2)
+        each (inl a) (inr within) = inr (omega arith, omega arith, within.2)
         each (inl (inl before)) (inl b) = inl (inl before)
         each (inl (inr behind)) (inl (inl before)) = let some = whole.0.some in absurd (omega arith)
         each (inl (inr behind)) (inl (inr after)) = inl (inr (omega arith))

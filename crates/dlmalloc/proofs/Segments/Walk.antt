@@ -54,7 +54,7 @@ pub head_passed : {A : Type 0} {regions : A → List Grant} {word : A → ℕ �
 head_passed {regions} {word} heap sound some known holds = go (segments_of word heap) refl sound.segments sound.told
   where
     go : (segments : List Segment) → segments_of word heap ≡ segments → AreSegments (regions heap.system) (word heap.system) segments → AreTold (word heap.system) heap segments → PassedSegments word heap heap.next known
-    go [] is parts h = absurd (omega (arith, some, h))
+    go [] is parts h = absurd (omega arith)
     go (segment ∷ segments) is parts h = record {
       passed = segment ∷ [];
       rest = segments;
@@ -70,7 +70,7 @@ module _ {A : Type 0} {regions : A → List Grant} {word : A → ℕ → ℕ} {h
   head_run some = go (segments_of word heap) sound.segments sound.told
     where
       go : (segments : List Segment) → AreSegments (regions heap.system) (word heap.system) segments → AreTold (word heap.system) heap segments → IsChunkRun (regions heap.system) (word heap.system) heap.base heap.top
-      go [] parts h = absurd (omega (arith, some, h))
+      go [] parts h = absurd (omega arith)
       go (segment ∷ segments) parts h = subst (λ base. IsChunkRun (regions heap.system) (word heap.system) base heap.top) (sym h.1) (top_tail parts.0 h.4).run
 
   module _ {payload : ℕ} {known : List Segment → Type 0} (p : PassedSegments word heap payload known) where
@@ -116,8 +116,8 @@ module _ {A : Type 0} {regions : A → List Grant} {word : A → ℕ → ℕ} {h
       -- the words of the payload
       pub payload_word : (k : ℕ) → payload ≤ k → k ≤ payload + 16 → k % 8 ≡ payload % 8 → IsWordOf (regions heap.system) k
       payload_word k low high m = record {
-        granted = ahead_segment.part.run.covered k (omega (arith, at_in.low, ahead_segment.some, low)) (omega (arith, long, ahead_segment.some, high));
-        aligned = omega (arith, at_in.stands.whole, ahead_segment.some, m);
+        granted = ahead_segment.part.run.covered k (omega (arith, at_in.low, ahead_segment.some)) (omega (arith, long, ahead_segment.some));
+        aligned = omega (arith, at_in.stands.whole, ahead_segment.some);
       }
 
       pub payload_high : payload + 16 < 2 ^ 64

@@ -40,7 +40,7 @@ module _ {A : Type 0} {regions : A → List Grant} {word : A → ℕ → ℕ} {h
   pub free_has_head : HasHead (regions heap.system) at
   free_has_head =
       let c = is_chunk in
-      record { aligned = omega (arith, c.aligned); small = omega (arith, c.high, c.long); granted = c.granted (at + 8) (omega arith) (omega (arith, c.long)) (omega (arith, c.aligned)) }
+      record { aligned = omega arith; small = omega arith; granted = c.granted (at + 8) (omega arith) (omega arith) (omega arith) }
 
   -- any extent is it, or is beside it
   pub same_or_beside : {one : Extent} → extent_at one.at (extents_in (state_of word heap)) ≡ Some one → (one ≡ chunk) ⊎ AreBeside one chunk

@@ -17,17 +17,17 @@ module _ {regions : List Grant} {old : ℕ → ℕ} {segment : Segment} (part : 
   long = elim (record_in.stands.size) [ inl short ↦ omega arith | inr longer ↦ omega arith ]
 
   pub payload_whole : payload % 16 ≡ 0
-  payload_whole = omega (arith, record_in.stands.whole, some)
+  payload_whole = omega (arith, record_in.stands.whole)
 
   pub payload_low : segment.base + 16 ≤ payload
-  payload_low = omega (arith, record_in.low, some)
+  payload_low = omega (arith, record_in.low)
 
   pub payload_high : payload + 64 ≤ segment.base + segment.size
-  payload_high = omega (arith, long, some)
+  payload_high = omega (arith, long)
 
   -- its words are granted
   pub payload_word : (k : ℕ) → payload ≤ k → k < payload + 32 → k % 8 ≡ 0 → IsWordOf regions k
-  payload_word k low high m = record { granted = part.run.covered k (omega (arith, payload_low, low)) (omega (arith, payload_high, high)); aligned = m }
+  payload_word k low high m = record { granted = part.run.covered k (omega (arith, payload_low)) (omega (arith, payload_high)); aligned = m }
 
   -- and the segment is one still, where others stay
   module _ (new : ℕ → ℕ) (kept : (k : ℕ) → segment.base < k → k < segment.base + segment.size → k % 8 ≡ 0 → (k < payload) ⊎ (payload + 32 ≤ k) → new k ≡ old k) where
@@ -41,15 +41,15 @@ module _ {regions : List Grant} {old : ℕ → ℕ} {segment : Segment} (part : 
         subst (λ es. Tiles new Used segment.base es end) (sym f.is)
         (tiles_append new Used segment.base f.front (record_of (payload - 16) end ∷ f.back) s.middle end
         (tiles_kept old new Used segment.base f.front s.middle s.first
-        (λ k above below m free. kept k above (omega (arith, below, at, long, some)) m (inl (omega (arith, below, at, some))))) (
+        (λ k above below m free. kept k above (omega (arith, long)) m (inl (omega arith)))) (
           at,
           record {
             whole = s.second.1.whole;
             size = s.second.1.size;
             kind = s.second.1.kind;
-            head = kept (payload - 16 + 8) (omega (arith, at, low)) (omega (arith, long, some)) (omega (arith, payload_whole, some)) (inl (omega (arith, some))) ∙ s.second.1.head;
+            head = kept (payload - 16 + 8) (omega arith) (omega (arith, long)) (omega (arith, payload_whole)) (inl (omega arith)) ∙ s.second.1.head;
             foot = λ free. absurd (cc);
-            fence = λ is k above below m. kept k (omega (arith, above, at, low)) (omega (arith, below, long)) m (inr (omega (arith, above, some))) ∙ s.second.1.fence is k above below m;
+            fence = λ is k above below m. kept k (omega arith) (omega (arith, long)) m (inr (omega arith)) ∙ s.second.1.fence is k above below m;
           },
           subst (λ es. Tiles new Record (s.middle + (end - (payload - 16))) es end) (sym last.0) last.1,
         ))

@@ -128,7 +128,7 @@ module _ {A : Type 0} {regions : A → List Grant} {word : A → ℕ → ℕ} {h
 
       keeps : (k : ℕ) → payload ≤ k → k < payload + 32 → k % 8 ≡ 0 → now k ≡ words k
       keeps k low high m = told front segment segments is (record_of (payload - 16) (segment.base + segment.size)) h.4 k
-          (omega (arith, some, low), omega (arith, long, high, some), m, inr (inl refl), λ e. absurd (omega (arith, long, high, some, e)))
+          (omega (arith, some), omega (arith, long, some), m, inr (inl refl), λ e. absurd (omega (arith, long, some)))
 
   still_told : AreTold now after (segments_of word heap)
   still_told = go (segments_of word heap) refl sound.segments sound.told

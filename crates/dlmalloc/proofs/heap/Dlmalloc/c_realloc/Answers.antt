@@ -35,7 +35,7 @@ resize_or_move-requires-clause-held g c =
     let sizes = size_at state (address - 16) (extent (address - 16) c.size-size.result Used) told in
     let least = size_at state (address - 16) block.1.extent block.1.there in
     let holds = block.1.holds in
-    omega (arith, sizes, least, holds)
+    omega arith
 
 pub returns-in-Some-clause-resized : goal.returns-in-Some-clause-resized
 returns-in-Some-clause-resized g c =
@@ -96,4 +96,4 @@ returns-in-Some-clause-counted g c = λ some.
     let moved = subst (λ held. c.resize_or_move.new.steps ≤ c.size-size.new.steps + 9216 + 2 * words_in (min (held - 8) c.args.new_size) + pass_steps state) (sym sizes) (c.resize_or_move.ensures.counted some) in
     subst (λ ptr. IfSome ptr (λ from.
     c.resize_or_move.new.steps ≤ c.args.steps.now + 10240 + 2 * words_in (min (size_where (λ extent. extent.at == from - 16) (extents_in state) - 8) c.args.new_size) + pass_steps state)) (sym c.in-Some.is)
-    (omega (arith, read, moved))
+    (omega arith)

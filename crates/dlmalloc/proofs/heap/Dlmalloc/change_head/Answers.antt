@@ -13,34 +13,34 @@ leave_top-record-requires g c =
     let small = head_small c.requires.sound c.requires.there in
     record {
       foot = record {
-        aligned = omega (arith, whole, sizes.0);
+        aligned = omega arith;
         small = omega arith;
-        granted = head_word c.requires.sound c.requires.there (heap.top + heap.top_size) (omega arith) (omega arith) (omega (arith, whole, sizes.0));
+        granted = head_word c.requires.sound c.requires.there (heap.top + heap.top_size) (omega arith) (omega arith) (omega arith);
       };
     }
 
 pub put_record-requires-clause-aligned : goal.put_record-requires-clause-aligned
 put_record-requires-clause-aligned g c =
     let b = bounds_of c.requires.sound c.requires.there c.leave_top-record.ensures.place in
-    omega (arith, b.2)
+    omega arith
 
 pub put_record-requires-clause-end_aligned : goal.put_record-requires-clause-end_aligned
 put_record-requires-clause-end_aligned g c =
     let whole = end_whole c.requires.sound c.requires.there in
     let same = ends_same c.args.self.now c.leave_top-record.ensures.fields in
-    omega (arith, whole, same)
+    omega arith
 
 pub put_record-requires-clause-room : goal.put_record-requires-clause-room
 put_record-requires-clause-room g c =
     let b = bounds_of c.requires.sound c.requires.there c.leave_top-record.ensures.place in
     let same = ends_same c.args.self.now c.leave_top-record.ensures.fields in
-    omega (arith, b.1, same)
+    omega arith
 
 pub put_record-requires-clause-high : goal.put_record-requires-clause-high
 put_record-requires-clause-high g c =
     let small = head_small c.requires.sound c.requires.there in
     let same = ends_same c.args.self.now c.leave_top-record.ensures.fields in
-    omega (arith, small, same)
+    omega arith
 
 pub put_record-requires-clause-granted : goal.put_record-requires-clause-granted
 put_record-requires-clause-granted g c = λ k low high m.
@@ -49,7 +49,7 @@ put_record-requires-clause-granted g c = λ k low high m.
     let top = top_low c.requires.sound c.requires.there in
     let same = ends_same heap c.leave_top-record.ensures.fields in
     subst (λ rs. IsWordOf rs k) (sym c.leave_top-record.ensures.regions)
-    (head_word c.requires.sound c.requires.there k (omega (arith, b.0, top, low)) (omega (arith, high, same)) m)
+    (head_word c.requires.sound c.requires.there k (omega arith) (omega arith) m)
 
 pub overflow_add-end : goal.overflow_add-end
 overflow_add-end g c =
@@ -74,14 +74,14 @@ pub make_head-requires-clause-top : goal.make_head-requires-clause-top
 make_head-requires-clause-top g c =
     let f = c.requires.fresh in
     subst (λ rs. IsWordOf rs (c.args.grant.now.base + 8)) (sym (c.put_record.ensures.regions ∙ c.leave_top-record.ensures.regions))
-    (record { granted = f.run.covered (c.args.grant.now.base + 8) (omega arith) (omega (arith, f.long)); aligned = omega (arith, f.base_aligned) })
+    (record { granted = f.run.covered (c.args.grant.now.base + 8) (omega arith) (omega arith); aligned = omega arith })
 
 pub make_head-requires-clause-foot : goal.make_head-requires-clause-foot
 make_head-requires-clause-foot g c =
     let f = c.requires.fresh in
     let grant = c.args.grant.now in
     subst (λ rs. IsWordOf rs (grant.base + grant.size - 72)) (sym (c.put_record.ensures.regions ∙ c.leave_top-record.ensures.regions))
-    (record { granted = f.run.covered (grant.base + grant.size - 72) (omega (arith, f.long)) (omega (arith, f.long)); aligned = omega (arith, f.base_aligned, f.size_aligned, f.long) })
+    (record { granted = f.run.covered (grant.base + grant.size - 72) (omega arith) (omega arith); aligned = omega arith })
 
 pub returns : goal.returns
 returns g c =
@@ -111,30 +111,30 @@ returns g c =
     let onto : (k : ℕ) → IsWordOf (regions heap.system) k → IsWordOf (regions system) k = λ k inside. subst (λ rs. IsWordOf rs k) (sym (put.regions ∙ left.regions)) inside in
     let of_head : (k : ℕ) → heap.base ≤ k → k < heap.base + heap.size → k % 8 ≡ 0 → word new.system k ≡ word system k = λ k from to m.
     made.elsewhere k (onto k (head_word c.requires.sound there k from to m))
-    (λ is. elim apart [ inl before ↦ omega (arith, is, before, to) | inr behind ↦ omega (arith, is, behind, from, fresh.long) ])
-    (λ is. elim apart [ inl before ↦ omega (arith, is, before, to, fresh.long) | inr behind ↦ omega (arith, is, behind, from, fresh.long) ]) in
+    (λ is. elim apart [ inl before ↦ omega arith | inr behind ↦ omega arith ])
+    (λ is. elim apart [ inl before ↦ omega arith | inr behind ↦ omega arith ]) in
     let joined = joined_new g.A.Links.follows c.requires.sound fresh there c.requires.beside c.requires.apart new.system (made.regions ∙ (put.regions ∙ left.regions)) left.place made.head made.foot_head
-    (record_kept (word new.system) (omega (arith, b.2)) b.1
-    (λ k from to m. of_head k (omega (arith, from, b.0, above)) to m) told)
-    (λ large. of_head (heap.top + heap.top_size) (omega (arith, above)) (omega (arith, e)) (omega (arith, top_whole c.requires.sound there, sizes.0))
-    ∙ (put.elsewhere (heap.top + heap.top_size) (into (heap.top + heap.top_size) (head_word c.requires.sound there (heap.top + heap.top_size) (omega (arith, above)) (omega (arith, e)) (omega (arith, top_whole c.requires.sound there, sizes.0))))
+    (record_kept (word new.system) (omega arith) b.1
+    (λ k from to m. of_head k (omega arith) to m) told)
+    (λ large. of_head (heap.top + heap.top_size) (omega arith) (omega arith) (omega (arith, top_whole c.requires.sound there))
+    ∙ (put.elsewhere (heap.top + heap.top_size) (into (heap.top + heap.top_size) (head_word c.requires.sound there (heap.top + heap.top_size) (omega arith) (omega arith) (omega (arith, top_whole c.requires.sound there))))
     (inl (large_at heap.top heap.top_size left.place large)) ∙ left.foot large))
-    (λ k inside out free not_top not_foot. made.elsewhere k (onto k inside) not_top not_foot ∙ (put.elsewhere k (into k inside) (elim out [ inl before ↦ inl before | inr behind ↦ inr (omega (arith, behind, end_same)) ]) ∙ left.elsewhere k inside free))
+    (λ k inside out free not_top not_foot. made.elsewhere k (onto k inside) not_top not_foot ∙ (put.elsewhere k (into k inside) (elim out [ inl before ↦ inl before | inr behind ↦ inr (omega arith) ]) ∙ left.elsewhere k inside free))
     (g.A.Links.follows_on heap.system system new.system [] [] [] (g.A.Links.follows_on heap.system middle.system system [] [] [] left.follows put.follows refl) made.follows refl) in
     let free = new_free g.A.Links.follows c.requires.sound fresh there c.requires.beside c.requires.apart new.system (made.regions ∙ (put.regions ∙ left.regions)) left.place made.head made.foot_head
-    (record_kept (word new.system) (omega (arith, b.2)) b.1
-    (λ k from to m. of_head k (omega (arith, from, b.0, above)) to m) told)
-    (λ large. of_head (heap.top + heap.top_size) (omega (arith, above)) (omega (arith, e)) (omega (arith, top_whole c.requires.sound there, sizes.0))
-    ∙ (put.elsewhere (heap.top + heap.top_size) (into (heap.top + heap.top_size) (head_word c.requires.sound there (heap.top + heap.top_size) (omega (arith, above)) (omega (arith, e)) (omega (arith, top_whole c.requires.sound there, sizes.0))))
+    (record_kept (word new.system) (omega arith) b.1
+    (λ k from to m. of_head k (omega arith) to m) told)
+    (λ large. of_head (heap.top + heap.top_size) (omega arith) (omega arith) (omega (arith, top_whole c.requires.sound there))
+    ∙ (put.elsewhere (heap.top + heap.top_size) (into (heap.top + heap.top_size) (head_word c.requires.sound there (heap.top + heap.top_size) (omega arith) (omega arith) (omega (arith, top_whole c.requires.sound there))))
     (inl (large_at heap.top heap.top_size left.place large)) ∙ left.foot large))
-    (λ k inside out free not_top not_foot. made.elsewhere k (onto k inside) not_top not_foot ∙ (put.elsewhere k (into k inside) (elim out [ inl before ↦ inl before | inr behind ↦ inr (omega (arith, behind, end_same)) ]) ∙ left.elsewhere k inside free)) in
+    (λ k inside out free not_top not_foot. made.elsewhere k (onto k inside) not_top not_foot ∙ (put.elsewhere k (into k inside) (elim out [ inl before ↦ inl before | inr behind ↦ inr (omega arith) ]) ∙ left.elsewhere k inside free)) in
     let rest = new_rest g.A.Links.follows c.requires.sound fresh there c.requires.beside c.requires.apart new.system (made.regions ∙ (put.regions ∙ left.regions)) left.place made.head made.foot_head
-    (record_kept (word new.system) (omega (arith, b.2)) b.1
-    (λ k from to m. of_head k (omega (arith, from, b.0, above)) to m) told)
-    (λ large. of_head (heap.top + heap.top_size) (omega (arith, above)) (omega (arith, e)) (omega (arith, top_whole c.requires.sound there, sizes.0))
-    ∙ (put.elsewhere (heap.top + heap.top_size) (into (heap.top + heap.top_size) (head_word c.requires.sound there (heap.top + heap.top_size) (omega (arith, above)) (omega (arith, e)) (omega (arith, top_whole c.requires.sound there, sizes.0))))
+    (record_kept (word new.system) (omega arith) b.1
+    (λ k from to m. of_head k (omega arith) to m) told)
+    (λ large. of_head (heap.top + heap.top_size) (omega arith) (omega arith) (omega (arith, top_whole c.requires.sound there))
+    ∙ (put.elsewhere (heap.top + heap.top_size) (into (heap.top + heap.top_size) (head_word c.requires.sound there (heap.top + heap.top_size) (omega arith) (omega arith) (omega (arith, top_whole c.requires.sound there))))
     (inl (large_at heap.top heap.top_size left.place large)) ∙ left.foot large))
-    (λ k inside out free not_top not_foot. made.elsewhere k (onto k inside) not_top not_foot ∙ (put.elsewhere k (into k inside) (elim out [ inl before ↦ inl before | inr behind ↦ inr (omega (arith, behind, end_same)) ]) ∙ left.elsewhere k inside free)) in
+    (λ k inside out free not_top not_foot. made.elsewhere k (onto k inside) not_top not_foot ∙ (put.elsewhere k (into k inside) (elim out [ inl before ↦ inl before | inr behind ↦ inr (omega arith) ]) ∙ left.elsewhere k inside free)) in
     let is = made.fields ∙ ap (λ h. new_head h grant new.system at) left.fields in
     record {
       joined = subst (λ h. IsAdmitted regions word g.A.Links.follows heap grant h) (sym is) joined;

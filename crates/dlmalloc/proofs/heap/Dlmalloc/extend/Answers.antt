@@ -23,7 +23,7 @@ pub close_top-requires-clause-high : goal.close_top-requires-clause-high
 close_top-requires-clause-high g c =
     let m = behind_means c.args.grant.now (record { base = c.args.self.now.base; size = c.args.self.now.size; flags = c.args.self.now.flags; extents = [] }) c.requires.behind in
     let high = c.requires.fresh.high in
-    omega (arith, m.0)
+    omega arith
 
 pub close_top-requires-clause-top : goal.close_top-requires-clause-top
 close_top-requires-clause-top g c = top_word c.requires.sound c.requires.there
@@ -36,8 +36,8 @@ close_top-requires-clause-foot g c =
     let m = behind_means grant (record { base = heap.base; size = heap.size; flags = heap.flags; extents = [] }) c.requires.behind in
     let whole = end_whole c.requires.sound c.requires.there in
     record {
-      granted = f.run.covered (heap.base + (heap.size + grant.size) - 72) (omega (arith, m.0, f.long)) (omega (arith, m.0, f.long));
-      aligned = omega (arith, whole, f.size_aligned, f.long);
+      granted = f.run.covered (heap.base + (heap.size + grant.size) - 72) (omega arith) (omega arith);
+      aligned = omega arith;
     }
 
 pub returns : goal.returns

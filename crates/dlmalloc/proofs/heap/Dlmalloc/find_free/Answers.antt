@@ -26,7 +26,7 @@ returns-in-Some g c =
       least = fit_least c.requires.sound b c.args.n fit ∙ ap Some (sym size);
       there = subst (λ n. IsFreeAt (state_of word heap) at n) (sym size) free;
       other = fit_other c.requires.sound b c.args.n fit;
-      fits = omega (arith, enough, size);
+      fits = omega arith;
       member = λ index linked. c.in-Some.ensures.fit index linked;
       counted = omega arith;
     }

@@ -20,4 +20,4 @@ returns-clause-counted g c =
     let freed = c.free_block-chunk.ensures.counted in
     let settled = c.settle.ensures.counted in
     let same = freed_pass (state_of g.A.Links.word c.args.self.now) (c.args.ptr - 16) c.free_block-chunk.ensures.freed.state in
-    omega (arith, freed, settled, same)
+    omega arith

@@ -38,5 +38,5 @@ returns g c =
           c.set_inuse.new.memory c.store_counted.new.self first.regions second.regions _ rest_is first.stored second.stored;
       bins = refl;
       moved = record { sound = t.sound; words = t.words; regions_same = second.regions ∙ first.regions; followed = search rules };
-      counted = (let told = first.counted in let stored = second.counted in omega (arith, told, stored));
+      counted = (let told = first.counted in let stored = second.counted in omega arith);
     }

@@ -65,7 +65,7 @@ returns-then-was_victim g c =
     let room = c.requires.room in
     let e = c.set_inuse.ensures in
     let t = whole_victim c.requires.sound c.args.n c.requires.chunk c.requires.next c.requires.whole c.requires.more c.requires.room c.set_inuse.new.memory e.regions (omega arith) e.stored c.if-was_victim.true in
-    record { state = t.state; held = (c.args.size + c.args.free, t.held, omega arith, omega arith); others = t.others; free = whole_free c.requires.sound c.args.n c.requires.chunk c.requires.next c.requires.whole c.requires.more c.requires.room c.set_inuse.new.memory e.regions (omega arith) e.stored 0 0; rest = (λ more. absurd (omega (arith, more, less))); bins = refl; counted = omega arith; moved = record { sound = t.sound; words = t.words; regions_same = e.regions; followed = e.follows } }
+    record { state = t.state; held = (c.args.size + c.args.free, t.held, omega arith, omega arith); others = t.others; free = whole_free c.requires.sound c.args.n c.requires.chunk c.requires.next c.requires.whole c.requires.more c.requires.room c.set_inuse.new.memory e.regions (omega arith) e.stored 0 0; rest = (λ more. absurd (omega arith)); bins = refl; counted = omega arith; moved = record { sound = t.sound; words = t.words; regions_same = e.regions; followed = e.follows } }
 
 pub returns-else-was_victim : goal.returns-else-was_victim
 returns-else-was_victim g c =
@@ -73,7 +73,7 @@ returns-else-was_victim g c =
     let room = c.requires.room in
     let e = c.set_inuse.ensures in
     let t = whole_binned c.requires.sound c.args.n c.requires.chunk c.requires.next c.requires.whole c.requires.more c.requires.room c.set_inuse.new.memory e.regions (omega arith) e.stored c.if-was_victim.false in
-    record { state = t.state; held = (c.args.size + c.args.free, t.held, omega arith, omega arith); others = t.others; free = whole_free c.requires.sound c.args.n c.requires.chunk c.requires.next c.requires.whole c.requires.more c.requires.room c.set_inuse.new.memory e.regions (omega arith) e.stored c.args.self.now.victim c.args.self.now.victim_size; rest = (λ more. absurd (omega (arith, more, less))); bins = refl; counted = omega arith; moved = record { sound = t.sound; words = t.words; regions_same = e.regions; followed = e.follows } }
+    record { state = t.state; held = (c.args.size + c.args.free, t.held, omega arith, omega arith); others = t.others; free = whole_free c.requires.sound c.args.n c.requires.chunk c.requires.next c.requires.whole c.requires.more c.requires.room c.set_inuse.new.memory e.regions (omega arith) e.stored c.args.self.now.victim c.args.self.now.victim_size; rest = (λ more. absurd (omega arith)); bins = refl; counted = omega arith; moved = record { sound = t.sound; words = t.words; regions_same = e.regions; followed = e.follows } }
 
 pub returns-then-was_victim-2 : goal.returns-then-was_victim-2
 returns-then-was_victim-2 g c =

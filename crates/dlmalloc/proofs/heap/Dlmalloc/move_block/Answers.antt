@@ -84,7 +84,7 @@ returns-in-Ok-clause-counted g c = λ some.
     let cut = c.malloc.ensures.counted some in
     let words = c.copy_counted.ensures.counted in
     let freed = c.free_and_settle.ensures.counted in
-    omega (arith, cut, words, freed, count, segments)
+    omega arith
 
 pub returns-in-Err-clause-counted : goal.returns-in-Err-clause-counted
-returns-in-Err-clause-counted g c = λ some. let cut = c.malloc.ensures.counted some in omega (arith, cut)
+returns-in-Err-clause-counted g c = λ some. let cut = c.malloc.ensures.counted some in omega arith

@@ -12,13 +12,13 @@ make_head-requires-clause-long g c = let long = c.requires.fresh.long in omega a
 pub make_head-requires-clause-top : goal.make_head-requires-clause-top
 make_head-requires-clause-top g c =
     let f = c.requires.fresh in
-    record { granted = f.run.covered (c.args.grant.now.base + 8) (omega arith) (omega (arith, f.long)); aligned = omega (arith, f.base_aligned) }
+    record { granted = f.run.covered (c.args.grant.now.base + 8) (omega arith) (omega arith); aligned = omega arith }
 
 pub make_head-requires-clause-foot : goal.make_head-requires-clause-foot
 make_head-requires-clause-foot g c =
     let f = c.requires.fresh in
     let grant = c.args.grant.now in
-    record { granted = f.run.covered (grant.base + grant.size - 72) (omega (arith, f.long)) (omega (arith, f.long)); aligned = omega (arith, f.base_aligned, f.size_aligned, f.long) }
+    record { granted = f.run.covered (grant.base + grant.size - 72) (omega arith) (omega arith); aligned = omega arith }
 
 pub returns : goal.returns
 returns g c =

@@ -11,13 +11,13 @@ overflow_add-self g c =
 pub put_two-requires-clause-head : goal.put_two-requires-clause-head
 put_two-requires-clause-head g c =
     let f = c.requires.fresh in
-    part_head f c.args.grant.now.base (omega arith) (omega (arith, f.long)) f.base_aligned
+    part_head f c.args.grant.now.base (omega arith) (omega arith) f.base_aligned
 
 pub put_two-requires-clause-behind : goal.put_two-requires-clause-behind
 put_two-requires-clause-behind g c =
     let f = c.requires.fresh in
     let whole = c.requires.whole in let room = c.requires.room in let least = c.requires.least in
-    part_head f (c.args.grant.now.base + c.args.n) (omega arith) (omega arith) (omega (arith, f.base_aligned))
+    part_head f (c.args.grant.now.base + c.args.n) (omega arith) (omega arith) (omega arith)
 
 pub put_two-requires-clause-second : goal.put_two-requires-clause-second
 put_two-requires-clause-second g c = let size = c.requires.fresh.size_aligned in let whole = c.requires.whole in let room = c.requires.room in omega arith

@@ -28,14 +28,14 @@ pub put_two-requires-clause-head : goal.put_two-requires-clause-head
 put_two-requires-clause-head g c =
     let f = c.requires.fresh in
     subst (λ rs. HasHead rs c.args.grant.now.base) (sym (c.store_counted-2.ensures.regions ∙ c.store_counted.ensures.regions))
-    (part_head f c.args.grant.now.base (omega arith) (omega (arith, f.long)) f.base_aligned)
+    (part_head f c.args.grant.now.base (omega arith) (omega arith) f.base_aligned)
 
 pub put_two-requires-clause-behind : goal.put_two-requires-clause-behind
 put_two-requires-clause-behind g c =
     let f = c.requires.fresh in
     let whole = c.requires.whole in let room = c.requires.room in let least = c.requires.least in
     subst (λ rs. HasHead rs (c.args.grant.now.base + c.args.n)) (sym (c.store_counted-2.ensures.regions ∙ c.store_counted.ensures.regions))
-    (part_head f (c.args.grant.now.base + c.args.n) (omega arith) (omega arith) (omega (arith, f.base_aligned)))
+    (part_head f (c.args.grant.now.base + c.args.n) (omega arith) (omega arith) (omega arith))
 
 pub put_two-requires-clause-second : goal.put_two-requires-clause-second
 put_two-requires-clause-second g c = let size = c.requires.fresh.size_aligned in let whole = c.requires.whole in let room = c.requires.room in omega arith
@@ -62,10 +62,10 @@ returns g c =
     let onto : (k : ℕ) → IsWordOf (regions heap.system) k → IsWordOf (regions at_first) k = λ k inside. subst (λ rs. IsWordOf rs k) (sym one.regions) inside in
     let room = c.requires.room in
     let base : word system payload ≡ grant.base =
-    put.elsewhere payload (into payload p.base_word) (λ is. p.apart payload (omega arith) (omega arith) (omega (arith, is)) (omega (arith, is))) (λ is. p.apart payload (omega arith) (omega arith) (omega (arith, is)) (omega (arith, is)))
-    ∙ (two.stored.elsewhere payload (onto payload p.base_word) (λ is. omega (arith, is)) ∙ one.stored.here) in
+    put.elsewhere payload (into payload p.base_word) (λ is. p.apart payload (omega arith) (omega arith) (omega arith) (omega arith)) (λ is. p.apart payload (omega arith) (omega arith) (omega arith) (omega arith))
+    ∙ (two.stored.elsewhere payload (onto payload p.base_word) (λ is. omega arith) ∙ one.stored.here) in
     let size : word system (payload + 8) ≡ grant.size + word heap.system (payload + 8) =
-    put.elsewhere (payload + 8) (into (payload + 8) p.size_word) (λ is. p.apart (payload + 8) (omega arith) (omega arith) (omega (arith, is)) (omega (arith, is))) (λ is. p.apart (payload + 8) (omega arith) (omega arith) (omega (arith, is)) (omega (arith, is)))
+    put.elsewhere (payload + 8) (into (payload + 8) p.size_word) (λ is. p.apart (payload + 8) (omega arith) (omega arith) (omega arith) (omega arith)) (λ is. p.apart (payload + 8) (omega arith) (omega arith) (omega arith) (omega arith))
     ∙ (two.stored.here ∙ (λ i. grant.size + c.load_counted-size.ensures.value i)) in
     record {
       prepended = before_told g.A.Links.follows c.requires.sound c.requires.fresh c.args.n c.requires.whole c.requires.least c.requires.room (whole_each (regions heap.system) (g.A.Links.whole heap.system))

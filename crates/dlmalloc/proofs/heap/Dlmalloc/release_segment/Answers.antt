@@ -24,7 +24,7 @@ returns-then-not-may_leave-clause-visited g c = λ chained.
     (stays c.requires.sound c.requires.there chained g.A.Links.follows g.A.Links.follows_none false)
 
 pub overflow_sub-size : goal.overflow_sub-size
-overflow_sub-size g c = let long = long_told c.requires.sound c.requires.there c.requires.chained in omega (arith, long)
+overflow_sub-size g c = let long = long_told c.requires.sound c.requires.there c.requires.chained in omega arith
 
 pub unbin-requires-clause-free : goal.unbin-requires-clause-free
 unbin-requires-clause-free g c =
@@ -90,7 +90,7 @@ returns-then-hand_out g c =
           let base = base_is c.requires.sound c.requires.there chained in
           let size = ap (λ n. n - 80) (size_is c.requires.sound c.requires.there chained) in
           (after left.0, λ n. left.1 n ∙ visit_left frees parts chained.segment b.index n base size (may chained) takes);
-      counted = (let tested = c.may_leave.ensures.counted in let left = c.unbin.ensures.counted in let handed = e.counted in omega (arith, tested, left, handed));
+      counted = (let tested = c.may_leave.ensures.counted in let left = c.unbin.ensures.counted in let handed = e.counted in omega arith);
     }
 
 -- ---- the system kept it
@@ -161,5 +161,5 @@ returns g c =
           let size = ap (λ n. n - 80) (size_is c.requires.sound c.requires.there chained) in
           let last = c.bin.ensures.binned [] (after left.0) (λ none. none) in
           (last.0, λ n. last.1 n ∙ (with_same (told.size - 80) told.base left.0.index (without_chunk (told.size - 80) told.base b.index) n (left.1 n) ∙ visit_kept frees parts chained.segment b.index n base size (may chained) takes));
-      counted = (let tested = c.may_leave.ensures.counted in let left = c.unbin.ensures.counted in let handed = e.counted in let put = c.bin.ensures.counted in omega (arith, tested, left, handed, put));
+      counted = (let tested = c.may_leave.ensures.counted in let left = c.unbin.ensures.counted in let handed = e.counted in let put = c.bin.ensures.counted in omega arith);
     }

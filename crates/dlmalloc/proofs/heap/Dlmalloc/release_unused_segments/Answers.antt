@@ -41,7 +41,7 @@ pub overflow_add-visited : goal.overflow_add-visited
 overflow_add-visited g c = let fits = count_fits g.A.Links.follows (g.A.Allocator.frees c.args.self.now.system) (g.A.Allocator.parts c.args.self.now.system) c.requires.sound c.loop-payload.invariant.0 c.loop-payload-test.true in grind arith
 
 pub loop-payload-smaller : goal.loop-payload-smaller
-loop-payload-smaller g c = let more = more_left g.A.Links.follows (g.A.Allocator.frees c.args.self.now.system) (g.A.Allocator.parts c.args.self.now.system) c.requires.sound c.loop-payload.invariant.0 c.loop-payload-test.true in omega (arith, more)
+loop-payload-smaller g c = let more = more_left g.A.Links.follows (g.A.Allocator.frees c.args.self.now.system) (g.A.Allocator.parts c.args.self.now.system) c.requires.sound c.loop-payload.invariant.0 c.loop-payload-test.true in omega arith
 
 pub loop-payload-preserved : goal.loop-payload-preserved
 loop-payload-preserved g c =
@@ -84,4 +84,4 @@ pub returns-clause-counted : goal.returns-clause-counted
 returns-clause-counted g c =
     let taken = c.loop-payload.invariant.2 in
     let all = passed_few g.A.Links.follows (g.A.Allocator.frees c.args.self.now.system) (g.A.Allocator.parts c.args.self.now.system) c.requires.sound c.loop-payload.invariant.0 in
-    omega (arith, taken, all)
+    omega arith

@@ -56,7 +56,7 @@ returns-clause-counted g c = λ some.
     let few = c.resize_chunk.ensures.none_counted c.if-resize_chunk.false in
     let segments = ap (λ heap. pass_steps (state_of g.A.Links.word heap)) same in
     let moved = c.move_block.ensures.counted (subst (λ heap. chosen (state_of g.A.Links.word heap) (padded (asked c.args.size c.args.align)) ≢ None) (sym same) some) in
-    omega (arith, few, segments, moved)
+    omega arith
 
 pub returns-clause-in_place_counted : goal.returns-clause-in_place_counted
 returns-clause-in_place_counted g c = λ some.

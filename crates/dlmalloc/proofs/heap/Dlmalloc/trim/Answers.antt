@@ -65,7 +65,7 @@ returns-then-is_cut-clause-counted g c =
     let first = c.trim_top-is_cut.ensures.counted in
     let pass = c.release_unused_segments-released.ensures.counted in
     let same = after_cut_pass (g.A.Allocator.parts start) (g.A.Allocator.unit start) c.args.pad (state_of g.A.Links.word c.args.self.now) c.trim_top-is_cut.ensures.cut.state in
-    omega (arith, first, pass, same)
+    omega arith
 
 pub returns-clause-counted : goal.returns-clause-counted
 returns-clause-counted g c =
@@ -73,4 +73,4 @@ returns-clause-counted g c =
     let first = c.trim_top-is_cut.ensures.counted in
     let pass = c.release_unused_segments-released.ensures.counted in
     let same = after_cut_pass (g.A.Allocator.parts start) (g.A.Allocator.unit start) c.args.pad (state_of g.A.Links.word c.args.self.now) c.trim_top-is_cut.ensures.cut.state in
-    omega (arith, first, pass, same)
+    omega arith
