@@ -1,5 +1,5 @@
 -- Chunks go into bins and leave them, and the heap moves.
-use Rattle.dlmalloc.proofs.Names.{◌≡◌, ◌≢◌, ℕ, ◌+◌, ◌<◌, ◌≤◌, ◌⊎◌, inl, inr, List, [], ◌∷◌, Some, IsTrue, refl, sym, ◌∙◌, ap, subst, arith, list_any, AllByRecursion, Grant, IsWordOf, Event, Extent, Free, Record, Bins, IsIn, with_chunk, without_chunk, OnlyLinksChange, IndexStays, extent_at, HeapState, Segment, extents_in, IsRun, has_byte_in, segments_of, state_of, IsSound, IsFreeAt, HoldsBut, IsBinnedBut, IsBinned, OnlyFreeChange, IsRebinned, FreeMoves, IsMoved, Dlmalloc}
+use Rattle.dlmalloc.proofs.Names.{◌≡◌, ◌≢◌, ℕ, ◌+◌, ◌<◌, ◌≤◌, ◌⊎◌, inl, inr, List, [], ◌∷◌, Some, IsTrue, refl, sym, ◌∙◌, ap, subst, arith, list_any, AllByRecursion, Grant, IsWordOf, Event, Extent, Free, Record, Bins, IsIn, with_chunk, without_chunk, OnlyLinksChange, IndexStays, extent_at, Segment, extents_in, IsRun, has_byte_in, segments_of, state_of, IsSound, IsFreeAt, HoldsBut, IsBinnedBut, IsBinned, OnlyFreeChange, IsRebinned, FreeMoves, IsMoved, Dlmalloc}
 use Rattle.bins.specs.Linked.{IsLinked, IsFresh}
 use Rattle.dlmalloc.proofs.Words.Telling.{IsTelling, sound_told, state_told}
 use Rattle.dlmalloc.proofs.Bins.Held.{AreAccounted, binned_one, unbinned_one, still_free, holds_moved, looser, tighter}

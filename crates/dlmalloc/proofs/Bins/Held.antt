@@ -1,5 +1,5 @@
 -- The extents that an index holds.
-use Rattle.dlmalloc.proofs.Names.{◌≡◌, ◌≢◌, ℕ, ◌⊎◌, inl, inr, Bool, true, false, ◌==◌, if◌then◌else◌, List, [], ◌∷◌, ◌++◌, refl, sym, ◌∙◌, ap, subst, arith, nat_tests, Extent, IsIn, AreDistinct, removed, with_chunk, without_chunk, HeapState, IsFreeAt, HoldsBut, FreeMoves}
+use Rattle.dlmalloc.proofs.Names.{◌≡◌, ◌≢◌, ℕ, ◌⊎◌, inl, inr, Bool, true, false, ◌==◌, if◌then◌else◌, List, [], ◌∷◌, ◌++◌, refl, sym, ◌∙◌, ap, subst, arith, nat_tests, IsIn, AreDistinct, removed, with_chunk, without_chunk, HeapState, IsFreeAt, HoldsBut, FreeMoves}
 use Rattle.dlmalloc.proofs.Extents.Lookup.{nat_is, the_extent}
 
 -- ---- the chunks of an index with one more, and with one less

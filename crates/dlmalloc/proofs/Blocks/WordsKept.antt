@@ -1,5 +1,5 @@
 -- That blocks keep their words follows from the clause on words, where both heaps are sound.
-use Rattle.dlmalloc.proofs.Names.{◌≡◌, ℕ, ◌+◌, ◌/◌, ◌%◌, ◌<◌, ◌≤◌, ◌⊎◌, inl, inr, Bool, true, false, ◌==◌, if◌then◌else◌, List, [], ◌∷◌, Option, Some, IsTrue, sym, ◌∙◌, ap, subst, arith, unwrap_or, AllByRecursion, Grant, IsWordOf, is_granted, Extent, Kind, Used, Free, Victim, Top, Record, Foot, is_used, Segment, HeapState, extents_in, is_free_below_top, IsInFree, OnlyOwnChange, OnlyOwnOrTagsChange, KeepsBlocks, IsSpared, AllSpare, IsSegment, AreSegments, IsApartFrom, AreApart, segments_of, state_of, IsSound, Dlmalloc}
+use Rattle.dlmalloc.proofs.Names.{◌≡◌, ℕ, ◌+◌, ◌/◌, ◌%◌, ◌<◌, ◌≤◌, ◌⊎◌, inl, inr, Bool, true, false, ◌==◌, if◌then◌else◌, List, [], ◌∷◌, Some, IsTrue, sym, ◌∙◌, ap, subst, arith, unwrap_or, AllByRecursion, Grant, IsWordOf, is_granted, Extent, Kind, Used, Free, Victim, Top, Record, Foot, is_used, Segment, HeapState, extents_in, is_free_below_top, IsInFree, OnlyOwnChange, OnlyOwnOrTagsChange, KeepsBlocks, IsSpared, AllSpare, IsSegment, AreSegments, IsApartFrom, AreApart, segments_of, state_of, IsSound, Dlmalloc}
 use Rattle.dlmalloc_chunks.specs.Tiling.{extent_at}
 use Rattle.dlmalloc.proofs.Extents.Lookup.{found_either}
 use Rattle.dlmalloc.proofs.Words.Spared.{spared_before, spared_behind, spared_append, inner_spared}

@@ -1,5 +1,5 @@
 -- A heap rests on the words outside of its blocks alone.
-use Rattle.dlmalloc.proofs.Names.{◌≡◌, ℕ, ◌+◌, ◌<◌, ◌≤◌, ◌⊎◌, inl, inr, Bool, true, false, ◌&&◌, ◌||◌, ◌==◌, nat_le, nat_lt, if◌then◌else◌, List, [], ◌∷◌, Some, IsTrue, refl, sym, ◌∙◌, ap, subst, arith, list_any, AllByRecursion, nat_tests, Grant, is_granted, IsWordOf, IsApart, Extent, Kind, Used, Free, Record, IndexStays, extent_at, Segment, HeapState, extents_in, is_free_below_top, IsWithin, IsRun, IsSegment, has_byte_in, segments_of, state_of, IsSound, IsFreeAt, HoldsBinned, IsBinned, regions_in, KeepsRegions, OnlyBlocksChange, Dlmalloc}
+use Rattle.dlmalloc.proofs.Names.{◌≡◌, ℕ, ◌+◌, ◌<◌, ◌≤◌, ◌⊎◌, inl, inr, Bool, true, false, ◌&&◌, ◌||◌, ◌==◌, nat_le, nat_lt, if◌then◌else◌, List, [], ◌∷◌, Some, IsTrue, refl, sym, ◌∙◌, ap, subst, arith, list_any, AllByRecursion, nat_tests, Grant, is_granted, IsWordOf, IsApart, Extent, Kind, Used, Free, Record, IndexStays, extent_at, Segment, extents_in, is_free_below_top, IsWithin, IsRun, IsSegment, has_byte_in, segments_of, state_of, IsSound, IsFreeAt, HoldsBinned, IsBinned, regions_in, KeepsRegions, OnlyBlocksChange, Dlmalloc}
 use Rattle.dlmalloc.proofs.Extents.Lookup.{nat_is, the_extent}
 use Rattle.dlmalloc.proofs.Segments.Among.{extents_all, any_among, located, of_located, in_part}
 use Rattle.dlmalloc.proofs.Extents.Disjoint.{beside, stands_there}

@@ -1,5 +1,6 @@
 -- A free extent is cut.
 use Rattle.dlmalloc.proofs.Names.{◌≡◌, ◌≢◌, ℕ, ◌+◌, ◌-◌, ◌%◌, ◌<◌, ◌≤◌, ◌⊎◌, inl, inr, true, false, List, [], ◌∷◌, IsTrue, sym, ◌∙◌, ap, subst, arith, refl, Grant, IsWordOf, IsStored, AreStored, Extent, Kind, Used, Free, Victim, Top, Record, Foot, IsSize, head_of, with_pinuse, with_pinuse-head_of, is_used, is_free_below_top, MayStand, told_size, HasChunk, IsSpared, IsMove}
+use Rattle.dlmalloc.proofs.Extents.Tiling.{free_chunk, plain_chunk}
 use Rattle.dlmalloc.proofs.Extents.Lookup.{extent}
 
 -- one store, and others behind it
@@ -78,24 +79,10 @@ module _ (regions : List Grant) {old : ℕ → ℕ} (new : ℕ → ℕ) {before 
         less_stand = (refl, stands, refl);
         more_stand = (
           refl,
-          record {
-            whole = place;
-            size = (whole, least);
-            kind = inl stands.kind;
-            head = stored.here.0 ((λ is. omega arith), ((λ is. omega arith), tt)) ∙ ap (λ k. head_of n (is_used k) true) (sym stands.kind);
-            foot = λ free. absurd (cc);
-            fence = λ is. absurd (cc);
-          },
+          plain_chunk place (whole, least) (inl stands.kind) (stored.here.0 ((λ is. omega arith), ((λ is. omega arith), tt)) ∙ ap (λ k. head_of n (is_used k) true) (sym stands.kind)) (λ free. cc) (λ is. cc),
           (
             refl,
-            record {
-              whole = omega arith;
-              size = (omega arith, omega arith);
-              kind = refl;
-              head = stored.here.1.0 ((λ is. omega arith), tt);
-              foot = λ free. stored.here.1.1.0 tt;
-              fence = λ is. absurd (cc);
-            },
+            free_chunk (omega arith) (omega arith, omega arith) refl (stored.here.1.0 ((λ is. omega arith), tt)) (stored.here.1.1.0 tt),
             omega arith,
           ),
         );
@@ -114,14 +101,7 @@ module _ (regions : List Grant) {old : ℕ → ℕ} (new : ℕ → ℕ) {before 
           less_stand = (refl, stands, (touch, behind, refl));
           more_stand = (
             refl,
-            record {
-              whole = stands.whole;
-              size = stands.size;
-              kind = inl stands.kind;
-              head = stored.here.0 ((λ is. omega arith), tt) ∙ ap (λ k. head_of size (is_used k) true) (sym stands.kind);
-              foot = λ free. absurd (cc);
-              fence = λ is. absurd (cc);
-            },
+            plain_chunk stands.whole stands.size (inl stands.kind) (stored.here.0 ((λ is. omega arith), tt) ∙ ap (λ k. head_of size (is_used k) true) (sym stands.kind)) (λ free. cc) (λ is. cc),
             (
               touch,
               rehung new Used behind kind (may_stand next.kind Used kind (inl refl))
@@ -146,24 +126,10 @@ cut_top n stands whole least room stored =
       less_stand = (refl, stands, refl);
       more_stand = (
         refl,
-        record {
-          whole = place;
-          size = (whole, least);
-          kind = inl stands.kind;
-          head = stored.here.0 ((λ is. omega arith), tt) ∙ ap (λ k. head_of n (is_used k) true) (sym stands.kind);
-          foot = λ free. absurd (cc);
-          fence = λ is. absurd (cc);
-        },
+        plain_chunk place (whole, least) (inl stands.kind) (stored.here.0 ((λ is. omega arith), tt) ∙ ap (λ k. head_of n (is_used k) true) (sym stands.kind)) (λ free. cc) (λ is. cc),
         (
           refl,
-          record {
-            whole = omega arith;
-            size = (omega arith, omega arith);
-            kind = refl;
-            head = stored.here.1.0 tt ∙ omega arith;
-            foot = λ free. absurd (cc);
-            fence = λ is. absurd (cc);
-          },
+          plain_chunk (omega arith) (omega arith, omega arith) refl (stored.here.1.0 tt ∙ omega arith) (λ free. cc) (λ is. cc),
           omega arith,
         ),
       );

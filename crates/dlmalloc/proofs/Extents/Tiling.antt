@@ -1,5 +1,5 @@
 -- Extents that tile a segment.
-use Rattle.dlmalloc.proofs.Names.{◌≡◌, ℕ, ◌+◌, ◌%◌, ◌<◌, ◌≤◌, inl, inr, List, [], ◌∷◌, ◌++◌, IsTrue, refl, sym, ◌∙◌, subst, arith, Extent, Kind, Used, Free, Victim, Top, Record, Foot, IsSize, is_free_below_top, HasChunk, Tiles, last_kind}
+use Rattle.dlmalloc.proofs.Names.{◌≡◌, ℕ, ◌+◌, ◌%◌, ◌<◌, ◌≤◌, inl, inr, false, List, [], ◌∷◌, ◌++◌, IsTrue, refl, sym, ◌∙◌, subst, arith, Extent, Kind, Used, Free, Victim, Top, Record, Foot, IsSize, is_free_below_top, HasChunk, MayStand, told_size, is_used, head_of, Tiles, last_kind}
 
 -- sizes are whole units, and one at least
 pub sized : (kind : Kind) (size : ℕ) → IsSize kind size → (size % 16 ≡ 0) × (16 ≤ size)
@@ -9,6 +9,17 @@ sized Victim size h = (h.0, (let l = h.1 in omega arith))
 sized Top size h = h
 sized Record size h = elim h [ inl short ↦ (omega arith, omega arith) | inr long ↦ (omega arith, omega arith) ]
 sized Foot size h = (omega arith, omega arith)
+
+-- an extent of which its head alone tells
+pub plain_chunk : {words : ℕ → ℕ} {before : Kind} {one : Extent} → one.at % 16 ≡ 0 → IsSize one.kind one.size → MayStand before one.kind →
+    words (one.at + 8) ≡ head_of (told_size one.kind one.size) (is_used before) (is_used one.kind) → (IsTrue (is_free_below_top one.kind) → ⊥) → (one.kind ≡ Record → ⊥) → HasChunk words before one
+plain_chunk whole size kind head foot fence =
+    record { whole = whole; size = size; kind = kind; head = head; foot = λ free. absurd (foot free); fence = λ is. absurd (fence is) }
+
+-- a free one, of which its foot tells as well
+pub free_chunk : {words : ℕ → ℕ} {before : Kind} {at size : ℕ} → at % 16 ≡ 0 → IsSize Free size → MayStand before Free → words (at + 8) ≡ head_of size (is_used before) false → words (at + size) ≡ size →
+    HasChunk words before (record { at = at; size = size; kind = Free })
+free_chunk whole size kind head foot = record { whole = whole; size = size; kind = kind; head = head; foot = λ free. foot; fence = λ is. absurd (cc) }
 
 -- extents end behind their beginning
 pub tiles_le : (words : ℕ → ℕ) (before : Kind) (at : ℕ) (extents : List Extent) (end : ℕ) → Tiles words before at extents end → at ≤ end

@@ -1,5 +1,5 @@
 -- The free extents beside one that is freed.
-use Rattle.dlmalloc.proofs.Names.{◌≡◌, ◌≢◌, ℕ, ◌+◌, ◌-◌, ◌%◌, ◌≤◌, ◌⊎◌, inl, inr, Bool, true, false, ◌==◌, if◌then◌else◌, List, [], ◌∷◌, ◌++◌, Option, Some, None, IsTrue, refl, sym, ◌∙◌, ap, subst, arith, append_assoc, unwrap_or, append-nil, Grant, Extent, Kind, Used, Free, Victim, Top, Record, Foot, size_of, pinuse_of, free_of, head_of, size_of-head_of, pinuse_of-head_of, cinuse_of-head_of, is_free, ends_segment, is_used, Segment, is_free_below_top, MayStand, told_size, HasChunk, Tiles, last_kind, IsRunOf, used_of, AreSegments, IsChunkKind}
+use Rattle.dlmalloc.proofs.Names.{◌≡◌, ◌≢◌, ℕ, ◌+◌, ◌-◌, ◌%◌, ◌≤◌, ◌⊎◌, inl, inr, Bool, true, false, ◌==◌, if◌then◌else◌, List, [], ◌∷◌, ◌++◌, Some, None, IsTrue, refl, sym, ◌∙◌, ap, subst, arith, append_assoc, unwrap_or, append-nil, Grant, Extent, Kind, Used, Free, Victim, Top, Record, Foot, size_of, pinuse_of, free_of, head_of, size_of-head_of, pinuse_of-head_of, cinuse_of-head_of, is_free, ends_segment, is_used, Segment, is_free_below_top, MayStand, told_size, HasChunk, Tiles, last_kind, IsRunOf, used_of, AreSegments, IsChunkKind}
 use Rattle.dlmalloc_chunks.specs.Tiling.{extent_at}
 use Rattle.dlmalloc.proofs.Extents.Lookup.{extent, end_of, nat_is, found_here}
 use Rattle.dlmalloc.proofs.Extents.Tiling.{tiles_le, tiles_append, tiles_split}

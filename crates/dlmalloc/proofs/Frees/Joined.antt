@@ -1,5 +1,6 @@
 -- An extent in use is freed, and joins the free ones beside it.
 use Rattle.dlmalloc.proofs.Names.{◌≡◌, ℕ, ◌+◌, ◌-◌, ◌%◌, ◌<◌, ◌≤◌, ◌⊎◌, inr, true, false, List, [], ◌∷◌, sym, ◌∙◌, ap, subst, arith, refl, Grant, IsWordOf, IsStored, AreStored, Extent, Kind, Used, Free, Top, Record, head_of, without_pinuse, is_used, told_size, HasChunk, Tiles, IsMove}
+use Rattle.dlmalloc.proofs.Extents.Tiling.{free_chunk, plain_chunk}
 use Rattle.dlmalloc_chunks.specs.HeadLaws.{without_pinuse-head_of}
 use Rattle.dlmalloc.proofs.Extents.Lookup.{extent}
 use Rattle.dlmalloc.proofs.Cuts.FreeExtent.{rehung, told_whole, no_head, may_stand}
@@ -19,14 +20,7 @@ module _ (regions : List Grant) (old new : ℕ → ℕ) (from : ℕ) (less : Lis
         less_stand = less_stand;
         more_stand = (
           refl,
-          record {
-            whole = place;
-            size = (omega arith, omega arith);
-            kind = refl;
-            head = stored.here.1.0 ((λ is. omega arith), tt);
-            foot = λ free. stored.here.1.1.0 tt;
-            fence = λ is. absurd (cc);
-          },
+          free_chunk place (omega arith, omega arith) refl (stored.here.1.0 ((λ is. omega arith), tt)) (stored.here.1.1.0 tt),
           (
             touch ∙ sym sum,
             rehung new Free behind is (may_stand next.kind Free is (inr refl))
@@ -48,14 +42,7 @@ module _ (regions : List Grant) (old new : ℕ → ℕ) (from : ℕ) (less : Lis
     less_stand = less_stand;
     more_stand = (
       refl,
-      record {
-        whole = place;
-        size = (omega arith, long);
-        kind = refl;
-        head = stored.here ∙ omega arith;
-        foot = λ free. absurd (cc);
-        fence = λ is. absurd (cc);
-      },
+      plain_chunk place (omega arith, long) refl (stored.here ∙ omega arith) (λ free. cc) (λ is. cc),
       sum,
     );
     kept = λ k word more. stored.elsewhere k word more.0;

@@ -1,5 +1,5 @@
 -- A chunk is freed, and the bins with it.
-use Rattle.dlmalloc.proofs.Names.{◌≡◌, ℕ, ◌+◌, ◌-◌, ◌<◌, ◌≤◌, inl, inr, Bool, true, false, ◌==◌, if◌then◌else◌, List, [], ◌∷◌, Some, sym, ◌∙◌, ap, subst, arith, dec_lt, Grant, IsWordOf, Event, Used, pinuse_of, free_of, size_of, IsIn, IndexStays, extent_at, HeapState, extents_in, segments_of, state_of, IsSound, IsFreeAt, IsBinnedBut, IsRebinned, IsVictimAfter, FreeMoves, IsMoved, Dlmalloc}
+use Rattle.dlmalloc.proofs.Names.{◌≡◌, ℕ, ◌+◌, ◌-◌, ◌<◌, ◌≤◌, inl, inr, Bool, true, false, ◌==◌, if◌then◌else◌, List, [], ◌∷◌, Some, sym, ◌∙◌, ap, subst, arith, dec_lt, Grant, IsWordOf, Event, Used, pinuse_of, free_of, size_of, IsIn, IndexStays, extent_at, extents_in, segments_of, state_of, IsSound, IsFreeAt, IsBinnedBut, IsRebinned, IsVictimAfter, FreeMoves, IsMoved, Dlmalloc}
 use Rattle.dlmalloc.proofs.Extents.Lookup.{extent}
 use Rattle.dlmalloc.proofs.Extents.Disjoint.{stands_there}
 use Rattle.dlmalloc.proofs.Frees.WhatCallsWant.{head_there, foot_there, behind_there, from_at}

@@ -1,5 +1,5 @@
 -- What a free does further, told by the free extent that its chunk became part of.
-use Rattle.dlmalloc.proofs.Names.{◌≡◌, ◌≢◌, ℕ, ◌+◌, ◌<◌, ◌≤◌, inl, inr, Bool, true, false, ◌&&◌, ◌==◌, if◌then◌else◌, List, [], ◌∷◌, Option, Some, None, refl, sym, ◌∙◌, ap, subst, arith, dec_lt, find, nat_le, nat_lt, unwrap_or, option_map, nat_tests, Grant, Event, Extent, Kind, Used, Free, Victim, Top, Record, Foot, extent_at, IsFreeAround, counted, left_by_count, releases, regions_without, IsCounted, after_trim, trimmed, regions_trimmed, IsTrimmed, is_above_check, IsSettled, segments_of, state_of, IsSound, Dlmalloc}
+use Rattle.dlmalloc.proofs.Names.{◌≡◌, ◌≢◌, ℕ, ◌+◌, ◌<◌, ◌≤◌, inl, inr, Bool, true, false, ◌&&◌, ◌==◌, if◌then◌else◌, List, [], ◌∷◌, Some, None, refl, sym, ◌∙◌, ap, subst, arith, dec_lt, find, nat_le, nat_lt, unwrap_or, option_map, nat_tests, Grant, Event, Extent, Kind, Used, Free, Victim, Top, Record, Foot, extent_at, IsFreeAround, counted, left_by_count, releases, regions_without, IsCounted, after_trim, trimmed, regions_trimmed, IsTrimmed, is_above_check, IsSettled, segments_of, state_of, IsSound, Dlmalloc}
 use Rattle.dlmalloc.specs.State.{is_top as is_the_top}
 use Rattle.dlmalloc.specs.Order.{after_count}
 use Rattle.dlmalloc.specs.Trimmed.{trim_releases}

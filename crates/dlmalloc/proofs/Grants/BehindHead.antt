@@ -1,5 +1,5 @@
 -- A grant at the end of the head segment makes its top longer.
-use Rattle.dlmalloc.proofs.Names.{◌≡◌, ◌≢◌, ℕ, ◌+◌, ◌-◌, ◌%◌, ◌<◌, ◌≤◌, ◌⊎◌, inl, inr, Bool, true, false, ◌&&◌, ◌==◌, if◌then◌else◌, List, [], ◌∷◌, ◌++◌, map, Option, Some, None, refl, sym, ◌∙◌, ap, subst, arith, append_assoc, unwrap_or, AllByRecursion, nat_tests, map-append, Grant, IsWordOf, IsWhole, Extent, Used, Free, Top, Foot, ends_segment, extent_at, Tiles, last_kind, Segment, extents_in, trim_threshold, opened, is_behind, granted, IsFresh, HasSameUsed, OnlyTagsChange, IsRun, IsSegment, AreSegments, IsApartFrom, AreApart, AreRecords, FreeMoves, segments_of, state_of, IsGranularity, AreTold, IsSound, Dlmalloc, AreChunks, IsRunOf, used_of}
+use Rattle.dlmalloc.proofs.Names.{◌≡◌, ◌≢◌, ℕ, ◌+◌, ◌-◌, ◌%◌, ◌<◌, ◌≤◌, ◌⊎◌, inl, inr, Bool, true, false, ◌&&◌, ◌==◌, if◌then◌else◌, List, [], ◌∷◌, ◌++◌, map, Some, None, refl, sym, ◌∙◌, ap, subst, arith, append_assoc, unwrap_or, AllByRecursion, nat_tests, map-append, Grant, IsWordOf, IsWhole, Extent, Used, Free, Top, Foot, ends_segment, extent_at, Tiles, last_kind, Segment, extents_in, trim_threshold, opened, is_behind, granted, IsFresh, HasSameUsed, OnlyTagsChange, IsRun, IsSegment, AreSegments, IsApartFrom, AreApart, AreRecords, FreeMoves, segments_of, state_of, IsGranularity, AreTold, IsSound, Dlmalloc, AreChunks, IsRunOf, used_of}
 use Rattle.dlmalloc.specs.Granted.{grown, extended}
 use Rattle.dlmalloc.proofs.Frees.FreeBeside.{the_one}
 use Rattle.dlmalloc.proofs.Moves.OfFreeExtents.{free_changes}
@@ -13,7 +13,7 @@ use Rattle.dlmalloc.proofs.Segments.Among.{extents_all, all_distinct}
 use Rattle.dlmalloc.proofs.Segments.RegionsMore.{runs_joined}
 use Rattle.dlmalloc.proofs.Segments.ToldAnew.{IsOutside, retold, distinct, all_retold, retold_sound, same_used, replaced_found, head_tags}
 use Rattle.dlmalloc.proofs.Segments.HeadTop.{top_stands, top_run, top_part, top_segment, top_last, top_low, top_whole, top_sizes, ends}
-use Rattle.dlmalloc.proofs.Grants.Opened.{run, segments_are, back_parts, back_apart, grant_apart, parts_kept, told_kept}
+use Rattle.dlmalloc.proofs.Grants.Opened.{segments_are, back_parts, back_apart, grant_apart, parts_kept, told_kept}
 
 -- what the test says of a grant at the end of a segment
 pub behind_means : (grant : Grant) (segment : Segment) → is_behind grant segment ≡ true → (grant.base ≡ segment.base + segment.size) × (grant.flags ≡ segment.flags)

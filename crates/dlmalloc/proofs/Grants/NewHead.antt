@@ -1,5 +1,5 @@
 -- A grant becomes the head segment: what was the top is freed, and a record behind it tells the segment that it is in.
-use Rattle.dlmalloc.proofs.Names.{◌≡◌, ◌≢◌, ℕ, ◌+◌, ◌-◌, ◌%◌, ◌<◌, ◌≤◌, ◌⊎◌, inl, inr, Bool, true, false, not, ◌&&◌, ◌==◌, List, [], ◌∷◌, ◌++◌, Some, refl, sym, ◌∙◌, ap, subst, arith, append_assoc, dec_lt, flat_map, list_any, nat_tests, flat_map-append, Grant, IsWordOf, Extent, Kind, Used, Free, Top, Record, Foot, head_of, ends_segment, extent_at, is_used, Tiles, last_kind, Segment, extents_in, trim_threshold, opened, is_behind, is_before, is_put_before, granted, IsFresh, HasSameUsed, IsRecordAt, OnlyTagsChange, IsRun, IsSegment, AreSegments, IsApartFrom, AreApart, record_of, AreRecords, IsIn, IsFreeAt, FreeMoves, segments_of, state_of, IsGranularity, AreTold, IsSound, AreChunks, IsRunOf, Dlmalloc}
+use Rattle.dlmalloc.proofs.Names.{◌≡◌, ◌≢◌, ℕ, ◌+◌, ◌-◌, ◌%◌, ◌<◌, ◌≤◌, ◌⊎◌, inl, inr, Bool, true, false, not, ◌&&◌, ◌==◌, List, [], ◌∷◌, ◌++◌, Some, refl, sym, ◌∙◌, ap, subst, arith, append_assoc, dec_lt, flat_map, list_any, nat_tests, flat_map-append, Grant, IsWordOf, Extent, Used, Free, Top, Record, Foot, head_of, ends_segment, extent_at, is_used, Tiles, last_kind, Segment, extents_in, trim_threshold, opened, is_behind, is_before, is_put_before, granted, IsFresh, HasSameUsed, IsRecordAt, OnlyTagsChange, IsRun, IsSegment, AreSegments, IsApartFrom, AreApart, record_of, AreRecords, IsIn, IsFreeAt, FreeMoves, segments_of, state_of, IsGranularity, AreTold, IsSound, AreChunks, IsRunOf, Dlmalloc}
 use Rattle.dlmalloc.specs.Granted.{closed, without_top}
 use Rattle.dlmalloc.proofs.Moves.OfFreeExtents.{free_stays}
 use Rattle.dlmalloc.proofs.Extents.Lookup.{extent, found_here, found_either, found_more, found_later}

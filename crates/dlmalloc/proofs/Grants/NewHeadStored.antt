@@ -1,5 +1,5 @@
 -- The stores that make a grant the head segment leave the heap so.
-use Rattle.dlmalloc.proofs.Names.{◌≡◌, ◌≢◌, ℕ, ◌+◌, ◌-◌, ◌%◌, ◌<◌, ◌≤◌, ◌⊎◌, inl, inr, Bool, true, false, ◌==◌, nat_le, if◌then◌else◌, List, [], ◌∷◌, ◌++◌, refl, sym, ◌∙◌, ap, subst, arith, nat_lt, AllByRecursion, nat_tests, Grant, IsWordOf, Event, Segment, trim_threshold, opened, is_behind, is_put_before, IsFresh, IsAdmitted, IsRecordAt, IsApartFrom, IsFreeAt, FreeMoves, segments_of, state_of, IsSound, Dlmalloc, SegmentRecord}
+use Rattle.dlmalloc.proofs.Names.{◌≡◌, ◌≢◌, ℕ, ◌+◌, ◌-◌, ◌%◌, ◌<◌, ◌≤◌, ◌⊎◌, inl, inr, Bool, true, false, ◌==◌, nat_le, if◌then◌else◌, List, [], ◌∷◌, ◌++◌, refl, sym, ◌∙◌, ap, subst, arith, nat_lt, AllByRecursion, nat_tests, Grant, IsWordOf, Event, trim_threshold, opened, is_behind, is_put_before, IsFresh, IsAdmitted, IsRecordAt, IsApartFrom, IsFreeAt, FreeMoves, segments_of, state_of, IsSound, Dlmalloc, SegmentRecord}
 use Rattle.dlmalloc.proofs.Extents.Lookup.{nat_isnt}
 use Rattle.dlmalloc.proofs.Segments.HeadTop.{top_run, top_front, top_segment, top_sizes, top_whole, ends}
 use Rattle.dlmalloc.proofs.Grants.TopLeft.{left_free, place}

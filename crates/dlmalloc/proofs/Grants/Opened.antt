@@ -1,5 +1,5 @@
 -- A grant as a segment of its own, and the segments that were there before it.
-use Rattle.dlmalloc.proofs.Names.{◌≡◌, ℕ, ◌+◌, ◌-◌, ◌%◌, ◌<◌, ◌≤◌, Bool, true, false, ◌==◌, if◌then◌else◌, List, [], ◌∷◌, ◌++◌, Option, Some, None, refl, sym, ◌∙◌, ap, subst, arith, unwrap_or, AllByRecursion, flat_map, nat_tests, Grant, IsWordOf, Extent, Used, Free, Top, Foot, extent_at, Tiles, Segment, countdown_from, trim_threshold, opened, granted, IsFresh, HasSameUsed, IsRun, IsSegment, AreSegments, IsApartFrom, AreApart, AreRecords, FreeMoves, segments_of, state_of, IsGranularity, AreTold, IsSound, Dlmalloc, IsRunOf}
+use Rattle.dlmalloc.proofs.Names.{◌≡◌, ℕ, ◌+◌, ◌-◌, ◌%◌, ◌<◌, ◌≤◌, Bool, true, false, ◌==◌, if◌then◌else◌, List, [], ◌∷◌, ◌++◌, Some, None, refl, sym, ◌∙◌, ap, subst, arith, unwrap_or, AllByRecursion, flat_map, nat_tests, Grant, IsWordOf, Extent, Used, Free, Top, Foot, extent_at, Tiles, Segment, countdown_from, trim_threshold, opened, granted, IsFresh, HasSameUsed, IsRun, IsSegment, AreSegments, IsApartFrom, AreApart, AreRecords, FreeMoves, segments_of, state_of, IsGranularity, AreTold, IsSound, Dlmalloc, IsRunOf}
 use Rattle.dlmalloc.proofs.Extents.Lookup.{extent}
 use Rattle.dlmalloc.proofs.Segments.HeadTold.{IsHead}
 use Rattle.dlmalloc.proofs.Segments.Among.{apart_back}

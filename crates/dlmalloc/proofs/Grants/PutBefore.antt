@@ -1,5 +1,6 @@
 -- A grant is put before a segment, in two parts that are in use.
 use Rattle.dlmalloc.proofs.Names.{◌≡◌, ◌≢◌, ℕ, ◌+◌, ◌-◌, ◌%◌, ◌<◌, ◌≤◌, inl, inr, Bool, true, false, ◌==◌, if◌then◌else◌, List, [], ◌∷◌, ◌++◌, map, Some, None, refl, sym, ◌∙◌, ap, subst, arith, AllByRecursion, nat_tests, map-append, Grant, IsWordOf, IsWhole, Event, Extent, Used, Free, head_of, extent_at, Tiles, last_kind, ends_segment, Segment, extents_in, opened, is_before, put_before, IsFresh, IsPrepended, IsInRecord, IsRun, IsSegment, AreSegments, IsApartFrom, AreApart, segments_of, state_of, IsGranularity, AreTold, IsSound, Dlmalloc}
+use Rattle.dlmalloc.proofs.Extents.Tiling.{plain_chunk}
 use Rattle.dlmalloc.specs.Granted.{joined}
 use Rattle.dlmalloc.proofs.Extents.Lookup.{extent, nat_same, nat_isnt, nat_is, found_here, found_more}
 use Rattle.dlmalloc.proofs.Extents.OneMoreUsed.{AreDistinct}
@@ -76,24 +77,10 @@ module _ {A : Type 0} {regions : A → List Grant} {word : A → ℕ → ℕ} {h
     two_stand : Tiles (word new.system) Used grant.base now.extents (grant.base + (grant.size + segment.size))
     two_stand = (
       refl,
-      record {
-        whole = fresh.base_aligned;
-        size = (multiple, least);
-        kind = inl refl;
-        head = first;
-        foot = λ free. absurd (cc);
-        fence = λ is. absurd (cc);
-      },
+      plain_chunk fresh.base_aligned (multiple, least) (inl refl) first (λ free. cc) (λ is. cc),
       (
         refl,
-        record {
-          whole = omega arith;
-          size = (omega arith, omega arith);
-          kind = inl refl;
-          head = second;
-          foot = λ free. absurd (cc);
-          fence = λ is. absurd (cc);
-        },
+        plain_chunk (omega arith) (omega arith, omega arith) (inl refl) second (λ free. cc) (λ is. cc),
         subst (λ end. Tiles (word new.system) Used (grant.base + n + (grant.size - n)) segment.extents end) same_end
             (subst (λ at. Tiles (word new.system) Used at segment.extents (segment.base + segment.size)) same_begin tiles),
       ),

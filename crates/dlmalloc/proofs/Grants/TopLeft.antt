@@ -1,5 +1,6 @@
 -- What a top leaves behind where another head segment comes: a record, and a free chunk if it has more than 16 bytes.
-use Rattle.dlmalloc.proofs.Names.{◌≡◌, ℕ, ◌+◌, ◌-◌, ◌%◌, ◌≤◌, ◌⊎◌, inl, inr, Bool, true, false, ◌==◌, if◌then◌else◌, List, [], ◌∷◌, ◌++◌, Option, Some, None, refl, sym, ◌∙◌, ap, subst, arith, dec_lt, unwrap_or, flat_map, nat_tests, Extent, Kind, Used, Free, Record, head_of, ends_segment, extent_at, is_used, Tiles, last_kind, IsRecordAt, record_of, IsIn, AreChunks, SegmentRecord}
+use Rattle.dlmalloc.proofs.Names.{◌≡◌, ℕ, ◌+◌, ◌-◌, ◌%◌, ◌≤◌, ◌⊎◌, inl, inr, Bool, true, false, ◌==◌, if◌then◌else◌, List, [], ◌∷◌, ◌++◌, Some, None, refl, sym, ◌∙◌, ap, subst, arith, dec_lt, unwrap_or, flat_map, nat_tests, Extent, Kind, Used, Free, Record, head_of, ends_segment, extent_at, is_used, Tiles, last_kind, IsRecordAt, record_of, IsIn, AreChunks, SegmentRecord}
+use Rattle.dlmalloc.proofs.Extents.Tiling.{free_chunk}
 use Rattle.dlmalloc.specs.Granted.{closed}
 use Rattle.dlmalloc.proofs.Frees.FreeBeside.{the_one}
 use Rattle.dlmalloc.proofs.Moves.OfFreeExtents.{IsThere}
@@ -65,14 +66,7 @@ module _ (words : ℕ → ℕ) {before : Kind} (at size : ℕ) {end : ℕ} (told
   left_stands false isnt recorded head foot =
       let more = large isnt in (
         refl,
-        record {
-          whole = whole;
-          size = (units, more);
-          kind = used;
-          head = head refl ∙ (omega arith ∙ ap (λ k. head_of size (is_used k) false) (sym used));
-          foot = λ free. foot refl;
-          fence = λ is. absurd (cc);
-        },
+        free_chunk whole (units, more) used (head refl ∙ (omega arith ∙ ap (λ k. head_of size (is_used k) false) (sym used))) (foot refl),
         (
           refl,
           record {

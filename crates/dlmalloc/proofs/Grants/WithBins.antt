@@ -1,5 +1,5 @@
 -- A grant becomes part of a heap, and of its bins.
-use Rattle.dlmalloc.proofs.Names.{◌≡◌, ◌≢◌, ℕ, ◌+◌, ◌<◌, ◌≤◌, ◌⊎◌, inl, inr, Bool, true, false, ◌==◌, nat_le, if◌then◌else◌, List, [], ◌∷◌, ◌++◌, Some, refl, sym, ◌∙◌, ap, subst, arith, nat_tests, Grant, IsWordOf, Event, Extent, Kind, Used, Free, Top, IndexStays, extent_at, Segment, HeapState, extents_in, IsBoundary, IsInFree, IsInRecord, HasSameUsed, IsFresh, IsAdmitted, opened, IsSegment, IsApartFrom, segments_of, state_of, IsSound, IsFreeAt, IsBinned, IsBinnedBut, IsSameBins, IsRebinned, FreeMoves, Dlmalloc}
+use Rattle.dlmalloc.proofs.Names.{◌≡◌, ◌≢◌, ℕ, ◌+◌, ◌<◌, ◌≤◌, ◌⊎◌, inl, inr, Bool, true, false, ◌==◌, nat_le, if◌then◌else◌, List, [], ◌∷◌, ◌++◌, Some, refl, sym, ◌∙◌, ap, subst, arith, nat_tests, Grant, IsWordOf, Event, Extent, Kind, Used, Free, Top, IndexStays, extent_at, extents_in, IsBoundary, IsInFree, IsInRecord, HasSameUsed, IsFresh, IsAdmitted, opened, IsSegment, IsApartFrom, segments_of, state_of, IsSound, IsFreeAt, IsBinned, IsBinnedBut, IsSameBins, IsRebinned, FreeMoves, Dlmalloc}
 use Rattle.dlmalloc.specs.Grown.{BeginsTop, IsJoined}
 use Rattle.dlmalloc.proofs.Extents.Lookup.{extent, nat_is, the_extent}
 use Rattle.dlmalloc.proofs.Segments.Among.{located, of_located, in_part}

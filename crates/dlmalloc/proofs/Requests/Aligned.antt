@@ -1,5 +1,5 @@
 -- A request at an alignment above 16: its sizes, and the block that it is given.
-use Rattle.dlmalloc.proofs.Names.{◌≡◌, ℕ, ◌+◌, ◌-◌, ◌*◌, ◌/◌, ◌%◌, ◌^◌, ◌<◌, ◌≤◌, ◌⊎◌, Bool, true, false, ◌==◌, nat_lt, if◌then◌else◌, List, [], Some, refl, sym, ◌∙◌, ap, subst, arith, IsPowerOfTwo, nat_tests, Grant, Event, IsWordOf, padded, enlarged, limit, Extent, Used, size_of, extent_at, extents_in, IsBlock, IsInside, HasOneMore, aligned_place, lead_freed, aligned, HasOneMoved, KeepsOthers, state_of, IsSound, IsServed, IsServedAligned, Dlmalloc}
+use Rattle.dlmalloc.proofs.Names.{◌≡◌, ℕ, ◌+◌, ◌-◌, ◌*◌, ◌/◌, ◌%◌, ◌^◌, ◌<◌, ◌≤◌, ◌⊎◌, Bool, true, false, ◌==◌, nat_lt, if◌then◌else◌, List, [], Some, refl, sym, ◌∙◌, ap, subst, arith, IsPowerOfTwo, nat_tests, Grant, Event, IsWordOf, padded, enlarged, limit, Used, size_of, extent_at, extents_in, IsBlock, IsInside, HasOneMore, aligned_place, lead_freed, aligned, HasOneMoved, KeepsOthers, state_of, IsSound, IsServed, IsServedAligned, Dlmalloc}
 use Rattle.dlmalloc.specs.Requested.{IsPassedOver}
 use Rattle.dlmalloc.specs.Order.{KeepsOrderThrough}
 use Rattle.dlmalloc.proofs.Extents.Lookup.{extent, found, the_extent}

@@ -1,5 +1,5 @@
 -- Requests: their sizes, and the blocks that they are given.
-use Rattle.dlmalloc.proofs.Names.{◌≡◌, ℕ, ◌+◌, ◌-◌, ◌*◌, ◌/◌, ◌%◌, ◌^◌, ◌<◌, ◌≤◌, Bool, true, false, ◌==◌, ◌||◌, if◌then◌else◌, List, [], ◌∷◌, ◌++◌, Option, Some, None, Result, Ok, Err, refl, sym, ◌∙◌, ap, subst, arith, nat_lt, nat_le, pow_mono, dec_lt, unwrap_or, IsPowerOfTwo, flat_map, flat_map-append, nat_tests, Grant, padded, limit, Extent, Used, extent_at, HeapState, Segment, extents_in, IsBlock, chosen, state_of, Dlmalloc, replaced, cut, taken, in_segments}
+use Rattle.dlmalloc.proofs.Names.{◌≡◌, ℕ, ◌+◌, ◌-◌, ◌*◌, ◌/◌, ◌%◌, ◌^◌, ◌<◌, ◌≤◌, Bool, true, false, ◌==◌, ◌||◌, if◌then◌else◌, List, [], ◌∷◌, ◌++◌, Some, None, Result, Ok, Err, refl, sym, ◌∙◌, ap, subst, arith, nat_lt, nat_le, pow_mono, dec_lt, unwrap_or, IsPowerOfTwo, flat_map, flat_map-append, nat_tests, Grant, padded, limit, Extent, Used, extent_at, HeapState, Segment, extents_in, IsBlock, chosen, state_of, Dlmalloc, replaced, cut, taken, in_segments}
 use Rattle.std.proofs.Common.{IfErr}
 use Rattle.std.specs.Result.{IsErrAnd}
 use Rattle.dlmalloc.specs.State.{is_top}

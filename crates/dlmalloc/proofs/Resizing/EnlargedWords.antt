@@ -1,7 +1,7 @@
 -- A chunk in use takes bytes of the free extent behind it: the moves, over plain words.
-use Rattle.dlmalloc.proofs.Names.{◌≡◌, ℕ, ◌+◌, ◌-◌, ◌%◌, ◌<◌, ◌≤◌, ◌⊎◌, inl, inr, Bool, true, false, ◌==◌, List, [], ◌∷◌, ◌++◌, refl, sym, ◌∙◌, ap, subst, arith, Grant, IsWordOf, AreStored, Extent, Kind, Used, Free, Top, pinuse_of, head_of, with_pinuse, pinuse_of-head_of, with_pinuse-head_of, is_used, told_size, HasChunk, Tiles, Segment, IsMove, IsRunOf, replaced_both, in_segments, AreSegments, IsApartFrom, AreApart}
+use Rattle.dlmalloc.proofs.Names.{◌≡◌, ℕ, ◌+◌, ◌-◌, ◌%◌, ◌<◌, ◌≤◌, ◌⊎◌, inl, inr, true, false, ◌==◌, List, [], ◌∷◌, ◌++◌, refl, sym, ◌∙◌, ap, subst, arith, Grant, IsWordOf, AreStored, Extent, Kind, Used, Free, Top, pinuse_of, head_of, with_pinuse, pinuse_of-head_of, with_pinuse-head_of, is_used, told_size, HasChunk, Tiles, Segment, IsMove, IsRunOf, replaced_both, in_segments, AreSegments, IsApartFrom, AreApart}
 use Rattle.dlmalloc.proofs.Extents.Lookup.{extent, nat_isnt, nat_same}
-use Rattle.dlmalloc.proofs.Extents.Tiling.{sized, tiles_le}
+use Rattle.dlmalloc.proofs.Extents.Tiling.{sized, tiles_le, free_chunk, plain_chunk}
 use Rattle.dlmalloc.proofs.Cuts.FreeExtent.{rehung, may_stand, behind_free, told_whole, no_head}
 use Rattle.dlmalloc.proofs.Segments.Among.{with_extents}
 use Rattle.dlmalloc.proofs.Cuts.StateAfter.{in_one}
@@ -66,14 +66,7 @@ module _ (regions : List Grant) {old : ℕ → ℕ} (new : ℕ → ℕ) {before 
 
   -- the chunk with its first n bytes, or more
   longer : (n : ℕ) → n % 16 ≡ 0 → 32 ≤ n → new (at + 8) ≡ head_of n (pinuse_of (old (at + 8))) true → HasChunk new before (extent at n Used)
-  longer n whole least head = record {
-    whole = stands.whole;
-    size = (whole, least);
-    kind = stands.kind;
-    head = head ∙ ap (λ b. head_of n b true) told;
-    foot = λ free. absurd (cc);
-    fence = λ is. absurd (cc);
-  }
+  longer n whole least head = plain_chunk stands.whole (whole, least) stands.kind (head ∙ ap (λ b. head_of n b true) told) (λ free. cc) (λ is. cc)
 
   -- the top keeps a rest
   pub grown_top : {top : ℕ} (n : ℕ) → HasChunk old Used (extent (at + size) top Top) → n % 16 ≡ 0 → 32 ≤ n → n + 16 ≤ size + top →
@@ -90,14 +83,7 @@ module _ (regions : List Grant) {old : ℕ → ℕ} (new : ℕ → ℕ) {before 
           longer n whole least (stored.here.0 ((λ is. omega arith), tt)),
           (
             refl,
-            record {
-              whole = omega arith;
-              size = (omega arith, omega arith);
-              kind = refl;
-              head = stored.here.1.0 tt ∙ omega arith;
-              foot = λ free. absurd (cc);
-              fence = λ is. absurd (cc);
-            },
+            plain_chunk (omega arith) (omega arith, omega arith) refl (stored.here.1.0 tt ∙ omega arith) (λ free. cc) (λ is. cc),
             omega arith,
           ),
         );
@@ -119,14 +105,7 @@ module _ (regions : List Grant) {old : ℕ → ℕ} (new : ℕ → ℕ) {before 
           longer n whole least (stored.here.0 ((λ is. omega arith), ((λ is. omega arith), tt))),
           (
             refl,
-            record {
-              whole = omega arith;
-              size = (omega arith, omega arith);
-              kind = refl;
-              head = stored.here.1.0 ((λ is. omega arith), tt);
-              foot = λ free. stored.here.1.1.0 tt;
-              fence = λ is. absurd (cc);
-            },
+            free_chunk (omega arith) (omega arith, omega arith) refl (stored.here.1.0 ((λ is. omega arith), tt)) (stored.here.1.1.0 tt),
             omega arith,
           ),
         );

@@ -1,8 +1,8 @@
 -- A chunk in use is split into two.
-use Rattle.dlmalloc.proofs.Names.{◌≡◌, ◌≢◌, ℕ, ◌+◌, ◌-◌, ◌%◌, ◌^◌, ◌<◌, ◌≤◌, inl, inr, Bool, true, false, ◌==◌, List, [], ◌∷◌, None, Some, refl, sym, ◌∙◌, ap, subst, arith, nat_tests, Grant, IsStored, AreStored, HasHead, Extent, Kind, Used, Free, Top, Record, pinuse_of, head_of, pinuse_of-head_of, extent_at, is_used, HasChunk, last_kind, Segment, extents_in, exchanged, halves, HasSameOthers, OnlyBoundariesChange, IsMove, IsRunOf, segments_of, state_of, IsSound, Dlmalloc, FreeMoves}
+use Rattle.dlmalloc.proofs.Names.{◌≡◌, ◌≢◌, ℕ, ◌+◌, ◌-◌, ◌%◌, ◌^◌, ◌<◌, ◌≤◌, inl, inr, true, false, ◌==◌, List, [], ◌∷◌, None, Some, refl, sym, ◌∙◌, ap, subst, arith, nat_tests, Grant, IsStored, AreStored, HasHead, Extent, Kind, Used, Free, Top, Record, pinuse_of, head_of, pinuse_of-head_of, extent_at, is_used, HasChunk, last_kind, Segment, extents_in, exchanged, halves, HasSameOthers, OnlyBoundariesChange, IsMove, IsRunOf, segments_of, state_of, IsSound, Dlmalloc, FreeMoves}
 use Rattle.dlmalloc.proofs.Extents.Lookup.{extent, nat_isnt, nat_same, found_either}
 use Rattle.dlmalloc.proofs.Cuts.FreeExtent.{stored_over}
-use Rattle.dlmalloc.proofs.Extents.Tiling.{tiles_le}
+use Rattle.dlmalloc.proofs.Extents.Tiling.{tiles_le, plain_chunk}
 use Rattle.dlmalloc.proofs.Moves.OfFreeExtents.{free_moves}
 use Rattle.dlmalloc.proofs.Moves.OfHeaps.{IsStep, read, found_new, found_again, found_before, keeps_words, stays_sound}
 use Rattle.dlmalloc.proofs.Extents.RunReplaced.{run_of, step_beside, run_part, run_word}
@@ -24,24 +24,10 @@ split_used {old} {before} at size n stands whole least room stored =
       less_stand = (refl, stands, refl);
       more_stand = (
         refl,
-        record {
-          whole = place;
-          size = (whole, least);
-          kind = stands.kind;
-          head = stored.here.0 ((λ is. omega arith), tt) ∙ ap (λ b. head_of n b true) told;
-          foot = λ free. absurd (cc);
-          fence = λ is. absurd (cc);
-        },
+        plain_chunk place (whole, least) stands.kind (stored.here.0 ((λ is. omega arith), tt) ∙ ap (λ b. head_of n b true) told) (λ free. cc) (λ is. cc),
         (
           refl,
-          record {
-            whole = omega arith;
-            size = (omega arith, omega arith);
-            kind = inl refl;
-            head = stored.here.1.0 tt;
-            foot = λ free. absurd (cc);
-            fence = λ is. absurd (cc);
-          },
+          plain_chunk (omega arith) (omega arith, omega arith) (inl refl) (stored.here.1.0 tt) (λ free. cc) (λ is. cc),
           omega arith,
         ),
       );

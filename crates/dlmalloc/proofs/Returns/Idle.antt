@@ -1,5 +1,5 @@
 -- The segments that a release pass hands out are those that are idle.
-use Rattle.dlmalloc.proofs.Names.{◌≡◌, ◌≢◌, ℕ, ◌+◌, ◌-◌, ◌⊎◌, inl, inr, Bool, true, false, ◌&&◌, ◌==◌, List, [], ◌∷◌, Some, IsTrue, refl, sym, ◌∙◌, ap, subst, arith, nat_tests, AllByRecursion, Grant, Extent, Used, Free, Top, Record, extent_at, Tiles, Segment, is_free_below_top, IsSegment, AreSegments, record_of, AreRecords, is_own, is_unused, may_leave, segments_of, AreTold, IsSound, Dlmalloc}
+use Rattle.dlmalloc.proofs.Names.{◌≡◌, ℕ, ◌+◌, ◌-◌, inl, inr, Bool, true, false, ◌&&◌, ◌==◌, List, [], ◌∷◌, Some, IsTrue, refl, sym, ◌∙◌, ap, subst, arith, nat_tests, AllByRecursion, Grant, Used, Free, Record, extent_at, Tiles, Segment, is_free_below_top, IsSegment, AreSegments, record_of, AreRecords, is_own, is_unused, may_leave, segments_of, AreTold, IsSound, Dlmalloc}
 use Rattle.std.specs.Prelude.{◌↔◌}
 use Rattle.dlmalloc.specs.Released.{IsIdle, IdleAreHandedOut}
 use Rattle.dlmalloc.proofs.Extents.Lookup.{extent, found_here}

@@ -1,5 +1,5 @@
 -- A segment is visited whose first chunk left its bin before, or goes into it behind that.
-use Rattle.dlmalloc.proofs.Names.{◌≡◌, ◌≢◌, ℕ, ◌+◌, ◌-◌, ◌%◌, ◌^◌, ◌<◌, ◌≤◌, ◌⊎◌, inl, inr, Bool, true, false, ◌&&◌, ◌==◌, if◌then◌else◌, List, [], ◌∷◌, ◌++◌, Some, refl, sym, ◌∙◌, ap, subst, arith, append_assoc, Grant, Event, IsWordOf, Extent, Free, Record, size_of, free_of, IndexStays, extent_at, HeapState, Segment, extents_in, IsInRecord, may_leave, IsSegment, AreSegments, record_of, AreRecords, payload_behind, segments_of, state_of, AreTold, IsSound, IsFreeAt, IsBinnedBut, OnlyFreeChange, IsRebinned, FreeMoves, IsLinked, IsChained, HaveLeft, IsVisited, Dlmalloc, SegmentRecord}
+use Rattle.dlmalloc.proofs.Names.{◌≡◌, ◌≢◌, ℕ, ◌+◌, ◌-◌, ◌%◌, ◌^◌, ◌<◌, ◌≤◌, ◌⊎◌, inl, inr, Bool, true, false, ◌&&◌, ◌==◌, if◌then◌else◌, List, [], ◌∷◌, ◌++◌, Some, refl, sym, ◌∙◌, ap, subst, arith, append_assoc, Grant, Event, IsWordOf, Free, Record, size_of, free_of, IndexStays, extent_at, Segment, extents_in, IsInRecord, may_leave, IsSegment, AreSegments, record_of, AreRecords, payload_behind, segments_of, state_of, AreTold, IsSound, IsFreeAt, IsBinnedBut, OnlyFreeChange, IsRebinned, FreeMoves, IsLinked, IsChained, HaveLeft, IsVisited, Dlmalloc, SegmentRecord}
 use Rattle.dlmalloc.proofs.Extents.Lookup.{nat_is, nat_same}
 use Rattle.dlmalloc.proofs.Segments.Among.{all_at, all_back, among_all}
 use Rattle.dlmalloc.proofs.Words.OfRecords.{payload_whole, payload_high, payload_word}

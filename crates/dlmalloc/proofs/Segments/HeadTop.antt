@@ -1,7 +1,7 @@
 -- The head segment ends with the top and its foot.
-use Rattle.dlmalloc.proofs.Names.{◌≡◌, ℕ, ◌+◌, ◌-◌, ◌%◌, ◌^◌, ◌<◌, ◌≤◌, inr, true, false, ◌==◌, List, [], ◌∷◌, Some, refl, sym, ◌∙◌, ap, arith, dec_lt, nat_tests, Grant, IsWordOf, Extent, Kind, Used, Top, Foot, head_of, ends_segment, extent_at, is_used, Tiles, last_kind, Segment, granted, IsSegment, segments_of, IsSound, Dlmalloc, IsRunOf}
+use Rattle.dlmalloc.proofs.Names.{◌≡◌, ℕ, ◌+◌, ◌-◌, ◌%◌, ◌^◌, ◌<◌, ◌≤◌, inr, true, false, ◌==◌, List, [], ◌∷◌, Some, refl, sym, ◌∙◌, ap, arith, dec_lt, nat_tests, Grant, IsWordOf, Extent, Kind, Used, Top, Foot, head_of, ends_segment, extent_at, is_used, Tiles, last_kind, IsSegment, segments_of, IsSound, Dlmalloc, IsRunOf}
 use Rattle.dlmalloc.proofs.Extents.Lookup.{extent, nat_same, found_later}
-use Rattle.dlmalloc.proofs.Extents.Tiling.{sized, tiles_le}
+use Rattle.dlmalloc.proofs.Extents.Tiling.{sized, tiles_le, plain_chunk}
 use Rattle.dlmalloc.proofs.Moves.OfLists.{last_append}
 use Rattle.dlmalloc.proofs.Extents.OneMoreUsed.{none_outside}
 use Rattle.dlmalloc.proofs.Extents.FromWords.{behind_top}
@@ -26,24 +26,10 @@ pub top_stands : (words : ℕ → ℕ) {before : Kind} (at size : ℕ) → befor
     Tiles words before at (extent at size Top ∷ extent (at + size) 80 Foot ∷ []) (at + size + 80)
 top_stands words at size used place whole long head foot = (
   refl,
-  record {
-    whole = place;
-    size = (whole, long);
-    kind = used;
-    head = head ∙ (omega arith ∙ ap (λ k. head_of size (is_used k) false) (sym used));
-    foot = λ free. absurd (cc);
-    fence = λ is. absurd (cc);
-  },
+  plain_chunk place (whole, long) used (head ∙ (omega arith ∙ ap (λ k. head_of size (is_used k) false) (sym used))) (λ free. cc) (λ is. cc),
   (
     refl,
-    record {
-      whole = omega arith;
-      size = refl;
-      kind = refl;
-      head = foot;
-      foot = λ free. absurd (cc);
-      fence = λ is. absurd (cc);
-    },
+    plain_chunk (omega arith) refl refl foot (λ free. cc) (λ is. cc),
     refl,
   ),
 )

@@ -1,5 +1,5 @@
 -- The payload of a segment's record: its words are granted, and the extents do not rest on them.
-use Rattle.dlmalloc.proofs.Names.{◌≡◌, ℕ, ◌+◌, ◌-◌, ◌%◌, ◌<◌, ◌≤◌, ◌⊎◌, inl, inr, List, ◌∷◌, Some, sym, ◌∙◌, subst, arith, Grant, IsWordOf, Extent, Used, Record, extent_at, Tiles, Segment, IsSegment, record_of}
+use Rattle.dlmalloc.proofs.Names.{◌≡◌, ℕ, ◌+◌, ◌-◌, ◌%◌, ◌<◌, ◌≤◌, ◌⊎◌, inl, inr, List, ◌∷◌, Some, sym, ◌∙◌, subst, arith, Grant, IsWordOf, Used, Record, extent_at, Tiles, Segment, IsSegment, record_of}
 use Rattle.dlmalloc.proofs.Extents.Lookup.{found}
 use Rattle.dlmalloc.proofs.Extents.Tiling.{tiles_kept, tiles_split, tiles_append, tiles_le}
 use Rattle.dlmalloc.proofs.Extents.FromWords.{nothing, none_behind_record}

@@ -1,4 +1,4 @@
-use Rattle.dlmalloc.proofs.Names.{ℕ, ◌+◌, ◌-◌, ◌≡◌, ◌∙◌, List, inr, sym, ap, subst, Grant, IsWordOf, IsOwn, HeapState, lead_freed, tail_cut, state_of, HoldsBinned}
+use Rattle.dlmalloc.proofs.Names.{◌+◌, ◌-◌, ◌≡◌, ◌∙◌, inr, sym, ap, subst, IsWordOf, IsOwn, lead_freed, tail_cut, state_of, HoldsBinned}
 use Rattle.dlmalloc.proofs.Blocks.Chunks.{block_chunk, block_head}
 use Rattle.dlmalloc.proofs.Requests.LeadAndTail.{moved_on, kept_on}
 use Rattle.dlmalloc.proofs.Requests.Aligned.{chunk_whole, chunk_small, place_here}

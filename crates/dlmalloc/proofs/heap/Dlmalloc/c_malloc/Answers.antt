@@ -1,4 +1,4 @@
-use Rattle.dlmalloc.proofs.Names.{◌≡◌, ℕ, ◌<◌, None, refl, subst, arith, rules, chosen, state_of, limit}
+use Rattle.dlmalloc.proofs.Names.{◌≡◌, ◌<◌, None, refl, subst, arith, rules, chosen, state_of, limit}
 use Rattle.dlmalloc.proofs.Bins.Members.{member_behind}
 use Rattle.dlmalloc.proofs.Requests.Plain.{request_small}
 use Rattle.dlmalloc.proofs.Cuts.OneStepOrTwo.{served}

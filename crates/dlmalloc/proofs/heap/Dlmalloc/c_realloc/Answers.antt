@@ -1,4 +1,4 @@
-use Rattle.dlmalloc.proofs.Names.{◌≢◌, ℕ, ◌+◌, ◌*◌, ◌-◌, ◌≤◌, min, ◌==◌, Option, Some, IfOk, IfSome, refl, sym, ◌∙◌, ap, subst, arith, IfOk-weaker, Used, extents_in, size_where, state_of, IsResized, IsGivenSize, IsMemberServed, words_in, pass_steps}
+use Rattle.dlmalloc.proofs.Names.{◌≢◌, ◌+◌, ◌*◌, ◌-◌, ◌≤◌, min, ◌==◌, Some, IfOk, IfSome, refl, sym, ◌∙◌, ap, subst, arith, IfOk-weaker, Used, extents_in, size_where, state_of, IsResized, IsGivenSize, IsMemberServed, words_in, pass_steps}
 use Rattle.dlmalloc.proofs.Extents.Lookup.{extent}
 use Rattle.dlmalloc.proofs.Blocks.Chunks.{block_chunk, block_head}
 use Rattle.dlmalloc.proofs.Resizing.InPlaceOrElsewhere.{size_at, block_told}

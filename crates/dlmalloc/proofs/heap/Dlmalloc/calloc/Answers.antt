@@ -1,4 +1,4 @@
-use Rattle.dlmalloc.proofs.Names.{ℕ, refl, sym, subst, arith, AreWordsOf}
+use Rattle.dlmalloc.proofs.Names.{refl, sym, subst, arith, AreWordsOf}
 use Rattle.heap_memory.specs.Words.{AreFilled}
 use Rattle.dlmalloc.proofs.Blocks.Words.{block_words, same_heap, same_binned, served_block}
 use Rattle.dlmalloc.proofs.Blocks.GivenSize.{handed_written}

@@ -1,4 +1,4 @@
-use Rattle.dlmalloc.proofs.Names.{◌≡◌, ℕ, ◌+◌, ◌-◌, ◌%◌, ◌<◌, ◌≤◌, ◌∙◌, inl, inr, ◌==◌, nat_le, if◌then◌else◌, [], ◌∷◌, refl, sym, ap, subst, arith, IsWordOf, state_of, IsFreeAt, IsSameBins, FreeMoves, IsAdmitted, IsRecordAt, Dlmalloc}
+use Rattle.dlmalloc.proofs.Names.{◌≡◌, ℕ, ◌+◌, ◌-◌, ◌%◌, ◌<◌, ◌≤◌, ◌∙◌, inl, inr, ◌==◌, nat_le, if◌then◌else◌, [], ◌∷◌, refl, sym, ap, subst, arith, IsWordOf, state_of, IsFreeAt, IsSameBins, FreeMoves, IsAdmitted, IsRecordAt}
 use Rattle.dlmalloc.proofs.Segments.HeadTop.{top_low, top_whole, top_sizes, ends, end_whole, head_low, head_small, head_word}
 use Rattle.dlmalloc.proofs.Grants.NewHeadStored.{new_free, new_rest, bounds_of, ends_same, told_same, beside_head, large_at, record_kept, new_head, joined_new}
 use Rattle.dlmalloc.proofs.heap.Dlmalloc.change_head.Goals as goal

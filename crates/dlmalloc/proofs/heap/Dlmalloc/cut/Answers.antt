@@ -1,8 +1,7 @@
-use Rattle.dlmalloc.proofs.Names.{ℕ, Some, refl, sym, ap, subst, arith, IsCutOut, HeapState, state_of, Free, Top}
+use Rattle.dlmalloc.proofs.Names.{Some, refl, sym, ap, subst, arith, IsCutOut}
 use Rattle.dlmalloc.proofs.Cuts.Chosen.{free_below, bins_no_victim, top_no_bins}
 use Rattle.dlmalloc.proofs.Bins.Changes.{binned_beside}
 use Rattle.dlmalloc.proofs.Bins.Members.{none_member}
-use Rattle.dlmalloc.proofs.Extents.Lookup.{extent}
 use Rattle.dlmalloc.proofs.Requests.Plain.{none_chosen_empty}
 use Rattle.dlmalloc.proofs.Cuts.OneStepOrTwo.{as_turned, cut_here}
 use Rattle.dlmalloc.proofs.heap.Dlmalloc.cut.Goals.{then-self-gt0+in-None, else-self-gt0}

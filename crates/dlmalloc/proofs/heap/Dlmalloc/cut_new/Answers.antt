@@ -1,4 +1,4 @@
-use Rattle.dlmalloc.proofs.Names.{rules, ℕ, ◌+◌, [], ◌∷◌, refl, sym, ap, subst, Granted, round_up, IsFull, state_of, IsCutOut, HeapState}
+use Rattle.dlmalloc.proofs.Names.{rules, ◌+◌, [], ◌∷◌, refl, sym, ap, subst, Granted, round_up, IsFull, state_of, IsCutOut}
 use Rattle.dlmalloc.proofs.Extents.NoRoom.{full}
 use Rattle.dlmalloc.proofs.Bins.Changes.{binned_beside}
 use Rattle.dlmalloc.proofs.Cuts.Chosen.{top_below}

@@ -1,4 +1,4 @@
-use Rattle.dlmalloc.proofs.Names.{◌+◌, Bool, [], ◌∷◌, filter, subst, refl, arith, is_own, taken_back, AreGivenBack, told_of}
+use Rattle.dlmalloc.proofs.Names.{◌+◌, [], ◌∷◌, filter, subst, refl, arith, is_own, taken_back, AreGivenBack, told_of}
 use Rattle.dlmalloc.proofs.Returns.Everything.{head_given, head_is_run, read_high, read_word, is_run, on_given, sum_fits, fewer_given, destroyed}
 use Rattle.dlmalloc.proofs.heap.Dlmalloc.destroy.Goals as goal
 

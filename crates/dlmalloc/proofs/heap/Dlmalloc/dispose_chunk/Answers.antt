@@ -1,4 +1,4 @@
-use Rattle.dlmalloc.proofs.Names.{◌+◌, ◌-◌, [], ◌∷◌, refl, sym, ◌∙◌, ap, subst, arith, HeapState, extents_in, extent_at, freed, IsFreeAround, HasOneMore, state_of, IsFreeAt, KeepsOrder}
+use Rattle.dlmalloc.proofs.Names.{◌+◌, ◌-◌, [], ◌∷◌, refl, sym, ◌∙◌, ap, subst, arith, extents_in, extent_at, freed, IsFreeAround, HasOneMore, state_of, IsFreeAt, KeepsOrder}
 use Rattle.dlmalloc.proofs.Frees.WhatCallsWant.{head_there, foot_there, behind_there, behind_small, end_below, foot_fits}
 use Rattle.dlmalloc.proofs.Frees.NeighboursUnbinned.{left_free, left_none, right_free, right_none}
 use Rattle.dlmalloc.proofs.Frees.OfChunkAndBins.{some, two, joined_other, still_there, from_still, to_still, joined_loose}

@@ -1,4 +1,4 @@
-use Rattle.dlmalloc.proofs.Names.{ℕ, ◌+◌, ◌^◌, ◌<◌, sym, subst, refl, ◌∙◌, arith, length, records_from}
+use Rattle.dlmalloc.proofs.Names.{◌+◌, ◌^◌, ◌<◌, sym, subst, refl, ◌∙◌, arith, length, records_from}
 use Rattle.dlmalloc.proofs.Segments.Walk.{fewer_left}
 use Rattle.dlmalloc.proofs.Grants.SegmentBehind.{PassedBehind, as_passed, begun_behind, told_word, told_high, found_behind, onward_behind, none_behind}
 use Rattle.dlmalloc.proofs.heap.Dlmalloc.find_behind.Goals as goal

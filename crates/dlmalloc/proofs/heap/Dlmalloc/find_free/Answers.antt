@@ -1,4 +1,4 @@
-use Rattle.dlmalloc.proofs.Names.{ℕ, ◌≡◌, ◌∙◌, Some, sym, ap, subst, arith, state_of, IsFreeAt}
+use Rattle.dlmalloc.proofs.Names.{◌≡◌, ◌∙◌, Some, sym, ap, subst, arith, state_of, IsFreeAt}
 use Rattle.dlmalloc.proofs.Words.OfLinks.{free_has_head, is_chunk}
 use Rattle.dlmalloc.proofs.Bins.LeastFit.{fit_free, fit_other, fit_least, fit_none}
 use Rattle.dlmalloc.proofs.heap.Dlmalloc.find_free.Goals as goal

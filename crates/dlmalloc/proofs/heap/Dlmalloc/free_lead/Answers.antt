@@ -1,4 +1,4 @@
-use Rattle.dlmalloc.proofs.Names.{ap, HeapState}
+use Rattle.dlmalloc.proofs.Names.{ap}
 use Rattle.dlmalloc.proofs.Bins.Changes.{binned_beside}
 use Rattle.dlmalloc.proofs.Resizing.SplitAndFreed.{IsSplit, lead_state, lead_second, lead_others, lead_kept, lead_words}
 use Rattle.dlmalloc.proofs.heap.Dlmalloc.free_lead.Goals as goal

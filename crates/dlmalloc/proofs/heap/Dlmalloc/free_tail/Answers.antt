@@ -1,4 +1,4 @@
-use Rattle.dlmalloc.proofs.Names.{[], refl, ◌∙◌, arith, ap, HeapState}
+use Rattle.dlmalloc.proofs.Names.{[], refl, ◌∙◌, arith, ap}
 use Rattle.dlmalloc.proofs.Resizing.Split.{end_small}
 use Rattle.dlmalloc.proofs.Bins.Changes.{binned_beside}
 use Rattle.dlmalloc.proofs.Resizing.SplitAndFreed.{IsSplit, tail_state, tail_first, tail_others, tail_words}

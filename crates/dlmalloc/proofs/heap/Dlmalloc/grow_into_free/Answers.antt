@@ -1,4 +1,4 @@
-use Rattle.dlmalloc.proofs.Names.{◌+◌, ◌-◌, ◌≢◌, [], sym, ◌∙◌, ap, subst, arith, Used, Free, HeapState, extents_in, extent_at, grown_into, HasSameOthers, state_of, IsFreeAt, KeepsOrder}
+use Rattle.dlmalloc.proofs.Names.{◌+◌, ◌-◌, ◌≢◌, [], sym, ◌∙◌, ap, subst, arith, Used, Free, extents_in, extent_at, grown_into, HasSameOthers, state_of, IsFreeAt, KeepsOrder}
 use Rattle.dlmalloc.proofs.Extents.Lookup.{extent}
 use Rattle.dlmalloc.proofs.Resizing.IntoFree.{free_end_small}
 use Rattle.dlmalloc.proofs.Moves.WithBins.{turned}

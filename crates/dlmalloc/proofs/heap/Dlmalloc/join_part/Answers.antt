@@ -1,4 +1,4 @@
-use Rattle.dlmalloc.proofs.Names.{◌+◌, ◌-◌, List, sym, subst, ◌∙◌, arith, rules, refl, Grant, HasHead, HasFoot}
+use Rattle.dlmalloc.proofs.Names.{◌+◌, ◌-◌, sym, subst, ◌∙◌, arith, rules, refl, HasHead, HasFoot}
 use Rattle.dlmalloc.proofs.Resizing.IntoFree.{free_end_small, free_at_whole, free_sizes_whole, free_head_there, free_foot_there, free_stores, into_victim, into_binned, whole_victim, whole_binned, split_free, split_rest, whole_free}
 use Rattle.dlmalloc.proofs.heap.Dlmalloc.join_part.Goals as goal
 

@@ -1,4 +1,4 @@
-use Rattle.dlmalloc.proofs.Names.{◌≡◌, ℕ, ◌+◌, ◌≤◌, None, refl, subst, arith, rules, padded, chosen, state_of, limit}
+use Rattle.dlmalloc.proofs.Names.{◌≡◌, ◌+◌, ◌≤◌, None, refl, subst, arith, rules, padded, chosen, state_of, limit}
 use Rattle.dlmalloc.proofs.Bins.Members.{member_high}
 use Rattle.dlmalloc.specs.Served.{IsRefusedWith}
 use Rattle.dlmalloc.proofs.Requests.Aligned.{limit_small, enlarged_is, too_large, IsAligned, served_aligned}

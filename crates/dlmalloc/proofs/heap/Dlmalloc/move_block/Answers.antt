@@ -1,4 +1,4 @@
-use Rattle.dlmalloc.proofs.Names.{ℕ, ◌+◌, ◌-◌, ◌*◌, ◌≤◌, ◌⊎◌, refl, sym, subst, ◌∙◌, ap, arith, AreWordsOf, AreCopied, padded, IsFreed, state_of, asked, words_in, pass_steps}
+use Rattle.dlmalloc.proofs.Names.{◌+◌, ◌-◌, ◌*◌, ◌≤◌, ◌⊎◌, refl, sym, subst, ◌∙◌, ap, arith, AreWordsOf, AreCopied, padded, IsFreed, state_of, asked, words_in, pass_steps}
 use Rattle.dlmalloc.proofs.Resizing.InPlaceOrElsewhere.{from_words, to_words, words_apart, copied_heap, copied_binned, copied_block, moved_block, moved_contents, moved_kept}
 use Rattle.dlmalloc.proofs.Frees.Whole.{by_rules, rules_found}
 use Rattle.dlmalloc.proofs.Returns.PassSteps.{found_pass}

@@ -1,4 +1,4 @@
-use Rattle.dlmalloc.proofs.Names.{◌+◌, refl, arith, whole_each, segments_of}
+use Rattle.dlmalloc.proofs.Names.{◌+◌, refl, arith, whole_each}
 use Rattle.dlmalloc.proofs.Grants.BeforeWhich.{part_head, before_head, head_ends}
 use Rattle.dlmalloc.proofs.heap.Dlmalloc.prepend_head.Goals as goal
 

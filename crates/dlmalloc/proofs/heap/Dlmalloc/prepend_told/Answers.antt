@@ -1,4 +1,4 @@
-use Rattle.dlmalloc.proofs.Names.{◌≡◌, ℕ, ◌+◌, ◌∙◌, [], refl, sym, subst, arith, IsWordOf, whole_each, HasHead, segments_of}
+use Rattle.dlmalloc.proofs.Names.{◌≡◌, ℕ, ◌+◌, ◌∙◌, [], refl, sym, subst, arith, IsWordOf, whole_each, HasHead}
 use Rattle.dlmalloc.proofs.Grants.BeforeWhich.{part_head, before_told, told_place}
 use Rattle.dlmalloc.proofs.heap.Dlmalloc.prepend_told.Goals as goal
 

@@ -1,4 +1,4 @@
-use Rattle.dlmalloc.proofs.Names.{◌≡◌, ℕ, ◌-◌, ◌<◌, Bool, true, false, ◌&&◌, if◌then◌else◌, [], ◌∷◌, sym, ◌∙◌, ap, subst, arith, is_own, is_unused, may_leave, HeapState, state_of, IsFreeAt, IsBinnedBut, IsBinned, FreeMoves, IsChained, IsVisited, Dlmalloc, without_chunk}
+use Rattle.dlmalloc.proofs.Names.{◌≡◌, ◌-◌, ◌<◌, true, false, ◌&&◌, if◌then◌else◌, [], ◌∷◌, sym, ◌∙◌, ap, subst, arith, is_own, is_unused, may_leave, state_of, IsFreeAt, IsBinnedBut, IsBinned, FreeMoves, IsChained, IsVisited, without_chunk}
 use Rattle.dlmalloc.proofs.Returns.SegmentVisited.{base_is, size_is, never, last_test, first_there, long_told, test_is, first_is_free, stays}
 use Rattle.dlmalloc.proofs.Returns.VisitWithBins.{chained_then, may_still, visited_then, visited_binned, loose_still, not_victim, binned_without}
 use Rattle.dlmalloc.proofs.Returns.PassOrder.{with_same, visit_none, visit_left, visit_kept}

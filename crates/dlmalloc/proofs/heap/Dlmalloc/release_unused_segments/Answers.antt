@@ -1,4 +1,4 @@
-use Rattle.dlmalloc.proofs.Names.{◌≡◌, ℕ, ◌+◌, Bool, true, false, ◌&&◌, refl, sym, ◌∙◌, subst, arith, max, may_leave, countdown_from, IsBinned, IsVisited, IsPassed, after_visit, IsReindexed, Dlmalloc}
+use Rattle.dlmalloc.proofs.Names.{◌≡◌, ◌+◌, ◌&&◌, refl, sym, ◌∙◌, subst, arith, max, may_leave, countdown_from, IsBinned, IsVisited, IsPassed, after_visit, IsReindexed}
 use Rattle.dlmalloc.proofs.Returns.ReleasePass.{Passing, begun_passing, read_high, read_word, ahead, chained, sum_fits, count_fits, more_left, on_passing, passed_few, passed_all}
 use Rattle.dlmalloc.proofs.Bins.Changes.{same_bins}
 use Rattle.dlmalloc.proofs.heap.Dlmalloc.release_unused_segments.Goals.{then-release_segment, else-release_segment}

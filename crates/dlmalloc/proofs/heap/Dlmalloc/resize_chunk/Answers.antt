@@ -1,5 +1,4 @@
-use Rattle.dlmalloc.proofs.Names.{◌≡◌, ◌+◌, true, false, nat_le, nat_lt, Some, refl, sym, ◌∙◌, ap, arith, nat_tests, Free, Top, state_of, HeapState}
-use Rattle.dlmalloc.proofs.Extents.Lookup.{extent}
+use Rattle.dlmalloc.proofs.Names.{◌≡◌, ◌+◌, true, false, nat_le, nat_lt, Some, refl, sym, ◌∙◌, ap, arith, nat_tests, state_of}
 use Rattle.dlmalloc.proofs.Cuts.OneStepOrTwo.{as_turned}
 use Rattle.dlmalloc.proofs.Bins.Changes.{binned_beside}
 use Rattle.dlmalloc.proofs.Frees.WhatCallsWant.{head_there, behind_there, behind_small}

@@ -1,4 +1,4 @@
-use Rattle.dlmalloc.proofs.Names.{◌≡◌, ◌≢◌, ℕ, ◌+◌, ◌-◌, ◌<◌, ◌≤◌, inl, Some, None, true, refl, sym, ap, subst, arith, rules, nat_le, nat_tests, limit, in_place, state_of, IfOk-weaker, IsMemberServed, Dlmalloc, padded, chosen, asked, pass_steps}
+use Rattle.dlmalloc.proofs.Names.{◌≡◌, ◌≢◌, ◌+◌, ◌-◌, ◌<◌, ◌≤◌, inl, Some, None, true, refl, sym, ap, subst, arith, rules, nat_le, nat_tests, limit, in_place, state_of, IfOk-weaker, IsMemberServed, padded, chosen, asked, pass_steps}
 use Rattle.dlmalloc.proofs.Resizing.InPlaceOrElsewhere.{chunk_there, held_there, stays_there}
 use Rattle.dlmalloc.proofs.heap.Dlmalloc.resize_or_move.Goals as goal
 

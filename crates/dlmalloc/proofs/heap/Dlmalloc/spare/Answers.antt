@@ -1,4 +1,4 @@
-use Rattle.dlmalloc.proofs.Names.{◌≡◌, ◌+◌, ◌-◌, ◌*◌, ◌/◌, ℕ, sym, ◌∙◌, ap, arith}
+use Rattle.dlmalloc.proofs.Names.{◌≡◌, ◌+◌, ◌-◌, ◌*◌, ◌/◌, sym, ◌∙◌, ap, arith}
 use Rattle.dlmalloc.proofs.Returns.TrimCut.{cut_is, cut_whole, cut_room}
 use Rattle.dlmalloc.proofs.heap.Dlmalloc.spare.Goals as goal
 

@@ -1,4 +1,4 @@
-use Rattle.dlmalloc.proofs.Names.{◌+◌, List, ◌∙◌, sym, subst, arith, rules, Grant, HasHead}
+use Rattle.dlmalloc.proofs.Names.{◌+◌, ◌∙◌, sym, subst, arith, rules, HasHead}
 use Rattle.dlmalloc.proofs.Resizing.Split.{end_small, first_head, second_head, rest_whole, split_state, split_first, split_second, split_others, split_sound, split_words, split_free}
 use Rattle.dlmalloc.proofs.heap.Dlmalloc.split.Goals as goal
 

@@ -1,4 +1,4 @@
-use Rattle.dlmalloc.proofs.Names.{ℕ, ◌+◌, ◌-◌, ◌≡◌, ◌≢◌, [], Some, refl, sym, ◌∙◌, ap, subst, arith, Free, HeapState, extents_in, extent_at, taken, HasOneMore, state_of, IsFreeAt, KeepsOrder}
+use Rattle.dlmalloc.proofs.Names.{◌+◌, ◌-◌, ◌≡◌, ◌≢◌, [], Some, refl, sym, ◌∙◌, ap, subst, arith, Free, extents_in, extent_at, taken, HasOneMore, state_of, IsFreeAt, KeepsOrder}
 use Rattle.dlmalloc.proofs.Extents.Lookup.{extent}
 use Rattle.dlmalloc.proofs.Cuts.FreeChunk.{end_small}
 use Rattle.dlmalloc.proofs.Moves.WithBins.{turned}

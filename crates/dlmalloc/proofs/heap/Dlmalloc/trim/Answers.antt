@@ -1,4 +1,4 @@
-use Rattle.dlmalloc.proofs.Names.{◌≡◌, ◌-◌, ◌^◌, ◌<◌, true, false, ◌||◌, if◌then◌else◌, inl, inr, refl, sym, subst, arith, nat_lt, nat_tests, limit, IsTrimmed, IsBinned, Dlmalloc, state_of}
+use Rattle.dlmalloc.proofs.Names.{◌≡◌, ◌-◌, ◌^◌, ◌<◌, true, false, ◌||◌, if◌then◌else◌, inl, inr, refl, sym, subst, arith, nat_lt, nat_tests, limit, IsTrimmed, IsBinned, state_of}
 use Rattle.dlmalloc.proofs.Bins.Changes.{same_check}
 use Rattle.dlmalloc.proofs.Returns.Trim.{is_not_made, untouched, limit_small, trim_gave, trim_gave_up}
 use Rattle.dlmalloc.proofs.heap.Dlmalloc.trim.Goals.{then-pad-max_request-via-then-pad-max_request, then-pad-max_request-via-else-pad-max_request+then-self-eq0, then-is_cut-via-then-is_cut, then-is_cut-via-else-is_cut+then-released-gt0}

@@ -1,4 +1,4 @@
-use Rattle.dlmalloc.proofs.Names.{true, false, refl, sym, ◌∙◌, subst, IsShortened}
+use Rattle.dlmalloc.proofs.Names.{false, refl, sym, ◌∙◌, subst, IsShortened}
 use Rattle.dlmalloc.proofs.Returns.TrimCut.{cut_answer, cut_back, binned_but_top}
 use Rattle.dlmalloc.proofs.heap.Dlmalloc.trim_top.Goals as goal
 

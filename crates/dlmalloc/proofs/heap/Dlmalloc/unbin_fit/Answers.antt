@@ -1,7 +1,7 @@
 use Rattle.bins.specs.Index.{first_or}
 use Rattle.dlmalloc.proofs.Bins.Changes.{rebinned, is_binned, now_loose, links_unlink}
 use Rattle.dlmalloc.proofs.Bins.Held.{one_size}
-use Rattle.dlmalloc.proofs.Names.{ℕ, ◌≡◌, ◌≤◌, refl, subst, state_of}
+use Rattle.dlmalloc.proofs.Names.{◌≡◌, ◌≤◌, refl, subst, state_of}
 use Rattle.dlmalloc.proofs.heap.Dlmalloc.unbin_fit.Goals as goal
 
 pub unlink_fit-requires : goal.unlink_fit-requires
