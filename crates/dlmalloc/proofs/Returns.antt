@@ -2,6 +2,7 @@
 pub mod Segments
 pub mod Everything
 pub mod SegmentVisited
+pub mod SegmentLeaves
 pub mod ReleasePass
 pub mod VisitWithBins
 pub mod Unused

@@ -1,16 +1,11 @@
--- A segment behind the head is visited: it leaves the heap, or it stays.
-use Rattle.dlmalloc.proofs.Names.{◌≡◌, ◌≢◌, ℕ, ◌+◌, ◌-◌, ◌%◌, ◌^◌, ◌<◌, ◌≤◌, ◌⊎◌, inl, inr, Bool, true, false, ◌&&◌, ◌==◌, if◌then◌else◌, List, [], ◌∷◌, ◌++◌, Some, refl, sym, ◌∙◌, ap, subst, arith, append_assoc, AllByRecursion, nat_tests, flat_map-append, Grant, Event, Released, IsWordOf, without, IsWholeRun, Extent, Used, Free, Record, HasHead, size_of, free_of, extent_at, Segment, extents_in, IsInRecord, is_own, is_unused, may_leave, IsSegment, AreSegments, IsApartFrom, AreApart, record_of, AreRecords, payload_behind, segments_of, state_of, AreTold, IsSound, IsFreeAt, FreeMoves, IsLinked, IsChained, IsVisited, Dlmalloc, SegmentRecord}
-use Rattle.dlmalloc.specs.Chained.{IsToldByLast}
-use Rattle.dlmalloc.proofs.Extents.Lookup.{extent, nat_same, found_here}
-use Rattle.dlmalloc.proofs.Moves.OfFreeExtents.{IsThere, free_changes}
-use Rattle.dlmalloc.proofs.Extents.OneMoreUsed.{AreDistinct}
-use Rattle.dlmalloc.proofs.Segments.Among.{extents_all, all_among, all_at, all_front, all_back, front_apart, back_apart, all_distinct, among_all}
-use Rattle.dlmalloc.proofs.Segments.ToldAnew.{KeepsIts, IsOutside, records_stay, apart_stay, retold, distinct, all_retold, retold_sound, replaced_found}
-use Rattle.dlmalloc.proofs.Grants.PutBefore.{flip, parts_around}
-use Rattle.dlmalloc.proofs.Grants.SegmentBehind.{behind_more, told_around}
-use Rattle.dlmalloc.proofs.Words.OfRecords.{payload_whole, payload_low, payload_high, payload_word, recorded_stays}
-use Rattle.dlmalloc.proofs.Returns.Unused.{two_found, first_head, unused_told, unused_extents}
-use Rattle.dlmalloc.proofs.Returns.Segments.{whole_run, word_stays, run_stays, apart_segments, apart_keeps}
+-- A segment behind the head is visited: what a look at it wants, and that it may stay.
+use Rattle.dlmalloc.proofs.Names.{◌≡◌, ◌≢◌, ℕ, ◌+◌, ◌-◌, ◌%◌, ◌<◌, inl, inr, Bool, true, false, ◌&&◌, ◌==◌, if◌then◌else◌, List, [], ◌∷◌, ◌++◌, Some, refl, sym, ◌∙◌, ap, subst, arith, AllByRecursion, Grant, Event, IsWholeRun, Free, HasHead, size_of, free_of, extent_at, Segment, is_own, is_unused, may_leave, IsSegment, AreSegments, IsApartFrom, AreApart, record_of, AreRecords, payload_behind, segments_of, state_of, AreTold, IsSound, IsFreeAt, FreeMoves, IsLinked, IsChained, IsVisited, Dlmalloc, SegmentRecord}
+use Rattle.dlmalloc.proofs.Extents.Lookup.{extent, found_here}
+use Rattle.dlmalloc.proofs.Segments.Among.{extents_all, all_at, all_front, all_back, front_apart, back_apart, among_all}
+use Rattle.dlmalloc.proofs.Grants.PutBefore.{flip}
+use Rattle.dlmalloc.proofs.Grants.SegmentBehind.{behind_more}
+use Rattle.dlmalloc.proofs.Returns.Unused.{first_head, unused_told, unused_extents}
+use Rattle.dlmalloc.proofs.Returns.Segments.{whole_run}
 use Rattle.dlmalloc.proofs.Returns.Everything.{parity}
 
 -- ---- tests
@@ -24,62 +19,18 @@ last_test true true c is = sym is
 last_test true false c is = absurd (cc)
 last_test false b c is = absurd (cc)
 
--- ---- lists without one
-
-all_less : (Is : Segment → Type 0) (front : List Segment) (segment : Segment) (back : List Segment) → AllByRecursion Is (front ++ segment ∷ back) → AllByRecursion Is (front ++ back)
-all_less Is [] segment back all = all.1
-all_less Is (first ∷ front) segment back all = (all.0, all_less Is front segment back all.1)
-
-apart_less : (front : List Segment) (segment : Segment) (back : List Segment) → AreApart (front ++ segment ∷ back) → AreApart (front ++ back)
-apart_less [] segment back apart = apart.1
-apart_less (first ∷ front) segment back apart = (all_less (IsApartFrom first) front segment back apart.0, apart_less front segment back apart.1)
-
 -- ---- records
 
 pub records_behind : (words : ℕ → ℕ) (payload : ℕ) (front rest : List Segment) → AreRecords words payload (front ++ rest) → AreRecords words (payload_behind words payload front) rest
 records_behind words payload [] rest h = h
 records_behind words payload (segment ∷ front) rest h = records_behind words (words (payload + 16)) front rest h.5
 
-behind_stays : (regions : List Grant) (old new : ℕ → ℕ) (payload : ℕ) (front rest : List Segment) → AreSegments regions old front → AllByRecursion (KeepsIts old new) front → AreRecords old payload (front ++ rest) → payload_behind old payload front ≡ payload_behind new payload front
-behind_stays regions old new payload [] rest parts keeps h = refl
-behind_stays regions old new payload (segment ∷ front) rest parts keeps h =
-    behind_stays regions old new (old (payload + 16)) front rest parts.1 keeps.1 h.5
-    ∙ ap (λ p. payload_behind new p front) (sym (keeps.0 (payload + 16)
-    (omega (arith, payload_low parts.0 payload h.0 h.4)) (omega (arith, payload_high parts.0 payload h.0 h.4)) (omega (arith, payload_whole parts.0 payload h.0 h.4))))
-
-module _ {A : Type 0} {regions : A → List Grant} {word : A → ℕ → ℕ} {heap : Dlmalloc A} (sound : IsSound regions word heap) (some : 0 < heap.size) {before : ℕ} {told : SegmentRecord} (c : IsChained word heap before told) where
+module _ {A : Type 0} {regions : A → List Grant} {word : A → ℕ → ℕ} {heap : Dlmalloc A} (sound : IsSound regions word heap) {before : ℕ} {told : SegmentRecord} (c : IsChained word heap before told) where
   abbrev words : ℕ → ℕ
   words = word heap.system
 
   abbrev granted : List Grant
   granted = regions heap.system
-
-  parts : AreSegments granted words (c.head ∷ (c.front ++ c.segment ∷ c.back))
-  parts = subst (AreSegments granted words) c.is sound.segments
-
-  apart : AreApart (c.head ∷ (c.front ++ c.segment ∷ c.back))
-  apart = subst AreApart c.is sound.apart
-
-  heap_told : AreTold words heap (c.head ∷ (c.front ++ c.segment ∷ c.back))
-  heap_told = subst (AreTold words heap) c.is sound.told
-
-  part : IsSegment granted words c.segment
-  part = all_at (IsSegment granted words) (c.head ∷ c.front) c.segment c.back parts
-
-  front_parts : AreSegments granted words (c.head ∷ c.front)
-  front_parts = all_front (IsSegment granted words) (c.head ∷ c.front) (c.segment ∷ c.back) parts
-
-  back_parts : AreSegments granted words c.back
-  back_parts = (all_back (IsSegment granted words) (c.head ∷ c.front) (c.segment ∷ c.back) parts).1
-
-  front_beside : AllByRecursion (IsApartFrom c.segment) (c.head ∷ c.front)
-  front_beside = flip c.segment (c.head ∷ c.front) (front_apart (c.head ∷ c.front) c.segment c.back apart)
-
-  back_beside : AllByRecursion (IsApartFrom c.segment) c.back
-  back_beside = flip c.segment c.back (back_apart (c.head ∷ c.front) c.segment c.back apart)
-
-  sized : 0 < c.segment.size
-  sized = omega (arith, part.long)
 
   pub base_is : told.base ≡ c.segment.base
   base_is = ap (λ t. t.base) c.read ∙ c.records.1
@@ -93,32 +44,60 @@ module _ {A : Type 0} {regions : A → List Grant} {word : A → ℕ → ℕ} {h
   own_is : (told.flags % 2 == 0) ≡ is_own c.segment
   own_is = ap (λ t. t.flags % 2 == 0) c.read ∙ parity c.records.3
 
-  back_told : AreRecords words told.next c.back
-  back_told = subst (λ p. AreRecords words p c.back) (sym next_is) c.records.5
+  -- the segment, and those around it
+  pub record Around : Type 0 where
+    pub parts : AreSegments granted words (c.head ∷ (c.front ++ c.segment ∷ c.back))
+    pub apart : AreApart (c.head ∷ (c.front ++ c.segment ∷ c.back))
+    pub heap_told : AreTold words heap (c.head ∷ (c.front ++ c.segment ∷ c.back))
+    pub part : IsSegment granted words c.segment
+    pub sized : 0 < c.segment.size
+    pub front_parts : AreSegments granted words (c.head ∷ c.front)
+    pub front_beside : AllByRecursion (IsApartFrom c.segment) (c.head ∷ c.front)
+    pub back_parts : AreSegments granted words c.back
+    pub back_beside : AllByRecursion (IsApartFrom c.segment) c.back
+    pub back_told : AreRecords words told.next c.back
+
+  pub around : Around
+  around =
+      let parts = subst (AreSegments granted words) c.is sound.segments in
+      let apart = subst AreApart c.is sound.apart in
+      let part = all_at (IsSegment granted words) (c.head ∷ c.front) c.segment c.back parts in
+      record {
+        parts = parts;
+        apart = apart;
+        heap_told = subst (AreTold words heap) c.is sound.told;
+        part = part;
+        sized = omega (arith, part.long);
+        front_parts = all_front (IsSegment granted words) (c.head ∷ c.front) (c.segment ∷ c.back) parts;
+        front_beside = flip c.segment (c.head ∷ c.front) (front_apart (c.head ∷ c.front) c.segment c.back apart);
+        back_parts = (all_back (IsSegment granted words) (c.head ∷ c.front) (c.segment ∷ c.back) parts).1;
+        back_beside = flip c.segment c.back (back_apart (c.head ∷ c.front) c.segment c.back apart);
+        back_told = subst (λ p. AreRecords words p c.back) (sym next_is) c.records.5;
+      }
 
   -- ---- what a look at it wants
 
   pub first_there : HasHead granted told.base
-  first_there = subst (HasHead granted) (sym base_is) (first_head part (c.payload - 16) c.records.4)
+  first_there = subst (HasHead granted) (sym base_is) (first_head around.part (c.payload - 16) c.records.4)
 
   pub long_told : 96 < told.size
-  long_told = omega (arith, size_is, part.long)
+  long_told = omega (arith, size_is, around.part.long)
 
   pub run_told : IsWholeRun granted told.base (told.base + told.size)
   run_told = subst (λ base. IsWholeRun granted base (base + told.size)) (sym base_is)
-      (subst (λ size. IsWholeRun granted c.segment.base (c.segment.base + size)) (sym size_is) (whole_run sized part.run))
+      (subst (λ size. IsWholeRun granted c.segment.base (c.segment.base + size)) (sym size_is) (whole_run around.sized around.part.run))
 
   pub test_is : (takes : Bool) → (told.flags % 2 == 0 && (takes && (free_of (words (told.base + 8)) && size_of (words (told.base + 8)) == told.size - 80))) ≡ may_leave takes c.segment
   test_is takes = λ i. own_is i && (takes && unused i)
     where
       unused : (free_of (words (told.base + 8)) && size_of (words (told.base + 8)) == told.size - 80) ≡ is_unused c.segment
-      unused = (λ i. free_of (words (base_is i + 8)) && size_of (words (base_is i + 8)) == size_is i - 80) ∙ unused_told part (c.payload - 16) c.records.4
+      unused = (λ i. free_of (words (base_is i + 8)) && size_of (words (base_is i + 8)) == size_is i - 80) ∙ unused_told around.part (c.payload - 16) c.records.4
 
   -- where it is unused, its first chunk is free
   pub first_is_free : is_unused c.segment ≡ true → IsFreeAt (state_of word heap) told.base (told.size - 80)
   first_is_free unused = subst (λ base. IsFreeAt (state_of word heap) base (told.size - 80)) (sym base_is) (subst (λ size. IsFreeAt (state_of word heap) c.segment.base (size - 80)) (sym size_is)
       (among_all granted words sound.segments sound.apart (c.head ∷ c.front) c.segment c.back c.is c.segment.base (
-      ap (extent_at c.segment.base) (unused_extents part (c.payload - 16) c.records.4 unused)
+      ap (extent_at c.segment.base) (unused_extents around.part (c.payload - 16) c.records.4 unused)
       ∙ found_here (extent c.segment.base (c.segment.size - 80) Free) (record_of (c.payload - 16) (c.segment.base + c.segment.size) ∷ [])
       )))
 
@@ -161,7 +140,7 @@ module _ {A : Type 0} {regions : A → List Grant} {word : A → ℕ → ℕ} {h
   pub stays : (follows : A → List Event → A → Type 0) → ((x : A) → follows x [] x) → (handed : Bool) → IsVisited regions word follows handed false heap before told c (forgetful (handed && c.segment.base == heap.victim))
   stays follows follows_none handed = record {
     segments = c.is;
-    records = back_told;
+    records = around.back_told;
     linked = inr (record { first = c.front; last = c.segment; is = refl; reached = reached; some = (λ none. omega arith); tells = next_is });
     victim = refl;
     left = record {
@@ -186,295 +165,3 @@ module _ {A : Type 0} {regions : A → List Grant} {word : A → ℕ → ℕ} {h
   -- and its free extents stay
   pub free_kept : FreeMoves (state_of word heap) (state_of word (record heap { victim = if told.base == heap.victim then 0 else heap.victim; victim_size = if told.base == heap.victim then 0 else heap.victim_size })) [] []
   free_kept = record { stays = λ at size free out. (free, λ came. came); was = λ at size free out. (free, λ came. came) }
-
-  -- ---- it leaves
-
-  -- the record before it, where there is one
-  module _ (l : IsToldByLast words heap.next before c.payload c.front) where
-    split_is : c.front ++ c.segment ∷ c.back ≡ l.first ++ l.last ∷ (c.segment ∷ c.back)
-    split_is = ap (λ front. front ++ c.segment ∷ c.back) l.is ∙ append_assoc l.first (l.last ∷ []) (c.segment ∷ c.back)
-
-    joined_is : c.front ++ c.back ≡ l.first ++ l.last ∷ c.back
-    joined_is = ap (λ front. front ++ c.back) l.is ∙ append_assoc l.first (l.last ∷ []) c.back
-
-    split_parts : AreSegments granted words (c.head ∷ (l.first ++ l.last ∷ (c.segment ∷ c.back)))
-    split_parts = subst (λ segments. AreSegments granted words (c.head ∷ segments)) split_is parts
-
-    split_apart : AreApart (c.head ∷ (l.first ++ l.last ∷ (c.segment ∷ c.back)))
-    split_apart = subst (λ segments. AreApart (c.head ∷ segments)) split_is apart
-
-    split_told : AreRecords words heap.next (l.first ++ l.last ∷ (c.segment ∷ c.back))
-    split_told = subst (AreRecords words heap.next) split_is heap_told.5
-
-    last_told : AreRecords words before (l.last ∷ (c.segment ∷ c.back))
-    last_told = subst (λ p. AreRecords words p (l.last ∷ (c.segment ∷ c.back))) (sym l.reached) (records_behind words heap.next l.first (l.last ∷ (c.segment ∷ c.back)) split_told)
-
-    last_part : IsSegment granted words l.last
-    last_part = all_at (IsSegment granted words) (c.head ∷ l.first) l.last (c.segment ∷ c.back) split_parts
-
-    last_behind : AllByRecursion (λ other. IsApartFrom other l.last) (c.segment ∷ c.back)
-    last_behind = back_apart (c.head ∷ l.first) l.last (c.segment ∷ c.back) split_apart
-
-    last_front : AllByRecursion (λ other. IsApartFrom other l.last) (c.head ∷ l.first)
-    last_front = front_apart (c.head ∷ l.first) l.last (c.segment ∷ c.back) split_apart
-
-    low_is : l.last.base + 16 ≤ before
-    low_is = payload_low last_part before last_told.0 last_told.4
-
-    high_is : before + 64 ≤ l.last.base + l.last.size
-    high_is = payload_high last_part before last_told.0 last_told.4
-
-    -- a byte of the record's segment is none of the one that leaves
-    beside_gone : (k : ℕ) → l.last.base ≤ k → k < l.last.base + l.last.size → IsOutside c.segment k
-    beside_gone k low high = elim (last_behind.0) [ inl first ↦ inr (omega arith) | inr second ↦ inl (omega arith) ]
-
-    link_word : IsWordOf granted (before + 16)
-    link_word = payload_word last_part before last_told.0 last_told.4 (before + 16) (omega arith) (omega arith) (omega (arith, payload_whole last_part before last_told.0 last_told.4))
-
-    link_in : IsInRecord (state_of word heap) (before + 16)
-    link_in = record {
-      extent = record_of (before - 16) (l.last.base + l.last.size);
-      there = among_all granted words sound.segments sound.apart (c.head ∷ l.first) l.last (c.segment ∷ c.back) (c.is ∙ ap (λ segments. c.head ∷ segments) split_is)
-          (before - 16) last_told.4;
-      is = refl;
-      low = omega (arith, low_is);
-      high = omega (arith, low_is, high_is);
-    }
-
-  -- what telling the next one wants
-  pub link_small : before + 32 < 2 ^ 64
-  link_small = go c.linked
-    where
-      go : IsLinked words heap.next before c.payload c.front → before + 32 < 2 ^ 64
-      go (inl h) = omega arith
-      go (inr l) = omega (arith, high_is l, (last_part l).high)
-
-  pub link_granted : {rest : List Grant} → rest ≡ without told.base (told.base + told.size) granted → before ≢ 0 → IsWordOf rest (before + 16)
-  link_granted {rest} gone more = go c.linked
-    where
-      gone_is : rest ≡ without c.segment.base (c.segment.base + c.segment.size) granted
-      gone_is = gone ∙ (λ i. without (base_is i) (base_is i + size_is i) granted)
-
-      go : IsLinked words heap.next before c.payload c.front → IsWordOf rest (before + 16)
-      go (inl h) = absurd (more h.1)
-      go (inr l) = subst (λ rs. IsWordOf rs (before + 16)) (sym gone_is)
-          (word_stays c.segment part.run sized (link_word l) (beside_gone l (before + 16) (omega (arith, low_is l)) (omega (arith, high_is l))))
-
-  module _ (system : A) (told_gone : regions system ≡ without told.base (told.base + told.size) granted)
-      (kept : (k : ℕ) → IsWordOf (regions system) k → (before ≢ 0 → k ≢ before + 16) → word system k ≡ words k) (here : before ≢ 0 → word system (before + 16) ≡ told.next) where
-    gone : regions system ≡ without c.segment.base (c.segment.base + c.segment.size) granted
-    gone = told_gone ∙ (λ i. without (base_is i) (base_is i + size_is i) granted)
-
-    -- where the next record is told for the head
-    abbrev next : ℕ
-    next = if before == 0 then told.next else heap.next
-
-    kept_outside : (k : ℕ) → IsWordOf granted k → IsOutside c.segment k → (before ≢ 0 → k ≢ before + 16) → word system k ≡ words k
-    kept_outside k inside out other = kept k (subst (λ rs. IsWordOf rs k) (sym gone) (word_stays c.segment part.run sized inside out)) other
-
-    -- what is left of the segments and of the chain
-    record IsRest : Type 0 where
-      pub segments : AreSegments (regions system) (word system) (c.head ∷ (c.front ++ c.back))
-      pub records : AreRecords (word system) next (c.front ++ c.back)
-      pub behind : AreRecords (word system) told.next c.back
-      pub linked : IsLinked (word system) next before told.next c.front
-
-    at_head : (c.front ≡ []) × (before ≡ 0) × (c.payload ≡ heap.next) → IsRest
-    at_head h = record {
-      segments = subst (λ front. AreSegments (regions system) (word system) (c.head ∷ (front ++ c.back))) (sym h.0)
-          (subst (λ rs. AreSegments rs (word system) (c.head ∷ c.back)) (sym gone)
-          (apart_segments c.segment part.run sized words (word system) (c.head ∷ c.back) (front_parts.0, back_parts) (front_beside.0, back_beside) keeps));
-      records = subst (λ front. AreRecords (word system) next (front ++ c.back)) (sym h.0) (subst (λ p. AreRecords (word system) p c.back) (sym next_now) behind);
-      behind = behind;
-      linked = inl (h.0, h.1, sym next_now);
-    }
-      where
-        next_now : next ≡ told.next
-        next_now = ap (λ b. if b == 0 then told.next else heap.next) h.1
-
-        keeps : AllByRecursion (KeepsIts words (word system)) (c.head ∷ c.back)
-        keeps = apart_keeps c.segment part.run sized words (word system) (λ k inside. kept k (subst (λ rs. IsWordOf rs k) (sym gone) inside) (λ more. absurd (more h.1)))
-            (c.head ∷ c.back) (front_parts.0, back_parts) (front_beside.0, back_beside)
-
-        behind : AreRecords (word system) told.next c.back
-        behind = records_stay granted words (word system) c.back back_parts keeps.1 told.next back_told
-
-    behind_last : IsToldByLast words heap.next before c.payload c.front → IsRest
-    behind_last l = record {
-      segments = subst (λ segments. AreSegments (regions system) (word system) (c.head ∷ segments)) (sym (joined_is l))
-          (subst (λ rs. AreSegments rs (word system) (c.head ∷ (l.first ++ l.last ∷ c.back))) (sym gone)
-          (parts_around (c.head ∷ l.first) c.back
-          (apart_segments c.segment part.run sized words (word system) (c.head ∷ l.first) first_parts first_beside first_keeps)
-          last_now
-          (apart_segments c.segment part.run sized words (word system) c.back back_parts back_beside back_keeps)));
-      records = subst (λ segments. AreRecords (word system) next segments) (sym (joined_is l)) (subst (λ p. AreRecords (word system) p (l.first ++ l.last ∷ c.back)) (sym next_now)
-          (told_around granted words (word system) (l.last ∷ (c.segment ∷ c.back)) (l.last ∷ c.back) l.first heap.next l.reached first_parts.1 first_keeps.1 (split_told l) (
-            (last_told l).0,
-            stored before (omega arith) (omega arith) (omega (arith, whole)) (λ is. omega arith) ∙ (last_told l).1,
-            stored (before + 8) (omega arith) (omega arith) (omega (arith, whole)) (λ is. omega arith) ∙ (last_told l).2,
-            stored (before + 24) (omega arith) (omega arith) (omega (arith, whole)) (λ is. omega arith) ∙ (last_told l).3,
-            (last_told l).4,
-            subst (λ p. AreRecords (word system) p c.back) (sym (here l.some)) behind,
-          )));
-      behind = behind;
-      linked = inr (record {
-        first = l.first;
-        last = l.last;
-        is = l.is;
-        reached = l.reached ∙ (behind_stays granted words (word system) heap.next l.first (l.last ∷ (c.segment ∷ c.back)) first_parts.1 first_keeps.1 (split_told l) ∙ ap (λ p. payload_behind (word system) p l.first) (sym next_now));
-        some = l.some;
-        tells = sym (here l.some);
-      });
-    }
-      where
-        next_now : next ≡ heap.next
-        next_now = (let s = l.some in let other : (before == 0) ≡ false = grind (arith, nat_tests) in ap (λ b. if b then told.next else heap.next) other)
-
-        whole : before % 16 ≡ 0
-        whole = payload_whole (last_part l) before (last_told l).0 (last_told l).4
-
-        first_parts : AreSegments granted words (c.head ∷ l.first)
-        first_parts = all_front (IsSegment granted words) (c.head ∷ l.first) (l.last ∷ (c.segment ∷ c.back)) (split_parts l)
-
-        first_beside : AllByRecursion (IsApartFrom c.segment) (c.head ∷ l.first)
-        first_beside = (front_beside.0, all_front (IsApartFrom c.segment) l.first (l.last ∷ []) (subst (AllByRecursion (IsApartFrom c.segment)) l.is front_beside.1))
-
-        -- a word outside the last of those segments stays
-        kept_beside : (k : ℕ) → IsWordOf granted k → IsOutside c.segment k → IsOutside l.last k → word system k ≡ words k
-        kept_beside k inside out beside = kept_outside k inside out
-            (λ more is. elim beside [ inl below ↦ omega (arith, low_is l) | inr above ↦ omega (arith, high_is l) ])
-
-        first_keeps : AllByRecursion (KeepsIts words (word system)) (c.head ∷ l.first)
-        first_keeps = apart_stay granted words (word system) c.segment l.last (c.head ∷ l.first) first_parts first_beside (last_front l) kept_beside
-
-        back_keeps : AllByRecursion (KeepsIts words (word system)) c.back
-        back_keeps = apart_stay granted words (word system) c.segment l.last c.back back_parts back_beside (last_behind l).1 kept_beside
-
-        stored : (k : ℕ) → before ≤ k → k < before + 32 → k % 8 ≡ 0 → (k ≡ before + 16 → ⊥) → word system k ≡ words k
-        stored k low high m other = kept_outside k (payload_word (last_part l) before (last_told l).0 (last_told l).4 k low high m)
-            (beside_gone l k (omega (arith, low_is l)) (omega (arith, high_is l))) (λ more. other)
-
-        last_now : IsSegment (without c.segment.base (c.segment.base + c.segment.size) granted) (word system) l.last
-        last_now =
-            let is = recorded_stays (last_part l) before (last_told l).0 (last_told l).4 (word system)
-            (λ k low high m out. kept_outside k (record { granted = (last_part l).run.covered k (omega arith) high; aligned = m }) (beside_gone l k (omega arith) high)
-            (λ more same. elim out [ inl below ↦ omega arith | inr above ↦ omega arith ])) in
-            record { run = run_stays c.segment part.run sized l.last (last_behind l).0 is.run; low = is.low; high = is.high; long = is.long; extents = is.extents; tail = is.tail }
-
-        behind : AreRecords (word system) told.next c.back
-        behind = records_stay granted words (word system) c.back back_parts back_keeps told.next back_told
-
-    rest : IsRest
-    rest = elim (c.linked) [ inl h ↦ at_head h | inr l ↦ behind_last l ]
-
-    -- of the words that are granted still those of records alone change
-    pub left_words : (k : ℕ) → IsWordOf (regions system) k → (IsInRecord (state_of word heap) k → ⊥) → word system k ≡ words k
-    left_words k inside out = kept k inside (λ more is. absurd (elim (c.linked) [
-      | inl h ↦ more h.1
-      | inr l ↦ out (subst (IsInRecord (state_of word heap)) (sym is) (link_in l))
-    ]))
-
-    -- ---- the heap without it
-
-    module _ (unused : is_unused c.segment ≡ true) where
-      abbrev pub left_heap : Dlmalloc A
-      left_heap = record heap { system = system; next = if before == 0 then told.next else heap.next; victim = if told.base == heap.victim then 0 else heap.victim; victim_size = if told.base == heap.victim then 0 else heap.victim_size }
-
-      abbrev now : List Segment
-      now = c.head ∷ (c.front ++ c.back)
-
-      told_now : AreTold (word system) left_heap now
-      told_now = (heap_told.0, heap_told.1, heap_told.2, heap_told.3, heap_told.4, rest.records)
-
-      apart_now : AreApart now
-      apart_now = apart_less (c.head ∷ c.front) c.segment c.back apart
-
-      segments_now : segments_of word left_heap ≡ now
-      segments_now = retold regions word left_heap now rest.segments apart_now told_now
-
-      all_old : extents_in (state_of word heap) ≡ extents_all (c.head ∷ c.front) ++ (c.segment.extents ++ extents_all c.back)
-      all_old = ap extents_all c.is ∙ all_among (c.head ∷ c.front) c.segment c.back
-
-      all_new : extents_all now ≡ extents_all (c.head ∷ c.front) ++ ([] ++ extents_all c.back)
-      all_new = flat_map-append (λ segment. segment.extents) (c.head ∷ c.front) c.back
-
-      in_new : extents_in (state_of word left_heap) ≡ extents_all now
-      in_new = all_retold regions word left_heap now rest.segments apart_now told_now
-
-      -- what is not of the segment is found again
-      found_still : (k : ℕ) {one : Extent} → extent_at k (extents_in (state_of word heap)) ≡ Some one → (extent_at k c.segment.extents ≡ Some one → ⊥) → extent_at k (extents_all now) ≡ Some one
-      found_still k there other = replaced_found k (extents_all (c.head ∷ c.front)) c.segment.extents [] (extents_all c.back) all_new
-          (distinct regions word left_heap now rest.segments apart_now told_now) (λ found. absurd (other found)) (ap (extent_at k) (sym all_old) ∙ there)
-
-      found_before : (k : ℕ) {one : Extent} → extent_at k (extents_in (state_of word left_heap)) ≡ Some one → extent_at k (extents_in (state_of word heap)) ≡ Some one
-      found_before k there = replaced_found k (extents_all (c.head ∷ c.front)) [] c.segment.extents (extents_all c.back) all_old
-          (all_distinct granted words (segments_of word heap) sound.segments sound.apart) (λ found. absurd (cc)) (ap (extent_at k) (sym (in_new ∙ all_new)) ∙ there)
-
-      -- in the segment a free extent and the record are found
-      in_gone : (k : ℕ) {one : Extent} → extent_at k c.segment.extents ≡ Some one → ((one.kind ≡ Free) × (c.segment.base ≡ k)) ⊎ (one.kind ≡ Record)
-      in_gone k found = two_found c.segment.base (c.segment.size - 80) (c.payload - 16) (c.segment.base + c.segment.size) k
-          (ap (extent_at k) (sym (unused_extents part (c.payload - 16) c.records.4 unused)) ∙ found)
-
-      -- its free extent is where it begins
-      first_free : IsThere told.base c.segment.extents
-      first_free = (
-        extent c.segment.base (c.segment.size - 80) Free,
-        ap (λ k. extent_at k c.segment.extents) base_is ∙ (
-            ap (extent_at c.segment.base) (unused_extents part (c.payload - 16) c.records.4 unused)
-            ∙ found_here (extent c.segment.base (c.segment.size - 80) Free) (record_of (c.payload - 16) (c.segment.base + c.segment.size) ∷ [])
-            ),
-      )
-
-      -- that alone is no free extent any more
-      pub left_free : FreeMoves (state_of word heap) (state_of word left_heap) (told.base ∷ []) []
-      left_free = free_changes (state_of word heap) (state_of word left_heap) (extents_all (c.head ∷ c.front)) c.segment.extents [] (extents_all c.back) all_old (in_new ∙ all_new)
-          (all_distinct granted words (segments_of word heap) sound.segments sound.apart) (subst AreDistinct (sym in_new) (distinct regions word left_heap now rest.segments apart_now told_now))
-          (told.base ∷ []) []
-          (λ k size found. elim (in_gone k found) [
-            | inl free ↦ inl (sym (base_is ∙ free.1))
-            | inr tail ↦ absurd (let no : Free ≡ Record = tail in cc)
-          ])
-          (λ k size found. absurd (cc))
-          (λ k is. elim is [ inl same ↦ inr (subst (λ a. IsThere a c.segment.extents) (sym same) first_free) | inr none ↦ absurd none ])
-          (λ k none. absurd none)
-
-      none_used : (k : ℕ) (one : Extent) → one.kind ≡ Used → extent_at k c.segment.extents ≡ Some one → ⊥
-      none_used k one used found = elim (in_gone k found) [
-        | inl free ↦ (let no : Used ≡ Free = sym used ∙ free.0 in cc)
-        | inr tail ↦ (let no : Used ≡ Record = sym used ∙ tail in cc)
-      ]
-
-      no_victim : (b : Bool) → (if b then 0 else heap.victim_size) ≡ 0 → (if b then 0 else heap.victim) ≡ 0
-      no_victim true is = refl
-      no_victim false is = sound.no_victim is
-
-      victim_there : (b : Bool) → (told.base == heap.victim) ≡ b → (if b then 0 else heap.victim_size) ≢ 0 → extent_at (if b then 0 else heap.victim) (extents_all now) ≡ Some (extent (if b then 0 else heap.victim) (if b then 0 else heap.victim_size) Free)
-      victim_there true test more = absurd (more refl)
-      victim_there false test more = found_still heap.victim (sound.victim more)
-          (λ found. elim (in_gone heap.victim found) [
-            | inl free ↦ (let yes : (told.base == heap.victim) ≡ true = ap (λ b. b == heap.victim) (base_is ∙ free.1) ∙ nat_same heap.victim in let no = sym test ∙ yes in cc)
-            | inr tail ↦ (let no : Free ≡ Record = tail in cc)
-          ])
-
-      pub leaves : (follows : A → List Event → A → Type 0) → follows heap.system (Released told.base told.size 0 ∷ []) system → IsVisited regions word follows true true heap before told c left_heap
-      leaves follows followed = record {
-        segments = segments_now;
-        records = rest.behind;
-        linked = rest.linked;
-        victim = λ i. if base_is i == heap.victim then 0 else heap.victim;
-        left = record {
-          sound = retold_sound regions word left_heap now rest.segments apart_now told_now sound.granularity heap_told.0 (no_victim (told.base == heap.victim)) (victim_there (told.base == heap.victim) refl);
-          used = record {
-            still = λ used is there. ap (extent_at used.at) in_new ∙ found_still used.at there (none_used used.at used is);
-            before = λ used is there. found_before used.at there;
-          };
-          before = λ one there. found_before one.at there;
-          words = λ k inside was out. left_words k inside out;
-          regions_are = gone;
-          followed = subst (λ events. follows heap.system events system) (λ i. Released (base_is i) (size_is i) 0 ∷ []) followed;
-        };
-        granularity_same = refl;
-        rate_same = refl;
-        trim_check_same = refl;
-        size_same = refl;
-      }

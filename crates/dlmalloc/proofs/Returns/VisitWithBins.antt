@@ -149,10 +149,10 @@ module _ {A : Type 0} {regions : A → List Grant} {word : A → ℕ → ℕ} {f
   only_back = λ k inside out. sym (same.words k (subst (λ rs. IsWordOf rs k) same.regions_same inside) (λ at size free. out at size (subst (λ s. IsFreeAt s at size) (sym same.state) free)))
 
   -- a segment may leave as before
-  pub may_still : 0 < heap.size → (parts : Bool) {before : ℕ} {told : SegmentRecord} →
+  pub may_still : (parts : Bool) {before : ℕ} {told : SegmentRecord} →
       (told.flags % 2 == 0 && (parts && (free_of (word heap.system (told.base + 8)) && size_of (word heap.system (told.base + 8)) == told.size - 80))) ≡ true → (c : IsChained word new before told) → may_leave parts c.segment ≡ true
-  may_still some parts test c =
-      sym (test_is sound some (chained_on same.sound heap (sym same.state) (sym next_same) only_back c) parts) ∙ test
+  may_still parts test c =
+      sym (test_is sound (chained_on same.sound heap (sym same.state) (sym next_same) only_back c) parts) ∙ test
 
 module _ {A : Type 0} {regions : A → List Grant} {word : A → ℕ → ℕ} (follows : A → List Event → A → Type 0)
     (follows_on : (x y z : A) (a b c : List Event) → follows x a y → follows y b z → a ++ b ≡ c → follows x c z) {heap : Dlmalloc A} (sound : IsSound regions word heap) {before : ℕ} {told : SegmentRecord} (c : IsChained word heap before told) where

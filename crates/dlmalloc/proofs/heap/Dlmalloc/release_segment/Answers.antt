@@ -5,33 +5,33 @@ use Rattle.dlmalloc.proofs.Returns.PassOrder.{with_same, visit_none, visit_left,
 use Rattle.dlmalloc.proofs.heap.Dlmalloc.release_segment.Goals as goal
 
 pub may_leave-requires-clause-head : goal.may_leave-requires-clause-head
-may_leave-requires-clause-head g c = first_there c.requires.sound c.requires.there c.requires.chained
+may_leave-requires-clause-head g c = first_there c.requires.sound c.requires.chained
 
 pub may_leave-requires-clause-long : goal.may_leave-requires-clause-long
-may_leave-requires-clause-long g c = long_told c.requires.sound c.requires.there c.requires.chained
+may_leave-requires-clause-long g c = long_told c.requires.sound c.requires.chained
 
 pub returns-then-not-may_leave-clause-answer : goal.returns-then-not-may_leave-clause-answer
 returns-then-not-may_leave-clause-answer g c = λ chained.
     let heap = c.args.self.now in
-    let may = sym c.if-not-may_leave.true ∙ (c.may_leave.ensures.told ∙ test_is c.requires.sound c.requires.there chained (g.A.Allocator.parts heap.system)) in
+    let may = sym c.if-not-may_leave.true ∙ (c.may_leave.ensures.told ∙ test_is c.requires.sound chained (g.A.Allocator.parts heap.system)) in
     never (g.A.Allocator.frees heap.system) ∙ ap (λ b. g.A.Allocator.frees heap.system && b) may
 
 pub returns-then-not-may_leave-clause-visited : goal.returns-then-not-may_leave-clause-visited
 returns-then-not-may_leave-clause-visited g c = λ chained.
     let heap = c.args.self.now in
-    let may = sym c.if-not-may_leave.true ∙ (c.may_leave.ensures.told ∙ test_is c.requires.sound c.requires.there chained (g.A.Allocator.parts heap.system)) in
+    let may = sym c.if-not-may_leave.true ∙ (c.may_leave.ensures.told ∙ test_is c.requires.sound chained (g.A.Allocator.parts heap.system)) in
     subst (λ handed. IsVisited g.A.Links.regions g.A.Links.word g.A.Links.follows handed false heap c.args.before c.args.told.now chained heap) may
-    (stays c.requires.sound c.requires.there chained g.A.Links.follows g.A.Links.follows_none false)
+    (stays c.requires.sound chained g.A.Links.follows g.A.Links.follows_none false)
 
 pub overflow_sub-size : goal.overflow_sub-size
-overflow_sub-size g c = let long = long_told c.requires.sound c.requires.there c.requires.chained in omega arith
+overflow_sub-size g c = let long = long_told c.requires.sound c.requires.chained in omega arith
 
 pub unbin-requires-clause-free : goal.unbin-requires-clause-free
 unbin-requires-clause-free g c =
     let heap = c.args.self.now in
     let chained = c.requires.chained in
-    let may = sym c.if-not-may_leave.false ∙ (c.may_leave.ensures.told ∙ test_is c.requires.sound c.requires.there chained (g.A.Allocator.parts heap.system)) in
-    first_is_free c.requires.sound c.requires.there chained (last_test (is_own chained.segment) (g.A.Allocator.parts heap.system) (is_unused chained.segment) may)
+    let may = sym c.if-not-may_leave.false ∙ (c.may_leave.ensures.told ∙ test_is c.requires.sound chained (g.A.Allocator.parts heap.system)) in
+    first_is_free c.requires.sound chained (last_test (is_own chained.segment) (g.A.Allocator.parts heap.system) (is_unused chained.segment) may)
 
 pub unbin-requires-clause-binned : goal.unbin-requires-clause-binned
 unbin-requires-clause-binned g c = ([], c.requires.linked, λ none. none)
@@ -49,13 +49,13 @@ pub hand_out-requires-clause-may : goal.hand_out-requires-clause-may
 hand_out-requires-clause-may g c = λ chained.
     let fixed = g.met.A.Allocator.fixed c.args.self.now.system c.unbin.new.self.system _ c.unbin.ensures.same.followed in
     ap (λ parts. may_leave parts chained.segment) fixed.parts_same
-    ∙ may_still c.requires.sound c.unbin.ensures.same c.requires.there (g.A.Allocator.parts c.args.self.now.system)
+    ∙ may_still c.requires.sound c.unbin.ensures.same (g.A.Allocator.parts c.args.self.now.system)
     (sym c.may_leave.ensures.told ∙ c.if-not-may_leave.false) chained
 
 pub returns-then-not-may_leave-clause-index : goal.returns-then-not-may_leave-clause-index
 returns-then-not-may_leave-clause-index g c = λ chained b.
     let heap = c.args.self.now in
-    let may = sym c.if-not-may_leave.true ∙ (c.may_leave.ensures.told ∙ test_is c.requires.sound c.requires.there chained (g.A.Allocator.parts heap.system)) in
+    let may = sym c.if-not-may_leave.true ∙ (c.may_leave.ensures.told ∙ test_is c.requires.sound chained (g.A.Allocator.parts heap.system)) in
     (b, λ n. visit_none (g.A.Allocator.frees heap.system) (g.A.Allocator.parts heap.system) chained.segment b.index n may)
 
 -- ---- the system took it
@@ -72,7 +72,7 @@ returns-then-hand_out g c =
     let fixed = g.met.A.Allocator.fixed heap.system middle.system _ c.unbin.ensures.same.followed in
     let takes : true ≡ frees = sym c.if-hand_out.true ∙ (e.answer ∙ fixed.frees_same) in
     let may : (chained : IsChained g.A.Links.word heap c.args.before told) → true ≡ may_leave parts chained.segment = λ chained.
-    sym c.if-not-may_leave.false ∙ (c.may_leave.ensures.told ∙ test_is c.requires.sound c.requires.there chained parts) in
+    sym c.if-not-may_leave.false ∙ (c.may_leave.ensures.told ∙ test_is c.requires.sound chained parts) in
     let chain : (chained : IsChained g.A.Links.word heap c.args.before told) → IsChained g.A.Links.word middle c.args.before told = λ chained.
     chained_then c.requires.sound c.unbin.ensures.same chained in
     let visited : (chained : IsChained g.A.Links.word heap c.args.before told) → IsVisited g.A.Links.regions g.A.Links.word g.A.Links.follows true true heap c.args.before told chained new = λ chained.
@@ -87,8 +87,8 @@ returns-then-hand_out g c =
       linked = after (c.unbin.ensures.loose [] c.requires.linked (λ none. none)).0;
       index = λ chained b.
           let left = c.unbin.ensures.loose [] b (λ none. none) in
-          let base = base_is c.requires.sound c.requires.there chained in
-          let size = ap (λ n. n - 80) (size_is c.requires.sound c.requires.there chained) in
+          let base = base_is c.requires.sound chained in
+          let size = ap (λ n. n - 80) (size_is c.requires.sound chained) in
           (after left.0, λ n. left.1 n ∙ visit_left frees parts chained.segment b.index n base size (may chained) takes);
       counted = (let tested = c.may_leave.ensures.counted in let left = c.unbin.ensures.counted in let handed = e.counted in omega arith);
     }
@@ -106,8 +106,8 @@ bin-requires-clause-free g c =
     let told = c.args.told.now in
     let new = c.hand_out.new.self in
     let chained = c.requires.chained in
-    let may = sym c.if-not-may_leave.false ∙ (c.may_leave.ensures.told ∙ test_is c.requires.sound c.requires.there chained (g.A.Allocator.parts heap.system)) in
-    let first = first_is_free c.requires.sound c.requires.there chained (last_test (is_own chained.segment) (g.A.Allocator.parts heap.system) (is_unused chained.segment) may) in
+    let may = sym c.if-not-may_leave.false ∙ (c.may_leave.ensures.told ∙ test_is c.requires.sound chained (g.A.Allocator.parts heap.system)) in
+    let first = first_is_free c.requires.sound chained (last_test (is_own chained.segment) (g.A.Allocator.parts heap.system) (is_unused chained.segment) may) in
     let moves = subst (λ left. FreeMoves (state_of g.A.Links.word middle) (state_of g.A.Links.word new) (if left then told.base ∷ [] else []) []) c.if-hand_out.false c.hand_out.ensures.free in
     (moves.stays told.base (told.size - 80) (subst (λ s. IsFreeAt s told.base (told.size - 80)) (sym c.unbin.ensures.same.state) first) (λ none. none)).0
 
@@ -141,7 +141,7 @@ returns g c =
     let fixed = g.met.A.Allocator.fixed heap.system middle.system _ c.unbin.ensures.same.followed in
     let takes : false ≡ frees = sym c.if-hand_out.false ∙ (e.answer ∙ fixed.frees_same) in
     let may : (chained : IsChained g.A.Links.word heap c.args.before told) → true ≡ may_leave parts chained.segment = λ chained.
-    sym c.if-not-may_leave.false ∙ (c.may_leave.ensures.told ∙ test_is c.requires.sound c.requires.there chained parts) in
+    sym c.if-not-may_leave.false ∙ (c.may_leave.ensures.told ∙ test_is c.requires.sound chained parts) in
     let chain : (chained : IsChained g.A.Links.word heap c.args.before told) → IsChained g.A.Links.word middle c.args.before told = λ chained.
     chained_then c.requires.sound c.unbin.ensures.same chained in
     let visited : (chained : IsChained g.A.Links.word heap c.args.before told) → IsVisited g.A.Links.regions g.A.Links.word g.A.Links.follows true false heap c.args.before told chained new = λ chained.
@@ -157,8 +157,8 @@ returns g c =
       linked = (c.bin.ensures.binned [] (after (c.unbin.ensures.loose [] c.requires.linked (λ none. none)).0) (λ none. none)).0;
       index = λ chained b.
           let left = c.unbin.ensures.loose [] b (λ none. none) in
-          let base = base_is c.requires.sound c.requires.there chained in
-          let size = ap (λ n. n - 80) (size_is c.requires.sound c.requires.there chained) in
+          let base = base_is c.requires.sound chained in
+          let size = ap (λ n. n - 80) (size_is c.requires.sound chained) in
           let last = c.bin.ensures.binned [] (after left.0) (λ none. none) in
           (last.0, λ n. last.1 n ∙ (with_same (told.size - 80) told.base left.0.index (without_chunk (told.size - 80) told.base b.index) n (left.1 n) ∙ visit_kept frees parts chained.segment b.index n base size (may chained) takes));
       counted = (let tested = c.may_leave.ensures.counted in let left = c.unbin.ensures.counted in let handed = e.counted in let put = c.bin.ensures.counted in omega arith);
