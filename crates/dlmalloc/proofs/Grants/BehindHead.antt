@@ -1,5 +1,5 @@
 -- A grant at the end of the head segment makes its top longer.
-use Rattle.dlmalloc.proofs.Names.{◌≡◌, ◌≢◌, ℕ, ◌+◌, ◌-◌, ◌%◌, ◌<◌, ◌≤◌, ◌⊎◌, inl, inr, Bool, true, false, ◌&&◌, ◌==◌, if◌then◌else◌, List, [], ◌∷◌, ◌++◌, map, Some, None, refl, sym, ◌∙◌, ap, subst, arith, append_assoc, unwrap_or, AllByRecursion, nat_tests, map-append, Grant, IsWordOf, IsWhole, Extent, Used, Free, Top, Foot, ends_segment, extent_at, Tiles, last_kind, Segment, extents_in, trim_threshold, opened, is_behind, granted, IsFresh, HasSameUsed, OnlyTagsChange, IsRun, IsSegment, AreSegments, IsApartFrom, AreApart, AreRecords, FreeMoves, segments_of, state_of, IsGranularity, AreTold, IsSound, Dlmalloc, AreChunks, IsRunOf, used_of}
+use Rattle.dlmalloc.proofs.Names.{◌≡◌, ◌≢◌, ℕ, ◌+◌, ◌-◌, ◌%◌, ◌<◌, ◌≤◌, ◌⊎◌, inl, inr, Bool, true, false, ◌&&◌, ◌==◌, if◌then◌else◌, List, [], ◌∷◌, ◌++◌, map, Some, None, refl, sym, ◌∙◌, ap, subst, arith, append_assoc, unwrap_or, AllByRecursion, nat_tests, map-append, Grant, IsWordOf, IsWhole, Extent, Used, Free, Top, Foot, ends_segment, extent_at, Tiles, last_kind, Segment, extents_in, trim_threshold, opened, is_behind, granted, IsFresh, HasSameUsed, OnlyTagsChange, IsRun, IsSegment, AreSegments, IsApartFrom, AreApart, FreeMoves, segments_of, state_of, AreTold, IsSound, Dlmalloc, AreChunks, IsRunOf, used_of}
 use Rattle.dlmalloc.specs.Granted.{grown, extended}
 use Rattle.dlmalloc.proofs.Frees.FreeBeside.{the_one}
 use Rattle.dlmalloc.proofs.Moves.OfFreeExtents.{free_changes}
@@ -8,7 +8,7 @@ use Rattle.dlmalloc.proofs.Extents.Tiling.{tiles_kept, tiles_append}
 use Rattle.dlmalloc.proofs.Moves.OfLists.{last_append}
 use Rattle.dlmalloc.proofs.Extents.OneMoreUsed.{AreDistinct, none_outside, used_append}
 use Rattle.dlmalloc.proofs.Extents.FromWords.{are_chunks}
-use Rattle.dlmalloc.proofs.Segments.HeadTold.{IsHead}
+use Rattle.dlmalloc.proofs.Segments.HeadTold.{IsHead, bare_head}
 use Rattle.dlmalloc.proofs.Segments.Among.{extents_all, all_distinct}
 use Rattle.dlmalloc.proofs.Segments.RegionsMore.{runs_joined}
 use Rattle.dlmalloc.proofs.Segments.ToldAnew.{IsOutside, retold, distinct, all_retold, retold_sound, same_used, replaced_found, head_tags}
@@ -30,15 +30,19 @@ map_grown more (chunk ∷ chunks) are = λ i. same are.0 i ∷ map_grown more ch
 
 -- ---- a grant at the end of the head segment makes its top longer
 
-module _ {A : Type 0} {regions : A → List Grant} {word : A → ℕ → ℕ} {heap : Dlmalloc A} (new : Dlmalloc A) (sound : IsSound regions word heap) {grant : Grant}
-    (fresh : IsFresh (regions heap.system) (segments_of word heap) grant) (same : regions new.system ≡ regions heap.system) (some : 0 < heap.size)
-    (begins : grant.base ≡ heap.base + heap.size) (equal : grant.flags ≡ heap.flags) (behind : is_behind grant (record { base = heap.base; size = heap.size; flags = heap.flags; extents = [] }) ≡ true)
-    (whole : AllByRecursion IsWhole (regions heap.system)) (base : new.base ≡ heap.base) (size : new.size ≡ heap.size + grant.size) (flags : new.flags ≡ heap.flags) (no_next : new.next ≡ heap.next) (top : new.top ≡ heap.top)
-    (top_size : new.top_size ≡ heap.base + (heap.size + grant.size) - 80 - heap.top)
-    (victim : new.victim ≡ heap.victim) (victim_size : new.victim_size ≡ heap.victim_size) (granularity : new.granularity ≡ heap.granularity) (rate : new.rate ≡ heap.rate)
-    (countdown : new.countdown ≡ heap.countdown) (trim_check : new.trim_check ≡ trim_threshold)
-    (head : word new.system (heap.top + 8) ≡ heap.base + (heap.size + grant.size) - 80 - heap.top + 1) (foot : word new.system (heap.base + (heap.size + grant.size) - 72) ≡ 80)
-    (kept : (k : ℕ) → IsWordOf (regions heap.system) k → k ≢ heap.top + 8 → k ≢ heap.base + (heap.size + grant.size) - 72 → word new.system k ≡ word heap.system k) where
+-- the heap whose head segment has the bytes of a grant at its end
+abbrev pub extended_heap : {A : Type 0} → Dlmalloc A → Grant → A → Dlmalloc A
+extended_heap heap grant system =
+    record heap { system = system; size = heap.size + grant.size; top_size = heap.base + (heap.size + grant.size) - 80 - heap.top; trim_check = trim_threshold }
+
+module _ {A : Type 0} {regions : A → List Grant} {word : A → ℕ → ℕ} {heap : Dlmalloc A} (system : A) (sound : IsSound regions word heap) {grant : Grant}
+    (fresh : IsFresh (regions heap.system) (segments_of word heap) grant) (same : regions system ≡ regions heap.system) (some : 0 < heap.size)
+    (begins : grant.base ≡ heap.base + heap.size) (equal : grant.flags ≡ heap.flags) (behind : is_behind grant (bare_head heap) ≡ true) (whole : AllByRecursion IsWhole (regions heap.system))
+    (head : word system (heap.top + 8) ≡ heap.base + (heap.size + grant.size) - 80 - heap.top + 1) (foot : word system (heap.base + (heap.size + grant.size) - 72) ≡ 80)
+    (kept : (k : ℕ) → IsWordOf (regions heap.system) k → k ≢ heap.top + 8 → k ≢ heap.base + (heap.size + grant.size) - 72 → word system k ≡ word heap.system k) where
+  abbrev new : Dlmalloc A
+  new = extended_heap heap grant system
+
   abbrev old_run : IsRunOf (word heap.system) (segments_of word heap) heap.top (heap.top + heap.top_size) (extent heap.top heap.top_size Top ∷ [])
   old_run = top_run sound some
 
@@ -76,10 +80,10 @@ module _ {A : Type 0} {regions : A → List Grant} {word : A → ℕ → ℕ} {h
   now_end = omega (arith, last_is.1)
 
   -- words of the chunks before the top stay, and so do those of other segments
-  first_kept : (k : ℕ) → IsWordOf (regions heap.system) k → k ≤ heap.top → word new.system k ≡ word heap.system k
+  first_kept : (k : ℕ) → IsWordOf (regions heap.system) k → k ≤ heap.top → word system k ≡ word heap.system k
   first_kept k inside below = kept k inside (λ is. omega arith) (λ is. omega (arith, closes))
 
-  outside_kept : (k : ℕ) → IsWordOf (regions heap.system) k → IsOutside old_run.segment k → IsOutside (opened grant) k → word new.system k ≡ word heap.system k
+  outside_kept : (k : ℕ) → IsWordOf (regions heap.system) k → IsOutside old_run.segment k → IsOutside (opened grant) k → word system k ≡ word heap.system k
   outside_kept k inside first second = kept k inside
       (λ is. elim first [
         | inl below ↦ omega (arith, was.base, top_low sound some)
@@ -90,14 +94,14 @@ module _ {A : Type 0} {regions : A → List Grant} {word : A → ℕ → ℕ} {h
         | inr above ↦ omega arith
       ])
 
-  more_stand : Tiles (word new.system) (last_kind Used old_run.first) heap.top more (old_run.segment.base + (old_run.segment.size + grant.size))
+  more_stand : Tiles (word system) (last_kind Used old_run.first) heap.top more (old_run.segment.base + (old_run.segment.size + grant.size))
   more_stand =
       let units = fresh.size_aligned in
       let place : heap.top + length_now + 8 ≡ heap.base + (heap.size + grant.size) - 72 = omega (arith, closes) in
-      subst (λ end. Tiles (word new.system) (last_kind Used old_run.first) heap.top more end) now_end
-      (top_stands (word new.system) heap.top length_now old_run.here.1.kind (top_whole sound some) (omega (arith, sizes.0)) (omega (arith, sizes.1)) (head ∙ ap (λ n. n + 1) (sym length_is)) (ap (word new.system) place ∙ foot))
+      subst (λ end. Tiles (word system) (last_kind Used old_run.first) heap.top more end) now_end
+      (top_stands (word system) heap.top length_now old_run.here.1.kind (top_whole sound some) (omega (arith, sizes.0)) (omega (arith, sizes.1)) (head ∙ ap (λ n. n + 1) (sym length_is)) (ap (word system) place ∙ foot))
 
-  is_now : IsSegment (regions new.system) (word new.system) now
+  is_now : IsSegment (regions system) (word system) now
   is_now = record {
     run = subst (λ rs. IsRun rs old_run.segment.base (old_run.segment.size + grant.size) old_run.segment.flags) (sym same)
         (runs_joined (begins ∙ (λ i. was.base i + was.size i)) old_part.run
@@ -105,14 +109,14 @@ module _ {A : Type 0} {regions : A → List Grant} {word : A → ℕ → ℕ} {h
     low = old_part.low;
     high = omega (arith, was.base, was.size);
     long = omega (arith, old_part.long);
-    extents = tiles_append (word new.system) Used old_run.segment.base old_run.first more heap.top (old_run.segment.base + (old_run.segment.size + grant.size))
-        (tiles_kept (word heap.system) (word new.system) Used old_run.segment.base old_run.first heap.top old_run.first_stand
+    extents = tiles_append (word system) Used old_run.segment.base old_run.first more heap.top (old_run.segment.base + (old_run.segment.size + grant.size))
+        (tiles_kept (word heap.system) (word system) Used old_run.segment.base old_run.first heap.top old_run.first_stand
         (λ k above below m free. first_kept k (record { granted = old_part.run.covered k (omega arith) (omega (arith, last_is.1)); aligned = m }) below)) more_stand;
     tail = ap ends_segment (last_append Used old_run.first more);
   }
 
-  parts_now : AreSegments (regions new.system) (word new.system) (now ∷ old_run.back)
-  parts_now = (is_now, parts_kept new sound fresh same some outside_kept)
+  parts_now : AreSegments (regions system) (word system) (now ∷ old_run.back)
+  parts_now = (is_now, parts_kept system sound fresh same some outside_kept)
 
   longer_apart : (others : List Segment) → AreSegments (regions heap.system) (word heap.system) others → AllByRecursion (IsApartFrom old_run.segment) others → AllByRecursion (λ segment. IsApartFrom segment (opened grant)) others → AllByRecursion (IsApartFrom now) others
   longer_apart [] parts one two = tt
@@ -129,26 +133,26 @@ module _ {A : Type 0} {regions : A → List Grant} {word : A → ℕ → ℕ} {h
 
   apart_now : AreApart (now ∷ old_run.back)
   apart_now =
-      let back = back_apart new sound fresh same some in
-      (longer_apart old_run.back (back_parts new sound fresh same some) back.0 (grant_apart new sound fresh same some).1, back.1)
+      let back = back_apart system sound fresh same some in
+      (longer_apart old_run.back (back_parts system sound fresh same some) back.0 (grant_apart system sound fresh same some).1, back.1)
 
   where_top : extent_at new.top now.extents ≡ Some (extent new.top new.top_size Top)
   where_top =
       let here : (heap.top == heap.top) ≡ true = nat_same heap.top in
-      ap (λ t. extent_at t now.extents) top ∙ (found_later heap.top old_run.first more (none_outside (word heap.system) Used old_run.segment.base old_run.first heap.top heap.top (inr (omega arith)) old_run.first_stand)
-      ∙ (rw here refl ∙ (λ i. Some (extent ((sym top) i) ((length_is ∙ sym top_size) i) Top))))
+      found_later heap.top old_run.first more (none_outside (word heap.system) Used old_run.segment.base old_run.first heap.top heap.top (inr (omega arith)) old_run.first_stand)
+      ∙ (rw here refl ∙ (λ i. Some (extent heap.top (length_is i) Top)))
 
   size_some : 0 < new.size
-  size_some = subst (λ n. 0 < n) (sym size) (omega arith)
+  size_some = omega arith
 
-  told_now : AreTold (word new.system) new (now ∷ old_run.back)
+  told_now : AreTold (word system) new (now ∷ old_run.back)
   told_now = (
     size_some,
-    base ∙ was.base,
-    size ∙ ap (λ n. n + grant.size) was.size,
-    flags ∙ was.flags,
+    was.base,
+    ap (λ n. n + grant.size) was.size,
+    was.flags,
     where_top,
-    subst (λ p. AreRecords (word new.system) p old_run.back) (sym no_next) (told_kept new sound fresh same some outside_kept),
+    told_kept system sound fresh same some outside_kept,
   )
 
   extended_read : segments_of word new ≡ now ∷ old_run.back
@@ -156,7 +160,7 @@ module _ {A : Type 0} {regions : A → List Grant} {word : A → ℕ → ℕ} {h
 
   extents_were : extents_in (state_of word heap) ≡ old_run.first ++ (less ++ extents_all old_run.back)
   extents_were =
-      ap extents_all (segments_are new sound fresh same some)
+      ap extents_all (segments_are system sound fresh same some)
       ∙ (ap (λ es. es ++ extents_all old_run.back) (old_run.extents ∙ ap (λ es. old_run.first ++ extent heap.top heap.top_size Top ∷ es) (last_is.0 ∙ (λ i. extent (foot_at i) 80 Foot ∷ [])))
       ∙ append_assoc old_run.first less (extents_all old_run.back))
     where
@@ -173,9 +177,7 @@ module _ {A : Type 0} {regions : A → List Grant} {word : A → ℕ → ℕ} {h
       ∙ ap used_of (sym (all_retold regions word new (now ∷ old_run.back) parts_now apart_now told_now ∙ extents_are)))))
 
   pub extended_sound : IsSound regions word new
-  extended_sound = retold_sound regions word new (now ∷ old_run.back) parts_now apart_now told_now (subst (IsGranularity) (sym granularity) sound.granularity) size_some
-      (λ none. victim ∙ sound.no_victim (sym victim_size ∙ none))
-      (λ there. (λ i. extent_at (victim i) (extents_all (now ∷ old_run.back))) ∙ (found_now (sound.victim (λ none. there (victim_size ∙ none))) ∙ (λ i. Some (extent ((sym victim) i) ((sym victim_size) i) Free))))
+  extended_sound = retold_sound regions word new (now ∷ old_run.back) parts_now apart_now told_now sound.granularity size_some sound.no_victim (λ there. found_now (sound.victim there))
     where
       no_free : (b d : Bool) → (if b then Some (extent heap.top heap.top_size Top) else if d then Some (extent (heap.top + heap.top_size) 80 Foot) else None) ≡ Some (extent heap.victim heap.victim_size Free) → ⊥
       no_free true d found = (let no : Top ≡ Free = ap (λ o. (unwrap_or o (extent heap.victim heap.victim_size Free)).kind) found in cc)
@@ -188,9 +190,9 @@ module _ {A : Type 0} {regions : A → List Grant} {word : A → ℕ → ℕ} {h
 
   pub extended_state : (n : ℕ) → state_of word new ≡ granted grant n (state_of word heap)
   extended_state n =
-      (λ i. record { segments = segments_now i; victim = victim i; granularity = granularity i; rate = rate i; countdown = countdown i; trim_check = trim_check i })
+      (λ i. record { segments = segments_now i; victim = heap.victim; granularity = heap.granularity; rate = heap.rate; countdown = heap.countdown; trim_check = trim_threshold })
       ∙ (sym after ∙ ap (λ ss. granted grant n (record { segments = ss; victim = heap.victim; granularity = heap.granularity; rate = heap.rate; countdown = heap.countdown; trim_check = heap.trim_check }))
-      (sym (segments_are new sound fresh same some)))
+      (sym (segments_are system sound fresh same some)))
     where
       here : is_behind grant old_run.segment ≡ true
       here = (λ i. (grant.base == (sym was.base) i + (sym was.size) i) && (grant.flags % 2 == 0 && grant.flags == (sym was.flags) i)) ∙ behind
@@ -213,7 +215,7 @@ module _ {A : Type 0} {regions : A → List Grant} {word : A → ℕ → ℕ} {h
       segments_now : segments_of word new ≡ extended grant.size old_run.segment ∷ old_run.back
       segments_now = extended_read ∙ (λ i. (record { base = old_run.segment.base; size = old_run.segment.size + grant.size; flags = old_run.segment.flags; extents = (sym grown_are) i }) ∷ old_run.back)
 
-  pub extended_words : OnlyTagsChange (regions heap.system) (state_of word new) (word heap.system) (word new.system)
+  pub extended_words : OnlyTagsChange (regions heap.system) (state_of word new) (word heap.system) (word system)
   extended_words k inside boundary recorded =
       let tags = head_tags extended_sound size_some k boundary in
       kept k inside (λ is. tags.0 (omega arith)) (λ is. tags.1 (omega (arith, closes)))

@@ -1,13 +1,13 @@
 -- A grant becomes the head segment: what was the top is freed, and a record behind it tells the segment that it is in.
-use Rattle.dlmalloc.proofs.Names.{◌≡◌, ◌≢◌, ℕ, ◌+◌, ◌-◌, ◌%◌, ◌<◌, ◌≤◌, ◌⊎◌, inl, inr, Bool, true, false, not, ◌&&◌, ◌==◌, List, [], ◌∷◌, ◌++◌, Some, refl, sym, ◌∙◌, ap, subst, arith, append_assoc, dec_lt, flat_map, list_any, nat_tests, flat_map-append, Grant, IsWordOf, Extent, Used, Free, Top, Record, Foot, head_of, ends_segment, extent_at, is_used, Tiles, last_kind, Segment, extents_in, trim_threshold, opened, is_behind, is_before, is_put_before, granted, IsFresh, HasSameUsed, IsRecordAt, OnlyTagsChange, IsRun, IsSegment, AreSegments, IsApartFrom, AreApart, record_of, AreRecords, IsIn, IsFreeAt, FreeMoves, segments_of, state_of, IsGranularity, AreTold, IsSound, AreChunks, IsRunOf, Dlmalloc}
+use Rattle.dlmalloc.proofs.Names.{◌≡◌, ◌≢◌, ℕ, ◌+◌, ◌-◌, ◌%◌, ◌<◌, ◌≤◌, ◌⊎◌, inl, inr, Bool, true, false, not, ◌&&◌, ◌==◌, List, [], ◌∷◌, ◌++◌, Some, refl, sym, ◌∙◌, ap, subst, arith, append_assoc, dec_lt, flat_map, list_any, flat_map-append, Grant, IsWordOf, Extent, Used, Free, Top, Record, Foot, head_of, ends_segment, extent_at, is_used, Tiles, last_kind, Segment, extents_in, trim_threshold, opened, is_behind, is_before, is_put_before, granted, IsFresh, HasSameUsed, IsRecordAt, OnlyTagsChange, IsRun, IsSegment, AreSegments, IsApartFrom, AreApart, record_of, AreRecords, IsIn, IsFreeAt, FreeMoves, segments_of, state_of, AreTold, IsSound, AreChunks, IsRunOf, Dlmalloc, SegmentRecord}
 use Rattle.dlmalloc.specs.Granted.{closed, without_top}
 use Rattle.dlmalloc.proofs.Moves.OfFreeExtents.{free_stays}
-use Rattle.dlmalloc.proofs.Extents.Lookup.{extent, found_here, found_either, found_more, found_later}
+use Rattle.dlmalloc.proofs.Extents.Lookup.{extent, found_here, found_either, found_more, found_later, nat_same}
 use Rattle.dlmalloc.proofs.Extents.Tiling.{tiles_kept, tiles_append}
 use Rattle.dlmalloc.proofs.Moves.OfLists.{last_append}
 use Rattle.dlmalloc.proofs.Extents.OneMoreUsed.{AreDistinct, none_outside}
 use Rattle.dlmalloc.proofs.Extents.FromWords.{are_chunks}
-use Rattle.dlmalloc.proofs.Segments.HeadTold.{IsHead}
+use Rattle.dlmalloc.proofs.Segments.HeadTold.{IsHead, bare_head}
 use Rattle.dlmalloc.proofs.Segments.Among.{extents_all, all_distinct, distinct_later, apart_back}
 use Rattle.dlmalloc.proofs.Segments.HeadTop.{top_last, top_sizes, top_low, top_whole, ends}
 use Rattle.dlmalloc.proofs.Grants.Opened.{run, part, was_head, segments_are, back_apart, grant_apart, apart_grant, parts_kept, told_kept, opened_segment}
@@ -16,26 +16,42 @@ use Rattle.dlmalloc.proofs.Grants.TopLeft.{of_two, closed_chunks, left, left_fre
 
 -- ---- the heap
 
-module _ {A : Type 0} {regions : A → List Grant} {word : A → ℕ → ℕ} {heap : Dlmalloc A} (new : Dlmalloc A) (sound : IsSound regions word heap) {grant : Grant}
-    (fresh : IsFresh (regions heap.system) (segments_of word heap) grant) (same : regions new.system ≡ regions heap.system) (some : 0 < heap.size)
-    (beside : is_behind grant (record { base = heap.base; size = heap.size; flags = heap.flags; extents = [] }) ≡ false) (no_join : is_put_before grant (segments_of word heap) ≡ false)
+-- a heap with a grant as its head segment, and a record at an address
+abbrev pub new_head : {A : Type 0} → Dlmalloc A → Grant → A → ℕ → Dlmalloc A
+new_head heap grant system at = record heap {
+  system = system;
+  base = grant.base;
+  size = grant.size;
+  flags = grant.flags;
+  next = at + 16;
+  top = grant.base;
+  top_size = grant.base + grant.size - 80 - grant.base;
+  trim_check = trim_threshold;
+}
+
+-- what a record tells of the head segment
+abbrev pub record_of_head : {A : Type 0} → Dlmalloc A → SegmentRecord
+record_of_head heap = record { base = heap.base; size = heap.size; next = heap.next; flags = heap.flags }
+
+module _ {A : Type 0} {regions : A → List Grant} {word : A → ℕ → ℕ} {heap : Dlmalloc A} (system : A) (sound : IsSound regions word heap) {grant : Grant}
+    (fresh : IsFresh (regions heap.system) (segments_of word heap) grant) (same : regions system ≡ regions heap.system) (some : 0 < heap.size)
+    (beside : is_behind grant (bare_head heap) ≡ false) (no_join : is_put_before grant (segments_of word heap) ≡ false)
     {at : ℕ} {small : Bool} (small_is : (heap.top_size == 16) ≡ small) (at_is : at ≡ place small heap.top heap.top_size)
-    (base : new.base ≡ grant.base) (size : new.size ≡ grant.size) (flags : new.flags ≡ grant.flags) (next : new.next ≡ at + 16) (top : new.top ≡ grant.base)
-    (top_size : new.top_size ≡ grant.base + grant.size - 80 - grant.base)
-    (victim : new.victim ≡ heap.victim) (victim_size : new.victim_size ≡ heap.victim_size) (granularity : new.granularity ≡ heap.granularity) (rate : new.rate ≡ heap.rate)
-    (countdown : new.countdown ≡ heap.countdown) (trim_check : new.trim_check ≡ trim_threshold)
-    (head : word new.system (grant.base + 8) ≡ grant.base + grant.size - 80 - grant.base + 1) (foot : word new.system (grant.base + grant.size - 72) ≡ 80)
-    (recorded : IsRecordAt (word new.system) at (record { base = heap.base; size = heap.size; next = heap.next; flags = heap.flags }) (heap.base + heap.size) small)
-    (left_foot : small ≡ false → word new.system (heap.top + heap.top_size) ≡ heap.top_size)
-    (kept : (k : ℕ) → IsWordOf (regions heap.system) k → (k ≤ at) ⊎ (heap.base + heap.size ≤ k) → (k ≡ heap.top + heap.top_size → small ≡ true) → k ≢ grant.base + 8 → k ≢ grant.base + grant.size - 72 → word new.system k ≡ word heap.system k) where
+    (head : word system (grant.base + 8) ≡ grant.base + grant.size - 80 - grant.base + 1) (foot : word system (grant.base + grant.size - 72) ≡ 80)
+    (recorded : IsRecordAt (word system) at (record_of_head heap) (heap.base + heap.size) small)
+    (left_foot : small ≡ false → word system (heap.top + heap.top_size) ≡ heap.top_size)
+    (kept : (k : ℕ) → IsWordOf (regions heap.system) k → (k ≤ at) ⊎ (heap.base + heap.size ≤ k) → (k ≡ heap.top + heap.top_size → small ≡ true) → k ≢ grant.base + 8 → k ≢ grant.base + grant.size - 72 → word system k ≡ word heap.system k) where
+  abbrev new : Dlmalloc A
+  new = new_head heap grant system at
+
   abbrev it : IsRunOf (word heap.system) (segments_of word heap) heap.top (heap.top + heap.top_size) (extent heap.top heap.top_size Top ∷ [])
-  it = run new sound fresh same some
+  it = run system sound fresh same some
 
   old_part : IsSegment (regions heap.system) (word heap.system) it.segment
-  old_part = part new sound fresh same some
+  old_part = part system sound fresh same some
 
   was : IsHead heap it.segment
-  was = was_head new sound fresh same some
+  was = was_head system sound fresh same some
 
   last_is : (it.last ≡ extent (it.segment.base + it.segment.size - 80) 80 Foot ∷ []) × (heap.top + heap.top_size + 80 ≡ it.segment.base + it.segment.size)
   last_is = top_last sound some
@@ -64,40 +80,40 @@ module _ {A : Type 0} {regions : A → List Grant} {word : A → ℕ → ℕ} {h
   now = record { base = it.segment.base; size = it.segment.size; flags = it.segment.flags; extents = it.first ++ rest }
 
   grant_beside : IsApartFrom it.segment (opened grant)
-  grant_beside = (grant_apart new sound fresh same some).0
+  grant_beside = (grant_apart system sound fresh same some).0
 
   -- a word of the segment before the record is none of those written
-  inside_kept : (k : ℕ) → it.segment.base ≤ k → k ≤ heap.top + 8 → k ≤ at → k % 8 ≡ 0 → (k ≡ heap.top + heap.top_size → small ≡ true) → word new.system k ≡ word heap.system k
+  inside_kept : (k : ℕ) → it.segment.base ≤ k → k ≤ heap.top + 8 → k ≤ at → k % 8 ≡ 0 → (k ≡ heap.top + heap.top_size → small ≡ true) → word system k ≡ word heap.system k
   inside_kept k low below before m free = kept k (record { granted = old_part.run.covered k low (omega (arith, last_is.1, sizes.1)); aligned = m }) (inl before) free
       (λ is. elim (grant_beside) [ inl a ↦ omega (arith, last_is.1, sizes.1) | inr b ↦ omega arith ])
       (λ is. elim (grant_beside) [ inl a ↦ omega (arith, last_is.1, sizes.1) | inr b ↦ omega arith ])
 
-  rest_stand : Tiles (word new.system) (last_kind Used it.first) heap.top rest (it.segment.base + it.segment.size)
-  rest_stand = left_stands (word new.system) heap.top heap.top_size (record { base = heap.base; size = heap.size; next = heap.next; flags = heap.flags }) it.here.1.kind (top_whole sound some) sizes.0 sizes.1 last_is.1
-      small small_is (subst (λ a. IsRecordAt (word new.system) a (record { base = heap.base; size = heap.size; next = heap.next; flags = heap.flags }) (it.segment.base + it.segment.size) small) at_is
-      (subst (λ e. IsRecordAt (word new.system) at (record { base = heap.base; size = heap.size; next = heap.next; flags = heap.flags }) e small) (λ i. was.base i + was.size i) recorded))
+  rest_stand : Tiles (word system) (last_kind Used it.first) heap.top rest (it.segment.base + it.segment.size)
+  rest_stand = left_stands (word system) heap.top heap.top_size (record_of_head heap) it.here.1.kind (top_whole sound some) sizes.0 sizes.1 last_is.1
+      small small_is (subst (λ a. IsRecordAt (word system) a (record_of_head heap) (it.segment.base + it.segment.size) small) at_is
+      (subst (λ e. IsRecordAt (word system) at (record_of_head heap) e small) (λ i. was.base i + was.size i) recorded))
       (λ large. was_top large) left_foot
     where
-      was_top : small ≡ false → word new.system (heap.top + 8) ≡ heap.top_size + 1
+      was_top : small ≡ false → word system (heap.top + 8) ≡ heap.top_size + 1
       was_top large =
           let there : at ≡ heap.top + heap.top_size = at_is ∙ ap (λ b. place b heap.top heap.top_size) large in
           inside_kept (heap.top + 8) (omega (arith, low_top)) (omega arith) (omega (arith, sizes.1)) (omega (arith, top_whole sound some))
           (λ is. absurd (omega (arith, sizes.1)))
           ∙ (it.here.1.head ∙ (ap (λ k. head_of heap.top_size (is_used k) false) it.here.1.kind ∙ omega arith))
 
-  is_now : IsSegment (regions new.system) (word new.system) now
+  is_now : IsSegment (regions system) (word system) now
   is_now = record {
     run = subst (λ rs. IsRun rs it.segment.base it.segment.size it.segment.flags) (sym same) old_part.run;
     low = old_part.low;
     high = old_part.high;
     long = old_part.long;
-    extents = tiles_append (word new.system) Used it.segment.base it.first rest heap.top (it.segment.base + it.segment.size)
-        (tiles_kept (word heap.system) (word new.system) Used it.segment.base it.first heap.top it.first_stand
+    extents = tiles_append (word system) Used it.segment.base it.first rest heap.top (it.segment.base + it.segment.size)
+        (tiles_kept (word heap.system) (word system) Used it.segment.base it.first heap.top it.first_stand
         (λ k above below m free. inside_kept k (omega arith) (omega arith) (omega (arith, bounds.0)) m (λ is. absurd (omega (arith, sizes.1))))) rest_stand;
-    tail = ap ends_segment (last_append Used it.first rest) ∙ left_tail (word new.system) heap.top heap.top_size (record { base = heap.base; size = heap.size; next = heap.next; flags = heap.flags }) it.here.1.kind (top_whole sound some) sizes.0 sizes.1 last_is.1 small;
+    tail = ap ends_segment (last_append Used it.first rest) ∙ left_tail (word system) heap.top heap.top_size (record_of_head heap) it.here.1.kind (top_whole sound some) sizes.0 sizes.1 last_is.1 small;
   }
 
-  outside_kept : (k : ℕ) → IsWordOf (regions heap.system) k → IsOutside it.segment k → IsOutside (opened grant) k → word new.system k ≡ word heap.system k
+  outside_kept : (k : ℕ) → IsWordOf (regions heap.system) k → IsOutside it.segment k → IsOutside (opened grant) k → word system k ≡ word heap.system k
   outside_kept k inside first second = kept k inside
       (elim first [ inl below ↦ inl (omega (arith, low_top, bounds.0)) | inr above ↦ inr (omega (arith, was.base, was.size)) ])
       (λ is. absurd (elim first [ inl below ↦ omega (arith, low_top) | inr above ↦ omega (arith, last_is.1) ]))
@@ -107,38 +123,38 @@ module _ {A : Type 0} {regions : A → List Grant} {word : A → ℕ → ℕ} {h
   abbrev all : List Segment
   all = opened grant ∷ now ∷ it.back
 
-  parts_now : AreSegments (regions new.system) (word new.system) all
-  parts_now = (opened_segment new sound fresh same head foot, (is_now, parts_kept new sound fresh same some outside_kept))
+  parts_now : AreSegments (regions system) (word system) all
+  parts_now = (opened_segment system sound fresh same head foot, (is_now, parts_kept system sound fresh same some outside_kept))
 
   apart_now : AreApart all
   apart_now = (
-    (apart_back it.segment (opened grant) grant_beside, apart_grant new sound fresh same some),
-    ((back_apart new sound fresh same some).0, (back_apart new sound fresh same some).1),
+    (apart_back it.segment (opened grant) grant_beside, apart_grant system sound fresh same some),
+    ((back_apart system sound fresh same some).0, (back_apart system sound fresh same some).1),
   )
 
   record_there : extent_at at now.extents ≡ Some (record_of at (it.segment.base + it.segment.size))
   record_there =
       found_later at it.first rest (none_outside (word heap.system) Used it.segment.base it.first heap.top at (inr bounds.0) it.first_stand)
       ∙ subst (λ a. extent_at a rest ≡ Some (record_of a (it.segment.base + it.segment.size))) (sym at_is)
-      (left_record (word new.system) heap.top heap.top_size (record { base = heap.base; size = heap.size; next = heap.next; flags = heap.flags }) it.here.1.kind (top_whole sound some) sizes.0 sizes.1 last_is.1 small small_is)
+      (left_record (word system) heap.top heap.top_size (record_of_head heap) it.here.1.kind (top_whole sound some) sizes.0 sizes.1 last_is.1 small small_is)
 
   size_some : 0 < new.size
-  size_some = subst (λ n. 0 < n) (sym size) (omega arith)
+  size_some = omega arith
 
-  told_now : AreTold (word new.system) new all
+  told_now : AreTold (word system) new all
   told_now = (
     size_some,
-    base,
-    size,
-    flags,
-    (let here : (grant.base == new.top) ≡ true = (let t = top in grind (arith, nat_tests)) in rw here (λ i. Some (extent ((sym top) i) ((sym top_size) i) Top))),
-    subst (λ p. AreRecords (word new.system) p (now ∷ it.back)) (sym next) (
+    refl,
+    refl,
+    refl,
+    (let here = nat_same grant.base in rw here refl),
+    (
       omega (arith, bounds.0, low_top, old_part.low),
       recorded.base ∙ was.base,
       recorded.size ∙ was.size,
       recorded.flags ∙ was.flags,
       subst (λ a. extent_at a now.extents ≡ Some (record_of a (it.segment.base + it.segment.size))) back record_there,
-      subst (λ p. AreRecords (word new.system) p it.back) (sym recorded.next) (told_kept new sound fresh same some outside_kept),
+      subst (λ p. AreRecords (word system) p it.back) (sym recorded.next) (told_kept system sound fresh same some outside_kept),
     ),
   )
     where
@@ -149,7 +165,7 @@ module _ {A : Type 0} {regions : A → List Grant} {word : A → ℕ → ℕ} {h
   before = extent heap.top heap.top_size Top ∷ extent (it.segment.base + it.segment.size - 80) 80 Foot ∷ []
 
   extents_were : extents_in (state_of word heap) ≡ it.first ++ (before ++ extents_all it.back)
-  extents_were = ap extents_all (segments_are new sound fresh same some)
+  extents_were = ap extents_all (segments_are system sound fresh same some)
       ∙ (ap (λ es. es ++ extents_all it.back) (it.extents ∙ ap (λ es. it.first ++ extent heap.top heap.top_size Top ∷ es) last_is.0)
       ∙ append_assoc it.first before (extents_all it.back))
 
@@ -177,7 +193,7 @@ module _ {A : Type 0} {regions : A → List Grant} {word : A → ℕ → ℕ} {h
           | inr is ↦ (let no : Foot ≡ Used = ap (λ e. e.kind) is ∙ used in cc)
         ])
         | inr later ↦ replaced_found k it.first rest before (extents_all it.back) extents_were distinct_old
-            (λ found. absurd (left_other (word new.system) heap.top heap.top_size (record { base = heap.base; size = heap.size; next = heap.next; flags = heap.flags }) it.here.1.kind (top_whole sound some) sizes.0 sizes.1 last_is.1 small k one found used))
+            (λ found. absurd (left_other (word system) heap.top heap.top_size (record_of_head heap) it.here.1.kind (top_whole sound some) sizes.0 sizes.1 last_is.1 small k one found used))
             (ap (extent_at k) (sym (append_assoc it.first rest (extents_all it.back))) ∙ later.1)
       ]
 
@@ -224,12 +240,9 @@ module _ {A : Type 0} {regions : A → List Grant} {word : A → ℕ → ℕ} {h
       (found_here (extent heap.top heap.top_size Free) (extent (heap.top + heap.top_size) 80 Record ∷ [])))))
 
   pub added_sound : IsSound regions word new
-  added_sound = retold_sound regions word new all parts_now apart_now told_now (subst (IsGranularity) (sym granularity) sound.granularity) size_some
-      (λ none. victim ∙ sound.no_victim (sym victim_size ∙ none))
-      (λ there. (λ i. extent_at (victim i) (extents_all all)) ∙ (found_now heap.victim (λ is. cc) (λ is. cc) (sound.victim (λ none. there (victim_size ∙ none)))
-      ∙ (λ i. Some (extent ((sym victim) i) ((sym victim_size) i) Free))))
+  added_sound = retold_sound regions word new all parts_now apart_now told_now sound.granularity size_some sound.no_victim (λ there. found_now heap.victim (λ is. cc) (λ is. cc) (sound.victim there))
 
-  pub added_words : OnlyTagsChange (regions heap.system) (state_of word new) (word heap.system) (word new.system)
+  pub added_words : OnlyTagsChange (regions heap.system) (state_of word new) (word heap.system) (word system)
   added_words k inside boundary recording =
       let tags = head_tags added_sound size_some k boundary in
       kept k inside out free (λ is. tags.0 (omega arith)) (λ is. tags.1 (omega arith))
@@ -268,7 +281,7 @@ module _ {A : Type 0} {regions : A → List Grant} {word : A → ℕ → ℕ} {h
           }))
 
   -- of the grant the heads of the top and of its foot alone are written
-  pub added_new : (k : ℕ) → IsWordOf (regions heap.system) k → grant.base ≤ k → k < grant.base + grant.size → k ≢ new.top + 8 → k ≢ new.top + new.top_size + 8 → word new.system k ≡ word heap.system k
+  pub added_new : (k : ℕ) → IsWordOf (regions heap.system) k → grant.base ≤ k → k < grant.base + grant.size → k ≢ new.top + 8 → k ≢ new.top + new.top_size + 8 → word system k ≡ word heap.system k
   added_new k inside low high not_top not_foot = kept k inside
       (elim (grant_beside) [ inl a ↦ inr (omega (arith, was.base, was.size)) | inr b ↦ inl (omega (arith, low_top, bounds.0)) ])
       (λ is. absurd (elim (grant_beside) [ inl a ↦ omega (arith, last_is.1) | inr b ↦ omega (arith, low_top) ]))
@@ -276,15 +289,15 @@ module _ {A : Type 0} {regions : A → List Grant} {word : A → ℕ → ℕ} {h
 
   pub added_state : (n : ℕ) → state_of word new ≡ granted grant n (state_of word heap)
   added_state n =
-      (λ i. record { segments = segments_now i; victim = victim i; granularity = granularity i; rate = rate i; countdown = countdown i; trim_check = trim_check i })
+      (λ i. record { segments = segments_now i; victim = heap.victim; granularity = heap.granularity; rate = heap.rate; countdown = heap.countdown; trim_check = trim_threshold })
       ∙ (sym after ∙ ap (λ ss. granted grant n (record { segments = ss; victim = heap.victim; granularity = heap.granularity; rate = heap.rate; countdown = heap.countdown; trim_check = heap.trim_check }))
-      (sym (segments_are new sound fresh same some)))
+      (sym (segments_are system sound fresh same some)))
     where
       apart : is_behind grant it.segment ≡ false
       apart = (λ i. (grant.base == (sym was.base) i + (sym was.size) i) && (grant.flags % 2 == 0 && grant.flags == (sym was.flags) i)) ∙ beside
 
       none : list_any (is_before grant) (it.segment ∷ it.back) ≡ false
-      none = (λ i. not (sym apart i) && list_any (is_before grant) (it.segment ∷ it.back)) ∙ (ap (is_put_before grant) (sym (segments_are new sound fresh same some)) ∙ no_join)
+      none = (λ i. not (sym apart i) && list_any (is_before grant) (it.segment ∷ it.back)) ∙ (ap (is_put_before grant) (sym (segments_are system sound fresh same some)) ∙ no_join)
 
       after : granted grant n (record { segments = it.segment ∷ it.back; victim = heap.victim; granularity = heap.granularity; rate = heap.rate; countdown = heap.countdown; trim_check = heap.trim_check }) ≡
           record { segments = opened grant ∷ without_top it.segment ∷ it.back; victim = heap.victim; granularity = heap.granularity; rate = heap.rate; countdown = heap.countdown; trim_check = trim_threshold }

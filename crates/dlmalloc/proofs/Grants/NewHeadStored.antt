@@ -1,9 +1,10 @@
 -- The stores that make a grant the head segment leave the heap so.
-use Rattle.dlmalloc.proofs.Names.{◌≡◌, ◌≢◌, ℕ, ◌+◌, ◌-◌, ◌%◌, ◌<◌, ◌≤◌, ◌⊎◌, inl, inr, Bool, true, false, ◌==◌, nat_le, if◌then◌else◌, List, [], ◌∷◌, ◌++◌, refl, sym, ◌∙◌, ap, subst, arith, nat_lt, AllByRecursion, nat_tests, Grant, IsWordOf, Event, trim_threshold, opened, is_behind, is_put_before, IsFresh, IsAdmitted, IsRecordAt, IsApartFrom, IsFreeAt, FreeMoves, segments_of, state_of, IsSound, Dlmalloc, SegmentRecord}
+use Rattle.dlmalloc.proofs.Names.{◌≡◌, ◌≢◌, ℕ, ◌+◌, ◌-◌, ◌%◌, ◌<◌, ◌≤◌, ◌⊎◌, inl, inr, Bool, true, false, ◌==◌, nat_le, if◌then◌else◌, List, [], ◌∷◌, ◌++◌, refl, sym, ◌∙◌, ap, subst, arith, nat_lt, AllByRecursion, nat_tests, Grant, IsWordOf, Event, opened, is_behind, is_put_before, IsFresh, IsAdmitted, IsRecordAt, IsApartFrom, IsFreeAt, FreeMoves, segments_of, state_of, IsSound, Dlmalloc, SegmentRecord}
+use Rattle.dlmalloc.proofs.Segments.HeadTold.{bare_head}
 use Rattle.dlmalloc.proofs.Extents.Lookup.{nat_isnt}
 use Rattle.dlmalloc.proofs.Segments.HeadTop.{top_run, top_front, top_segment, top_sizes, top_whole, ends}
 use Rattle.dlmalloc.proofs.Grants.TopLeft.{left_free, place}
-use Rattle.dlmalloc.proofs.Grants.NewHead.{added_used, added_free, added_rest, added_sound, added_words, added_new, added_state}
+use Rattle.dlmalloc.proofs.Grants.NewHead.{new_head, record_of_head, added_used, added_free, added_rest, added_sound, added_words, added_new, added_state}
 
 -- ---- what the stores leave
 
@@ -36,26 +37,13 @@ record_bounds at top size {end} is whole units long ends = go (nat_lt size 32) i
 pub large_at : {at : ℕ} (top size : ℕ) → at ≡ (if nat_lt size 32 then top else top + size) → 32 ≤ size → top + size ≤ at
 large_at top size is large = (let test : nat_lt size 32 ≡ false = grind (arith, nat_tests) in omega (arith, is ∙ ap (λ b. if b then top else top + size) test))
 
--- a heap with a grant as its head segment, and a record at an address
-abbrev pub new_head : {A : Type 0} → Dlmalloc A → Grant → A → ℕ → Dlmalloc A
-new_head heap grant system at = record heap {
-  system = system;
-  base = grant.base;
-  size = grant.size;
-  flags = grant.flags;
-  next = at + 16;
-  top = grant.base;
-  top_size = grant.base + grant.size - 80 - grant.base;
-  trim_check = trim_threshold;
-}
-
 -- what a heap over another system tells is the same
 pub ends_same : {A : Type 0} (heap : Dlmalloc A) {middle : Dlmalloc A} → middle ≡ record heap { system = middle.system } → middle.base + middle.size ≡ heap.base + heap.size
 ends_same {A} heap is = ap (λ h. h.base + h.size) is
 
 pub told_same : {A : Type 0} {words : ℕ → ℕ} (at : ℕ) (heap : Dlmalloc A) {middle : Dlmalloc A} → middle ≡ record heap { system = middle.system } →
     IsRecordAt words at (record { base = middle.base; size = middle.size; next = middle.next; flags = middle.flags }) (middle.base + middle.size) (at == middle.top) →
-    IsRecordAt words at (record { base = heap.base; size = heap.size; next = heap.next; flags = heap.flags }) (heap.base + heap.size) (at == heap.top)
+    IsRecordAt words at (record_of_head heap) (heap.base + heap.size) (at == heap.top)
 told_same {A} {words} at heap is told = subst (λ h. IsRecordAt words at (record { base = h.base; size = h.size; next = h.next; flags = h.flags }) (h.base + h.size) (at == h.top)) is told
 
 module _ {A : Type 0} {regions : A → List Grant} {word : A → ℕ → ℕ} {heap : Dlmalloc A} (sound : IsSound regions word heap) (some : 0 < heap.size) where
@@ -85,10 +73,10 @@ record_kept new {at} whole room same h = record {
 
 module _ {A : Type 0} {regions : A → List Grant} {word : A → ℕ → ℕ} (follows : A → List Event → A → Type 0) {heap : Dlmalloc A} (sound : IsSound regions word heap) {grant : Grant}
     (fresh : IsFresh (regions heap.system) (segments_of word heap) grant) (some : 0 < heap.size)
-    (beside : is_behind grant (record { base = heap.base; size = heap.size; flags = heap.flags; extents = [] }) ≡ false) (no_join : is_put_before grant (segments_of word heap) ≡ false)
+    (beside : is_behind grant (bare_head heap) ≡ false) (no_join : is_put_before grant (segments_of word heap) ≡ false)
     (system : A) (same : regions system ≡ regions heap.system) {at : ℕ} (at_is : at ≡ (if nat_lt heap.top_size 32 then heap.top else heap.top + heap.top_size))
     (head : word system (grant.base + 8) ≡ grant.base + grant.size - 80 - grant.base + 1) (foot : word system (grant.base + grant.size - 72) ≡ 80)
-    (recorded : IsRecordAt (word system) at (record { base = heap.base; size = heap.size; next = heap.next; flags = heap.flags }) (heap.base + heap.size) (at == heap.top))
+    (recorded : IsRecordAt (word system) at (record_of_head heap) (heap.base + heap.size) (at == heap.top))
     (left_foot : 32 ≤ heap.top_size → word system (heap.top + heap.top_size) ≡ heap.top_size)
     (kept : (k : ℕ) → IsWordOf (regions heap.system) k → (k ≤ at) ⊎ (heap.base + heap.size ≤ k) → (k ≡ heap.top + heap.top_size → heap.top_size < 32) → k ≢ grant.base + 8 → k ≢ grant.base + grant.size - 72 → word system k ≡ word heap.system k) where
   sizes_are : (heap.top_size % 16 ≡ 0) × (16 ≤ heap.top_size)
@@ -103,18 +91,18 @@ module _ {A : Type 0} {regions : A → List Grant} {word : A → ℕ → ℕ} (f
   kept_all : (k : ℕ) → IsWordOf (regions heap.system) k → (k ≤ at) ⊎ (heap.base + heap.size ≤ k) → (k ≡ heap.top + heap.top_size → (at == heap.top) ≡ true) → k ≢ grant.base + 8 → k ≢ grant.base + grant.size - 72 → word system k ≡ word heap.system k
   kept_all k inside out free not_top not_foot = kept k inside out (λ is. (let sixteen : (heap.top_size == 16) ≡ true = where_is.0 ∙ free is in grind (arith, nat_tests))) not_top not_foot
 
-  pub joined_new : follows heap.system [] system → IsAdmitted regions word follows heap grant (new_head heap grant system at)
+  joined_new : follows heap.system [] system → IsAdmitted regions word follows heap grant (new_head heap grant system at)
   joined_new followed = record {
-    state = added_state (new_head heap grant system at) sound fresh same some beside no_join where_is.0 where_is.1 refl refl refl refl refl refl refl refl refl refl refl refl head foot recorded foot_stands kept_all;
-    sound = added_sound (new_head heap grant system at) sound fresh same some beside no_join where_is.0 where_is.1 refl refl refl refl refl refl refl refl refl refl refl refl head foot recorded foot_stands kept_all;
+    state = added_state system sound fresh same some beside no_join where_is.0 where_is.1 head foot recorded foot_stands kept_all;
+    sound = added_sound system sound fresh same some beside no_join where_is.0 where_is.1 head foot recorded foot_stands kept_all;
     there = omega arith;
     room = omega arith;
     begins = inl refl;
     regions_same = same;
     followed = followed;
-    used = added_used (new_head heap grant system at) sound fresh same some beside no_join where_is.0 where_is.1 refl refl refl refl refl refl refl refl refl refl refl refl head foot recorded foot_stands kept_all;
-    words = added_words (new_head heap grant system at) sound fresh same some beside no_join where_is.0 where_is.1 refl refl refl refl refl refl refl refl refl refl refl refl head foot recorded foot_stands kept_all;
-    new_words = added_new (new_head heap grant system at) sound fresh same some beside no_join where_is.0 where_is.1 refl refl refl refl refl refl refl refl refl refl refl refl head foot recorded foot_stands kept_all;
+    used = added_used system sound fresh same some beside no_join where_is.0 where_is.1 head foot recorded foot_stands kept_all;
+    words = added_words system sound fresh same some beside no_join where_is.0 where_is.1 head foot recorded foot_stands kept_all;
+    new_words = added_new system sound fresh same some beside no_join where_is.0 where_is.1 head foot recorded foot_stands kept_all;
   }
 
   small_is : (b : Bool) → (at == heap.top) ≡ b → left_free b heap.top ≡ (if nat_le 32 heap.top_size then heap.top ∷ [] else [])
@@ -122,10 +110,17 @@ module _ {A : Type 0} {regions : A → List Grant} {word : A → ℕ → ℕ} (f
   small_is false is = (let other : (heap.top_size == 16) ≡ false = where_is.0 ∙ is in let units = sizes_are.0 in let long = sizes_are.1 in let many : nat_le 32 heap.top_size ≡ true = grind (arith, nat_tests) in rw many refl)
 
   -- what was the top is free, if it has more than 16 bytes
-  pub new_free : FreeMoves (state_of word heap) (state_of word (new_head heap grant system at)) [] (if nat_le 32 heap.top_size then heap.top ∷ [] else [])
+  new_free : FreeMoves (state_of word heap) (state_of word (new_head heap grant system at)) [] (if nat_le 32 heap.top_size then heap.top ∷ [] else [])
   new_free = subst (λ come. FreeMoves (state_of word heap) (state_of word (new_head heap grant system at)) [] come) (small_is (at == heap.top) refl)
-      (added_free (new_head heap grant system at) sound fresh same some beside no_join where_is.0 where_is.1 refl refl refl refl refl refl refl refl refl refl refl refl head foot recorded foot_stands kept_all)
+      (added_free system sound fresh same some beside no_join where_is.0 where_is.1 head foot recorded foot_stands kept_all)
 
-  pub new_rest : 32 ≤ heap.top_size → IsFreeAt (state_of word (new_head heap grant system at)) heap.top heap.top_size
-  new_rest many = added_rest (new_head heap grant system at) sound fresh same some beside no_join where_is.0 where_is.1 refl refl refl refl refl refl refl refl refl refl refl refl head foot recorded foot_stands kept_all
+  new_rest : 32 ≤ heap.top_size → IsFreeAt (state_of word (new_head heap grant system at)) heap.top heap.top_size
+  new_rest many = added_rest system sound fresh same some beside no_join where_is.0 where_is.1 head foot recorded foot_stands kept_all
       (sym (where_is.0) ∙ (let other : (heap.top_size == 16) ≡ false = nat_isnt (inr (omega arith)) in other))
+
+  -- all three
+  pub new_added : follows heap.system [] system →
+      IsAdmitted regions word follows heap grant (new_head heap grant system at)
+      × FreeMoves (state_of word heap) (state_of word (new_head heap grant system at)) [] (if nat_le 32 heap.top_size then heap.top ∷ [] else [])
+      × (32 ≤ heap.top_size → IsFreeAt (state_of word (new_head heap grant system at)) heap.top heap.top_size)
+  new_added followed = (joined_new followed, new_free, new_rest)

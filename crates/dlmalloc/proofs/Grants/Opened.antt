@@ -1,27 +1,41 @@
 -- A grant as a segment of its own, and the segments that were there before it.
-use Rattle.dlmalloc.proofs.Names.{◌≡◌, ℕ, ◌+◌, ◌-◌, ◌%◌, ◌<◌, ◌≤◌, Bool, true, false, ◌==◌, if◌then◌else◌, List, [], ◌∷◌, ◌++◌, Some, None, refl, sym, ◌∙◌, ap, subst, arith, unwrap_or, AllByRecursion, flat_map, nat_tests, Grant, IsWordOf, Extent, Used, Free, Top, Foot, extent_at, Tiles, Segment, countdown_from, trim_threshold, opened, granted, IsFresh, HasSameUsed, IsRun, IsSegment, AreSegments, IsApartFrom, AreApart, AreRecords, FreeMoves, segments_of, state_of, IsGranularity, AreTold, IsSound, Dlmalloc, IsRunOf}
-use Rattle.dlmalloc.proofs.Extents.Lookup.{extent}
+use Rattle.dlmalloc.proofs.Names.{◌≡◌, ℕ, ◌+◌, ◌-◌, ◌%◌, ◌<◌, ◌≤◌, Bool, true, false, ◌==◌, if◌then◌else◌, List, [], ◌∷◌, ◌++◌, Some, None, refl, sym, ◌∙◌, ap, subst, arith, unwrap_or, AllByRecursion, flat_map, nat_tests, Grant, IsWordOf, Extent, Used, Free, Top, Foot, extent_at, Tiles, Segment, countdown_from, trim_threshold, opened, granted, IsFresh, HasSameUsed, IsRun, IsSegment, AreSegments, IsApartFrom, AreApart, AreRecords, FreeMoves, segments_of, state_of, AreTold, IsSound, Dlmalloc, IsRunOf}
+use Rattle.dlmalloc.proofs.Extents.Lookup.{extent, nat_same}
 use Rattle.dlmalloc.proofs.Segments.HeadTold.{IsHead}
 use Rattle.dlmalloc.proofs.Segments.Among.{apart_back}
 use Rattle.dlmalloc.proofs.Segments.ToldAnew.{KeepsIts, IsOutside, parts_stay, records_stay, apart_stay, retold, retold_sound}
 use Rattle.dlmalloc.proofs.Segments.HeadTop.{no_segments, top_stands, top_run, top_part, top_front, top_segment}
 
-module _ {A : Type 0} {regions : A → List Grant} {word : A → ℕ → ℕ} {heap : Dlmalloc A} (new : Dlmalloc A) (sound : IsSound regions word heap) {grant : Grant}
-    (fresh : IsFresh (regions heap.system) (segments_of word heap) grant) (same : regions new.system ≡ regions heap.system) where
+-- a heap that had no segment, with a grant as its head segment
+abbrev pub opened_heap : {A : Type 0} → Dlmalloc A → Grant → A → ℕ → Dlmalloc A
+opened_heap heap grant system countdown = record heap {
+  system = system;
+  base = grant.base;
+  size = grant.size;
+  flags = grant.flags;
+  next = 0;
+  top = grant.base;
+  top_size = grant.base + grant.size - 80 - grant.base;
+  countdown = countdown;
+  trim_check = trim_threshold;
+}
+
+module _ {A : Type 0} {regions : A → List Grant} {word : A → ℕ → ℕ} {heap : Dlmalloc A} (system : A) (sound : IsSound regions word heap) {grant : Grant}
+    (fresh : IsFresh (regions heap.system) (segments_of word heap) grant) (same : regions system ≡ regions heap.system) where
   -- a word of the grant is granted
   pub grant_word : (k : ℕ) → grant.base ≤ k → k < grant.base + grant.size → k % 8 ≡ 0 → IsWordOf (regions heap.system) k
   grant_word k low high m = record { granted = fresh.run.covered k low high; aligned = m }
 
   -- ---- the grant as the head segment
 
-  module _ (head : word new.system (grant.base + 8) ≡ grant.base + grant.size - 80 - grant.base + 1) (foot : word new.system (grant.base + grant.size - 72) ≡ 80) where
+  module _ (head : word system (grant.base + 8) ≡ grant.base + grant.size - 80 - grant.base + 1) (foot : word system (grant.base + grant.size - 72) ≡ 80) where
     abbrev bytes : ℕ
     bytes = grant.base + grant.size - 80 - grant.base
 
     fits : grant.base + bytes + 80 ≡ grant.base + grant.size
     fits = omega arith
 
-    pub opened_segment : IsSegment (regions new.system) (word new.system) (opened grant)
+    pub opened_segment : IsSegment (regions system) (word system) (opened grant)
     opened_segment = record {
       run = subst (λ rs. IsRun rs grant.base grant.size grant.flags) (sym same) fresh.run;
       low = fresh.low;
@@ -31,48 +45,47 @@ module _ {A : Type 0} {regions : A → List Grant} {word : A → ℕ → ℕ} {h
       tail = refl;
     }
       where
-        stands : Tiles (word new.system) Used grant.base (opened grant).extents (grant.base + grant.size)
+        stands : Tiles (word system) Used grant.base (opened grant).extents (grant.base + grant.size)
         stands =
             let place : grant.base + bytes + 8 ≡ grant.base + grant.size - 72 = omega (arith, fits) in
-            subst (λ end. Tiles (word new.system) Used grant.base (opened grant).extents end) fits
-            (subst (λ at. Tiles (word new.system) Used grant.base (extent grant.base bytes Top ∷ extent at 80 Foot ∷ []) (grant.base + bytes + 80)) (omega (arith, fits))
-            (top_stands (word new.system) {before = Used} grant.base bytes refl fresh.base_aligned (omega (arith, fits)) (omega (arith, fits)) head (ap (word new.system) place ∙ foot)))
+            subst (λ end. Tiles (word system) Used grant.base (opened grant).extents end) fits
+            (subst (λ at. Tiles (word system) Used grant.base (extent grant.base bytes Top ∷ extent at 80 Foot ∷ []) (grant.base + bytes + 80)) (omega (arith, fits))
+            (top_stands (word system) {before = Used} grant.base bytes refl fresh.base_aligned (omega (arith, fits)) (omega (arith, fits)) head (ap (word system) place ∙ foot)))
 
     -- ---- the first grant
 
-    module _ (none : heap.size ≡ 0) (base : new.base ≡ grant.base) (size : new.size ≡ grant.size) (flags : new.flags ≡ grant.flags) (no_next : new.next ≡ 0) (top : new.top ≡ grant.base)
-        (top_size : new.top_size ≡ grant.base + grant.size - 80 - grant.base)
-        (victim : new.victim ≡ heap.victim) (victim_size : new.victim_size ≡ heap.victim_size) (granularity : new.granularity ≡ heap.granularity) (rate : new.rate ≡ heap.rate)
-        (countdown : new.countdown ≡ countdown_from heap.rate) (trim_check : new.trim_check ≡ trim_threshold) where
-      told : AreTold (word new.system) new (opened grant ∷ [])
+    module _ (none : heap.size ≡ 0) {countdown : ℕ} (counted : countdown ≡ countdown_from heap.rate) where
+      abbrev new : Dlmalloc A
+      new = opened_heap heap grant system countdown
+
+      told : AreTold (word system) new (opened grant ∷ [])
       told = (
-        subst (λ n. 0 < n) (sym size) (omega arith),
-        base,
-        size,
-        flags,
-        (let here : (grant.base == new.top) ≡ true = (let t = top in grind (arith, nat_tests)) in rw here (λ i. Some (extent ((sym top) i) ((sym top_size) i) Top))),
-        no_next,
+        omega arith,
+        refl,
+        refl,
+        refl,
+        (let here = nat_same grant.base in rw here refl),
+        refl,
       )
 
       opened_read : segments_of word new ≡ opened grant ∷ []
       opened_read = retold regions word new (opened grant ∷ []) (opened_segment, tt) (tt, tt) told
 
-      no_victim : new.victim_size ≡ 0
+      no_victim : heap.victim_size ≡ 0
       no_victim = go (heap.victim_size == 0) refl
         where
-          go : (b : Bool) → (heap.victim_size == 0) ≡ b → new.victim_size ≡ 0
-          go true is = victim_size ∙ (let t = is in grind (arith, nat_tests))
+          go : (b : Bool) → (heap.victim_size == 0) ≡ b → heap.victim_size ≡ 0
+          go true is = (let t = is in grind (arith, nat_tests))
           go false isnt =
               let found = sound.victim (grind (arith, nat_tests)) in
               absurd (let gone : extent_at heap.victim [] ≡ Some (extent heap.victim heap.victim_size Free) = ap (λ ss. extent_at heap.victim (flat_map (λ s. s.extents) ss)) (sym (no_segments word heap none)) ∙ found in cc)
 
       pub opened_sound : IsSound regions word new
-      opened_sound = retold_sound regions word new (opened grant ∷ []) (opened_segment, tt) (tt, tt) told (subst (IsGranularity) (sym granularity) sound.granularity)
-          (subst (λ n. 0 < n) (sym size) (omega arith)) (λ gone. victim ∙ sound.no_victim (sym victim_size ∙ gone)) (λ some. absurd (some no_victim))
+      opened_sound = retold_sound regions word new (opened grant ∷ []) (opened_segment, tt) (tt, tt) told sound.granularity (omega arith) sound.no_victim (λ some. absurd (some no_victim))
 
       pub opened_state : (n : ℕ) → state_of word new ≡ granted grant n (state_of word heap)
       opened_state n =
-          (λ i. record { segments = opened_read i; victim = victim i; granularity = granularity i; rate = rate i; countdown = countdown i; trim_check = trim_check i })
+          (λ i. record { segments = opened_read i; victim = heap.victim; granularity = heap.granularity; rate = heap.rate; countdown = counted i; trim_check = trim_threshold })
           ∙ ap (λ ss. granted grant n (record { segments = ss; victim = heap.victim; granularity = heap.granularity; rate = heap.rate; countdown = heap.countdown; trim_check = heap.trim_check })) (sym (no_segments word heap none))
 
       -- no extent is in use before, nor after
@@ -138,12 +151,12 @@ module _ {A : Type 0} {regions : A → List Grant} {word : A → ℕ → ℕ} {h
         go [] all = tt
         go (other ∷ others) all = (apart_back other (opened grant) all.0, go others all.1)
 
-    module _ (kept : (k : ℕ) → IsWordOf (regions heap.system) k → IsOutside run.segment k → IsOutside (opened grant) k → word new.system k ≡ word heap.system k) where
-      back_keeps : AllByRecursion (KeepsIts (word heap.system) (word new.system)) run.back
-      back_keeps = apart_stay (regions heap.system) (word heap.system) (word new.system) run.segment (opened grant) run.back back_parts back_apart.0 grant_apart.1 kept
+    module _ (kept : (k : ℕ) → IsWordOf (regions heap.system) k → IsOutside run.segment k → IsOutside (opened grant) k → word system k ≡ word heap.system k) where
+      back_keeps : AllByRecursion (KeepsIts (word heap.system) (word system)) run.back
+      back_keeps = apart_stay (regions heap.system) (word heap.system) (word system) run.segment (opened grant) run.back back_parts back_apart.0 grant_apart.1 kept
 
-      pub parts_kept : AreSegments (regions new.system) (word new.system) run.back
-      parts_kept = subst (λ rs. AreSegments rs (word new.system) run.back) (sym same) (parts_stay (regions heap.system) (word heap.system) (word new.system) run.back back_parts back_keeps)
+      pub parts_kept : AreSegments (regions system) (word system) run.back
+      parts_kept = subst (λ rs. AreSegments rs (word system) run.back) (sym same) (parts_stay (regions heap.system) (word heap.system) (word system) run.back back_parts back_keeps)
 
-      pub told_kept : AreRecords (word new.system) heap.next run.back
-      told_kept = records_stay (regions heap.system) (word heap.system) (word new.system) run.back back_parts back_keeps heap.next back_told
+      pub told_kept : AreRecords (word system) heap.next run.back
+      told_kept = records_stay (regions heap.system) (word heap.system) (word system) run.back back_parts back_keeps heap.next back_told

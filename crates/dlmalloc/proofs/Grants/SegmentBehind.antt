@@ -1,5 +1,6 @@
 -- The segment that a grant is put before is found, and the two ways in which it is told.
 use Rattle.dlmalloc.proofs.Names.{◌≡◌, ◌≢◌, ℕ, ◌+◌, ◌-◌, ◌%◌, ◌^◌, ◌<◌, ◌≤◌, inl, inr, Bool, true, false, ◌&&◌, ◌==◌, List, [], ◌∷◌, ◌++◌, refl, sym, ◌∙◌, ap, subst, arith, append_assoc, ⊤, AllByRecursion, list_any, list_any-append, Grant, IsWordOf, Used, Segment, is_behind, is_before, is_put_before, IsSegment, AreSegments, record_of, AreRecords, payload_behind, IsHeadBehind, IsToldBehind, segments_of, AreTold, IsSound, Dlmalloc}
+use Rattle.dlmalloc.proofs.Segments.HeadTold.{bare_head}
 use Rattle.dlmalloc.specs.Prepended.{IsBehindAt}
 use Rattle.dlmalloc.specs.declared.prepend.Behind.{Behind}
 use Rattle.dlmalloc.specs.declared.prepend.Behind.TheVariants.{Head, Told}
@@ -35,8 +36,8 @@ module _ {A : Type 0} {regions : A → List Grant} {word : A → ℕ → ℕ} {h
     pub segment : Segment
     pub back : List Segment
     pub is : segments_of word heap ≡ segment ∷ back
-    pub same : is_before grant segment ≡ is_before grant (record { base = heap.base; size = heap.size; flags = heap.flags; extents = [] })
-    pub longer : is_behind grant segment ≡ is_behind grant (record { base = heap.base; size = heap.size; flags = heap.flags; extents = [] })
+    pub same : is_before grant segment ≡ is_before grant (bare_head heap)
+    pub longer : is_behind grant segment ≡ is_behind grant (bare_head heap)
     pub told : AreRecords (word heap.system) heap.next back
 
   head_told : HeadTold
@@ -54,22 +55,22 @@ module _ {A : Type 0} {regions : A → List Grant} {word : A → ℕ → ℕ} {h
       }
 
   -- a grant that makes the head segment longer is put before none
-  longer_same : is_behind grant head_told.segment ≡ is_behind grant (record { base = heap.base; size = heap.size; flags = heap.flags; extents = [] })
+  longer_same : is_behind grant head_told.segment ≡ is_behind grant (bare_head heap)
   longer_same = head_told.longer
 
-  pub put_none : is_behind grant (record { base = heap.base; size = heap.size; flags = heap.flags; extents = [] }) ≡ true → is_put_before grant (segments_of word heap) ≡ false
+  pub put_none : is_behind grant (bare_head heap) ≡ true → is_put_before grant (segments_of word heap) ≡ false
   put_none test = ap (is_put_before grant) head_told.is ∙ (let longer = longer_same ∙ test in rw longer refl)
 
   -- any other is, where it is before one
-  pub put_where : is_behind grant (record { base = heap.base; size = heap.size; flags = heap.flags; extents = [] }) ≡ false → is_put_before grant (segments_of word heap) ≡ list_any (is_before grant) (segments_of word heap)
+  pub put_where : is_behind grant (bare_head heap) ≡ false → is_put_before grant (segments_of word heap) ≡ list_any (is_before grant) (segments_of word heap)
   put_where test = ap (is_put_before grant) head_told.is ∙ ((let longer = longer_same ∙ test in rw longer refl) ∙ ap (list_any (is_before grant)) (sym head_told.is))
 
   -- the grant is before it
-  pub head_behind : is_before grant (record { base = heap.base; size = heap.size; flags = heap.flags; extents = [] }) ≡ true → IsHeadBehind word heap grant
+  pub head_behind : is_before grant (bare_head heap) ≡ true → IsHeadBehind word heap grant
   head_behind test = record { segment = head_told.segment; back = head_told.back; is = head_told.is; joins = head_told.same ∙ test }
 
   -- or not, and it is passed
-  pub begun_behind : is_before grant (record { base = heap.base; size = heap.size; flags = heap.flags; extents = [] }) ≡ false → PassedBehind word heap grant heap.next
+  pub begun_behind : is_before grant (bare_head heap) ≡ false → PassedBehind word heap grant heap.next
   begun_behind test = record {
     head = head_told.segment;
     passed = [];

@@ -1,5 +1,6 @@
 -- What a trim cuts off the top of a sound heap.
 use Rattle.dlmalloc.proofs.Names.{◌≡◌, ℕ, ◌+◌, ◌-◌, ◌*◌, ◌/◌, ◌%◌, ◌<◌, ◌≤◌, Bool, true, false, ◌&&◌, ◌==◌, if◌then◌else◌, List, [], ◌∷◌, refl, sym, ◌∙◌, ap, subst, arith, nat_lt, nat_tests, Grant, Event, Released, without, cut_of, cut_top, is_cut, without_end, IsShortened, IsCutBack, IndexStays, IsBinned, segments_of, state_of, IsSound, Dlmalloc}
+use Rattle.dlmalloc.proofs.Segments.HeadTold.{bare_head}
 use Rattle.std.proofs.Math.Nat.{div-mul-le_self}
 use Rattle.heap_memory.specs.Runs.{is_in_units}
 use Rattle.dlmalloc.specs.Trimmed.{may_go, end_released}
@@ -23,14 +24,14 @@ module _ {A : Type 0} {regions : A → List Grant} {word : A → ℕ → ℕ} {h
 
   -- whether they go, by the head segment's fields
   pub cut_test : (parts : Bool) (unit pad : ℕ) → is_cut parts unit pad (state_of word heap) ≡
-      (may_go parts (cut_of (state_of word heap) pad) (record { base = heap.base; size = heap.size; flags = heap.flags; extents = [] }) && is_in_units unit (heap.size - cut_of (state_of word heap) pad))
+      (may_go parts (cut_of (state_of word heap) pad) (bare_head heap) && is_in_units unit (heap.size - cut_of (state_of word heap) pad))
   cut_test parts unit pad = let there : (heap.size == 0) ≡ false = grind (arith, nat_tests) in rw there refl
 
-  pub cut_answer : (parts : Bool) (unit pad : ℕ) {cut : ℕ} → cut ≡ cut_of (state_of word heap) pad → {may : Bool} → may_go parts cut (record { base = heap.base; size = heap.size; flags = heap.flags; extents = [] }) ≡ may →
+  pub cut_answer : (parts : Bool) (unit pad : ℕ) {cut : ℕ} → cut ≡ cut_of (state_of word heap) pad → {may : Bool} → may_go parts cut (bare_head heap) ≡ may →
       (may && is_in_units unit (heap.size - cut)) ≡ is_cut parts unit pad (state_of word heap)
   cut_answer parts unit pad {cut} is test =
       (λ i. (sym test) i && is_in_units unit (heap.size - cut))
-      ∙ ((λ i. may_go parts (is i) (record { base = heap.base; size = heap.size; flags = heap.flags; extents = [] }) && is_in_units unit (heap.size - is i)) ∙ sym (cut_test parts unit pad))
+      ∙ ((λ i. may_go parts (is i) (bare_head heap) && is_in_units unit (heap.size - is i)) ∙ sym (cut_test parts unit pad))
 
   module _ (pad : ℕ) {cut : ℕ} (is : cut ≡ (heap.top_size - (pad + 81)) / heap.granularity * heap.granularity) where
     pub cut_whole : cut % 16 ≡ 0

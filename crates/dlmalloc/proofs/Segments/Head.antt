@@ -1,5 +1,6 @@
 -- Where the head segment is, and what is beside its top.
 use Rattle.dlmalloc.proofs.Names.{◌≡◌, ℕ, ◌+◌, ◌-◌, ◌<◌, ◌≤◌, ◌⊎◌, inl, inr, Bool, true, false, ◌==◌, if◌then◌else◌, List, [], ◌∷◌, map, IsTrue, Some, refl, sym, ◌∙◌, ap, arith, nat_le, nat_tests, Grant, is_granted, Extent, Used, Top, Foot, extent_at, HeapState, Segment, extents_in, in_segments, is_behind, granted, is_counted, staying, passed, counted, spans, segments_of, state_of, AreTold, IsSound, Dlmalloc}
+use Rattle.dlmalloc.proofs.Segments.HeadTold.{bare_head}
 use Rattle.dlmalloc.specs.Granted.{is_behind_head}
 use Rattle.dlmalloc.proofs.Extents.Lookup.{extent, the_extent}
 use Rattle.dlmalloc.proofs.Segments.Among.{located}
@@ -65,7 +66,7 @@ first_granted grant n heap test = go heap.segments test
 -- ---- the head segment of a heap
 
 -- the test of a grant goes by the fields
-pub behind_first : {A : Type 0} (word : A → ℕ → ℕ) (heap : Dlmalloc A) (grant : Grant) → 0 < heap.size → is_behind grant (record { base = heap.base; size = heap.size; flags = heap.flags; extents = [] }) ≡ true → is_behind_head grant (segments_of word heap) ≡ true
+pub behind_first : {A : Type 0} (word : A → ℕ → ℕ) (heap : Dlmalloc A) (grant : Grant) → 0 < heap.size → is_behind grant (bare_head heap) ≡ true → is_behind_head grant (segments_of word heap) ≡ true
 behind_first word heap grant some test = let there : (heap.size == 0) ≡ false = grind (arith, nat_tests) in rw there test
 
 module _ {A : Type 0} {regions : A → List Grant} {word : A → ℕ → ℕ} {heap : Dlmalloc A} (sound : IsSound regions word heap) where

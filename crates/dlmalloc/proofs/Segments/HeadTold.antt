@@ -19,6 +19,10 @@ pub record HasSameHead {A : Type 0} (heap new : Dlmalloc A) : Type 0 where
   pub top : new.top ≡ heap.top
   pub top_size : new.top_size ≡ heap.top_size
 
+-- the head segment, with none of its extents
+abbrev pub bare_head : {A : Type 0} → Dlmalloc A → Segment
+bare_head heap = record { base = heap.base; size = heap.size; flags = heap.flags; extents = [] }
+
 module _ {A : Type 0} {regions regions' : List Grant} {old words : ℕ → ℕ} (heap new : Dlmalloc A) {segment segment' : Segment} (changed : IsChanged regions regions' old words segment segment') (next : new.next ≡ heap.next) where
   -- the head segment changed
   pub told_head : (front back : List Segment) → front ≡ [] → AreApart (front ++ segment ∷ back) → AreSegments regions old (front ++ segment ∷ back) → AreTold old heap (front ++ segment ∷ back) → IsHead new segment' → AreTold words new (front ++ segment' ∷ back)

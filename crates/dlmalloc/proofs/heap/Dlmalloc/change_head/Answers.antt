@@ -1,6 +1,7 @@
 use Rattle.dlmalloc.proofs.Names.{◌≡◌, ℕ, ◌+◌, ◌-◌, ◌%◌, ◌<◌, ◌≤◌, ◌∙◌, inl, inr, ◌==◌, nat_le, if◌then◌else◌, [], ◌∷◌, refl, sym, ap, subst, arith, IsWordOf, state_of, IsFreeAt, IsSameBins, FreeMoves, IsAdmitted, IsRecordAt}
 use Rattle.dlmalloc.proofs.Segments.HeadTop.{top_low, top_whole, top_sizes, ends, end_whole, head_low, head_small, head_word}
-use Rattle.dlmalloc.proofs.Grants.NewHeadStored.{new_free, new_rest, bounds_of, ends_same, told_same, beside_head, large_at, record_kept, new_head, joined_new}
+use Rattle.dlmalloc.proofs.Grants.NewHead.{new_head, record_of_head}
+use Rattle.dlmalloc.proofs.Grants.NewHeadStored.{bounds_of, ends_same, told_same, beside_head, large_at, record_kept, new_added}
 use Rattle.dlmalloc.proofs.heap.Dlmalloc.change_head.Goals as goal
 
 pub leave_top-record-requires : goal.leave_top-record-requires
@@ -105,7 +106,7 @@ returns g c =
     let e = ends c.requires.sound there in
     let end_same = ends_same heap left.fields in
     let apart = beside_head c.requires.sound there grant fresh in
-    let told : IsRecordAt (word system) at (record { base = heap.base; size = heap.size; next = heap.next; flags = heap.flags }) (heap.base + heap.size) (at == heap.top) =
+    let told : IsRecordAt (word system) at (record_of_head heap) (heap.base + heap.size) (at == heap.top) =
     told_same at heap left.fields put.told in
     let into : (k : ℕ) → IsWordOf (regions heap.system) k → IsWordOf (regions middle.system) k = λ k inside. subst (λ rs. IsWordOf rs k) (sym left.regions) inside in
     let onto : (k : ℕ) → IsWordOf (regions heap.system) k → IsWordOf (regions system) k = λ k inside. subst (λ rs. IsWordOf rs k) (sym (put.regions ∙ left.regions)) inside in
@@ -113,7 +114,7 @@ returns g c =
     made.elsewhere k (onto k (head_word c.requires.sound there k from to m))
     (λ is. elim apart [ inl before ↦ omega arith | inr behind ↦ omega arith ])
     (λ is. elim apart [ inl before ↦ omega arith | inr behind ↦ omega arith ]) in
-    let joined = joined_new g.A.Links.follows c.requires.sound fresh there c.requires.beside c.requires.apart new.system (made.regions ∙ (put.regions ∙ left.regions)) left.place made.head made.foot_head
+    let added = new_added g.A.Links.follows c.requires.sound fresh there c.requires.beside c.requires.apart new.system (made.regions ∙ (put.regions ∙ left.regions)) left.place made.head made.foot_head
     (record_kept (word new.system) (omega arith) b.1
     (λ k from to m. of_head k (omega arith) to m) told)
     (λ large. of_head (heap.top + heap.top_size) (omega arith) (omega arith) (omega (arith, top_whole c.requires.sound there))
@@ -121,24 +122,10 @@ returns g c =
     (inl (large_at heap.top heap.top_size left.place large)) ∙ left.foot large))
     (λ k inside out free not_top not_foot. made.elsewhere k (onto k inside) not_top not_foot ∙ (put.elsewhere k (into k inside) (elim out [ inl before ↦ inl before | inr behind ↦ inr (omega arith) ]) ∙ left.elsewhere k inside free))
     (g.A.Links.follows_on heap.system system new.system [] [] [] (g.A.Links.follows_on heap.system middle.system system [] [] [] left.follows put.follows refl) made.follows refl) in
-    let free = new_free g.A.Links.follows c.requires.sound fresh there c.requires.beside c.requires.apart new.system (made.regions ∙ (put.regions ∙ left.regions)) left.place made.head made.foot_head
-    (record_kept (word new.system) (omega arith) b.1
-    (λ k from to m. of_head k (omega arith) to m) told)
-    (λ large. of_head (heap.top + heap.top_size) (omega arith) (omega arith) (omega (arith, top_whole c.requires.sound there))
-    ∙ (put.elsewhere (heap.top + heap.top_size) (into (heap.top + heap.top_size) (head_word c.requires.sound there (heap.top + heap.top_size) (omega arith) (omega arith) (omega (arith, top_whole c.requires.sound there))))
-    (inl (large_at heap.top heap.top_size left.place large)) ∙ left.foot large))
-    (λ k inside out free not_top not_foot. made.elsewhere k (onto k inside) not_top not_foot ∙ (put.elsewhere k (into k inside) (elim out [ inl before ↦ inl before | inr behind ↦ inr (omega arith) ]) ∙ left.elsewhere k inside free)) in
-    let rest = new_rest g.A.Links.follows c.requires.sound fresh there c.requires.beside c.requires.apart new.system (made.regions ∙ (put.regions ∙ left.regions)) left.place made.head made.foot_head
-    (record_kept (word new.system) (omega arith) b.1
-    (λ k from to m. of_head k (omega arith) to m) told)
-    (λ large. of_head (heap.top + heap.top_size) (omega arith) (omega arith) (omega (arith, top_whole c.requires.sound there))
-    ∙ (put.elsewhere (heap.top + heap.top_size) (into (heap.top + heap.top_size) (head_word c.requires.sound there (heap.top + heap.top_size) (omega arith) (omega arith) (omega (arith, top_whole c.requires.sound there))))
-    (inl (large_at heap.top heap.top_size left.place large)) ∙ left.foot large))
-    (λ k inside out free not_top not_foot. made.elsewhere k (onto k inside) not_top not_foot ∙ (put.elsewhere k (into k inside) (elim out [ inl before ↦ inl before | inr behind ↦ inr (omega arith) ]) ∙ left.elsewhere k inside free)) in
     let is = made.fields ∙ ap (λ h. new_head h grant new.system at) left.fields in
     record {
-      joined = subst (λ h. IsAdmitted regions word g.A.Links.follows heap grant h) (sym is) joined;
-      free = subst (λ h. FreeMoves (state_of word heap) (state_of word h) [] (if nat_le 32 heap.top_size then heap.top ∷ [] else [])) (sym is) free;
-      rest = λ many. subst (λ h. IsFreeAt (state_of word h) heap.top heap.top_size) (sym is) (rest many);
+      joined = subst (λ h. IsAdmitted regions word g.A.Links.follows heap grant h) (sym is) added.0;
+      free = subst (λ h. FreeMoves (state_of word heap) (state_of word h) [] (if nat_le 32 heap.top_size then heap.top ∷ [] else [])) (sym is) added.1;
+      rest = λ many. subst (λ h. IsFreeAt (state_of word h) heap.top heap.top_size) (sym is) (added.2 many);
       same = subst (λ h. IsSameBins heap h) (sym is) (record { bins = refl; victim = refl });
     }

@@ -1,5 +1,6 @@
-use Rattle.dlmalloc.proofs.Names.{◌≡◌, ◌+◌, ◌-◌, ◌<◌, inr, [], refl, sym, subst, arith, whole_each, trim_threshold, IsAdmitted, state_of, FreeMoves, IsSameBins, Dlmalloc}
-use Rattle.dlmalloc.proofs.Grants.BehindHead.{behind_means, extended_sound, extended_state, extended_used, extended_words, extended_free}
+use Rattle.dlmalloc.proofs.Names.{◌≡◌, ◌+◌, ◌-◌, ◌<◌, inr, [], refl, sym, subst, arith, whole_each, IsAdmitted, state_of, FreeMoves, IsSameBins}
+use Rattle.dlmalloc.proofs.Segments.HeadTold.{bare_head}
+use Rattle.dlmalloc.proofs.Grants.BehindHead.{behind_means, extended_heap, extended_sound, extended_state, extended_used, extended_words, extended_free}
 use Rattle.dlmalloc.proofs.Segments.HeadTop.{top_low, ends, top_word, end_whole}
 use Rattle.dlmalloc.proofs.heap.Dlmalloc.extend.Goals as goal
 
@@ -33,7 +34,7 @@ close_top-requires-clause-foot g c =
     let heap = c.args.self.now in
     let grant = c.args.grant.now in
     let f = c.requires.fresh in
-    let m = behind_means grant (record { base = heap.base; size = heap.size; flags = heap.flags; extents = [] }) c.requires.behind in
+    let m = behind_means grant (bare_head heap) c.requires.behind in
     let whole = end_whole c.requires.sound c.requires.there in
     record {
       granted = f.run.covered (heap.base + (heap.size + grant.size) - 72) (omega arith) (omega arith);
@@ -50,26 +51,25 @@ returns g c =
     let there = c.requires.there in
     let closed = c.close_top.ensures in
     let new = c.close_top.new.self in
-    let m = behind_means grant (record { base = heap.base; size = heap.size; flags = heap.flags; extents = [] }) c.requires.behind in
+    let m = behind_means grant (bare_head heap) c.requires.behind in
     let whole = whole_each (regions heap.system) (g.A.Links.whole heap.system) in
     let long = fresh.long in
     let e = ends c.requires.sound there in
     let some : 0 < heap.size + grant.size = omega arith in
-    let after : Dlmalloc _ = record heap { system = new.system; size = heap.size + grant.size; top_size = heap.base + (heap.size + grant.size) - 80 - heap.top; trim_check = trim_threshold } in
-    let is : new ≡ after = closed.fields in
+    let is : new ≡ extended_heap heap grant new.system = closed.fields in
     record {
       joined = subst (λ h. IsAdmitted regions word g.A.Links.follows heap grant h) (sym is) (record {
-        state = extended_state after c.requires.sound fresh closed.regions there m.0 m.1 c.requires.behind whole refl refl refl refl refl refl refl refl refl refl refl refl closed.head closed.foot_head closed.elsewhere;
-        sound = extended_sound after c.requires.sound fresh closed.regions there m.0 m.1 c.requires.behind whole refl refl refl refl refl refl refl refl refl refl refl refl closed.head closed.foot_head closed.elsewhere;
+        state = extended_state new.system c.requires.sound fresh closed.regions there m.0 m.1 c.requires.behind whole closed.head closed.foot_head closed.elsewhere;
+        sound = extended_sound new.system c.requires.sound fresh closed.regions there m.0 m.1 c.requires.behind whole closed.head closed.foot_head closed.elsewhere;
         there = some;
         room = omega arith;
         begins = inr (there, c.requires.behind, refl);
         regions_same = closed.regions;
         followed = closed.follows;
-        used = extended_used after c.requires.sound fresh closed.regions there m.0 m.1 c.requires.behind whole refl refl refl refl refl refl refl refl refl refl refl refl closed.head closed.foot_head closed.elsewhere;
-        words = extended_words after c.requires.sound fresh closed.regions there m.0 m.1 c.requires.behind whole refl refl refl refl refl refl refl refl refl refl refl refl closed.head closed.foot_head closed.elsewhere;
+        used = extended_used new.system c.requires.sound fresh closed.regions there m.0 m.1 c.requires.behind whole closed.head closed.foot_head closed.elsewhere;
+        words = extended_words new.system c.requires.sound fresh closed.regions there m.0 m.1 c.requires.behind whole closed.head closed.foot_head closed.elsewhere;
         new_words = λ k inside low high a b. closed.elsewhere k inside a (λ at_foot. b (omega arith));
       });
-      free = subst (λ h. FreeMoves (state_of word heap) (state_of word h) [] []) (sym is) (extended_free after c.requires.sound fresh closed.regions there m.0 m.1 c.requires.behind whole refl refl refl refl refl refl refl refl refl refl refl refl closed.head closed.foot_head closed.elsewhere);
+      free = subst (λ h. FreeMoves (state_of word heap) (state_of word h) [] []) (sym is) (extended_free new.system c.requires.sound fresh closed.regions there m.0 m.1 c.requires.behind whole closed.head closed.foot_head closed.elsewhere);
       same = subst (λ h. IsSameBins heap h) (sym is) (record { bins = refl; victim = refl });
     }
