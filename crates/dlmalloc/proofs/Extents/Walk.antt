@@ -88,9 +88,6 @@ module _ {words : ℕ → ℕ} {from to at : ℕ} {known : List Extent → Type 
     pub begins_at : chunk.at ≡ at
     begins_at = ap (λ e. e.at) (sym is_chunk) ∙ ahead.place
 
-    pub used_or_free : IsChunkKind chunk.kind
-    used_or_free = subst (λ e. IsChunkKind e.kind) is_chunk ahead.kind
-
     later_le : at + ahead.chunk.size ≤ to
     later_le = tiles_le words ahead.chunk.kind (at + ahead.chunk.size) ahead.rest to ahead.later
 
@@ -163,20 +160,3 @@ pub mapped_more : (each : Extent → Extent) {old new : List Extent} (start fron
     new ≡ start ++ map each (front ++ extent ∷ [])
 mapped_more each start front extent was is added =
     added ∙ (λ i. was i ++ is i ∷ []) ∙ append_assoc start (map each front) (each extent ∷ []) ∙ ap (λ es. start ++ es) (sym (map-append each front (extent ∷ [])))
-
--- and when some chunks and one extent that is shown as it is are
-pub mapped_run : (each : Extent → Extent) (front chunks : List Extent) (last : Extent) (old middle new : List Extent) → each last ≡ last → old ≡ map each front → middle ≡ old ++ map each chunks → new ≡ middle ++ last ∷ [] →
-    new ≡ map each (front ++ (chunks ++ last ∷ []))
-mapped_run each front chunks last old middle new same was run added =
-    added ∙ (ap (λ es. es ++ last ∷ []) (run ∙ ap (λ es. es ++ map each chunks) was)
-    ∙ (append_assoc (map each front) (map each chunks) (last ∷ [])
-    ∙ (ap (λ es. map each front ++ es) (ap (λ e. map each chunks ++ e ∷ []) (sym same) ∙ sym (map-append each chunks (last ∷ [])))
-    ∙ sym (map-append each front (chunks ++ last ∷ [])))))
-
--- and when some chunks and two such extents are
-pub mapped_two : (each : Extent → Extent) (all chunks : List Extent) (first second : Extent) (none run one new : List Extent) → all ≡ chunks ++ first ∷ second ∷ [] → each first ≡ first → each second ≡ second → none ≡ [] → run ≡ none ++ map each chunks → one ≡ run ++ first ∷ [] → new ≡ one ++ second ∷ [] →
-    new ≡ map each all
-mapped_two each all chunks first second none run one new is same same' empty ran added added' =
-    added' ∙ (ap (λ es. es ++ second ∷ []) (added ∙ ap (λ es. es ++ first ∷ []) (ran ∙ ap (λ es. es ++ map each chunks) empty))
-    ∙ (append_assoc (map each chunks) (first ∷ []) (second ∷ [])
-    ∙ ((λ i. map each chunks ++ (sym same) i ∷ (sym same') i ∷ []) ∙ (sym (map-append each chunks (first ∷ second ∷ [])) ∙ ap (map each) (sym is)))))

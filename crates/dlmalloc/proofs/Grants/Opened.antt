@@ -1,5 +1,5 @@
 -- A grant as a segment of its own, and the segments that were there before it.
-use Rattle.dlmalloc.proofs.Names.{◌≡◌, ℕ, ◌+◌, ◌-◌, ◌%◌, ◌<◌, ◌≤◌, Bool, true, false, ◌==◌, if◌then◌else◌, List, [], ◌∷◌, ◌++◌, Some, None, refl, sym, ◌∙◌, ap, subst, arith, unwrap_or, AllByRecursion, flat_map, nat_tests, Grant, IsWordOf, Extent, Used, Free, Top, Foot, extent_at, Tiles, Segment, countdown_from, trim_threshold, opened, granted, IsFresh, HasSameUsed, IsRun, IsSegment, AreSegments, IsApartFrom, AreApart, AreRecords, FreeMoves, segments_of, state_of, AreTold, IsSound, Dlmalloc, IsRunOf}
+use Rattle.dlmalloc.proofs.Names.{◌≡◌, ℕ, ◌+◌, ◌-◌, ◌<◌, Bool, true, false, ◌==◌, if◌then◌else◌, List, [], ◌∷◌, ◌++◌, Some, None, refl, sym, ◌∙◌, ap, subst, arith, unwrap_or, AllByRecursion, flat_map, nat_tests, Grant, IsWordOf, Extent, Used, Free, Top, Foot, extent_at, Tiles, Segment, countdown_from, trim_threshold, opened, granted, IsFresh, HasSameUsed, IsRun, IsSegment, AreSegments, IsApartFrom, AreApart, AreRecords, FreeMoves, segments_of, state_of, AreTold, IsSound, Dlmalloc, IsRunOf}
 use Rattle.dlmalloc.proofs.Extents.Lookup.{extent, nat_same}
 use Rattle.dlmalloc.proofs.Segments.HeadTold.{IsHead}
 use Rattle.dlmalloc.proofs.Segments.Among.{apart_back}
@@ -22,10 +22,6 @@ opened_heap heap grant system countdown = record heap {
 
 module _ {A : Type 0} {regions : A → List Grant} {word : A → ℕ → ℕ} {heap : Dlmalloc A} (system : A) (sound : IsSound regions word heap) {grant : Grant}
     (fresh : IsFresh (regions heap.system) (segments_of word heap) grant) (same : regions system ≡ regions heap.system) where
-  -- a word of the grant is granted
-  pub grant_word : (k : ℕ) → grant.base ≤ k → k < grant.base + grant.size → k % 8 ≡ 0 → IsWordOf (regions heap.system) k
-  grant_word k low high m = record { granted = fresh.run.covered k low high; aligned = m }
-
   -- ---- the grant as the head segment
 
   module _ (head : word system (grant.base + 8) ≡ grant.base + grant.size - 80 - grant.base + 1) (foot : word system (grant.base + grant.size - 72) ≡ 80) where

@@ -1,11 +1,7 @@
 -- The segment that a grant is put before is found, and the two ways in which it is told.
-use Rattle.dlmalloc.proofs.Names.{◌≡◌, ◌≢◌, ℕ, ◌+◌, ◌-◌, ◌%◌, ◌^◌, ◌<◌, ◌≤◌, inl, inr, Bool, true, false, ◌&&◌, ◌==◌, List, [], ◌∷◌, ◌++◌, refl, sym, ◌∙◌, ap, subst, arith, append_assoc, ⊤, AllByRecursion, list_any, list_any-append, Grant, IsWordOf, Used, Segment, is_behind, is_before, is_put_before, IsSegment, AreSegments, record_of, AreRecords, payload_behind, IsHeadBehind, IsToldBehind, segments_of, AreTold, IsSound, Dlmalloc}
+use Rattle.dlmalloc.proofs.Names.{◌≡◌, ◌≢◌, ℕ, ◌+◌, ◌-◌, ◌%◌, ◌^◌, ◌<◌, ◌≤◌, inl, inr, Bool, true, false, ◌&&◌, ◌==◌, List, [], ◌∷◌, ◌++◌, refl, sym, ◌∙◌, ap, subst, arith, append_assoc, ⊤, AllByRecursion, list_any, list_any-append, Grant, IsWordOf, Used, Segment, is_behind, is_before, is_put_before, IsSegment, AreSegments, record_of, AreRecords, payload_behind, IsToldBehind, segments_of, AreTold, IsSound, Dlmalloc}
 use Rattle.dlmalloc.proofs.Segments.HeadTold.{bare_head}
-use Rattle.dlmalloc.specs.Prepended.{IsBehindAt}
-use Rattle.dlmalloc.specs.declared.prepend.Behind.{Behind}
-use Rattle.dlmalloc.specs.declared.prepend.Behind.TheVariants.{Head, Told}
-use Rattle.dlmalloc.proofs.Segments.Among.{any_among, IsIn, in_part}
-use Rattle.dlmalloc.proofs.Segments.HeadTop.{no_segments}
+use Rattle.dlmalloc.proofs.Segments.Among.{IsIn, in_part}
 use Rattle.dlmalloc.proofs.Segments.ToldAnew.{KeepsIts}
 use Rattle.dlmalloc.proofs.Segments.Walk.{PassedSegments, ahead_segment}
 
@@ -60,14 +56,6 @@ module _ {A : Type 0} {regions : A → List Grant} {word : A → ℕ → ℕ} {h
 
   pub put_none : is_behind grant (bare_head heap) ≡ true → is_put_before grant (segments_of word heap) ≡ false
   put_none test = ap (is_put_before grant) head_told.is ∙ (let longer = longer_same ∙ test in rw longer refl)
-
-  -- any other is, where it is before one
-  pub put_where : is_behind grant (bare_head heap) ≡ false → is_put_before grant (segments_of word heap) ≡ list_any (is_before grant) (segments_of word heap)
-  put_where test = ap (is_put_before grant) head_told.is ∙ ((let longer = longer_same ∙ test in rw longer refl) ∙ ap (list_any (is_before grant)) (sym head_told.is))
-
-  -- the grant is before it
-  pub head_behind : is_before grant (bare_head heap) ≡ true → IsHeadBehind word heap grant
-  head_behind test = record { segment = head_told.segment; back = head_told.back; is = head_told.is; joins = head_told.same ∙ test }
 
   -- or not, and it is passed
   pub begun_behind : is_before grant (bare_head heap) ≡ false → PassedBehind word heap grant heap.next
@@ -176,12 +164,3 @@ module _ (regions : List Grant) (old new : ℕ → ℕ) (rest now : List Segment
 
       at : (k : ℕ) → start ≤ k → k < start + 32 → k % 8 ≡ 0 → new k ≡ old k
       at k low high m = same.0 k (omega (arith, r.low, some)) (omega (arith, r.high, long, some)) m
-
--- where there is no segment, it is put before none
-pub put_empty : {A : Type 0} (word : A → ℕ → ℕ) (heap : Dlmalloc A) (grant : Grant) → heap.size ≡ 0 → is_put_before grant (segments_of word heap) ≡ false
-put_empty word heap grant empty = ap (is_put_before grant) (no_segments word heap empty)
-
--- it is before one, where that is found
-pub found_put : {A : Type 0} (word : A → ℕ → ℕ) (heap : Dlmalloc A) (grant : Grant) (behind : Behind) → IsBehindAt word heap grant behind → list_any (is_before grant) (segments_of word heap) ≡ true
-found_put word heap grant Head b = ap (list_any (is_before grant)) b.is ∙ any_among (is_before grant) [] b.segment b.back b.joins
-found_put word heap grant (Told payload) b = ap (list_any (is_before grant)) b.is ∙ any_among (is_before grant) (b.head ∷ b.front) b.segment b.back b.joins

@@ -1,8 +1,8 @@
 -- What a move leaves of a heap.
-use Rattle.dlmalloc.proofs.Names.{◌≡◌, ◌≢◌, ℕ, suc, ◌+◌, ◌/◌, ◌^◌, ◌<◌, ◌≤◌, inl, inr, Bool, true, false, ◌==◌, if◌then◌else◌, List, [], ◌∷◌, ◌++◌, Option, Some, None, refl, sym, ◌∙◌, ap, subst, arith, append_assoc, length, nat_tests, Grant, Extent, Free, Used, extent_at, chunks_from, Segment, extents_in, top_and_foot, OnlyBoundariesChange, HasOneMore, HasMore, used_of, AreSegments, AreApart, records_from, segments_of, state_of, AreTold, IsGranularity, IsSound, Dlmalloc}
+use Rattle.dlmalloc.proofs.Names.{◌≡◌, ◌≢◌, ℕ, suc, ◌+◌, ◌/◌, ◌^◌, ◌<◌, ◌≤◌, inl, inr, Bool, true, false, ◌==◌, if◌then◌else◌, List, [], ◌∷◌, ◌++◌, Option, Some, None, refl, sym, ◌∙◌, ap, subst, arith, append_assoc, length, nat_tests, Grant, Extent, Free, extent_at, chunks_from, Segment, extents_in, top_and_foot, OnlyBoundariesChange, HasOneMore, HasMore, used_of, AreSegments, AreApart, records_from, segments_of, state_of, AreTold, IsGranularity, IsSound, Dlmalloc}
 use Rattle.dlmalloc.proofs.Extents.Lookup.{extent, nat_isnt, found_either, found_more}
 use Rattle.dlmalloc.proofs.Extents.FromWords.{read_top, records_read, records_few}
-use Rattle.dlmalloc.proofs.Extents.OneMoreUsed.{AreDistinct, more_between, one_more, used_append, used_there, used_back}
+use Rattle.dlmalloc.proofs.Extents.OneMoreUsed.{AreDistinct, more_between, one_more, used_append}
 use Rattle.dlmalloc.proofs.Segments.Among.{extents_all, all_among, as_many, all_distinct, distinct_later}
 use Rattle.dlmalloc.proofs.Segments.OneReplaced.{IsChanged, all_spared, segments_after, apart_after}
 
@@ -181,12 +181,6 @@ module _ {A : Type 0} {regions : A → List Grant} {word : A → ℕ → ℕ} {h
   same_used : used_of less ≡ used_of more → used_of (extents_in (state_of word heap)) ≡ used_of (extents_in (state_of word new))
   same_used same = ap used_of all_old ∙ (used_append before (less ++ behind) ∙ (ap (λ es. used_of before ++ es) (used_append less behind ∙ (ap (λ es. es ++ used_of behind) same ∙ sym (used_append more behind)))
       ∙ sym (used_append before (more ++ behind)))) ∙ ap used_of (sym all_new)
-
-  pub used_still : used_of less ≡ used_of more → (k : ℕ) (used : Extent) → used.kind ≡ Used → extent_at k (extents_in (state_of word heap)) ≡ Some used → extent_at k (extents_in (state_of word new)) ≡ Some used
-  used_still same k used is there = used_back k (extents_in (state_of word new)) distinct_new (ap (extent_at k) (sym (same_used same)) ∙ used_there k (extents_in (state_of word heap)) is there)
-
-  pub used_before : used_of less ≡ used_of more → (k : ℕ) (used : Extent) → used.kind ≡ Used → extent_at k (extents_in (state_of word new)) ≡ Some used → extent_at k (extents_in (state_of word heap)) ≡ Some used
-  used_before same k used is there = used_back k (extents_in (state_of word heap)) distinct_old (ap (extent_at k) (same_used same) ∙ used_there k (extents_in (state_of word new)) is there)
 
   -- there is a head segment
   pub some_there : 0 < heap.size

@@ -2,7 +2,7 @@
 use Rattle.dlmalloc.proofs.Names.{◌≡◌, ◌≢◌, ℕ, ◌+◌, ◌-◌, ◌%◌, ◌^◌, ◌<◌, ◌≤◌, inl, inr, List, [], ◌∷◌, ◌++◌, Some, refl, sym, ◌∙◌, ap, subst, arith, append_assoc, length-append, length, append-nil, Grant, IsWordOf, Used, Top, Foot, extent_at, Segment, IsSegment, AreSegments, record_of, records_from, AreRecords, chunks_between, IsChunkRun, segments_of, AreTold, IsSound, Dlmalloc}
 use Rattle.dlmalloc.proofs.Extents.Lookup.{extent}
 use Rattle.dlmalloc.proofs.Extents.FromWords.{records_read}
-use Rattle.dlmalloc.proofs.Segments.Among.{extents_all, all_among, IsIn, in_part}
+use Rattle.dlmalloc.proofs.Segments.Among.{IsIn, in_part}
 use Rattle.dlmalloc.proofs.Moves.OfHeaps.{segments_few}
 use Rattle.dlmalloc.proofs.Extents.Walk.{HasTail, top_tail, record_tail}
 
@@ -159,9 +159,6 @@ module _ {A : Type 0} {regions : A → List Grant} {word : A → ℕ → ℕ} {h
       -- its extents
       pub extents_told : segment.extents ≡ chunks_between words (words payload) (payload - 16) ++ record_of (payload - 16) (words payload + words (payload + 8)) ∷ []
       extents_told = tail_there.is ∙ (λ i. chunks_between words ((sym ahead_segment.base) i) (payload - 16) ++ record_of (payload - 16) ((sym ahead_segment.base) i + (sym ahead_segment.size) i) ∷ [])
-
-      pub passed_more : extents_all (p.passed ++ segment ∷ []) ≡ extents_all p.passed ++ (chunks_between words (words payload) (payload - 16) ++ record_of (payload - 16) (words payload + words (payload + 8)) ∷ [])
-      passed_more = all_among p.passed segment [] ∙ ap (λ es. extents_all p.passed ++ es) (append-nil segment.extents ∙ extents_told)
 
       -- and fewer are left
       pub fewer_left : length (records_from words (2 ^ 64) (words (payload + 16))) < length (records_from words (2 ^ 64) payload)
