@@ -6,6 +6,7 @@ pub mod Head
 pub mod RegionsMore
 pub mod RegionsLess
 pub mod ToldAnew
+pub mod Exchange
 pub mod ByAddress
 pub mod HeadTop
 pub mod Walk

@@ -1,17 +1,16 @@
 -- A grant at the end of the head segment makes its top longer.
-use Rattle.dlmalloc.proofs.Names.{◌≡◌, ◌≢◌, ℕ, ◌+◌, ◌-◌, ◌%◌, ◌<◌, ◌≤◌, ◌⊎◌, inl, inr, Bool, true, false, ◌&&◌, ◌==◌, if◌then◌else◌, List, [], ◌∷◌, ◌++◌, map, Some, None, refl, sym, ◌∙◌, ap, subst, arith, append_assoc, unwrap_or, AllByRecursion, nat_tests, map-append, Grant, IsWordOf, IsWhole, Extent, Used, Free, Top, Foot, ends_segment, extent_at, Tiles, last_kind, Segment, extents_in, trim_threshold, opened, is_behind, granted, IsFresh, HasSameUsed, OnlyTagsChange, IsRun, IsSegment, AreSegments, IsApartFrom, AreApart, FreeMoves, segments_of, state_of, AreTold, IsSound, Dlmalloc, AreChunks, IsRunOf, used_of}
+use Rattle.dlmalloc.proofs.Names.{◌≡◌, ◌≢◌, ℕ, ◌+◌, ◌-◌, ◌%◌, ◌<◌, ◌≤◌, ◌⊎◌, inl, inr, true, ◌&&◌, ◌==◌, List, [], ◌∷◌, ◌++◌, map, Some, refl, sym, ◌∙◌, ap, subst, arith, append_assoc, AllByRecursion, nat_tests, map-append, Grant, IsWordOf, IsWhole, Extent, Used, Free, Top, Foot, ends_segment, extent_at, Tiles, last_kind, Segment, extents_in, trim_threshold, opened, is_behind, granted, IsFresh, HasSameUsed, OnlyTagsChange, IsRun, IsSegment, AreSegments, IsApartFrom, FreeMoves, segments_of, state_of, IsSound, Dlmalloc, AreChunks, IsRunOf}
 use Rattle.dlmalloc.specs.Granted.{grown, extended}
-use Rattle.dlmalloc.proofs.Frees.FreeBeside.{the_one}
-use Rattle.dlmalloc.proofs.Moves.OfFreeExtents.{free_changes}
-use Rattle.dlmalloc.proofs.Extents.Lookup.{extent, nat_same, found_later, found_either}
+use Rattle.dlmalloc.proofs.Extents.Lookup.{extent, nat_same, found_later}
 use Rattle.dlmalloc.proofs.Extents.Tiling.{tiles_kept, tiles_append}
 use Rattle.dlmalloc.proofs.Moves.OfLists.{last_append}
-use Rattle.dlmalloc.proofs.Extents.OneMoreUsed.{AreDistinct, none_outside, used_append}
+use Rattle.dlmalloc.proofs.Extents.OneMoreUsed.{none_outside}
 use Rattle.dlmalloc.proofs.Extents.FromWords.{are_chunks}
 use Rattle.dlmalloc.proofs.Segments.HeadTold.{IsHead, bare_head}
-use Rattle.dlmalloc.proofs.Segments.Among.{extents_all, all_distinct}
+use Rattle.dlmalloc.proofs.Segments.Among.{extents_all}
 use Rattle.dlmalloc.proofs.Segments.RegionsMore.{runs_joined}
-use Rattle.dlmalloc.proofs.Segments.ToldAnew.{IsOutside, retold, distinct, all_retold, retold_sound, same_used, replaced_found, head_tags}
+use Rattle.dlmalloc.proofs.Segments.Exchange.{Exchange, exchanged_read, exchanged_used, exchanged_sound, none_exchanged}
+use Rattle.dlmalloc.proofs.Segments.ToldAnew.{IsOutside, head_tags}
 use Rattle.dlmalloc.proofs.Segments.HeadTop.{top_stands, top_run, top_part, top_segment, top_last, top_low, top_whole, top_sizes, ends}
 use Rattle.dlmalloc.proofs.Grants.Opened.{segments_are, back_parts, back_apart, grant_apart, parts_kept, told_kept}
 
@@ -115,9 +114,6 @@ module _ {A : Type 0} {regions : A → List Grant} {word : A → ℕ → ℕ} {h
     tail = ap ends_segment (last_append Used old_run.first more);
   }
 
-  parts_now : AreSegments (regions system) (word system) (now ∷ old_run.back)
-  parts_now = (is_now, parts_kept system sound fresh same some outside_kept)
-
   longer_apart : (others : List Segment) → AreSegments (regions heap.system) (word heap.system) others → AllByRecursion (IsApartFrom old_run.segment) others → AllByRecursion (λ segment. IsApartFrom segment (opened grant)) others → AllByRecursion (IsApartFrom now) others
   longer_apart [] parts one two = tt
   longer_apart (other ∷ others) parts one two = (
@@ -131,32 +127,11 @@ module _ {A : Type 0} {regions : A → List Grant} {word : A → ℕ → ℕ} {h
     longer_apart others parts.1 one.1 two.1,
   )
 
-  apart_now : AreApart (now ∷ old_run.back)
-  apart_now =
-      let back = back_apart system sound fresh same some in
-      (longer_apart old_run.back (back_parts system sound fresh same some) back.0 (grant_apart system sound fresh same some).1, back.1)
-
   where_top : extent_at new.top now.extents ≡ Some (extent new.top new.top_size Top)
   where_top =
       let here : (heap.top == heap.top) ≡ true = nat_same heap.top in
       found_later heap.top old_run.first more (none_outside (word heap.system) Used old_run.segment.base old_run.first heap.top heap.top (inr (omega arith)) old_run.first_stand)
       ∙ (rw here refl ∙ (λ i. Some (extent heap.top (length_is i) Top)))
-
-  size_some : 0 < new.size
-  size_some = omega arith
-
-  told_now : AreTold (word system) new (now ∷ old_run.back)
-  told_now = (
-    size_some,
-    was.base,
-    ap (λ n. n + grant.size) was.size,
-    was.flags,
-    where_top,
-    told_kept system sound fresh same some outside_kept,
-  )
-
-  extended_read : segments_of word new ≡ now ∷ old_run.back
-  extended_read = retold regions word new (now ∷ old_run.back) parts_now apart_now told_now
 
   extents_were : extents_in (state_of word heap) ≡ old_run.first ++ (less ++ extents_all old_run.back)
   extents_were =
@@ -167,26 +142,28 @@ module _ {A : Type 0} {regions : A → List Grant} {word : A → ℕ → ℕ} {h
       foot_at : old_run.segment.base + old_run.segment.size - 80 ≡ heap.top + heap.top_size
       foot_at = omega (arith, last_is.1)
 
-  extents_are : extents_all (now ∷ old_run.back) ≡ old_run.first ++ (more ++ extents_all old_run.back)
-  extents_are = append_assoc old_run.first more (extents_all old_run.back)
+  abbrev it : Exchange regions word heap new
+  it = record {
+    now = now ∷ old_run.back;
+    parts = (is_now, parts_kept system sound fresh same some outside_kept);
+    apart = (let back = back_apart system sound fresh same some in (longer_apart old_run.back (back_parts system sound fresh same some) back.0 (grant_apart system sound fresh same some).1, back.1));
+    told = (omega arith, was.base, ap (λ n. n + grant.size) was.size, was.flags, where_top, told_kept system sound fresh same some outside_kept);
+    some = omega arith;
+    granularity = refl;
+    ahead = [];
+    first = old_run.first;
+    less = less;
+    more = more;
+    last = extents_all old_run.back;
+    were = extents_were;
+    are = append_assoc old_run.first more (extents_all old_run.back);
+  }
 
   pub extended_used : HasSameUsed (state_of word heap) (state_of word new)
-  extended_used = same_used (state_of word heap) (state_of word new) (all_distinct (regions heap.system) (word heap.system) (segments_of word heap) sound.segments sound.apart)
-      (subst AreDistinct (sym (all_retold regions word new (now ∷ old_run.back) parts_now apart_now told_now)) (distinct regions word new (now ∷ old_run.back) parts_now apart_now told_now))
-      (ap used_of extents_were ∙ (used_append old_run.first (less ++ extents_all old_run.back) ∙ (sym (used_append old_run.first (more ++ extents_all old_run.back))
-      ∙ ap used_of (sym (all_retold regions word new (now ∷ old_run.back) parts_now apart_now told_now ∙ extents_are)))))
+  extended_used = exchanged_used sound it ((λ is. cc), ((λ is. cc), tt)) tt ((λ is. cc), ((λ is. cc), tt))
 
   pub extended_sound : IsSound regions word new
-  extended_sound = retold_sound regions word new (now ∷ old_run.back) parts_now apart_now told_now sound.granularity size_some sound.no_victim (λ there. found_now (sound.victim there))
-    where
-      no_free : (b d : Bool) → (if b then Some (extent heap.top heap.top_size Top) else if d then Some (extent (heap.top + heap.top_size) 80 Foot) else None) ≡ Some (extent heap.victim heap.victim_size Free) → ⊥
-      no_free true d found = (let no : Top ≡ Free = ap (λ o. (unwrap_or o (extent heap.victim heap.victim_size Free)).kind) found in cc)
-      no_free false true found = (let no : Foot ≡ Free = ap (λ o. (unwrap_or o (extent heap.victim heap.victim_size Free)).kind) found in cc)
-      no_free false false found = cc
-
-      found_now : extent_at heap.victim (extents_in (state_of word heap)) ≡ Some (extent heap.victim heap.victim_size Free) → extent_at heap.victim (extents_all (now ∷ old_run.back)) ≡ Some (extent heap.victim heap.victim_size Free)
-      found_now there = replaced_found heap.victim old_run.first less more (extents_all old_run.back) extents_are (distinct regions word new (now ∷ old_run.back) parts_now apart_now told_now)
-          (λ found. absurd (no_free (heap.top == heap.victim) (heap.top + heap.top_size == heap.victim) found)) (ap (extent_at heap.victim) (sym extents_were) ∙ there)
+  extended_sound = exchanged_sound sound it ((λ is. cc), ((λ is. cc), tt)) refl refl
 
   pub extended_state : (n : ℕ) → state_of word new ≡ granted grant n (state_of word heap)
   extended_state n =
@@ -213,23 +190,13 @@ module _ {A : Type 0} {regions : A → List Grant} {word : A → ℕ → ℕ} {h
           ∙ (λ i. map_grown grant.size old_run.first chunks i ++ (extent heap.top length_now Top ∷ extent (place i) 80 Foot ∷ [])))
 
       segments_now : segments_of word new ≡ extended grant.size old_run.segment ∷ old_run.back
-      segments_now = extended_read ∙ (λ i. (record { base = old_run.segment.base; size = old_run.segment.size + grant.size; flags = old_run.segment.flags; extents = (sym grown_are) i }) ∷ old_run.back)
+      segments_now = exchanged_read sound it ∙ (λ i. (record { base = old_run.segment.base; size = old_run.segment.size + grant.size; flags = old_run.segment.flags; extents = (sym grown_are) i }) ∷ old_run.back)
 
   pub extended_words : OnlyTagsChange (regions heap.system) (state_of word new) (word heap.system) (word system)
   extended_words k inside boundary recorded =
-      let tags = head_tags extended_sound size_some k boundary in
+      let tags = head_tags extended_sound it.some k boundary in
       kept k inside (λ is. tags.0 (omega arith)) (λ is. tags.1 (omega (arith, closes)))
 
   -- no free extent but the top changes
   pub extended_free : FreeMoves (state_of word heap) (state_of word new) [] []
-  extended_free = free_changes (state_of word heap) (state_of word new) old_run.first less more (extents_all old_run.back) extents_were
-      (all_retold regions word new (now ∷ old_run.back) parts_now apart_now told_now ∙ extents_are)
-      (all_distinct (regions heap.system) (word heap.system) (segments_of word heap) sound.segments sound.apart)
-      (subst AreDistinct (sym (all_retold regions word new (now ∷ old_run.back) parts_now apart_now told_now)) (distinct regions word new (now ∷ old_run.back) parts_now apart_now told_now))
-      [] [] (none_free heap.top heap.top_size) (none_free heap.top length_now) (λ k none. absurd none) (λ k none. absurd none)
-    where
-      none_free : (top bytes k size : ℕ) → extent_at k (extent top bytes Top ∷ extent (top + bytes) 80 Foot ∷ []) ≡ Some (extent k size Free) → ⊥
-      none_free top bytes k size found = elim (found_either k (extent top bytes Top ∷ []) (extent (top + bytes) 80 Foot ∷ []) found) [
-        | inl first ↦ (let no : Top ≡ Free = ap (λ e. e.kind) (the_one k (extent top bytes Top) first) in cc)
-        | inr later ↦ (let no : Foot ≡ Free = ap (λ e. e.kind) (the_one k (extent (top + bytes) 80 Foot) later.1) in cc)
-      ]
+  extended_free = none_exchanged sound it tt ((λ is. cc), ((λ is. cc), tt)) ((λ is. cc), ((λ is. cc), tt))

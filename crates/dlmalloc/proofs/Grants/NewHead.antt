@@ -1,18 +1,18 @@
 -- A grant becomes the head segment: what was the top is freed, and a record behind it tells the segment that it is in.
-use Rattle.dlmalloc.proofs.Names.{◌≡◌, ◌≢◌, ℕ, ◌+◌, ◌-◌, ◌%◌, ◌<◌, ◌≤◌, ◌⊎◌, inl, inr, Bool, true, false, not, ◌&&◌, ◌==◌, List, [], ◌∷◌, ◌++◌, Some, refl, sym, ◌∙◌, ap, subst, arith, append_assoc, dec_lt, flat_map, list_any, flat_map-append, Grant, IsWordOf, Extent, Used, Free, Top, Record, Foot, head_of, ends_segment, extent_at, is_used, Tiles, last_kind, Segment, extents_in, trim_threshold, opened, is_behind, is_before, is_put_before, granted, IsFresh, HasSameUsed, IsRecordAt, OnlyTagsChange, IsRun, IsSegment, AreSegments, IsApartFrom, AreApart, record_of, AreRecords, IsIn, IsFreeAt, FreeMoves, segments_of, state_of, AreTold, IsSound, AreChunks, IsRunOf, Dlmalloc, SegmentRecord}
+use Rattle.dlmalloc.proofs.Names.{◌≡◌, ◌≢◌, ℕ, ◌+◌, ◌-◌, ◌%◌, ◌<◌, ◌≤◌, ◌⊎◌, inl, inr, Bool, true, false, not, ◌&&◌, ◌==◌, List, [], ◌∷◌, ◌++◌, Some, refl, sym, ◌∙◌, ap, subst, arith, append_assoc, dec_lt, flat_map, list_any, flat_map-append, Grant, IsWordOf, Extent, Used, Free, Top, Record, Foot, head_of, ends_segment, extent_at, is_used, Tiles, last_kind, Segment, extents_in, trim_threshold, opened, is_behind, is_before, is_put_before, granted, IsFresh, HasSameUsed, IsRecordAt, OnlyTagsChange, IsRun, IsSegment, IsApartFrom, record_of, AreRecords, IsFreeAt, FreeMoves, segments_of, state_of, AreTold, IsSound, AreChunks, IsRunOf, Dlmalloc, SegmentRecord}
 use Rattle.dlmalloc.specs.Granted.{closed, without_top}
-use Rattle.dlmalloc.proofs.Moves.OfFreeExtents.{free_stays}
-use Rattle.dlmalloc.proofs.Extents.Lookup.{extent, found_here, found_either, found_more, found_later, nat_same}
+use Rattle.dlmalloc.proofs.Extents.Lookup.{extent, found_here, found_more, found_later, nat_same}
 use Rattle.dlmalloc.proofs.Extents.Tiling.{tiles_kept, tiles_append}
 use Rattle.dlmalloc.proofs.Moves.OfLists.{last_append}
-use Rattle.dlmalloc.proofs.Extents.OneMoreUsed.{AreDistinct, none_outside}
+use Rattle.dlmalloc.proofs.Extents.OneMoreUsed.{none_outside}
 use Rattle.dlmalloc.proofs.Extents.FromWords.{are_chunks}
 use Rattle.dlmalloc.proofs.Segments.HeadTold.{IsHead, bare_head}
-use Rattle.dlmalloc.proofs.Segments.Among.{extents_all, all_distinct, distinct_later, apart_back}
+use Rattle.dlmalloc.proofs.Segments.Among.{extents_all, apart_back}
 use Rattle.dlmalloc.proofs.Segments.HeadTop.{top_last, top_sizes, top_low, top_whole, ends}
 use Rattle.dlmalloc.proofs.Grants.Opened.{run, part, was_head, segments_are, back_apart, grant_apart, apart_grant, parts_kept, told_kept, opened_segment}
-use Rattle.dlmalloc.proofs.Segments.ToldAnew.{IsOutside, retold, distinct, all_retold, retold_sound, replaced_found, head_tags}
-use Rattle.dlmalloc.proofs.Grants.TopLeft.{of_two, closed_chunks, left, left_free, in_left, left_there, place, left_stands, left_tail, left_record, left_other}
+use Rattle.dlmalloc.proofs.Segments.Exchange.{HasNo, none_of, Exchange, exchanged_read, exchanged_found, exchanged_used, exchanged_free, exchanged_sound}
+use Rattle.dlmalloc.proofs.Segments.ToldAnew.{IsOutside, head_tags}
+use Rattle.dlmalloc.proofs.Grants.TopLeft.{closed_chunks, left, left_free, in_left, left_there, place, left_stands, left_tail, left_record}
 
 -- ---- the heap
 
@@ -123,27 +123,15 @@ module _ {A : Type 0} {regions : A → List Grant} {word : A → ℕ → ℕ} {h
   abbrev all : List Segment
   all = opened grant ∷ now ∷ it.back
 
-  parts_now : AreSegments (regions system) (word system) all
-  parts_now = (opened_segment system sound fresh same head foot, (is_now, parts_kept system sound fresh same some outside_kept))
-
-  apart_now : AreApart all
-  apart_now = (
-    (apart_back it.segment (opened grant) grant_beside, apart_grant system sound fresh same some),
-    ((back_apart system sound fresh same some).0, (back_apart system sound fresh same some).1),
-  )
-
   record_there : extent_at at now.extents ≡ Some (record_of at (it.segment.base + it.segment.size))
   record_there =
       found_later at it.first rest (none_outside (word heap.system) Used it.segment.base it.first heap.top at (inr bounds.0) it.first_stand)
       ∙ subst (λ a. extent_at a rest ≡ Some (record_of a (it.segment.base + it.segment.size))) (sym at_is)
       (left_record (word system) heap.top heap.top_size (record_of_head heap) it.here.1.kind (top_whole sound some) sizes.0 sizes.1 last_is.1 small small_is)
 
-  size_some : 0 < new.size
-  size_some = omega arith
-
   told_now : AreTold (word system) new all
   told_now = (
-    size_some,
+    omega arith,
     refl,
     refl,
     refl,
@@ -169,88 +157,52 @@ module _ {A : Type 0} {regions : A → List Grant} {word : A → ℕ → ℕ} {h
       ∙ (ap (λ es. es ++ extents_all it.back) (it.extents ∙ ap (λ es. it.first ++ extent heap.top heap.top_size Top ∷ es) last_is.0)
       ∙ append_assoc it.first before (extents_all it.back))
 
-  all_apart : AreDistinct (extents_all all)
-  all_apart = distinct regions word new all parts_now apart_now told_now
-
-  distinct_old : AreDistinct (extents_in (state_of word heap))
-  distinct_old = all_distinct (regions heap.system) (word heap.system) (segments_of word heap) sound.segments sound.apart
-
-  -- what is found and is neither the top nor its foot still is
-  found_now : (k : ℕ) {one : Extent} → (one.kind ≡ Top → ⊥) → (one.kind ≡ Foot → ⊥) → extent_at k (extents_in (state_of word heap)) ≡ Some one → extent_at k (extents_all all) ≡ Some one
-  found_now k {one} no_top no_foot there =
-      distinct_later (opened grant).extents (extents_all (now ∷ it.back)) k {extent = one} all_apart
-      (replaced_found k it.first before rest (extents_all it.back) (append_assoc it.first rest (extents_all it.back)) (all_apart.1.1)
-      (λ found. absurd (elim (of_two k (extent heap.top heap.top_size Top) (extent (it.segment.base + it.segment.size - 80) 80 Foot) found) [
-        | inl is ↦ no_top (ap (λ e. e.kind) (sym is))
-        | inr is ↦ no_foot (ap (λ e. e.kind) (sym is))
-      ])) (ap (extent_at k) (sym extents_were) ∙ there))
-
-  found_before : (k : ℕ) (one : Extent) → one.kind ≡ Used → extent_at k (extents_all all) ≡ Some one → extent_at k (extents_in (state_of word heap)) ≡ Some one
-  found_before k one used there =
-      elim (found_either k (opened grant).extents (extents_all (now ∷ it.back)) there) [
-        | inl of_grant ↦ absurd (elim (of_two k (extent grant.base (grant.base + grant.size - 80 - grant.base) Top) (extent (grant.base + grant.size - 80) 80 Foot) of_grant) [
-          | inl is ↦ (let no : Top ≡ Used = ap (λ e. e.kind) is ∙ used in cc)
-          | inr is ↦ (let no : Foot ≡ Used = ap (λ e. e.kind) is ∙ used in cc)
-        ])
-        | inr later ↦ replaced_found k it.first rest before (extents_all it.back) extents_were distinct_old
-            (λ found. absurd (left_other (word system) heap.top heap.top_size (record_of_head heap) it.here.1.kind (top_whole sound some) sizes.0 sizes.1 last_is.1 small k one found used))
-            (ap (extent_at k) (sym (append_assoc it.first rest (extents_all it.back))) ∙ later.1)
-      ]
+  abbrev exchange : Exchange regions word heap new
+  exchange = record {
+    now = all;
+    parts = (opened_segment system sound fresh same head foot, (is_now, parts_kept system sound fresh same some outside_kept));
+    apart = ((apart_back it.segment (opened grant) grant_beside, apart_grant system sound fresh same some), ((back_apart system sound fresh same some).0, (back_apart system sound fresh same some).1));
+    told = told_now;
+    some = omega arith;
+    granularity = refl;
+    ahead = (opened grant).extents;
+    first = it.first;
+    less = before;
+    more = rest;
+    last = extents_all it.back;
+    were = extents_were;
+    are = ap (λ es. (opened grant).extents ++ es) (append_assoc it.first rest (extents_all it.back));
+  }
 
   pub added_used : HasSameUsed (state_of word heap) (state_of word new)
-  added_used = record {
-    still = λ used is there. ap (extent_at used.at) (all_retold regions word new all parts_now apart_now told_now) ∙ found_now used.at (λ top. (let no : Used ≡ Top = sym is ∙ top in cc)) (λ foot. (let no : Used ≡ Foot = sym is ∙ foot in cc)) there;
-    before = λ used is there. found_before used.at used is (ap (extent_at used.at) (sym (all_retold regions word new all parts_now apart_now told_now)) ∙ there);
-  }
+  added_used = exchanged_used sound exchange ((λ is. cc), ((λ is. cc), tt)) ((λ is. cc), ((λ is. cc), tt)) (none_used small)
+    where
+      none_used : (b : Bool) → HasNo Used (left b heap.top heap.top_size)
+      none_used true = ((λ is. cc), tt)
+      none_used false = ((λ is. cc), ((λ is. cc), tt))
 
   -- ---- the free extents
 
-  in_before : (k size : ℕ) → extent_at k before ≡ Some (extent k size Free) → IsIn k []
-  in_before k size found = elim (of_two k (extent heap.top heap.top_size Top) (extent (it.segment.base + it.segment.size - 80) 80 Foot) found) [
-    | inl is ↦ (let no : Top ≡ Free = ap (λ e. e.kind) is in cc)
-    | inr is ↦ (let no : Foot ≡ Free = ap (λ e. e.kind) is in cc)
-  ]
-
   pub added_free : FreeMoves (state_of word heap) (state_of word new) [] (left_free small heap.top)
-  added_free = record {
-    stays = λ k size free out.
-        let found = free_stays it.first before rest (extents_all it.back) (subst AreDistinct (append_assoc it.first rest (extents_all it.back)) (all_apart.1.1)) [] (left_free small heap.top) in_before
-        (λ k came. inr (left_there small heap.top heap.top_size k came)) (ap (extent_at k) (sym extents_were) ∙ free) out in (
-          ap (extent_at k) (all_retold regions word new all parts_now apart_now told_now)
-              ∙ distinct_later (opened grant).extents (extents_all (now ∷ it.back)) k all_apart (ap (extent_at k) (append_assoc it.first rest (extents_all it.back)) ∙ found.0),
-          found.1,
-        );
-    was = λ k size free out. elim (found_either k (opened grant).extents (extents_all (now ∷ it.back)) (ap (extent_at k) (sym (all_retold regions word new all parts_now apart_now told_now)) ∙ free)) [
-      | inl of_grant ↦ absurd (elim (of_two k (extent grant.base (grant.base + grant.size - 80 - grant.base) Top) (extent (grant.base + grant.size - 80) 80 Foot) of_grant) [
-        | inl is ↦ (let no : Top ≡ Free = ap (λ e. e.kind) is in cc)
-        | inr is ↦ (let no : Foot ≡ Free = ap (λ e. e.kind) is in cc)
-      ])
-      | inr later ↦ (
-          let found = free_stays it.first rest before (extents_all it.back) (subst AreDistinct extents_were distinct_old) (left_free small heap.top) [] (in_left small heap.top heap.top_size) (λ k none. absurd none) (ap (extent_at k) (sym (append_assoc it.first rest (extents_all it.back))) ∙ later.1) out in
-          (ap (extent_at k) extents_were ∙ found.0, λ none. none))
-    ];
-  }
+  added_free = exchanged_free sound exchange ((λ is. cc), ((λ is. cc), tt)) [] (left_free small heap.top) (λ k size found. absurd (none_of Free before k ((λ is. cc), ((λ is. cc), tt)) refl found)) (in_left small heap.top heap.top_size)
+      (λ k none. absurd none) (λ k came. inr (left_there small heap.top heap.top_size k came))
 
   pub added_rest : small ≡ false → IsFreeAt (state_of word new) heap.top heap.top_size
-  added_rest large =
-      ap (extent_at heap.top) (all_retold regions word new all parts_now apart_now told_now)
-      ∙ distinct_later (opened grant).extents (extents_all (now ∷ it.back)) heap.top all_apart (ap (extent_at heap.top) (append_assoc it.first rest (extents_all it.back))
-      ∙ (found_later heap.top it.first (rest ++ extents_all it.back) (none_outside (word heap.system) Used it.segment.base it.first heap.top heap.top (inr (omega arith)) it.first_stand)
+  added_rest large = exchanged_found sound exchange heap.top
+      (found_later heap.top it.first (rest ++ extents_all it.back) (none_outside (word heap.system) Used it.segment.base it.first heap.top heap.top (inr (omega arith)) it.first_stand)
       ∙ found_more heap.top rest (extents_all it.back) (subst (λ b. extent_at heap.top (left b heap.top heap.top_size) ≡ Some (extent heap.top heap.top_size Free)) (sym large)
-      (found_here (extent heap.top heap.top_size Free) (extent (heap.top + heap.top_size) 80 Record ∷ [])))))
+      (found_here (extent heap.top heap.top_size Free) (extent (heap.top + heap.top_size) 80 Record ∷ []))))
 
   pub added_sound : IsSound regions word new
-  added_sound = retold_sound regions word new all parts_now apart_now told_now sound.granularity size_some sound.no_victim (λ there. found_now heap.victim (λ is. cc) (λ is. cc) (sound.victim there))
+  added_sound = exchanged_sound sound exchange ((λ is. cc), ((λ is. cc), tt)) refl refl
 
   pub added_words : OnlyTagsChange (regions heap.system) (state_of word new) (word heap.system) (word system)
   added_words k inside boundary recording =
-      let tags = head_tags added_sound size_some k boundary in
+      let tags = head_tags added_sound exchange.some k boundary in
       kept k inside out free (λ is. tags.0 (omega arith)) (λ is. tags.1 (omega arith))
     where
       there : (k : ℕ) (one : Extent) → extent_at k now.extents ≡ Some one → extent_at k (extents_in (state_of word new)) ≡ Some one
-      there k one found =
-          ap (extent_at k) (all_retold regions word new all parts_now apart_now told_now)
-          ∙ distinct_later (opened grant).extents (extents_all (now ∷ it.back)) k all_apart (found_more k now.extents (extents_all it.back) found)
+      there k one found = exchanged_found sound exchange k (ap (extent_at k) (sym (append_assoc it.first rest (extents_all it.back))) ∙ found_more k now.extents (extents_all it.back) found)
 
       out : (k ≤ at) ⊎ (heap.base + heap.size ≤ k)
       out = elim (dec_lt at k) [
@@ -318,5 +270,5 @@ module _ {A : Type 0} {regions : A → List Grant} {word : A → ℕ → ℕ} {h
           of_top false is = rw is refl
 
       segments_now : segments_of word new ≡ opened grant ∷ without_top it.segment ∷ it.back
-      segments_now = retold regions word new all parts_now apart_now told_now
+      segments_now = exchanged_read sound exchange
           ∙ (λ i. opened grant ∷ (record { base = it.segment.base; size = it.segment.size; flags = it.segment.flags; extents = (sym closed_are) i }) ∷ it.back)

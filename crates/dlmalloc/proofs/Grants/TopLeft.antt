@@ -105,15 +105,3 @@ module _ (words : ℕ → ℕ) {before : Kind} (at size : ℕ) {end : ℕ} (told
       let second = nat_same (at + size) in
       let bytes : 80 ≡ end - (at + size) = omega arith in
       rw (first, second) (λ i. Some (extent (at + size) (bytes i) Record))
-
-  -- no block, and no other chunk, is
-  pub left_other : (b : Bool) (k : ℕ) (one : Extent) → extent_at k (left b at size) ≡ Some one → one.kind ≡ Used → ⊥
-  left_other true k one there is = go (at == k) there
-    where
-      go : (b : Bool) → (if b then Some (extent at 96 Record) else None) ≡ Some one → ⊥
-      go true found = (let kind : Record ≡ one.kind = ap (λ o. (unwrap_or o one).kind) found in let no : Record ≡ Used = kind ∙ is in cc)
-      go false found = cc
-  left_other false k one there is = elim (of_two k (extent at size Free) (extent (at + size) 80 Record) there) [
-    | inl free ↦ (let no : Free ≡ Used = ap (λ e. e.kind) free ∙ is in cc)
-    | inr tail ↦ (let no : Record ≡ Used = ap (λ e. e.kind) tail ∙ is in cc)
-  ]

@@ -1,11 +1,11 @@
 -- A segment behind the head leaves the heap: the record before it tells the next one, and the rest stays.
-use Rattle.dlmalloc.proofs.Names.{◌≡◌, ◌≢◌, ℕ, ◌+◌, ◌-◌, ◌%◌, ◌^◌, ◌<◌, ◌≤◌, ◌⊎◌, inl, inr, Bool, true, false, ◌==◌, if◌then◌else◌, List, [], ◌∷◌, ◌++◌, Some, refl, sym, ◌∙◌, ap, subst, arith, append_assoc, AllByRecursion, nat_tests, flat_map-append, Grant, Event, Released, IsWordOf, without, Extent, Used, Free, Record, extent_at, Segment, extents_in, IsInRecord, is_unused, IsSegment, AreSegments, IsApartFrom, AreApart, record_of, AreRecords, payload_behind, segments_of, state_of, AreTold, IsSound, FreeMoves, IsLinked, IsChained, IsVisited, Dlmalloc, SegmentRecord}
+use Rattle.dlmalloc.proofs.Names.{◌≡◌, ◌≢◌, ℕ, ◌+◌, ◌-◌, ◌%◌, ◌^◌, ◌<◌, ◌≤◌, ◌⊎◌, inl, inr, Bool, true, false, ◌==◌, if◌then◌else◌, List, [], ◌∷◌, ◌++◌, Some, refl, sym, ◌∙◌, ap, subst, arith, append_assoc, AllByRecursion, nat_tests, flat_map-append, Grant, Event, Released, IsWordOf, without, Extent, Used, Free, Record, extent_at, Segment, extents_in, IsInRecord, is_unused, IsSegment, AreSegments, IsApartFrom, AreApart, record_of, AreRecords, payload_behind, state_of, IsSound, FreeMoves, IsLinked, IsChained, IsVisited, Dlmalloc, SegmentRecord}
 use Rattle.dlmalloc.specs.Chained.{IsToldByLast}
 use Rattle.dlmalloc.proofs.Extents.Lookup.{extent, nat_same, found_here}
-use Rattle.dlmalloc.proofs.Moves.OfFreeExtents.{IsThere, free_changes}
-use Rattle.dlmalloc.proofs.Extents.OneMoreUsed.{AreDistinct}
-use Rattle.dlmalloc.proofs.Segments.Among.{extents_all, all_among, all_at, all_front, front_apart, back_apart, all_distinct, among_all}
-use Rattle.dlmalloc.proofs.Segments.ToldAnew.{KeepsIts, IsOutside, records_stay, apart_stay, retold, distinct, all_retold, retold_sound, replaced_found}
+use Rattle.dlmalloc.proofs.Moves.OfFreeExtents.{IsThere}
+use Rattle.dlmalloc.proofs.Segments.Among.{extents_all, all_among, all_at, all_front, front_apart, back_apart, among_all}
+use Rattle.dlmalloc.proofs.Segments.Exchange.{Exchange, exchanged_read, exchanged_still, exchanged_was, exchanged_free, sound_as}
+use Rattle.dlmalloc.proofs.Segments.ToldAnew.{KeepsIts, IsOutside, records_stay, apart_stay}
 use Rattle.dlmalloc.proofs.Grants.PutBefore.{parts_around}
 use Rattle.dlmalloc.proofs.Grants.SegmentBehind.{told_around}
 use Rattle.dlmalloc.proofs.Words.OfRecords.{payload_whole, payload_low, payload_high, payload_word, recorded_stays}
@@ -236,32 +236,28 @@ module _ {A : Type 0} {regions : A → List Grant} {word : A → ℕ → ℕ} {h
       abbrev now : List Segment
       now = c.head ∷ (c.front ++ c.back)
 
-      told_now : AreTold (word system) left_heap now
-      told_now = (it.heap_told.0, it.heap_told.1, it.heap_told.2, it.heap_told.3, it.heap_told.4, rest.records)
-
-      apart_now : AreApart now
-      apart_now = apart_less (c.head ∷ c.front) c.segment c.back it.apart
-
-      segments_now : segments_of word left_heap ≡ now
-      segments_now = retold regions word left_heap now rest.segments apart_now told_now
-
       all_old : extents_in (state_of word heap) ≡ extents_all (c.head ∷ c.front) ++ (c.segment.extents ++ extents_all c.back)
       all_old = ap extents_all c.is ∙ all_among (c.head ∷ c.front) c.segment c.back
 
-      all_new : extents_all now ≡ extents_all (c.head ∷ c.front) ++ ([] ++ extents_all c.back)
-      all_new = flat_map-append (λ segment. segment.extents) (c.head ∷ c.front) c.back
-
-      in_new : extents_in (state_of word left_heap) ≡ extents_all now
-      in_new = all_retold regions word left_heap now rest.segments apart_now told_now
-
-      -- what is not of the segment is found again
-      found_still : (k : ℕ) {one : Extent} → extent_at k (extents_in (state_of word heap)) ≡ Some one → (extent_at k c.segment.extents ≡ Some one → ⊥) → extent_at k (extents_all now) ≡ Some one
-      found_still k there other = replaced_found k (extents_all (c.head ∷ c.front)) c.segment.extents [] (extents_all c.back) all_new
-          (distinct regions word left_heap now rest.segments apart_now told_now) (λ found. absurd (other found)) (ap (extent_at k) (sym all_old) ∙ there)
+      abbrev exchange : Exchange regions word heap left_heap
+      exchange = record {
+        now = now;
+        parts = rest.segments;
+        apart = apart_less (c.head ∷ c.front) c.segment c.back it.apart;
+        told = (it.heap_told.0, it.heap_told.1, it.heap_told.2, it.heap_told.3, it.heap_told.4, rest.records);
+        some = it.heap_told.0;
+        granularity = refl;
+        ahead = [];
+        first = extents_all (c.head ∷ c.front);
+        less = c.segment.extents;
+        more = [];
+        last = extents_all c.back;
+        were = all_old;
+        are = flat_map-append (λ segment. segment.extents) (c.head ∷ c.front) c.back;
+      }
 
       found_before : (k : ℕ) {one : Extent} → extent_at k (extents_in (state_of word left_heap)) ≡ Some one → extent_at k (extents_in (state_of word heap)) ≡ Some one
-      found_before k there = replaced_found k (extents_all (c.head ∷ c.front)) [] c.segment.extents (extents_all c.back) all_old
-          (all_distinct granted words (segments_of word heap) sound.segments sound.apart) (λ found. absurd (cc)) (ap (extent_at k) (sym (in_new ∙ all_new)) ∙ there)
+      found_before k there = exchanged_was sound exchange k (λ found. cc) (λ found. cc) there
 
       -- in the segment a free extent and the record are found
       in_gone : (k : ℕ) {one : Extent} → extent_at k c.segment.extents ≡ Some one → ((one.kind ≡ Free) × (c.segment.base ≡ k)) ⊎ (one.kind ≡ Record)
@@ -280,9 +276,7 @@ module _ {A : Type 0} {regions : A → List Grant} {word : A → ℕ → ℕ} {h
 
       -- that alone is no free extent any more
       pub left_free : FreeMoves (state_of word heap) (state_of word left_heap) (told.base ∷ []) []
-      left_free = free_changes (state_of word heap) (state_of word left_heap) (extents_all (c.head ∷ c.front)) c.segment.extents [] (extents_all c.back) all_old (in_new ∙ all_new)
-          (all_distinct granted words (segments_of word heap) sound.segments sound.apart) (subst AreDistinct (sym in_new) (distinct regions word left_heap now rest.segments apart_now told_now))
-          (told.base ∷ []) []
+      left_free = exchanged_free sound exchange tt (told.base ∷ []) []
           (λ k size found. elim (in_gone k found) [
             | inl free ↦ inl (sym ((base_is sound c) ∙ free.1))
             | inr tail ↦ absurd (let no : Free ≡ Record = tail in cc)
@@ -301,24 +295,23 @@ module _ {A : Type 0} {regions : A → List Grant} {word : A → ℕ → ℕ} {h
       no_victim true is = refl
       no_victim false is = sound.no_victim is
 
-      victim_there : (b : Bool) → (told.base == heap.victim) ≡ b → (if b then 0 else heap.victim_size) ≢ 0 → extent_at (if b then 0 else heap.victim) (extents_all now) ≡ Some (extent (if b then 0 else heap.victim) (if b then 0 else heap.victim_size) Free)
+      victim_there : (b : Bool) → (told.base == heap.victim) ≡ b → (if b then 0 else heap.victim_size) ≢ 0 → extent_at (if b then 0 else heap.victim) (extents_in (state_of word left_heap)) ≡ Some (extent (if b then 0 else heap.victim) (if b then 0 else heap.victim_size) Free)
       victim_there true test more = absurd (more refl)
-      victim_there false test more = found_still heap.victim (sound.victim more)
-          (λ found. elim (in_gone heap.victim found) [
-            | inl free ↦ (let yes : (told.base == heap.victim) ≡ true = ap (λ b. b == heap.victim) ((base_is sound c) ∙ free.1) ∙ nat_same heap.victim in let no = sym test ∙ yes in cc)
-            | inr tail ↦ (let no : Free ≡ Record = tail in cc)
-          ])
+      victim_there false test more = exchanged_still sound exchange heap.victim (λ found. elim (in_gone heap.victim found) [
+        | inl free ↦ (let yes : (told.base == heap.victim) ≡ true = ap (λ b. b == heap.victim) ((base_is sound c) ∙ free.1) ∙ nat_same heap.victim in let no = sym test ∙ yes in cc)
+        | inr tail ↦ (let no : Free ≡ Record = tail in cc)
+      ]) (sound.victim more)
 
       pub leaves : (follows : A → List Event → A → Type 0) → follows heap.system (Released told.base told.size 0 ∷ []) system → IsVisited regions word follows true true heap before told c left_heap
       leaves follows followed = record {
-        segments = segments_now;
+        segments = exchanged_read sound exchange;
         records = rest.behind;
         linked = rest.linked;
         victim = λ i. if base_is sound c i == heap.victim then 0 else heap.victim;
         left = record {
-          sound = retold_sound regions word left_heap now rest.segments apart_now told_now sound.granularity it.heap_told.0 (no_victim (told.base == heap.victim)) (victim_there (told.base == heap.victim) refl);
+          sound = sound_as sound exchange (no_victim (told.base == heap.victim)) (victim_there (told.base == heap.victim) refl);
           used = record {
-            still = λ used is there. ap (extent_at used.at) in_new ∙ found_still used.at there (none_used used.at used is);
+            still = λ used is there. exchanged_still sound exchange used.at (none_used used.at used is) there;
             before = λ used is there. found_before used.at there;
           };
           before = λ one there. found_before one.at there;

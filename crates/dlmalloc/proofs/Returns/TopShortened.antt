@@ -1,16 +1,17 @@
 -- The end of the head segment goes back to the system: the heap stays sound, and its top is shorter.
-use Rattle.dlmalloc.proofs.Names.{◌≡◌, ◌≢◌, ℕ, ◌+◌, ◌-◌, ◌%◌, ◌<◌, ◌≤◌, ◌⊎◌, inl, inr, Bool, true, false, ◌==◌, if◌then◌else◌, List, [], ◌∷◌, ◌++◌, map, Some, None, IsTrue, refl, sym, ◌∙◌, ap, subst, arith, append_assoc, unwrap_or, AllByRecursion, map-append, Grant, Event, Released, IsWordOf, IsWhole, IsGivenRun, without, Extent, Used, Free, Top, Record, Foot, ends_segment, extent_at, Tiles, last_kind, Segment, extents_in, trim_threshold, cut_top, IsShortened, KeepsBlocks, OnlyBoundariesChange, HasSameUsed, IsRunOf, used_of, AreChunks, IsRun, IsSegment, AreSegments, IsApartFrom, AreApart, FreeMoves, segments_of, state_of, AreTold, IsSound, Dlmalloc}
+use Rattle.dlmalloc.proofs.Names.{◌≡◌, ◌≢◌, ℕ, ◌+◌, ◌-◌, ◌%◌, ◌<◌, ◌≤◌, ◌⊎◌, inl, inr, true, ◌==◌, List, [], ◌∷◌, ◌++◌, map, Some, IsTrue, refl, sym, ◌∙◌, ap, subst, arith, append_assoc, AllByRecursion, map-append, Grant, Event, Released, IsWordOf, IsWhole, IsGivenRun, without, Extent, Used, Free, Top, Record, Foot, ends_segment, extent_at, Tiles, last_kind, Segment, extents_in, trim_threshold, cut_top, IsShortened, KeepsBlocks, OnlyBoundariesChange, HasSameUsed, IsRunOf, AreChunks, IsRun, IsSegment, AreSegments, IsApartFrom, AreApart, segments_of, state_of, AreTold, IsSound, Dlmalloc}
 use Rattle.heap_memory.specs.Regions.{are_whole}
 use Rattle.heap_memory.specs.RunLaws.{run_aligned}
 use Rattle.dlmalloc.specs.Trimmed.{shrunk, shortened}
 use Rattle.dlmalloc.proofs.Extents.Lookup.{extent, nat_same, found_later}
 use Rattle.dlmalloc.proofs.Extents.Tiling.{tiles_kept, tiles_append}
 use Rattle.dlmalloc.proofs.Moves.OfLists.{last_append}
-use Rattle.dlmalloc.proofs.Extents.OneMoreUsed.{AreDistinct, none_outside, used_append}
+use Rattle.dlmalloc.proofs.Extents.OneMoreUsed.{none_outside}
 use Rattle.dlmalloc.proofs.Extents.FromWords.{are_chunks}
 use Rattle.dlmalloc.proofs.Segments.HeadTold.{IsHead}
-use Rattle.dlmalloc.proofs.Segments.Among.{extents_all, all_distinct, back_apart}
-use Rattle.dlmalloc.proofs.Segments.ToldAnew.{KeepsIts, IsOutside, parts_stay, records_stay, apart_stay, retold, distinct, all_retold, retold_sound, same_used, replaced_found, head_tags}
+use Rattle.dlmalloc.proofs.Segments.Among.{extents_all, back_apart}
+use Rattle.dlmalloc.proofs.Segments.Exchange.{Exchange, exchanged_read, exchanged_used, exchanged_sound, none_exchanged, kind_was}
+use Rattle.dlmalloc.proofs.Segments.ToldAnew.{KeepsIts, IsOutside, parts_stay, records_stay, apart_stay, head_tags}
 use Rattle.dlmalloc.proofs.Segments.HeadTop.{top_run, top_part, top_segment, top_front, top_last, top_low, top_whole, top_sizes, ends, end_whole, top_stands}
 use Rattle.dlmalloc.proofs.Blocks.WordsKept.{blocks_law_still}
 use Rattle.dlmalloc.proofs.Segments.RegionsLess.{given_run, run_shortened, segments_beside}
@@ -23,12 +24,6 @@ map_shrunk less (chunk ∷ chunks) are = λ i. same are.0 i ∷ map_shrunk less 
     same : (chunk.kind ≡ Used) ⊎ (chunk.kind ≡ Free) → shrunk less chunk ≡ chunk
     same (inl is) = rw is refl
     same (inr is) = rw is refl
-
--- a top and a foot are no other extent
-no_end : (top size foot : ℕ) (one : Extent) → one.kind ≢ Top → one.kind ≢ Foot → (b d : Bool) → (if b then Some (extent top size Top) else if d then Some (extent foot 80 Foot) else None) ≡ Some one → ⊥
-no_end top size foot one no_top no_foot true d found = no_top (sym (ap (λ o. (unwrap_or o one).kind) found))
-no_end top size foot one no_top no_foot false true found = no_foot (sym (ap (λ o. (unwrap_or o one).kind) found))
-no_end top size foot one no_top no_foot false false found = cc
 
 module _ {A : Type 0} {regions : A → List Grant} {word : A → ℕ → ℕ} {heap : Dlmalloc A} (sound : IsSound regions word heap) (some : 0 < heap.size) where
   abbrev run : IsRunOf (word heap.system) (segments_of word heap) heap.top (heap.top + heap.top_size) (extent heap.top heap.top_size Top ∷ [])
@@ -165,9 +160,6 @@ module _ {A : Type 0} {regions : A → List Grant} {word : A → ℕ → ℕ} {h
         back_keeps : AllByRecursion (KeepsIts (word heap.system) (word system)) run.back
         back_keeps = apart_stay (regions system) (word heap.system) (word system) run.segment run.segment run.back back_parts apart.0 (back_apart [] run.segment run.back apart) outside_kept
 
-        parts_now : AreSegments (regions system) (word system) (now ∷ run.back)
-        parts_now = (is_now, parts_stay (regions system) (word heap.system) (word system) run.back back_parts back_keeps)
-
         apart_now : AreApart (now ∷ run.back)
         apart_now = (shorter run.back apart.0, apart.1)
           where
@@ -181,16 +173,6 @@ module _ {A : Type 0} {regions : A → List Grant} {word : A → ℕ → ℕ} {h
             found_later heap.top run.first more (none_outside (word heap.system) Used run.segment.base run.first heap.top heap.top (inr (omega arith)) run.first_stand)
             ∙ (rw here refl ∙ (λ i. Some (extent heap.top (length_is i) Top)))
 
-        told_now : AreTold (word system) after (now ∷ run.back)
-        told_now = (
-          rest_some,
-          was.base,
-          ap (λ n. n - less) was.size,
-          was.flags,
-          where_top,
-          records_stay (regions system) (word heap.system) (word system) run.back back_parts back_keeps heap.next told.5,
-        )
-
         extents_were : extents_in (state_of word heap) ≡ run.first ++ (old ++ extents_all run.back)
         extents_were =
             ap extents_all segments_are
@@ -200,40 +182,28 @@ module _ {A : Type 0} {regions : A → List Grant} {word : A → ℕ → ℕ} {h
             foot_at : run.segment.base + run.segment.size - 80 ≡ heap.top + heap.top_size
             foot_at = omega (arith, last_is.1)
 
-        extents_are : extents_all (now ∷ run.back) ≡ run.first ++ (more ++ extents_all run.back)
-        extents_are = append_assoc run.first more (extents_all run.back)
-
-        distinct_now : AreDistinct (extents_all (now ∷ run.back))
-        distinct_now = distinct regions word after (now ∷ run.back) parts_now apart_now told_now
+        abbrev it : Exchange regions word heap after
+        it = record {
+          now = now ∷ run.back;
+          parts = (is_now, parts_stay (regions system) (word heap.system) (word system) run.back back_parts back_keeps);
+          apart = apart_now;
+          told = (rest_some, was.base, ap (λ n. n - less) was.size, was.flags, where_top, records_stay (regions system) (word heap.system) (word system) run.back back_parts back_keeps heap.next told.5);
+          some = rest_some;
+          granularity = refl;
+          ahead = [];
+          first = run.first;
+          less = old;
+          more = more;
+          last = extents_all run.back;
+          were = extents_were;
+          are = append_assoc run.first more (extents_all run.back);
+        }
 
         shortened_used : HasSameUsed (state_of word heap) (state_of word after)
-        shortened_used = same_used (state_of word heap) (state_of word after) (all_distinct (regions heap.system) (word heap.system) (segments_of word heap) sound.segments sound.apart)
-            (subst AreDistinct (sym (all_retold regions word after (now ∷ run.back) parts_now apart_now told_now)) distinct_now)
-            (ap used_of extents_were ∙ (used_append run.first (old ++ extents_all run.back) ∙ (sym (used_append run.first (more ++ extents_all run.back))
-            ∙ ap used_of (sym (all_retold regions word after (now ∷ run.back) parts_now apart_now told_now ∙ extents_are)))))
-
-        -- what is found, and is neither the top nor the foot, is found in both
-        still_found : {one : Extent} → one.kind ≢ Top → one.kind ≢ Foot → (k : ℕ) → extent_at k (extents_in (state_of word heap)) ≡ Some one → extent_at k (extents_all (now ∷ run.back)) ≡ Some one
-        still_found {one} no_top no_foot k there = replaced_found k run.first old more (extents_all run.back) extents_are distinct_now
-            (λ found. absurd (no_end heap.top heap.top_size (heap.top + heap.top_size) one no_top no_foot (heap.top == k) (heap.top + heap.top_size == k) found)) (ap (extent_at k) (sym extents_were) ∙ there)
-
-        was_found : {one : Extent} → one.kind ≢ Top → one.kind ≢ Foot → (k : ℕ) → extent_at k (extents_all (now ∷ run.back)) ≡ Some one → extent_at k (extents_in (state_of word heap)) ≡ Some one
-        was_found {one} no_top no_foot k there = replaced_found k run.first more old (extents_all run.back) extents_were (all_distinct (regions heap.system) (word heap.system) (segments_of word heap) sound.segments sound.apart)
-            (λ found. absurd (no_end heap.top length_now (heap.top + length_now) one no_top no_foot (heap.top == k) (heap.top + length_now == k) found)) (ap (extent_at k) (sym extents_are) ∙ there)
+        shortened_used = exchanged_used sound it ((λ is. cc), ((λ is. cc), tt)) tt ((λ is. cc), ((λ is. cc), tt))
 
         shortened_sound : IsSound regions word after
-        shortened_sound = retold_sound regions word after (now ∷ run.back) parts_now apart_now told_now sound.granularity rest_some sound.no_victim
-            (λ there. still_found (λ is. cc) (λ is. cc) heap.victim (sound.victim there))
-
-        shortened_records : (one : Extent) → one.kind ≡ Record → extent_at one.at (extents_in (state_of word after)) ≡ Some one → extent_at one.at (extents_in (state_of word heap)) ≡ Some one
-        shortened_records one is there = was_found (λ top. let no : Record ≡ Top = sym is ∙ top in cc) (λ foot. let no : Record ≡ Foot = sym is ∙ foot in cc) one.at
-            (ap (extent_at one.at) (sym (all_retold regions word after (now ∷ run.back) parts_now apart_now told_now)) ∙ there)
-
-        shortened_free : FreeMoves (state_of word heap) (state_of word after) [] []
-        shortened_free = record {
-          stays = λ k size free out. (ap (extent_at k) (all_retold regions word after (now ∷ run.back) parts_now apart_now told_now) ∙ still_found (λ is. cc) (λ is. cc) k free, λ none. none);
-          was = λ k size free out. (was_found (λ is. cc) (λ is. cc) k (ap (extent_at k) (sym (all_retold regions word after (now ∷ run.back) parts_now apart_now told_now)) ∙ free), λ none. none);
-        }
+        shortened_sound = exchanged_sound sound it ((λ is. cc), ((λ is. cc), tt)) refl refl
 
         shortened_state : state_of word after ≡ cut_top less (state_of word heap)
         shortened_state =
@@ -252,7 +222,7 @@ module _ {A : Type 0} {regions : A → List Grant} {word : A → ℕ → ℕ} {h
                 ∙ (λ i. map_shrunk less run.first chunks i ++ (extent heap.top length_now Top ∷ extent (place i) 80 Foot ∷ [])))
 
             segments_now : segments_of word after ≡ shortened less run.segment ∷ run.back
-            segments_now = retold regions word after (now ∷ run.back) parts_now apart_now told_now
+            segments_now = exchanged_read sound it
                 ∙ (λ i. (record { base = run.segment.base; size = run.segment.size - less; flags = run.segment.flags; extents = (sym shrunk_are) i }) ∷ run.back)
 
         shortened_words : (k : ℕ) → IsWordOf (regions system) k → k ≢ after.top + 8 → k ≢ after.top + after.top_size + 8 → word system k ≡ word heap.system k
@@ -273,10 +243,10 @@ module _ {A : Type 0} {regions : A → List Grant} {word : A → ℕ → ℕ} {h
             sound = shortened_sound;
             used = shortened_used;
             kept = shortened_kept;
-            free = shortened_free;
+            free = none_exchanged sound it tt ((λ is. cc), ((λ is. cc), tt)) ((λ is. cc), ((λ is. cc), tt));
             victim_same = refl;
             bins_same = refl;
-            records = shortened_records;
+            records = λ one is there. kind_was sound it Record tt ((λ is. cc), ((λ is. cc), tt)) is one.at there;
             words = shortened_words;
           };
           regions_are = gone;
