@@ -4,7 +4,7 @@ use Rattle.dlmalloc.proofs.Extents.Lookup.{extent, nat_isnt}
 use Rattle.dlmalloc.proofs.Segments.Among.{all_at, IsIn, in_part}
 use Rattle.dlmalloc.proofs.Words.OfRecords.{recorded_tiles}
 use Rattle.dlmalloc.proofs.Segments.ToldAnew.{KeepsIts, IsOutside, one_stays, records_stay}
-use Rattle.dlmalloc.proofs.Grants.PutBefore.{before_means, front_parts, back_parts, front_keeps, back_keeps, in_now, among_new, is_prepended}
+use Rattle.dlmalloc.proofs.Grants.PutBefore.{IsJoining, before_means, front_parts, back_parts, front_keeps, back_keeps, in_now, among_new, is_prepended}
 use Rattle.dlmalloc.proofs.Grants.SegmentBehind.{told_around}
 
 -- the heads of the two parts of a grant are granted
@@ -45,6 +45,22 @@ module _ {A : Type 0} {regions : A → List Grant} {word : A → ℕ → ℕ} (f
     keeps_its k low high m = kept k (record { granted = parts_are.0.run.covered k (omega arith) high; aligned = m })
         (λ is. omega (arith, place_is)) (λ is. omega (arith, place_is))
 
+    abbrev joint : IsJoining regions word heap system grant n (λ k. ⊤)
+    joint = record {
+      fresh = fresh;
+      same = same;
+      multiple = multiple;
+      least = least;
+      room = room;
+      front = [];
+      segment = b.segment;
+      back = b.back;
+      is = b.is;
+      joins = b.joins;
+      untold = λ k out. tt;
+      kept = λ k inside a c u. kept k inside a c;
+    }
+
     tiles_now : Tiles (word system) Used b.segment.base b.segment.extents (b.segment.base + b.segment.size)
     tiles_now = (one_stays (regions heap.system) (word heap.system) (word system) parts_are.0 keeps_its).extents
 
@@ -59,11 +75,11 @@ module _ {A : Type 0} {regions : A → List Grant} {word : A → ℕ → ℕ} (f
       told_are.3,
       behind_two grant n b.segment heap.top place_is (omega arith) top_in.low told_are.4,
       records_stay (regions heap.system) (word heap.system) (word system) b.back parts_are.1
-          (back_keeps head_now sound fresh same n multiple least room [] b.segment b.back b.is b.joins (λ k. ⊤) (λ k out. tt) (λ k inside a c u. kept k inside a c)) heap.next told_are.5,
+          (back_keeps head_now sound joint) heap.next told_are.5,
     )
 
     pub before_head : IsPrepended regions word follows heap grant n head_now
-    before_head = is_prepended head_now sound fresh same n multiple least room [] b.segment b.back b.is b.joins (λ k. ⊤) (λ k out. tt) (λ k inside a c u. kept k inside a c)
+    before_head = is_prepended head_now sound joint
         whole first second tiles_now told_now follows followed (omega (arith, told_are.0)) refl refl refl refl refl refl (λ k tag. tt)
 
   -- ---- before one that a record tells
@@ -116,8 +132,21 @@ module _ {A : Type 0} {regions : A → List Grant} {word : A → ℕ → ℕ} (f
       (λ is. elim out [ inl below ↦ omega (arith, record_in.low, payload_some) | inr above ↦ omega (arith, record_long, payload_some) ]),
     )
 
-    kept_untold : (k : ℕ) → IsWordOf (regions heap.system) k → k ≢ grant.base + 8 → k ≢ grant.base + n + 8 → IsUntold k → word system k ≡ word heap.system k
-    kept_untold k inside not_first not_second u = kept k inside not_first not_second u.0 u.1
+    abbrev joint_told : IsJoining regions word heap system grant n IsUntold
+    joint_told = record {
+      fresh = fresh;
+      same = same;
+      multiple = multiple;
+      least = least;
+      room = room;
+      front = front;
+      segment = b.segment;
+      back = b.back;
+      is = b.is;
+      joins = b.joins;
+      untold = untold_outside;
+      kept = λ k inside not_first not_second u. kept k inside not_first not_second u.0 u.1;
+    }
 
     -- a word of the segment
     kept_in : (k : ℕ) → b.segment.base < k → k < end → k % 8 ≡ 0 → k ≢ payload → k ≢ payload + 8 → word system k ≡ word heap.system k
@@ -146,14 +175,14 @@ module _ {A : Type 0} {regions : A → List Grant} {word : A → ℕ → ℕ} (f
       kept_in (payload + 24) (omega (arith, record_in.low, payload_some)) (omega (arith, record_long, payload_some)) (omega (arith, payload_whole)) (λ is. omega arith) (λ is. omega arith) ∙ b.told.3,
       record_now,
       subst (λ p. AreRecords (word system) p b.back) (sym (kept_in (payload + 16) (omega (arith, record_in.low, payload_some)) (omega (arith, record_long, payload_some)) (omega (arith, payload_whole)) (λ is. omega arith) (λ is. omega arith)))
-          (records_stay (regions heap.system) (word heap.system) (word system) b.back (back_parts told_new sound fresh same n multiple least room front b.segment b.back b.is b.joins IsUntold untold_outside kept_untold)
-          (back_keeps told_new sound fresh same n multiple least room front b.segment b.back b.is b.joins IsUntold untold_outside kept_untold) (word heap.system (payload + 16)) b.told.5),
+          (records_stay (regions heap.system) (word heap.system) (word system) b.back (back_parts told_new sound joint_told)
+          (back_keeps told_new sound joint_told) (word heap.system (payload + 16)) b.told.5),
     )
 
     told_after : AreTold (word system) told_new (front ++ now_told ∷ b.back)
     told_after =
-        let parts = front_parts told_new sound fresh same n multiple least room front b.segment b.back b.is b.joins IsUntold untold_outside kept_untold in
-        let keeps = front_keeps told_new sound fresh same n multiple least room front b.segment b.back b.is b.joins IsUntold untold_outside kept_untold in
+        let parts = front_parts told_new sound joint_told in
+        let keeps = front_keeps told_new sound joint_told in
         (heap_told.0, heap_told.1, heap_told.2, heap_told.3, heap_told.4, told_around (regions heap.system) (word heap.system) (word system) (b.segment ∷ b.back) (now_told ∷ b.back) b.front heap.next b.reached parts.1 keeps.1 heap_told.5 here_told)
 
     recorded : (k : ℕ) → (IsInRecord (state_of word told_new) k → ⊥) → IsUntold k
@@ -163,14 +192,14 @@ module _ {A : Type 0} {regions : A → List Grant} {word : A → ℕ → ℕ} (f
     )
       where
         there : extent_at (payload - 16) (extents_in (state_of word told_new)) ≡ Some (record_of (payload - 16) (now_told.base + now_told.size))
-        there = in_now told_new sound fresh same n multiple least room front b.segment b.back b.is b.joins IsUntold untold_outside kept_untold whole first second tiles_told told_after (payload - 16)
-            (among_new told_new sound fresh same n multiple least room front b.segment b.back b.is b.joins IsUntold untold_outside kept_untold whole first second tiles_told told_after (payload - 16) record_now)
+        there = in_now told_new sound joint_told whole first second tiles_told told_after (payload - 16)
+            (among_new told_new sound joint_told whole first second tiles_told told_after (payload - 16) record_now)
 
         in_it : payload - 16 < k → k < end → IsInRecord (state_of word told_new) k
         in_it low high = record { extent = record_of (payload - 16) (now_told.base + now_told.size); there = there; is = refl; low = low; high = omega (arith, segment_place, record_long, payload_some) }
 
     pub before_told : IsPrepended regions word follows heap grant n told_new
-    before_told = is_prepended told_new sound fresh same n multiple least room front b.segment b.back b.is b.joins IsUntold untold_outside kept_untold
+    before_told = is_prepended told_new sound joint_told
         whole first second tiles_told told_after follows followed heap_told.0 refl refl refl refl refl refl recorded
 
 -- where the record is that tells the segment behind

@@ -21,12 +21,25 @@ pub parts_around : {regions : List Grant} {words : ℕ → ℕ} {now : Segment} 
 parts_around [] back first one last = (one, last)
 parts_around (other ∷ front) back first one last = (first.0, parts_around front back first.1 one last)
 
-module _ {A : Type 0} {regions : A → List Grant} {word : A → ℕ → ℕ} {heap : Dlmalloc A} (new : Dlmalloc A) (sound : IsSound regions word heap) {grant : Grant}
-    (fresh : IsFresh (regions heap.system) (segments_of word heap) grant) (same : regions new.system ≡ regions heap.system)
-    (n : ℕ) (multiple : n % 16 ≡ 0) (least : 32 ≤ n) (room : n + 96 ≤ grant.size)
-    (front : List Segment) (segment : Segment) (back : List Segment) (is : segments_of word heap ≡ front ++ segment ∷ back) (joins : is_before grant segment ≡ true)
-    (IsUntold : ℕ → Type 0) (untold : (k : ℕ) → IsOutside segment k → IsUntold k)
-    (kept : (k : ℕ) → IsWordOf (regions heap.system) k → k ≢ grant.base + 8 → k ≢ grant.base + n + 8 → IsUntold k → word new.system k ≡ word heap.system k) where
+-- A grant is put before a segment that it joins: of the words, those of its two heads change, and those that tell the segment.
+pub record IsJoining {A : Type 0} (regions : A → List Grant) (word : A → ℕ → ℕ) (heap : Dlmalloc A) (system : A) (grant : Grant) (n : ℕ) (IsUntold : ℕ → Type 0) : Type 0 where
+  pub fresh : IsFresh (regions heap.system) (segments_of word heap) grant
+  pub same : regions system ≡ regions heap.system
+  pub multiple : n % 16 ≡ 0
+  pub least : 32 ≤ n
+  pub room : n + 96 ≤ grant.size
+  pub front : List Segment
+  pub segment : Segment
+  pub back : List Segment
+  pub is : segments_of word heap ≡ front ++ segment ∷ back
+  pub joins : is_before grant segment ≡ true
+  pub untold : (k : ℕ) → IsOutside segment k → IsUntold k
+  pub kept : (k : ℕ) → IsWordOf (regions heap.system) k → k ≢ grant.base + 8 → k ≢ grant.base + n + 8 → IsUntold k → word system k ≡ word heap.system k
+
+module _ {A : Type 0} {regions : A → List Grant} {word : A → ℕ → ℕ} {heap : Dlmalloc A} (new : Dlmalloc A) (sound : IsSound regions word heap) {grant : Grant} {n : ℕ} {IsUntold : ℕ → Type 0}
+    (joint : IsJoining regions word heap new.system grant n IsUntold) where
+  open joint use {fresh, same, multiple, least, room, front, segment, back, is, joins, untold, kept}
+
   place : segment.base ≡ grant.base + grant.size
   place = (before_means grant segment joins).0
 
