@@ -8,19 +8,39 @@ pub store_counted-requires : goal.store_counted-requires
 store_counted-requires g c = (from_there c.requires.sound c.requires.chunk c.requires.from).granted
 
 pub make_free-requires-clause-size : goal.make_free-requires-clause-size
-make_free-requires-clause-size g c = whole_size c.requires.sound c.requires.chunk (no_top c.requires.sound c.requires.chunk (goes_on c.requires.sound c.requires.chunk c.requires.from c.requires.to c.if-to-self.false)) c.requires.from (ends_at c.requires.sound c.requires.chunk c.requires.from c.requires.to (goes_on c.requires.sound c.requires.chunk c.requires.from c.requires.to c.if-to-self.false))
+make_free-requires-clause-size g c =
+    let on = goes_on c.requires.sound c.requires.chunk c.requires.from c.requires.to c.if-to-self.false in
+    let none = no_top c.requires.sound c.requires.chunk on in
+    let end = ends_at c.requires.sound c.requires.chunk c.requires.from c.requires.to on in
+    whole_size c.requires.sound c.requires.chunk none c.requires.from end
 
 pub make_free-requires-clause-long : goal.make_free-requires-clause-long
-make_free-requires-clause-long g c = let r = room c.requires.sound c.requires.chunk (no_top c.requires.sound c.requires.chunk (goes_on c.requires.sound c.requires.chunk c.requires.from c.requires.to c.if-to-self.false)) c.requires.from (ends_at c.requires.sound c.requires.chunk c.requires.from c.requires.to (goes_on c.requires.sound c.requires.chunk c.requires.from c.requires.to c.if-to-self.false)) in omega arith
+make_free-requires-clause-long g c =
+    let on = goes_on c.requires.sound c.requires.chunk c.requires.from c.requires.to c.if-to-self.false in
+    let none = no_top c.requires.sound c.requires.chunk on in
+    let end = ends_at c.requires.sound c.requires.chunk c.requires.from c.requires.to on in
+    let r = room c.requires.sound c.requires.chunk none c.requires.from end in omega arith
 
 pub make_free-requires-clause-foot : goal.make_free-requires-clause-foot
-make_free-requires-clause-foot g c = end_foot c.requires.sound c.requires.chunk (no_top c.requires.sound c.requires.chunk (goes_on c.requires.sound c.requires.chunk c.requires.from c.requires.to c.if-to-self.false)) c.requires.from (ends_at c.requires.sound c.requires.chunk c.requires.from c.requires.to (goes_on c.requires.sound c.requires.chunk c.requires.from c.requires.to c.if-to-self.false))
+make_free-requires-clause-foot g c =
+    let on = goes_on c.requires.sound c.requires.chunk c.requires.from c.requires.to c.if-to-self.false in
+    let none = no_top c.requires.sound c.requires.chunk on in
+    let end = ends_at c.requires.sound c.requires.chunk c.requires.from c.requires.to on in
+    end_foot c.requires.sound c.requires.chunk none c.requires.from end
 
 pub make_free-requires-clause-next : goal.make_free-requires-clause-next
-make_free-requires-clause-next g c = end_head c.requires.sound c.requires.chunk (no_top c.requires.sound c.requires.chunk (goes_on c.requires.sound c.requires.chunk c.requires.from c.requires.to c.if-to-self.false)) c.requires.from (ends_at c.requires.sound c.requires.chunk c.requires.from c.requires.to (goes_on c.requires.sound c.requires.chunk c.requires.from c.requires.to c.if-to-self.false))
+make_free-requires-clause-next g c =
+    let on = goes_on c.requires.sound c.requires.chunk c.requires.from c.requires.to c.if-to-self.false in
+    let none = no_top c.requires.sound c.requires.chunk on in
+    let end = ends_at c.requires.sound c.requires.chunk c.requires.from c.requires.to on in
+    end_head c.requires.sound c.requires.chunk none c.requires.from end
 
 pub make_free-requires-clause-told : goal.make_free-requires-clause-told
-make_free-requires-clause-told g c = λ told. end_told c.requires.sound c.requires.chunk (no_top c.requires.sound c.requires.chunk (goes_on c.requires.sound c.requires.chunk c.requires.from c.requires.to c.if-to-self.false)) c.requires.from (ends_at c.requires.sound c.requires.chunk c.requires.from c.requires.to (goes_on c.requires.sound c.requires.chunk c.requires.from c.requires.to c.if-to-self.false)) (grind (arith, nat_tests))
+make_free-requires-clause-told g c =
+    let on = goes_on c.requires.sound c.requires.chunk c.requires.from c.requires.to c.if-to-self.false in
+    let none = no_top c.requires.sound c.requires.chunk on in
+    let end = ends_at c.requires.sound c.requires.chunk c.requires.from c.requires.to on in
+    λ told. end_told c.requires.sound c.requires.chunk none c.requires.from end (grind (arith, nat_tests))
 
 pub make_free-requires-clause-head : goal.make_free-requires-clause-head
 make_free-requires-clause-head g c = from_there c.requires.sound c.requires.chunk c.requires.from
@@ -48,12 +68,18 @@ returns-else-from-self g c =
 
 pub returns-then-self-to-2 : goal.returns-then-self-to-2
 returns-then-self-to-2 g c =
-    let o = as_victim c.requires.sound c.requires.chunk (no_top c.requires.sound c.requires.chunk (goes_on c.requires.sound c.requires.chunk c.requires.from c.requires.to c.if-to-self.false)) c.requires.from (ends_at c.requires.sound c.requires.chunk c.requires.from c.requires.to (goes_on c.requires.sound c.requires.chunk c.requires.from c.requires.to c.if-to-self.false)) c.make_free.new.memory c.make_free.ensures.regions c.make_free.ensures.stored c.if-from-self-2.true c.if-self-to-2.true in
-    record { state = o.state; less = o.less; records = o.records; around = around c.requires.sound c.requires.chunk (no_top c.requires.sound c.requires.chunk (goes_on c.requires.sound c.requires.chunk c.requires.from c.requires.to c.if-to-self.false)) c.requires.from (ends_at c.requires.sound c.requires.chunk c.requires.from c.requires.to (goes_on c.requires.sound c.requires.chunk c.requires.from c.requires.to c.if-to-self.false)) c.make_free.new.memory c.make_free.ensures.regions c.make_free.ensures.stored c.args.from (c.args.to - c.args.from); free = o.free; joined = o.joined; victim = inr (c.if-from-self-2.true, c.if-self-to-2.true, inr refl); bins = refl; moved = record { sound = o.sound; words = o.words; regions_same = search rules; followed = search rules }; counted = omega arith }
+    let on = goes_on c.requires.sound c.requires.chunk c.requires.from c.requires.to c.if-to-self.false in
+    let none = no_top c.requires.sound c.requires.chunk on in
+    let end = ends_at c.requires.sound c.requires.chunk c.requires.from c.requires.to on in
+    let o = as_victim c.requires.sound c.requires.chunk none c.requires.from end c.make_free.new.memory c.make_free.ensures.regions c.make_free.ensures.stored c.if-from-self-2.true c.if-self-to-2.true in
+    record { state = o.state; less = o.less; records = o.records; around = around c.requires.sound c.requires.chunk none c.requires.from end c.make_free.new.memory c.make_free.ensures.regions c.make_free.ensures.stored c.args.from (c.args.to - c.args.from); free = o.free; joined = o.joined; victim = inr (c.if-from-self-2.true, c.if-self-to-2.true, inr refl); bins = refl; moved = record { sound = o.sound; words = o.words; regions_same = search rules; followed = search rules }; counted = omega arith }
 
 pub returns-else-from-self-2 : goal.returns-else-from-self-2
 returns-else-from-self-2 g c =
+    let on = goes_on c.requires.sound c.requires.chunk c.requires.from c.requires.to c.if-to-self.false in
+    let none = no_top c.requires.sound c.requires.chunk on in
+    let end = ends_at c.requires.sound c.requires.chunk c.requires.from c.requires.to on in
     let out : (c.args.self.now.victim < c.args.from) ⊎ (c.args.to ≤ c.args.self.now.victim) =
     elim c.else-from-self-2.branch [ else-from-self-2-via-then-from-self-2+else-self-to-2 w ↦ inr w.if-self-to-2.false | else-from-self-2-via-else-from-self-2 w ↦ inl w.if-from-self-2.false ] in
-    let o = as_other c.requires.sound c.requires.chunk (no_top c.requires.sound c.requires.chunk (goes_on c.requires.sound c.requires.chunk c.requires.from c.requires.to c.if-to-self.false)) c.requires.from (ends_at c.requires.sound c.requires.chunk c.requires.from c.requires.to (goes_on c.requires.sound c.requires.chunk c.requires.from c.requires.to c.if-to-self.false)) c.make_free.new.memory c.make_free.ensures.regions c.make_free.ensures.stored out in
-    record { state = o.state; less = o.less; records = o.records; around = around c.requires.sound c.requires.chunk (no_top c.requires.sound c.requires.chunk (goes_on c.requires.sound c.requires.chunk c.requires.from c.requires.to c.if-to-self.false)) c.requires.from (ends_at c.requires.sound c.requires.chunk c.requires.from c.requires.to (goes_on c.requires.sound c.requires.chunk c.requires.from c.requires.to c.if-to-self.false)) c.make_free.new.memory c.make_free.ensures.regions c.make_free.ensures.stored c.args.self.now.victim c.args.self.now.victim_size; free = o.free; joined = o.joined; victim = inl refl; bins = refl; moved = record { sound = o.sound; words = o.words; regions_same = search rules; followed = search rules }; counted = omega arith }
+    let o = as_other c.requires.sound c.requires.chunk none c.requires.from end c.make_free.new.memory c.make_free.ensures.regions c.make_free.ensures.stored out in
+    record { state = o.state; less = o.less; records = o.records; around = around c.requires.sound c.requires.chunk none c.requires.from end c.make_free.new.memory c.make_free.ensures.regions c.make_free.ensures.stored c.args.self.now.victim c.args.self.now.victim_size; free = o.free; joined = o.joined; victim = inl refl; bins = refl; moved = record { sound = o.sound; words = o.words; regions_same = search rules; followed = search rules }; counted = omega arith }
