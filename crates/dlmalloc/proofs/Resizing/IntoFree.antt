@@ -104,39 +104,6 @@ module _ {A : Type 0} {regions : A → List Grant} {word : A → ℕ → ℕ} {h
       has_rest : nat_le (n + 32) (size + length) ≡ true
       has_rest = grind (arith, nat_tests)
 
-      split : (victim victim_size : ℕ) → (victim_size ≡ 0 → victim ≡ 0) →
-          (victim_size ≢ 0 → extent_at victim (extents_in (state_of word (after victim victim_size))) ≡ Some (extent victim victim_size Free)) →
-          victim ≡ (grown_into (state_of word heap) chunk free n).victim → IsEnlarged regions word heap chunk free n n (after victim victim_size)
-      split victim victim_size none named left =
-          enlarged sound there next_is n n system same heap.top heap.top_size victim victim_size parts (split_step victim victim_size) refl
-          (rw has_rest refl) (let here = nat_same at in rw here refl)
-          (λ used is other found. absurd (no_other chunk free (λ is. cc) is other found))
-          (λ used is other found. absurd (no_other (extent at n Used) (extent (at + n) (size + length - n) Free) (λ is. cc) is other found))
-          none named left
-
-      -- it was the victim, and its rest is
-      pub into_victim : at + size ≡ heap.victim → IsEnlarged regions word heap chunk free n n (after (at + n) (size + length - n))
-      into_victim is =
-          let test : (at + size == heap.victim) ≡ true = (let e = is in grind (arith, nat_tests)) in
-          split (at + n) (size + length - n) (λ none. absurd (omega arith))
-          (λ some.
-          let first : (at == at + n) ≡ false = nat_isnt (inl (omega (arith, least))) in
-          let second : (at + n == at + n) ≡ true = nat_same (at + n) in
-          found_new sound (split_step (at + n) (size + length - n)) (at + n) (extent (at + n) (size + length - n) Free) (rw (first, second) refl))
-          (rw (test, has_rest) refl)
-
-      -- another is, and stays
-      pub into_binned : at + size ≢ heap.victim → IsEnlarged regions word heap chunk free n n (after heap.victim heap.victim_size)
-      into_binned isnt =
-          let test : (at + size == heap.victim) ≡ false = differ (at + size) heap.victim isnt in
-          split heap.victim heap.victim_size sound.no_victim
-          (λ some. found_again sound (split_step heap.victim heap.victim_size) heap.victim
-          (λ found. absurd (elim (in_two chunk free heap.victim found) [
-            | inl here ↦ (let no : Used ≡ Free = ap (λ e. e.kind) here in cc)
-            | inr behind ↦ isnt (ap (λ e. e.at) behind)
-          ])) (sound.victim some))
-          (rw test refl)
-
       -- the free extents
       rest_there : extent_at (at + n) parts ≡ Some (extent (at + n) (size + length - n) Free)
       rest_there =
@@ -144,10 +111,10 @@ module _ {A : Type 0} {regions : A → List Grant} {word : A → ℕ → ℕ} {h
           let second : (at + n == at + n) ≡ true = nat_same (at + n) in
           rw (first, second) refl
 
-      pub split_rest : (victim victim_size : ℕ) → IsFreeAt (state_of word (after victim victim_size)) (at + n) (size + length - n)
+      split_rest : (victim victim_size : ℕ) → IsFreeAt (state_of word (after victim victim_size)) (at + n) (size + length - n)
       split_rest victim victim_size = found_new sound (split_step victim victim_size) (at + n) (extent (at + n) (size + length - n) Free) rest_there
 
-      pub split_free : (victim victim_size : ℕ) → FreeMoves (state_of word heap) (state_of word (after victim victim_size)) ((at + size) ∷ []) (if nat_le (n + 32) (size + length) then (at + n) ∷ [] else [])
+      split_free : (victim victim_size : ℕ) → FreeMoves (state_of word heap) (state_of word (after victim victim_size)) ((at + size) ∷ []) (if nat_le (n + 32) (size + length) then (at + n) ∷ [] else [])
       split_free victim victim_size = subst (λ b. FreeMoves (state_of word heap) (state_of word (after victim victim_size)) ((at + size) ∷ []) (if b then (at + n) ∷ [] else [])) (sym has_rest)
           (free_moves sound (split_step victim victim_size) ((at + size) ∷ []) ((at + n) ∷ []) only_free
           (λ k bytes found. elim (in_two (extent at n Used) (extent (at + n) (size + length - n) Free) k found) [
@@ -162,6 +129,48 @@ module _ {A : Type 0} {regions : A → List Grant} {word : A → ℕ → ℕ} {h
             | inl here ↦ absurd (let no : Used ≡ Free = ap (λ e. e.kind) here in cc)
             | inr behind ↦ inl (sym (ap (λ e. e.at) behind))
           ]
+
+      abbrev Split : ℕ → ℕ → Type 0
+      Split victim victim_size =
+          IsEnlarged regions word heap chunk free n n (after victim victim_size)
+          × FreeMoves (state_of word heap) (state_of word (after victim victim_size)) ((at + size) ∷ []) (if nat_le (n + 32) (size + length) then (at + n) ∷ [] else [])
+          × IsFreeAt (state_of word (after victim victim_size)) (at + n) (size + length - n)
+
+      split : (victim victim_size : ℕ) → (victim_size ≡ 0 → victim ≡ 0) →
+          (victim_size ≢ 0 → extent_at victim (extents_in (state_of word (after victim victim_size))) ≡ Some (extent victim victim_size Free)) →
+          victim ≡ (grown_into (state_of word heap) chunk free n).victim → Split victim victim_size
+      split victim victim_size none named left = (
+        enlarged sound there next_is n n system same heap.top heap.top_size victim victim_size parts (split_step victim victim_size) refl
+            (rw has_rest refl) (let here = nat_same at in rw here refl)
+            (λ used is other found. absurd (no_other chunk free (λ is. cc) is other found))
+            (λ used is other found. absurd (no_other (extent at n Used) (extent (at + n) (size + length - n) Free) (λ is. cc) is other found))
+            none named left,
+        split_free victim victim_size,
+        split_rest victim victim_size,
+      )
+
+      -- it was the victim, and its rest is
+      pub into_victim : at + size ≡ heap.victim → Split (at + n) (size + length - n)
+      into_victim is =
+          let test : (at + size == heap.victim) ≡ true = (let e = is in grind (arith, nat_tests)) in
+          split (at + n) (size + length - n) (λ none. absurd (omega arith))
+          (λ some.
+          let first : (at == at + n) ≡ false = nat_isnt (inl (omega (arith, least))) in
+          let second : (at + n == at + n) ≡ true = nat_same (at + n) in
+          found_new sound (split_step (at + n) (size + length - n)) (at + n) (extent (at + n) (size + length - n) Free) (rw (first, second) refl))
+          (rw (test, has_rest) refl)
+
+      -- another is, and stays
+      pub into_binned : at + size ≢ heap.victim → Split heap.victim heap.victim_size
+      into_binned isnt =
+          let test : (at + size == heap.victim) ≡ false = differ (at + size) heap.victim isnt in
+          split heap.victim heap.victim_size sound.no_victim
+          (λ some. found_again sound (split_step heap.victim heap.victim_size) heap.victim
+          (λ found. absurd (elim (in_two chunk free heap.victim found) [
+            | inl here ↦ (let no : Used ≡ Free = ap (λ e. e.kind) here in cc)
+            | inr behind ↦ isnt (ap (λ e. e.at) behind)
+          ])) (sound.victim some))
+          (rw test refl)
 
     -- ---- nothing of it stays free
 
@@ -233,35 +242,7 @@ module _ {A : Type 0} {regions : A → List Grant} {word : A → ℕ → ℕ} {h
                 rw (first, second) later.1)
           ]
 
-      whole : (victim victim_size : ℕ) → (victim_size ≡ 0 → victim ≡ 0) →
-          (victim_size ≢ 0 → extent_at victim (extents_in (state_of word (after victim victim_size))) ≡ Some (extent victim victim_size Free)) →
-          victim ≡ (grown_into (state_of word heap) chunk free n).victim → IsEnlarged regions word heap chunk free n (size + length) (after victim victim_size)
-      whole victim victim_size none named left =
-          enlarged sound there next_is n (size + length) system same heap.top heap.top_size victim victim_size (extent at (size + length) Used ∷ []) (whole_step victim victim_size)
-          (ap (λ es. both.front ++ with_extents both.segment (both.first ++ (extent at (size + length) Used ∷ es)) ∷ both.back) (sym third.is))
-          (rw no_rest refl) (let here = nat_same at in rw here refl)
-          (λ used is other found. still used.at found (λ here. other (ap (λ e. e.at) (sym here))) (no_free (λ is. cc) used is))
-          (λ used is other found. was used other found)
-          none named left
-
-      -- it was the victim, and there is none now
-      pub whole_victim : at + size ≡ heap.victim → IsEnlarged regions word heap chunk free n (size + length) (after 0 0)
-      whole_victim is =
-          let test : (at + size == heap.victim) ≡ true = (let e = is in grind (arith, nat_tests)) in
-          whole 0 0 (λ none. refl) (λ some. absurd (some refl)) (rw (test, no_rest) refl)
-
-      -- it was not, and the victim stays
-      pub whole_binned : at + size ≢ heap.victim → IsEnlarged regions word heap chunk free n (size + length) (after heap.victim heap.victim_size)
-      whole_binned isnt =
-          let test : (at + size == heap.victim) ≡ false = differ (at + size) heap.victim isnt in
-          whole heap.victim heap.victim_size sound.no_victim
-          (λ some. found_again sound (whole_step heap.victim heap.victim_size) heap.victim
-          (λ found. still heap.victim found
-          (no_chunk {kind = Free} (λ is. cc) (extent heap.victim heap.victim_size Free) refl)
-          (λ here. isnt (ap (λ e. e.at) here))) (sound.victim some))
-          (rw test refl)
-
-      pub whole_free : (victim victim_size : ℕ) → FreeMoves (state_of word heap) (state_of word (after victim victim_size)) ((at + size) ∷ []) (if nat_le (n + 32) (size + length) then (at + n) ∷ [] else [])
+      whole_free : (victim victim_size : ℕ) → FreeMoves (state_of word heap) (state_of word (after victim victim_size)) ((at + size) ∷ []) (if nat_le (n + 32) (size + length) then (at + n) ∷ [] else [])
       whole_free victim victim_size = subst (λ b. FreeMoves (state_of word heap) (state_of word (after victim victim_size)) ((at + size) ∷ []) (if b then (at + n) ∷ [] else [])) (sym no_rest)
           (free_moves sound (whole_step victim victim_size) ((at + size) ∷ []) [] only_free
           (λ k bytes found. elim (in_two (extent at (size + length) Used) last k found) [
@@ -284,6 +265,41 @@ module _ {A : Type 0} {regions : A → List Grant} {word : A → ℕ → ℕ} {h
             ]
             | inr later ↦ absurd (no_last k bytes (the_one k last later.1))
           ]
+
+      abbrev Whole : ℕ → ℕ → Type 0
+      Whole victim victim_size =
+          IsEnlarged regions word heap chunk free n (size + length) (after victim victim_size)
+          × FreeMoves (state_of word heap) (state_of word (after victim victim_size)) ((at + size) ∷ []) (if nat_le (n + 32) (size + length) then (at + n) ∷ [] else [])
+
+      whole : (victim victim_size : ℕ) → (victim_size ≡ 0 → victim ≡ 0) →
+          (victim_size ≢ 0 → extent_at victim (extents_in (state_of word (after victim victim_size))) ≡ Some (extent victim victim_size Free)) →
+          victim ≡ (grown_into (state_of word heap) chunk free n).victim → Whole victim victim_size
+      whole victim victim_size none named left = (
+        enlarged sound there next_is n (size + length) system same heap.top heap.top_size victim victim_size (extent at (size + length) Used ∷ []) (whole_step victim victim_size)
+            (ap (λ es. both.front ++ with_extents both.segment (both.first ++ (extent at (size + length) Used ∷ es)) ∷ both.back) (sym third.is))
+            (rw no_rest refl) (let here = nat_same at in rw here refl)
+            (λ used is other found. still used.at found (λ here. other (ap (λ e. e.at) (sym here))) (no_free (λ is. cc) used is))
+            (λ used is other found. was used other found)
+            none named left,
+        whole_free victim victim_size,
+      )
+
+      -- it was the victim, and there is none now
+      pub whole_victim : at + size ≡ heap.victim → Whole 0 0
+      whole_victim is =
+          let test : (at + size == heap.victim) ≡ true = (let e = is in grind (arith, nat_tests)) in
+          whole 0 0 (λ none. refl) (λ some. absurd (some refl)) (rw (test, no_rest) refl)
+
+      -- it was not, and the victim stays
+      pub whole_binned : at + size ≢ heap.victim → Whole heap.victim heap.victim_size
+      whole_binned isnt =
+          let test : (at + size == heap.victim) ≡ false = differ (at + size) heap.victim isnt in
+          whole heap.victim heap.victim_size sound.no_victim
+          (λ some. found_again sound (whole_step heap.victim heap.victim_size) heap.victim
+          (λ found. still heap.victim found
+          (no_chunk {kind = Free} (λ is. cc) (extent heap.victim heap.victim_size Free) refl)
+          (λ here. isnt (ap (λ e. e.at) here))) (sound.victim some))
+          (rw test refl)
 
   -- the stores of two calls, as one
   pub free_stores : (middle system : A) (value : ℕ) → regions middle ≡ regions heap.system →

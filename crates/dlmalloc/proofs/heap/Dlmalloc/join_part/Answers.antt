@@ -1,5 +1,5 @@
 use Rattle.dlmalloc.proofs.Names.{◌+◌, ◌-◌, sym, subst, ◌∙◌, arith, rules, refl, HasHead, HasFoot}
-use Rattle.dlmalloc.proofs.Resizing.IntoFree.{free_end_small, free_at_whole, free_sizes_whole, free_head_there, free_foot_there, free_stores, into_victim, into_binned, whole_victim, whole_binned, split_free, split_rest, whole_free}
+use Rattle.dlmalloc.proofs.Resizing.IntoFree.{free_end_small, free_at_whole, free_sizes_whole, free_head_there, free_foot_there, free_stores, into_victim, into_binned, whole_victim, whole_binned}
 use Rattle.dlmalloc.proofs.heap.Dlmalloc.join_part.Goals as goal
 
 pub overflow_add-all : goal.overflow_add-all
@@ -65,7 +65,7 @@ returns-then-was_victim g c =
     let room = c.requires.room in
     let e = c.set_inuse.ensures in
     let t = whole_victim c.requires.sound c.args.n c.requires.chunk c.requires.next c.requires.whole c.requires.more c.requires.room c.set_inuse.new.memory e.regions (omega arith) e.stored c.if-was_victim.true in
-    record { state = t.state; held = (c.args.size + c.args.free, t.held, omega arith, omega arith); others = t.others; free = whole_free c.requires.sound c.args.n c.requires.chunk c.requires.next c.requires.whole c.requires.more c.requires.room c.set_inuse.new.memory e.regions (omega arith) e.stored 0 0; rest = (λ more. absurd (omega arith)); bins = refl; counted = omega arith; moved = record { sound = t.sound; words = t.words; regions_same = e.regions; followed = e.follows } }
+    record { state = t.0.state; held = (c.args.size + c.args.free, t.0.held, omega arith, omega arith); others = t.0.others; free = t.1; rest = (λ more. absurd (omega arith)); bins = refl; counted = omega arith; moved = record { sound = t.0.sound; words = t.0.words; regions_same = e.regions; followed = e.follows } }
 
 pub returns-else-was_victim : goal.returns-else-was_victim
 returns-else-was_victim g c =
@@ -73,7 +73,7 @@ returns-else-was_victim g c =
     let room = c.requires.room in
     let e = c.set_inuse.ensures in
     let t = whole_binned c.requires.sound c.args.n c.requires.chunk c.requires.next c.requires.whole c.requires.more c.requires.room c.set_inuse.new.memory e.regions (omega arith) e.stored c.if-was_victim.false in
-    record { state = t.state; held = (c.args.size + c.args.free, t.held, omega arith, omega arith); others = t.others; free = whole_free c.requires.sound c.args.n c.requires.chunk c.requires.next c.requires.whole c.requires.more c.requires.room c.set_inuse.new.memory e.regions (omega arith) e.stored c.args.self.now.victim c.args.self.now.victim_size; rest = (λ more. absurd (omega arith)); bins = refl; counted = omega arith; moved = record { sound = t.sound; words = t.words; regions_same = e.regions; followed = e.follows } }
+    record { state = t.0.state; held = (c.args.size + c.args.free, t.0.held, omega arith, omega arith); others = t.0.others; free = t.1; rest = (λ more. absurd (omega arith)); bins = refl; counted = omega arith; moved = record { sound = t.0.sound; words = t.0.words; regions_same = e.regions; followed = e.follows } }
 
 pub returns-then-was_victim-2 : goal.returns-then-was_victim-2
 returns-then-was_victim-2 g c =
@@ -84,7 +84,7 @@ returns-then-was_victim-2 g c =
     let same = second.regions ∙ first.regions in
     let stored = free_stores c.requires.sound c.args.n c.requires.chunk c.requires.next c.requires.whole c.requires.more c.requires.room c.set_inuse-else-rest-lt-LEAST_CHUNK.new.memory c.set_size_and_pinuse_of_free_chunk.new.memory _ first.regions first.stored second.stored in
     let t = into_victim c.requires.sound c.args.n c.requires.chunk c.requires.next c.requires.whole c.requires.more c.requires.room c.set_size_and_pinuse_of_free_chunk.new.memory same (omega arith) stored c.if-was_victim-2.true in
-    record { state = t.state; held = (c.args.n, t.held, omega arith, omega arith); others = t.others; free = split_free c.requires.sound c.args.n c.requires.chunk c.requires.next c.requires.whole c.requires.more c.requires.room c.set_size_and_pinuse_of_free_chunk.new.memory same (omega arith) stored (c.args.at + c.args.n) (c.args.size + c.args.free - c.args.n); rest = (λ many. split_rest c.requires.sound c.args.n c.requires.chunk c.requires.next c.requires.whole c.requires.more c.requires.room c.set_size_and_pinuse_of_free_chunk.new.memory same (omega arith) stored (c.args.at + c.args.n) (c.args.size + c.args.free - c.args.n)); bins = refl; counted = omega arith; moved = record { sound = t.sound; words = t.words; regions_same = same; followed = search rules } }
+    record { state = t.0.state; held = (c.args.n, t.0.held, omega arith, omega arith); others = t.0.others; free = t.1; rest = (λ many. t.2); bins = refl; counted = omega arith; moved = record { sound = t.0.sound; words = t.0.words; regions_same = same; followed = search rules } }
 
 pub returns-else-was_victim-2 : goal.returns-else-was_victim-2
 returns-else-was_victim-2 g c =
@@ -95,4 +95,4 @@ returns-else-was_victim-2 g c =
     let same = second.regions ∙ first.regions in
     let stored = free_stores c.requires.sound c.args.n c.requires.chunk c.requires.next c.requires.whole c.requires.more c.requires.room c.set_inuse-else-rest-lt-LEAST_CHUNK.new.memory c.set_size_and_pinuse_of_free_chunk.new.memory _ first.regions first.stored second.stored in
     let t = into_binned c.requires.sound c.args.n c.requires.chunk c.requires.next c.requires.whole c.requires.more c.requires.room c.set_size_and_pinuse_of_free_chunk.new.memory same (omega arith) stored c.if-was_victim-2.false in
-    record { state = t.state; held = (c.args.n, t.held, omega arith, omega arith); others = t.others; free = split_free c.requires.sound c.args.n c.requires.chunk c.requires.next c.requires.whole c.requires.more c.requires.room c.set_size_and_pinuse_of_free_chunk.new.memory same (omega arith) stored c.args.self.now.victim c.args.self.now.victim_size; rest = (λ many. split_rest c.requires.sound c.args.n c.requires.chunk c.requires.next c.requires.whole c.requires.more c.requires.room c.set_size_and_pinuse_of_free_chunk.new.memory same (omega arith) stored c.args.self.now.victim c.args.self.now.victim_size); bins = refl; counted = omega arith; moved = record { sound = t.sound; words = t.words; regions_same = same; followed = search rules } }
+    record { state = t.0.state; held = (c.args.n, t.0.held, omega arith, omega arith); others = t.0.others; free = t.1; rest = (λ many. t.2); bins = refl; counted = omega arith; moved = record { sound = t.0.sound; words = t.0.words; regions_same = same; followed = search rules } }
