@@ -32,14 +32,11 @@ found_one k one {tail} there = go (one.at == k) there
 
 module _ {A : Type 0} {regions : A → List Grant} {word : A → ℕ → ℕ} {heap : Dlmalloc A} (sound : IsSound regions word heap) {at size : ℕ} (n : ℕ)
     (there : extent_at at (extents_in (state_of word heap)) ≡ Some (extent at size Free)) where
-  abbrev segments : List Segment
-  segments = segments_of word heap
-
   abbrev chunk : Extent
   chunk = extent at size Free
 
-  abbrev pub run : IsRunOf (word heap.system) segments at (at + size) (chunk ∷ [])
-  run = run_of (regions heap.system) (word heap.system) segments sound.segments there
+  abbrev pub run : IsRunOf (word heap.system) (segments_of word heap) at (at + size) (chunk ∷ [])
+  run = run_of (regions heap.system) (word heap.system) (segments_of word heap) sound.segments there
 
   pub stands : HasChunk (word heap.system) (last_kind Used run.first) chunk
   stands = run.here.1
@@ -149,9 +146,6 @@ module _ {A : Type 0} {regions : A → List Grant} {word : A → ℕ → ℕ} {h
       abbrev next : HasNext run.last
       next = has_next (regions heap.system) sound.segments run refl
 
-      abbrev run_two : IsRunOf (word heap.system) segments at (at + size + next.next.size) (chunk ∷ next.next ∷ [])
-      run_two = with_next (regions heap.system) sound.segments run next
-
       abbrev both : List Extent
       both = chunk ∷ next.next ∷ []
 
@@ -185,7 +179,7 @@ module _ {A : Type 0} {regions : A → List Grant} {word : A → ℕ → ℕ} {h
           go false apart = beside k (λ is. absurd (let t : (at == k) ≡ true = (let e = is in grind (arith, nat_tests)) in cc)) tail found
 
       abbrev whole_step : (victim victim_size : ℕ) → IsStep regions word heap (after victim victim_size) both all
-      whole_step victim victim_size = step_beside (after victim victim_size) sound same run_two move_two refl
+      whole_step victim victim_size = step_beside (after victim victim_size) sound same (with_next (regions heap.system) sound.segments run next) move_two refl
           (λ k tail found is. still k found (λ free. (let no : Free ≡ Record = free ∙ is in cc))) refl (record { base = refl; size = refl; flags = refl; top = refl; top_size = refl })
           (λ k tail found is. still k found (λ free. (let no : Free ≡ Top = free ∙ is in cc)))
 
@@ -250,9 +244,6 @@ module _ {A : Type 0} {regions : A → List Grant} {word : A → ℕ → ℕ} {h
       let high = tiles_le (word heap.system) n.next.kind (at + size + n.next.size) n.rest (run.segment.base + run.segment.size) b.2 in
       omega arith
 
-  low_room : run.segment.base ≤ at
-  low_room = tiles_le (word heap.system) Used run.segment.base run.first at run.first_stand
-
   pub at_whole : at % 16 ≡ 0
   at_whole = stands.whole
 
@@ -266,14 +257,14 @@ module _ {A : Type 0} {regions : A → List Grant} {word : A → ℕ → ℕ} {h
   head_there k low high m = record {
     aligned = m;
     small = omega (arith, end_small);
-    granted = run_word (regions heap.system) sound.segments run (k + 8) (omega (arith, low_room)) (omega (arith, head_room)) (omega arith);
+    granted = run_word (regions heap.system) sound.segments run (k + 8) (omega (arith, tiles_le (word heap.system) Used run.segment.base run.first at run.first_stand)) (omega (arith, head_room)) (omega arith);
   }
 
   pub foot_there : (k : ℕ) → at ≤ k → k ≤ at + size → k % 8 ≡ 0 → HasFoot (regions heap.system) k
   foot_there k low high m = record {
     aligned = m;
     small = omega (arith, end_small);
-    granted = run_word (regions heap.system) sound.segments run k (omega (arith, low_room)) (omega (arith, head_room)) m;
+    granted = run_word (regions heap.system) sound.segments run k (omega (arith, tiles_le (word heap.system) Used run.segment.base run.first at run.first_stand)) (omega (arith, head_room)) m;
   }
 
   -- the stores of two calls, as one

@@ -35,12 +35,9 @@ module _ {A : Type 0} {regions : A → List Grant} {word : A → ℕ → ℕ} (z
       (after : HasOneMore (state_of word middle) (state_of word new) middle.top) (moved : IsMoved regions word follows middle new)
       (head : IsBoundary (state_of word new) (middle.top + 8)) (foot : IsBoundary (state_of word new) (middle.top + middle.top_size + 8))
       (others : (one : Extent) → one.at ≢ middle.top → extent_at one.at (extents_in (state_of word middle)) ≡ Some one → extent_at one.at (extents_in (state_of word new)) ≡ Some one) where
-    the_top : extent_at middle.top (extents_in (state_of word middle)) ≡ Some (extent middle.top middle.top_size Top)
-    the_top = top_among grown.sound grown.there
-
     -- what is found there is the top
     is_the_top : {one : Extent} → extent_at one.at (extents_in (state_of word middle)) ≡ Some one → one.at ≡ middle.top → extent middle.top middle.top_size Top ≡ one
-    is_the_top there same = the_extent (sym the_top ∙ (ap (λ a. extent_at a (extents_in (state_of word middle))) (sym same) ∙ there))
+    is_the_top there same = the_extent (sym (top_among grown.sound grown.there) ∙ (ap (λ a. extent_at a (extents_in (state_of word middle))) (sym same) ∙ there))
 
     boundary_still : (k : ℕ) → IsBoundary (state_of word middle) k → IsBoundary (state_of word new) k
     boundary_still k b = go (b.extent.at == middle.top) refl
@@ -95,7 +92,7 @@ module _ {A : Type 0} {regions : A → List Grant} {word : A → ℕ → ℕ} (z
           of_top = λ is. record {
             top = extent middle.top middle.top_size Top;
             is = refl;
-            there = ap (λ s. extent_at middle.top (extents_in s)) (sym grown.state) ∙ the_top;
+            there = ap (λ s. extent_at middle.top (extents_in s)) (sym grown.state) ∙ (top_among grown.sound grown.there);
             place = refl;
             state = state ∙ ap (λ s. taken s (extent middle.top middle.top_size Top) n) grown.state;
           };
@@ -112,7 +109,7 @@ module _ {A : Type 0} {regions : A → List Grant} {word : A → ℕ → ℕ} (z
       small = small;
       more = more_cut;
       holds = λ size holds near. subst (λ s. IsBlock s (middle.top + 16) size) (sym state)
-          (taken_block (state_of word middle) n size the_top (let room = grown.room in omega arith) holds near);
+          (taken_block (state_of word middle) n size (top_among grown.sound grown.there) (let room = grown.room in omega arith) holds near);
       kept = blocks_law_tags sound moved.sound words_cut (extents_in (state_of word old)) (λ block there used. (there, more_cut.kept block used there));
       words = words_cut;
       own = λ same. absurd (with_other grown.grant (sym (moved.regions_same ∙ grown.with_it) ∙ same));

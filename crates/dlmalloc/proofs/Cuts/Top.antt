@@ -13,50 +13,41 @@ use Rattle.dlmalloc.proofs.Cuts.FreeChunk.{IsTake, found_one}
 use Rattle.dlmalloc.proofs.Extents.Top.{is_top, top_among, foot_among}
 
 module _ {A : Type 0} {regions : A → List Grant} {word : A → ℕ → ℕ} {heap : Dlmalloc A} (sound : IsSound regions word heap) (some : 0 < heap.size) (n : ℕ) (multiple : n % 16 ≡ 0) (least : 32 ≤ n) (fits : n < heap.top_size) where
-  abbrev segments : List Segment
-  segments = segments_of word heap
-
   abbrev chunk : Extent
   chunk = extent heap.top heap.top_size Top
 
-  abbrev run : IsRunOf (word heap.system) segments heap.top (heap.top + heap.top_size) (chunk ∷ [])
-  run = run_of (regions heap.system) (word heap.system) segments sound.segments (top_among sound some)
-
-  stands : HasChunk (word heap.system) (last_kind Used run.first) chunk
-  stands = run.here.1
+  abbrev run : IsRunOf (word heap.system) (segments_of word heap) heap.top (heap.top + heap.top_size) (chunk ∷ [])
+  run = run_of (regions heap.system) (word heap.system) (segments_of word heap) sound.segments (top_among sound some)
 
   head_segment : run.front ≡ []
   head_segment = (is_top sound run.front run.segment run.back run.is
       (ap (extent_at heap.top) run.extents ∙ (found_later heap.top run.first (chunk ∷ run.last) (none_outside (word heap.system) Used run.segment.base run.first heap.top heap.top (inr (omega arith)) run.first_stand)
       ∙ found_here chunk run.last))).0
 
-  low : run.segment.base ≤ heap.top
-  low = tiles_le (word heap.system) Used run.segment.base run.first heap.top run.first_stand
-
   high : heap.top + heap.top_size ≤ run.segment.base + run.segment.size
   high = tiles_le (word heap.system) Top (heap.top + heap.top_size) run.last (run.segment.base + run.segment.size) run.last_stand
 
   room : n + 16 ≤ heap.top_size
-  room = omega (arith, stands.size.0)
+  room = omega (arith, run.here.1.size.0)
 
   pub end_small : heap.top + heap.top_size < 2 ^ 64
   end_small = omega (arith, high, (run_part (regions heap.system) sound.segments run).high)
 
   pub top_low : 4096 ≤ heap.top
-  top_low = omega (arith, low, (run_part (regions heap.system) sound.segments run).low)
+  top_low = omega (arith, tiles_le (word heap.system) Used run.segment.base run.first heap.top run.first_stand, (run_part (regions heap.system) sound.segments run).low)
 
   pub head_there : (k : ℕ) → heap.top ≤ k → k + 16 ≤ heap.top + heap.top_size → k % 8 ≡ 0 → HasHead (regions heap.system) k
   head_there k above below m = record {
     aligned = m;
     small = omega (arith, end_small);
-    granted = run_word (regions heap.system) sound.segments run (k + 8) (omega (arith, low)) (omega (arith, high)) (omega arith);
+    granted = run_word (regions heap.system) sound.segments run (k + 8) (omega (arith, tiles_le (word heap.system) Used run.segment.base run.first heap.top run.first_stand)) (omega (arith, high)) (omega arith);
   }
 
   pub top_head : HasHead (regions heap.system) heap.top
-  top_head = head_there heap.top (omega arith) (omega (arith, room)) (omega (arith, stands.whole))
+  top_head = head_there heap.top (omega arith) (omega (arith, room)) (omega (arith, run.here.1.whole))
 
   pub rest_head : HasHead (regions heap.system) (heap.top + n)
-  rest_head = head_there (heap.top + n) (omega arith) (omega (arith, room)) (omega (arith, stands.whole))
+  rest_head = head_there (heap.top + n) (omega arith) (omega (arith, room)) (omega (arith, run.here.1.whole))
 
   module _ (system : A) (same : regions system ≡ regions heap.system)
       (stored : AreStored (regions heap.system) (word heap.system) ((heap.top + 8, head_of n true true) ∷ (heap.top + n + 8, heap.top_size - n + 1) ∷ []) (word system)) where
@@ -79,7 +70,7 @@ module _ {A : Type 0} {regions : A → List Grant} {word : A → ℕ → ℕ} {h
     cut_step =
         let head = head_is word heap run.front run.segment run.back head_segment run.is sound.told in
         step_top after sound same run
-        (cut_top n stands multiple least room stored) refl
+        (cut_top n run.here.1 multiple least room stored) refl
         (λ k tail found is. absurd (let no : Top ≡ Record = top_one k found ∙ is in cc)) refl head_segment
         (record { some = head.some; base = head.base; size = head.size; flags = head.flags; top = where_top })
 

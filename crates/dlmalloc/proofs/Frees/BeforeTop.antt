@@ -43,33 +43,21 @@ module _ {A : Type 0} {regions : A → List Grant} {word : A → ℕ → ℕ} {h
     kind : top.kind ≡ Top
     kind = ap (λ e. e.kind) next_is
 
-    stand : Tiles words Used (at + size) (next.next ∷ next.rest) (one.segment.base + one.segment.size)
-    stand = behind (regions heap.system) sound.segments one next
-
     abbrev two : IsRunOf words segments at (at + size + top.size) (chunk ∷ top ∷ [])
     two = with_next (regions heap.system) sound.segments one next
 
     foot : HasNext two.last
     foot = has_next (regions heap.system) sound.segments two (ap ends_segment kind)
 
-    stand_foot : Tiles words top.kind (at + size + top.size) (foot.next ∷ foot.rest) (one.segment.base + one.segment.size)
-    stand_foot = behind (regions heap.system) sound.segments two foot
-
     foot_kind : foot.next.kind ≡ Foot
-    foot_kind = only_foot foot.next.kind (subst (λ k. MayStand k foot.next.kind) kind stand_foot.1.kind)
-
-    abbrev three : IsRunOf words segments at (at + size + top.size + foot.next.size) (chunk ∷ top ∷ foot.next ∷ [])
-    three = with_next (regions heap.system) sound.segments two foot
-
-    stands : HasChunk words (last_kind Used one.first) chunk
-    stands = one.here.1
+    foot_kind = only_foot foot.next.kind (subst (λ k. MayStand k foot.next.kind) kind (behind (regions heap.system) sound.segments two foot).1.kind)
 
     left : Left words one.segment.base one.first at from
     left =
-        let whole : size % 8 ≡ 0 = (let w = stands.size.0 in omega arith) in
-        let told : pinuse_of (words (at + 8)) ≡ is_used (last_kind Used one.first) = ap pinuse_of stands.head ∙ pinuse_of-head_of size (is_used (last_kind Used one.first)) true whole in
+        let whole : size % 8 ≡ 0 = (let w = one.here.1.size.0 in omega arith) in
+        let told : pinuse_of (words (at + 8)) ≡ is_used (last_kind Used one.first) = ap pinuse_of one.here.1.head ∙ pinuse_of-head_of size (is_used (last_kind Used one.first)) true whole in
         subst (λ f. Left words one.segment.base one.first at f) (ap (λ b. if b then at else at - words at) (sym told) ∙ sym from_is)
-        (left_of words one.segment.base one.first at one.first_stand stands.kind)
+        (left_of words one.segment.base one.first at one.first_stand one.here.1.kind)
 
     abbrev end : ℕ
     end = at + size + top.size
@@ -81,10 +69,7 @@ module _ {A : Type 0} {regions : A → List Grant} {word : A → ℕ → ℕ} {h
     run = with_left (regions heap.system) words segments two left
 
     abbrev wide : IsRunOf words segments from (end + foot.next.size) (left.lefts ++ chunk ∷ (top ∷ foot.next ∷ []))
-    wide = with_left (regions heap.system) words segments three left
-
-    from_at : from ≤ at
-    from_at = tiles_le words Used from left.lefts at left.lefts_stand
+    wide = with_left (regions heap.system) words segments (with_next (regions heap.system) sound.segments two foot) left
 
     -- the top that it becomes
     abbrev pub new_size : ℕ
@@ -94,7 +79,7 @@ module _ {A : Type 0} {regions : A → List Grant} {word : A → ℕ → ℕ} {h
     top_size = ap (λ e. e.size) next_is
 
     sum : from + new_size ≡ end
-    sum = omega (arith, from_at, top_size)
+    sum = omega (arith, tiles_le words Used from left.lefts at left.lefts_stand, top_size)
 
     pub new_small : from + new_size < 2 ^ 64
     new_small = omega (
@@ -104,14 +89,11 @@ module _ {A : Type 0} {regions : A → List Grant} {word : A → ℕ → ℕ} {h
       (run_part (regions heap.system) sound.segments one).high,
     )
 
-    long : 16 ≤ top.size
-    long = (sized top.kind top.size stand.1.size).1
-
     from_whole : from % 16 ≡ 0
     from_whole = begins_whole words (last_kind Used run.first) from left.lefts chunk (top ∷ []) end run.here
 
     end_whole : end % 16 ≡ 0
-    end_whole = omega (arith, stand_foot.0, stand_foot.1.whole)
+    end_whole = omega (arith, (behind (regions heap.system) sound.segments two foot).0, (behind (regions heap.system) sound.segments two foot).1.whole)
 
     abbrev joint : Extent
     joint = extent from new_size Top
@@ -172,10 +154,10 @@ module _ {A : Type 0} {regions : A → List Grant} {word : A → ℕ → ℕ} {h
 
     right_there : IsThere (at + size) less
     right_there =
-        let test : (at == at + size) ≡ false = nat_isnt (inl (let long = stands.size.1 in omega arith)) in (
+        let test : (at == at + size) ≡ false = nat_isnt (inl (let long = one.here.1.size.1 in omega arith)) in (
           top,
           found_later (at + size) left.lefts (chunk ∷ top ∷ []) (none_outside words Used from left.lefts at (at + size) (inr (omega arith)) left.lefts_stand)
-              ∙ rw test (subst (λ a. extent_at a (top ∷ []) ≡ Some top) stand.0 (found_here top [])),
+              ∙ rw test (subst (λ a. extent_at a (top ∷ []) ≡ Some top) (behind (regions heap.system) sound.segments one next).0 (found_here top [])),
         )
 
     head_segment : (run.front ≡ []) × (at + size ≡ heap.top)
@@ -183,8 +165,8 @@ module _ {A : Type 0} {regions : A → List Grant} {word : A → ℕ → ℕ} {h
         (ap (extent_at (at + size)) (one.extents ∙ ap (λ l. one.first ++ (chunk ∷ l)) next.is)
         ∙ (found_later (at + size) one.first (chunk ∷ top ∷ next.rest) (none_outside words Used one.segment.base one.first at (at + size) (inr (omega arith)) one.first_stand)
         ∙ (let first : (at == at + size) ≡ false = nat_isnt (inl (let s = one.some in omega arith)) in
-        let second : (top.at == at + size) ≡ true = (let p = stand.0 in grind (arith, nat_tests)) in
-        rw (first, second) (λ i. Some (extent (stand.0 i) top.size (kind i))))))
+        let second : (top.at == at + size) ≡ true = (let p = (behind (regions heap.system) sound.segments one next).0 in grind (arith, nat_tests)) in
+        rw (first, second) (λ i. Some (extent ((behind (regions heap.system) sound.segments one next).0 i) top.size (kind i))))))
 
     where_top : extent_at from (run.first ++ (more ++ run.last)) ≡ Some joint
     where_top =
@@ -194,7 +176,7 @@ module _ {A : Type 0} {regions : A → List Grant} {word : A → ℕ → ℕ} {h
     module _ (system : A) (same : regions system ≡ regions heap.system) (stored : IsStored (regions heap.system) words (from + 8) (new_size + 1) (word system)) where
       move : IsMove (regions heap.system) words (word system) (last_kind Used run.first) from end end less more
       move = subst (λ k. IsMove (regions heap.system) words (word system) k from end end less more) (sym left.used)
-          (join_top (regions heap.system) words (word system) from less from_whole new_size end_whole sum (omega (arith, long, top_size)) (subst (λ k. Tiles words k from less end) left.used run.here) stored)
+          (join_top (regions heap.system) words (word system) from less from_whole new_size end_whole sum (omega (arith, (sized top.kind top.size (behind (regions heap.system) sound.segments one next).1.size).1, top_size)) (subst (λ k. Tiles words k from less end) left.used run.here) stored)
 
       abbrev after : ℕ → ℕ → Dlmalloc A
       after victim victim_size = record heap { system = system; top = from; top_size = new_size; victim = victim; victim_size = victim_size }
@@ -207,7 +189,7 @@ module _ {A : Type 0} {regions : A → List Grant} {word : A → ℕ → ℕ} {h
 
       state_segments : in_segments (freed_in at) segments ≡ run.front ++ with_extents run.segment (run.first ++ (more ++ run.last)) ∷ run.back
       state_segments =
-          let is : extent from (foot.next.at - from) (joint_kind (top ∷ [])) ≡ joint = same_extent refl (omega (arith, stand_foot.0, sum)) kind in
+          let is : extent from (foot.next.at - from) (joint_kind (top ∷ [])) ≡ joint = same_extent refl (omega (arith, (behind (regions heap.system) sound.segments two foot).0, sum)) kind in
           let free : is_free foot.next.kind ≡ false = ap is_free foot_kind in
           freed_run (regions heap.system) (word system) sound.segments sound.apart at size left.lefts (top ∷ []) foot.next left.beside (ap is_free kind) free wide
           (subst (λ e. Tiles (word system) Used run.segment.base (run.first ++ (e ∷ foot.next ∷ foot.rest)) (run.segment.base + run.segment.size)) (sym is)

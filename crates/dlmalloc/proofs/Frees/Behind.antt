@@ -7,26 +7,17 @@ use Rattle.dlmalloc.proofs.Extents.RunReplaced.{run_of, run_part, HasNext, has_n
 
 module _ {A : Type 0} {regions : A → List Grant} {word : A → ℕ → ℕ} {heap : Dlmalloc A} (sound : IsSound regions word heap) {at size : ℕ}
     (there : extent_at at (extents_in (state_of word heap)) ≡ Some (extent at size Used)) where
-  abbrev segments : List Segment
-  segments = segments_of word heap
-
-  abbrev words : ℕ → ℕ
-  words = word heap.system
-
   abbrev chunk : Extent
   chunk = extent at size Used
 
-  abbrev run : IsRunOf words segments at (at + size) (chunk ∷ [])
-  run = run_of (regions heap.system) words segments sound.segments there
+  abbrev run : IsRunOf (word heap.system) (segments_of word heap) at (at + size) (chunk ∷ [])
+  run = run_of (regions heap.system) (word heap.system) (segments_of word heap) sound.segments there
 
   abbrev next : HasNext run.last
   next = has_next (regions heap.system) sound.segments run refl
 
-  stands : Tiles words Used (at + size) (next.next ∷ next.rest) (run.segment.base + run.segment.size)
-  stands = behind (regions heap.system) sound.segments run next
-
   pub place : next.next.at ≡ at + size
-  place = stands.0
+  place = (behind (regions heap.system) sound.segments run next).0
 
   extents : run.segment.extents ≡ run.first ++ (chunk ∷ next.next ∷ next.rest)
   extents = run.extents ∙ ap (λ es. run.first ++ (chunk ∷ es)) next.is
@@ -37,10 +28,10 @@ module _ {A : Type 0} {regions : A → List Grant} {word : A → ℕ → ℕ} {h
       let other : (at == next.next.at) ≡ false = nat_isnt (inl (let some = run.some in let p = place in omega arith)) in
       let here : extent_at next.next.at (chunk ∷ next.next ∷ next.rest) ≡ Some next.next = rw other (found_here next.next next.rest) in
       ap (extent_at next.next.at) extents ∙ distinct_later run.first (chunk ∷ next.next ∷ next.rest) next.next.at
-      (subst AreDistinct extents (tiles_distinct words Used run.segment.base run.segment.extents (run.segment.base + run.segment.size) part.extents)) here
+      (subst AreDistinct extents (tiles_distinct (word heap.system) Used run.segment.base run.segment.extents (run.segment.base + run.segment.size) part.extents)) here
 
   pub next_there : extent_at next.next.at (extents_in (state_of word heap)) ≡ Some next.next
-  next_there = among_all (regions heap.system) words sound.segments sound.apart run.front run.segment run.back run.is next.next.at in_segment
+  next_there = among_all (regions heap.system) (word heap.system) sound.segments sound.apart run.front run.segment run.back run.is next.next.at in_segment
 
   -- a head does
   pub next_boundary : IsBoundary (state_of word heap) (at + size + 8)

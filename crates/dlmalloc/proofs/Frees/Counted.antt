@@ -50,15 +50,12 @@ module _ {A : Type 0} {regions : A → List Grant} {word : A → ℕ → ℕ} {h
   is_in : IsIn (word heap.system) l.segment.base (l.segment.base + l.segment.size) one
   is_in = in_part (word heap.system) Used l.segment.base l.segment.extents (l.segment.base + l.segment.size) part.extents l.there
 
-  long : 16 ≤ one.size
-  long = (sized one.kind one.size is_in.stands.size).1
-
   -- its head is granted
   pub around_head : HasHead (regions heap.system) from
   around_head = record {
     aligned = omega (arith, is_in.stands.whole, place);
-    small = omega (arith, is_in.high, part.high, long, place);
-    granted = record { granted = part.run.covered (from + 8) (omega (arith, is_in.low, place)) (omega (arith, is_in.high, long, place)); aligned = omega (arith, is_in.stands.whole, place) };
+    small = omega (arith, is_in.high, part.high, (sized one.kind one.size is_in.stands.size).1, place);
+    granted = record { granted = part.run.covered (from + 8) (omega (arith, is_in.low, place)) (omega (arith, is_in.high, (sized one.kind one.size is_in.stands.size).1, place)); aligned = omega (arith, is_in.stands.whole, place) };
   }
 
   -- it is the top, or a free chunk before it
@@ -146,14 +143,11 @@ same_words : (blocks : List Extent) (words : ℕ → ℕ) → KeepsBlocks blocks
 same_words blocks words = record { words = λ block there used k low high m. refl; heads = λ block there used. refl }
 
 module _ {A : Type 0} {regions : A → List Grant} {word : A → ℕ → ℕ} (follows : A → List Event → A → Type 0) (follows_none : (x : A) → follows x [] x) (frees parts : Bool) {old : Dlmalloc A} (sound : IsSound regions word old) (at : ℕ) where
-  abbrev counts : Bool
-  counts = is_counted (state_of word old) at
-
-  gone_none : (counts && nat_le old.countdown 1) ≡ false → left_by_count frees parts (state_of word old) at ≡ []
+  gone_none : ((is_counted (state_of word old) at) && nat_le old.countdown 1) ≡ false → left_by_count frees parts (state_of word old) at ≡ []
   gone_none none = ap (λ b. if b then taken_back frees (handed_out parts (segments_of word old)) else []) none
 
   -- nothing does
-  pub counted_none : counts ≡ false → IsCounted regions word follows frees parts old at old
+  pub counted_none : (is_counted (state_of word old) at) ≡ false → IsCounted regions word follows frees parts old at old
   counted_none none =
       let gone = gone_none (ap (λ b. b && nat_le old.countdown 1) none) in
       record {
@@ -168,7 +162,7 @@ module _ {A : Type 0} {regions : A → List Grant} {word : A → ℕ → ℕ} (f
       }
 
   -- the countdown falls
-  pub counted_less : counts ≡ true → nat_le old.countdown 1 ≡ false → IsCounted regions word follows frees parts old at (record old { countdown = old.countdown - 1 })
+  pub counted_less : (is_counted (state_of word old) at) ≡ true → nat_le old.countdown 1 ≡ false → IsCounted regions word follows frees parts old at (record old { countdown = old.countdown - 1 })
   counted_less is more =
       let gone = gone_none ((λ i. is i && more i)) in
       record {
@@ -183,7 +177,7 @@ module _ {A : Type 0} {regions : A → List Grant} {word : A → ℕ → ℕ} (f
       }
 
   -- it ended, and a pass was made
-  pub counted_pass : counts ≡ true → nat_le old.countdown 1 ≡ true → {bytes : ℕ} {new : Dlmalloc A} → IsPassed regions word follows frees parts old bytes new → IsCounted regions word follows frees parts old at new
+  pub counted_pass : (is_counted (state_of word old) at) ≡ true → nat_le old.countdown 1 ≡ true → {bytes : ℕ} {new : Dlmalloc A} → IsPassed regions word follows frees parts old bytes new → IsCounted regions word follows frees parts old at new
   counted_pass is ends {new} p =
       let gone : left_by_count frees parts (state_of word old) at ≡ taken_back frees (handed_out parts (segments_of word old)) =
       (λ i. if is i && ends i then taken_back frees (handed_out parts (segments_of word old)) else []) in

@@ -57,15 +57,12 @@ module _ {A : Type 0} {regions : A → List Grant} {word : A → ℕ → ℕ} {h
     pub right : Right words segments at size to
     right = subst (λ t. Right words segments at size t) (sym to_is) (right_of (regions heap.system) sound.segments run_one no_top)
 
-    stands : HasChunk words (last_kind Used right.run.first) chunk
-    stands = right.run.here.1
-
     pub left : Left words right.run.segment.base right.run.first at from
     left =
-        let whole : size % 8 ≡ 0 = (let w = stands.size.0 in omega arith) in
-        let told : pinuse_of (words (at + 8)) ≡ is_used (last_kind Used right.run.first) = ap pinuse_of stands.head ∙ pinuse_of-head_of size (is_used (last_kind Used right.run.first)) true whole in
+        let whole : size % 8 ≡ 0 = (let w = right.run.here.1.size.0 in omega arith) in
+        let told : pinuse_of (words (at + 8)) ≡ is_used (last_kind Used right.run.first) = ap pinuse_of right.run.here.1.head ∙ pinuse_of-head_of size (is_used (last_kind Used right.run.first)) true whole in
         subst (λ f. Left words right.run.segment.base right.run.first at f) (ap (λ b. if b then at else at - words at) (sym told) ∙ sym from_is)
-        (left_of words right.run.segment.base right.run.first at right.run.first_stand stands.kind)
+        (left_of words right.run.segment.base right.run.first at right.run.first_stand right.run.here.1.kind)
 
     abbrev pub next : Extent
     next = right.next
@@ -79,11 +76,8 @@ module _ {A : Type 0} {regions : A → List Grant} {word : A → ℕ → ℕ} {h
     abbrev pub run : IsRunOf words segments from end less
     run = with_left (regions heap.system) words segments right.run left
 
-    from_at : from ≤ at
-    from_at = tiles_le words Used from left.lefts at left.lefts_stand
-
     pub room : from + 32 ≤ to
-    room = omega (arith, from_at, right.reach, stands.size.1)
+    room = omega (arith, tiles_le words Used from left.lefts at left.lefts_stand, right.reach, right.run.here.1.size.1)
 
     pub from_whole : from % 16 ≡ 0
     from_whole = begins_whole words (last_kind Used run.first) from left.lefts chunk (right.rights ++ next ∷ []) end run.here
@@ -104,14 +98,11 @@ module _ {A : Type 0} {regions : A → List Grant} {word : A → ℕ → ℕ} {h
         go (inl is) = ap is_free is
         go (inr is) = ap is_free is
 
-    low : run.segment.base ≤ from
-    low = tiles_le words Used run.segment.base run.first from run.first_stand
-
     high : end ≤ run.segment.base + run.segment.size
     high = tiles_le words (last_kind (last_kind Used run.first) less) end run.last (run.segment.base + run.segment.size) run.last_stand
 
     pub word_there : (k : ℕ) → from ≤ k → k < end → k % 8 ≡ 0 → IsWordOf (regions heap.system) k
-    word_there k above below m = run_word (regions heap.system) sound.segments run k (omega (arith, low)) (omega (arith, high)) m
+    word_there k above below m = run_word (regions heap.system) sound.segments run k (omega (arith, tiles_le words Used run.segment.base run.first from run.first_stand)) (omega (arith, high)) m
 
     last_less : last_kind (last_kind Used run.first) less ≡ next.kind
     last_less = last_append (last_kind Used run.first) left.lefts (chunk ∷ (right.rights ++ next ∷ [])) ∙ last_append Used right.rights (next ∷ [])
@@ -160,8 +151,8 @@ module _ {A : Type 0} {regions : A → List Grant} {word : A → ℕ → ℕ} {h
         ∙ rw (test, test') (found_later k right.rights (next ∷ []) (none_right k out))
       where
         apart : (k < from) ⊎ (to ≤ k) → (at < k) ⊎ (k < at)
-        apart (inl a) = inr (omega (arith, from_at))
-        apart (inr b) = inl (omega (arith, right.reach, stands.size.1))
+        apart (inl a) = inr (omega (arith, tiles_le words Used from left.lefts at left.lefts_stand))
+        apart (inr b) = inl (omega (arith, right.reach, right.run.here.1.size.1))
 
         apart' : (k < from) ⊎ (to ≤ k) → (from < k) ⊎ (k < from)
         apart' (inl a) = inr a
@@ -178,7 +169,7 @@ module _ {A : Type 0} {regions : A → List Grant} {word : A → ℕ → ℕ} {h
             none_outside words Used (at + size) right.rights s.middle k (outer' s.middle place out) s.first
           where
             outer' : (m : ℕ) → m ≡ to → (k < from) ⊎ (to ≤ k) → (k < at + size) ⊎ (m ≤ k)
-            outer' m is (inl a) = inl (omega (arith, from_at))
+            outer' m is (inl a) = inl (omega (arith, tiles_le words Used from left.lefts at left.lefts_stand))
             outer' m is (inr b) = inr (omega arith)
 
     -- what stands behind it is found there
@@ -200,17 +191,14 @@ module _ {A : Type 0} {regions : A → List Grant} {word : A → ℕ → ℕ} {h
     high_end : end < 2 ^ 64
     high_end = omega (arith, high, (run_part (regions heap.system) sound.segments run).high)
 
-    next_long : 16 ≤ right.next.size
-    next_long = (sized right.next.kind right.next.size right.stands.size).1
-
     pub end_small : to < 2 ^ 64
     end_small = omega (arith, high_end)
 
     pub end_head : HasHead (regions heap.system) (from + (to - from))
-    end_head = record { aligned = omega (arith, to_whole, room); small = omega (arith, high_end, next_long, room); granted = word_there (from + (to - from) + 8) (omega (arith, room)) (omega (arith, next_long, room)) (omega (arith, to_whole, room)) }
+    end_head = record { aligned = omega (arith, to_whole, room); small = omega (arith, high_end, (sized right.next.kind right.next.size right.stands.size).1, room); granted = word_there (from + (to - from) + 8) (omega (arith, room)) (omega (arith, (sized right.next.kind right.next.size right.stands.size).1, room)) (omega (arith, to_whole, room)) }
 
     pub end_foot : HasFoot (regions heap.system) (from + (to - from))
-    end_foot = record { aligned = omega (arith, to_whole, room); small = omega (arith, high_end, next_long, room); granted = word_there (from + (to - from)) (omega (arith, room)) (omega (arith, next_long, room)) (omega (arith, to_whole, room)) }
+    end_foot = record { aligned = omega (arith, to_whole, room); small = omega (arith, high_end, (sized right.next.kind right.next.size right.stands.size).1, room); granted = word_there (from + (to - from)) (omega (arith, room)) (omega (arith, (sized right.next.kind right.next.size right.stands.size).1, room)) (omega (arith, to_whole, room)) }
 
     pub whole_size : (to - from) % 8 ≡ 0
     whole_size = omega (arith, to_whole, from_whole, room)
@@ -257,7 +245,7 @@ module _ {A : Type 0} {regions : A → List Grant} {word : A → ℕ → ℕ} {h
     right_there : IsThere (at + size) less
     right_there =
         let f = first_there words Used (at + size) right.rights next end right.run.here.2 in
-        let test : (at == at + size) ≡ false = nat_isnt (inl (let long = stands.size.1 in omega arith)) in
+        let test : (at == at + size) ≡ false = nat_isnt (inl (let long = right.run.here.1.size.1 in omega arith)) in
         (f.0, found_later (at + size) left.lefts (chunk ∷ (right.rights ++ next ∷ [])) (none_outside words Used from left.lefts at (at + size) (inr (omega arith)) left.lefts_stand) ∙ rw test f.1)
 
     -- ---- the words are stored
@@ -270,14 +258,11 @@ module _ {A : Type 0} {regions : A → List Grant} {word : A → ℕ → ℕ} {h
           (join (regions heap.system) words (word system) from less from_whole to next to_whole room right.place right.stands right.kind (subst (λ k. Tiles words k from less end) left.used run.here) stored
           (λ k above below m. word_there k (omega (arith, right.place, room)) (omega (arith, right.place)) m))
 
-      kind_same : last_kind (last_kind Used run.first) more ≡ last_kind (last_kind Used run.first) less
-      kind_same = sym last_less
-
       abbrev after : ℕ → ℕ → Dlmalloc A
       after victim victim_size = record heap { system = system; victim = victim; victim_size = victim_size }
 
       abbrev step : (victim victim_size : ℕ) → IsStep regions word heap (after victim victim_size) less more
-      step victim victim_size = step_beside (after victim victim_size) sound same run move kind_same (λ k tail found. (tails k found).0) refl
+      step victim victim_size = step_beside (after victim victim_size) sound same run move (sym last_less) (λ k tail found. (tails k found).0) refl
           (record { base = refl; size = refl; flags = refl; top = refl; top_size = refl }) (λ k tail found. (tails k found).1)
 
       state_segments : in_segments (freed_in at) segments ≡ run.front ++ with_extents run.segment (run.first ++ (more ++ run.last)) ∷ run.back
@@ -341,6 +326,6 @@ module _ {A : Type 0} {regions : A → List Grant} {word : A → ℕ → ℕ} {h
         there = let test : (from == from) ≡ true = nat_same from in found_new sound (step victim victim_size) from joint (rw test refl);
         place = refl;
         free = refl;
-        low = from_at;
-        high = omega (arith, room, right.reach, stands.size.1);
+        low = tiles_le words Used from left.lefts at left.lefts_stand;
+        high = omega (arith, room, right.reach, right.run.here.1.size.1);
       }

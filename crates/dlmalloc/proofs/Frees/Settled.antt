@@ -65,9 +65,6 @@ module _ {A : Type 0} {regions : A → List Grant} {word : A → ℕ → ℕ} {h
   there : extent_at one.at all ≡ Some one
   there = subst (λ a. extent_at a all ≡ Some one) (sym around.place) around.there
 
-  some : 0 < heap.size
-  some = some_segment word heap one.at there
-
   apart : AreDistinct all
   apart = all_distinct (regions heap.system) (word heap.system) (segments_of word heap) sound.segments sound.apart
 
@@ -77,15 +74,12 @@ module _ {A : Type 0} {regions : A → List Grant} {word : A → ℕ → ℕ} {h
       let l = located other.at (segments_of word heap) found in
       (is_top sound l.front l.segment l.back l.is (l.there ∙ (λ i. Some (extent other.at other.size (is i))))).1
 
-  top_there : extent_at heap.top all ≡ Some (extent heap.top heap.top_size Top)
-  top_there = top_among sound some
-
   pub above_top : from ≡ heap.top → is_above_check (state_of word heap) at ≡ nat_lt heap.trim_check heap.top_size
   above_top is = ap (λ o. nat_lt heap.trim_check (unwrap_or (option_map (λ extent. extent.size) o) 0))
-      (find_only (is_top_with at) all apart top_there holds (λ other found test. place_of found (top_with at other test).kind))
+      (find_only (is_top_with at) all apart (top_among sound (some_segment word heap one.at there)) holds (λ other found test. place_of found (top_with at other test).kind))
     where
       same : one ≡ extent heap.top heap.top_size Top
-      same = the_extent (sym there ∙ (ap (λ a. extent_at a all) (around.place ∙ is) ∙ top_there))
+      same = the_extent (sym there ∙ (ap (λ a. extent_at a all) (around.place ∙ is) ∙ (top_among sound (some_segment word heap one.at there))))
 
       size : one.size ≡ heap.top_size
       size = ap (λ e. e.size) same
@@ -113,7 +107,7 @@ module _ {A : Type 0} {regions : A → List Grant} {word : A → ℕ → ℕ} {h
       go : (b : Bool) → (from == heap.top) ≡ b → (from ≡ heap.top) × (at < heap.top + heap.top_size)
       go true is =
           let place : from ≡ heap.top = nat_is is in
-          let size : one.size ≡ heap.top_size = ap (λ e. e.size) (the_extent (sym there ∙ (ap (λ a. extent_at a all) (around.place ∙ place) ∙ top_there))) in
+          let size : one.size ≡ heap.top_size = ap (λ e. e.size) (the_extent (sym there ∙ (ap (λ a. extent_at a all) (around.place ∙ place) ∙ (top_among sound (some_segment word heap one.at there))))) in
           (place, omega arith)
       go false isnt = absurd (let under = above_none (λ same. (let is : (from == heap.top) ≡ true = ap (λ n. n == heap.top) same ∙ nat_same heap.top in cc)) in cc)
 

@@ -14,22 +14,16 @@ use Rattle.dlmalloc.proofs.Frees.OfChunk.{IsFree, run_one, below_top, end_small}
 
 module _ {A : Type 0} {regions : A → List Grant} {word : A → ℕ → ℕ} {heap : Dlmalloc A} (sound : IsSound regions word heap) {at size : ℕ}
     (there : extent_at at (extents_in (state_of word heap)) ≡ Some (extent at size Used)) where
-  abbrev segments : List Segment
-  segments = segments_of word heap
-
   abbrev words : ℕ → ℕ
   words = word heap.system
 
-  abbrev chunk : Extent
-  chunk = extent at size Used
-
-  abbrev one : IsRunOf words segments at (at + size) (chunk ∷ [])
+  abbrev one : IsRunOf words (segments_of word heap) at (at + size) ((extent at size Used) ∷ [])
   one = run_one sound there
 
   abbrev next : HasNext one.last
   next = next_one (regions heap.system) sound.segments one
 
-  stands : HasChunk words (last_kind Used one.first) chunk
+  stands : HasChunk words (last_kind Used one.first) (extent at size Used)
   stands = one.here.1
 
   stand : Tiles words Used (at + size) (next.next ∷ next.rest) (one.segment.base + one.segment.size)
@@ -46,9 +40,6 @@ module _ {A : Type 0} {regions : A → List Grant} {word : A → ℕ → ℕ} {h
 
   high : one.segment.base + one.segment.size < 2 ^ 64
   high = (run_part (regions heap.system) sound.segments one).high
-
-  base : 4096 ≤ one.segment.base
-  base = (run_part (regions heap.system) sound.segments one).low
 
   granted : (k : ℕ) → one.segment.base ≤ k → k < at + size + 16 → k % 8 ≡ 0 → IsWordOf (regions heap.system) k
   granted k low below m = run_word (regions heap.system) sound.segments one k low (omega (arith, head_room)) m
@@ -72,8 +63,8 @@ module _ {A : Type 0} {regions : A → List Grant} {word : A → ℕ → ℕ} {h
   -- what stands behind it
   next_found : extent_at (at + size) one.segment.extents ≡ Some next.next
   next_found =
-      ap (extent_at (at + size)) (one.extents ∙ ap (λ l. one.first ++ (chunk ∷ l)) next.is)
-      ∙ (found_later (at + size) one.first (chunk ∷ next.next ∷ next.rest) (none_outside words Used one.segment.base one.first at (at + size) (inr (omega arith)) one.first_stand)
+      ap (extent_at (at + size)) (one.extents ∙ ap (λ l. one.first ++ ((extent at size Used) ∷ l)) next.is)
+      ∙ (found_later (at + size) one.first ((extent at size Used) ∷ next.next ∷ next.rest) (none_outside words Used one.segment.base one.first at (at + size) (inr (omega arith)) one.first_stand)
       ∙ (let first : (at == at + size) ≡ false = nat_isnt (inl (let s = one.some in omega arith)) in
       let second : (next.next.at == at + size) ≡ true = (let p = stand.0 in grind (arith, nat_tests)) in
       rw (first, second) refl))
@@ -109,7 +100,7 @@ module _ {A : Type 0} {regions : A → List Grant} {word : A → ℕ → ℕ} {h
     pub foot_fits : pinuse_of (words (at + 8)) ≡ false → words at ≤ at
     foot_fits unused =
         let is : from ≡ at - words at = from_is ∙ ap (λ b. if b then at else at - words at) unused in
-        omega (arith, from_low, base)
+        omega (arith, from_low, (run_part (regions heap.system) sound.segments one).low)
 
     from_whole : from % 16 ≡ 0
     from_whole = go left_one.lefts left_one.lefts_stand
@@ -148,7 +139,7 @@ module _ {A : Type 0} {regions : A → List Grant} {word : A → ℕ → ℕ} {h
         small_top = subst (λ t. from + (heap.top_size + (t - from)) < 2 ^ 64) to_eq (new_small sound there (next_top (touches is)) from_is)
 
         pub from_some : 4096 ≤ from
-        from_some = omega (arith, from_low, base)
+        from_some = omega (arith, from_low, (run_part (regions heap.system) sound.segments one).low)
 
         -- the top has the chunk's first byte
         pub around_top : (new : Dlmalloc A) → IsSound regions word new → new.size ≡ heap.size → new.top ≡ from → new.top_size ≡ heap.top_size + (to - from) → IsFreeAround (state_of word new) at from

@@ -74,12 +74,8 @@ granularity_after frees parts unit heap at = above (is_above_check heap at)
 module _ {A : Type 0} {regions : A → List Grant} {word : A → ℕ → ℕ} {follows : A → List Event → A → Type 0} (on : (x y z : A) (a b c : List Event) → follows x a y → follows y b z → a ++ b ≡ c → follows x c z) {frees parts : Bool} {unit : ℕ}
     {old middle new : Dlmalloc A} {address : ℕ} (sound : IsSound regions word old) (disposed : IsDisposed regions word follows old address middle) {from : ℕ} (around : IsFreeAround (state_of word middle) (address - 16) from)
     (settled : IsSettled regions word follows frees parts unit middle (address - 16) new) where
-  -- there is a head segment, and the merging leaves it where it is
-  some : 0 < middle.size
-  some = some_segment word middle from around.there
-
   head_merged : (old.base ≡ middle.base) × (old.size ≡ middle.size)
-  head_merged = same_head old disposed.sound sound some
+  head_merged = same_head old disposed.sound sound (some_segment word middle from around.there)
       (let same = first_changed (freed_in (address - 16)) (segments_of word old) in let is = ap (λ heap. heap.segments) disposed.state in (sym same.0 ∙ sym (ap first_base is), sym same.1 ∙ sym (ap first_size is)))
 
   -- so does the rest, unless it became part of a top above the trim check
@@ -92,14 +88,14 @@ module _ {A : Type 0} {regions : A → List Grant} {word : A → ℕ → ℕ} {f
           = settled.state ∙ ap (λ b. if b then trimmed frees parts unit 0 (state_of word middle) else counted frees parts (state_of word middle) (address - 16)) under in
           let same = first_counted frees parts (state_of word middle) (address - 16) in
           let is = ap (λ heap. heap.segments) state in
-          let left = same_head new disposed.sound settled.sound some (ap first_base is ∙ same.0, ap first_size is ∙ same.1) in
+          let left = same_head new disposed.sound settled.sound (some_segment word middle from around.there) (ap first_base is ∙ same.0, ap first_size is ∙ same.1) in
           inl (left.0 ∙ sym head_merged.0, left.1 ∙ sym head_merged.1)
       go true above =
           let place = top_around disposed.sound around above in
           let low = around.low in
           inr (record {
-            within = omega (arith, ends disposed.sound some, head_merged.0, head_merged.1);
-            behind = λ used is there. elim (beside_top disposed.sound some is (settled.used.before used is there)) [
+            within = omega (arith, ends disposed.sound (some_segment word middle from around.there), head_merged.0, head_merged.1);
+            behind = λ used is there. elim (beside_top disposed.sound (some_segment word middle from around.there) is (settled.used.before used is there)) [
               | inl before ↦ inl (omega arith)
               | inr beyond ↦ inr (omega (arith, head_merged.0, head_merged.1))
             ];

@@ -32,9 +32,6 @@ module _ {A : Type 0} {regions : A → List Grant} {word : A → ℕ → ℕ} (f
     abbrev pub head_now : Dlmalloc A
     head_now = record heap { system = system; base = grant.base; size = heap.size + grant.size }
 
-    place_is : b.segment.base ≡ grant.base + grant.size
-    place_is = (before_means grant b.segment b.joins).0
-
     parts_are : AreSegments (regions heap.system) (word heap.system) (b.segment ∷ b.back)
     parts_are = subst (AreSegments (regions heap.system) (word heap.system)) b.is sound.segments
 
@@ -43,7 +40,7 @@ module _ {A : Type 0} {regions : A → List Grant} {word : A → ℕ → ℕ} (f
 
     keeps_its : KeepsIts (word heap.system) (word system) b.segment
     keeps_its k low high m = kept k (record { granted = parts_are.0.run.covered k (omega arith) high; aligned = m })
-        (λ is. omega (arith, place_is)) (λ is. omega (arith, place_is))
+        (λ is. omega (arith, (before_means grant b.segment b.joins).0)) (λ is. omega (arith, (before_means grant b.segment b.joins).0))
 
     abbrev joint : IsJoining regions word heap system grant n (λ k. ⊤)
     joint = record {
@@ -61,9 +58,6 @@ module _ {A : Type 0} {regions : A → List Grant} {word : A → ℕ → ℕ} (f
       kept = λ k inside a c u. kept k inside a c;
     }
 
-    tiles_now : Tiles (word system) Used b.segment.base b.segment.extents (b.segment.base + b.segment.size)
-    tiles_now = (one_stays (regions heap.system) (word heap.system) (word system) parts_are.0 keeps_its).extents
-
     top_in : IsIn (word heap.system) b.segment.base (b.segment.base + b.segment.size) (extent heap.top heap.top_size Top)
     top_in = in_part (word heap.system) Used b.segment.base b.segment.extents (b.segment.base + b.segment.size) parts_are.0.extents told_are.4
 
@@ -73,14 +67,14 @@ module _ {A : Type 0} {regions : A → List Grant} {word : A → ℕ → ℕ} (f
       refl,
       omega (arith, told_are.2),
       told_are.3,
-      behind_two grant n b.segment heap.top place_is (omega arith) top_in.low told_are.4,
+      behind_two grant n b.segment heap.top ((before_means grant b.segment b.joins).0) (omega arith) top_in.low told_are.4,
       records_stay (regions heap.system) (word heap.system) (word system) b.back parts_are.1
           (back_keeps head_now sound joint) heap.next told_are.5,
     )
 
     pub before_head : IsPrepended regions word follows heap grant n head_now
     before_head = is_prepended head_now sound joint
-        whole first second tiles_now told_now follows followed (omega (arith, told_are.0)) refl refl refl refl refl refl (λ k tag. tt)
+        whole first second ((one_stays (regions heap.system) (word heap.system) (word system) parts_are.0 keeps_its).extents) told_now follows followed (omega (arith, told_are.0)) refl refl refl refl refl refl (λ k tag. tt)
 
   -- ---- before one that a record tells
 

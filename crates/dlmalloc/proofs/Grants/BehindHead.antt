@@ -45,20 +45,8 @@ module _ {A : Type 0} {regions : A → List Grant} {word : A → ℕ → ℕ} {h
   abbrev old_run : IsRunOf (word heap.system) (segments_of word heap) heap.top (heap.top + heap.top_size) (extent heap.top heap.top_size Top ∷ [])
   old_run = top_run sound some
 
-  old_part : IsSegment (regions heap.system) (word heap.system) old_run.segment
-  old_part = top_part sound some
-
   was : IsHead heap old_run.segment
   was = top_segment sound some
-
-  last_is : (old_run.last ≡ extent (old_run.segment.base + old_run.segment.size - 80) 80 Foot ∷ []) × (heap.top + heap.top_size + 80 ≡ old_run.segment.base + old_run.segment.size)
-  last_is = top_last sound some
-
-  sizes : (heap.top_size % 16 ≡ 0) × (16 ≤ heap.top_size)
-  sizes = top_sizes sound some
-
-  closes : heap.top + heap.top_size + 80 ≡ heap.base + heap.size
-  closes = ends sound some
 
   abbrev less : List Extent
   less = extent heap.top heap.top_size Top ∷ extent (heap.top + heap.top_size) 80 Foot ∷ []
@@ -67,7 +55,7 @@ module _ {A : Type 0} {regions : A → List Grant} {word : A → ℕ → ℕ} {h
   length_now = heap.top_size + grant.size
 
   length_is : length_now ≡ heap.base + (heap.size + grant.size) - 80 - heap.top
-  length_is = omega (arith, closes)
+  length_is = omega (arith, ends sound some)
 
   abbrev more : List Extent
   more = extent heap.top length_now Top ∷ extent (heap.top + length_now) 80 Foot ∷ []
@@ -76,17 +64,17 @@ module _ {A : Type 0} {regions : A → List Grant} {word : A → ℕ → ℕ} {h
   now = record { base = old_run.segment.base; size = old_run.segment.size + grant.size; flags = old_run.segment.flags; extents = old_run.first ++ more }
 
   now_end : heap.top + length_now + 80 ≡ old_run.segment.base + (old_run.segment.size + grant.size)
-  now_end = omega (arith, last_is.1)
+  now_end = omega (arith, (top_last sound some).1)
 
   -- words of the chunks before the top stay, and so do those of other segments
   first_kept : (k : ℕ) → IsWordOf (regions heap.system) k → k ≤ heap.top → word system k ≡ word heap.system k
-  first_kept k inside below = kept k inside (λ is. omega arith) (λ is. omega (arith, closes))
+  first_kept k inside below = kept k inside (λ is. omega arith) (λ is. omega (arith, ends sound some))
 
   outside_kept : (k : ℕ) → IsWordOf (regions heap.system) k → IsOutside old_run.segment k → IsOutside (opened grant) k → word system k ≡ word heap.system k
   outside_kept k inside first second = kept k inside
       (λ is. elim first [
         | inl below ↦ omega (arith, was.base, top_low sound some)
-        | inr above ↦ omega (arith, last_is.1)
+        | inr above ↦ omega (arith, (top_last sound some).1)
       ])
       (λ is. elim second [
         | inl below ↦ omega arith
@@ -96,21 +84,21 @@ module _ {A : Type 0} {regions : A → List Grant} {word : A → ℕ → ℕ} {h
   more_stand : Tiles (word system) (last_kind Used old_run.first) heap.top more (old_run.segment.base + (old_run.segment.size + grant.size))
   more_stand =
       let units = fresh.size_aligned in
-      let place : heap.top + length_now + 8 ≡ heap.base + (heap.size + grant.size) - 72 = omega (arith, closes) in
+      let place : heap.top + length_now + 8 ≡ heap.base + (heap.size + grant.size) - 72 = omega (arith, ends sound some) in
       subst (λ end. Tiles (word system) (last_kind Used old_run.first) heap.top more end) now_end
-      (top_stands (word system) heap.top length_now old_run.here.1.kind (top_whole sound some) (omega (arith, sizes.0)) (omega (arith, sizes.1)) (head ∙ ap (λ n. n + 1) (sym length_is)) (ap (word system) place ∙ foot))
+      (top_stands (word system) heap.top length_now old_run.here.1.kind (top_whole sound some) (omega (arith, (top_sizes sound some).0)) (omega (arith, (top_sizes sound some).1)) (head ∙ ap (λ n. n + 1) (sym length_is)) (ap (word system) place ∙ foot))
 
   is_now : IsSegment (regions system) (word system) now
   is_now = record {
     run = subst (λ rs. IsRun rs old_run.segment.base (old_run.segment.size + grant.size) old_run.segment.flags) (sym same)
-        (runs_joined (begins ∙ (λ i. was.base i + was.size i)) old_part.run
+        (runs_joined (begins ∙ (λ i. was.base i + was.size i)) (top_part sound some).run
         (subst (λ f. IsRun (regions heap.system) grant.base grant.size f) (equal ∙ was.flags) fresh.run) whole);
-    low = old_part.low;
+    low = (top_part sound some).low;
     high = omega (arith, was.base, was.size);
-    long = omega (arith, old_part.long);
+    long = omega (arith, (top_part sound some).long);
     extents = tiles_append (word system) Used old_run.segment.base old_run.first more heap.top (old_run.segment.base + (old_run.segment.size + grant.size))
         (tiles_kept (word heap.system) (word system) Used old_run.segment.base old_run.first heap.top old_run.first_stand
-        (λ k above below m free. first_kept k (record { granted = old_part.run.covered k (omega arith) (omega (arith, last_is.1)); aligned = m }) below)) more_stand;
+        (λ k above below m free. first_kept k (record { granted = (top_part sound some).run.covered k (omega arith) (omega (arith, (top_last sound some).1)); aligned = m }) below)) more_stand;
     tail = ap ends_segment (last_append Used old_run.first more);
   }
 
@@ -136,11 +124,11 @@ module _ {A : Type 0} {regions : A → List Grant} {word : A → ℕ → ℕ} {h
   extents_were : extents_in (state_of word heap) ≡ old_run.first ++ (less ++ extents_all old_run.back)
   extents_were =
       ap extents_all (segments_are system sound fresh same some)
-      ∙ (ap (λ es. es ++ extents_all old_run.back) (old_run.extents ∙ ap (λ es. old_run.first ++ extent heap.top heap.top_size Top ∷ es) (last_is.0 ∙ (λ i. extent (foot_at i) 80 Foot ∷ [])))
+      ∙ (ap (λ es. es ++ extents_all old_run.back) (old_run.extents ∙ ap (λ es. old_run.first ++ extent heap.top heap.top_size Top ∷ es) ((top_last sound some).0 ∙ (λ i. extent (foot_at i) 80 Foot ∷ [])))
       ∙ append_assoc old_run.first less (extents_all old_run.back))
     where
       foot_at : old_run.segment.base + old_run.segment.size - 80 ≡ heap.top + heap.top_size
-      foot_at = omega (arith, last_is.1)
+      foot_at = omega (arith, (top_last sound some).1)
 
   abbrev it : Exchange regions word heap new
   it = record {
@@ -180,12 +168,12 @@ module _ {A : Type 0} {regions : A → List Grant} {word : A → ℕ → ℕ} {h
 
       chunks : AreChunks old_run.first
       chunks = are_chunks (word heap.system) Used old_run.segment.base old_run.first (extent heap.top heap.top_size Top) old_run.last (old_run.segment.base + old_run.segment.size) (λ is. cc)
-          (subst (λ es. Tiles (word heap.system) Used old_run.segment.base es (old_run.segment.base + old_run.segment.size)) old_run.extents old_part.extents)
+          (subst (λ es. Tiles (word heap.system) Used old_run.segment.base es (old_run.segment.base + old_run.segment.size)) old_run.extents (top_part sound some).extents)
 
       grown_are : map (grown grant.size) old_run.segment.extents ≡ old_run.first ++ more
       grown_are =
-          let place : old_run.segment.base + old_run.segment.size - 80 + grant.size ≡ heap.top + length_now = omega (arith, last_is.1) in
-          ap (map (grown grant.size)) (old_run.extents ∙ ap (λ es. old_run.first ++ extent heap.top heap.top_size Top ∷ es) last_is.0)
+          let place : old_run.segment.base + old_run.segment.size - 80 + grant.size ≡ heap.top + length_now = omega (arith, (top_last sound some).1) in
+          ap (map (grown grant.size)) (old_run.extents ∙ ap (λ es. old_run.first ++ extent heap.top heap.top_size Top ∷ es) (top_last sound some).0)
           ∙ (map-append (grown grant.size) old_run.first (extent heap.top heap.top_size Top ∷ extent (old_run.segment.base + old_run.segment.size - 80) 80 Foot ∷ [])
           ∙ (λ i. map_grown grant.size old_run.first chunks i ++ (extent heap.top length_now Top ∷ extent (place i) 80 Foot ∷ [])))
 
@@ -195,7 +183,7 @@ module _ {A : Type 0} {regions : A → List Grant} {word : A → ℕ → ℕ} {h
   pub extended_words : OnlyTagsChange (regions heap.system) (state_of word new) (word heap.system) (word system)
   extended_words k inside boundary recorded =
       let tags = head_tags extended_sound it.some k boundary in
-      kept k inside (λ is. tags.0 (omega arith)) (λ is. tags.1 (omega (arith, closes)))
+      kept k inside (λ is. tags.0 (omega arith)) (λ is. tags.1 (omega (arith, ends sound some)))
 
   -- no free extent but the top changes
   pub extended_free : FreeMoves (state_of word heap) (state_of word new) [] []

@@ -59,9 +59,6 @@ module _ {A : Type 0} {regions : A → List Grant} {word : A → ℕ → ℕ} {h
   sizes : (heap.top_size % 16 ≡ 0) × (16 ≤ heap.top_size)
   sizes = top_sizes sound some
 
-  closes : heap.top + heap.top_size + 80 ≡ heap.base + heap.size
-  closes = ends sound some
-
   low_top : it.segment.base ≤ heap.top
   low_top = omega (arith, top_low sound some, was.base)
 
@@ -70,8 +67,8 @@ module _ {A : Type 0} {regions : A → List Grant} {word : A → ℕ → ℕ} {h
   bounds = go small small_is at_is
     where
       go : (b : Bool) → (heap.top_size == 16) ≡ b → at ≡ place b heap.top heap.top_size → (heap.top ≤ at) × (at + 80 ≤ heap.base + heap.size)
-      go true is at_is = (omega arith, omega (arith, closes))
-      go false isnt at_is = (omega arith, omega (arith, closes))
+      go true is at_is = (omega arith, omega (arith, ends sound some))
+      go false isnt at_is = (omega arith, omega (arith, ends sound some))
 
   abbrev rest : List Extent
   rest = left small heap.top heap.top_size

@@ -79,14 +79,11 @@ module _ {A : Type 0} {regions : A → List Grant} {word : A → ℕ → ℕ} (f
     (recorded : IsRecordAt (word system) at (record_of_head heap) (heap.base + heap.size) (at == heap.top))
     (left_foot : 32 ≤ heap.top_size → word system (heap.top + heap.top_size) ≡ heap.top_size)
     (kept : (k : ℕ) → IsWordOf (regions heap.system) k → (k ≤ at) ⊎ (heap.base + heap.size ≤ k) → (k ≡ heap.top + heap.top_size → heap.top_size < 32) → k ≢ grant.base + 8 → k ≢ grant.base + grant.size - 72 → word system k ≡ word heap.system k) where
-  sizes_are : (heap.top_size % 16 ≡ 0) × (16 ≤ heap.top_size)
-  sizes_are = top_sizes sound some
-
   where_is : ((heap.top_size == 16) ≡ (at == heap.top)) × (at ≡ place (at == heap.top) heap.top heap.top_size)
-  where_is = record_place at heap.top heap.top_size at_is sizes_are.0 sizes_are.1
+  where_is = record_place at heap.top heap.top_size at_is (top_sizes sound some).0 (top_sizes sound some).1
 
   foot_stands : (at == heap.top) ≡ false → word system (heap.top + heap.top_size) ≡ heap.top_size
-  foot_stands large = left_foot (let other : (heap.top_size == 16) ≡ false = where_is.0 ∙ large in let units = sizes_are.0 in let long = sizes_are.1 in grind (arith, nat_tests))
+  foot_stands large = left_foot (let other : (heap.top_size == 16) ≡ false = where_is.0 ∙ large in let units = (top_sizes sound some).0 in let long = (top_sizes sound some).1 in grind (arith, nat_tests))
 
   kept_all : (k : ℕ) → IsWordOf (regions heap.system) k → (k ≤ at) ⊎ (heap.base + heap.size ≤ k) → (k ≡ heap.top + heap.top_size → (at == heap.top) ≡ true) → k ≢ grant.base + 8 → k ≢ grant.base + grant.size - 72 → word system k ≡ word heap.system k
   kept_all k inside out free not_top not_foot = kept k inside out (λ is. (let sixteen : (heap.top_size == 16) ≡ true = where_is.0 ∙ free is in grind (arith, nat_tests))) not_top not_foot
@@ -107,7 +104,7 @@ module _ {A : Type 0} {regions : A → List Grant} {word : A → ℕ → ℕ} (f
 
   small_is : (b : Bool) → (at == heap.top) ≡ b → left_free b heap.top ≡ (if nat_le 32 heap.top_size then heap.top ∷ [] else [])
   small_is true is = (let sixteen : (heap.top_size == 16) ≡ true = where_is.0 ∙ is in let few : nat_le 32 heap.top_size ≡ false = grind (arith, nat_tests) in rw few refl)
-  small_is false is = (let other : (heap.top_size == 16) ≡ false = where_is.0 ∙ is in let units = sizes_are.0 in let long = sizes_are.1 in let many : nat_le 32 heap.top_size ≡ true = grind (arith, nat_tests) in rw many refl)
+  small_is false is = (let other : (heap.top_size == 16) ≡ false = where_is.0 ∙ is in let units = (top_sizes sound some).0 in let long = (top_sizes sound some).1 in let many : nat_le 32 heap.top_size ≡ true = grind (arith, nat_tests) in rw many refl)
 
   -- what was the top is free, if it has more than 16 bytes
   new_free : FreeMoves (state_of word heap) (state_of word (new_head heap grant system at)) [] (if nat_le 32 heap.top_size then heap.top ∷ [] else [])

@@ -136,9 +136,6 @@ module _ {A : Type 0} {regions : A → List Grant} {word : A → ℕ → ℕ} {h
     pub grant_apart : IsApartFrom run.segment (opened grant) × AllByRecursion (λ segment. IsApartFrom segment (opened grant)) run.back
     grant_apart = subst (AllByRecursion (λ segment. IsApartFrom segment (opened grant))) segments_are fresh.apart
 
-    back_told : AreRecords (word heap.system) heap.next run.back
-    back_told = (subst (AreTold (word heap.system) heap) segments_are sound.told).5
-
     -- the grant is before none of them, and none before it
     pub apart_grant : AllByRecursion (IsApartFrom (opened grant)) run.back
     apart_grant = go run.back grant_apart.1
@@ -155,4 +152,4 @@ module _ {A : Type 0} {regions : A → List Grant} {word : A → ℕ → ℕ} {h
       parts_kept = subst (λ rs. AreSegments rs (word system) run.back) (sym same) (parts_stay (regions heap.system) (word heap.system) (word system) run.back back_parts back_keeps)
 
       pub told_kept : AreRecords (word system) heap.next run.back
-      told_kept = records_stay (regions heap.system) (word heap.system) (word system) run.back back_parts back_keeps heap.next back_told
+      told_kept = records_stay (regions heap.system) (word heap.system) (word system) run.back back_parts back_keeps heap.next ((subst (AreTold (word heap.system) heap) segments_are sound.told).5)

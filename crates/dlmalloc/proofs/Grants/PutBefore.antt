@@ -105,9 +105,6 @@ module _ {A : Type 0} {regions : A → List Grant} {word : A → ℕ → ℕ} {h
         same_begin : segment.base ≡ grant.base + n + (grant.size - n)
         same_begin = omega (arith, place)
 
-    tail_is : ends_segment (last_kind Used now.extents) ≡ true
-    tail_is = the_part.tail
-
     is_now : IsSegment (regions new.system) (word new.system) now
     is_now = record {
       run = subst (λ rs. IsRun rs grant.base (grant.size + segment.size) segment.flags) (sym same)
@@ -117,7 +114,7 @@ module _ {A : Type 0} {regions : A → List Grant} {word : A → ℕ → ℕ} {h
       high = omega (arith, the_part.high, place);
       long = omega (arith, the_part.long);
       extents = two_stand;
-      tail = tail_is;
+      tail = the_part.tail;
     }
 
     parts_now : AreSegments (regions new.system) (word new.system) (front ++ now ∷ back)
@@ -153,9 +150,6 @@ module _ {A : Type 0} {regions : A → List Grant} {word : A → ℕ → ℕ} {h
     all_old : extents_in (state_of word heap) ≡ extents_all front ++ ([] ++ after)
     all_old = ap extents_all is ∙ all_among front segment back
 
-    all_new : extents_all (front ++ now ∷ back) ≡ extents_all front ++ (two ++ after)
-    all_new = all_among front now back
-
     all_apart : AreDistinct (extents_all (front ++ now ∷ back))
     all_apart = distinct regions word new (front ++ now ∷ back) parts_now apart_now told
 
@@ -167,11 +161,11 @@ module _ {A : Type 0} {regions : A → List Grant} {word : A → ℕ → ℕ} {h
     among_new k there = ap (extent_at k) (all_among front now back) ∙ distinct_later (extents_all front) (now.extents ++ extents_all back) k (subst AreDistinct (all_among front now back) all_apart) (found_more k now.extents (extents_all back) there)
 
     found_now : (k : ℕ) {one : Extent} → extent_at k (extents_in (state_of word heap)) ≡ Some one → extent_at k (extents_all (front ++ now ∷ back)) ≡ Some one
-    found_now k there = replaced_found k (extents_all front) [] two after all_new all_apart (λ found. absurd (cc)) (ap (extent_at k) (sym all_old) ∙ there)
+    found_now k there = replaced_found k (extents_all front) [] two after (all_among front now back) all_apart (λ found. absurd (cc)) (ap (extent_at k) (sym all_old) ∙ there)
 
     -- one of the two is found
     of_two : (k : ℕ) {one : Extent} → extent_at k (two ++ after) ≡ Some one → extent_at k (extents_all (front ++ now ∷ back)) ≡ Some one
-    of_two k there = ap (extent_at k) all_new ∙ distinct_later (extents_all front) (two ++ after) k (subst AreDistinct all_new all_apart) there
+    of_two k there = ap (extent_at k) (all_among front now back) ∙ distinct_later (extents_all front) (two ++ after) k (subst AreDistinct (all_among front now back) all_apart) there
 
     chunk_there : extent_at grant.base (extents_all (front ++ now ∷ back)) ≡ Some (extent grant.base n Used)
     chunk_there = of_two grant.base (found_here (extent grant.base n Used) (extent (grant.base + n) (grant.size - n) Used ∷ after))
@@ -185,7 +179,7 @@ module _ {A : Type 0} {regions : A → List Grant} {word : A → ℕ → ℕ} {h
     found_before : (k : ℕ) (one : Extent) → k ≢ grant.base → k ≢ grant.base + n → extent_at k (extents_all (front ++ now ∷ back)) ≡ Some one → extent_at k (extents_in (state_of word heap)) ≡ Some one
     found_before k one not_chunk not_rest there =
         replaced_found k (extents_all front) two [] after all_old (all_distinct (regions heap.system) (word heap.system) (segments_of word heap) sound.segments sound.apart)
-        (λ found. absurd (none (grant.base == k) refl (grant.base + n == k) refl found)) (ap (extent_at k) (sym all_new) ∙ there)
+        (λ found. absurd (none (grant.base == k) refl (grant.base + n == k) refl found)) (ap (extent_at k) (sym (all_among front now back)) ∙ there)
       where
         none : (a : Bool) → (grant.base == k) ≡ a → (b : Bool) → (grant.base + n == k) ≡ b → (if a then Some (extent grant.base n Used) else if b then Some (extent (grant.base + n) (grant.size - n) Used) else None) ≡ Some one → ⊥
         none true is b other found = not_chunk (sym (nat_is is))

@@ -50,12 +50,8 @@ module _ {A : Type 0} {regions : A → List Grant} {word : A → ℕ → ℕ} {h
         told = h.5;
       }
 
-  -- a grant that makes the head segment longer is put before none
-  longer_same : is_behind grant head_told.segment ≡ is_behind grant (bare_head heap)
-  longer_same = head_told.longer
-
   pub put_none : is_behind grant (bare_head heap) ≡ true → is_put_before grant (segments_of word heap) ≡ false
-  put_none test = ap (is_put_before grant) head_told.is ∙ (let longer = longer_same ∙ test in rw longer refl)
+  put_none test = ap (is_put_before grant) head_told.is ∙ (let longer = head_told.longer ∙ test in rw longer refl)
 
   -- or not, and it is passed
   pub begun_behind : is_before grant (bare_head heap) ≡ false → PassedBehind word heap grant heap.next
@@ -73,20 +69,11 @@ module _ {A : Type 0} {regions : A → List Grant} {word : A → ℕ → ℕ} {h
     abbrev segment : Segment
     segment = (ahead_segment sound (as_passed p) more).segment
 
-    abbrev others : List Segment
-    others = (ahead_segment sound (as_passed p) more).others
-
-    rest_is : p.rest ≡ segment ∷ others
-    rest_is = (ahead_segment sound (as_passed p) more).is
-
-    told_rest : AreRecords (word heap.system) payload (segment ∷ others)
-    told_rest = subst (AreRecords (word heap.system) payload) rest_is p.told
-
-    part : IsSegment (regions heap.system) (word heap.system) segment
-    part = (ahead_segment sound (as_passed p) more).part
+    told_rest : AreRecords (word heap.system) payload (segment ∷ ((ahead_segment sound (as_passed p) more).others))
+    told_rest = subst (AreRecords (word heap.system) payload) ((ahead_segment sound (as_passed p) more).is) p.told
 
     at_in : IsIn (word heap.system) segment.base (segment.base + segment.size) (record_of (payload - 16) (segment.base + segment.size))
-    at_in = in_part (word heap.system) Used segment.base segment.extents (segment.base + segment.size) part.extents told_rest.4
+    at_in = in_part (word heap.system) Used segment.base segment.extents (segment.base + segment.size) ((ahead_segment sound (as_passed p) more).part).extents told_rest.4
 
     long : 80 ≤ segment.base + segment.size - (payload - 16)
     long = elim (at_in.stands.size) [ inl short ↦ omega arith | inr longer ↦ omega arith ]
@@ -94,12 +81,12 @@ module _ {A : Type 0} {regions : A → List Grant} {word : A → ℕ → ℕ} {h
     -- the four words of its record
     pub told_word : (k : ℕ) → payload ≤ k → k < payload + 32 → k % 8 ≡ payload % 8 → IsWordOf (regions heap.system) k
     told_word k low high m = record {
-      granted = part.run.covered k (omega (arith, at_in.low, told_rest.0)) (omega (arith, long, told_rest.0));
+      granted = ((ahead_segment sound (as_passed p) more).part).run.covered k (omega (arith, at_in.low, told_rest.0)) (omega (arith, long, told_rest.0));
       aligned = omega (arith, at_in.stands.whole, told_rest.0);
     }
 
     pub told_high : payload + 32 < 2 ^ 64
-    told_high = omega (arith, long, told_rest.0, part.high)
+    told_high = omega (arith, long, told_rest.0, ((ahead_segment sound (as_passed p) more).part).high)
 
     -- the test on its words is that on the segment
     test_is : {b : Bool} → (word heap.system payload == grant.base + grant.size && (grant.flags % 2 == 0 && grant.flags == word heap.system (payload + 24))) ≡ b → is_before grant segment ≡ b
@@ -110,8 +97,8 @@ module _ {A : Type 0} {regions : A → List Grant} {word : A → ℕ → ℕ} {h
       head = p.head;
       front = p.passed;
       segment = segment;
-      back = others;
-      is = p.is ∙ ap (λ ss. p.head ∷ (p.passed ++ ss)) rest_is;
+      back = (ahead_segment sound (as_passed p) more).others;
+      is = p.is ∙ ap (λ ss. p.head ∷ (p.passed ++ ss)) ((ahead_segment sound (as_passed p) more).is);
       joins = test_is test;
       reached = p.reached;
       told = told_rest;
@@ -121,8 +108,8 @@ module _ {A : Type 0} {regions : A → List Grant} {word : A → ℕ → ℕ} {h
     onward_behind test = record {
       head = p.head;
       passed = p.passed ++ segment ∷ [];
-      rest = others;
-      is = p.is ∙ (ap (λ ss. p.head ∷ (p.passed ++ ss)) rest_is ∙ ap (λ ss. p.head ∷ ss) (sym (append_assoc p.passed (segment ∷ []) others)));
+      rest = (ahead_segment sound (as_passed p) more).others;
+      is = p.is ∙ (ap (λ ss. p.head ∷ (p.passed ++ ss)) ((ahead_segment sound (as_passed p) more).is) ∙ ap (λ ss. p.head ∷ ss) (sym (append_assoc p.passed (segment ∷ []) ((ahead_segment sound (as_passed p) more).others))));
       told = told_rest.5;
       reached = ap (λ k. word heap.system (k + 16)) p.reached ∙ sym (behind_more (word heap.system) heap.next p.passed segment);
       none = any_more grant (p.head ∷ p.passed) segment p.none (test_is test);

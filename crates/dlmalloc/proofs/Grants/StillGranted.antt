@@ -28,26 +28,8 @@ module _ {A : Type 0} {regions : A → List Grant} {word : A → ℕ → ℕ} {z
   abbrev chunk : Extent
   chunk = out.block.extent
 
-  place : chunk.at ≡ address - 16
-  place = chunk_place out.freed.sound out.block
-
-  there : extent_at chunk.at (extents_in (state_of word new)) ≡ Some chunk
-  there = chunk_there out.freed.sound out.block
-
-  inside : IsInside (regions new.system) chunk
-  inside = chunk_inside out.freed.sound out.block
-
-  from_place : block.extent.at ≡ from - 16
-  from_place = chunk_place sound block
-
-  from_there : extent_at block.extent.at (extents_in (state_of word old)) ≡ Some block.extent
-  from_there = chunk_there sound block
-
-  from_inside : IsInside (regions old.system) block.extent
-  from_inside = chunk_inside sound block
-
   some : 0 < old.size
-  some = some_segment word old block.extent.at from_there
+  some = some_segment word old block.extent.at (chunk_there sound block)
 
   -- a region was granted for a chunk, in which the new block's begins
   module _ {bytes at : ℕ} {grant : Grant} {heap : HeapState} (taken : IsTakenFromGrant (state_of word old) bytes at grant heap) (fresh : AllByRecursion (IsApart grant.base (grant.base + grant.size)) (regions old.system))
@@ -56,12 +38,6 @@ module _ {A : Type 0} {regions : A → List Grant} {word : A → ℕ → ℕ} {z
     module _ (behind : IsBehindTop (state_of word old) grant at) where
       end : grant.base ≡ old.base + old.size
       end = first_end sound grant behind.0
-
-      at_top : at ≡ old.top
-      at_top = top_place sound at behind.1.1
-
-      top_ends : old.top + old.top_size + 80 ≡ old.base + old.size
-      top_ends = ends sound some
 
       first : HasSameFirst (segments_of word out.filled) (granted grant bytes (state_of word old)).segments
       first = first_spans (state_of word out.filled) (granted grant bytes (state_of word old)) (stays ∙ spans_new regions word zeros follows old new size align address taken)
@@ -76,10 +52,10 @@ module _ {A : Type 0} {regions : A → List Grant} {word : A → ℕ → ℕ} {z
 
       -- a block that was the last of the longer head segment would have been in the region
       not_last : chunk.at + chunk.size ≤ from - 16 → from - 16 < grant.base + grant.size → ⊥
-      not_last before within = elim (beside_top sound some block.used from_there) [
-        | inl sooner ↦ omega (arith, from_place, at_top, from_inside.long)
-        | inr beyond ↦ none_granted grant.base (grant.base + grant.size) (regions old.system) fresh (from - 16) (omega (arith, end, from_place)) within
-            (from_inside.granted (from - 16) (omega (arith, from_place)) (omega (arith, from_place, from_inside.long)))
+      not_last before within = elim (beside_top sound some block.used (chunk_there sound block)) [
+        | inl sooner ↦ omega (arith, chunk_place sound block, top_place sound at behind.1.1, (chunk_inside sound block).long)
+        | inr beyond ↦ none_granted grant.base (grant.base + grant.size) (regions old.system) fresh (from - 16) (omega (arith, end, chunk_place sound block)) within
+            ((chunk_inside sound block).granted (from - 16) (omega (arith, chunk_place sound block)) (omega (arith, chunk_place sound block, (chunk_inside sound block).long)))
       ]
 
       still_behind : HasByteOf grant (regions new.system)
@@ -91,17 +67,17 @@ module _ {A : Type 0} {regions : A → List Grant} {word : A → ℕ → ℕ} {z
             omega arith,
             head_granted out.freed.sound (omega (arith, longer.1, some)) grant.base (omega (arith, end, longer.0)) (omega (arith, end, longer.0, longer.1)),
           )
-          | inr last ↦ absurd (elim (last.behind chunk out.block.used there) [
+          | inr last ↦ absurd (elim (last.behind chunk out.block.used (chunk_there out.freed.sound out.block)) [
             | inl before ↦ not_last before (omega (arith, longer.0, longer.1, end))
             | inr beyond ↦ omega (arith, longer.0, longer.1, end)
           ])
         ]
-        | no above ↦ (chunk.at, omega arith, omega (arith, at_top, top_ends, end), inside.granted chunk.at (omega arith) (omega (arith, inside.long)))
+        | no above ↦ (chunk.at, omega arith, omega (arith, top_place sound at behind.1.1, ends sound some, end), (chunk_inside out.freed.sound out.block).granted chunk.at (omega arith) (omega (arith, (chunk_inside out.freed.sound out.block).long)))
       ]
 
     still_new : HasByteOf grant (regions new.system)
     still_new = elim taken.place [
-      | inl here ↦ (chunk.at, omega arith, omega arith, inside.granted chunk.at (omega arith) (omega (arith, inside.long)))
+      | inl here ↦ (chunk.at, omega arith, omega arith, (chunk_inside out.freed.sound out.block).granted chunk.at (omega arith) (omega (arith, (chunk_inside out.freed.sound out.block).long)))
       | inr behind ↦ still_behind behind
     ]
 
@@ -114,7 +90,7 @@ module _ {A : Type 0} {regions : A → List Grant} {word : A → ℕ → ℕ} {z
       (still_new cut.1 cut.4 stays low high)
 
   still_low : IsServed regions word zeros follows old size address out.middle → (grant : Grant) → regions out.filled.system ≡ with_grant grant (regions old.system) → HasByteOf grant (regions new.system)
-  still_low served = still_cut out.middle (padded size) (address - 16) served.cut (ap spans out.same.state) out.same.regions_same (omega (arith, place)) (omega (arith, place, padded_holds size))
+  still_low served = still_cut out.middle (padded size) (address - 16) served.cut (ap spans out.same.state) out.same.regions_same (omega (arith, chunk_place out.freed.sound out.block)) (omega (arith, chunk_place out.freed.sound out.block, padded_holds size))
 
   still_high : 16 < align → IsServedAligned regions word zeros follows old size align address out.middle → (grant : Grant) → regions out.filled.system ≡ with_grant grant (regions old.system) → HasByteOf grant (regions new.system)
   still_high large served =
@@ -123,7 +99,7 @@ module _ {A : Type 0} {regions : A → List Grant} {word : A → ℕ → ℕ} {z
       still_cut served.middle (padded (enlarged size align)) (served.greater - 16) served.served.cut
       (ap spans out.same.state ∙ (ap spans served.state ∙ spans_aligned (state_of word served.middle) (served.greater - 16) align (padded size)))
       (out.same.regions_same ∙ served.regions_same)
-      (omega (arith, place)) (omega (arith, place, padded_holds (enlarged size align), padded_holds size))
+      (omega (arith, chunk_place out.freed.sound out.block)) (omega (arith, chunk_place out.freed.sound out.block, padded_holds (enlarged size align), padded_holds size))
 
   pub still_granted : (grant : Grant) → regions out.filled.system ≡ with_grant grant (regions old.system) → HasByteOf grant (regions new.system)
   still_granted = elim out.served [

@@ -53,22 +53,16 @@ module _ {A : Type 0} {regions : A → List Grant} {word : A → ℕ → ℕ} {h
   was_apart : AreApart (step.front ++ step.segment ∷ step.back)
   was_apart = subst AreApart step.is sound.apart
 
-  now_segments : AreSegments (regions new.system) (word new.system) (step.front ++ step.now ∷ step.back)
-  now_segments = segments_after step.changed step.front step.back was_apart was_segments
-
-  now_apart : AreApart (step.front ++ step.now ∷ step.back)
-  now_apart = apart_after step.changed step.front step.back was_apart was_segments
-
   -- the segments of the new heap
   pub read : segments_of word new ≡ step.front ++ step.now ∷ step.back
-  read = segments_read (regions new.system) word new (step.front ++ step.now ∷ step.back) now_segments step.told
+  read = segments_read (regions new.system) word new (step.front ++ step.now ∷ step.back) (segments_after step.changed step.front step.back was_apart was_segments) step.told
       (subst (λ n. n ≤ suc (2 ^ 64)) (ap length step.is ∙ as_many step.front step.segment step.now step.back) (segments_few word heap))
 
   pub segments_now : AreSegments (regions new.system) (word new.system) (segments_of word new)
-  segments_now = subst (AreSegments (regions new.system) (word new.system)) (sym read) now_segments
+  segments_now = subst (AreSegments (regions new.system) (word new.system)) (sym read) (segments_after step.changed step.front step.back was_apart was_segments)
 
   pub apart_now : AreApart (segments_of word new)
-  apart_now = subst AreApart (sym read) now_apart
+  apart_now = subst AreApart (sym read) (apart_after step.changed step.front step.back was_apart was_segments)
 
   -- all extents, before and after
   abbrev pub before : List Extent

@@ -45,17 +45,14 @@ no_other first second free {used} is other found =
 
 module _ {A : Type 0} {regions : A → List Grant} {word : A → ℕ → ℕ} {heap : Dlmalloc A} (sound : IsSound regions word heap) {at size : ℕ}
     (there : extent_at at (extents_in (state_of word heap)) ≡ Some (extent at size Used)) where
-  abbrev segments : List Segment
-  segments = segments_of word heap
-
   abbrev words : ℕ → ℕ
   words = word heap.system
 
   abbrev chunk : Extent
   chunk = extent at size Used
 
-  abbrev pub one : IsRunOf words segments at (at + size) (chunk ∷ [])
-  one = run_of (regions heap.system) words segments sound.segments there
+  abbrev pub one : IsRunOf words (segments_of word heap) at (at + size) (chunk ∷ [])
+  one = run_of (regions heap.system) words (segments_of word heap) sound.segments there
 
   abbrev pub next : HasNext one.last
   next = has_next (regions heap.system) sound.segments one refl
@@ -64,8 +61,8 @@ module _ {A : Type 0} {regions : A → List Grant} {word : A → ℕ → ℕ} {h
     abbrev behind : Extent
     behind = extent (at + size) length kind
 
-    pub two : IsRunOf words segments at (at + size + length) (chunk ∷ behind ∷ [])
-    two = subst (λ e. IsRunOf words segments at (at + size + e.size) (chunk ∷ e ∷ [])) is (with_next (regions heap.system) sound.segments one next)
+    pub two : IsRunOf words (segments_of word heap) at (at + size + length) (chunk ∷ behind ∷ [])
+    two = subst (λ e. IsRunOf words (segments_of word heap) at (at + size + e.size) (chunk ∷ e ∷ [])) is (with_next (regions heap.system) sound.segments one next)
 
     pub low : two.segment.base ≤ at
     low = tiles_le words Used two.segment.base two.first at two.first_stand

@@ -67,14 +67,11 @@ module _ {A : Type 0} {regions : A → List Grant} {word : A → ℕ → ℕ} {h
   stand : Tiles words Used (at + size) (after ∷ (next sound there).rest) ((one sound there).segment.base + (one sound there).segment.size)
   stand = behind (regions heap.system) sound.segments (one sound there) (next sound there)
 
-  whole : told_size after.kind after.size % 8 ≡ 0
-  whole = told_whole after.kind after.size stand.1.size
-
   head : words (at + size + 8) ≡ head_of (told_size after.kind after.size) true (is_used after.kind)
   head = ap (λ a. words (a + 8)) (sym stand.0) ∙ stand.1.head
 
   free_told : free_of (words (at + size + 8)) ≡ not (is_used after.kind)
-  free_told = ap free_of head ∙ rw (pinuse_of-head_of (told_size after.kind after.size) true (is_used after.kind) whole, cinuse_of-head_of (told_size after.kind after.size) true (is_used after.kind) whole) refl
+  free_told = ap free_of head ∙ rw (pinuse_of-head_of (told_size after.kind after.size) true (is_used after.kind) (told_whole after.kind after.size stand.1.size), cinuse_of-head_of (told_size after.kind after.size) true (is_used after.kind) (told_whole after.kind after.size stand.1.size)) refl
 
   module _ (no_touch : at + size ≢ heap.top) where
     -- it is a free chunk
@@ -84,7 +81,7 @@ module _ {A : Type 0} {regions : A → List Grant} {word : A → ℕ → ℕ} {h
         go : (kind : Kind) → after.kind ≡ kind → MayStand Used kind → extent_at (at + size) (extents_in (state_of word heap)) ≡ Some (extent (at + size) told Free)
         go Used kind may = absurd (let no : true ≡ false = sym free ∙ (free_told ∙ ap (λ k. not (is_used k)) kind) in cc)
         go Free kind may =
-            let size_told : size_of (words (at + size + 8)) ≡ told_size after.kind after.size = ap size_of head ∙ size_of-head_of (told_size after.kind after.size) true (is_used after.kind) whole in
+            let size_told : size_of (words (at + size + 8)) ≡ told_size after.kind after.size = ap size_of head ∙ size_of-head_of (told_size after.kind after.size) true (is_used after.kind) (told_whole after.kind after.size stand.1.size) in
             let sizes : told ≡ after.size = is ∙ (size_told ∙ ap (λ k. told_size k after.size) kind) in
             after_there ∙ (λ i. Some (extent (stand.0 i) (sym sizes i) (kind i)))
         go Victim kind may = absurd may

@@ -16,9 +16,6 @@ use Rattle.dlmalloc.proofs.Frees.Behind.{next_there, place}
 module _ {A : Type 0} {regions : A → List Grant} {word : A → ℕ → ℕ} {heap : Dlmalloc A} (sound : IsSound regions word heap) {at size length : ℕ} (n : ℕ)
     (there : extent_at at (extents_in (state_of word heap)) ≡ Some (extent at size Used)) (free_there : extent_at (at + size) (extents_in (state_of word heap)) ≡ Some (extent (at + size) length Free))
     (multiple : n % 16 ≡ 0) (more : size < n) (room : n ≤ size + length) where
-  abbrev segments : List Segment
-  segments = segments_of word heap
-
   abbrev words : ℕ → ℕ
   words = word heap.system
 
@@ -32,17 +29,11 @@ module _ {A : Type 0} {regions : A → List Grant} {word : A → ℕ → ℕ} {h
   next_is = the_extent (sym (next_there sound there)
       ∙ (ap (λ a. extent_at a (extents_in (state_of word heap))) (place sound there) ∙ free_there))
 
-  abbrev both : IsRunOf words segments at (at + size + length) (chunk ∷ free ∷ [])
+  abbrev both : IsRunOf words (segments_of word heap) at (at + size + length) (chunk ∷ free ∷ [])
   both = two sound there next_is
 
-  stands : HasChunk words (last_kind Used both.first) chunk
-  stands = both.here.1
-
-  stands_free : HasChunk words Used free
-  stands_free = both.here.2.1
-
   least : 32 ≤ n
-  least = omega (arith, stands.size.1)
+  least = omega (arith, both.here.1.size.1)
 
   -- what stands behind the free one
   abbrev third : HasNext both.last
@@ -61,10 +52,10 @@ module _ {A : Type 0} {regions : A → List Grant} {word : A → ℕ → ℕ} {h
   free_end_small = omega (arith, end_room, end_small sound there next_is)
 
   pub free_at_whole : at % 16 ≡ 0
-  free_at_whole = stands.whole
+  free_at_whole = both.here.1.whole
 
   pub free_sizes_whole : (size + length) % 16 ≡ 0
-  free_sizes_whole = omega (arith, stands.size.0, stands_free.size.0)
+  free_sizes_whole = omega (arith, both.here.1.size.0, both.here.2.1.size.0)
 
   pub free_head_there : (k : ℕ) → at ≤ k → k ≤ at + size + length → k % 8 ≡ 0 → HasHead (regions heap.system) k
   free_head_there k above under m = head_there sound there next_is k above (omega (arith, end_room)) m
@@ -80,7 +71,7 @@ module _ {A : Type 0} {regions : A → List Grant} {word : A → ℕ → ℕ} {h
   -- the free chunk is found in a run
   found_free : (others : List Extent) → extent_at (at + size) (chunk ∷ free ∷ others) ≡ Some free
   found_free others =
-      let first : (at == at + size) ≡ false = nat_isnt (inl (omega (arith, stands.size.1))) in
+      let first : (at == at + size) ≡ false = nat_isnt (inl (omega (arith, both.here.1.size.1))) in
       let second : (at + size == at + size) ≡ true = nat_same (at + size) in
       rw (first, second) refl
 
@@ -97,7 +88,7 @@ module _ {A : Type 0} {regions : A → List Grant} {word : A → ℕ → ℕ} {h
 
       abbrev split_step : (victim victim_size : ℕ) → IsStep regions word heap (after victim victim_size) (chunk ∷ free ∷ []) parts
       split_step victim victim_size = step_beside (after victim victim_size) sound same both
-          (grown_split (regions heap.system) (word system) stands length n stands_free multiple least rest_room stored) refl
+          (grown_split (regions heap.system) (word system) both.here.1 length n both.here.2.1 multiple least rest_room stored) refl
           (λ k tail found is. absurd (no_kind chunk free Record (λ is. cc) (λ is. cc) k found is)) refl (record { base = refl; size = refl; flags = refl; top = refl; top_size = refl })
           (λ k tail found is. absurd (no_kind chunk free Top (λ is. cc) (λ is. cc) k found is))
 
@@ -180,9 +171,6 @@ module _ {A : Type 0} {regions : A → List Grant} {word : A → ℕ → ℕ} {h
       abbrev last : Extent
       last = third.next
 
-      abbrev run : IsRunOf words segments at (at + size + length + last.size) (chunk ∷ free ∷ last ∷ [])
-      run = with_next (regions heap.system) sound.segments both third
-
       abbrev three : List Extent
       three = chunk ∷ free ∷ last ∷ []
 
@@ -193,7 +181,7 @@ module _ {A : Type 0} {regions : A → List Grant} {word : A → ℕ → ℕ} {h
       move =
           let some : (size + length == 0) ≡ false = nat_isnt (inr (omega (arith, least))) in
           let place = stands_third.0 in
-          grown_whole (regions heap.system) (word system) stands length last stands_free stands_third.1 stands_third.0
+          grown_whole (regions heap.system) (word system) both.here.1 length last both.here.2.1 stands_third.1 stands_third.0
           (subst (λ t. AreStored (regions heap.system) words ((at + 8, head_of (size + length) (pinuse_of (words (at + 8))) true)
           ∷ (at + (size + length) + 8, with_pinuse (if t then head_of (size + length) (pinuse_of (words (at + 8))) true else words (at + (size + length) + 8))) ∷ []) (word system)) some stored)
           (λ k above under m. run_word (regions heap.system) sound.segments both k
@@ -218,7 +206,7 @@ module _ {A : Type 0} {regions : A → List Grant} {word : A → ℕ → ℕ} {h
       no_free other tail is here = other (ap (λ e. e.kind) here ∙ is)
 
       abbrev whole_step : (victim victim_size : ℕ) → IsStep regions word heap (after victim victim_size) three all
-      whole_step victim victim_size = step_beside (after victim victim_size) sound same run move refl
+      whole_step victim victim_size = step_beside (after victim victim_size) sound same (with_next (regions heap.system) sound.segments both third) move refl
           (λ k tail found is. still k found (no_chunk (λ is. cc) tail is) (no_free (λ is. cc) tail is)) refl (record { base = refl; size = refl; flags = refl; top = refl; top_size = refl })
           (λ k tail found is. still k found (no_chunk (λ is. cc) tail is) (no_free (λ is. cc) tail is))
 
@@ -238,7 +226,7 @@ module _ {A : Type 0} {regions : A → List Grant} {word : A → ℕ → ℕ} {h
                 let one : last ≡ used = elim (in_two (extent at (size + length) Used) last used.at found) [ inl one ↦ absurd (other (ap (λ e. e.at) (sym one))) | inr one ↦ one ] in
                 let place : used.at ≡ at + size + length = ap (λ e. e.at) (sym one) ∙ stands_third.0 in
                 let first : (at == used.at) ≡ false = differ at used.at (λ e. other (sym e)) in
-                let second : (at + size == used.at) ≡ false = nat_isnt (inl (omega (arith, stands_free.size.1))) in
+                let second : (at + size == used.at) ≡ false = nat_isnt (inl (omega (arith, both.here.2.1.size.1))) in
                 rw (first, second) later.1)
           ]
 

@@ -14,9 +14,6 @@ use Rattle.dlmalloc.proofs.Frees.WhatCallsWant.{next_top}
 
 module _ {A : Type 0} {regions : A → List Grant} {word : A → ℕ → ℕ} {heap : Dlmalloc A} (sound : IsSound regions word heap) {at size : ℕ} (n : ℕ)
     (there : extent_at at (extents_in (state_of word heap)) ≡ Some (extent at size Used)) (touch : at + size ≡ heap.top) (whole : n % 16 ≡ 0) (more : size < n) (room : n < size + heap.top_size) where
-  abbrev segments : List Segment
-  segments = segments_of word heap
-
   abbrev words : ℕ → ℕ
   words = word heap.system
 
@@ -29,35 +26,26 @@ module _ {A : Type 0} {regions : A → List Grant} {word : A → ℕ → ℕ} {h
   next_is : (next sound there).next ≡ top
   next_is = next_top sound there touch ∙ ap (λ a. extent a heap.top_size Top) (sym touch)
 
-  abbrev both : IsRunOf words segments at (at + size + heap.top_size) (chunk ∷ top ∷ [])
+  abbrev both : IsRunOf words (segments_of word heap) at (at + size + heap.top_size) (chunk ∷ top ∷ [])
   both = two sound there next_is
 
-  stands : HasChunk words (last_kind Used both.first) chunk
-  stands = both.here.1
-
-  stands_top : HasChunk words Used top
-  stands_top = both.here.2.1
-
   least : 32 ≤ n
-  least = omega (arith, stands.size.1)
+  least = omega (arith, both.here.1.size.1)
 
   rest_room : n + 16 ≤ size + heap.top_size
-  rest_room = omega (arith, stands.size.0, stands_top.size.0)
-
-  below : at + size + heap.top_size ≤ both.segment.base + both.segment.size
-  below = high sound there next_is
+  rest_room = omega (arith, both.here.1.size.0, both.here.2.1.size.0)
 
   pub top_first_head : HasHead (regions heap.system) at
-  top_first_head = head_there sound there next_is at (omega arith) (omega (arith, below, rest_room)) (omega (arith, stands.whole))
+  top_first_head = head_there sound there next_is at (omega arith) (omega (arith, high sound there next_is, rest_room)) (omega (arith, both.here.1.whole))
 
   pub top_rest_head : HasHead (regions heap.system) (at + n)
-  top_rest_head = head_there sound there next_is (at + n) (omega arith) (omega (arith, below, rest_room)) (omega (arith, stands.whole))
+  top_rest_head = head_there sound there next_is (at + n) (omega arith) (omega (arith, high sound there next_is, rest_room)) (omega (arith, both.here.1.whole))
 
   head_segment : both.front ≡ []
   head_segment = (is_top sound both.front both.segment both.back both.is {at = (at + size)} {size = heap.top_size}
       (ap (extent_at (at + size)) both.extents
       ∙ (found_later (at + size) both.first (chunk ∷ top ∷ both.last) (none_outside words Used both.segment.base both.first at (at + size) (inr (omega arith)) both.first_stand)
-      ∙ (let isnt : (at == at + size) ≡ false = nat_isnt (inl (omega (arith, stands.size.1))) in
+      ∙ (let isnt : (at == at + size) ≡ false = nat_isnt (inl (omega (arith, both.here.1.size.1))) in
       let is : (at + size == at + size) ≡ true = nat_same (at + size) in
       rw (isnt, is) refl)))).0
 
@@ -83,7 +71,7 @@ module _ {A : Type 0} {regions : A → List Grant} {word : A → ℕ → ℕ} {h
     move : IsMove (regions heap.system) words (word system) (last_kind Used both.first) at (at + size + heap.top_size) (at + size + heap.top_size) (chunk ∷ top ∷ []) parts
     move =
         subst (λ r. IsMove (regions heap.system) words (word system) (last_kind Used both.first) at (at + size + heap.top_size) (at + size + heap.top_size) (chunk ∷ top ∷ []) (extent at n Used ∷ extent (at + n) r Top ∷ [])) (sym rest_is)
-        (grown_top (regions heap.system) (word system) stands n stands_top whole least rest_room
+        (grown_top (regions heap.system) (word system) both.here.1 n both.here.2.1 whole least rest_room
         (subst (λ r. AreStored (regions heap.system) words ((at + 8, head_of n (pinuse_of (words (at + 8))) true) ∷ (at + n + 8, r + 1) ∷ []) (word system)) rest_is stored))
 
     abbrev step : IsStep regions word heap after (chunk ∷ top ∷ []) parts

@@ -36,23 +36,14 @@ split_used {old} {before} at size n stands whole least room stored =
 
 module _ {A : Type 0} {regions : A → List Grant} {word : A → ℕ → ℕ} {heap : Dlmalloc A} (sound : IsSound regions word heap) {at size : ℕ} (n : ℕ)
     (there : extent_at at (extents_in (state_of word heap)) ≡ Some (extent at size Used)) (whole : n % 16 ≡ 0) (least : 32 ≤ n) (room : n + 32 ≤ size) where
-  abbrev segments : List Segment
-  segments = segments_of word heap
-
   abbrev chunk : Extent
   chunk = extent at size Used
 
-  abbrev run : IsRunOf (word heap.system) segments at (at + size) (chunk ∷ [])
-  run = run_of (regions heap.system) (word heap.system) segments sound.segments there
-
-  stands : HasChunk (word heap.system) (last_kind Used run.first) chunk
-  stands = run.here.1
+  abbrev run : IsRunOf (word heap.system) (segments_of word heap) at (at + size) (chunk ∷ [])
+  run = run_of (regions heap.system) (word heap.system) (segments_of word heap) sound.segments there
 
   high : at + size ≤ run.segment.base + run.segment.size
   high = tiles_le (word heap.system) Used (at + size) run.last (run.segment.base + run.segment.size) run.last_stand
-
-  low : run.segment.base ≤ at
-  low = tiles_le (word heap.system) Used run.segment.base run.first at run.first_stand
 
   pub end_small : at + size < 2 ^ 64
   end_small = omega (arith, high, (run_part (regions heap.system) sound.segments run).high)
@@ -61,17 +52,17 @@ module _ {A : Type 0} {regions : A → List Grant} {word : A → ℕ → ℕ} {h
   head_there k above below m = record {
     aligned = m;
     small = omega (arith, end_small);
-    granted = run_word (regions heap.system) sound.segments run (k + 8) (omega (arith, low)) (omega (arith, high)) (omega arith);
+    granted = run_word (regions heap.system) sound.segments run (k + 8) (omega (arith, tiles_le (word heap.system) Used run.segment.base run.first at run.first_stand)) (omega (arith, high)) (omega arith);
   }
 
   pub first_head : HasHead (regions heap.system) at
-  first_head = head_there at (omega arith) (omega arith) (omega (arith, stands.whole))
+  first_head = head_there at (omega arith) (omega arith) (omega (arith, run.here.1.whole))
 
   pub second_head : HasHead (regions heap.system) (at + n)
-  second_head = head_there (at + n) (omega arith) (omega arith) (omega (arith, stands.whole))
+  second_head = head_there (at + n) (omega arith) (omega arith) (omega (arith, run.here.1.whole))
 
   pub rest_whole : (size - n) % 8 ≡ 0
-  rest_whole = omega (arith, stands.size.0)
+  rest_whole = omega (arith, run.here.1.size.0)
 
   -- the stores of two calls, as one
   stores : (middle system : A) (value : ℕ) → regions middle ≡ regions heap.system →
@@ -88,9 +79,6 @@ module _ {A : Type 0} {regions : A → List Grant} {word : A → ℕ → ℕ} {h
     same : regions system ≡ regions heap.system
     same = same_system ∙ same_middle
 
-    stored : AreStored (regions heap.system) (word heap.system) ((at + 8, head_of n (pinuse_of (word heap.system (at + 8))) true) ∷ (at + n + 8, head_of (size - n) true true) ∷ []) (word system)
-    stored = stores middle system value same_middle first second
-
     abbrev after : Dlmalloc A
     after = record heap { system = system }
 
@@ -105,7 +93,7 @@ module _ {A : Type 0} {regions : A → List Grant} {word : A → ℕ → ℕ} {h
 
     abbrev split_step : IsStep regions word heap after (chunk ∷ []) both
     split_step = step_beside after sound same run
-        (split_used at size n stands whole least room stored) refl
+        (split_used at size n run.here.1 whole least room (stores middle system value same_middle first second)) refl
         (λ k tail found is. absurd (let no : Used ≡ Record = used_one k found ∙ is in cc)) refl (record { base = refl; size = refl; flags = refl; top = refl; top_size = refl })
         (λ k tail found is. absurd (let no : Used ≡ Top = used_one k found ∙ is in cc))
 

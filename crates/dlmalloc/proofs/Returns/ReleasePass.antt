@@ -288,14 +288,11 @@ module _ {A : Type 0} {regions : A → List Grant} {word : A → ℕ → ℕ} (f
       abbrev pub passed_heap : Dlmalloc A
       passed_heap = record now { countdown = countdown }
 
-      rest_none : p.rest ≡ []
-      rest_none = none_ahead (word now.system) p.rest none p.records
-
       was_all : segments_of word old ≡ p.head ∷ p.done
-      was_all = p.was ∙ ap (λ segments. p.head ∷ segments) (ap (λ rest. p.done ++ rest) rest_none ∙ append-nil p.done)
+      was_all = p.was ∙ ap (λ segments. p.head ∷ segments) (ap (λ rest. p.done ++ rest) (none_ahead (word now.system) p.rest none p.records) ∙ append-nil p.done)
 
       is_all : segments_of word now ≡ p.head ∷ remaining frees parts p.done
-      is_all = p.is ∙ ap (λ segments. p.head ∷ segments) (ap (λ rest. remaining frees parts p.done ++ rest) rest_none ∙ append-nil (remaining frees parts p.done))
+      is_all = p.is ∙ ap (λ segments. p.head ∷ segments) (ap (λ rest. remaining frees parts p.done ++ rest) (none_ahead (word now.system) p.rest none p.records) ∙ append-nil (remaining frees parts p.done))
 
       segments_are : segments_of word now ≡ (if frees then staying parts (segments_of word old) else segments_of word old)
       segments_are = is_all ∙ (remaining_is frees parts p.head p.done ∙ ap (λ segments. if frees then staying parts segments else segments) (sym was_all))

@@ -29,9 +29,6 @@ module _ {A : Type 0} {regions : A → List Grant} {word : A → ℕ → ℕ} {h
   abbrev run : IsRunOf (word heap.system) (segments_of word heap) heap.top (heap.top + heap.top_size) (extent heap.top heap.top_size Top ∷ [])
   run = top_run sound some
 
-  part : IsSegment (regions heap.system) (word heap.system) run.segment
-  part = top_part sound some
-
   was : IsHead heap run.segment
   was = top_segment sound some
 
@@ -47,12 +44,6 @@ module _ {A : Type 0} {regions : A → List Grant} {word : A → ℕ → ℕ} {h
   told : AreTold (word heap.system) heap (run.segment ∷ run.back)
   told = subst (AreTold (word heap.system) heap) segments_are sound.told
 
-  last_is : (run.last ≡ extent (run.segment.base + run.segment.size - 80) 80 Foot ∷ []) × (heap.top + heap.top_size + 80 ≡ run.segment.base + run.segment.size)
-  last_is = top_last sound some
-
-  sizes : (heap.top_size % 16 ≡ 0) × (16 ≤ heap.top_size)
-  sizes = top_sizes sound some
-
   closes : heap.top + heap.top_size + 80 ≡ heap.base + heap.size
   closes = ends sound some
 
@@ -60,7 +51,7 @@ module _ {A : Type 0} {regions : A → List Grant} {word : A → ℕ → ℕ} {h
   low = top_low sound some
 
   head_run : IsRun (regions heap.system) heap.base heap.size heap.flags
-  head_run = subst (λ f. IsRun (regions heap.system) heap.base heap.size f) (sym was.flags) (subst (λ n. IsRun (regions heap.system) heap.base n run.segment.flags) (sym was.size) (subst (λ b. IsRun (regions heap.system) b run.segment.size run.segment.flags) (sym was.base) part.run))
+  head_run = subst (λ f. IsRun (regions heap.system) heap.base heap.size f) (sym was.flags) (subst (λ n. IsRun (regions heap.system) heap.base n run.segment.flags) (sym was.size) (subst (λ b. IsRun (regions heap.system) b run.segment.size run.segment.flags) (sym was.base) (top_part sound some).run))
 
   -- its bytes can be given back
   pub head_given : IsGivenRun (regions heap.system) heap.base (heap.base + heap.size)
@@ -114,7 +105,7 @@ module _ {A : Type 0} {regions : A → List Grant} {word : A → ℕ → ℕ} {h
         now = record { base = run.segment.base; size = run.segment.size - less; flags = run.segment.flags; extents = run.first ++ more }
 
         now_end : heap.top + length_now + 80 ≡ run.segment.base + (run.segment.size - less)
-        now_end = omega (arith, last_is.1, was.base, was.size, closes, low)
+        now_end = omega (arith, (top_last sound some).1, was.base, was.size, closes, low)
 
         now_run : IsRun (regions system) run.segment.base (run.segment.size - less) run.segment.flags
         now_run = subst (λ f. IsRun (regions system) run.segment.base (run.segment.size - less) f) was.flags
@@ -128,7 +119,7 @@ module _ {A : Type 0} {regions : A → List Grant} {word : A → ℕ → ℕ} {h
         outside_kept k inside first second = kept k inside
             (λ is. elim first [
               | inl below ↦ omega (arith, was.base, low)
-              | inr above ↦ omega (arith, last_is.1)
+              | inr above ↦ omega (arith, (top_last sound some).1)
             ])
             (λ is. elim first [
               | inl below ↦ omega (arith, was.base, closes, low)
@@ -139,13 +130,13 @@ module _ {A : Type 0} {regions : A → List Grant} {word : A → ℕ → ℕ} {h
         more_stand =
             let place : heap.top + length_now + 8 ≡ heap.base + (heap.size - less) - 72 = omega (arith, closes, low) in
             subst (λ end. Tiles (word system) (last_kind Used run.first) heap.top more end) now_end
-            (top_stands (word system) heap.top length_now run.here.1.kind (top_whole sound some) (omega (arith, sizes.0)) (omega arith) (head ∙ ap (λ n. n + 1) (sym length_is)) (ap (word system) place ∙ foot))
+            (top_stands (word system) heap.top length_now run.here.1.kind (top_whole sound some) (omega (arith, (top_sizes sound some).0)) (omega arith) (head ∙ ap (λ n. n + 1) (sym length_is)) (ap (word system) place ∙ foot))
 
         is_now : IsSegment (regions system) (word system) now
         is_now = record {
           run = now_run;
-          low = part.low;
-          high = omega (arith, part.high);
+          low = (top_part sound some).low;
+          high = omega (arith, (top_part sound some).high);
           long = omega (arith, now_end, was.base, low);
           extents = tiles_append (word system) Used run.segment.base run.first more heap.top (run.segment.base + (run.segment.size - less))
               (tiles_kept (word heap.system) (word system) Used run.segment.base run.first heap.top run.first_stand
@@ -176,11 +167,11 @@ module _ {A : Type 0} {regions : A → List Grant} {word : A → ℕ → ℕ} {h
         extents_were : extents_in (state_of word heap) ≡ run.first ++ (old ++ extents_all run.back)
         extents_were =
             ap extents_all segments_are
-            ∙ (ap (λ es. es ++ extents_all run.back) (run.extents ∙ ap (λ es. run.first ++ extent heap.top heap.top_size Top ∷ es) (last_is.0 ∙ (λ i. extent (foot_at i) 80 Foot ∷ [])))
+            ∙ (ap (λ es. es ++ extents_all run.back) (run.extents ∙ ap (λ es. run.first ++ extent heap.top heap.top_size Top ∷ es) ((top_last sound some).0 ∙ (λ i. extent (foot_at i) 80 Foot ∷ [])))
             ∙ append_assoc run.first old (extents_all run.back))
           where
             foot_at : run.segment.base + run.segment.size - 80 ≡ heap.top + heap.top_size
-            foot_at = omega (arith, last_is.1)
+            foot_at = omega (arith, (top_last sound some).1)
 
         abbrev it : Exchange regions word heap after
         it = record {
@@ -212,12 +203,12 @@ module _ {A : Type 0} {regions : A → List Grant} {word : A → ℕ → ℕ} {h
           where
             chunks : AreChunks run.first
             chunks = are_chunks (word heap.system) Used run.segment.base run.first (extent heap.top heap.top_size Top) run.last (run.segment.base + run.segment.size) (λ is. cc)
-                (subst (λ es. Tiles (word heap.system) Used run.segment.base es (run.segment.base + run.segment.size)) run.extents part.extents)
+                (subst (λ es. Tiles (word heap.system) Used run.segment.base es (run.segment.base + run.segment.size)) run.extents (top_part sound some).extents)
 
             shrunk_are : map (shrunk less) run.segment.extents ≡ run.first ++ more
             shrunk_are =
-                let place : run.segment.base + run.segment.size - 80 - less ≡ heap.top + length_now = omega (arith, last_is.1) in
-                ap (map (shrunk less)) (run.extents ∙ ap (λ es. run.first ++ extent heap.top heap.top_size Top ∷ es) last_is.0)
+                let place : run.segment.base + run.segment.size - 80 - less ≡ heap.top + length_now = omega (arith, (top_last sound some).1) in
+                ap (map (shrunk less)) (run.extents ∙ ap (λ es. run.first ++ extent heap.top heap.top_size Top ∷ es) (top_last sound some).0)
                 ∙ (map-append (shrunk less) run.first (extent heap.top heap.top_size Top ∷ extent (run.segment.base + run.segment.size - 80) 80 Foot ∷ [])
                 ∙ (λ i. map_shrunk less run.first chunks i ++ (extent heap.top length_now Top ∷ extent (place i) 80 Foot ∷ [])))
 

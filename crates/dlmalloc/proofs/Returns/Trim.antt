@@ -120,15 +120,12 @@ module _ {A : Type 0} {regions : A → List Grant} {word : A → ℕ → ℕ} {f
   state_after : state_of word after ≡ passed frees parts (after_cut parts unit pad (state_of word old))
   state_after = pass.state ∙ ap (passed frees parts) cut.state
 
-  left_now : extents_in (state_of word after) ≡ extents_all (left cut.stays.sound some frees parts)
-  left_now = ap extents_in pass.state
-
   -- the top and its foot are found
   top_found : extent_at middle.top (extents_in (state_of word after)) ≡ Some (extent middle.top middle.top_size Top)
-  top_found = ap (extent_at middle.top) left_now ∙ top_left cut.stays.sound some frees parts
+  top_found = ap (extent_at middle.top) (ap extents_in pass.state) ∙ top_left cut.stays.sound some frees parts
 
   foot_found : extent_at (middle.top + middle.top_size) (extents_in (state_of word after)) ≡ Some (extent (middle.top + middle.top_size) 80 Foot)
-  foot_found = ap (extent_at (middle.top + middle.top_size)) left_now ∙ foot_left cut.stays.sound some frees parts
+  foot_found = ap (extent_at (middle.top + middle.top_size)) (ap extents_in pass.state) ∙ foot_left cut.stays.sound some frees parts
 
   -- a word that is granted still was granted before the pass
   inside_middle : (k : ℕ) → IsWordOf (regions after.system) k → IsWordOf (regions middle.system) k
@@ -220,9 +217,6 @@ module _ {A : Type 0} {regions : A → List Grant} {word : A → ℕ → ℕ} {f
   joined : follows old.system events after.system
   joined = follows_on old.system middle.system after.system (cut_off (parts old.system) (unit old.system) pad (state_of word old)) (releases (taken_back (frees old.system) (handed_out (parts old.system) (segments_of word middle)))) events cut.followed pass.followed refl
 
-  given_back : (is_cut_off || nat_lt 0 bytes) ≡ gives_back (frees old.system) (parts old.system) (unit old.system) pad (state_of word old)
-  given_back = answer (is_made word old pad small some_old) cut some pass is
-
   -- what the pass makes of the index
   index_now : IsReindexed regions word (after_trim (frees old.system) (parts old.system) pad (state_of word old)) old after
   index_now b =
@@ -238,7 +232,7 @@ module _ {A : Type 0} {regions : A → List Grant} {word : A → ℕ → ℕ} {f
 
   pub trim_gave : (is_cut_off || nat_lt 0 bytes) ≡ true → IsTrimmed regions word follows (frees old.system) (parts old.system) (unit old.system) old pad true after
   trim_gave was = is_done (is_made word old pad small some_old) cut some pass
-      after.trim_check (sym was ∙ given_back) pass.sound refl joined index_now
+      after.trim_check (sym was ∙ (answer (is_made word old pad small some_old) cut some pass is)) pass.sound refl joined index_now
 
   after_some : 0 < after.size
   after_some = go (after.size == 0) refl
@@ -253,6 +247,6 @@ module _ {A : Type 0} {regions : A → List Grant} {word : A → ℕ → ℕ} {f
   pub trim_gave_up : (is_cut_off || nat_lt 0 bytes) ≡ false → IsTrimmed regions word follows (frees old.system) (parts old.system) (unit old.system) old pad false
       (record after { trim_check = if nat_lt after.trim_check after.top_size then 2 ^ 64 - 1 else after.trim_check })
   trim_gave_up isnt = is_done (is_made word old pad small some_old) cut some pass
-      (if nat_lt after.trim_check after.top_size then 2 ^ 64 - 1 else after.trim_check) (sym isnt ∙ given_back)
+      (if nat_lt after.trim_check after.top_size then 2 ^ 64 - 1 else after.trim_check) (sym isnt ∙ (answer (is_made word old pad small some_old) cut some pass is))
       (checked_sound pass.sound (if nat_lt after.trim_check after.top_size then 2 ^ 64 - 1 else after.trim_check)) (gave_up pass.sound after_some) joined
       (λ b. (let a = index_now b in (same_check (if nat_lt after.trim_check after.top_size then 2 ^ 64 - 1 else after.trim_check) a.0, a.1)))
