@@ -39,7 +39,8 @@ module _ {A : Type 0} (regions : A → List Grant) (word : A → ℕ → ℕ) (h
       }
 
   -- two extents in use have no byte in common
-  pub used_apart : (a b : Extent) → extent_at a.at (extents_in (state_of word heap)) ≡ Some a → extent_at b.at (extents_in (state_of word heap)) ≡ Some b → a.at ≢ b.at → (a.at + a.size ≤ b.at) ⊎ (b.at + b.size ≤ a.at)
+  pub used_apart : (a b : Extent) → extent_at a.at (extents_in (state_of word heap)) ≡ Some a →
+      extent_at b.at (extents_in (state_of word heap)) ≡ Some b → a.at ≢ b.at → (a.at + a.size ≤ b.at) ⊎ (b.at + b.size ≤ a.at)
   used_apart a b there_a there_b other = beside (regions heap.system) (word heap.system) (segments_of word heap) sound.segments sound.apart there_a there_b other
 
   -- a system with the same regions has those of the segments
@@ -51,7 +52,8 @@ module _ {A : Type 0} (regions : A → List Grant) (word : A → ℕ → ℕ) (h
       go (segment ∷ segments) = (ap (regions_in segment) same, go segments)
 
   -- a refusal leaves all as it was
-  pub as_it_was : IndexStays → (follows : A → List Event → A → Type 0) (refuses : A → A → Type 0) (events : List Event) (system : A) → regions system ≡ regions heap.system → ((k : ℕ) → IsWordOf (regions heap.system) k → word system k ≡ word heap.system k) →
+  pub as_it_was : IndexStays → (follows : A → List Event → A → Type 0) (refuses : A → A → Type 0) (events : List Event) (system : A) →
+      regions system ≡ regions heap.system → ((k : ℕ) → IsWordOf (regions heap.system) k → word system k ≡ word heap.system k) →
       follows heap.system events system → refuses heap.system system → IsAsItWas regions word follows refuses events heap (record heap { system = system })
   as_it_was stays follows refuses events system same words followed denied = record {
     followed = followed;
@@ -63,5 +65,6 @@ module _ {A : Type 0} (regions : A → List Grant) (word : A → ℕ → ℕ) (h
     index = λ b. (still_binned sound system (same_regions system same) (λ k inside there apart. words k inside) stays b, λ n. refl);
   }
 
-  abbrev pub as_binned : IndexStays → (system : A) → regions system ≡ regions heap.system → ((k : ℕ) → IsWordOf (regions heap.system) k → word system k ≡ word heap.system k) → IsBinned regions word heap → IsBinned regions word (record heap { system = system })
+  abbrev pub as_binned : IndexStays → (system : A) → regions system ≡ regions heap.system → ((k : ℕ) → IsWordOf (regions heap.system) k →
+      word system k ≡ word heap.system k) → IsBinned regions word heap → IsBinned regions word (record heap { system = system })
   as_binned stays system same words = still_binned sound system (same_regions system same) (λ k inside there apart. words k inside) stays

@@ -7,10 +7,12 @@ use Rattle.dlmalloc.proofs.Words.OfLinks.{OthersStay, is_chunk, same_or_beside, 
 
 -- ---- links are stored
 
-module _ {A : Type 0} {regions : A → List Grant} {word : A → ℕ → ℕ} (follows : A → List Event → A → Type 0) {heap : Dlmalloc A} (sound : IsSound regions word heap) (system : A) (bins : Bins)
-    (same : regions system ≡ regions heap.system) (only : OnlyFreeChange (regions heap.system) (state_of word heap) (word heap.system) (word system)) (followed : follows heap.system [] system) where
+module _ {A : Type 0} {regions : A → List Grant} {word : A → ℕ → ℕ} (follows : A → List Event → A → Type 0) {heap : Dlmalloc A}
+    (sound : IsSound regions word heap) (system : A) (bins : Bins) (same : regions system ≡ regions heap.system)
+    (only : OnlyFreeChange (regions heap.system) (state_of word heap) (word heap.system) (word system)) (followed : follows heap.system [] system) where
   -- the words that tell the heap's extents stay
-  telling : (one : Extent) → extent_at one.at (extents_in (state_of word heap)) ≡ Some one → (k : ℕ) → IsTelling k one → IsWordOf (regions heap.system) k → IsTrue (list_any (has_byte_in k) (segments_of word heap)) → word system k ≡ word heap.system k
+  telling : (one : Extent) → extent_at one.at (extents_in (state_of word heap)) ≡ Some one → (k : ℕ) → IsTelling k one →
+      IsWordOf (regions heap.system) k → IsTrue (list_any (has_byte_in k) (segments_of word heap)) → word system k ≡ word heap.system k
   telling one there k tells granted inside = only k granted (λ at size free. out at size (same_or_beside sound free there))
     where
       out : (at size : ℕ) → (one ≡ record { at = at; size = size; kind = Free }) ⊎ ((one.at + one.size ≤ at) ⊎ (at + size ≤ one.at)) → (k < at + 16) ⊎ (at + size ≤ k)
@@ -24,7 +26,8 @@ module _ {A : Type 0} {regions : A → List Grant} {word : A → ℕ → ℕ} (f
       out at size (inr (inl before)) = (let below = tells.1 in inl (omega arith))
       out at size (inr (inr behind)) = (let above = tells.0 in inr (omega arith))
 
-  runs : (segments : List Segment) → AllByRecursion (λ segment. IsRun (regions heap.system) segment.base segment.size segment.flags → IsRun (regions system) segment.base segment.size segment.flags) segments
+  runs : (segments : List Segment) → AllByRecursion (λ segment. IsRun (regions heap.system) segment.base segment.size segment.flags →
+      IsRun (regions system) segment.base segment.size segment.flags) segments
   runs [] = tt
   runs (segment ∷ segments) = ((λ run. subst (λ rs. IsRun rs segment.base segment.size segment.flags) (sym same) run), runs segments)
 
@@ -40,7 +43,8 @@ module _ {A : Type 0} {regions : A → List Grant} {word : A → ℕ → ℕ} (f
 
 -- ---- one chunk
 
-module _ {A : Type 0} {regions : A → List Grant} {word : A → ℕ → ℕ} {heap : Dlmalloc A} (sound : IsSound regions word heap) {at size : ℕ} (free : IsFreeAt (state_of word heap) at size) where
+module _ {A : Type 0} {regions : A → List Grant} {word : A → ℕ → ℕ} {heap : Dlmalloc A} (sound : IsSound regions word heap) {at size : ℕ}
+    (free : IsFreeAt (state_of word heap) at size) where
   module _ {loose : List ℕ} (b : IsBinnedBut (at ∷ loose) regions word heap) where
     -- it shares no byte with one of the index
     pub fresh : IsFresh (regions heap.system) (word heap.system) b.index size at
@@ -50,15 +54,17 @@ module _ {A : Type 0} {regions : A → List Grant} {word : A → ℕ → ℕ} {h
     }
 
     -- it went into its bin
-    abbrev pub now_binned : (system : A) {bins : Bins} → IsLinked (regions system) (word system) bins (with_chunk size at b.index) → state_of word (record heap { system = system; bins = bins }) ≡ state_of word heap →
-        at ≢ heap.victim → (IsIn at loose → ⊥) → IsBinnedBut loose regions word (record heap { system = system; bins = bins })
+    abbrev pub now_binned : (system : A) {bins : Bins} → IsLinked (regions system) (word system) bins (with_chunk size at b.index) →
+        state_of word (record heap { system = system; bins = bins }) ≡ state_of word heap → at ≢ heap.victim →
+        (IsIn at loose → ⊥) → IsBinnedBut loose regions word (record heap { system = system; bins = bins })
     now_binned system linked same other apart = record {
       index = with_chunk size at b.index;
       linked = linked;
       holds = subst (λ s. HoldsBut loose s (with_chunk size at b.index)) (sym same) (binned_one loose (state_of word heap) b.index at size b.holds free other apart);
     }
 
-    pub links_insert : (new : ℕ → ℕ) → OnlyLinksChange (regions heap.system) b.index size at (word heap.system) new → OnlyFreeChange (regions heap.system) (state_of word heap) (word heap.system) new
+    pub links_insert : (new : ℕ → ℕ) → OnlyLinksChange (regions heap.system) b.index size at (word heap.system) new →
+        OnlyFreeChange (regions heap.system) (state_of word heap) (word heap.system) new
     links_insert new links = only_free (state_of word heap) at (word heap.system) new b.linked.chunks b.holds.free free (is_chunk sound free).long links
 
   module _ {loose : List ℕ} (b : IsBinnedBut loose regions word heap) where
@@ -67,7 +73,8 @@ module _ {A : Type 0} {regions : A → List Grant} {word : A → ℕ → ℕ} {h
     is_binned other apart = b.holds.all at size free other apart
 
     -- it left it
-    abbrev pub now_loose : (system : A) {bins : Bins} → IsLinked (regions system) (word system) bins (without_chunk size at b.index) → state_of word (record heap { system = system; bins = bins }) ≡ state_of word heap →
+    abbrev pub now_loose : (system : A) {bins : Bins} → IsLinked (regions system) (word system) bins (without_chunk size at b.index) →
+        state_of word (record heap { system = system; bins = bins }) ≡ state_of word heap →
         IsBinnedBut (at ∷ loose) regions word (record heap { system = system; bins = bins })
     now_loose system linked same = record {
       index = without_chunk size at b.index;
@@ -75,7 +82,8 @@ module _ {A : Type 0} {regions : A → List Grant} {word : A → ℕ → ℕ} {h
       holds = subst (λ s. HoldsBut (at ∷ loose) s (without_chunk size at b.index)) (sym same) (unbinned_one loose (state_of word heap) b.index at size b.holds b.linked.chunks.once free);
     }
 
-    pub links_unlink : (new : ℕ → ℕ) → OnlyLinksChange (regions heap.system) b.index size at (word heap.system) new → OnlyFreeChange (regions heap.system) (state_of word heap) (word heap.system) new
+    pub links_unlink : (new : ℕ → ℕ) → OnlyLinksChange (regions heap.system) b.index size at (word heap.system) new →
+        OnlyFreeChange (regions heap.system) (state_of word heap) (word heap.system) new
     links_unlink new links = only_free (state_of word heap) at (word heap.system) new b.linked.chunks b.holds.free free (is_chunk sound free).long links
 
     -- the victim is in none
@@ -83,25 +91,31 @@ module _ {A : Type 0} {regions : A → List Grant} {word : A → ℕ → ℕ} {h
     victim_loose is = record { index = b.index; linked = b.linked; holds = looser loose (state_of word heap) b.index at b.holds (λ n there. b.holds.no_victim at n there is) }
 
 -- an address where no chunk is free needs be in no bin, and may be named so
-abbrev pub none_loose : {A : Type 0} {regions : A → List Grant} {word : A → ℕ → ℕ} {heap : Dlmalloc A} (at : ℕ) (loose : List ℕ) → IsBinnedBut loose regions word heap → ((n : ℕ) → IsFreeAt (state_of word heap) at n → ⊥) → IsBinnedBut (at ∷ loose) regions word heap
-none_loose {word} {heap} at loose b none = record { index = b.index; linked = b.linked; holds = looser loose (state_of word heap) b.index at b.holds (λ n is. none n (b.holds.free at n is)) }
+abbrev pub none_loose : {A : Type 0} {regions : A → List Grant} {word : A → ℕ → ℕ} {heap : Dlmalloc A} (at : ℕ) (loose : List ℕ) →
+    IsBinnedBut loose regions word heap → ((n : ℕ) → IsFreeAt (state_of word heap) at n → ⊥) → IsBinnedBut (at ∷ loose) regions word heap
+none_loose {word} {heap} at loose b none =
+    record { index = b.index; linked = b.linked; holds = looser loose (state_of word heap) b.index at b.holds (λ n is. none n (b.holds.free at n is)) }
 
-abbrev pub none_binned : {A : Type 0} {regions : A → List Grant} {word : A → ℕ → ℕ} {heap : Dlmalloc A} {at : ℕ} {loose : List ℕ} → IsBinnedBut (at ∷ loose) regions word heap → ((n : ℕ) → IsFreeAt (state_of word heap) at n → at ≡ heap.victim) → IsBinnedBut loose regions word heap
+abbrev pub none_binned : {A : Type 0} {regions : A → List Grant} {word : A → ℕ → ℕ} {heap : Dlmalloc A} {at : ℕ} {loose : List ℕ} → IsBinnedBut
+    (at ∷ loose) regions word heap → ((n : ℕ) → IsFreeAt (state_of word heap) at n → at ≡ heap.victim) → IsBinnedBut loose regions word heap
 none_binned {word} {heap} {at} {loose} b none = record { index = b.index; linked = b.linked; holds = tighter loose (state_of word heap) b.index at b.holds none }
 
 -- the address that is in no bin has another name
-abbrev pub renamed : {A : Type 0} {regions : A → List Grant} {word : A → ℕ → ℕ} {heap : Dlmalloc A} {at other : ℕ} → at ≡ other → IsBinnedBut (at ∷ []) regions word heap → IsBinnedBut (other ∷ []) regions word heap
+abbrev pub renamed : {A : Type 0} {regions : A → List Grant} {word : A → ℕ → ℕ} {heap : Dlmalloc A} {at other : ℕ} → at ≡ other →
+    IsBinnedBut (at ∷ []) regions word heap → IsBinnedBut (other ∷ []) regions word heap
 renamed {word} {heap} same b = record { index = b.index; linked = b.linked; holds = subst (λ k. HoldsBut (k ∷ []) (state_of word heap) b.index) same b.holds }
 
 -- nothing is done
-pub not_rebinned : {A : Type 0} {regions : A → List Grant} {word : A → ℕ → ℕ} (follows : A → List Event → A → Type 0) {heap : Dlmalloc A} → IsSound regions word heap → follows heap.system [] heap.system → IsRebinned regions word follows heap heap
+pub not_rebinned : {A : Type 0} {regions : A → List Grant} {word : A → ℕ → ℕ} (follows : A → List Event → A → Type 0) {heap : Dlmalloc A} →
+    IsSound regions word heap → follows heap.system [] heap.system → IsRebinned regions word follows heap heap
 not_rebinned follows sound followed = record { sound = sound; state = refl; fields = refl; words = λ k granted out. refl; regions_same = refl; followed = followed }
 
 -- ---- the heap moves
 
-abbrev pub binned_moved : IndexStays → {A : Type 0} {regions : A → List Grant} {word : A → ℕ → ℕ} {old new : Dlmalloc A} → IsSound regions word old → IsSound regions word new → OthersStay regions word old new → new.bins ≡ old.bins →
-    (loose loose' less more : List ℕ) → FreeMoves (state_of word old) (state_of word new) less more → AreAccounted (state_of word old) (state_of word new) loose loose' less more →
-    IsBinnedBut loose regions word old → IsBinnedBut loose' regions word new
+abbrev pub binned_moved : IndexStays → {A : Type 0} {regions : A → List Grant} {word : A → ℕ → ℕ} {old new : Dlmalloc A} →
+    IsSound regions word old → IsSound regions word new → OthersStay regions word old new → new.bins ≡ old.bins →
+    (loose loose' less more : List ℕ) → FreeMoves (state_of word old) (state_of word new) less more →
+    AreAccounted (state_of word old) (state_of word new) loose loose' less more → IsBinnedBut loose regions word old → IsBinnedBut loose' regions word new
 binned_moved stays {regions} {word} {old} {new} sound sound' others same loose loose' less more moves are b = record {
   index = b.index;
   linked = subst (λ bins. IsLinked (regions new.system) (word new.system) bins b.index) (sym same)
@@ -111,7 +125,8 @@ binned_moved stays {regions} {word} {old} {new} sound sound' others same loose l
 }
 
 -- the bins stay, where no free extent but the top changes, and the victim stays
-abbrev pub binned_same : IndexStays → {A : Type 0} {regions : A → List Grant} {word : A → ℕ → ℕ} {old new : Dlmalloc A} → IsSound regions word old → IsSound regions word new → OthersStay regions word old new → new.bins ≡ old.bins →
+abbrev pub binned_same : IndexStays → {A : Type 0} {regions : A → List Grant} {word : A → ℕ → ℕ} {old new : Dlmalloc A} →
+    IsSound regions word old → IsSound regions word new → OthersStay regions word old new → new.bins ≡ old.bins →
     FreeMoves (state_of word old) (state_of word new) [] [] → new.victim ≡ old.victim → IsBinned regions word old → IsBinned regions word new
 binned_same stays sound sound' others same moves victim b = binned_moved stays sound sound' others same [] [] [] [] moves (record {
   gone = λ k none n free other. none;
@@ -121,13 +136,16 @@ binned_same stays sound sound' others same moves victim b = binned_moved stays s
 }) b
 
 -- so they do where the heap moved with no region more
-abbrev pub binned_beside : IndexStays → {A : Type 0} {regions : A → List Grant} {word : A → ℕ → ℕ} {follows : A → List Event → A → Type 0} {old new : Dlmalloc A} → IsSound regions word old → IsMoved regions word follows old new → new.bins ≡ old.bins →
+abbrev pub binned_beside : IndexStays → {A : Type 0} {regions : A → List Grant} {word : A → ℕ → ℕ} {follows : A → List Event → A → Type 0}
+    {old new : Dlmalloc A} → IsSound regions word old → IsMoved regions word follows old new → new.bins ≡ old.bins →
     FreeMoves (state_of word old) (state_of word new) [] [] → new.victim ≡ old.victim → IsBinned regions word old → IsBinned regions word new
 binned_beside stays sound moved = binned_same stays sound moved.sound (λ k was is boundary tag tag'. moved.words k was boundary)
 
 -- the countdown and the trim check do not matter
-abbrev pub same_bins : {A : Type 0} {regions : A → List Grant} {word : A → ℕ → ℕ} {heap : Dlmalloc A} (countdown : ℕ) → IsBinned regions word heap → IsBinned regions word (record heap { countdown = countdown })
+abbrev pub same_bins : {A : Type 0} {regions : A → List Grant} {word : A → ℕ → ℕ} {heap : Dlmalloc A} (countdown : ℕ) →
+    IsBinned regions word heap → IsBinned regions word (record heap { countdown = countdown })
 same_bins countdown b = record { index = b.index; linked = b.linked; holds = record { all = b.holds.all; free = b.holds.free; no_victim = b.holds.no_victim; not_loose = b.holds.not_loose } }
 
-abbrev pub same_check : {A : Type 0} {regions : A → List Grant} {word : A → ℕ → ℕ} {heap : Dlmalloc A} (check : ℕ) → IsBinned regions word heap → IsBinned regions word (record heap { trim_check = check })
+abbrev pub same_check : {A : Type 0} {regions : A → List Grant} {word : A → ℕ → ℕ} {heap : Dlmalloc A} (check : ℕ) →
+    IsBinned regions word heap → IsBinned regions word (record heap { trim_check = check })
 same_check check b = record { index = b.index; linked = b.linked; holds = record { all = b.holds.all; free = b.holds.free; no_victim = b.holds.no_victim; not_loose = b.holds.not_loose } }

@@ -123,7 +123,8 @@ module _ (loose : List ℕ) (heap : HeapState) (index : ℕ → List ℕ) (at : 
   pub binned_one : (size : ℕ) → HoldsBut (at ∷ loose) heap index → IsFreeAt heap at size → at ≢ heap.victim → (IsIn at loose → ⊥) → HoldsBut loose heap (with_chunk size at index)
   binned_one size h is_free no_victim beside = record {
     all = λ k n free other apart. go k n free other apart (k == at) refl;
-    free = λ k n is. elim (of_with size at index k n is) [ inl old ↦ h.free k n old | inr new ↦ subst (λ a. IsFreeAt heap a n) (sym new.0) (subst (λ s. IsFreeAt heap at s) (sym new.1) is_free) ];
+    free = λ k n is. elim (of_with size at index k n is)
+        [ inl old ↦ h.free k n old | inr new ↦ subst (λ a. IsFreeAt heap a n) (sym new.0) (subst (λ s. IsFreeAt heap at s) (sym new.1) is_free) ];
     no_victim = λ k n is. elim (of_with size at index k n is) [ inl old ↦ h.no_victim k n old | inr new ↦ λ same. no_victim (sym new.0 ∙ same) ];
     not_loose = λ k n is l. elim (of_with size at index k n is) [ inl old ↦ h.not_loose k n old (inr l) | inr new ↦ beside (subst (λ a. IsIn a loose) new.0 l) ];
   }
@@ -162,7 +163,8 @@ pub record AreAccounted (old new : HeapState) (loose loose' less more : List ℕ
   pub still : (k : ℕ) → (IsIn k less → ⊥) → (k ≡ old.victim) ⊎ IsIn k loose → (size : ℕ) → IsFreeAt new k size → k ≢ new.victim → IsIn k loose'
   pub from : (k : ℕ) → (IsIn k more → ⊥) → (k ≡ new.victim) ⊎ IsIn k loose' → (size : ℕ) → IsFreeAt old k size → k ≢ old.victim → IsIn k loose
 
-module _ {old new : HeapState} {loose loose' less more : List ℕ} {index : ℕ → List ℕ} (h : HoldsBut loose old index) (moves : FreeMoves old new less more) (are : AreAccounted old new loose loose' less more) where
+module _ {old new : HeapState} {loose loose' less more : List ℕ} {index : ℕ → List ℕ} (h : HoldsBut loose old index)
+    (moves : FreeMoves old new less more) (are : AreAccounted old new loose loose' less more) where
   -- what the index has is free as before
   pub still_free : (at size : ℕ) → IsIn at (index size) → IsFreeAt new at size × (IsIn at more → ⊥)
   still_free at size is = moves.stays at size (h.free at size is) (λ left. h.not_loose at size is (are.gone at left size (h.free at size is) (h.no_victim at size is)))

@@ -65,7 +65,8 @@ in_sizes heap (first ∷ extents) one (inl same) binned =
     rw test (inl (ap (λ e. e.size) (sym same)))
 in_sizes heap (first ∷ extents) one (inr later) binned = go (is_binned heap first) (in_sizes heap extents one later binned)
   where
-    go : (b : Bool) → IsIn one.size (binned_sizes heap extents) → IsIn one.size (map (λ extent. extent.size) (if b then first ∷ filter (is_binned heap) extents else filter (is_binned heap) extents))
+    go : (b : Bool) → IsIn one.size (binned_sizes heap extents) →
+        IsIn one.size (map (λ extent. extent.size) (if b then first ∷ filter (is_binned heap) extents else filter (is_binned heap) extents))
     go true rest = inr rest
     go false rest = rest
 
@@ -83,8 +84,8 @@ of_sizes heap (first ∷ extents) size is = go (is_binned heap first) refl is (o
     later : OfSize heap extents size → OfSize heap (first ∷ extents) size
     later o = record { one = o.one; among = inr o.among; binned = o.binned; is = o.is }
 
-    go : (b : Bool) → is_binned heap first ≡ b → IsIn size (map (λ extent. extent.size) (if b then first ∷ filter (is_binned heap) extents else filter (is_binned heap) extents)) →
-        (IsIn size (binned_sizes heap extents) → OfSize heap extents size) → OfSize heap (first ∷ extents) size
+    go : (b : Bool) → is_binned heap first ≡ b → IsIn size (map (λ extent. extent.size) (if b then first ∷ filter (is_binned heap) extents else filter
+        (is_binned heap) extents)) → (IsIn size (binned_sizes heap extents) → OfSize heap extents size) → OfSize heap (first ∷ extents) size
     go true test (inl same) rest = record { one = first; among = inl refl; binned = test; is = sym same }
     go true test (inr there) rest = later (rest there)
     go false test there rest = later (rest there)
@@ -142,8 +143,8 @@ module _ {A : Type 0} {regions : A → List Grant} {word : A → ℕ → ℕ} {h
     fit_least =
         let test : (chunk == heap.victim) ≡ false = (let o = fit_other in grind (arith, nat_tests)) in
         let binned : is_binned state (extent chunk fit.size Free) ≡ true = rw test refl in
-        least_is n (binned_sizes state (extents_in state)) fit.size (in_sizes state (extents_in state) (extent chunk fit.size Free) (found_among chunk (extents_in state) fit_free) binned) fit.enough
-        (λ other is enough. elim (dec_lt other fit.size) [
+        least_is n (binned_sizes state (extents_in state)) fit.size (in_sizes state (extents_in state) (extent chunk fit.size Free)
+        (found_among chunk (extents_in state) fit_free) binned) fit.enough (λ other is enough. elim (dec_lt other fit.size) [
           | yes less ↦ absurd (let i = of_index other is in none_in (b.index other) i.0 (fit.least other enough less) i.1)
           | no more ↦ omega arith
         ])
@@ -152,5 +153,6 @@ module _ {A : Type 0} {regions : A → List Grant} {word : A → ℕ → ℕ} {h
   pub fit_none : IsNone b.index n (2 ^ 64) → least_fit state n ≡ None
   fit_none none = least_none n (binned_sizes state (extents_in state)) (λ size is. elim (dec_lt size n) [
     | yes less ↦ less
-    | no more ↦ absurd (let i = of_index size is in let c = is_chunk sound (b.holds.free i.0 size i.1) in let high = c.high in none_in (b.index size) i.0 (none size (omega arith) (omega arith)) i.1)
+    | no more ↦ absurd (let i = of_index size is in let c = is_chunk sound (b.holds.free i.0 size i.1) in
+        let high = c.high in none_in (b.index size) i.0 (none size (omega arith) (omega arith)) i.1)
   ])

@@ -22,18 +22,21 @@ module _ {A : Type 0} (regions : A → List Grant) (word : A → ℕ → ℕ) (h
       (subst (λ m. IsMember regions word heap m chunk) is (member fit (subst (λ m. chosen (state_of word heap) m ≡ Some (OfBins fit)) (sym is) chosen_is)))
 
   -- up to alignment 16 the block is where the chunk is
-  pub member_low : (size align address : ℕ) → align ≤ 16 → 16 ≤ address → address % align ≡ 0 → IsMemberChosen regions word heap (padded size) (address - 16) → IsMemberServed regions word heap size align address
+  pub member_low : (size align address : ℕ) → align ≤ 16 → 16 ≤ address → address % align ≡ 0 →
+      IsMemberChosen regions word heap (padded size) (address - 16) → IsMemberServed regions word heap size align address
   member_low size align address few low multiple member fit is =
       let same = sym (asked_low size align few) in
       let here : (address - 16 + 16) % align ≡ 0 = (let back : address - 16 + 16 ≡ address = omega arith in ap (λ a. a % align) back ∙ multiple) in
-      let place : aligned_place (address - 16) align ≡ address - 16 = (let test : ((address - 16 + 16) % align == 0) ≡ true = (let h = here in grind (arith, nat_tests)) in rw test refl) in (
+      let place : aligned_place (address - 16)
+      align ≡ address - 16 = (let test : ((address - 16 + 16) % align == 0) ≡ true = (let h = here in grind (arith, nat_tests)) in rw test refl) in (
         address - 16,
         subst (λ m. IsMember regions word heap (padded m) (address - 16)) (sym same) (member fit (subst (λ m. chosen (state_of word heap) (padded m) ≡ Some (OfBins fit)) same is)),
         (let p = place in omega arith),
       )
 
   -- above it, at the aligned place in it
-  pub member_high : (size align : ℕ) {n : ℕ} (block : ℕ) {place : ℕ} → 16 < align → n ≡ enlarged size align → place ≡ aligned_place (block - 16) align → IsMemberChosen regions word heap (padded n) (block - 16) → IsMemberServed regions word heap size align (place + 16)
+  pub member_high : (size align : ℕ) {n : ℕ} (block : ℕ) {place : ℕ} → 16 < align → n ≡ enlarged size align → place ≡ aligned_place
+      (block - 16) align → IsMemberChosen regions word heap (padded n) (block - 16) → IsMemberServed regions word heap size align (place + 16)
   member_high size align block many is aligned_is member fit chosen_is =
       let same = sym (asked_high size align many) ∙ sym is in (
         block - 16,

@@ -12,17 +12,16 @@ part_in k part (chunk ∷ chunks) (inr (rest, is, later)) here = go (subst (IsIn
     go (inr there) on = inr (on there)
 
 -- of two parts with the same chunks each is the other
-part_unique : (one two chunks : List ℕ) → IsPart one chunks → IsPart two chunks → AreDistinct chunks → ((k : ℕ) → IsIn k one → IsIn k two) → ((k : ℕ) → IsIn k two → IsIn k one) → one ≡ two
+part_unique : (one two chunks : List ℕ) → IsPart one chunks → IsPart two chunks → AreDistinct chunks → ((k : ℕ) → IsIn k one → IsIn k two) →
+    ((k : ℕ) → IsIn k two → IsIn k one) → one ≡ two
 part_unique one two [] a b distinct to from = a ∙ sym b
 part_unique one two (chunk ∷ chunks) (inl a) (inl b) distinct to from = part_unique one two chunks a b distinct.1 to from
 part_unique one two (chunk ∷ chunks) (inl a) (inr (rest, is, b)) distinct to from = absurd (distinct.0 (part_in chunk one chunks a (from chunk (subst (IsIn chunk) (sym is) (inl refl)))))
 part_unique one two (chunk ∷ chunks) (inr (rest, is, a)) (inl b) distinct to from = absurd (distinct.0 (part_in chunk two chunks b (to chunk (subst (IsIn chunk) (sym is) (inl refl)))))
 part_unique one two (chunk ∷ chunks) (inr (rest, is, a)) (inr (others, same, b)) distinct to from =
-    is ∙ (ap (λ more. chunk ∷ more)
-    (part_unique rest others chunks a b distinct.1
-    (λ k here. later k others (λ at. distinct.0 (part_in chunk rest chunks a (subst (λ c. IsIn c rest) at here))) (subst (IsIn k) same (to k (subst (IsIn k) (sym is) (inr here)))))
-    (λ k here. later k rest (λ at. distinct.0 (part_in chunk others chunks b (subst (λ c. IsIn c others) at here))) (subst (IsIn k) is (from k (subst (IsIn k) (sym same) (inr here))))))
-    ∙ sym same)
+    is ∙ (ap (λ more. chunk ∷ more) (part_unique rest others chunks a b distinct.1 (λ k here. later k others (λ at. distinct.0 (part_in chunk rest chunks
+    a (subst (λ c. IsIn c rest) at here))) (subst (IsIn k) same (to k (subst (IsIn k) (sym is) (inr here))))) (λ k here. later k rest (λ at. distinct.0
+    (part_in chunk others chunks b (subst (λ c. IsIn c others) at here))) (subst (IsIn k) is (from k (subst (IsIn k) (sym same) (inr here)))))) ∙ sym same)
   where
     later : (k : ℕ) (more : List ℕ) → (k ≡ chunk → ⊥) → (k ≡ chunk) ⊎ IsIn k more → IsIn k more
     later k more other (inl at) = absurd (other at)

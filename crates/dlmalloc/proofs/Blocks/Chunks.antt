@@ -7,7 +7,8 @@ use Rattle.dlmalloc.proofs.Segments.Among.{located, of_located}
 use Rattle.dlmalloc.proofs.Blocks.WordsKept.{blocks_law}
 use Rattle.dlmalloc.proofs.Laws.{used_inside, used_apart}
 
-module _ {A : Type 0} (regions : A → List Grant) (word : A → ℕ → ℕ) (heap : Dlmalloc A) (sound : IsSound regions word heap) (ptr size : ℕ) (block : IsBlock (state_of word heap) ptr size) where
+module _ {A : Type 0} (regions : A → List Grant) (word : A → ℕ → ℕ) (heap : Dlmalloc A) (sound : IsSound regions word heap) (ptr size : ℕ)
+    (block : IsBlock (state_of word heap) ptr size) where
   place : block.extent.at ≡ ptr - 16
   place = (found (ptr - 16) block.extent (extents_in (state_of word heap)) block.there).place
 
@@ -37,12 +38,15 @@ module _ {A : Type 0} (regions : A → List Grant) (word : A → ℕ → ℕ) (h
       let l = located block.extent.at (segments_of word heap) there in
       let p = of_located (IsSegment (regions heap.system) (word heap.system)) l sound.segments in
       let s = standing (word heap.system) Used l.segment.base l.segment.extents (l.segment.base + l.segment.size) p.extents p.tail l.there block.used in
-      let sizes : told ≡ block.extent.size = is ∙ (ap (λ a. size_of (word heap.system (a + 8))) (sym place) ∙ (ap size_of s.head ∙ size_of-head_of block.extent.size s.before true (omega arith))) in
-      block.there ∙ (λ i. Some (same_extent {at = block.extent.at} {at' = ptr - 16} {size = block.extent.size} {size' = told} {kind = block.extent.kind} {kind' = Used} place (sym sizes) block.used i))
+      let sizes : told ≡ block.extent.size = is ∙ (ap (λ a. size_of (word heap.system (a + 8))) (sym place)
+      ∙ (ap size_of s.head ∙ size_of-head_of block.extent.size s.before true (omega arith))) in
+      block.there ∙ (λ i. Some (same_extent {at = block.extent.at} {at' = ptr - 16} {size = block.extent.size} {size' = told} {kind = block.extent.kind}
+      {kind' = Used} place (sym sizes) block.used i))
 
 -- a block was freed
-pub freed_block : {A : Type 0} {regions : A → List Grant} {word : A → ℕ → ℕ} {follows : A → List Event → A → Type 0} {old new : Dlmalloc A} (ptr : ℕ) → IsSound regions word old → state_of word new ≡ freed (state_of word old) (ptr - 16) →
-    HasOneMore (state_of word new) (state_of word old) (ptr - 16) → IsTurned regions word follows old new → KeepsOrder regions word old new → IsDisposed regions word follows old ptr new
+pub freed_block : {A : Type 0} {regions : A → List Grant} {word : A → ℕ → ℕ} {follows : A → List Event → A → Type 0} {old new : Dlmalloc A}
+    (ptr : ℕ) → IsSound regions word old → state_of word new ≡ freed (state_of word old) (ptr - 16) → HasOneMore (state_of word new)
+    (state_of word old) (ptr - 16) → IsTurned regions word follows old new → KeepsOrder regions word old new → IsDisposed regions word follows old ptr new
 freed_block {word} {new} ptr sound state less moved order = record {
   state = state;
   less = less;
@@ -57,8 +61,7 @@ freed_block {word} {new} ptr sound state less moved order = record {
 -- two blocks are apart, and from each other's head
 pub blocks_apart : {A : Type 0} {regions : A → List Grant} {word : A → ℕ → ℕ} {heap : Dlmalloc A} → IsSound regions word heap → BlocksAreApart (state_of word heap)
 blocks_apart {regions} {word} {heap} sound a m b n one two differ =
-    let at_a = place regions word heap sound a m one in
-    let at_b = place regions word heap sound b n two in
+    let at_a = place regions word heap sound a m one in let at_b = place regions word heap sound b n two in
     let long_a = (inside regions word heap sound a m one).long in
     let long_b = (inside regions word heap sound b n two).long in
     let holds_a = one.holds in let holds_b = two.holds in let low_a = one.low in let low_b = two.low in

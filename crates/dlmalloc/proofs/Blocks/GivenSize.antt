@@ -11,18 +11,22 @@ use Rattle.dlmalloc.proofs.Blocks.HandedOut.{spans_changed, asked_low, handed_lo
 spans_resized : (heap : HeapState) {new : HeapState} (at n : ℕ) → in_place heap at n ≡ Some new → (spans new ≡ spans heap) × (new.granularity ≡ heap.granularity)
 spans_resized heap {new} at n is = first (extent_at at (extents_in heap)) refl
   where
-    told : (state : HeapState) → in_place heap at n ≡ Some state → (spans state ≡ spans heap) × (state.granularity ≡ heap.granularity) → (spans new ≡ spans heap) × (new.granularity ≡ heap.granularity)
+    told : (state : HeapState) → in_place heap at n ≡ Some state → (spans state ≡ spans heap) × (state.granularity ≡ heap.granularity) →
+        (spans new ≡ spans heap) × (new.granularity ≡ heap.granularity)
     told state that h = let one : state ≡ new = (let both : Some state ≡ Some new = sym that ∙ is in cc) in subst (λ s. (spans s ≡ spans heap) × (s.granularity ≡ heap.granularity)) one h
 
-    behind : (one : Extent) → extent_at at (extents_in heap) ≡ Some one → nat_le n one.size ≡ false → (o : Option Extent) → extent_at (one.at + one.size) (extents_in heap) ≡ o → (spans new ≡ spans heap) × (new.granularity ≡ heap.granularity)
+    behind : (one : Extent) → extent_at at (extents_in heap) ≡ Some one → nat_le n one.size ≡ false →
+        (o : Option Extent) → extent_at (one.at + one.size) (extents_in heap) ≡ o → (spans new ≡ spans heap) × (new.granularity ≡ heap.granularity)
     behind one there more None none = absurd (let gone : in_place heap at n ≡ None = rw (there, more, none) refl in let both : None ≡ Some new = sym gone ∙ is in cc)
     behind one there more (Some next) after = room (has_room n (joined one next)) refl
       where
         room : (b : Bool) → has_room n (joined one next) ≡ b → (spans new ≡ spans heap) × (new.granularity ≡ heap.granularity)
-        room true has = told (grown_into heap one next n) (rw (there, more, after, has) refl) (spans_changed (replaced_both one.at (λ one behind. cut n (joined one behind))) heap.segments, refl)
+        room true has = told (grown_into heap one next n) (rw (there, more, after, has) refl)
+            (spans_changed (replaced_both one.at (λ one behind. cut n (joined one behind))) heap.segments, refl)
         room false none = absurd (let gone : in_place heap at n ≡ None = rw (there, more, after, none) refl in let both : None ≡ Some new = sym gone ∙ is in cc)
 
-    rest : (one : Extent) → extent_at at (extents_in heap) ≡ Some one → nat_le n one.size ≡ true → (b : Bool) → nat_le (n + 32) one.size ≡ b → (spans new ≡ spans heap) × (new.granularity ≡ heap.granularity)
+    rest : (one : Extent) → extent_at at (extents_in heap) ≡ Some one → nat_le n one.size ≡ true → (b : Bool) → nat_le (n + 32) one.size ≡ b →
+        (spans new ≡ spans heap) × (new.granularity ≡ heap.granularity)
     rest one there fits true much = told (tail_freed heap one.at n) (rw (there, fits, much) refl)
         (spans_changed (freed_in (one.at + n)) (in_segments (replaced one.at (halves n)) heap.segments) ∙ spans_changed (replaced one.at (halves n)) heap.segments, refl)
     rest one there fits false few = told heap (rw (there, fits, few) refl) (refl, refl)
@@ -37,7 +41,8 @@ spans_resized heap {new} at n is = first (extent_at at (extents_in heap)) refl
 
 -- ---- the block
 
-module _ {A : Type 0} (regions : A → List Grant) (word : A → ℕ → ℕ) (heap : Dlmalloc A) (sound : IsSound regions word heap) (address size : ℕ) (block : IsBlock (state_of word heap) address size) where
+module _ {A : Type 0} (regions : A → List Grant) (word : A → ℕ → ℕ) (heap : Dlmalloc A) (sound : IsSound regions word heap) (address size : ℕ)
+    (block : IsBlock (state_of word heap) address size) where
   place : block.extent.at ≡ address - 16
   place = (found (address - 16) block.extent (extents_in (state_of word heap)) block.there).place
 
@@ -56,9 +61,12 @@ module _ {A : Type 0} (regions : A → List Grant) (word : A → ℕ → ℕ) (h
 
 -- ---- a block with another size
 
-module _ {A : Type 0} {regions : A → List Grant} {word : A → ℕ → ℕ} (zeros : A → Bool) (follows : A → List Event → A → Type 0) (on : (x y z : A) (a b c : List Event) → follows x a y → follows y b z → a ++ b ≡ c → follows x c z) (frees parts : Bool) (unit : ℕ)
-    {old : Dlmalloc A} (new : Dlmalloc A) {from : ℕ} (held align size address : ℕ) {n : ℕ} (sound : IsSound regions word old) (power : IsPowerOfTwo align) (block : IsBlock (state_of word old) from n) where
-  given_here : align ≤ 16 → address ≡ from → IsInPlace regions word follows old from held size new → IsGivenSize regions word follows frees parts unit old from held align size address new
+module _ {A : Type 0} {regions : A → List Grant} {word : A → ℕ → ℕ} (zeros : A → Bool) (follows : A → List Event → A → Type 0)
+    (on : (x y z : A) (a b c : List Event) → follows x a y → follows y b z → a ++ b ≡ c → follows x c z) (frees parts : Bool)
+    (unit : ℕ) {old : Dlmalloc A} (new : Dlmalloc A) {from : ℕ} (held align size address : ℕ) {n : ℕ} (sound : IsSound regions word old)
+    (power : IsPowerOfTwo align) (block : IsBlock (state_of word old) from n) where
+  given_here : align ≤ 16 → address ≡ from → IsInPlace regions word follows old from held size new →
+      IsGivenSize regions word follows frees parts unit old from held align size address new
   given_here few same out = record {
     middle = new;
     found = inl (still.0, out.moved.followed, out.moved.regions_same);
@@ -139,16 +147,19 @@ module _ {A : Type 0} {regions : A → List Grant} {word : A → ℕ → ℕ} (z
       sound = out.freed.sound;
     }
 
-  pub given_size : IsResized regions word zeros follows frees parts unit old from held align size address new → IsGivenSize regions word follows frees parts unit old from held align size address new
+  pub given_size : IsResized regions word zeros follows frees parts unit old from held align size address new →
+      IsGivenSize regions word follows frees parts unit old from held align size address new
   given_size (inl here) = given_here here.0 here.1 here.2
   given_size (inr there) = given_elsewhere there.1
 
 -- ---- a block that is cleared
 
 -- A block is handed out still, where no word but its own is written.
-pub handed_written : {A : Type 0} {regions : A → List Grant} {word : A → ℕ → ℕ} {follows : A → List Event → A → Type 0} → ((x y z : A) (a b c : List Event) → follows x a y → follows y b z → a ++ b ≡ c → follows x c z) →
-    {old : Dlmalloc A} (middle : Dlmalloc A) {new : Dlmalloc A} {size align address : ℕ} → IsHandedOut regions word follows old size align address middle → IsSameHeap regions word follows middle new →
-    ((k : ℕ) → IsWordOf (regions middle.system) k → IsBeside address (words_in size) k → word new.system k ≡ word middle.system k) → IsHandedOut regions word follows old size align address new
+pub handed_written : {A : Type 0} {regions : A → List Grant} {word : A → ℕ → ℕ} {follows : A → List Event → A → Type 0} →
+    ((x y z : A) (a b c : List Event) → follows x a y → follows y b z → a ++ b ≡ c → follows x c z) → {old : Dlmalloc A}
+    (middle : Dlmalloc A) {new : Dlmalloc A} {size align address : ℕ} → IsHandedOut regions word follows old size align address middle →
+    IsSameHeap regions word follows middle new → ((k : ℕ) → IsWordOf (regions middle.system) k → IsBeside address (words_in size) k →
+    word new.system k ≡ word middle.system k) → IsHandedOut regions word follows old size align address new
 handed_written {regions} {word} on {old} middle {new} {size} {address} handed same elsewhere = record {
   found = elim handed.found [
     | inl here ↦ inl (ap spans same.state ∙ here.0, on old.system middle.system new.system [] [] [] here.1 same.followed refl, same.regions_same ∙ here.2)
@@ -165,11 +176,12 @@ handed_written {regions} {word} on {old} middle {new} {size} {address} handed sa
   kept = record {
     words = λ other there used k low high m.
         let inside = used_inside regions word middle handed.sound other used (handed.more.kept other used there) in
-        elsewhere k (record { granted = inside.granted k (omega arith) (omega arith); aligned = m }) (beside other used there k (omega arith) high) ∙ handed.kept.words other there used k low high m;
+        elsewhere k (record { granted = inside.granted k (omega arith) (omega arith); aligned = m }) (beside other used there k (omega arith) high)
+        ∙ handed.kept.words other there used k low high m;
     heads = λ other there used.
         let inside = used_inside regions word middle handed.sound other used (handed.more.kept other used there) in
-        ap (λ w. w / 2) (elsewhere (other.at + 8) (record { granted = inside.granted (other.at + 8) (omega arith) (omega arith); aligned = omega arith }) (beside other used there (other.at + 8) (omega arith) (omega arith)))
-        ∙ handed.kept.heads other there used;
+        ap (λ w. w / 2) (elsewhere (other.at + 8) (record { granted = inside.granted (other.at + 8) (omega arith) (omega arith); aligned = omega arith })
+        (beside other used there (other.at + 8) (omega arith) (omega arith))) ∙ handed.kept.heads other there used;
   };
   sound = same.sound;
 }
@@ -180,11 +192,13 @@ handed_written {regions} {word} on {old} middle {new} {size} {address} handed sa
     cut_place : handed.block.extent.at ≡ address - 16
     cut_place = (found (address - 16) handed.block.extent (extents_in (state_of word middle)) handed.block.there).place
 
-    beside : (other : Extent) → other.kind ≡ Used → extent_at other.at (extents_in (state_of word old)) ≡ Some other → (k : ℕ) → other.at + 8 ≤ k → k < other.at + other.size + 8 → IsBeside address (words_in size) k
+    beside : (other : Extent) → other.kind ≡ Used → extent_at other.at (extents_in (state_of word old)) ≡ Some other →
+        (k : ℕ) → other.at + 8 ≤ k → k < other.at + other.size + 8 → IsBeside address (words_in size) k
     beside other used there k low high =
         let holds = handed.block.holds in
         let size_whole = (used_inside regions word middle handed.sound handed.block.extent handed.block.used cut_there).size_whole in
-        elim (used_apart regions word middle handed.sound other handed.block.extent (handed.more.kept other used there) cut_there (λ same. handed.more.new other used there (same ∙ cut_place))) [
+        elim (used_apart regions word middle handed.sound other handed.block.extent (handed.more.kept other used there) cut_there
+        (λ same. handed.more.new other used there (same ∙ cut_place))) [
           | inl before ↦ inl (omega (arith, cut_place))
           | inr behind ↦ inr (omega (arith, cut_place))
         ]

@@ -8,7 +8,8 @@ on_ok (Err e) each holds = tt
 
 -- ---- segments stay where they are
 
-pub spans_changed : (change : List Extent → List Extent) (segments : List Segment) → map {B = Segment} (λ segment. record segment { extents = [] }) (in_segments change segments) ≡ map {B = Segment} (λ segment. record segment { extents = [] }) segments
+pub spans_changed : (change : List Extent → List Extent) (segments : List Segment) → map {B = Segment} (λ segment. record segment { extents = [] })
+    (in_segments change segments) ≡ map {B = Segment} (λ segment. record segment { extents = [] }) segments
 spans_changed change [] = refl
 spans_changed change (segment ∷ segments) = ap (λ l. (record segment { extents = [] }) ∷ l) (spans_changed change segments)
 
@@ -105,7 +106,8 @@ module _ {A : Type 0} (regions : A → List Grant) (word : A → ℕ → ℕ) (z
       go true before = ap (λ h. h.granularity) (is.of_grant before).1 ∙ granted_same
       go false apart = ap (λ h. h.granularity) (is.of_top apart).state ∙ granted_same
 
-  found_served : {n : ℕ} {at : ℕ} {middle : Dlmalloc A} → IsServed regions word zeros follows old n at middle → IsFound follows regions old.system (state_of word old) (padded n) middle.system (state_of word middle)
+  found_served : {n : ℕ} {at : ℕ} {middle : Dlmalloc A} → IsServed regions word zeros follows old n at middle →
+      IsFound follows regions old.system (state_of word old) (padded n) middle.system (state_of word middle)
   found_served {n} served = elim served.cut [
     | inl here ↦ inl (ap spans here.0.state ∙ spans_changed (replaced here.0.extent.at (cut (padded n))) (state_of word old).segments, here.1, here.2)
     | inr there ↦ inr (there.0, there.1.none_chosen, there.1.full, spans_new there.1, there.2, there.3)
@@ -132,7 +134,8 @@ module _ {A : Type 0} (regions : A → List Grant) (word : A → ℕ → ℕ) (z
     sound = served.sound;
   }
 
-  pub handed_high : 16 < align → ((x y z : A) (a b c : List Event) → follows x a y → follows y b z → a ++ b ≡ c → follows x c z) → IsServedAligned regions word zeros follows old size align address new → IsHandedOut regions word follows old size align address new
+  pub handed_high : 16 < align → ((x y z : A) (a b c : List Event) → follows x a y → follows y b z → a ++ b ≡ c → follows x c z) →
+      IsServedAligned regions word zeros follows old size align address new → IsHandedOut regions word follows old size align address new
   handed_high many on out = record {
     found = subst (λ n. IsFound follows regions old.system (state_of word old) (padded n) new.system (state_of word new)) (asked_high size align many) found;
     granularity = ap (λ h. h.granularity) out.state ∙ (granularity_aligned (state_of word out.middle) (out.greater - 16) align (padded size) ∙ granularity_served out.served);

@@ -36,16 +36,19 @@ those_in P segment (region ∷ regions) all = go (meets segment region) (those_i
     go false rest = rest
 
 -- all others are apart from it
-others_apart : (segment : Segment) (regions : List Grant) → AllByRecursion (λ region. IsOfRun segment region) (regions_in segment regions) → AllByRecursion (λ region. IsOfRun segment region) regions
+others_apart : (segment : Segment) (regions : List Grant) → AllByRecursion (λ region. IsOfRun segment region) (regions_in segment regions) →
+    AllByRecursion (λ region. IsOfRun segment region) regions
 others_apart segment [] all = tt
 others_apart segment (region ∷ regions) all = go (meets segment region) refl all (others_apart segment regions)
   where
-    go : (b : Bool) → meets segment region ≡ b → AllByRecursion (λ region. IsOfRun segment region) (if b then region ∷ regions_in segment regions else regions_in segment regions) →
-        (AllByRecursion (λ region. IsOfRun segment region) (regions_in segment regions) → AllByRecursion (λ region. IsOfRun segment region) regions) → AllByRecursion (λ region. IsOfRun segment region) (region ∷ regions)
+    go : (b : Bool) → meets segment region ≡ b → AllByRecursion (λ region. IsOfRun segment region) (if b then region ∷ regions_in segment regions
+        else regions_in segment regions) → (AllByRecursion (λ region. IsOfRun segment region) (regions_in segment regions) →
+        AllByRecursion (λ region. IsOfRun segment region) regions) → AllByRecursion (λ region. IsOfRun segment region) (region ∷ regions)
     go true test all rest = (all.0, rest all.1)
     go false test all rest = (inl (grind (arith, nat_tests)), rest all)
 
-run_kept : (segment : Segment) {old : List Grant} (new : List Grant) → regions_in segment new ≡ regions_in segment old → IsRun old segment.base segment.size segment.flags → IsRun new segment.base segment.size segment.flags
+run_kept : (segment : Segment) {old : List Grant} (new : List Grant) → regions_in segment new ≡ regions_in segment old →
+    IsRun old segment.base segment.size segment.flags → IsRun new segment.base segment.size segment.flags
 run_kept segment {old} new same run = record {
   covered = λ k low high. sym (granted_in segment new k low high) ∙ (ap (λ rs. is_granted rs k) same ∙ (granted_in segment old k low high ∙ run.covered k low high));
   whole = others_apart segment new (subst (AllByRecursion (λ region. IsOfRun segment region)) (sym same) (those_in (IsOfRun segment) segment old run.whole));
@@ -55,7 +58,8 @@ module _ {A : Type 0} {regions : A → List Grant} {word : A → ℕ → ℕ} {h
     (stay : KeepsRegions (segments_of word heap) (regions heap.system) (regions system))
     (outside : OnlyBlocksChange (regions heap.system) (state_of word heap) (word heap.system) (word system)) where
   -- a word that an extent rests on stays
-  same : (one : Extent) → extent_at one.at (extents_in (state_of word heap)) ≡ Some one → (k : ℕ) → IsTelling k one → IsWordOf (regions heap.system) k → IsTrue (list_any (has_byte_in k) (segments_of word heap)) → word system k ≡ word heap.system k
+  same : (one : Extent) → extent_at one.at (extents_in (state_of word heap)) ≡ Some one → (k : ℕ) → IsTelling k one →
+      IsWordOf (regions heap.system) k → IsTrue (list_any (has_byte_in k) (segments_of word heap)) → word system k ≡ word heap.system k
   same one there k tells granted inside = outside k granted inside (λ used used_is found. go used used_is found (used.at == one.at) refl)
     where
       plain_used : (kind : Kind) → IsTrue (is_free_below_top kind) → kind ≡ Used → ⊥
@@ -70,18 +74,20 @@ module _ {A : Type 0} {regions : A → List Grant} {word : A → ℕ → ℕ} {h
             | inr other ↦ absurd (elim other [ inl tail ↦ (let no : Record ≡ Used = sym tail ∙ is in cc) | inr end ↦ plain_used one.kind (tells.4 end) is ])
           ]
 
-      go : (used : Extent) → used.kind ≡ Used → extent_at used.at (extents_in (state_of word heap)) ≡ Some used → (b : Bool) → (used.at == one.at) ≡ b → (k < used.at + 16) ⊎ (used.at + used.size + 8 ≤ k)
+      go : (used : Extent) → used.kind ≡ Used → extent_at used.at (extents_in (state_of word heap)) ≡ Some used → (b : Bool) →
+          (used.at == one.at) ≡ b → (k < used.at + 16) ⊎ (used.at + used.size + 8 ≤ k)
       go used used_is found true test = of_used used used_is (the_extent (sym found ∙ (ap (λ a. extent_at a (extents_all (segments_of word heap))) (nat_is test) ∙ there)))
       go used used_is found false other =
           let above = tells.0 in let below = tells.1 in let m = tells.2 in
           let whole = (stands_there (regions heap.system) (word heap.system) (segments_of word heap) sound.segments there).1.whole in
-          elim (beside (regions heap.system) (word heap.system) (segments_of word heap) sound.segments sound.apart found there (λ same. (let t : (used.at == one.at) ≡ true = grind (arith, nat_tests) in cc))) [
+          elim (beside (regions heap.system) (word heap.system) (segments_of word heap) sound.segments sound.apart found there
+          (λ same. (let t : (used.at == one.at) ≡ true = grind (arith, nat_tests) in cc))) [
             | inl before ↦ inr (omega arith)
             | inr behind ↦ inl (omega arith)
           ]
 
-  runs : (segments : List Segment) → KeepsRegions segments (regions heap.system) (regions system) →
-      AllByRecursion (λ segment. IsRun (regions heap.system) segment.base segment.size segment.flags → IsRun (regions system) segment.base segment.size segment.flags) segments
+  runs : (segments : List Segment) → KeepsRegions segments (regions heap.system) (regions system) → AllByRecursion (λ segment. IsRun
+      (regions heap.system) segment.base segment.size segment.flags → IsRun (regions system) segment.base segment.size segment.flags) segments
   runs [] stay = tt
   runs (segment ∷ segments) stay = ((λ run. run_kept segment (regions system) stay.0 run), runs segments stay.1)
 
@@ -94,14 +100,15 @@ module _ {A : Type 0} {regions : A → List Grant} {word : A → ℕ → ℕ} {h
   -- ---- and so its bins
 
   -- the words of a free chunk stay
-  pub chunk_stays : {size : ℕ} (chunk k : ℕ) → IsFreeAt (state_of word heap) chunk size → chunk + 8 ≤ k → k < chunk + size → IsWordOf (regions heap.system) k → word system k ≡ word heap.system k
+  pub chunk_stays : {size : ℕ} (chunk k : ℕ) → IsFreeAt (state_of word heap) chunk size → chunk + 8 ≤ k → k < chunk + size →
+      IsWordOf (regions heap.system) k → word system k ≡ word heap.system k
   chunk_stays chunk k free low high granted =
       let l = located chunk (segments_of word heap) free in
       let p = of_located (IsSegment (regions heap.system) (word heap.system)) l sound.segments in
       let is = in_part (word heap.system) Used l.segment.base l.segment.extents (l.segment.base + l.segment.size) p.extents l.there in
       let above = is.low in let below = is.high in
-      outside k granted (ap (list_any (has_byte_in k)) l.is ∙ any_among (has_byte_in k) l.front l.segment l.back (has_its l.segment k (omega arith) (omega arith)))
-      (λ used used_is found. elim (same_or_beside sound free found) [
+      outside k granted (ap (list_any (has_byte_in k)) l.is ∙ any_among (has_byte_in k) l.front l.segment l.back
+      (has_its l.segment k (omega arith) (omega arith))) (λ used used_is found. elim (same_or_beside sound free found) [
         | inl same ↦ absurd (let no : Used ≡ Free = sym used_is ∙ ap (λ e. e.kind) same in cc)
         | inr beside ↦ elim beside [ inl before ↦ inr (omega arith) | inr behind ↦ inl (omega arith) ]
       ])

@@ -7,13 +7,15 @@ use Rattle.dlmalloc.proofs.Bins.Changes.{binned_moved}
 use Rattle.dlmalloc.proofs.Bins.Order.{order_same}
 
 -- The chunk at an address gave way, and left `more` free, or nothing.
-module _ {A : Type 0} {regions : A → List Grant} {word : A → ℕ → ℕ} {old : Dlmalloc A} (new : Dlmalloc A) (sound : IsSound regions word old) {at : ℕ} {more : List ℕ} (moves : FreeMoves (state_of word old) (state_of word new) (at ∷ []) more) where
+module _ {A : Type 0} {regions : A → List Grant} {word : A → ℕ → ℕ} {old : Dlmalloc A} (new : Dlmalloc A)
+    (sound : IsSound regions word old) {at : ℕ} {more : List ℕ} (moves : FreeMoves (state_of word old) (state_of word new) (at ∷ []) more) where
   -- nothing begins at address 0
   none_at_zero : {k n : ℕ} → IsFreeAt (state_of word old) k n → k ≢ 0
   none_at_zero free zero = (let low = free_low sound free in omega arith)
 
   -- it was the victim, and its rest is, if it has one
-  pub victim_cut : at ≡ old.victim → (IsIn new.victim more) ⊎ (new.victim ≡ 0) → ((k : ℕ) → IsIn k more → k ≡ new.victim) → AreAccounted (state_of word old) (state_of word new) [] [] (at ∷ []) more
+  pub victim_cut : at ≡ old.victim → (IsIn new.victim more) ⊎ (new.victim ≡ 0) →
+      ((k : ℕ) → IsIn k more → k ≡ new.victim) → AreAccounted (state_of word old) (state_of word new) [] [] (at ∷ []) more
   victim_cut was now only = record {
     gone = λ k is n free other. elim is [ inl same ↦ absurd (other (same ∙ was)) | inr none ↦ none ];
     come = λ k is n free other. absurd (other (only k is));
@@ -64,14 +66,18 @@ none_free_at_zero sound free = (let low = free_low sound free in omega arith)
 -- ---- the bins of a heap in which a chunk gave way
 
 -- The free chunk at an address gave way. A rest at another address stays free, if there is one.
-module _ (stays : IndexStays) {A : Type 0} {regions : A → List Grant} {word : A → ℕ → ℕ} {follows : A → List Event → A → Type 0} {old new : Dlmalloc A} (sound : IsSound regions word old) (moved : IsMoved regions word follows old new) (bins : new.bins ≡ old.bins)
+module _ (stays : IndexStays) {A : Type 0} {regions : A → List Grant} {word : A → ℕ → ℕ} {follows : A → List Event → A → Type 0}
+    {old new : Dlmalloc A} (sound : IsSound regions word old) (moved : IsMoved regions word follows old new) (bins : new.bins ≡ old.bins)
     (at rest : ℕ) where
-  abbrev on : (loose loose' less more : List ℕ) → FreeMoves (state_of word old) (state_of word new) less more → AreAccounted (state_of word old) (state_of word new) loose loose' less more → IsBinnedBut loose regions word old → IsBinnedBut loose' regions word new
+  abbrev on : (loose loose' less more : List ℕ) → FreeMoves (state_of word old) (state_of word new) less more →
+      AreAccounted (state_of word old) (state_of word new) loose loose' less more → IsBinnedBut loose regions word old → IsBinnedBut loose' regions word new
   on = binned_moved stays sound moved.sound (λ k was is boundary tag tag'. moved.words k was boundary) bins
 
   -- the rest is the victim
-  abbrev pub victim_rest : FreeMoves (state_of word old) (state_of word new) (at ∷ []) (rest ∷ []) → at ≡ old.victim → new.victim ≡ rest → IsBinned regions word old → IsBinned regions word new
-  victim_rest moves was now = on [] [] (at ∷ []) (rest ∷ []) moves (victim_cut new sound moves was (inl (inl now)) (λ k there. elim there [ inl same ↦ same ∙ sym now | inr none ↦ absurd none ]))
+  abbrev pub victim_rest : FreeMoves (state_of word old) (state_of word new) (at ∷ []) (rest ∷ []) → at ≡ old.victim → new.victim ≡ rest →
+      IsBinned regions word old → IsBinned regions word new
+  victim_rest moves was now = on [] [] (at ∷ []) (rest ∷ []) moves
+      (victim_cut new sound moves was (inl (inl now)) (λ k there. elim there [ inl same ↦ same ∙ sym now | inr none ↦ absurd none ]))
 
   abbrev pub victim_gone : FreeMoves (state_of word old) (state_of word new) (at ∷ []) [] → at ≡ old.victim → new.victim ≡ 0 → IsBinned regions word old → IsBinned regions word new
   victim_gone moves was now = on [] [] (at ∷ []) [] moves (victim_cut new sound moves was (inr now) (λ k none. absurd none))
@@ -80,7 +86,8 @@ module _ (stays : IndexStays) {A : Type 0} {regions : A → List Grant} {word : 
   abbrev pub binned_gone : FreeMoves (state_of word old) (state_of word new) (at ∷ []) [] → new.victim ≡ old.victim → IsBinnedBut (at ∷ []) regions word old → IsBinned regions word new
   binned_gone moves same = on (at ∷ []) [] (at ∷ []) [] moves (victim_stays new sound moves same)
 
-  abbrev pub binned_rest : FreeMoves (state_of word old) (state_of word new) (at ∷ []) (rest ∷ []) → new.victim ≡ old.victim → IsBinnedBut (at ∷ []) regions word old → IsBinnedBut (rest ∷ []) regions word new
+  abbrev pub binned_rest : FreeMoves (state_of word old) (state_of word new) (at ∷ []) (rest ∷ []) → new.victim ≡ old.victim →
+      IsBinnedBut (at ∷ []) regions word old → IsBinnedBut (rest ∷ []) regions word new
   binned_rest moves same = on (at ∷ []) (rest ∷ []) (at ∷ []) (rest ∷ []) moves (victim_stays new sound moves same)
 
   pub rest_no_victim : FreeMoves (state_of word old) (state_of word new) (at ∷ []) (rest ∷ []) → at ≢ old.victim → new.victim ≡ old.victim → 0 < rest → rest ≢ new.victim
@@ -92,13 +99,15 @@ module _ (stays : IndexStays) {A : Type 0} {regions : A → List Grant} {word : 
           (sound.victim (λ none. (let t : (old.victim_size == 0) ≡ true = (let e = none in grind (arith, nat_tests)) in cc))) other (is ∙ same)
 
   -- the rest became the victim
-  abbrev pub small_rest : FreeMoves (state_of word old) (state_of word new) (at ∷ []) (rest ∷ []) → new.victim ≡ rest → IsBinnedBut (at ∷ []) regions word old → IsBinnedBut (old.victim ∷ []) regions word new
+  abbrev pub small_rest : FreeMoves (state_of word old) (state_of word new) (at ∷ []) (rest ∷ []) → new.victim ≡ rest →
+      IsBinnedBut (at ∷ []) regions word old → IsBinnedBut (old.victim ∷ []) regions word new
   small_rest moves now = on (at ∷ []) (old.victim ∷ []) (at ∷ []) (rest ∷ []) moves (rest_victim new sound moves refl now)
 
   pub old_victim_other : FreeMoves (state_of word old) (state_of word new) (at ∷ []) (rest ∷ []) → at ≢ old.victim → new.victim ≡ rest → old.victim_size ≢ 0 → old.victim ≢ new.victim
   old_victim_other moves other now some same = rest_other new sound moves rest (inl refl) (sound.victim some) other (sym now ∙ sym same)
 
-  pub old_victim_free : {more : List ℕ} → FreeMoves (state_of word old) (state_of word new) (at ∷ []) more → at ≢ old.victim → old.victim_size ≢ 0 → IsFreeAt (state_of word new) old.victim old.victim_size
+  pub old_victim_free : {more : List ℕ} → FreeMoves (state_of word old) (state_of word new) (at ∷ []) more → at ≢ old.victim →
+      old.victim_size ≢ 0 → IsFreeAt (state_of word new) old.victim old.victim_size
   old_victim_free moves other some = victim_free new sound moves (sound.victim some) other
 
   pub old_victim_none : old.victim_size ≡ 0 → (bytes : ℕ) → IsFreeAt (state_of word new) old.victim bytes → ⊥
@@ -141,9 +150,10 @@ module _ (heap : HeapState) (at size n : ℕ) where
 
 -- ---- a chunk is taken
 
-module _ (stays : IndexStays) {A : Type 0} {regions : A → List Grant} {word : A → ℕ → ℕ} {follows : A → List Event → A → Type 0} {old new : Dlmalloc A} (sound : IsSound regions word old) {at : ℕ} (size n : ℕ)
-    (moved : IsMoved regions word follows old new) (state : state_of word new ≡ taken (state_of word old) (extent at size Free) n)
-    (moves : FreeMoves (state_of word old) (state_of word new) (at ∷ []) (if nat_le (n + 32) size then (at + n) ∷ [] else [])) (bins : new.bins ≡ old.bins) where
+module _ (stays : IndexStays) {A : Type 0} {regions : A → List Grant} {word : A → ℕ → ℕ} {follows : A → List Event → A → Type 0}
+    {old new : Dlmalloc A} (sound : IsSound regions word old) {at : ℕ} (size n : ℕ) (moved : IsMoved regions word follows old new)
+    (state : state_of word new ≡ taken (state_of word old) (extent at size Free) n) (moves : FreeMoves (state_of word old) (state_of word new) (at ∷ [])
+    (if nat_le (n + 32) size then (at + n) ∷ [] else [])) (bins : new.bins ≡ old.bins) where
   pub victim_is : new.victim ≡ victim_after (state_of word old) n (extent at size Free)
   victim_is = ap (λ s. s.victim) state
 
@@ -193,9 +203,10 @@ module _ (stays : IndexStays) {A : Type 0} {regions : A → List Grant} {word : 
 
 -- ---- a chunk takes the free one behind it, or bytes of it
 
-module _ (stays : IndexStays) {A : Type 0} {regions : A → List Grant} {word : A → ℕ → ℕ} {follows : A → List Event → A → Type 0} {old new : Dlmalloc A} (sound : IsSound regions word old) (at size free n : ℕ)
-    (moved : IsMoved regions word follows old new) (state : state_of word new ≡ grown_into (state_of word old) (extent at size Used) (extent (at + size) free Free) n)
-    (moves : FreeMoves (state_of word old) (state_of word new) ((at + size) ∷ []) (if nat_le (n + 32) (size + free) then (at + n) ∷ [] else [])) (bins : new.bins ≡ old.bins) where
+module _ (stays : IndexStays) {A : Type 0} {regions : A → List Grant} {word : A → ℕ → ℕ} {follows : A → List Event → A → Type 0}
+    {old new : Dlmalloc A} (sound : IsSound regions word old) (at size free n : ℕ) (moved : IsMoved regions word follows old new)
+    (state : state_of word new ≡ grown_into (state_of word old) (extent at size Used) (extent (at + size) free Free) n) (moves : FreeMoves (state_of word old)
+    (state_of word new) ((at + size) ∷ []) (if nat_le (n + 32) (size + free) then (at + n) ∷ [] else [])) (bins : new.bins ≡ old.bins) where
   victim_grown : new.victim ≡ (grown_into (state_of word old) (extent at size Used) (extent (at + size) free Free) n).victim
   victim_grown = ap (λ s. s.victim) state
 
@@ -225,4 +236,5 @@ module _ (stays : IndexStays) {A : Type 0} {regions : A → List Grant} {word : 
 
     -- what came was no free chunk
     pub part_came : n + 32 ≤ size + free → size < n → {m : ℕ} → IsFreeAt (state_of word old) (at + n) m → ⊥
-    part_came room more {m} is_free = ((moves_rest (at + n) n (size + free) moves room).stays (at + n) m is_free (λ is. elim is [ inl same ↦ (let e = same in omega arith) | inr none ↦ none ])).1 (inl refl)
+    part_came room more {m} is_free = ((moves_rest (at + n) n (size + free) moves room).stays (at + n) m is_free
+        (λ is. elim is [ inl same ↦ (let e = same in omega arith) | inr none ↦ none ])).1 (inl refl)

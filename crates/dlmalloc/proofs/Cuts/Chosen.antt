@@ -16,11 +16,13 @@ and_false true is = is
 and_false false is = refl
 
 -- the first victim is the extent that begins where the victim does, if that is free
-find_victim : (heap : HeapState) (extents : List Extent) {victim : Extent} → extent_at heap.victim extents ≡ Some victim → is_free_below_top victim.kind ≡ true → find (is_victim heap) extents ≡ Some victim
+find_victim : (heap : HeapState) (extents : List Extent) {victim : Extent} → extent_at heap.victim extents ≡ Some victim →
+    is_free_below_top victim.kind ≡ true → find (is_victim heap) extents ≡ Some victim
 find_victim heap [] there plain = absurd (cc)
 find_victim heap (first ∷ extents) {victim} there plain = at_first (first.at == heap.victim) refl (λ rest. find_victim heap extents rest plain)
   where
-    at_first : (b : Bool) → (first.at == heap.victim) ≡ b → (extent_at heap.victim extents ≡ Some victim → find (is_victim heap) extents ≡ Some victim) → find (is_victim heap) (first ∷ extents) ≡ Some victim
+    at_first : (b : Bool) → (first.at == heap.victim) ≡ b → (extent_at heap.victim extents ≡ Some victim →
+        find (is_victim heap) extents ≡ Some victim) → find (is_victim heap) (first ∷ extents) ≡ Some victim
     at_first true test later =
         let is : Some first ≡ Some victim = subst (λ b. (if b then Some first else extent_at heap.victim extents) ≡ Some victim) test there in
         let same : first ≡ victim = ap (λ o. unwrap_or o first) is in
@@ -58,10 +60,12 @@ none_at_zero : (regions : List Grant) (words : ℕ → ℕ) (segments : List Seg
 none_at_zero regions words [] parts = refl
 none_at_zero regions words (segment ∷ segments) parts =
     let low = parts.0.low in
-    found_later 0 segment.extents (extents_all segments) (none_outside words Used segment.base segment.extents (segment.base + segment.size) 0 (inl (omega arith)) parts.0.extents) ∙ none_at_zero regions words segments parts.1
+    found_later 0 segment.extents (extents_all segments) (none_outside words Used segment.base segment.extents (segment.base + segment.size) 0
+    (inl (omega arith)) parts.0.extents) ∙ none_at_zero regions words segments parts.1
 
 -- an extent of a heap begins at 4096 at least, and below 2 ^ 64 - 16
-pub free_low : {A : Type 0} {regions : A → List Grant} {word : A → ℕ → ℕ} {heap : Dlmalloc A} → IsSound regions word heap → {one : Extent} → extent_at one.at (extents_in (state_of word heap)) ≡ Some one → 4096 ≤ one.at
+pub free_low : {A : Type 0} {regions : A → List Grant} {word : A → ℕ → ℕ} {heap : Dlmalloc A} → IsSound regions word heap → {one : Extent} →
+    extent_at one.at (extents_in (state_of word heap)) ≡ Some one → 4096 ≤ one.at
 free_low {regions} {word} {heap} sound {one} there =
     let l = located one.at (segments_of word heap) there in
     let p = of_located (IsSegment (regions heap.system) (word heap.system)) l sound.segments in
@@ -69,7 +73,8 @@ free_low {regions} {word} {heap} sound {one} there =
     let low = is.low in let base = p.low in
     omega arith
 
-pub free_below : {A : Type 0} {regions : A → List Grant} {word : A → ℕ → ℕ} {heap : Dlmalloc A} → IsSound regions word heap → {one : Extent} → extent_at one.at (extents_in (state_of word heap)) ≡ Some one → one.at + 16 < 2 ^ 64
+pub free_below : {A : Type 0} {regions : A → List Grant} {word : A → ℕ → ℕ} {heap : Dlmalloc A} → IsSound regions word heap → {one : Extent} →
+    extent_at one.at (extents_in (state_of word heap)) ≡ Some one → one.at + 16 < 2 ^ 64
 free_below {regions} {word} {heap} sound {one} there =
     let l = located one.at (segments_of word heap) there in
     let p = of_located (IsSegment (regions heap.system) (word heap.system)) l sound.segments in
@@ -97,8 +102,8 @@ module _ {A : Type 0} {regions : A → List Grant} {word : A → ℕ → ℕ} {h
       by_size true test =
           let zero : heap.victim_size ≡ 0 = grind (arith, nat_tests) in
           let at = sound.no_victim zero in
-          ap (λ o. unwrap_or (option_map (λ extent. extent.size) o) 0)
-          (no_victim state (extents_in state) (ap (λ a. extent_at a (extents_in state)) at ∙ none_at_zero (regions heap.system) (word heap.system) (segments_of word heap) sound.segments)) ∙ sym zero
+          ap (λ o. unwrap_or (option_map (λ extent. extent.size) o) 0) (no_victim state (extents_in state) (ap (λ a. extent_at a (extents_in state)) at
+          ∙ none_at_zero (regions heap.system) (word heap.system) (segments_of word heap) sound.segments)) ∙ sym zero
       by_size false test =
           let some : heap.victim_size ≢ 0 = grind (arith, nat_tests) in
           ap (λ o. unwrap_or (option_map (λ extent. extent.size) o) 0) (find_victim state (extents_in state) (sound.victim some) refl)
@@ -111,18 +116,16 @@ module _ {A : Type 0} {regions : A → List Grant} {word : A → ℕ → ℕ} {h
   pub top_size_is : size_where (λ extent. is_top extent.kind) (extents_in state) ≡ heap.top_size
   top_size_is = go (segments_of word heap) sound.segments sound.told
     where
-      go : (segments : List Segment) → AreSegments (regions heap.system) (word heap.system) segments → AreTold (word heap.system) heap segments → size_where (λ extent. is_top extent.kind) (extents_all segments) ≡ heap.top_size
+      go : (segments : List Segment) → AreSegments (regions heap.system) (word heap.system) segments → AreTold (word heap.system) heap segments →
+          size_where (λ extent. is_top extent.kind) (extents_all segments) ≡ heap.top_size
       go [] parts h = absurd (omega arith)
       go (segment ∷ segments) parts h =
-          let t = top_tail parts.0 h.4 in
-          let chunks = t.run.chunks in
+          let t = top_tail parts.0 h.4 in let chunks = t.run.chunks in
           let tail = extent heap.top heap.top_size Top ∷ extent (heap.top + heap.top_size) 80 Foot ∷ [] in
-          ap (λ o. unwrap_or (option_map (λ extent. extent.size) o) 0)
-          (find-append (λ extent. is_top extent.kind) segment.extents (extents_all segments)
+          ap (λ o. unwrap_or (option_map (λ extent. extent.size) o) 0) (find-append (λ extent. is_top extent.kind) segment.extents (extents_all segments)
           ∙ ap (λ o. option_or o (find (λ extent. is_top extent.kind) (extents_all segments)))
-          (ap (find (λ extent. is_top extent.kind)) (t.is ∙ ap (λ es. es ++ tail) (run_read t.run))
-          ∙ (find-append (λ extent. is_top extent.kind) chunks tail
-          ∙ ap (λ o. option_or o (find (λ extent. is_top extent.kind) tail)) (no_top chunks t.run.are))))
+          (ap (find (λ extent. is_top extent.kind)) (t.is ∙ ap (λ es. es ++ tail) (run_read t.run)) ∙ (find-append
+          (λ extent. is_top extent.kind) chunks tail ∙ ap (λ o. option_or o (find (λ extent. is_top extent.kind) tail)) (no_top chunks t.run.are))))
 
   module _ (n : ℕ) where
     pub chosen_is : {fit : Option ℕ} → least_fit state n ≡ fit → chosen state n ≡ choose n fit heap.victim_size heap.top_size
@@ -167,14 +170,16 @@ module _ {A : Type 0} {regions : A → List Grant} {word : A → ℕ → ℕ} {h
     pub top_chosen : least_fit state n ≡ None → heap.victim_size < n → n < heap.top_size → IsChosen state n (record { at = heap.top; size = heap.top_size; kind = Top })
     top_chosen fit small fits = record {
       choice = TheTop;
-      is = chosen_is fit ∙ (let one : nat_le n heap.victim_size ≡ false = grind (arith, nat_tests) in let two : nat_lt n heap.top_size ≡ true = grind (arith, nat_tests) in rw (one, two) refl);
+      is = chosen_is fit ∙ (let one : nat_le n heap.victim_size ≡ false = grind (arith, nat_tests) in
+          let two : nat_lt n heap.top_size ≡ true = grind (arith, nat_tests) in rw (one, two) refl);
       there = top_there;
       one = refl;
     }
 
     -- nothing
     pub none_chosen : least_fit state n ≡ None → heap.victim_size < n → heap.top_size ≤ n → chosen state n ≡ None
-    none_chosen fit small few = chosen_is fit ∙ (let one : nat_le n heap.victim_size ≡ false = grind (arith, nat_tests) in let two : nat_lt n heap.top_size ≡ false = grind (arith, nat_tests) in rw (one, two) refl)
+    none_chosen fit small few = chosen_is fit ∙ (let one : nat_le n heap.victim_size ≡ false = grind (arith, nat_tests) in
+        let two : nat_lt n heap.top_size ≡ false = grind (arith, nat_tests) in rw (one, two) refl)
 
 -- a binned one is not the victim
 pub bins_no_victim : {heap : HeapState} {n : ℕ} (size : ℕ) {extent : Extent} → IsChosen heap n extent → chosen heap n ≡ Some (OfBins size) → extent.at ≢ heap.victim

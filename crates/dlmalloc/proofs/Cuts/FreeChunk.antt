@@ -49,17 +49,17 @@ module _ {A : Type 0} {regions : A → List Grant} {word : A → ℕ → ℕ} {h
     Took victim victim_size = IsFreeTake regions word heap chunk n (after victim victim_size)
 
     -- what a step leaves, in which the chunk is cut so
-    take : {less more : List Extent} (new : List Extent) {victim : ℕ} (victim_size : ℕ) (step : IsStep regions word heap (after victim victim_size) less more) →
-        step.front ++ step.now ∷ step.back ≡ run.front ++ with_extents run.segment (run.first ++ (new ++ run.last)) ∷ run.back → cut n chunk ≡ new →
-        (one : Extent) → one.at ≡ at → HasMore less more one →
-        (victim_size ≢ 0 → extent_at victim (extents_in (state_of word (after victim victim_size))) ≡ Some (extent victim victim_size Free)) → (victim_size ≡ 0 → victim ≡ 0) →
-        victim ≡ victim_after (state_of word heap) n chunk → FreeMoves (state_of word heap) (state_of word (after victim victim_size)) (at ∷ []) (if nat_le (n + 32) size then (at + n) ∷ [] else []) →
-        (n + 32 ≤ size → IsFreeAt (state_of word (after victim victim_size)) (at + n) (size - n)) → Took victim victim_size
+    take : {less more : List Extent} (new : List Extent) {victim : ℕ} (victim_size : ℕ) (step : IsStep regions word heap (after victim victim_size) less
+        more) → step.front ++ step.now ∷ step.back ≡ run.front ++ with_extents run.segment (run.first ++ (new ++ run.last)) ∷ run.back →
+        cut n chunk ≡ new → (one : Extent) → one.at ≡ at → HasMore less more one → (victim_size ≢ 0 → extent_at victim (extents_in (state_of
+        word (after victim victim_size))) ≡ Some (extent victim victim_size Free)) → (victim_size ≡ 0 → victim ≡ 0) → victim ≡ victim_after
+        (state_of word heap) n chunk → FreeMoves (state_of word heap) (state_of word (after victim victim_size)) (at ∷ []) (if nat_le (n + 32) size then (at
+        + n) ∷ [] else []) → (n + 32 ≤ size → IsFreeAt (state_of word (after victim victim_size)) (at + n) (size - n)) → Took victim victim_size
     take new {victim} victim_size step now is one place h named none left free rest = record {
       take = record {
         state = (
-            let segments_are = read sound step ∙ (now ∙ (ap (λ es. run.front ++ with_extents run.segment (run.first ++ (es ++ run.last)) ∷ run.back) (sym is)
-            ∙ sym (replaced_run (regions heap.system) sound.segments sound.apart (cut n) run))) in
+            let segments_are = read sound step ∙ (now ∙ (ap (λ es. run.front ++ with_extents run.segment (run.first ++ (es ++ run.last)) ∷ run.back)
+            (sym is) ∙ sym (replaced_run (regions heap.system) sound.segments sound.apart (cut n) run))) in
             λ i. record { segments = segments_are i; victim = left i; granularity = heap.granularity; rate = heap.rate; countdown = heap.countdown; trim_check = heap.trim_check });
         more = subst (λ k. HasOneMore (state_of word heap) (state_of word (after victim victim_size)) k) place (has_more sound step one h);
         sound = stays_sound sound step same refl refl refl refl none named;
@@ -71,8 +71,8 @@ module _ {A : Type 0} {regions : A → List Grant} {word : A → ℕ → ℕ} {h
 
     -- ---- a rest stays free
 
-    module _ (multiple : n % 16 ≡ 0) (least : 32 ≤ n) (room : n + 32 ≤ size)
-        (stored : AreStored (regions heap.system) (word heap.system) ((at + 8, head_of n true true) ∷ (at + n + 8, head_of (size - n) true false) ∷ (at + n + (size - n), size - n) ∷ []) (word system)) where
+    module _ (multiple : n % 16 ≡ 0) (least : 32 ≤ n) (room : n + 32 ≤ size) (stored : AreStored (regions heap.system) (word heap.system)
+        ((at + 8, head_of n true true) ∷ (at + n + 8, head_of (size - n) true false) ∷ (at + n + (size - n), size - n) ∷ []) (word system)) where
       abbrev halves : List Extent
       halves = extent at n Used ∷ extent (at + n) (size - n) Free ∷ []
 
@@ -80,19 +80,21 @@ module _ {A : Type 0} {regions : A → List Grant} {word : A → ℕ → ℕ} {h
       free_one k found = ap (λ e. e.kind) (found_one k chunk found)
 
       abbrev split_step : (victim victim_size : ℕ) → IsStep regions word heap (after victim victim_size) (chunk ∷ []) halves
-      split_step victim victim_size = step_beside (after victim victim_size) sound same run
-          (cut_split (regions heap.system) (word system) stands n multiple least room stored) refl
-          (λ k tail found is. absurd (let no : Free ≡ Record = free_one k found ∙ is in cc)) refl (record { base = refl; size = refl; flags = refl; top = refl; top_size = refl })
+      split_step victim victim_size = step_beside (after victim victim_size) sound same run (cut_split (regions heap.system)
+          (word system) stands n multiple least room stored) refl (λ k tail found is. absurd (let no : Free ≡ Record = free_one k found ∙ is in cc)) refl
+          (record { base = refl; size = refl; flags = refl; top = refl; top_size = refl })
           (λ k tail found is. absurd (let no : Free ≡ Top = free_one k found ∙ is in cc))
 
       has_rest : nat_le (n + 32) size ≡ true
       has_rest = grind (arith, nat_tests)
 
-      split : (victim victim_size : ℕ) → (victim_size ≢ 0 → extent_at victim (extents_in (state_of word (after victim victim_size))) ≡ Some (extent victim victim_size Free)) → (victim_size ≡ 0 → victim ≡ 0) →
-          victim ≡ victim_after (state_of word heap) n chunk → Took victim victim_size
-      split victim victim_size named none left = take halves victim_size (split_step victim victim_size) refl (rw has_rest refl) (extent at n Used) refl (record { front = []; back = []; fewer = refl; further = refl }) named none left
-          (subst (λ b. FreeMoves (state_of word heap) (state_of word (after victim victim_size)) (at ∷ []) (if b then (at + n) ∷ [] else [])) (sym has_rest) split_free)
-          (λ more. found_new sound (split_step victim victim_size) (at + n) (extent (at + n) (size - n) Free) rest_there)
+      split : (victim victim_size : ℕ) →
+          (victim_size ≢ 0 → extent_at victim (extents_in (state_of word (after victim victim_size))) ≡ Some (extent victim victim_size Free)) →
+          (victim_size ≡ 0 → victim ≡ 0) → victim ≡ victim_after (state_of word heap) n chunk → Took victim victim_size
+      split victim victim_size named none left = take halves victim_size (split_step victim victim_size) refl (rw has_rest refl) (extent at n Used) refl
+          (record { front = []; back = []; fewer = refl; further = refl }) named none left
+          (subst (λ b. FreeMoves (state_of word heap) (state_of word (after victim victim_size)) (at ∷ []) (if b then (at + n) ∷ [] else []))
+          (sym has_rest) split_free) (λ more. found_new sound (split_step victim victim_size) (at + n) (extent (at + n) (size - n) Free) rest_there)
         where
           rest_there : extent_at (at + n) halves ≡ Some (extent (at + n) (size - n) Free)
           rest_there =
@@ -108,14 +110,14 @@ module _ {A : Type 0} {regions : A → List Grant} {word : A → ℕ → ℕ} {h
 
           split_free : FreeMoves (state_of word heap) (state_of word (after victim victim_size)) (at ∷ []) ((at + n) ∷ [])
           split_free = free_moves sound (split_step victim victim_size) (at ∷ []) ((at + n) ∷ [])
-              (λ k bytes found. inl (sym (ap (λ e. e.at) (found_one k chunk found)))) in_rest
-              (λ k is. elim is [ inl same ↦ inr (chunk, subst (λ a. extent_at a (chunk ∷ []) ≡ Some chunk) (sym same) (found_here chunk [])) | inr none ↦ absurd none ])
-              (λ k is. elim is [ inl same ↦ inr (extent (at + n) (size - n) Free, subst (λ a. extent_at a halves ≡ Some (extent (at + n) (size - n) Free)) (sym same) rest_there) | inr none ↦ absurd none ])
+              (λ k bytes found. inl (sym (ap (λ e. e.at) (found_one k chunk found)))) in_rest (λ k is. elim is
+              [ inl same ↦ inr (chunk, subst (λ a. extent_at a (chunk ∷ []) ≡ Some chunk) (sym same) (found_here chunk [])) | inr none ↦ absurd none ])
+              (λ k is. elim is
+              [ inl same ↦ inr (extent (at + n) (size - n) Free, subst (λ a. extent_at a halves ≡ Some (extent (at + n) (size - n) Free)) (sym same) rest_there) | inr none ↦ absurd none ])
 
       -- the rest is the victim
       pub split_victim : (at ≡ heap.victim) ⊎ (n < 256) → Took (at + n) (size - n)
-      split_victim why = split (at + n) (size - n)
-          (λ more.
+      split_victim why = split (at + n) (size - n) (λ more.
           let first : (at == at + n) ≡ false = nat_isnt (inl (omega arith)) in
           let second : (at + n == at + n) ≡ true = nat_same (at + n) in
           found_new sound (split_step (at + n) (size - n)) (at + n) (extent (at + n) (size - n) Free) (rw (first, second) refl))
@@ -134,15 +136,13 @@ module _ {A : Type 0} {regions : A → List Grant} {word : A → ℕ → ℕ} {h
       split_other isnt many =
           let test : (at == heap.victim) ≡ false = (let e = isnt in grind (arith, nat_tests)) in
           let large : nat_lt n 256 ≡ false = (let m = many in grind (arith, nat_tests)) in
-          split heap.victim heap.victim_size
-          (λ more. found_again sound (split_step heap.victim heap.victim_size)
-          heap.victim (λ here. absurd (isnt (ap (λ e. e.at) (found_one heap.victim chunk here)))) (sound.victim more))
-          sound.no_victim (rw (test, has_rest, large) refl)
+          split heap.victim heap.victim_size (λ more. found_again sound (split_step heap.victim heap.victim_size) heap.victim
+          (λ here. absurd (isnt (ap (λ e. e.at) (found_one heap.victim chunk here)))) (sound.victim more)) sound.no_victim (rw (test, has_rest, large) refl)
 
     -- ---- nothing stays free
 
-    module _ (small : size < n + 32)
-        (stored : AreStored (regions heap.system) (word heap.system) ((at + 8, head_of size true true) ∷ (at + size + 8, with_pinuse (if size == 0 then head_of size true true else word heap.system (at + size + 8))) ∷ []) (word system)) where
+    module _ (small : size < n + 32) (stored : AreStored (regions heap.system) (word heap.system) ((at + 8, head_of size true true)
+        ∷ (at + size + 8, with_pinuse (if size == 0 then head_of size true true else word heap.system (at + size + 8))) ∷ []) (word system)) where
       abbrev next : HasNext run.last
       next = has_next (regions heap.system) sound.segments run refl
 
@@ -160,9 +160,9 @@ module _ {A : Type 0} {regions : A → List Grant} {word : A → ℕ → ℕ} {h
           let low = tiles_le (word heap.system) Used run.segment.base run.first at run.first_stand in
           let place = b.0 in
           let high = tiles_le (word heap.system) next.next.kind (at + size + next.next.size) next.rest (run.segment.base + run.segment.size) b.2 in
-          cut_whole (regions heap.system) (word system) stands b.1 b.0
-          (subst (λ t. AreStored (regions heap.system) (word heap.system) ((at + 8, head_of size true true) ∷ (at + size + 8, with_pinuse (if t then head_of size true true else word heap.system (at + size + 8))) ∷ []) (word system)) some stored)
-          (λ k above below m. run_word (regions heap.system) sound.segments run k (omega arith) (omega arith) m)
+          cut_whole (regions heap.system) (word system) stands b.1 b.0 (subst (λ t. AreStored (regions heap.system) (word heap.system)
+          ((at + 8, head_of size true true) ∷ (at + size + 8, with_pinuse (if t then head_of size true true else word heap.system (at + size + 8))) ∷ [])
+          (word system)) some stored) (λ k above below m. run_word (regions heap.system) sound.segments run k (omega arith) (omega arith) m)
 
       -- what begins elsewhere is found as before
       beside : (k : ℕ) → at ≢ k → (tail : Extent) → extent_at k both ≡ Some tail → extent_at k all ≡ Some tail
@@ -186,13 +186,13 @@ module _ {A : Type 0} {regions : A → List Grant} {word : A → ℕ → ℕ} {h
       no_rest : nat_le (n + 32) size ≡ false
       no_rest = grind (arith, nat_tests)
 
-      whole : (victim victim_size : ℕ) → (victim_size ≢ 0 → extent_at victim (extents_in (state_of word (after victim victim_size))) ≡ Some (extent victim victim_size Free)) → (victim_size ≡ 0 → victim ≡ 0) →
-          victim ≡ victim_after (state_of word heap) n chunk → Took victim victim_size
-      whole victim victim_size named none left = take (extent at size Used ∷ []) victim_size (whole_step victim victim_size)
-          (ap (λ es. run.front ++ with_extents run.segment (run.first ++ (extent at size Used ∷ es)) ∷ run.back) (sym next.is)) (rw no_rest refl)
-          (extent at size Used) refl (record { front = []; back = used_of (next.next ∷ []); fewer = refl; further = refl }) named none left
-          (subst (λ b. FreeMoves (state_of word heap) (state_of word (after victim victim_size)) (at ∷ []) (if b then (at + n) ∷ [] else [])) (sym no_rest) whole_free)
-          (λ more. absurd (omega arith))
+      whole : (victim victim_size : ℕ) →
+          (victim_size ≢ 0 → extent_at victim (extents_in (state_of word (after victim victim_size))) ≡ Some (extent victim victim_size Free)) →
+          (victim_size ≡ 0 → victim ≡ 0) → victim ≡ victim_after (state_of word heap) n chunk → Took victim victim_size
+      whole victim victim_size named none left = take (extent at size Used ∷ []) victim_size (whole_step victim victim_size) (ap (λ es. run.front
+          ++ with_extents run.segment (run.first ++ (extent at size Used ∷ es)) ∷ run.back) (sym next.is)) (rw no_rest refl) (extent at size Used) refl
+          (record { front = []; back = used_of (next.next ∷ []); fewer = refl; further = refl }) named none left (subst (λ b. FreeMoves (state_of word heap)
+          (state_of word (after victim victim_size)) (at ∷ []) (if b then (at + n) ∷ [] else [])) (sym no_rest) whole_free) (λ more. absurd (omega arith))
         where
           next_kind : (next.next.kind ≡ Used) ⊎ (next.next.kind ≡ Record)
           next_kind = behind_free next.next.kind (behind (regions heap.system) sound.segments run next).1.kind
@@ -229,10 +229,8 @@ module _ {A : Type 0} {regions : A → List Grant} {word : A → ℕ → ℕ} {h
       pub whole_other : at ≢ heap.victim → Took heap.victim heap.victim_size
       whole_other isnt =
           let test : (at == heap.victim) ≡ false = (let e = isnt in grind (arith, nat_tests)) in
-          whole heap.victim heap.victim_size
-          (λ more. found_again sound (whole_step heap.victim heap.victim_size)
-          heap.victim (beside heap.victim isnt (extent heap.victim heap.victim_size Free)) (sound.victim more))
-          sound.no_victim (rw (test, no_rest) refl)
+          whole heap.victim heap.victim_size (λ more. found_again sound (whole_step heap.victim heap.victim_size) heap.victim
+          (beside heap.victim isnt (extent heap.victim heap.victim_size Free)) (sound.victim more)) sound.no_victim (rw (test, no_rest) refl)
 
   -- ---- what the calls on the chunk want
 
@@ -257,22 +255,23 @@ module _ {A : Type 0} {regions : A → List Grant} {word : A → ℕ → ℕ} {h
   head_there k low high m = record {
     aligned = m;
     small = omega (arith, end_small);
-    granted = run_word (regions heap.system) sound.segments run (k + 8) (omega (arith, tiles_le (word heap.system) Used run.segment.base run.first at run.first_stand)) (omega (arith, head_room)) (omega arith);
+    granted = run_word (regions heap.system) sound.segments run (k + 8)
+        (omega (arith, tiles_le (word heap.system) Used run.segment.base run.first at run.first_stand)) (omega (arith, head_room)) (omega arith);
   }
 
   pub foot_there : (k : ℕ) → at ≤ k → k ≤ at + size → k % 8 ≡ 0 → HasFoot (regions heap.system) k
   foot_there k low high m = record {
     aligned = m;
     small = omega (arith, end_small);
-    granted = run_word (regions heap.system) sound.segments run k (omega (arith, tiles_le (word heap.system) Used run.segment.base run.first at run.first_stand)) (omega (arith, head_room)) m;
+    granted = run_word (regions heap.system) sound.segments run k
+        (omega (arith, tiles_le (word heap.system) Used run.segment.base run.first at run.first_stand)) (omega (arith, head_room)) m;
   }
 
   -- the stores of two calls, as one
   pub stores : (middle system : A) → regions middle ≡ regions heap.system → n ≤ size →
-      IsStored (regions heap.system) (word heap.system) (at + 8) (head_of n true true) (word middle) →
-      AreStored (regions middle) (word middle) ((at + n + 8, head_of (size - n) true false) ∷ (at + n + (size - n), size - n) ∷ []) (word system) →
-      AreStored (regions heap.system) (word heap.system) ((at + 8, head_of n true true) ∷ (at + n + 8, head_of (size - n) true false) ∷ (at + n + (size - n), size - n) ∷ []) (word system)
+      IsStored (regions heap.system) (word heap.system) (at + 8) (head_of n true true) (word middle) → AreStored (regions middle) (word middle)
+      ((at + n + 8, head_of (size - n) true false) ∷ (at + n + (size - n), size - n) ∷ []) (word system) → AreStored (regions heap.system) (word
+      heap.system) ((at + 8, head_of n true true) ∷ (at + n + 8, head_of (size - n) true false) ∷ (at + n + (size - n), size - n) ∷ []) (word system)
   stores middle system same fits first second =
-      stored_then
-      (head_there at (omega arith) (omega arith) (omega (arith, at_whole))).granted first
-      (subst (λ rs. AreStored rs (word middle) ((at + n + 8, head_of (size - n) true false) ∷ (at + n + (size - n), size - n) ∷ []) (word system)) same second)
+      stored_then (head_there at (omega arith) (omega arith) (omega (arith, at_whole))).granted first (subst (λ rs. AreStored rs (word middle)
+      ((at + n + 8, head_of (size - n) true false) ∷ (at + n + (size - n), size - n) ∷ []) (word system)) same second)

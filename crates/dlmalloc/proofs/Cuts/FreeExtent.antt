@@ -4,14 +4,16 @@ use Rattle.dlmalloc.proofs.Extents.Tiling.{free_chunk, plain_chunk}
 use Rattle.dlmalloc.proofs.Extents.Lookup.{extent}
 
 -- one store, and others behind it
-pub stored_then : {regions : List Grant} {old middle new : ℕ → ℕ} {at value : ℕ} {stores : List (ℕ × ℕ)} → IsWordOf regions at → IsStored regions old at value middle → AreStored regions middle stores new → AreStored regions old ((at, value) ∷ stores) new
+pub stored_then : {regions : List Grant} {old middle new : ℕ → ℕ} {at value : ℕ} {stores : List (ℕ × ℕ)} → IsWordOf regions at →
+    IsStored regions old at value middle → AreStored regions middle stores new → AreStored regions old ((at, value) ∷ stores) new
 stored_then {at} word first second = record {
   here = ((λ apart. second.elsewhere at word apart ∙ first.here), second.here);
   elsewhere = λ k is apart. second.elsewhere k is apart.1 ∙ first.elsewhere k is apart.0;
 }
 
 -- two stores, and another over the second
-pub stored_over : {regions : List Grant} {old middle new : ℕ → ℕ} {first second : ℕ} (value other : ℕ) {last : ℕ} → IsWordOf regions first → AreStored regions old ((first, value) ∷ (second, other) ∷ []) middle → IsStored regions middle second last new →
+pub stored_over : {regions : List Grant} {old middle new : ℕ → ℕ} {first second : ℕ} (value other : ℕ) {last : ℕ} → IsWordOf regions first →
+    AreStored regions old ((first, value) ∷ (second, other) ∷ []) middle → IsStored regions middle second last new →
     AreStored regions old ((first, value) ∷ (second, last) ∷ []) new
 stored_over {first} value other word before after = record {
   here = ((λ apart. after.elsewhere first word apart.0 ∙ before.here.0 apart), ((λ apart. after.here), tt));
@@ -19,7 +21,8 @@ stored_over {first} value other word before after = record {
 }
 
 -- An extent in use or a record, behind one of another kind: bit 0 of its head alone tells of it.
-pub rehung : {words : ℕ → ℕ} (words' : ℕ → ℕ) {before : Kind} (before' : Kind) {next : Extent} → HasChunk words before next → (next.kind ≡ Used) ⊎ (next.kind ≡ Record) → MayStand before' next.kind →
+pub rehung : {words : ℕ → ℕ} (words' : ℕ → ℕ) {before : Kind} (before' : Kind) {next : Extent} → HasChunk words before next →
+    (next.kind ≡ Used) ⊎ (next.kind ≡ Record) → MayStand before' next.kind →
     words' (next.at + 8) ≡ head_of (told_size next.kind next.size) (is_used before') (is_used next.kind) →
     ((k : ℕ) → next.at + 56 ≤ k → k < next.at + next.size → k % 8 ≡ 0 → words' k ≡ words k) → HasChunk words' before' next
 rehung words' before' {next} h kind may head same = record {
@@ -73,13 +76,13 @@ module _ (regions : List Grant) {old : ℕ → ℕ} (new : ℕ → ℕ) {before 
       AreStored regions old ((at + 8, head_of n true true) ∷ (at + n + 8, head_of (size - n) true false) ∷ (at + n + (size - n), size - n) ∷ []) new →
       IsMove regions old new before at (at + size) (at + size) (extent at size Free ∷ []) (extent at n Used ∷ extent (at + n) (size - n) Free ∷ [])
   cut_split n whole least room stored =
-      let place = stands.whole in
-      let units = stands.size.0 in
+      let place = stands.whole in let units = stands.size.0 in
       record {
         less_stand = (refl, stands, refl);
         more_stand = (
           refl,
-          plain_chunk place (whole, least) (inl stands.kind) (stored.here.0 ((λ is. omega arith), ((λ is. omega arith), tt)) ∙ ap (λ k. head_of n (is_used k) true) (sym stands.kind)) (λ free. cc) (λ is. cc),
+          plain_chunk place (whole, least) (inl stands.kind) (stored.here.0 ((λ is. omega arith), ((λ is. omega arith), tt))
+              ∙ ap (λ k. head_of n (is_used k) true) (sym stands.kind)) (λ free. cc) (λ is. cc),
           (
             refl,
             free_chunk (omega arith) (omega arith, omega arith) refl (stored.here.1.0 ((λ is. omega arith), tt)) (stored.here.1.1.0 tt),
@@ -92,22 +95,21 @@ module _ (regions : List Grant) {old : ℕ → ℕ} (new : ℕ → ℕ) {before 
   -- nothing stays free
   module _ {next : Extent} (behind : HasChunk old Free next) (touch : next.at ≡ at + size) where
     pub cut_whole : AreStored regions old ((at + 8, head_of size true true) ∷ (at + size + 8, with_pinuse (old (at + size + 8))) ∷ []) new →
-        ((k : ℕ) → next.at < k → k < next.at + next.size → k % 8 ≡ 0 → IsWordOf regions k) →
-        IsMove regions old new before at (at + size + next.size) (at + size + next.size) (extent at size Free ∷ next ∷ []) (extent at size Used ∷ next ∷ [])
+        ((k : ℕ) → next.at < k → k < next.at + next.size → k % 8 ≡ 0 → IsWordOf regions k) → IsMove regions old new before at
+        (at + size + next.size) (at + size + next.size) (extent at size Free ∷ next ∷ []) (extent at size Used ∷ next ∷ [])
     cut_whole stored granted =
-        let kind = behind_free next.kind behind.kind in
-        let long = stands.size.1 in
+        let kind = behind_free next.kind behind.kind in let long = stands.size.1 in
         record {
           less_stand = (refl, stands, (touch, behind, refl));
           more_stand = (
             refl,
-            plain_chunk stands.whole stands.size (inl stands.kind) (stored.here.0 ((λ is. omega arith), tt) ∙ ap (λ k. head_of size (is_used k) true) (sym stands.kind)) (λ free. cc) (λ is. cc),
+            plain_chunk stands.whole stands.size (inl stands.kind)
+                (stored.here.0 ((λ is. omega arith), tt) ∙ ap (λ k. head_of size (is_used k) true) (sym stands.kind)) (λ free. cc) (λ is. cc),
             (
               touch,
-              rehung new Used behind kind (may_stand next.kind Used kind (inl refl))
-                  (subst (λ a. new (a + 8) ≡ head_of (told_size next.kind next.size) true (is_used next.kind)) (sym touch)
-                  (stored.here.1.0 tt ∙ (ap (λ a. with_pinuse (old (a + 8))) (sym touch)
-                  ∙ (ap with_pinuse behind.head ∙ with_pinuse-head_of (told_size next.kind next.size) false (is_used next.kind) (told_whole next.kind next.size behind.size)))))
+              rehung new Used behind kind (may_stand next.kind Used kind (inl refl)) (subst (λ a. new (a + 8) ≡ head_of (told_size next.kind next.size) true
+                  (is_used next.kind)) (sym touch) (stored.here.1.0 tt ∙ (ap (λ a. with_pinuse (old (a + 8))) (sym touch) ∙ (ap with_pinuse behind.head
+                  ∙ with_pinuse-head_of (told_size next.kind next.size) false (is_used next.kind) (told_whole next.kind next.size behind.size)))))
                   (λ k low high m. stored.elsewhere k (granted k (omega arith) high m) ((λ is. omega arith), ((λ is. omega arith), tt))),
               refl,
             ),
@@ -116,12 +118,11 @@ module _ (regions : List Grant) {old : ℕ → ℕ} (new : ℕ → ℕ) {before 
         }
 
 -- the top is cut
-pub cut_top : {regions : List Grant} {old new : ℕ → ℕ} {before : Kind} {at size : ℕ} (n : ℕ) → HasChunk old before (extent at size Top) → n % 16 ≡ 0 → 32 ≤ n → n + 16 ≤ size →
-    AreStored regions old ((at + 8, head_of n true true) ∷ (at + n + 8, size - n + 1) ∷ []) new →
+pub cut_top : {regions : List Grant} {old new : ℕ → ℕ} {before : Kind} {at size : ℕ} (n : ℕ) → HasChunk old before (extent at size Top) →
+    n % 16 ≡ 0 → 32 ≤ n → n + 16 ≤ size → AreStored regions old ((at + 8, head_of n true true) ∷ (at + n + 8, size - n + 1) ∷ []) new →
     IsMove regions old new before at (at + size) (at + size) (extent at size Top ∷ []) (extent at n Used ∷ extent (at + n) (size - n) Top ∷ [])
 cut_top n stands whole least room stored =
-    let place = stands.whole in
-    let units = stands.size.0 in
+    let place = stands.whole in let units = stands.size.0 in
     record {
       less_stand = (refl, stands, refl);
       more_stand = (

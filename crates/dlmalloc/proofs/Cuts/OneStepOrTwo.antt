@@ -10,14 +10,16 @@ use Rattle.dlmalloc.proofs.Segments.RegionsMore.{word_kept, word_fresh, none_fre
 use Rattle.dlmalloc.proofs.Requests.Plain.{taken_block}
 use Rattle.dlmalloc.proofs.Extents.Top.{top_among}
 
-module _ {A : Type 0} {regions : A → List Grant} {word : A → ℕ → ℕ} (zeros : A → Bool) (follows : A → List Event → A → Type 0) {old : Dlmalloc A} (sound : IsSound regions word old) (n : ℕ) where
+module _ {A : Type 0} {regions : A → List Grant} {word : A → ℕ → ℕ} (zeros : A → Bool)
+    (follows : A → List Event → A → Type 0) {old : Dlmalloc A} (sound : IsSound regions word old) (n : ℕ) where
   -- a move with no change of bins is one with them
   pub as_turned : {new : Dlmalloc A} → IsMoved regions word follows old new → IsTurned regions word follows old new
   as_turned moved = record { sound = moved.sound; words = λ k inside was own. moved.words k inside (λ boundary. own (inl boundary)); regions_same = moved.regions_same; followed = moved.followed }
 
   -- an extent of the heap was chosen, and cut
-  pub cut_here : {new : Dlmalloc A} {chunk : Extent} → IsChosen (state_of word old) n chunk → n ≤ chunk.size → chunk.at + 16 < 2 ^ 64 → state_of word new ≡ taken (state_of word old) chunk n →
-      HasOneMore (state_of word old) (state_of word new) chunk.at → IsTurned regions word follows old new → IsCutOut regions word zeros follows old n chunk.at new
+  pub cut_here : {new : Dlmalloc A} {chunk : Extent} → IsChosen (state_of word old) n chunk → n ≤ chunk.size → chunk.at + 16 < 2 ^ 64 →
+      state_of word new ≡ taken (state_of word old) chunk n → HasOneMore (state_of word old) (state_of word new) chunk.at →
+      IsTurned regions word follows old new → IsCutOut regions word zeros follows old n chunk.at new
   cut_here {chunk} is fits small state more moved = record {
     cut = inl (record { extent = chunk; is_chosen = is; place = refl; state = state }, moved.followed, moved.regions_same);
     small = small;
@@ -31,10 +33,11 @@ module _ {A : Type 0} {regions : A → List Grant} {word : A → ℕ → ℕ} (z
   }
 
   -- a region was granted, and the top that it made cut
-  module _ {middle new : Dlmalloc A} (grown : IsGrown regions word zeros follows old n middle) (state : state_of word new ≡ taken (state_of word middle) (extent middle.top middle.top_size Top) n)
-      (after : HasOneMore (state_of word middle) (state_of word new) middle.top) (moved : IsMoved regions word follows middle new)
-      (head : IsBoundary (state_of word new) (middle.top + 8)) (foot : IsBoundary (state_of word new) (middle.top + middle.top_size + 8))
-      (others : (one : Extent) → one.at ≢ middle.top → extent_at one.at (extents_in (state_of word middle)) ≡ Some one → extent_at one.at (extents_in (state_of word new)) ≡ Some one) where
+  module _ {middle new : Dlmalloc A} (grown : IsGrown regions word zeros follows old n middle) (state : state_of word new ≡ taken (state_of word middle)
+      (extent middle.top middle.top_size Top) n) (after : HasOneMore (state_of word middle) (state_of word new) middle.top)
+      (moved : IsMoved regions word follows middle new) (head : IsBoundary (state_of word new) (middle.top + 8))
+      (foot : IsBoundary (state_of word new) (middle.top + middle.top_size + 8)) (others : (one : Extent) → one.at ≢ middle.top →
+      extent_at one.at (extents_in (state_of word middle)) ≡ Some one → extent_at one.at (extents_in (state_of word new)) ≡ Some one) where
     -- what is found there is the top
     is_the_top : {one : Extent} → extent_at one.at (extents_in (state_of word middle)) ≡ Some one → one.at ≡ middle.top → extent middle.top middle.top_size Top ≡ one
     is_the_top there same = the_extent (sym (top_among grown.sound grown.there) ∙ (ap (λ a. extent_at a (extents_in (state_of word middle))) (sym same) ∙ there))
@@ -81,7 +84,8 @@ module _ {A : Type 0} {regions : A → List Grant} {word : A → ℕ → ℕ} (z
       new = λ used is there. after.new used is (grown.used.still used is there);
     }
 
-    pub cut_new : chosen (state_of word old) n ≡ None → middle.top + 16 < 2 ^ 64 → follows old.system (Granted (round_up (n + 96) old.granularity) grown.grant ∷ []) new.system → IsCutOut regions word zeros follows old n middle.top new
+    pub cut_new : chosen (state_of word old) n ≡ None → middle.top + 16 < 2 ^ 64 → follows old.system
+        (Granted (round_up (n + 96) old.granularity) grown.grant ∷ []) new.system → IsCutOut regions word zeros follows old n middle.top new
     cut_new none small followed = record {
       cut = inr (
         grown.grant,
@@ -99,7 +103,8 @@ module _ {A : Type 0} {regions : A → List Grant} {word : A → ℕ → ℕ} (z
           room = grown.long;
           place = elim grown.begins [
             | inl here ↦ inl here
-            | inr behind ↦ inr (subst (IsBehindTop (state_of word old) grown.grant) (sym behind.2) (behind_first word old grown.grant behind.0 behind.1, (old.top_size, top_among sound behind.0)))
+            | inr behind ↦ inr (subst (IsBehindTop (state_of word old) grown.grant) (sym behind.2)
+                (behind_first word old grown.grant behind.0 behind.1, (old.top_size, top_among sound behind.0)))
           ];
         },
         followed,
@@ -116,12 +121,14 @@ module _ {A : Type 0} {regions : A → List Grant} {word : A → ℕ → ℕ} (z
       new_words = λ zero k inside fresh own.
           let there = subst (λ rs. IsWordOf rs k) moved.regions_same inside in
           let within = word_fresh grown.grant (regions old.system) grown.with_it k there fresh in
-          moved.words k there (λ boundary. own (inl boundary)) ∙ grown.new_words zero k within.0 within.1 inside.aligned (λ is. own (inl (subst (IsBoundary (state_of word new)) (sym is) head))) (λ is. own (inl (subst (IsBoundary (state_of word new)) (sym is) foot)));
+          moved.words k there (λ boundary. own (inl boundary)) ∙ grown.new_words zero k within.0 within.1 inside.aligned
+          (λ is. own (inl (subst (IsBoundary (state_of word new)) (sym is) head))) (λ is. own (inl (subst (IsBoundary (state_of word new)) (sym is) foot)));
       sound = moved.sound;
     }
 
 -- so a block is handed out
-pub served : {A : Type 0} {regions : A → List Grant} {word : A → ℕ → ℕ} {zeros : A → Bool} {follows : A → List Event → A → Type 0} {old new : Dlmalloc A} (size : ℕ) {n at : ℕ} → n ≡ padded size → size + 8 ≤ n → n ≤ size + 32 → size < limit old.granularity →
+pub served : {A : Type 0} {regions : A → List Grant} {word : A → ℕ → ℕ} {zeros : A → Bool} {follows : A → List Event → A → Type 0}
+    {old new : Dlmalloc A} (size : ℕ) {n at : ℕ} → n ≡ padded size → size + 8 ≤ n → n ≤ size + 32 → size < limit old.granularity →
     IsCutOut regions word zeros follows old n at new → KeepsOrder regions word old new → IsServed regions word zeros follows old size (at + 16) new
 served {regions} {word} {follows} {old} {new} size {n} {at} is holds near small cut order =
     let back : at ≡ at + 16 - 16 = omega arith in

@@ -5,9 +5,10 @@ use Rattle.dlmalloc.proofs.Extents.Tiling.{sized, tiles_le}
 use Rattle.dlmalloc.proofs.Segments.Among.{with_extents, all_at}
 
 -- a change of one segment's extents, which leaves the extents of segments apart from it
-pub in_one : (regions : List Grant) (words : ℕ → ℕ) (change : List Extent → List Extent) (front : List Segment) (segment : Segment) (back : List Segment) {extents : List Extent} →
-    AreSegments regions words (front ++ segment ∷ back) → AreApart (front ++ segment ∷ back) →
-    ((other : Segment) → IsSegment regions words other → (IsApartFrom other segment) ⊎ (IsApartFrom segment other) → change other.extents ≡ other.extents) → change segment.extents ≡ extents →
+pub in_one : (regions : List Grant) (words : ℕ → ℕ) (change : List Extent →
+    List Extent) (front : List Segment) (segment : Segment) (back : List Segment) {extents : List Extent} →
+    AreSegments regions words (front ++ segment ∷ back) → AreApart (front ++ segment ∷ back) → ((other : Segment) → IsSegment regions words other →
+    (IsApartFrom other segment) ⊎ (IsApartFrom segment other) → change other.extents ≡ other.extents) → change segment.extents ≡ extents →
     in_segments change (front ++ segment ∷ back) ≡ front ++ with_extents segment extents ∷ back
 in_one regions words change [] segment back parts apart others here = λ i. with_extents segment (here i) ∷ behind back parts.1 apart.0 i
   where
@@ -15,9 +16,11 @@ in_one regions words change [] segment back parts apart others here = λ i. with
     behind [] parts apart = refl
     behind (other ∷ back) parts apart = λ i. with_extents other (others other parts.0 (inr apart.0) i) ∷ behind back parts.1 apart.1 i
 in_one regions words change (first ∷ front) segment back parts apart others here =
-    λ i. with_extents first (others first parts.0 (inl (all_at (IsApartFrom first) front segment back apart.0)) i) ∷ in_one regions words change front segment back parts.1 apart.1 others here i
+    λ i. with_extents first (others first parts.0 (inl (all_at (IsApartFrom first) front segment back apart.0)) i) ∷ in_one regions words change front
+    segment back parts.1 apart.1 others here i
 
-replaced_none : (words : ℕ → ℕ) (before : Kind) (from : ℕ) (extents : List Extent) (to at : ℕ) (others : Extent → List Extent) → (at < from) ⊎ (to ≤ at) → Tiles words before from extents to → replaced at others extents ≡ extents
+replaced_none : (words : ℕ → ℕ) (before : Kind) (from : ℕ) (extents : List Extent) (to at : ℕ) (others : Extent → List Extent) →
+    (at < from) ⊎ (to ≤ at) → Tiles words before from extents to → replaced at others extents ≡ extents
 replaced_none words before from [] to at others out h = refl
 replaced_none words before from (extent ∷ extents) to at others out h =
     let long = (sized extent.kind extent.size h.1.size).1 in
@@ -27,14 +30,14 @@ replaced_none words before from (extent ∷ extents) to at others out h =
     let test : (extent.at == at) ≡ false = nat_isnt (grind arith) in
     rw test (ap (λ es. extent ∷ es) rest)
 
-pub replaced_run : (regions : List Grant) {words : ℕ → ℕ} {segments : List Segment} → AreSegments regions words segments → AreApart segments → {extent : Extent} (others : Extent → List Extent) →
-    (run : IsRunOf words segments extent.at (extent.at + extent.size) (extent ∷ [])) →
+pub replaced_run : (regions : List Grant) {words : ℕ → ℕ} {segments : List Segment} → AreSegments regions words segments → AreApart segments →
+    {extent : Extent} (others : Extent → List Extent) → (run : IsRunOf words segments extent.at (extent.at + extent.size) (extent ∷ [])) →
     in_segments (replaced extent.at others) segments ≡ run.front ++ with_extents run.segment (run.first ++ (others extent ++ run.last)) ∷ run.back
 replaced_run regions {words} parts apart {extent} others run =
-    ap (in_segments (replaced extent.at others)) run.is
-    ∙ in_one regions words (replaced extent.at others) run.front run.segment run.back (subst (AreSegments regions words) run.is parts) (subst AreApart run.is apart)
-    (λ other part beyond. replaced_none words Used other.base other.extents (other.base + other.size) extent.at others (out other beyond) part.extents)
-    (ap (replaced extent.at others) run.extents ∙ (flat_map-append each run.first (extent ∷ run.last) ∙ (λ i. before i ++ ((if here i then others extent else extent ∷ []) ++ behind i))))
+    ap (in_segments (replaced extent.at others)) run.is ∙ in_one regions words (replaced extent.at others) run.front run.segment run.back
+    (subst (AreSegments regions words) run.is parts) (subst AreApart run.is apart) (λ other part beyond. replaced_none words Used other.base other.extents
+    (other.base + other.size) extent.at others (out other beyond) part.extents) (ap (replaced extent.at others) run.extents
+    ∙ (flat_map-append each run.first (extent ∷ run.last) ∙ (λ i. before i ++ ((if here i then others extent else extent ∷ []) ++ behind i))))
   where
     each : Extent → List Extent
     each one = if one.at == extent.at then others one else one ∷ []

@@ -12,7 +12,8 @@ use Rattle.dlmalloc.proofs.Moves.OfFreeExtents.{free_moves}
 use Rattle.dlmalloc.proofs.Cuts.FreeChunk.{IsTake, found_one}
 use Rattle.dlmalloc.proofs.Extents.Top.{is_top, top_among, foot_among}
 
-module _ {A : Type 0} {regions : A → List Grant} {word : A → ℕ → ℕ} {heap : Dlmalloc A} (sound : IsSound regions word heap) (some : 0 < heap.size) (n : ℕ) (multiple : n % 16 ≡ 0) (least : 32 ≤ n) (fits : n < heap.top_size) where
+module _ {A : Type 0} {regions : A → List Grant} {word : A → ℕ → ℕ} {heap : Dlmalloc A} (sound : IsSound regions word heap) (some : 0 < heap.size)
+    (n : ℕ) (multiple : n % 16 ≡ 0) (least : 32 ≤ n) (fits : n < heap.top_size) where
   abbrev chunk : Extent
   chunk = extent heap.top heap.top_size Top
 
@@ -20,9 +21,9 @@ module _ {A : Type 0} {regions : A → List Grant} {word : A → ℕ → ℕ} {h
   run = run_of (regions heap.system) (word heap.system) (segments_of word heap) sound.segments (top_among sound some)
 
   head_segment : run.front ≡ []
-  head_segment = (is_top sound run.front run.segment run.back run.is
-      (ap (extent_at heap.top) run.extents ∙ (found_later heap.top run.first (chunk ∷ run.last) (none_outside (word heap.system) Used run.segment.base run.first heap.top heap.top (inr (omega arith)) run.first_stand)
-      ∙ found_here chunk run.last))).0
+  head_segment =
+      (is_top sound run.front run.segment run.back run.is (ap (extent_at heap.top) run.extents ∙ (found_later heap.top run.first (chunk ∷ run.last)
+      (none_outside (word heap.system) Used run.segment.base run.first heap.top heap.top (inr (omega arith)) run.first_stand) ∙ found_here chunk run.last))).0
 
   high : heap.top + heap.top_size ≤ run.segment.base + run.segment.size
   high = tiles_le (word heap.system) Top (heap.top + heap.top_size) run.last (run.segment.base + run.segment.size) run.last_stand
@@ -40,7 +41,8 @@ module _ {A : Type 0} {regions : A → List Grant} {word : A → ℕ → ℕ} {h
   head_there k above below m = record {
     aligned = m;
     small = omega (arith, end_small);
-    granted = run_word (regions heap.system) sound.segments run (k + 8) (omega (arith, tiles_le (word heap.system) Used run.segment.base run.first heap.top run.first_stand)) (omega (arith, high)) (omega arith);
+    granted = run_word (regions heap.system) sound.segments run (k + 8)
+        (omega (arith, tiles_le (word heap.system) Used run.segment.base run.first heap.top run.first_stand)) (omega (arith, high)) (omega arith);
   }
 
   pub top_head : HasHead (regions heap.system) heap.top
@@ -49,8 +51,8 @@ module _ {A : Type 0} {regions : A → List Grant} {word : A → ℕ → ℕ} {h
   pub rest_head : HasHead (regions heap.system) (heap.top + n)
   rest_head = head_there (heap.top + n) (omega arith) (omega (arith, room)) (omega (arith, run.here.1.whole))
 
-  module _ (system : A) (same : regions system ≡ regions heap.system)
-      (stored : AreStored (regions heap.system) (word heap.system) ((heap.top + 8, head_of n true true) ∷ (heap.top + n + 8, heap.top_size - n + 1) ∷ []) (word system)) where
+  module _ (system : A) (same : regions system ≡ regions heap.system) (stored : AreStored (regions heap.system) (word heap.system)
+      ((heap.top + 8, head_of n true true) ∷ (heap.top + n + 8, heap.top_size - n + 1) ∷ []) (word system)) where
     abbrev after : Dlmalloc A
     after = record heap { system = system; top = heap.top + n; top_size = heap.top_size - n }
 
@@ -64,44 +66,38 @@ module _ {A : Type 0} {regions : A → List Grant} {word : A → ℕ → ℕ} {h
     where_top =
         let first : (heap.top == heap.top + n) ≡ false = nat_isnt (inl (omega arith)) in
         let second : (heap.top + n == heap.top + n) ≡ true = nat_same (heap.top + n) in
-        found_later (heap.top + n) run.first (halves ++ run.last) (none_outside (word heap.system) Used run.segment.base run.first heap.top (heap.top + n) (inr (omega arith)) run.first_stand) ∙ rw (first, second) refl
+        found_later (heap.top + n) run.first (halves ++ run.last) (none_outside (word heap.system) Used run.segment.base run.first heap.top (heap.top + n)
+        (inr (omega arith)) run.first_stand) ∙ rw (first, second) refl
 
     abbrev cut_step : IsStep regions word heap after (chunk ∷ []) halves
     cut_step =
         let head = head_is word heap run.front run.segment run.back head_segment run.is sound.told in
-        step_top after sound same run
-        (cut_top n run.here.1 multiple least room stored) refl
-        (λ k tail found is. absurd (let no : Top ≡ Record = top_one k found ∙ is in cc)) refl head_segment
-        (record { some = head.some; base = head.base; size = head.size; flags = head.flags; top = where_top })
+        step_top after sound same run (cut_top n run.here.1 multiple least room stored) refl (λ k tail found is. absurd (let no : Top ≡ Record = top_one k
+        found ∙ is in cc)) refl head_segment (record { some = head.some; base = head.base; size = head.size; flags = head.flags; top = where_top })
 
     -- the top is cut, and the victim stays
     pub top_taken : IsTake regions word heap chunk n after
     top_taken = record {
       state = (
-          let segments_are = read sound cut_step
-          ∙ sym (replaced_run (regions heap.system) sound.segments sound.apart (cut n) run) in
+          let segments_are = read sound cut_step ∙ sym (replaced_run (regions heap.system) sound.segments sound.apart (cut n) run) in
           λ i. record { segments = segments_are i; victim = heap.victim; granularity = heap.granularity; rate = heap.rate; countdown = heap.countdown; trim_check = heap.trim_check });
       more = has_more sound cut_step (extent heap.top n Used) (record { front = []; back = []; fewer = refl; further = refl });
       sound = stays_sound sound cut_step same refl refl refl refl sound.no_victim
-          (λ more. found_again sound cut_step heap.victim
-          (λ found. absurd (let no : Top ≡ Free = top_one heap.victim found in cc)) (sound.victim more));
+          (λ more. found_again sound cut_step heap.victim (λ found. absurd (let no : Top ≡ Free = top_one heap.victim found in cc)) (sound.victim more));
       words = keeps_words sound cut_step;
     }
 
     -- no free extent but the top changes
     pub top_free : FreeMoves (state_of word heap) (state_of word after) [] []
-    top_free = free_moves sound cut_step [] []
-        (λ k bytes found. (let no : Top ≡ Free = top_one k found in cc))
+    top_free = free_moves sound cut_step [] [] (λ k bytes found. (let no : Top ≡ Free = top_one k found in cc))
         (λ k bytes found. elim (found_either k (extent heap.top n Used ∷ []) (extent (heap.top + n) (heap.top_size - n) Top ∷ []) found) [
           | inl first ↦ (let no : Used ≡ Free = ap (λ e. e.kind) (found_one k (extent heap.top n Used) first) in cc)
           | inr later ↦ (let no : Top ≡ Free = ap (λ e. e.kind) (found_one k (extent (heap.top + n) (heap.top_size - n) Top) later.1) in cc)
-        ])
-        (λ k none. absurd none) (λ k none. absurd none)
+        ]) (λ k none. absurd none) (λ k none. absurd none)
 
     -- all others are found as before
     pub others_still : (one : Extent) → one.at ≢ heap.top → extent_at one.at (extents_in (state_of word heap)) ≡ Some one → extent_at one.at (extents_in (state_of word after)) ≡ Some one
-    others_still one other there = found_again sound cut_step one.at
-        (λ found. absurd (other (ap (λ e. e.at) (sym (found_one one.at chunk found))))) there
+    others_still one other there = found_again sound cut_step one.at (λ found. absurd (other (ap (λ e. e.at) (sym (found_one one.at chunk found))))) there
 
     -- the heads that the top and its foot had are boundaries still
     pub head_boundary : IsBoundary (state_of word after) (heap.top + 8)
@@ -120,10 +116,9 @@ module _ {A : Type 0} {regions : A → List Grant} {word : A → ℕ → ℕ} {h
     }
 
   -- the stores of two calls, as one
-  pub stores : (middle system : A) → regions middle ≡ regions heap.system → IsStored (regions heap.system) (word heap.system) (heap.top + 8) (head_of n true true) (word middle) →
-      IsStored (regions middle) (word middle) (heap.top + n + 8) (heap.top_size - n + 1) (word system) →
-      AreStored (regions heap.system) (word heap.system) ((heap.top + 8, head_of n true true) ∷ (heap.top + n + 8, heap.top_size - n + 1) ∷ []) (word system)
+  pub stores : (middle system : A) → regions middle ≡ regions heap.system → IsStored (regions heap.system) (word heap.system) (heap.top + 8)
+      (head_of n true true) (word middle) → IsStored (regions middle) (word middle) (heap.top + n + 8) (heap.top_size - n + 1) (word system) → AreStored
+      (regions heap.system) (word heap.system) ((heap.top + 8, head_of n true true) ∷ (heap.top + n + 8, heap.top_size - n + 1) ∷ []) (word system)
   stores middle system same first second =
-      stored_then top_head.granted first
-      (subst (λ rs. AreStored rs (word middle) ((heap.top + n + 8, heap.top_size - n + 1) ∷ []) (word system)) same
+      stored_then top_head.granted first (subst (λ rs. AreStored rs (word middle) ((heap.top + n + 8, heap.top_size - n + 1) ∷ []) (word system)) same
       (record { here = ((λ apart. second.here), tt); elsewhere = λ k word apart. second.elsewhere k word apart.0 }))

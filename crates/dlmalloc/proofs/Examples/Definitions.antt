@@ -14,7 +14,8 @@ run at size kind = record { at = at; size = size; kind = kind }
 
 -- a heap of one segment of 65536 bytes from 0x400000 on, with these extents and this victim
 abbrev heap : List Extent → ℕ → HeapState
-heap extents victim = record new_heap { segments = (record { base = 0x400000; size = 65536; flags = 0; extents = extents }) ∷ []; victim = victim; countdown = 4095; trim_check = 2097152 }
+heap extents victim = record new_heap
+    { segments = (record { base = 0x400000; size = 65536; flags = 0; extents = extents }) ∷ []; victim = victim; countdown = 4095; trim_check = 2097152 }
 
 abbrev foot : Extent
 foot = run 0x40ffb0 80 Foot
@@ -78,7 +79,8 @@ rest-of-32-is-cut = refl
 -- ---- a victim of 976 bytes beside chunks of 208, 512 and 976 bytes in bins
 
 abbrev bins : HeapState
-bins = heap (run 0x400000 32 Used ∷ run 0x400020 976 Free ∷ run 0x4003f0 32 Used ∷ run 0x400410 208 Free ∷ run 0x4004e0 32 Used ∷ run 0x400500 512 Free ∷ run 0x400700 32 Used ∷ run 0x400720 976 Free ∷ run 0x400af0 32 Used ∷ run 0x400b10 62624 Top ∷ foot ∷ []) 0x400020
+bins = heap (run 0x400000 32 Used ∷ run 0x400020 976 Free ∷ run 0x4003f0 32 Used ∷ run 0x400410 208 Free ∷ run 0x4004e0 32 Used ∷ run 0x400500 512
+    Free ∷ run 0x400700 32 Used ∷ run 0x400720 976 Free ∷ run 0x400af0 32 Used ∷ run 0x400b10 62624 Top ∷ foot ∷ []) 0x400020
 
 -- a small request goes to a bin by an exact fit alone, and else to the victim
 exact-fit : chosen bins 208 ≡ Some (OfBins 208)
@@ -98,24 +100,26 @@ then-top : chosen bins 992 ≡ Some TheTop
 then-top = refl
 
 -- the rest of the victim is the victim, and where it is used up there is none
-victim-stays : taken bins (run 0x400020 976 Free) 192 ≡
-    heap (run 0x400000 32 Used ∷ run 0x400020 192 Used ∷ run 0x4000e0 784 Free ∷ run 0x4003f0 32 Used ∷ run 0x400410 208 Free ∷ run 0x4004e0 32 Used ∷ run 0x400500 512 Free ∷ run 0x400700 32 Used ∷ run 0x400720 976 Free ∷ run 0x400af0 32 Used ∷ run 0x400b10 62624 Top ∷ foot ∷ []) 0x4000e0
+victim-stays : taken bins (run 0x400020 976 Free) 192 ≡ heap (run 0x400000 32 Used ∷ run 0x400020 192 Used ∷ run 0x4000e0 784 Free ∷ run 0x4003f0 32
+    Used ∷ run 0x400410 208 Free ∷ run 0x4004e0 32 Used ∷ run 0x400500 512 Free ∷ run 0x400700 32 Used ∷ run 0x400720 976 Free ∷ run 0x400af0 32
+    Used ∷ run 0x400b10 62624 Top ∷ foot ∷ []) 0x4000e0
 victim-stays = refl
 
-victim-is-used-up : taken bins (run 0x400020 976 Free) 976 ≡
-    heap (run 0x400000 32 Used ∷ run 0x400020 976 Used ∷ run 0x4003f0 32 Used ∷ run 0x400410 208 Free ∷ run 0x4004e0 32 Used ∷ run 0x400500 512 Free ∷ run 0x400700 32 Used ∷ run 0x400720 976 Free ∷ run 0x400af0 32 Used ∷ run 0x400b10 62624 Top ∷ foot ∷ []) 0
+victim-is-used-up : taken bins (run 0x400020 976 Free) 976 ≡ heap
+    (run 0x400000 32 Used ∷ run 0x400020 976 Used ∷ run 0x4003f0 32 Used ∷ run 0x400410 208 Free ∷ run 0x4004e0 32 Used ∷ run 0x400500 512
+    Free ∷ run 0x400700 32 Used ∷ run 0x400720 976 Free ∷ run 0x400af0 32 Used ∷ run 0x400b10 62624 Top ∷ foot ∷ []) 0
 victim-is-used-up = refl
 
 -- ---- what a freed block joins
 
 -- the victim before it stays the victim, and takes in the bin behind it
-joins-victim : freed bins 0x4003f0 ≡
-    heap (run 0x400000 32 Used ∷ run 0x400020 1216 Free ∷ run 0x4004e0 32 Used ∷ run 0x400500 512 Free ∷ run 0x400700 32 Used ∷ run 0x400720 976 Free ∷ run 0x400af0 32 Used ∷ run 0x400b10 62624 Top ∷ foot ∷ []) 0x400020
+joins-victim : freed bins 0x4003f0 ≡ heap (run 0x400000 32 Used ∷ run 0x400020 1216 Free ∷ run 0x4004e0 32 Used ∷ run 0x400500 512 Free ∷ run 0x400700
+    32 Used ∷ run 0x400720 976 Free ∷ run 0x400af0 32 Used ∷ run 0x400b10 62624 Top ∷ foot ∷ []) 0x400020
 joins-victim = refl
 
 -- the top where that follows
-joins-top : freed bins 0x400af0 ≡
-    heap (run 0x400000 32 Used ∷ run 0x400020 976 Free ∷ run 0x4003f0 32 Used ∷ run 0x400410 208 Free ∷ run 0x4004e0 32 Used ∷ run 0x400500 512 Free ∷ run 0x400700 32 Used ∷ run 0x400720 63632 Top ∷ foot ∷ []) 0x400020
+joins-top : freed bins 0x400af0 ≡ heap (run 0x400000 32 Used ∷ run 0x400020 976 Free ∷ run 0x4003f0 32 Used ∷ run 0x400410 208 Free ∷ run 0x4004e0 32
+    Used ∷ run 0x400500 512 Free ∷ run 0x400700 32 Used ∷ run 0x400720 63632 Top ∷ foot ∷ []) 0x400020
 joins-top = refl
 
 -- a victim that becomes part of the top is none

@@ -29,25 +29,24 @@ new_head : taken (granted (grant 0x20000 0) 3920 (first 0x10000 0)) (extent 0x20
 new_head = refl
 
 -- where the top has 16 bytes, they are part of the record
-top_of_16 : granted (grant 0x20000 0) 32 (heap (segment 0x10000 0 (extent 0x10000 4000 Used ∷ extent 0x10fa0 16 Top ∷ extent 0x10fb0 80 Foot ∷ []) ∷ []) 0 2097152) ≡
-    heap (segment 0x20000 0 (extent 0x20000 4016 Top ∷ extent 0x20fb0 80 Foot ∷ [])
-    ∷ segment 0x10000 0 (extent 0x10000 4000 Used ∷ extent 0x10fa0 96 Record ∷ []) ∷ []) 0 2097152
+top_of_16 : granted (grant 0x20000 0) 32 (heap (segment 0x10000 0 (extent 0x10000 4000 Used ∷ extent 0x10fa0 16 Top ∷ extent 0x10fb0 80 Foot ∷ []) ∷ [])
+    0 2097152) ≡ heap (segment 0x20000 0 (extent 0x20000 4016 Top ∷ extent 0x20fb0 80 Foot ∷ []) ∷ segment 0x10000 0
+    (extent 0x10000 4000 Used ∷ extent 0x10fa0 96 Record ∷ []) ∷ []) 0 2097152
 top_of_16 = refl
 
 -- ---- before a segment: the chunk is cut from the grant, and the rest joins what stands behind
 
-before_a_block : granted (grant 0x1f000 0) 3920 (first 0x20000 0) ≡
-    heap ((record {
-      base = 0x1f000;
-      size = 8192;
-      flags = 0;
-      extents = extent 0x1f000 3920 Used ∷ extent 0x1ff50 176 Free ∷ extent 0x20000 112 Used ∷ extent 0x20070 3904 Top ∷ extent 0x20fb0 80 Foot ∷ [];
-    }) ∷ []) 0 2097152
+before_a_block : granted (grant 0x1f000 0) 3920 (first 0x20000 0) ≡ heap ((record {
+  base = 0x1f000;
+  size = 8192;
+  flags = 0;
+  extents = extent 0x1f000 3920 Used ∷ extent 0x1ff50 176 Free ∷ extent 0x20000 112 Used ∷ extent 0x20070 3904 Top ∷ extent 0x20fb0 80 Foot ∷ [];
+}) ∷ []) 0 2097152
 before_a_block = refl
 
 -- the trim check stays as it was; a first extent that is free is one with the rest, and stays the victim where it was
-before_the_victim : granted (grant 0x1f000 0) 1024 (heap (segment 0x20000 0 (extent 0x20000 112 Free ∷ extent 0x20070 32 Used ∷ extent 0x20090 3872 Top ∷ extent 0x20fb0 80 Foot ∷ []) ∷ []) 0x20000 5000) ≡
-    heap ((record {
+before_the_victim : granted (grant 0x1f000 0) 1024 (heap (segment 0x20000 0
+    (extent 0x20000 112 Free ∷ extent 0x20070 32 Used ∷ extent 0x20090 3872 Top ∷ extent 0x20fb0 80 Foot ∷ []) ∷ []) 0x20000 5000) ≡ heap ((record {
       base = 0x1f000;
       size = 8192;
       flags = 0;
@@ -78,9 +77,8 @@ between = refl
 -- ---- flags
 
 -- an extern grant and an extern segment are never one
-extern : granted (grant 0x11000 1) 32 (first 0x10000 1) ≡
-    heap (segment 0x11000 1 (extent 0x11000 4016 Top ∷ extent 0x11fb0 80 Foot ∷ [])
-    ∷ segment 0x10000 1 (extent 0x10000 112 Used ∷ extent 0x10070 3904 Free ∷ extent 0x10fb0 80 Record ∷ []) ∷ []) 0 2097152
+extern : granted (grant 0x11000 1) 32 (first 0x10000 1) ≡ heap (segment 0x11000 1 (extent 0x11000 4016 Top ∷ extent 0x11fb0 80 Foot ∷ []) ∷ segment
+    0x10000 1 (extent 0x10000 112 Used ∷ extent 0x10070 3904 Free ∷ extent 0x10fb0 80 Record ∷ []) ∷ []) 0 2097152
 extern = refl
 
 -- others are where all of their flags are equal
@@ -88,9 +86,8 @@ equal_flags : granted (grant 0x11000 2) 32 (first 0x10000 2) ≡
     heap ((record { base = 0x10000; size = 8192; flags = 2; extents = extent 0x10000 112 Used ∷ extent 0x10070 8000 Top ∷ extent 0x11fb0 80 Foot ∷ [] }) ∷ []) 0 2097152
 equal_flags = refl
 
-other_flags : granted (grant 0x11000 6) 32 (first 0x10000 2) ≡
-    heap (segment 0x11000 6 (extent 0x11000 4016 Top ∷ extent 0x11fb0 80 Foot ∷ [])
-    ∷ segment 0x10000 2 (extent 0x10000 112 Used ∷ extent 0x10070 3904 Free ∷ extent 0x10fb0 80 Record ∷ []) ∷ []) 0 2097152
+other_flags : granted (grant 0x11000 6) 32 (first 0x10000 2) ≡ heap (segment 0x11000 6 (extent 0x11000 4016 Top ∷ extent 0x11fb0 80 Foot ∷ []) ∷ segment
+    0x10000 2 (extent 0x10000 112 Used ∷ extent 0x10070 3904 Free ∷ extent 0x10fb0 80 Record ∷ []) ∷ []) 0 2097152
 other_flags = refl
 
 other_flags_before : is_put_before (grant 0x1f000 6) (segment 0x20000 2 (extent 0x20000 4016 Top ∷ extent 0x20fb0 80 Foot ∷ []) ∷ []) ≡ false

@@ -15,7 +15,8 @@ run at size kind = record { at = at; size = size; kind = kind }
 
 -- a heap of one segment of 65536 bytes from 0x400000 on, with these extents before its foot, and this victim
 abbrev heap : List Extent → ℕ → HeapState
-heap extents victim = record new_heap { segments = (record { base = 0x400000; size = 65536; flags = 0; extents = extents }) ∷ []; victim = victim; countdown = 4095; trim_check = 2097152 }
+heap extents victim = record new_heap
+    { segments = (record { base = 0x400000; size = 65536; flags = 0; extents = extents }) ∷ []; victim = victim; countdown = 4095; trim_check = 2097152 }
 
 abbrev foot : Extent
 foot = run 0x40ffb0 80 Foot
@@ -103,8 +104,8 @@ then-4072 : chosen (heap (run 0x400000 4080 Free ∷ run 0x400ff0 112 Used ∷ r
 then-4072 = refl
 
 -- another size at the same alignment: a block of 50 bytes is cut from 4192, and then the first is freed
-moved-at-4096 : freed (aligned (taken (heap (run 0x400000 4080 Free ∷ run 0x400ff0 112 Used ∷ run 0x401060 61264 Top ∷ foot ∷ []) 0) (run 0x401060 61264 Top) 4192) 0x401060 4096 64) 0x400ff0
-    ≡ heap (run 0x400000 8176 Free ∷ run 0x401ff0 64 Used ∷ run 0x402030 57216 Top ∷ foot ∷ []) 0
+moved-at-4096 : freed (aligned (taken (heap (run 0x400000 4080 Free ∷ run 0x400ff0 112 Used ∷ run 0x401060 61264 Top ∷ foot ∷ []) 0) (run 0x401060 61264
+    Top) 4192) 0x401060 4096 64) 0x400ff0 ≡ heap (run 0x400000 8176 Free ∷ run 0x401ff0 64 Used ∷ run 0x402030 57216 Top ∷ foot ∷ []) 0
 moved-at-4096 = refl
 
 -- where it need not be at that alignment, it stays
@@ -127,10 +128,10 @@ lead-of-16 : aligned_place 0x400fe0 32 ≡ 0x401010
 lead-of-16 = refl
 
 -- a tail of 32 bytes stays with the block, and one of 48 does not
-tail-of-32 : aligned (heap (run 0x400000 32 Used ∷ run 0x400020 112 Used ∷ run 0x400090 32 Used ∷ run 0x4000b0 65280 Top ∷ foot ∷ []) 0) 0x400020 16 80
-    ≡ heap (run 0x400000 32 Used ∷ run 0x400020 112 Used ∷ run 0x400090 32 Used ∷ run 0x4000b0 65280 Top ∷ foot ∷ []) 0
+tail-of-32 : aligned (heap (run 0x400000 32 Used ∷ run 0x400020 112 Used ∷ run 0x400090 32 Used ∷ run 0x4000b0 65280 Top ∷ foot ∷ []) 0) 0x400020 16
+    80 ≡ heap (run 0x400000 32 Used ∷ run 0x400020 112 Used ∷ run 0x400090 32 Used ∷ run 0x4000b0 65280 Top ∷ foot ∷ []) 0
 tail-of-32 = refl
 
-tail-of-48 : aligned (heap (run 0x400000 32 Used ∷ run 0x400020 112 Used ∷ run 0x400090 32 Used ∷ run 0x4000b0 65280 Top ∷ foot ∷ []) 0) 0x400020 16 64
-    ≡ heap (run 0x400000 32 Used ∷ run 0x400020 64 Used ∷ run 0x400060 48 Free ∷ run 0x400090 32 Used ∷ run 0x4000b0 65280 Top ∷ foot ∷ []) 0
+tail-of-48 : aligned (heap (run 0x400000 32 Used ∷ run 0x400020 112 Used ∷ run 0x400090 32 Used ∷ run 0x4000b0 65280 Top ∷ foot ∷ []) 0) 0x400020 16
+    64 ≡ heap (run 0x400000 32 Used ∷ run 0x400020 64 Used ∷ run 0x400060 48 Free ∷ run 0x400090 32 Used ∷ run 0x4000b0 65280 Top ∷ foot ∷ []) 0
 tail-of-48 = refl

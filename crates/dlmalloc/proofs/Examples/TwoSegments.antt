@@ -22,9 +22,8 @@ regions words = (record { base = 4096; size = 128; flags = 0 }) ∷ (record { ba
 -- the heads of the block, of the record, of the top and of its foot; the record's payload, and its fences
 abbrev words : ℕ → ℕ
 words k =
-    if nat_le 4200 k && nat_lt k 4224 then 11 else
-    if k == 4104 then 51 else if k == 4152 then 51 else if k == 8200 then 49 else if k == 8248 then 80 else
-    if k == 4160 then 4096 else if k == 4168 then 128 else 0
+    if nat_le 4200 k && nat_lt k 4224 then 11 else if k == 4104 then 51 else if k == 4152 then 51 else if k == 8200 then 49 else if k == 8248 then 80
+    else if k == 4160 then 4096 else if k == 4168 then 128 else 0
 
 abbrev heap : Dlmalloc (ℕ → ℕ)
 heap = record {

@@ -9,7 +9,8 @@ abbrev pub AreBeside : Extent → Extent → Type 0
 AreBeside one other = (one.at + one.size ≤ other.at) ⊎ (other.at + other.size ≤ one.at)
 
 -- in one segment
-beside_in : (words : ℕ → ℕ) (before : Kind) (from : ℕ) (extents : List Extent) (to : ℕ) → Tiles words before from extents to → (one other : Extent) → extent_at one.at extents ≡ Some one → extent_at other.at extents ≡ Some other → one.at ≢ other.at → AreBeside one other
+beside_in : (words : ℕ → ℕ) (before : Kind) (from : ℕ) (extents : List Extent) (to : ℕ) → Tiles words before from extents to →
+    (one other : Extent) → extent_at one.at extents ≡ Some one → extent_at other.at extents ≡ Some other → one.at ≢ other.at → AreBeside one other
 beside_in words before from extents to h one other there there_other apart =
     let f = found one.at one extents there in
     let s = tiles_split words before from f.front (one ∷ f.back) to (subst (λ es. Tiles words before from es to) f.is h) in
@@ -30,11 +31,11 @@ beside_in words before from extents to h one other there there_other apart =
         go false test same = absurd (cc)
 
 -- in some segments, apart from another
-within : (regions : List Grant) (words : ℕ → ℕ) (segment : Segment) (segments : List Segment) → AreSegments regions words segments → AllByRecursion (IsApartFrom segment) segments → {one : Extent} → extent_at one.at (extents_all segments) ≡ Some one →
+within : (regions : List Grant) (words : ℕ → ℕ) (segment : Segment) (segments : List Segment) → AreSegments regions words segments →
+    AllByRecursion (IsApartFrom segment) segments → {one : Extent} → extent_at one.at (extents_all segments) ≡ Some one →
     (one.at + one.size ≤ segment.base) ⊎ (segment.base + segment.size ≤ one.at)
 within regions words segment segments parts apart {one} there =
-    let l = located one.at segments there in
-    let p = of_located (IsSegment regions words) l parts in
+    let l = located one.at segments there in let p = of_located (IsSegment regions words) l parts in
     let is = in_part words Used l.segment.base l.segment.extents (l.segment.base + l.segment.size) p.extents l.there in
     let low = is.low in let high = is.high in
     elim (of_located (IsApartFrom segment) l apart) [ inl before ↦ inr (omega arith) | inr behind ↦ inl (omega arith) ]
@@ -61,13 +62,15 @@ beside regions words (segment ∷ segments) parts apart {one} {other} there ther
     both (inr a) (inr b) later = later a.1 b.1
 
 -- behind an extent that ends no segment stands another
-pub room_behind : (words : ℕ → ℕ) (before : Kind) (from : ℕ) (extents : List Extent) (to : ℕ) (one : Extent) → Tiles words before from extents to → ends_segment (last_kind before extents) ≡ true → extent_at one.at extents ≡ Some one → ends_segment one.kind ≡ false →
-    one.at + one.size + 16 ≤ to
+pub room_behind : (words : ℕ → ℕ) (before : Kind) (from : ℕ) (extents : List Extent) (to : ℕ) (one : Extent) →
+    Tiles words before from extents to → ends_segment (last_kind before extents) ≡ true → extent_at one.at extents ≡ Some one →
+    ends_segment one.kind ≡ false → one.at + one.size + 16 ≤ to
 room_behind words before from extents to one h tail there inner =
     let f = found one.at one extents there in
     let s = tiles_split words before from f.front (one ∷ f.back) to (subst (λ es. Tiles words before from es to) f.is h) in
     let place = s.second.0 in
-    let last : ends_segment (last_kind one.kind f.back) ≡ true = ap ends_segment (sym (last_append before f.front (one ∷ f.back))) ∙ (ap (λ es. ends_segment (last_kind before es)) (sym f.is) ∙ tail) in
+    let last : ends_segment (last_kind one.kind f.back) ≡ true = ap ends_segment (sym (last_append before f.front (one ∷ f.back)))
+    ∙ (ap (λ es. ends_segment (last_kind before es)) (sym f.is) ∙ tail) in
     let more = go f.back (s.middle + one.size) s.second.2 last in
     omega arith
   where
@@ -79,9 +82,9 @@ room_behind words before from extents to one h tail there inner =
         omega arith
 
 -- how an extent stands
-pub stands_there : (regions : List Grant) (words : ℕ → ℕ) (segments : List Segment) → AreSegments regions words segments → {one : Extent} → extent_at one.at (extents_all segments) ≡ Some one → (before : Kind) × HasChunk words before one
+pub stands_there : (regions : List Grant) (words : ℕ → ℕ) (segments : List Segment) → AreSegments regions words segments → {one : Extent} →
+    extent_at one.at (extents_all segments) ≡ Some one → (before : Kind) × HasChunk words before one
 stands_there regions words segments parts {one} there =
-    let l = located one.at segments there in
-    let p = of_located (IsSegment regions words) l parts in
+    let l = located one.at segments there in let p = of_located (IsSegment regions words) l parts in
     let is = in_part words Used l.segment.base l.segment.extents (l.segment.base + l.segment.size) p.extents l.there in
     (is.before, is.stands)

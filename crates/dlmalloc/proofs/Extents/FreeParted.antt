@@ -51,8 +51,8 @@ parted words before from extents to h first second there there' free free' less 
     s : Rattle.dlmalloc.proofs.Extents.Tiling.Split words before from f.front (first ∷ f.back) to
     s = tiles_split words before from f.front (first ∷ f.back) to (subst (λ es. Tiles words before from es to) f.is h)
 
-    go : (back : List Extent) → Tiles words first.kind (s.middle + first.size) back to → extent_at second.at back ≡ Some second → AreDistinct (f.front ++ first ∷ back) → extents ≡ f.front ++ first ∷ back →
-        HasUsedBetween extents (first.at + first.size) second.at
+    go : (back : List Extent) → Tiles words first.kind (s.middle + first.size) back to → extent_at second.at back ≡ Some second →
+        AreDistinct (f.front ++ first ∷ back) → extents ≡ f.front ++ first ∷ back → HasUsedBetween extents (first.at + first.size) second.at
     go [] tiles there distinct is = absurd (cc)
     go (next ∷ back) tiles there distinct is = elim (behind_free first.kind next.kind free tiles.1.kind) [
       | inl used ↦ elim (found_either second.at (next ∷ []) back there) [
@@ -63,7 +63,8 @@ parted words before from extents to h first second there there' free free' less 
             let all = is ∙ sym (append_assoc f.front (first ∷ []) (next ∷ back)) in
             record {
               used = next;
-              there = ap (extent_at next.at) all ∙ distinct_later (f.front ++ first ∷ []) (next ∷ back) next.at (subst AreDistinct all (tiles_distinct words before from extents to h)) (found_here next back);
+              there = ap (extent_at next.at) all ∙ distinct_later (f.front ++ first ∷ []) (next ∷ back) next.at
+                  (subst AreDistinct all (tiles_distinct words before from extents to h)) (found_here next back);
               is = used;
               behind = omega arith;
               before = omega arith;
@@ -78,11 +79,13 @@ parted words before from extents to h first second there there' free free' less 
 
 pub all_parted : (regions : List Grant) (words : ℕ → ℕ) (segments : List Segment) → AreSegments regions words segments → AllByRecursion (λ segment. AreParted segment.extents) segments
 all_parted regions words [] parts = tt
-all_parted regions words (segment ∷ segments) parts = (parted words Used segment.base segment.extents (segment.base + segment.size) parts.0.extents, all_parted regions words segments parts.1)
+all_parted regions words (segment ∷ segments) parts =
+    (parted words Used segment.base segment.extents (segment.base + segment.size) parts.0.extents, all_parted regions words segments parts.1)
 
 -- ---- no extent is in use
 
-module _ {regions : List Grant} {words : ℕ → ℕ} {segment : Segment} (part : IsSegment regions words segment) (unused : (one : Extent) → extent_at one.at segment.extents ≡ Some one → one.kind ≢ Used) where
+module _ {regions : List Grant} {words : ℕ → ℕ} {segment : Segment} (part : IsSegment regions words segment)
+    (unused : (one : Extent) → extent_at one.at segment.extents ≡ Some one → one.kind ≢ Used) where
   -- a free extent, and what ends the segment
   pub record IsBare : Type 0 where
     pub one : Extent
@@ -94,18 +97,20 @@ module _ {regions : List Grant} {words : ℕ → ℕ} {segment : Segment} (part 
   pub bare : IsBare
   bare = go segment.extents refl part.extents part.tail
     where
-      go : (extents : List Extent) → segment.extents ≡ extents → Tiles words Used segment.base extents (segment.base + segment.size) → ends_segment (last_kind Used extents) ≡ true → IsBare
+      go : (extents : List Extent) → segment.extents ≡ extents → Tiles words Used segment.base extents (segment.base + segment.size) →
+          ends_segment (last_kind Used extents) ≡ true → IsBare
       go [] is h tail = absurd (cc)
       go (one ∷ back) is h tail = by_kind one.kind refl h.1.kind h.1.size
         where
           free : is_free one.kind ≡ true → (one.kind ≡ Free) ⊎ (one.kind ≡ Top) → IsBare
           free test kind = behind back is h.2 tail
             where
-              behind : (back : List Extent) → segment.extents ≡ one ∷ back → Tiles words one.kind (segment.base + one.size) back (segment.base + segment.size) → ends_segment (last_kind one.kind back) ≡ true → IsBare
+              behind : (back : List Extent) → segment.extents ≡ one ∷ back → Tiles words one.kind (segment.base + one.size) back
+                  (segment.base + segment.size) → ends_segment (last_kind one.kind back) ≡ true → IsBare
               behind [] is h tail = absurd (elim kind [ inl a ↦ (let no = ap ends_segment a in cc) | inr a ↦ (let no = ap ends_segment a in cc) ])
               behind (last ∷ rest) is h tail = elim (behind_free one.kind last.kind test h.1.kind) [
-                | inl used ↦ absurd (unused last (ap (extent_at last.at) is
-                    ∙ distinct_later (one ∷ []) (last ∷ rest) last.at (subst AreDistinct is (tiles_distinct words Used segment.base segment.extents (segment.base + segment.size) part.extents)) (found_here last rest)) used)
+                | inl used ↦ absurd (unused last (ap (extent_at last.at) is ∙ distinct_later (one ∷ []) (last ∷ rest) last.at (subst AreDistinct is
+                    (tiles_distinct words Used segment.base segment.extents (segment.base + segment.size) part.extents)) (found_here last rest)) used)
                 | inr ends ↦ record {
                   one = one;
                   last = last;
@@ -162,16 +167,17 @@ module _ {regions : List Grant} {words : ℕ → ℕ} {segment : Segment} (part 
   pub record_free : (at : ℕ) → extent_at at segment.extents ≡ Some (record_of at (segment.base + segment.size)) → HasOneFree Free segment.extents
   record_free at there = elim bare.free [
     | inl free ↦ one_free free
-    | inr top ↦ absurd (no_record part at
-        (ap (extent_at bare.one.at) bare.is ∙ (found_here bare.one (bare.last ∷ []) ∙ ap (λ kind. Some (extent bare.one.at bare.one.size kind)) top)) there)
+    | inr top ↦ absurd (no_record part at (ap (extent_at bare.one.at) bare.is
+        ∙ (found_here bare.one (bare.last ∷ []) ∙ ap (λ kind. Some (extent bare.one.at bare.one.size kind)) top)) there)
   ]
 
 module _ {A : Type 0} {regions : A → List Grant} {word : A → ℕ → ℕ} {heap : Dlmalloc A} (sound : IsSound regions word heap) (unused : IsUnused (state_of word heap)) where
-  in_segment : (front : List Segment) (segment : Segment) (back : List Segment) → segments_of word heap ≡ front ++ segment ∷ back → (one : Extent) → extent_at one.at segment.extents ≡ Some one → one.kind ≢ Used
+  in_segment : (front : List Segment) (segment : Segment) (back : List Segment) → segments_of word heap ≡ front ++ segment ∷ back →
+      (one : Extent) → extent_at one.at segment.extents ≡ Some one → one.kind ≢ Used
   in_segment front segment back is one there = unused one (among_all (regions heap.system) (word heap.system) sound.segments sound.apart front segment back is one.at there)
 
-  in_records : (front segments : List Segment) → segments_of word heap ≡ front ++ segments → AreSegments (regions heap.system) (word heap.system) segments → (payload : ℕ) → AreRecords (word heap.system) payload segments →
-      AllByRecursion (λ segment. HasOneFree Free segment.extents) segments
+  in_records : (front segments : List Segment) → segments_of word heap ≡ front ++ segments → AreSegments (regions heap.system) (word heap.system)
+      segments → (payload : ℕ) → AreRecords (word heap.system) payload segments → AllByRecursion (λ segment. HasOneFree Free segment.extents) segments
   in_records front [] is parts payload h = tt
   in_records front (segment ∷ segments) is parts payload h = (
     record_free parts.0 (in_segment front segment segments is) (payload - 16) h.4,
@@ -181,7 +187,8 @@ module _ {A : Type 0} {regions : A → List Grant} {word : A → ℕ → ℕ} {h
   pub each_free : EachHasOneFree (segments_of word heap)
   each_free = go (segments_of word heap) refl sound.segments sound.told
     where
-      go : (segments : List Segment) → segments_of word heap ≡ segments → AreSegments (regions heap.system) (word heap.system) segments → AreTold (word heap.system) heap segments → EachHasOneFree segments
+      go : (segments : List Segment) → segments_of word heap ≡ segments → AreSegments (regions heap.system) (word heap.system) segments →
+          AreTold (word heap.system) heap segments → EachHasOneFree segments
       go [] is parts h = tt
       go (segment ∷ segments) is parts h = (
         head_free parts.0 (in_segment [] segment segments is) h.4,

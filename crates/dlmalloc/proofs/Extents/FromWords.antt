@@ -20,7 +20,8 @@ no_foot : (kind : Kind) → IsChunkKind kind → kind ≢ Foot
 no_foot kind (inl is) = λ foot. (let f : Used ≡ Foot = sym is ∙ foot in cc)
 no_foot kind (inr is) = λ foot. (let f : Free ≡ Foot = sym is ∙ foot in cc)
 
-pub are_chunks : (words : ℕ → ℕ) (before : Kind) (at : ℕ) (extents : List Extent) (last : Extent) (back : List Extent) (end : ℕ) → last.kind ≢ Foot → Tiles words before at (extents ++ last ∷ back) end → AreChunks extents
+pub are_chunks : (words : ℕ → ℕ) (before : Kind) (at : ℕ) (extents : List Extent) (last : Extent) (back : List Extent) (end : ℕ) →
+    last.kind ≢ Foot → Tiles words before at (extents ++ last ∷ back) end → AreChunks extents
 are_chunks words before at [] last back end other h = tt
 are_chunks words before at (extent ∷ []) last back end other h = (before_all extent.kind last.kind other h.2.1.kind, tt)
 are_chunks words before at (extent ∷ next ∷ extents) last back end other h =
@@ -40,12 +41,13 @@ kind_told Top before size whole is h = elim is [ inl a ↦ absurd (cc) | inr a �
 kind_told Record before size whole is h = elim is [ inl a ↦ absurd (cc) | inr a ↦ absurd (cc) ]
 kind_told Foot before size whole is h = elim is [ inl a ↦ absurd (cc) | inr a ↦ absurd (cc) ]
 
-pub told : {words : ℕ → ℕ} {before : Kind} {chunk : Extent} → IsChunkKind chunk.kind → HasChunk words before chunk → extent chunk.at (size_of (words (chunk.at + 8))) (kind_of (words (chunk.at + 8))) ≡ chunk
+pub told : {words : ℕ → ℕ} {before : Kind} {chunk : Extent} → IsChunkKind chunk.kind → HasChunk words before chunk →
+    extent chunk.at (size_of (words (chunk.at + 8))) (kind_of (words (chunk.at + 8))) ≡ chunk
 told {words} {before} {chunk} is h =
-    let s = sized chunk.kind chunk.size h.size in
-    let units = s.0 in
+    let s = sized chunk.kind chunk.size h.size in let units = s.0 in
     let whole : chunk.size % 8 ≡ 0 = omega arith in
-    let head : words (chunk.at + 8) ≡ head_of chunk.size (is_used before) (is_used chunk.kind) = h.head ∙ ap (λ n. head_of n (is_used before) (is_used chunk.kind)) (told_chunk chunk.kind chunk.size is) in
+    let head : words (chunk.at + 8) ≡ head_of chunk.size (is_used before) (is_used chunk.kind) = h.head
+    ∙ ap (λ n. head_of n (is_used before) (is_used chunk.kind)) (told_chunk chunk.kind chunk.size is) in
     same_extent refl (ap size_of head ∙ size_of-head_of chunk.size (is_used before) (is_used chunk.kind) whole) (ap kind_of head ∙ kind_told chunk.kind before chunk.size whole is h.kind)
   where
     told_chunk : (kind : Kind) (size : ℕ) → IsChunkKind kind → told_size kind size ≡ size
@@ -53,7 +55,8 @@ told {words} {before} {chunk} is h =
     told_chunk kind size (inr is) = ap (λ k. told_size k size) is
 
 -- the list that is read off the words is the one that tiles the range
-pub chunks_read : (words : ℕ → ℕ) (before : Kind) (most at : ℕ) (chunks : List Extent) (end : ℕ) → end ≤ at + 16 * most → Tiles words before at chunks end → AreChunks chunks → chunks_from words most at end ≡ chunks
+pub chunks_read : (words : ℕ → ℕ) (before : Kind) (most at : ℕ) (chunks : List Extent) (end : ℕ) → end ≤ at + 16 * most →
+    Tiles words before at chunks end → AreChunks chunks → chunks_from words most at end ≡ chunks
 unfolding chunks_from
 chunks_read words before zero at [] end few h are = refl
 chunks_read words before (suc most) at [] end few h are = rw (le-ltb at end (omega arith)) refl
@@ -69,7 +72,8 @@ chunks_read words before (suc most) at (chunk ∷ chunks) end few h are =
     rw (lt-ltb at end (omega arith)) (λ i. one i ∷ rest i)
 
 -- what stands behind a top is its foot, and behind a record nothing
-pub nothing : (words : ℕ → ℕ) (before : Kind) (from : ℕ) (back : List Extent) (end : ℕ) → ((kind : Kind) → MayStand before kind → ⊥) → Tiles words before from back end → (back ≡ []) × (from ≡ end)
+pub nothing : (words : ℕ → ℕ) (before : Kind) (from : ℕ) (back : List Extent) (end : ℕ) →
+    ((kind : Kind) → MayStand before kind → ⊥) → Tiles words before from back end → (back ≡ []) × (from ≡ end)
 nothing words before from [] end none h = (refl, h)
 nothing words before from (extent ∷ back) end none h = absurd (none extent.kind h.1.kind)
 
@@ -97,14 +101,14 @@ only_foot Top h = absurd (cc)
 only_foot Record h = elim h [ inl a ↦ absurd (cc) | inr a ↦ absurd (cc) ]
 only_foot Foot h = refl
 
-pub behind_top : (words : ℕ → ℕ) (from : ℕ) (back : List Extent) (end : ℕ) → Tiles words Top from back end → ends_segment (last_kind Top back) ≡ true → (back ≡ extent (end - 80) 80 Foot ∷ []) × (from + 80 ≡ end)
+pub behind_top : (words : ℕ → ℕ) (from : ℕ) (back : List Extent) (end : ℕ) → Tiles words Top from back end →
+    ends_segment (last_kind Top back) ≡ true → (back ≡ extent (end - 80) 80 Foot ∷ []) × (from + 80 ≡ end)
 behind_top words from [] end h tail = absurd (cc)
 behind_top words from (foot ∷ back) end h tail =
     let kind = only_foot foot.kind h.1.kind in
     let size : foot.size ≡ 80 = subst (λ k. IsSize k foot.size) kind h.1.size in
     let rest = nothing words foot.kind (from + foot.size) back end (subst (λ k. (kind : Kind) → MayStand k kind → ⊥) (sym kind) none_behind_foot) h.2 in
-    let place = h.0 in
-    let ends = rest.1 in
+    let place = h.0 in let ends = rest.1 in
     (λ i. same_extent {at = foot.at} {at' = end - 80} {size = foot.size} {size' = 80} {kind = foot.kind} {kind' = Foot} (omega arith) size kind i ∷ rest.0 i, omega arith)
 
 module _ {regions : List Grant} {words : ℕ → ℕ} {segment : Segment} (h : IsSegment regions words segment) where
@@ -113,23 +117,23 @@ module _ {regions : List Grant} {words : ℕ → ℕ} {segment : Segment} (h : I
 
   -- what is read of a segment whose tail stands at an address
   read : {last : Extent} → last.kind ≢ Foot → extent_at last.at segment.extents ≡ Some last → (tail : List Extent) →
-      ((back : List Extent) → Tiles words last.kind (last.at + last.size) back end → ends_segment (last_kind last.kind back) ≡ true → last ∷ back ≡ tail) →
-      chunks_from words (segment.size / 16) segment.base last.at ++ tail ≡ segment.extents
+      ((back : List Extent) → Tiles words last.kind (last.at + last.size) back end → ends_segment (last_kind last.kind back) ≡ true →
+      last ∷ back ≡ tail) → chunks_from words (segment.size / 16) segment.base last.at ++ tail ≡ segment.extents
   read {last} other there tail rest =
       let f = found last.at last segment.extents there in
       let s = tiles_split words Used segment.base f.front (last ∷ f.back) end (subst (λ es. Tiles words Used segment.base es end) f.is h.extents) in
       let place : last.at ≡ s.middle = s.second.0 in
       let later = tiles_le words last.kind (s.middle + last.size) f.back end s.second.2 in
-      let long = (sized last.kind last.size s.second.1.size).1 in
-      let whole = s.second.1.whole in
+      let long = (sized last.kind last.size s.second.1.size).1 in let whole = s.second.1.whole in
       let chunks : chunks_from words (segment.size / 16) segment.base last.at ≡ f.front =
-      chunks_read words Used (segment.size / 16) segment.base f.front last.at (omega arith) (subst (λ a. Tiles words Used segment.base f.front a) (sym place) s.first)
-      (are_chunks words Used segment.base f.front last f.back end other (subst (λ es. Tiles words Used segment.base es end) f.is h.extents)) in
+      chunks_read words Used (segment.size / 16) segment.base f.front last.at (omega arith) (subst (λ a. Tiles words Used segment.base f.front a) (sym place)
+      s.first) (are_chunks words Used segment.base f.front last f.back end other (subst (λ es. Tiles words Used segment.base es end) f.is h.extents)) in
       let is = rest f.back (subst (λ a. Tiles words last.kind (a + last.size) f.back end) (sym place) s.second.2)
       (ap ends_segment (sym (last_append Used f.front (last ∷ f.back))) ∙ (ap (λ es. ends_segment (last_kind Used es)) (sym f.is) ∙ h.tail)) in
       (λ i. chunks i ++ (sym is) i) ∙ sym f.is
 
-  pub read_top : {top size : ℕ} → extent_at top segment.extents ≡ Some (extent top size Top) → chunks_from words (segment.size / 16) segment.base top ++ top_and_foot top end ≡ segment.extents
+  pub read_top : {top size : ℕ} → extent_at top segment.extents ≡ Some (extent top size Top) →
+      chunks_from words (segment.size / 16) segment.base top ++ top_and_foot top end ≡ segment.extents
   read_top {top} {size} there = read (λ is. cc) there (top_and_foot top end)
       (λ back tiles tail. let b = behind_top words (top + size) back end tiles tail in let ends = b.1 in
       λ i. same_extent {at = top} {at' = top} {size = size} {size' = end - 80 - top} {kind = Top} {kind' = Top} refl (omega arith) refl i ∷ b.0 i)
@@ -138,8 +142,8 @@ module _ {regions : List Grant} {words : ℕ → ℕ} {segment : Segment} (h : I
   read_record at there = read (λ is. cc) there (record_of at end ∷ [])
       (λ back tiles tail. ap (λ b. record_of at end ∷ b) (nothing words Record (at + (end - at)) back end none_behind_record tiles).0)
 
-pub records_read : (regions : List Grant) (words : ℕ → ℕ) (most payload : ℕ) (segments : List Segment) → length segments ≤ most → AreSegments regions words segments → AreRecords words payload segments →
-    records_from words most payload ≡ segments
+pub records_read : (regions : List Grant) (words : ℕ → ℕ) (most payload : ℕ) (segments : List Segment) → length segments ≤ most →
+    AreSegments regions words segments → AreRecords words payload segments → records_from words most payload ≡ segments
 unfolding records_from
 records_read regions words zero payload [] few parts h = refl
 records_read regions words (suc most) payload [] few parts h = (let none : (payload == 0) ≡ true = grind (arith, nat_tests) in rw none refl)

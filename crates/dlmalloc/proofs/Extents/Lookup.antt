@@ -37,7 +37,8 @@ found at extent [] h = absurd (cc)
 found at extent (first ∷ extents) h =
     at_first (first.at == at) refl h (λ rest. found at extent extents rest)
   where
-    at_first : (b : Bool) → (first.at == at) ≡ b → extent_at at (first ∷ extents) ≡ Some extent → (extent_at at extents ≡ Some extent → Found at extent extents) → Found at extent (first ∷ extents)
+    at_first : (b : Bool) → (first.at == at) ≡ b → extent_at at (first ∷ extents) ≡ Some extent →
+        (extent_at at extents ≡ Some extent → Found at extent extents) → Found at extent (first ∷ extents)
     at_first true test h later =
         let is : first ≡ extent = ap (λ o. unwrap_or o first) (subst (λ b. (if b then Some first else extent_at at extents) ≡ Some extent) test h) in
         record { front = []; back = extents; is = ap (λ e. e ∷ extents) is; place = ap (λ e. e.at) (sym is) ∙ nat_is test }

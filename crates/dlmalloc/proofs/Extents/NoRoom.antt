@@ -40,17 +40,20 @@ module _ (heap : HeapState) (n : ℕ) where
           let same : least_from n (binned_sizes heap (first ∷ chunks)) ≡ least_from n (binned_sizes heap chunks) = rw (binned, test) refl in
           record { here = λ binned. grind (arith, nat_tests); later = sym same ∙ none }
       go true false binned test =
-          let fits : least_from n (binned_sizes heap (first ∷ chunks)) ≡ Some (unwrap_or (option_map (min first.size) (least_from n (binned_sizes heap chunks))) first.size) = rw (binned, test) refl in
+          let fits : least_from n (binned_sizes heap (first ∷ chunks)) ≡ Some
+          (unwrap_or (option_map (min first.size) (least_from n (binned_sizes heap chunks))) first.size) = rw (binned, test) refl in
           absurd (cc)
 
-  binned_less : (chunks : List Extent) → least_from n (binned_sizes heap chunks) ≡ None → (chunk : Extent) → extent_at chunk.at chunks ≡ Some chunk → is_binned heap chunk ≡ true → chunk.size < n
+  binned_less : (chunks : List Extent) → least_from n (binned_sizes heap chunks) ≡ None →
+      (chunk : Extent) → extent_at chunk.at chunks ≡ Some chunk → is_binned heap chunk ≡ true → chunk.size < n
   binned_less [] none chunk there binned = absurd (cc)
   binned_less (first ∷ chunks) none chunk there binned = go (first.at == chunk.at) there (binned_less chunks less.later chunk)
     where
       less : AreLess first chunks
       less = are_less first chunks none
 
-      go : (b : Bool) → (if b then Some first else extent_at chunk.at chunks) ≡ Some chunk → (extent_at chunk.at chunks ≡ Some chunk → is_binned heap chunk ≡ true → chunk.size < n) → chunk.size < n
+      go : (b : Bool) → (if b then Some first else extent_at chunk.at chunks) ≡ Some chunk →
+          (extent_at chunk.at chunks ≡ Some chunk → is_binned heap chunk ≡ true → chunk.size < n) → chunk.size < n
       go true is later =
           let same = the_extent is in
           subst (λ e. e.size < n) same (less.here (ap (is_binned heap) same ∙ binned))
@@ -110,10 +113,12 @@ module _ (words : ℕ → ℕ) (n from : ℕ) where
       behind_free kind (inl is) close = (let c = behind_used kind is close in omega arith)
       behind_free kind (inr is) close = subst (λ k. at ≤ from + 63 + further k) is close
 
-      on : (kind : Kind) → first.kind ≡ kind → (at + first.size ≤ from + 63 + further first.kind → Outcome extents end) → at + first.size ≤ from + 63 + further kind → Outcome (first ∷ extents) end
+      on : (kind : Kind) → first.kind ≡ kind → (at + first.size ≤ from + 63 + further first.kind → Outcome extents end) →
+          at + first.size ≤ from + 63 + further kind → Outcome (first ∷ extents) end
       on kind is rest close = later (rest (subst (λ k. at + first.size ≤ from + 63 + further k) (sym is) close))
 
-      by_kind : (kind : Kind) → first.kind ≡ kind → MayStand before first.kind → IsSize first.kind first.size → (at + first.size ≤ from + 63 + further first.kind → Outcome extents end) → Outcome (first ∷ extents) end
+      by_kind : (kind : Kind) → first.kind ≡ kind → MayStand before first.kind → IsSize first.kind first.size →
+          (at + first.size ≤ from + 63 + further first.kind → Outcome extents end) → Outcome (first ∷ extents) end
       by_kind Used is may size rest =
           let close = behind_free before (subst (MayStand before) is may) near in
           let p = place in
@@ -139,8 +144,8 @@ module _ (words : ℕ → ℕ) (n from : ℕ) where
           let bytes : first.size ≡ 80 = subst (λ k. IsSize k first.size) is size in
           on Foot is rest (omega arith)
 
-module _ {A : Type 0} {regions : A → List Grant} {word : A → ℕ → ℕ} {heap : Dlmalloc A} (sound : IsSound regions word heap) (some : 0 < heap.size) (n : ℕ)
-    (none : chosen (state_of word heap) n ≡ None) where
+module _ {A : Type 0} {regions : A → List Grant} {word : A → ℕ → ℕ} {heap : Dlmalloc A} (sound : IsSound regions word heap) (some : 0 < heap.size)
+    (n : ℕ) (none : chosen (state_of word heap) n ≡ None) where
   small : IsTooSmall n (least_fit (state_of word heap) n) heap.victim_size heap.top_size
   small = too_small n (least_fit (state_of word heap) n) heap.victim_size heap.top_size (sym (chosen_is sound some n {fit = (least_fit (state_of word heap) n)} refl) ∙ none)
 
@@ -149,14 +154,12 @@ module _ {A : Type 0} {regions : A → List Grant} {word : A → ℕ → ℕ} {h
     where
       no_victim : heap.victim_size ≡ 0 → one.at ≡ heap.victim → ⊥
       no_victim zero same =
-          let gone = sound.no_victim zero in
-          let low = free_low sound there in
+          let gone = sound.no_victim zero in let low = free_low sound there in
           omega arith
 
       go : (b : Bool) → (one.at == heap.victim) ≡ b → one.size < n
       go true test =
-          let same = nat_is test in
-          let named = sound.victim (λ zero. no_victim zero same) in
+          let same = nat_is test in let named = sound.victim (λ zero. no_victim zero same) in
           let is = the_extent (sym there ∙ (ap (λ a. extent_at a (extents_in (state_of word heap))) same ∙ named)) in
           let size : one.size ≡ heap.victim_size = ap (λ e. e.size) is in
           let less = small.victim_less in
@@ -166,9 +169,11 @@ module _ {A : Type 0} {regions : A → List Grant} {word : A → ℕ → ℕ} {h
           (let plain : is_free_below_top one.kind ≡ true = ap is_free_below_top free in rw (plain, test) refl)
 
   -- in each segment
-  run_met : (front : List Segment) (segment : Segment) (back : List Segment) → segments_of word heap ≡ front ++ segment ∷ back → (from : ℕ) → segment.base ≤ from → from + (n + 256) ≤ segment.base + segment.size → IsMet (state_of word heap) from (from + (n + 256))
+  run_met : (front : List Segment) (segment : Segment) (back : List Segment) → segments_of word heap ≡ front ++ segment ∷ back →
+      (from : ℕ) → segment.base ≤ from → from + (n + 256) ≤ segment.base + segment.size → IsMet (state_of word heap) from (from + (n + 256))
   run_met front segment back is from low high =
-      elim (meets_one (word heap.system) n from Used segment.base segment.extents (segment.base + segment.size) part.extents (tiles_distinct (word heap.system) Used segment.base segment.extents (segment.base + segment.size) part.extents) (omega arith) short) [
+      elim (meets_one (word heap.system) n from Used segment.base segment.extents (segment.base + segment.size) part.extents
+      (tiles_distinct (word heap.system) Used segment.base segment.extents (segment.base + segment.size) part.extents) (omega arith) short) [
         | inl met ↦ record {
           used = met.used;
           there = all met.used met.there;
@@ -199,7 +204,8 @@ module _ {A : Type 0} {regions : A → List Grant} {word : A → ℕ → ℕ} {h
 abbrev AreMet : HeapState → ℕ → List Segment → Type 0
 AreMet heap bytes segments = AllByRecursion (λ segment. (from : ℕ) → segment.base ≤ from → from + bytes ≤ segment.base + segment.size → IsMet heap from (from + bytes)) segments
 
-pub full : {A : Type 0} {regions : A → List Grant} {word : A → ℕ → ℕ} {heap : Dlmalloc A} → IsSound regions word heap → (n : ℕ) → chosen (state_of word heap) n ≡ None → IsFull (state_of word heap) (n + 256)
+pub full : {A : Type 0} {regions : A → List Grant} {word : A → ℕ → ℕ} {heap : Dlmalloc A} → IsSound regions word heap →
+    (n : ℕ) → chosen (state_of word heap) n ≡ None → IsFull (state_of word heap) (n + 256)
 full {word} {heap} sound n none = go (segments_of word heap) refl sound.told
   where
     each : 0 < heap.size → (front segments : List Segment) → segments_of word heap ≡ front ++ segments → AreMet (state_of word heap) (n + 256) segments

@@ -8,7 +8,8 @@ pub used_append : (front back : List Extent) → used_of (front ++ back) ≡ use
 used_append front back = filter-append (λ extent. is_used extent.kind) front back
 
 -- so it is between others
-pub more_between : (front : List Extent) {less more : List Extent} (back : List Extent) {one : Extent} → HasMore less more one → HasMore (front ++ (less ++ back)) (front ++ (more ++ back)) one
+pub more_between : (front : List Extent) {less more : List Extent} (back : List Extent) {one : Extent} → HasMore less more one →
+    HasMore (front ++ (less ++ back)) (front ++ (more ++ back)) one
 more_between front {less} {more} back h = record {
   front = used_of front ++ h.front;
   back = h.back ++ used_of back;
@@ -35,8 +36,7 @@ none_outside words before from (extent ∷ extents) to k out h =
 pub tiles_distinct : (words : ℕ → ℕ) (before : Kind) (from : ℕ) (extents : List Extent) (to : ℕ) → Tiles words before from extents to → AreDistinct extents
 tiles_distinct words before from [] to h = tt
 tiles_distinct words before from (extent ∷ extents) to h =
-    let long = (sized extent.kind extent.size h.1.size).1 in
-    let place = h.0 in
+    let long = (sized extent.kind extent.size h.1.size).1 in let place = h.0 in
     (none_outside words extent.kind (from + extent.size) extents to extent.at (inl (omega arith)) h.2, tiles_distinct words extent.kind (from + extent.size) extents to h.2)
 
 -- what is found in use is found among those in use
@@ -58,8 +58,8 @@ module _ (k : ℕ) (extent : Extent) (extents : List Extent) where
   step : {answer : Option Extent} → (b : Bool) → (extent.at == k) ≡ b → extent_at k (extent ∷ extents) ≡ answer → (if b then Some extent else extent_at k extents) ≡ answer
   step {answer} b test there = subst (λ b. (if b then Some extent else extent_at k extents) ≡ answer) test there
 
-  step_used : {answer : Option Extent} → (b u : Bool) → (extent.at == k) ≡ b → is_used extent.kind ≡ u → extent_at k (used_of (extent ∷ extents)) ≡ answer →
-      (if u then (if b then Some extent else extent_at k later) else extent_at k later) ≡ answer
+  step_used : {answer : Option Extent} → (b u : Bool) → (extent.at == k) ≡ b → is_used extent.kind ≡ u →
+      extent_at k (used_of (extent ∷ extents)) ≡ answer → (if u then (if b then Some extent else extent_at k later) else extent_at k later) ≡ answer
   step_used {answer} b u test kind there = go u (subst (λ u. extent_at k (if u then extent ∷ later else later) ≡ answer) kind there)
     where
       go : (u : Bool) → extent_at k (if u then extent ∷ later else later) ≡ answer → (if u then (if b then Some extent else extent_at k later) else extent_at k later) ≡ answer
@@ -73,8 +73,8 @@ pub used_there : (k : ℕ) (extents : List Extent) {used : Extent} → used.kind
 used_there k [] is there = there
 used_there k (extent ∷ extents) {used} is there = go (extent.at == k) refl (step k extent extents _ refl there) (used_there k extents is)
   where
-    go : (b : Bool) → (extent.at == k) ≡ b → (if b then Some extent else extent_at k extents) ≡ Some used → (extent_at k extents ≡ Some used → extent_at k (used_of extents) ≡ Some used) →
-        extent_at k (used_of (extent ∷ extents)) ≡ Some used
+    go : (b : Bool) → (extent.at == k) ≡ b → (if b then Some extent else extent_at k extents) ≡ Some used →
+        (extent_at k extents ≡ Some used → extent_at k (used_of extents) ≡ Some used) → extent_at k (used_of (extent ∷ extents)) ≡ Some used
     go true here found later =
         let same = the_extent found in
         met k extent extents here (ap (λ e. is_used e.kind) same ∙ ap is_used is) ∙ found
@@ -84,7 +84,8 @@ none_used : (k : ℕ) (extents : List Extent) → extent_at k extents ≡ None �
 none_used k [] none = none
 none_used k (extent ∷ extents) none = go (extent.at == k) refl (step k extent extents _ refl none) (none_used k extents)
   where
-    go : (b : Bool) → (extent.at == k) ≡ b → (if b then Some extent else extent_at k extents) ≡ None → (extent_at k extents ≡ None → extent_at k (used_of extents) ≡ None) → extent_at k (used_of (extent ∷ extents)) ≡ None
+    go : (b : Bool) → (extent.at == k) ≡ b → (if b then Some extent else extent_at k extents) ≡ None →
+        (extent_at k extents ≡ None → extent_at k (used_of extents) ≡ None) → extent_at k (used_of (extent ∷ extents)) ≡ None
     go true here found later = absurd (cc)
     go false other found later = passed k extent extents other (later found)
 
@@ -93,7 +94,8 @@ pub used_back : (k : ℕ) (extents : List Extent) {used : Extent} → AreDistinc
 used_back k [] apart there = there
 used_back k (extent ∷ extents) {used} apart there = go (extent.at == k) refl (is_used extent.kind) refl (step_used k extent extents _ _ refl refl there) (used_back k extents apart.1)
   where
-    go : (b : Bool) → (extent.at == k) ≡ b → (u : Bool) → is_used extent.kind ≡ u → (if u then (if b then Some extent else extent_at k (used_of extents)) else extent_at k (used_of extents)) ≡ Some used →
+    go : (b : Bool) → (extent.at == k) ≡ b → (u : Bool) → is_used extent.kind ≡ u →
+        (if u then (if b then Some extent else extent_at k (used_of extents)) else extent_at k (used_of extents)) ≡ Some used →
         (extent_at k (used_of extents) ≡ Some used → extent_at k extents ≡ Some used) → extent_at k (extent ∷ extents) ≡ Some used
     go true here true is found later = rw here found
     go true here false isnt found later =
@@ -134,7 +136,8 @@ found_beside : (k : ℕ) (front back : List Extent) (one : Extent) → one.at �
 found_beside k [] back one apart = (let test : (one.at == k) ≡ false = grind (arith, nat_tests) in rw test refl)
 found_beside k (first ∷ front) back one apart = ap (λ o. if first.at == k then Some first else o) (found_beside k front back one apart)
 
-pub one_more : (fewer further : HeapState) {one : Extent} → AreDistinct (extents_in fewer) → AreDistinct (extents_in further) → HasMore (extents_in fewer) (extents_in further) one → HasOneMore fewer further one.at
+pub one_more : (fewer further : HeapState) {one : Extent} → AreDistinct (extents_in fewer) → AreDistinct (extents_in further) →
+    HasMore (extents_in fewer) (extents_in further) one → HasOneMore fewer further one.at
 one_more fewer further {one} apart apart' h = record {
   kept = λ used is there.
       let among = ap (extent_at used.at) (sym h.fewer) ∙ used_there used.at (extents_in fewer) is there in

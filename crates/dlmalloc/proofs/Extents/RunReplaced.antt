@@ -11,13 +11,11 @@ use Rattle.dlmalloc.proofs.Segments.HeadTold.{IsHead, HasSameHead, told_head, to
 use Rattle.dlmalloc.proofs.Moves.OfHeaps.{IsStep}
 
 -- an extent that is found is a run
-pub run_of : (regions : List Grant) (words : ℕ → ℕ) (segments : List Segment) → AreSegments regions words segments → {extent : Extent} → extent_at extent.at (extents_all segments) ≡ Some extent →
-    IsRunOf words segments extent.at (extent.at + extent.size) (extent ∷ [])
+pub run_of : (regions : List Grant) (words : ℕ → ℕ) (segments : List Segment) → AreSegments regions words segments → {extent : Extent} →
+    extent_at extent.at (extents_all segments) ≡ Some extent → IsRunOf words segments extent.at (extent.at + extent.size) (extent ∷ [])
 run_of regions words segments parts {extent} there =
-    let l = located extent.at segments there in
-    let p = of_located (IsSegment regions words) l parts in
-    let f = found extent.at extent l.segment.extents l.there in
-    let end = l.segment.base + l.segment.size in
+    let l = located extent.at segments there in let p = of_located (IsSegment regions words) l parts in
+    let f = found extent.at extent l.segment.extents l.there in let end = l.segment.base + l.segment.size in
     let s = tiles_split words Used l.segment.base f.front (extent ∷ f.back) end (subst (λ es. Tiles words Used l.segment.base es end) f.is p.extents) in
     let place : extent.at ≡ s.middle = s.second.0 in
     record {
@@ -36,10 +34,10 @@ run_of regions words segments parts {extent} there =
 
 -- ---- a run in a segment gives way to others that are as long
 
-module _ {A : Type 0} {regions : A → List Grant} {word : A → ℕ → ℕ} {heap : Dlmalloc A} (new : Dlmalloc A) (sound : IsSound regions word heap) (same : regions new.system ≡ regions heap.system)
-    {from to : ℕ} {less more : List Extent} (run : IsRunOf (word heap.system) (segments_of word heap) from to less)
-    (move : IsMove (regions heap.system) (word heap.system) (word new.system) (last_kind Used run.first) from to to less more)
-    (kind : last_kind (last_kind Used run.first) more ≡ last_kind (last_kind Used run.first) less)
+module _ {A : Type 0} {regions : A → List Grant} {word : A → ℕ → ℕ} {heap : Dlmalloc A} (new : Dlmalloc A) (sound : IsSound regions word heap)
+    (same : regions new.system ≡ regions heap.system) {from to : ℕ} {less more : List Extent}
+    (run : IsRunOf (word heap.system) (segments_of word heap) from to less) (move : IsMove (regions heap.system) (word heap.system) (word new.system)
+    (last_kind Used run.first) from to to less more) (kind : last_kind (last_kind Used run.first) more ≡ last_kind (last_kind Used run.first) less)
     (tails : (k : ℕ) (tail : Extent) → extent_at k less ≡ Some tail → tail.kind ≡ Record → extent_at k more ≡ Some tail) where
   abbrev pub run_extents : List Extent
   run_extents = run.first ++ (more ++ run.last)
@@ -69,13 +67,14 @@ module _ {A : Type 0} {regions : A → List Grant} {word : A → ℕ → ℕ} {h
     where
       beyond : extent_at k run.last ≡ Some one → to ≤ k
       beyond is = elim (dec_lt k to) [
-        | yes before ↦ absurd (let none = none_outside (word heap.system) (last_kind (last_kind Used run.first) less) to run.last (run.segment.base + run.segment.size) k (inl before) run.last_stand in cc)
+        | yes before ↦ absurd (let none = none_outside (word heap.system) (last_kind (last_kind Used run.first) less) to run.last
+            (run.segment.base + run.segment.size) k (inl before) run.last_stand in cc)
         | no behind ↦ omega arith
       ]
 
   tail_kind : ends_segment (last_kind (last_kind (last_kind Used run.first) less) run.last) ≡ true
-  tail_kind = ap ends_segment (sym (last_append (last_kind Used run.first) less run.last)) ∙ (ap ends_segment (sym (last_append Used run.first (less ++ run.last)))
-      ∙ (ap (λ es. ends_segment (last_kind Used es)) (sym run.extents) ∙ part.tail))
+  tail_kind = ap ends_segment (sym (last_append (last_kind Used run.first) less run.last)) ∙
+      (ap ends_segment (sym (last_append Used run.first (less ++ run.last))) ∙ (ap (λ es. ends_segment (last_kind Used es)) (sym run.extents) ∙ part.tail))
 
   is_now : IsSegment (regions heap.system) (word new.system) run_now
   is_now = record {
@@ -83,8 +82,8 @@ module _ {A : Type 0} {regions : A → List Grant} {word : A → ℕ → ℕ} {h
     low = part.low;
     high = part.high;
     long = part.long;
-    extents = moved Used run.segment.base (run.segment.base + run.segment.size) (run.segment.base + run.segment.size) run.first run.last run.first_stand move run.last_stand
-        (λ k low high m. record { granted = part.run.covered k (omega arith) high; aligned = m }) run.some refl kind tail_kind;
+    extents = moved Used run.segment.base (run.segment.base + run.segment.size) (run.segment.base + run.segment.size) run.first run.last run.first_stand move
+        run.last_stand (λ k low high m. record { granted = part.run.covered k (omega arith) high; aligned = m }) run.some refl kind tail_kind;
     tail = ap ends_segment (last_append Used run.first (more ++ run.last)) ∙ (ap ends_segment (last_append (last_kind Used run.first) more run.last)
         ∙ (ap (λ k. ends_segment (last_kind k run.last)) kind ∙ tail_kind));
   }
@@ -101,10 +100,10 @@ module _ {A : Type 0} {regions : A → List Grant} {word : A → ℕ → ℕ} {h
   step told = record { front = run.front; segment = run.segment; back = run.back; is = run.is; now = run_now; first = run.first; last = run.last; old_extents = run.extents; new_extents = refl; changed = changed; told = told }
 
   -- the top stays
-  abbrev pub step_beside : new.next ≡ heap.next → HasSameHead heap new → ((k : ℕ) (tail : Extent) → extent_at k less ≡ Some tail → tail.kind ≡ Top → extent_at k more ≡ Some tail) → IsStep regions word heap new less more
-  step_beside next head top = step (told_same heap new changed next run.front run.back apart parts
-      (subst (AreTold (word heap.system) heap) run.is sound.told) head refl refl refl
-      (λ there. stays heap.top (λ here. top heap.top (extent heap.top heap.top_size Top) here refl) there))
+  abbrev pub step_beside : new.next ≡ heap.next → HasSameHead heap new → ((k : ℕ) (tail : Extent) → extent_at k less ≡ Some tail →
+      tail.kind ≡ Top → extent_at k more ≡ Some tail) → IsStep regions word heap new less more
+  step_beside next head top = step (told_same heap new changed next run.front run.back apart parts (subst (AreTold (word heap.system) heap) run.is sound.told)
+      head refl refl refl (λ there. stays heap.top (λ here. top heap.top (extent heap.top heap.top_size Top) here refl) there))
 
   -- the head segment has another top
   abbrev pub step_top : new.next ≡ heap.next → run.front ≡ [] → IsHead new run_now → IsStep regions word heap new less more
@@ -118,7 +117,8 @@ pub record HasNext (last : List Extent) : Type 0 where
   pub rest : List Extent
   pub is : last ≡ next ∷ rest
 
-module _ (regions : List Grant) {words : ℕ → ℕ} {segments : List Segment} (parts : AreSegments regions words segments) {from to : ℕ} {less : List Extent} (run : IsRunOf words segments from to less) where
+module _ (regions : List Grant) {words : ℕ → ℕ} {segments : List Segment}
+    (parts : AreSegments regions words segments) {from to : ℕ} {less : List Extent} (run : IsRunOf words segments from to less) where
   abbrev pub run_end : ℕ
   run_end = run.segment.base + run.segment.size
 
@@ -126,8 +126,8 @@ module _ (regions : List Grant) {words : ℕ → ℕ} {segments : List Segment} 
   run_part = all_at (IsSegment regions words) run.front run.segment run.back (subst (AreSegments regions words) run.is parts)
 
   run_tail : ends_segment (last_kind (last_kind (last_kind Used run.first) less) run.last) ≡ true
-  run_tail = ap ends_segment (sym (last_append (last_kind Used run.first) less run.last)) ∙ (ap ends_segment (sym (last_append Used run.first (less ++ run.last)))
-      ∙ (ap (λ es. ends_segment (last_kind Used es)) (sym run.extents) ∙ run_part.tail))
+  run_tail = ap ends_segment (sym (last_append (last_kind Used run.first) less run.last)) ∙ (ap ends_segment
+      (sym (last_append Used run.first (less ++ run.last))) ∙ (ap (λ es. ends_segment (last_kind Used es)) (sym run.extents) ∙ run_part.tail))
 
   -- a run that ends no segment has an extent behind it
   pub has_next : ends_segment (last_kind (last_kind Used run.first) less) ≡ false → HasNext run.last

@@ -21,12 +21,14 @@ shown_as heap extent = of extent.at extent.size extent.kind
     of at size Used = record { place = refl; size = refl; free = refl; top = refl; foot = refl; ends = refl; bytes = λ h. h; named = λ no other. refl }
     of at size Free = go (at == heap.victim) refl
       where
-        go : (b : Bool) → (at == heap.victim) ≡ b → IsShownAs heap.victim (record { at = at; size = size; kind = Free }) (if b then record { at = at; size = size; kind = Victim } else record { at = at; size = size; kind = Free })
+        go : (b : Bool) → (at == heap.victim) ≡ b → IsShownAs heap.victim (record { at = at; size = size; kind = Free })
+            (if b then record { at = at; size = size; kind = Victim } else record { at = at; size = size; kind = Free })
         go true test = record { place = refl; size = refl; free = refl; top = refl; foot = refl; ends = refl; bytes = λ h. h; named = λ no other. absurd (other (nat_is test)) }
         go false test = record { place = refl; size = refl; free = refl; top = refl; foot = refl; ends = refl; bytes = λ h. h; named = λ no other. refl }
     of at size Victim = go (at == heap.victim)
       where
-        go : (b : Bool) → IsShownAs heap.victim (record { at = at; size = size; kind = Victim }) (if b then record { at = at; size = size; kind = Victim } else record { at = at; size = size; kind = Victim })
+        go : (b : Bool) → IsShownAs heap.victim (record { at = at; size = size; kind = Victim })
+            (if b then record { at = at; size = size; kind = Victim } else record { at = at; size = size; kind = Victim })
         go true = record { place = refl; size = refl; free = refl; top = refl; foot = refl; ends = refl; bytes = λ h. h; named = λ no other. absurd (no refl) }
         go false = record { place = refl; size = refl; free = refl; top = refl; foot = refl; ends = refl; bytes = λ h. h; named = λ no other. absurd (no refl) }
     of at size Top = record { place = refl; size = refl; free = refl; top = refl; foot = refl; ends = refl; bytes = λ h. h; named = λ no other. refl }
@@ -36,10 +38,11 @@ shown_as heap extent = of extent.at extent.size extent.kind
 -- so it is found where the extent is
 pub shown_found : (heap : HeapState) (at : ℕ) (extents : List Extent) → extent_at at (map (shown heap) extents) ≡ option_map (shown heap) (extent_at at extents)
 shown_found heap at [] = refl
-shown_found heap at (extent ∷ extents) = ap (λ begin. if begin == at then Some (shown heap extent) else extent_at at (map (shown heap) extents)) (shown_as heap extent).place ∙ go (extent.at == at) (shown_found heap at extents)
+shown_found heap at (extent ∷ extents) = ap (λ begin. if begin == at then Some (shown heap extent) else extent_at at (map (shown heap) extents))
+    (shown_as heap extent).place ∙ go (extent.at == at) (shown_found heap at extents)
   where
-    go : (b : Bool) → extent_at at (map (shown heap) extents) ≡ option_map (shown heap) (extent_at at extents) →
-        (if b then Some (shown heap extent) else extent_at at (map (shown heap) extents)) ≡ option_map (shown heap) (if b then Some extent else extent_at at extents)
+    go : (b : Bool) → extent_at at (map (shown heap) extents) ≡ option_map (shown heap) (extent_at at extents) → (if b then Some
+        (shown heap extent) else extent_at at (map (shown heap) extents)) ≡ option_map (shown heap) (if b then Some extent else extent_at at extents)
     go true later = refl
     go false later = later
 

@@ -12,13 +12,14 @@ sized Foot size h = (omega arith, omega arith)
 
 -- an extent of which its head alone tells
 pub plain_chunk : {words : ℕ → ℕ} {before : Kind} {one : Extent} → one.at % 16 ≡ 0 → IsSize one.kind one.size → MayStand before one.kind →
-    words (one.at + 8) ≡ head_of (told_size one.kind one.size) (is_used before) (is_used one.kind) → (IsTrue (is_free_below_top one.kind) → ⊥) → (one.kind ≡ Record → ⊥) → HasChunk words before one
+    words (one.at + 8) ≡ head_of (told_size one.kind one.size) (is_used before) (is_used one.kind) → (IsTrue (is_free_below_top one.kind) → ⊥) →
+    (one.kind ≡ Record → ⊥) → HasChunk words before one
 plain_chunk whole size kind head foot fence =
     record { whole = whole; size = size; kind = kind; head = head; foot = λ free. absurd (foot free); fence = λ is. absurd (fence is) }
 
 -- a free one, of which its foot tells as well
-pub free_chunk : {words : ℕ → ℕ} {before : Kind} {at size : ℕ} → at % 16 ≡ 0 → IsSize Free size → MayStand before Free → words (at + 8) ≡ head_of size (is_used before) false → words (at + size) ≡ size →
-    HasChunk words before (record { at = at; size = size; kind = Free })
+pub free_chunk : {words : ℕ → ℕ} {before : Kind} {at size : ℕ} → at % 16 ≡ 0 → IsSize Free size → MayStand before Free → words
+    (at + 8) ≡ head_of size (is_used before) false → words (at + size) ≡ size → HasChunk words before (record { at = at; size = size; kind = Free })
 free_chunk whole size kind head foot = record { whole = whole; size = size; kind = kind; head = head; foot = λ free. foot; fence = λ is. absurd (cc) }
 
 -- extents end behind their beginning
@@ -28,7 +29,8 @@ tiles_le words before at (extent ∷ extents) end h = let rest = tiles_le words 
 
 -- ---- one list behind another
 
-pub tiles_append : (words : ℕ → ℕ) (before : Kind) (at : ℕ) (front back : List Extent) (middle end : ℕ) → Tiles words before at front middle → Tiles words (last_kind before front) middle back end → Tiles words before at (front ++ back) end
+pub tiles_append : (words : ℕ → ℕ) (before : Kind) (at : ℕ) (front back : List Extent) (middle end : ℕ) → Tiles words before at front middle →
+    Tiles words (last_kind before front) middle back end → Tiles words before at (front ++ back) end
 tiles_append words before at [] back middle end h k = subst (λ a. Tiles words before a back end) (sym h) k
 tiles_append words before at (extent ∷ front) back middle end h k = (h.0, h.1, tiles_append words extent.kind (at + extent.size) front back middle end h.2 k)
 
@@ -47,10 +49,10 @@ tiles_split words before at (extent ∷ front) back end h =
 
 -- the words that an extent may write
 stands_kept : {words : ℕ → ℕ} (words' : ℕ → ℕ) {before : Kind} {extent : Extent} → HasChunk words before extent →
-    ((k : ℕ) → extent.at < k → k ≤ extent.at + extent.size → k % 8 ≡ 0 → (k ≡ extent.at + extent.size → IsTrue (is_free_below_top extent.kind)) → words' k ≡ words k) → HasChunk words' before extent
+    ((k : ℕ) → extent.at < k → k ≤ extent.at + extent.size → k % 8 ≡ 0 →
+    (k ≡ extent.at + extent.size → IsTrue (is_free_below_top extent.kind)) → words' k ≡ words k) → HasChunk words' before extent
 stands_kept words' {extent} h same =
-    let s = sized extent.kind extent.size h.size in
-    let whole = h.whole in
+    let s = sized extent.kind extent.size h.size in let whole = h.whole in
     let size = s.0 in let long = s.1 in
     record {
       whole = h.whole;
@@ -72,9 +74,7 @@ tiles_kept words words' before at (extent ∷ []) end h same =
       h.2,
     )
 tiles_kept words words' before at (extent ∷ next ∷ extents) end h same =
-    let place = h.0 in
-    let s = sized extent.kind extent.size h.1.size in
-    let n = sized next.kind next.size h.2.1.size in
+    let place = h.0 in let s = sized extent.kind extent.size h.1.size in let n = sized next.kind next.size h.2.1.size in
     let long = s.1 in let more = n.1 in
     let later = tiles_le words next.kind (at + extent.size + next.size) extents end h.2.2 in (
       h.0,

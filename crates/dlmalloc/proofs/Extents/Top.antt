@@ -53,13 +53,11 @@ module _ {regions : List Grant} {words : ℕ → ℕ} {segment : Segment} (part 
   -- its foot is behind it
   pub foot_there : {at size : ℕ} → extent_at at segment.extents ≡ Some (extent at size Top) → extent_at (at + size) segment.extents ≡ Some (extent (at + size) 80 Foot)
   foot_there {at} {size} there =
-      let t = topped there in
-      let ends = t.ends in
-      let foot = extent (end - 80) 80 Foot in
+      let t = topped there in let ends = t.ends in let foot = extent (end - 80) 80 Foot in
       let is : segment.extents ≡ (t.front ++ extent at size Top ∷ []) ++ foot ∷ [] = t.is ∙ sym (append_assoc t.front (extent at size Top ∷ []) (foot ∷ [])) in
       let here : (end - 80 == at + size) ≡ true = (let e : end - 80 ≡ at + size = omega arith in grind (arith, nat_tests)) in
-      ap (extent_at (at + size)) is
-      ∙ (distinct_later (t.front ++ extent at size Top ∷ []) (foot ∷ []) (at + size) {extent = foot} (subst AreDistinct is (tiles_distinct words Used segment.base segment.extents end part.extents)) (rw here refl)
+      ap (extent_at (at + size)) is ∙ (distinct_later (t.front ++ extent at size Top ∷ []) (foot ∷ []) (at + size) {extent = foot}
+      (subst AreDistinct is (tiles_distinct words Used segment.base segment.extents end part.extents)) (rw here refl)
       ∙ (λ i. Some (same_extent {at = end - 80} {at' = at + size} {size = 80} {size' = 80} {kind = Foot} {kind' = Foot} (omega arith) refl refl i)))
 
   -- no record is there
@@ -68,12 +66,14 @@ module _ {regions : List Grant} {words : ℕ → ℕ} {segment : Segment} (part 
       let f = found record_at (record_of record_at end) segment.extents record_there in
       let s = tiles_split words Used segment.base f.front (record_of record_at end ∷ f.back) end (subst (λ es. Tiles words Used segment.base es end) f.is part.extents) in
       let none = (nothing words Record (s.middle + (end - record_at)) f.back end none_behind_record s.second.2).0 in
-      let kind : last_kind Used segment.extents ≡ Record = ap (last_kind Used) (f.is ∙ ap (λ es. f.front ++ record_of record_at end ∷ es) none) ∙ last_append Used f.front (record_of record_at end ∷ []) in
+      let kind : last_kind Used segment.extents ≡ Record = ap (last_kind Used) (f.is ∙ ap (λ es. f.front ++ record_of record_at end ∷ es) none)
+      ∙ last_append Used f.front (record_of record_at end ∷ []) in
       let no : Foot ≡ Record = sym (topped there).foot ∙ kind in
       cc
 
   -- there is one
-  one_top : (at size : ℕ) {other other_size : ℕ} → extent_at at segment.extents ≡ Some (extent at size Top) → extent_at other segment.extents ≡ Some (extent other other_size Top) → at ≡ other
+  one_top : (at size : ℕ) {other other_size : ℕ} → extent_at at segment.extents ≡ Some (extent at size Top) →
+      extent_at other segment.extents ≡ Some (extent other other_size Top) → at ≡ other
   one_top at size {other} {other_size} there other_there =
       let t = topped there in
       elim (found_either other t.front (extent at size Top ∷ extent (end - 80) 80 Foot ∷ []) (ap (extent_at other) (sym t.is) ∙ other_there)) [
@@ -90,8 +90,8 @@ module _ {regions : List Grant} {words : ℕ → ℕ} {segment : Segment} (part 
           foot false is = cc
 
 -- the segments that records tell have records
-record_there : (words : ℕ → ℕ) (payload : ℕ) (front : List Segment) (segment : Segment) (back : List Segment) → AreRecords words payload (front ++ segment ∷ back) →
-    (at : ℕ) × (extent_at at segment.extents ≡ Some (record_of at (segment.base + segment.size)))
+record_there : (words : ℕ → ℕ) (payload : ℕ) (front : List Segment) (segment : Segment) (back : List Segment) →
+    AreRecords words payload (front ++ segment ∷ back) → (at : ℕ) × (extent_at at segment.extents ≡ Some (record_of at (segment.base + segment.size)))
 record_there words payload [] segment back h = (payload - 16, h.4)
 record_there words payload (first ∷ front) segment back h = record_there words (words (payload + 16)) front segment back h.5
 
@@ -113,19 +113,23 @@ module _ {A : Type 0} {regions : A → List Grant} {word : A → ℕ → ℕ} {h
   -- what is found in the segment at the place of the top is the top
   pub the_top : {one : Extent} → extent_at one.at segment.extents ≡ Some one → one.at ≡ heap.top → one ≡ extent heap.top heap.top_size Top
   the_top {one} there place =
-      let all = all_distinct (regions heap.system) (word heap.system) (front ++ segment ∷ back) (subst (AreSegments (regions heap.system) (word heap.system)) is sound.segments) (subst AreApart is sound.apart) in
+      let all = all_distinct (regions heap.system) (word heap.system) (front ++ segment ∷ back)
+      (subst (AreSegments (regions heap.system) (word heap.system)) is sound.segments) (subst AreApart is sound.apart) in
       let one_all : extent_at one.at (extents_all (front ++ segment ∷ back)) ≡ Some one =
-      ap (extent_at one.at) (all_among front segment back)
-      ∙ distinct_later (extents_all front) (segment.extents ++ extents_all back) one.at (subst AreDistinct (all_among front segment back) all) (found_more one.at segment.extents (extents_all back) there) in
-      let top_all : extent_at heap.top (extents_all (front ++ segment ∷ back)) ≡ Some (extent heap.top heap.top_size Top) = head_top front (subst (AreTold (word heap.system) heap) is sound.told) in
+      ap (extent_at one.at) (all_among front segment back) ∙ distinct_later (extents_all front) (segment.extents ++ extents_all back) one.at
+      (subst AreDistinct (all_among front segment back) all) (found_more one.at segment.extents (extents_all back) there) in
+      let top_all : extent_at heap.top (extents_all (front ++ segment ∷ back)) ≡ Some (extent heap.top heap.top_size Top) = head_top front
+      (subst (AreTold (word heap.system) heap) is sound.told) in
       ap (λ o. unwrap_or o one) (sym one_all ∙ (ap (λ k. extent_at k (extents_all (front ++ segment ∷ back))) place ∙ top_all))
     where
-      head_top : (front : List Segment) → AreTold (word heap.system) heap (front ++ segment ∷ back) → extent_at heap.top (extents_all (front ++ segment ∷ back)) ≡ Some (extent heap.top heap.top_size Top)
+      head_top : (front : List Segment) → AreTold (word heap.system) heap (front ++ segment ∷ back) →
+          extent_at heap.top (extents_all (front ++ segment ∷ back)) ≡ Some (extent heap.top heap.top_size Top)
       head_top [] h = found_more heap.top segment.extents (extents_all back) h.4
       head_top (first ∷ front) h = found_more heap.top first.extents (extents_all (front ++ segment ∷ back)) h.4
 
 -- it is found among all, where there is a segment
-pub top_among : {A : Type 0} {regions : A → List Grant} {word : A → ℕ → ℕ} {heap : Dlmalloc A} → IsSound regions word heap → 0 < heap.size → extent_at heap.top (extents_all (segments_of word heap)) ≡ Some (extent heap.top heap.top_size Top)
+pub top_among : {A : Type 0} {regions : A → List Grant} {word : A → ℕ → ℕ} {heap : Dlmalloc A} → IsSound regions word heap → 0 < heap.size →
+    extent_at heap.top (extents_all (segments_of word heap)) ≡ Some (extent heap.top heap.top_size Top)
 top_among {word} {heap} sound some = go (segments_of word heap) sound.told
   where
     go : (segments : List Segment) → AreTold (word heap.system) heap segments → extent_at heap.top (extents_all segments) ≡ Some (extent heap.top heap.top_size Top)
@@ -133,10 +137,11 @@ top_among {word} {heap} sound some = go (segments_of word heap) sound.told
     go (segment ∷ segments) h = found_more heap.top segment.extents (extents_all segments) h.4
 
 -- and so is its foot
-pub foot_among : {A : Type 0} {regions : A → List Grant} {word : A → ℕ → ℕ} {heap : Dlmalloc A} → IsSound regions word heap → 0 < heap.size → extent_at (heap.top + heap.top_size) (extents_all (segments_of word heap)) ≡ Some (extent (heap.top + heap.top_size) 80 Foot)
+pub foot_among : {A : Type 0} {regions : A → List Grant} {word : A → ℕ → ℕ} {heap : Dlmalloc A} → IsSound regions word heap → 0 < heap.size →
+    extent_at (heap.top + heap.top_size) (extents_all (segments_of word heap)) ≡ Some (extent (heap.top + heap.top_size) 80 Foot)
 foot_among {regions} {word} {heap} sound some = go (segments_of word heap) sound.segments sound.told
   where
-    go : (segments : List Segment) → AreSegments (regions heap.system) (word heap.system) segments → AreTold (word heap.system) heap segments → extent_at (heap.top + heap.top_size) (extents_all segments) ≡ Some (extent (heap.top + heap.top_size) 80 Foot)
+    go : (segments : List Segment) → AreSegments (regions heap.system) (word heap.system) segments → AreTold (word heap.system) heap segments →
+        extent_at (heap.top + heap.top_size) (extents_all segments) ≡ Some (extent (heap.top + heap.top_size) 80 Foot)
     go [] parts h = absurd (omega arith)
-    go (segment ∷ segments) parts h = found_more (heap.top + heap.top_size) segment.extents (extents_all segments)
-        (foot_there parts.0 h.4)
+    go (segment ∷ segments) parts h = found_more (heap.top + heap.top_size) segment.extents (extents_all segments) (foot_there parts.0 h.4)

@@ -26,29 +26,31 @@ pub skip : (at : ℕ) (front back : List Extent) → find (has at) front ≡ Non
 skip at front back none = find-append (has at) front back ∙ ap (λ o. option_or o (find (has at) back)) none
 
 -- a free extent has its bytes
-has_one : (words : ℕ → ℕ) (before : Kind) (from : ℕ) (extents : List Extent) (to : ℕ) (one : Extent) (at : ℕ) (rest : List Extent) → Tiles words before from extents to → extent_at one.at extents ≡ Some one → one.kind ≡ Free →
-    one.at ≤ at → at < one.at + one.size → find (has at) (extents ++ rest) ≡ Some one
+has_one : (words : ℕ → ℕ) (before : Kind) (from : ℕ) (extents : List Extent) (to : ℕ) (one : Extent) (at : ℕ) (rest : List Extent) →
+    Tiles words before from extents to → extent_at one.at extents ≡ Some one → one.kind ≡ Free → one.at ≤ at → at < one.at + one.size →
+    find (has at) (extents ++ rest) ≡ Some one
 has_one words before from extents to one at rest h there free low high =
     let f = found one.at one extents there in
     let s = tiles_split words before from f.front (one ∷ f.back) to (subst (λ es. Tiles words before from es to) f.is h) in
     let place = s.second.0 in
-    let here : find (has at) extents ≡ Some one = ap (find (has at)) f.is ∙ (skip at f.front (one ∷ f.back) (has_none words before from f.front s.middle at (inr (omega arith)) s.first) ∙ has_here one f.back at free low high) in
+    let here : find (has at) extents ≡ Some one = ap (find (has at)) f.is ∙
+    (skip at f.front (one ∷ f.back) (has_none words before from f.front s.middle at (inr (omega arith)) s.first) ∙ has_here one f.back at free low high) in
     find-append (has at) extents rest ∙ ap (λ o. option_or o (find (has at) rest)) here
 
-pub has_in : (regions : List Grant) (words : ℕ → ℕ) (segments : List Segment) → AreSegments regions words segments → AreApart segments → {one : Extent} (at : ℕ) → extent_at one.at (extents_all segments) ≡ Some one → one.kind ≡ Free →
-    one.at ≤ at → at < one.at + one.size → find (has at) (extents_all segments) ≡ Some one
+pub has_in : (regions : List Grant) (words : ℕ → ℕ) (segments : List Segment) → AreSegments regions words segments → AreApart segments →
+    {one : Extent} (at : ℕ) → extent_at one.at (extents_all segments) ≡ Some one → one.kind ≡ Free → one.at ≤ at → at < one.at + one.size →
+    find (has at) (extents_all segments) ≡ Some one
 has_in regions words [] parts apart at there free low high = absurd (cc)
 has_in regions words (segment ∷ segments) parts apart {one} at there free low high =
     elim (found_either one.at segment.extents (extents_all segments) there) [
       | inl here ↦ has_one words Used segment.base segment.extents (segment.base + segment.size) one at (extents_all segments) parts.0.extents here free low high
-      | inr later ↦ skip at segment.extents (extents_all segments) (has_none words Used segment.base segment.extents (segment.base + segment.size) at (out later.1) parts.0.extents)
-          ∙ has_in regions words segments parts.1 apart.1 at later.1 free low high
+      | inr later ↦ skip at segment.extents (extents_all segments) (has_none words Used segment.base segment.extents (segment.base + segment.size) at
+          (out later.1) parts.0.extents) ∙ has_in regions words segments parts.1 apart.1 at later.1 free low high
     ]
   where
     out : extent_at one.at (extents_all segments) ≡ Some one → (at < segment.base) ⊎ (segment.base + segment.size ≤ at)
     out later =
-        let l = located one.at segments later in
-        let p = of_located (IsSegment regions words) l parts.1 in
+        let l = located one.at segments later in let p = of_located (IsSegment regions words) l parts.1 in
         let is = in_part words Used l.segment.base l.segment.extents (l.segment.base + l.segment.size) p.extents l.there in
         let from = is.low in let to = is.high in
         elim (of_located (λ s. IsApartFrom segment s) l apart.0) [ inl before ↦ inr (omega arith) | inr behind ↦ inl (omega arith) ]
@@ -57,7 +59,8 @@ pub has_no_zero : (regions : List Grant) (words : ℕ → ℕ) (segments : List 
 has_no_zero regions words [] parts = refl
 has_no_zero regions words (segment ∷ segments) parts =
     let low = parts.0.low in
-    skip 0 segment.extents (extents_all segments) (has_none words Used segment.base segment.extents (segment.base + segment.size) 0 (inl (omega arith)) parts.0.extents) ∙ has_no_zero regions words segments parts.1
+    skip 0 segment.extents (extents_all segments) (has_none words Used segment.base segment.extents (segment.base + segment.size) 0
+    (inl (omega arith)) parts.0.extents) ∙ has_no_zero regions words segments parts.1
 
 -- a victim that stays free is the victim
 pub victim_same : (regions : List Grant) (words : ℕ → ℕ) (segments : List Segment) → AreSegments regions words segments → AreApart segments → (victim size : ℕ) →
@@ -76,7 +79,8 @@ victim_same regions words segments parts apart victim size there none = go (size
         sym (ap at_of (has_in regions words segments parts apart victim (there some) refl (omega arith) (omega arith)))
 
 -- none has a byte that lies in a segment apart from all
-pub has_none_beside : (regions : List Grant) (words : ℕ → ℕ) (segment : Segment) (segments : List Segment) → AreSegments regions words segments → AllByRecursion (λ other. IsApartFrom other segment) segments →
+pub has_none_beside : (regions : List Grant) (words : ℕ → ℕ) (segment : Segment) (segments : List Segment) → AreSegments regions words segments →
+    AllByRecursion (λ other. IsApartFrom other segment) segments →
     (at : ℕ) → segment.base ≤ at → at < segment.base + segment.size → find (has at) (extents_all segments) ≡ None
 has_none_beside regions words segment [] parts apart at low high = refl
 has_none_beside regions words segment (other ∷ segments) parts apart at low high =

@@ -14,7 +14,8 @@ run_read {words} {from} {to} run = chunks_read words Used (to / 16) from run.chu
   where
     whole : (chunks : List Extent) → Tiles words Used from chunks to → to ≤ from + 16 * (to / 16)
     whole [] h = omega arith
-    whole (chunk ∷ chunks) h = let place = h.0 in let w = h.1.whole in let e = end words chunk.kind (from + chunk.size) chunks to h.2 (omega (arith, (sized chunk.kind chunk.size h.1.size).0)) in omega arith
+    whole (chunk ∷ chunks) h = let place = h.0 in let w = h.1.whole in
+        let e = end words chunk.kind (from + chunk.size) chunks to h.2 (omega (arith, (sized chunk.kind chunk.size h.1.size).0)) in omega arith
       where
         end : (words : ℕ → ℕ) (before : Kind) (at : ℕ) (chunks : List Extent) (to : ℕ) → Tiles words before at chunks to → at % 16 ≡ 0 → to % 16 ≡ 0
         end words before at [] to h w = omega arith
@@ -57,7 +58,8 @@ none_left words before at (chunk ∷ chunks) end empty h =
 
 -- all are passed at the end
 pub all_passed : {words : ℕ → ℕ} {from to at : ℕ} {known : List Extent → Type 0} → to ≤ at → Passed words from to at known → known (chunks_between words from to)
-all_passed {words} {to} {at} {known} end p = subst known (sym (p.is ∙ (ap (λ cs. p.front ++ cs) (none_left words (last_kind Used p.front) at p.back to end p.behind) ∙ append-nil p.front))) p.so_far
+all_passed {words} {to} {at} {known} end p = subst known
+    (sym (p.is ∙ (ap (λ cs. p.front ++ cs) (none_left words (last_kind Used p.front) at p.back to end p.behind) ∙ append-nil p.front))) p.so_far
 
 module _ {words : ℕ → ℕ} {from to at : ℕ} {known : List Extent → Type 0} (more : at < to) (p : Passed words from to at known) where
   pub ahead : Next words (last_kind Used p.front) at p.back to
@@ -103,8 +105,10 @@ module _ {words : ℕ → ℕ} {from to at : ℕ} {known : List Extent → Type 
       front = p.front ++ chunk ∷ [];
       back = ahead.rest;
       is = p.is ∙ (ap (λ es. p.front ++ es) (ahead.is ∙ ap (λ e. e ∷ ahead.rest) is_chunk) ∙ sym (append_assoc p.front (chunk ∷ []) ahead.rest));
-      before = tiles_append words Used from p.front (chunk ∷ []) at (at + chunk.size) p.before (subst (λ e. Tiles words (last_kind Used p.front) at (e ∷ []) (at + e.size)) is_chunk (ahead.place, ahead.stands, refl));
-      behind = subst (λ k. Tiles words k (at + chunk.size) ahead.rest to) (sym (last_append Used p.front (chunk ∷ []))) (subst (λ e. Tiles words e.kind (at + e.size) ahead.rest to) is_chunk ahead.later);
+      before = tiles_append words Used from p.front (chunk ∷ []) at (at + chunk.size) p.before
+          (subst (λ e. Tiles words (last_kind Used p.front) at (e ∷ []) (at + e.size)) is_chunk (ahead.place, ahead.stands, refl));
+      behind = subst (λ k. Tiles words k (at + chunk.size) ahead.rest to) (sym (last_append Used p.front (chunk ∷ [])))
+          (subst (λ e. Tiles words e.kind (at + e.size) ahead.rest to) is_chunk ahead.later);
       are = ahead.are;
       so_far = holds;
     }
@@ -117,11 +121,12 @@ pub record HasTail (regions : List Grant) (words : ℕ → ℕ) (segment : Segme
   pub is : segment.extents ≡ chunks_between words segment.base at ++ tail
   pub above : segment.base ≤ at
 
-has_tail : {regions : List Grant} {words : ℕ → ℕ} {segment : Segment} → IsSegment regions words segment → {last : Extent} → last.kind ≢ Foot → extent_at last.at segment.extents ≡ Some last → (tail : List Extent) →
-    ((back : List Extent) → Tiles words last.kind (last.at + last.size) back (segment.base + segment.size) → ends_segment (last_kind last.kind back) ≡ true → last ∷ back ≡ tail) → HasTail regions words segment last.at tail
+has_tail : {regions : List Grant} {words : ℕ → ℕ} {segment : Segment} → IsSegment regions words segment → {last : Extent} → last.kind ≢ Foot →
+    extent_at last.at segment.extents ≡ Some last → (tail : List Extent) →
+    ((back : List Extent) → Tiles words last.kind (last.at + last.size) back (segment.base + segment.size) →
+    ends_segment (last_kind last.kind back) ≡ true → last ∷ back ≡ tail) → HasTail regions words segment last.at tail
 has_tail {regions} {words} {segment} part {last} other there tail rest =
-    let f = found last.at last segment.extents there in
-    let end = segment.base + segment.size in
+    let f = found last.at last segment.extents there in let end = segment.base + segment.size in
     let tiles = subst (λ es. Tiles words Used segment.base es end) f.is part.extents in
     let s = tiles_split words Used segment.base f.front (last ∷ f.back) end tiles in
     let place : last.at ≡ s.middle = s.second.0 in
@@ -142,21 +147,24 @@ has_tail {regions} {words} {segment} part {last} other there tail rest =
       above = omega arith;
     }
 
-pub top_tail : {regions : List Grant} {words : ℕ → ℕ} {segment : Segment} → IsSegment regions words segment → {top size : ℕ} → extent_at top segment.extents ≡ Some (extent top size Top) →
-    HasTail regions words segment top (extent top size Top ∷ extent (top + size) 80 Foot ∷ [])
+pub top_tail : {regions : List Grant} {words : ℕ → ℕ} {segment : Segment} → IsSegment regions words segment → {top size : ℕ} → extent_at top
+    segment.extents ≡ Some (extent top size Top) → HasTail regions words segment top (extent top size Top ∷ extent (top + size) 80 Foot ∷ [])
 top_tail {words} {segment} part {top} {size} there = has_tail part (λ is. cc) there (extent top size Top ∷ extent (top + size) 80 Foot ∷ [])
     (λ back tiles tail. let b = behind_top words (top + size) back (segment.base + segment.size) tiles tail in let ends = b.1 in
-    ap (λ es. extent top size Top ∷ es) (b.0 ∙ (λ i. same_extent {at = segment.base + segment.size - 80} {at' = top + size} {size = 80} {size' = 80} {kind = Foot} {kind' = Foot} (omega arith) refl refl i ∷ [])))
+    ap (λ es. extent top size Top ∷ es) (b.0 ∙ (λ i. same_extent {at = segment.base + segment.size - 80} {at' = top + size} {size = 80} {size' = 80}
+    {kind = Foot} {kind' = Foot} (omega arith) refl refl i ∷ [])))
 
-pub record_tail : {regions : List Grant} {words : ℕ → ℕ} {segment : Segment} → IsSegment regions words segment → (at : ℕ) → extent_at at segment.extents ≡ Some (record_of at (segment.base + segment.size)) →
+pub record_tail : {regions : List Grant} {words : ℕ → ℕ} {segment : Segment} → IsSegment regions words segment →
+    (at : ℕ) → extent_at at segment.extents ≡ Some (record_of at (segment.base + segment.size)) →
     HasTail regions words segment at (record_of at (segment.base + segment.size) ∷ [])
 record_tail {words} {segment} part at there = has_tail part (λ is. cc) there (record_of at (segment.base + segment.size) ∷ [])
-    (λ back tiles tail. ap (λ b. record_of at (segment.base + segment.size) ∷ b) (nothing words Record (at + (segment.base + segment.size - at)) back (segment.base + segment.size) none_behind_record tiles).0)
+    (λ back tiles tail. ap (λ b. record_of at (segment.base + segment.size) ∷ b)
+    (nothing words Record (at + (segment.base + segment.size - at)) back (segment.base + segment.size) none_behind_record tiles).0)
 
 -- ---- lists of what is passed
 
 -- what is made of each extent, when one is added
-pub mapped_more : (each : Extent → Extent) {old new : List Extent} (start front : List Extent) (extent : Extent) {item : Extent} → old ≡ start ++ map each front → item ≡ each extent → new ≡ old ++ item ∷ [] →
-    new ≡ start ++ map each (front ++ extent ∷ [])
+pub mapped_more : (each : Extent → Extent) {old new : List Extent} (start front : List Extent) (extent : Extent) {item : Extent} →
+    old ≡ start ++ map each front → item ≡ each extent → new ≡ old ++ item ∷ [] → new ≡ start ++ map each (front ++ extent ∷ [])
 mapped_more each start front extent was is added =
     added ∙ (λ i. was i ++ is i ∷ []) ∙ append_assoc start (map each front) (each extent ∷ []) ∙ ap (λ es. start ++ es) (sym (map-append each front (extent ∷ [])))

@@ -55,7 +55,8 @@ module _ {A : Type 0} {regions : A → List Grant} {word : A → ℕ → ℕ} {h
     left : Left words one.segment.base one.first at from
     left =
         let whole : size % 8 ≡ 0 = (let w = one.here.1.size.0 in omega arith) in
-        let told : pinuse_of (words (at + 8)) ≡ is_used (last_kind Used one.first) = ap pinuse_of one.here.1.head ∙ pinuse_of-head_of size (is_used (last_kind Used one.first)) true whole in
+        let told : pinuse_of (words (at + 8)) ≡ is_used (last_kind Used one.first) = ap pinuse_of one.here.1.head
+        ∙ pinuse_of-head_of size (is_used (last_kind Used one.first)) true whole in
         subst (λ f. Left words one.segment.base one.first at f) (ap (λ b. if b then at else at - words at) (sym told) ∙ sym from_is)
         (left_of words one.segment.base one.first at one.first_stand one.here.1.kind)
 
@@ -162,8 +163,8 @@ module _ {A : Type 0} {regions : A → List Grant} {word : A → ℕ → ℕ} {h
 
     head_segment : (run.front ≡ []) × (at + size ≡ heap.top)
     head_segment = is_top sound run.front run.segment run.back run.is {at = (at + size)} {size = top.size}
-        (ap (extent_at (at + size)) (one.extents ∙ ap (λ l. one.first ++ (chunk ∷ l)) next.is)
-        ∙ (found_later (at + size) one.first (chunk ∷ top ∷ next.rest) (none_outside words Used one.segment.base one.first at (at + size) (inr (omega arith)) one.first_stand)
+        (ap (extent_at (at + size)) (one.extents ∙ ap (λ l. one.first ++ (chunk ∷ l)) next.is) ∙ (found_later (at + size) one.first
+        (chunk ∷ top ∷ next.rest) (none_outside words Used one.segment.base one.first at (at + size) (inr (omega arith)) one.first_stand)
         ∙ (let first : (at == at + size) ≡ false = nat_isnt (inl (let s = one.some in omega arith)) in
         let second : (top.at == at + size) ≡ true = (let p = (behind (regions heap.system) sound.segments one next).0 in grind (arith, nat_tests)) in
         rw (first, second) (λ i. Some (extent ((behind (regions heap.system) sound.segments one next).0 i) top.size (kind i))))))
@@ -189,12 +190,13 @@ module _ {A : Type 0} {regions : A → List Grant} {word : A → ℕ → ℕ} {h
 
       state_segments : in_segments (freed_in at) segments ≡ run.front ++ with_extents run.segment (run.first ++ (more ++ run.last)) ∷ run.back
       state_segments =
-          let is : extent from (foot.next.at - from) (joint_kind (top ∷ [])) ≡ joint = same_extent refl (omega (arith, (behind (regions heap.system) sound.segments two foot).0, sum)) kind in
+          let is : extent from (foot.next.at - from) (joint_kind (top ∷ [])) ≡ joint = same_extent refl
+          (omega (arith, (behind (regions heap.system) sound.segments two foot).0, sum)) kind in
           let free : is_free foot.next.kind ≡ false = ap is_free foot_kind in
-          freed_run (regions heap.system) (word system) sound.segments sound.apart at size left.lefts (top ∷ []) foot.next left.beside (ap is_free kind) free wide
-          (subst (λ e. Tiles (word system) Used run.segment.base (run.first ++ (e ∷ foot.next ∷ foot.rest)) (run.segment.base + run.segment.size)) (sym is)
-          (subst (λ es. Tiles (word system) Used run.segment.base (run.first ++ (joint ∷ es)) (run.segment.base + run.segment.size)) foot.is (step 0 0).changed.now.extents))
-          ∙ ((λ i. run.front ++ with_extents run.segment (run.first ++ (is i ∷ foot.next ∷ foot.rest)) ∷ run.back)
+          freed_run (regions heap.system) (word system) sound.segments sound.apart at size left.lefts (top ∷ []) foot.next left.beside (ap is_free kind) free
+          wide (subst (λ e. Tiles (word system) Used run.segment.base (run.first ++ (e ∷ foot.next ∷ foot.rest)) (run.segment.base + run.segment.size))
+          (sym is) (subst (λ es. Tiles (word system) Used run.segment.base (run.first ++ (joint ∷ es)) (run.segment.base + run.segment.size)) foot.is
+          (step 0 0).changed.now.extents)) ∙ ((λ i. run.front ++ with_extents run.segment (run.first ++ (is i ∷ foot.next ∷ foot.rest)) ∷ run.back)
           ∙ ap (λ es. run.front ++ with_extents run.segment (run.first ++ (joint ∷ es)) ∷ run.back) (sym foot.is))
 
       abbrev Topped : ℕ → ℕ → Type 0
@@ -209,8 +211,9 @@ module _ {A : Type 0} {regions : A → List Grant} {word : A → ℕ → ℕ} {h
       top_there : (victim victim_size : ℕ) → extent_at from (extents_in (state_of word (after victim victim_size))) ≡ Some joint
       top_there victim victim_size = let test : (from == from) ≡ true = nat_same from in found_new sound (step victim victim_size) from joint (rw test refl)
 
-      done : {victim : ℕ} (victim_size : ℕ) → (victim_size ≢ 0 → extent_at victim (extents_in (state_of word (after victim victim_size))) ≡ Some (extent victim victim_size Free)) → (victim_size ≡ 0 → victim ≡ 0) →
-          victim ≡ victim_in heap.victim (extents_in (state_of word (after victim victim_size))) → Topped victim victim_size
+      done : {victim : ℕ} (victim_size : ℕ) → (victim_size ≢ 0 →
+          extent_at victim (extents_in (state_of word (after victim victim_size))) ≡ Some (extent victim victim_size Free)) → (victim_size ≡ 0 →
+          victim ≡ 0) → victim ≡ victim_in heap.victim (extents_in (state_of word (after victim victim_size))) → Topped victim victim_size
       done {victim} victim_size named none left =
           let segments_are = read sound (step victim victim_size) ∙ sym state_segments in
           let whole : victim ≡ victim_in heap.victim (extents_all (in_segments (freed_in at) segments)) = left ∙ ap (λ ss. victim_in heap.victim (extents_all ss)) segments_are in
@@ -239,21 +242,20 @@ module _ {A : Type 0} {regions : A → List Grant} {word : A → ℕ → ℕ} {h
               ∙ has_none words (last_kind (last_kind Used run.first) less) end run.last (run.segment.base + run.segment.size) heap.victim (inl (omega arith)) run.last_stand
 
           gone : find (has heap.victim) (extents_all (segments_of word (after 0 0))) ≡ None
-          gone = ap (λ ss. find (has heap.victim) (extents_all ss)) (read sound (step 0 0))
-              ∙ (ap (λ front. find (has heap.victim) (extents_all (front ++ with_extents run.segment (run.first ++ (more ++ run.last)) ∷ run.back))) head_segment.0
-              ∙ (skip heap.victim (run.first ++ (more ++ run.last)) (extents_all run.back) here
-              ∙ has_none_beside (regions heap.system) words run.segment run.back (all_back (IsSegment (regions heap.system) words) run.front (run.segment ∷ run.back) (subst (AreSegments (regions heap.system) words) run.is sound.segments)).1
+          gone = ap (λ ss. find (has heap.victim) (extents_all ss)) (read sound (step 0 0)) ∙ (ap (λ front. find (has heap.victim)
+              (extents_all (front ++ with_extents run.segment (run.first ++ (more ++ run.last)) ∷ run.back))) head_segment.0 ∙ (skip heap.victim (run.first
+              ++ (more ++ run.last)) (extents_all run.back) here ∙ has_none_beside (regions heap.system) words run.segment run.back (all_back (IsSegment
+              (regions heap.system) words) run.front (run.segment ∷ run.back) (subst (AreSegments (regions heap.system) words) run.is sound.segments)).1
               (back_apart run.front run.segment run.back (subst AreApart run.is sound.apart)) heap.victim (omega (arith, low)) (omega (arith, high))))
 
       -- it stays
       pub as_top_other : (heap.victim < from) ⊎ (at + size ≤ heap.victim) → Topped heap.victim heap.victim_size
-      as_top_other out = done heap.victim_size named sound.no_victim
-          (victim_same (regions system) (word system) (segments_of word (after heap.victim heap.victim_size)) (segments_now sound (step heap.victim heap.victim_size))
+      as_top_other out = done heap.victim_size named sound.no_victim (victim_same (regions system) (word system)
+          (segments_of word (after heap.victim heap.victim_size)) (segments_now sound (step heap.victim heap.victim_size))
           (apart_now sound (step heap.victim heap.victim_size)) heap.victim heap.victim_size named sound.no_victim)
         where
           named : heap.victim_size ≢ 0 → extent_at heap.victim (extents_in (state_of word (after heap.victim heap.victim_size))) ≡ Some (extent heap.victim heap.victim_size Free)
-          named some = found_again sound (step heap.victim heap.victim_size)
-              heap.victim (λ found. elim (in_run heap.victim found) [
-                | inl free ↦ absurd (let a = free.1 in let b = free.2 in elim out [ inl x ↦ omega arith | inr y ↦ omega arith ])
-                | inr other ↦ elim other [ inl used ↦ absurd (cc) | inr a_top ↦ absurd (cc) ]
-              ]) (sound.victim some)
+          named some = found_again sound (step heap.victim heap.victim_size) heap.victim (λ found. elim (in_run heap.victim found) [
+            | inl free ↦ absurd (let a = free.1 in let b = free.2 in elim out [ inl x ↦ omega arith | inr y ↦ omega arith ])
+            | inr other ↦ elim other [ inl used ↦ absurd (cc) | inr a_top ↦ absurd (cc) ]
+          ]) (sound.victim some)

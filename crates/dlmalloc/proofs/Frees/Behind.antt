@@ -27,8 +27,8 @@ module _ {A : Type 0} {regions : A → List Grant} {word : A → ℕ → ℕ} {h
       let part = run_part (regions heap.system) sound.segments run in
       let other : (at == next.next.at) ≡ false = nat_isnt (inl (let some = run.some in let p = place in omega arith)) in
       let here : extent_at next.next.at (chunk ∷ next.next ∷ next.rest) ≡ Some next.next = rw other (found_here next.next next.rest) in
-      ap (extent_at next.next.at) extents ∙ distinct_later run.first (chunk ∷ next.next ∷ next.rest) next.next.at
-      (subst AreDistinct extents (tiles_distinct (word heap.system) Used run.segment.base run.segment.extents (run.segment.base + run.segment.size) part.extents)) here
+      ap (extent_at next.next.at) extents ∙ distinct_later run.first (chunk ∷ next.next ∷ next.rest) next.next.at (subst AreDistinct extents
+      (tiles_distinct (word heap.system) Used run.segment.base run.segment.extents (run.segment.base + run.segment.size) part.extents)) here
 
   pub next_there : extent_at next.next.at (extents_in (state_of word heap)) ≡ Some next.next
   next_there = among_all (regions heap.system) (word heap.system) sound.segments sound.apart run.front run.segment run.back run.is next.next.at in_segment

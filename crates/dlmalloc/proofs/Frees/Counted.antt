@@ -22,13 +22,15 @@ found_by : (at : ℕ) (extents : List Extent) (one : Extent) → AreDistinct ext
 found_by at [] one distinct there = absurd (cc)
 found_by at (first ∷ extents) one distinct there = go (has at first) refl there (found_by at extents one distinct.1)
   where
-    go : (b : Bool) → has at first ≡ b → (if b then Some first else find (has at) extents) ≡ Some one → (find (has at) extents ≡ Some one → IsFoundBy at extents one) → IsFoundBy at (first ∷ extents) one
+    go : (b : Bool) → has at first ≡ b → (if b then Some first else find (has at) extents) ≡ Some one →
+        (find (has at) extents ≡ Some one → IsFoundBy at extents one) → IsFoundBy at (first ∷ extents) one
     go true test same later =
         let is : first ≡ one = the_extent same in
         record { there = subst (λ e. extent_at e.at (first ∷ extents) ≡ Some e) is (found_here first extents); has_it = subst (λ e. has at e ≡ true) is test }
     go false test found later = (let l = later found in record { there = distinct_later (first ∷ []) extents one.at distinct l.there; has_it = l.has_it })
 
-module _ {A : Type 0} {regions : A → List Grant} {word : A → ℕ → ℕ} {heap : Dlmalloc A} (sound : IsSound regions word heap) {at from : ℕ} (around : IsFreeAround (state_of word heap) at from) where
+module _ {A : Type 0} {regions : A → List Grant} {word : A → ℕ → ℕ} {heap : Dlmalloc A} (sound : IsSound regions word heap) {at from : ℕ}
+    (around : IsFreeAround (state_of word heap) at from) where
   abbrev one : Extent
   one = around.extent
 
@@ -84,7 +86,8 @@ module _ {A : Type 0} {regions : A → List Grant} {word : A → ℕ → ℕ} {h
       go : (found : Option Extent) → find (has at) (extents_all (segments_of word heap)) ≡ found → is_counted (state_of word heap) at ≡ false
       go None same = ap (is_large_binned (state_of word heap)) same
       go (Some other) same =
-          let f = found_by at (extents_all (segments_of word heap)) other (all_distinct (regions heap.system) (word heap.system) (segments_of word heap) sound.segments sound.apart) same in
+          let f = found_by at (extents_all (segments_of word heap)) other
+          (all_distinct (regions heap.system) (word heap.system) (segments_of word heap) sound.segments sound.apart) same in
           absurd (elim (beside (regions heap.system) (word heap.system) (segments_of word heap) sound.segments sound.apart there f.there (differ other f)) [
             | inl before ↦ (let low : other.at ≤ at = (let h = f.has_it in grind (arith, nat_tests)) in omega (arith, place))
             | inr behind ↦ (let high : at < other.at + other.size = (let h = f.has_it in grind (arith, nat_tests)) in omega (arith, place))
@@ -109,7 +112,8 @@ module _ {A : Type 0} {regions : A → List Grant} {word : A → ℕ → ℕ} {h
         ∙ ((λ i. not (sym place i == heap.victim) && nat_le 256 (size i)) ∙ sym (counts_some found is)))
   ]
     where
-      counts_some : find (has at) (extents_all (segments_of word heap)) ≡ Some one → one.kind ≡ Free → is_counted (state_of word heap) at ≡ (not (one.at == heap.victim) && nat_le 256 one.size)
+      counts_some : find (has at) (extents_all (segments_of word heap)) ≡ Some one → one.kind ≡ Free →
+          is_counted (state_of word heap) at ≡ (not (one.at == heap.victim) && nat_le 256 one.size)
       counts_some found is = ap (is_large_binned (state_of word heap)) found ∙ ap (λ plain. (plain && not (one.at == heap.victim)) && nat_le 256 one.size) (ap is_free_below_top is)
 
   -- not where it is the top, nor where it is the victim
@@ -142,7 +146,8 @@ module _ {A : Type 0} {regions : A → List Grant} {word : A → ℕ → ℕ} {h
 same_words : (blocks : List Extent) (words : ℕ → ℕ) → KeepsBlocks blocks words words
 same_words blocks words = record { words = λ block there used k low high m. refl; heads = λ block there used. refl }
 
-module _ {A : Type 0} {regions : A → List Grant} {word : A → ℕ → ℕ} (follows : A → List Event → A → Type 0) (follows_none : (x : A) → follows x [] x) (frees parts : Bool) {old : Dlmalloc A} (sound : IsSound regions word old) (at : ℕ) where
+module _ {A : Type 0} {regions : A → List Grant} {word : A → ℕ → ℕ} (follows : A → List Event → A → Type 0)
+    (follows_none : (x : A) → follows x [] x) (frees parts : Bool) {old : Dlmalloc A} (sound : IsSound regions word old) (at : ℕ) where
   gone_none : ((is_counted (state_of word old) at) && nat_le old.countdown 1) ≡ false → left_by_count frees parts (state_of word old) at ≡ []
   gone_none none = ap (λ b. if b then taken_back frees (handed_out parts (segments_of word old)) else []) none
 
@@ -151,7 +156,8 @@ module _ {A : Type 0} {regions : A → List Grant} {word : A → ℕ → ℕ} (f
   counted_none none =
       let gone = gone_none (ap (λ b. b && nat_le old.countdown 1) none) in
       record {
-        state = sym (ap (λ b. if b then (if nat_le old.countdown 1 then passed frees parts (state_of word old) else record (state_of word old) { countdown = old.countdown - 1 }) else state_of word old) none);
+        state = sym (ap (λ b. if b then (if nat_le old.countdown 1 then passed frees parts
+            (state_of word old) else record (state_of word old) { countdown = old.countdown - 1 }) else state_of word old) none);
         sound = sound;
         used = record { still = λ used is there. there; before = λ used is there. there };
         kept = same_words (extents_in (state_of word old)) (word old.system);
@@ -162,7 +168,8 @@ module _ {A : Type 0} {regions : A → List Grant} {word : A → ℕ → ℕ} (f
       }
 
   -- the countdown falls
-  pub counted_less : (is_counted (state_of word old) at) ≡ true → nat_le old.countdown 1 ≡ false → IsCounted regions word follows frees parts old at (record old { countdown = old.countdown - 1 })
+  pub counted_less : (is_counted (state_of word old) at) ≡ true → nat_le old.countdown 1 ≡ false →
+      IsCounted regions word follows frees parts old at (record old { countdown = old.countdown - 1 })
   counted_less is more =
       let gone = gone_none ((λ i. is i && more i)) in
       record {
@@ -177,12 +184,14 @@ module _ {A : Type 0} {regions : A → List Grant} {word : A → ℕ → ℕ} (f
       }
 
   -- it ended, and a pass was made
-  pub counted_pass : (is_counted (state_of word old) at) ≡ true → nat_le old.countdown 1 ≡ true → {bytes : ℕ} {new : Dlmalloc A} → IsPassed regions word follows frees parts old bytes new → IsCounted regions word follows frees parts old at new
+  pub counted_pass : (is_counted (state_of word old) at) ≡ true → nat_le old.countdown 1 ≡ true → {bytes : ℕ} {new : Dlmalloc A} →
+      IsPassed regions word follows frees parts old bytes new → IsCounted regions word follows frees parts old at new
   counted_pass is ends {new} p =
       let gone : left_by_count frees parts (state_of word old) at ≡ taken_back frees (handed_out parts (segments_of word old)) =
       (λ i. if is i && ends i then taken_back frees (handed_out parts (segments_of word old)) else []) in
       record {
-        state = p.state ∙ sym ((λ i. if is i then (if ends i then passed frees parts (state_of word old) else record (state_of word old) { countdown = old.countdown - 1 }) else state_of word old));
+        state = p.state ∙ sym ((λ i. if is i then (if ends i then passed frees parts
+            (state_of word old) else record (state_of word old) { countdown = old.countdown - 1 }) else state_of word old));
         sound = p.sound;
         used = p.used;
         kept = p.kept;

@@ -31,7 +31,8 @@ the_one k one {other} there = go (one.at == k) there
     go false is = absurd (cc)
 
 -- one that is joined begins where they do
-pub beside_place : (words : ℕ → ℕ) (before : Kind) (from : ℕ) (extents : List Extent) (to : ℕ) → IsBeside extents → Tiles words before from extents to → (k : ℕ) {one : Extent} → extent_at k extents ≡ Some one → k ≡ from
+pub beside_place : (words : ℕ → ℕ) (before : Kind) (from : ℕ) (extents : List Extent) (to : ℕ) → IsBeside extents →
+    Tiles words before from extents to → (k : ℕ) {one : Extent} → extent_at k extents ≡ Some one → k ≡ from
 beside_place words before from [] to beside h k there = absurd (cc)
 beside_place words before from (extent ∷ []) to beside h k {one} there = go (extent.at == k) refl there
   where
@@ -41,9 +42,11 @@ beside_place words before from (extent ∷ []) to beside h k {one} there = go (e
 beside_place words before from (extent ∷ next ∷ extents) to beside h k there = absurd beside
 
 -- where extents begin, one does
-pub first_there : (words : ℕ → ℕ) (before : Kind) (from : ℕ) (extents : List Extent) (next : Extent) (to : ℕ) → Tiles words before from (extents ++ next ∷ []) to → (one : Extent) × (extent_at from (extents ++ next ∷ []) ≡ Some one)
+pub first_there : (words : ℕ → ℕ) (before : Kind) (from : ℕ) (extents : List Extent) (next : Extent) (to : ℕ) →
+    Tiles words before from (extents ++ next ∷ []) to → (one : Extent) × (extent_at from (extents ++ next ∷ []) ≡ Some one)
 first_there words before from [] next to h = (next, subst (λ a. extent_at a (next ∷ []) ≡ Some next) h.0 (found_here next []))
-first_there words before from (extent ∷ extents) next to h = (extent, subst (λ a. extent_at a (extent ∷ (extents ++ next ∷ [])) ≡ Some extent) h.0 (found_here extent (extents ++ next ∷ [])))
+first_there words before from (extent ∷ extents) next to h =
+    (extent, subst (λ a. extent_at a (extent ∷ (extents ++ next ∷ [])) ≡ Some extent) h.0 (found_here extent (extents ++ next ∷ [])))
 
 -- the extents before one at an address: those that stay, and the free one that is joined, if there is one
 pub record Left (words : ℕ → ℕ) (base : ℕ) (extents : List Extent) (at from : ℕ) : Type 0 where
@@ -66,8 +69,8 @@ last_of : (first : Extent) (extents : List Extent) → LastOf (first ∷ extents
 last_of first [] = record { front = []; last = first; is = refl }
 last_of first (next ∷ extents) = let rest = last_of next extents in record { front = first ∷ rest.front; last = rest.last; is = ap (λ es. first ∷ es) rest.is }
 
-pub left_of : (words : ℕ → ℕ) (base : ℕ) (extents : List Extent) (at : ℕ) → Tiles words Used base extents at → IsChunkKind (last_kind Used extents) →
-    Left words base extents at (if is_used (last_kind Used extents) then at else at - words at)
+pub left_of : (words : ℕ → ℕ) (base : ℕ) (extents : List Extent) (at : ℕ) → Tiles words Used base extents at →
+    IsChunkKind (last_kind Used extents) → Left words base extents at (if is_used (last_kind Used extents) then at else at - words at)
 left_of words base extents at h (inl used) =
     subst (λ f. Left words base extents at f) (ap (λ k. if is_used k then at else at - words at) (sym used)) (record {
       front = extents;
@@ -108,7 +111,8 @@ left_of words base (first ∷ more) at h (inr free) =
 
 module _ (regions : List Grant) (words : ℕ → ℕ) (segments : List Segment) where
   -- what stands before it goes into the run
-  abbrev pub with_left : {at to : ℕ} {run : List Extent} (r : IsRunOf words segments at to run) {from : ℕ} (l : Left words r.segment.base r.first at from) → IsRunOf words segments from to (l.lefts ++ run)
+  abbrev pub with_left : {at to : ℕ} {run : List Extent} (r : IsRunOf words segments at to run) {from : ℕ}
+      (l : Left words r.segment.base r.first at from) → IsRunOf words segments from to (l.lefts ++ run)
   with_left {at} {to} {run} r {from} l = record {
     front = r.front;
     segment = r.segment;
@@ -120,8 +124,8 @@ module _ (regions : List Grant) (words : ℕ → ℕ) (segments : List Segment) 
     first_stand = l.front_stand;
     here = tiles_append words (last_kind Used l.front) from l.lefts run at to (subst (λ k. Tiles words k from l.lefts at) (sym l.used) l.lefts_stand)
         (subst (λ k. Tiles words k at run to) (ap (last_kind Used) l.is ∙ last_append Used l.front l.lefts) r.here);
-    last_stand = subst (λ k. Tiles words k to r.last (r.segment.base + r.segment.size))
-        (ap (λ k. last_kind k run) (ap (last_kind Used) l.is ∙ last_append Used l.front l.lefts) ∙ sym (last_append (last_kind Used l.front) l.lefts run)) r.last_stand;
+    last_stand = subst (λ k. Tiles words k to r.last (r.segment.base + r.segment.size)) (ap (λ k. last_kind k run)
+        (ap (last_kind Used) l.is ∙ last_append Used l.front l.lefts) ∙ sym (last_append (last_kind Used l.front) l.lefts run)) r.last_stand;
     some = (let s = r.some in let low = tiles_le words Used from l.lefts at l.lefts_stand in omega arith);
   }
 
@@ -145,7 +149,8 @@ used_ends : (kind : Kind) → (kind ≡ Used) ⊎ (kind ≡ Record) → is_used 
 used_ends kind (inl is) = ap is_used is
 used_ends kind (inr is) = ap is_used is
 
-module _ (regions : List Grant) {words : ℕ → ℕ} {segments : List Segment} (parts : AreSegments regions words segments) {at size : ℕ} (r : IsRunOf words segments at (at + size) (extent at size Used ∷ [])) where
+module _ (regions : List Grant) {words : ℕ → ℕ} {segments : List Segment} (parts : AreSegments regions words segments) {at size : ℕ}
+    (r : IsRunOf words segments at (at + size) (extent at size Used ∷ [])) where
   abbrev pub next_one : HasNext r.last
   next_one = has_next regions parts r refl
 
@@ -177,10 +182,8 @@ module _ (regions : List Grant) {words : ℕ → ℕ} {segments : List Segment} 
 
   right_free : next_one.next.kind ≡ Free → Right words segments at size (end_of words (at + size))
   right_free free =
-      let q = next_one.next in
-      let run = with_next regions parts r next_one in
-      let n = has_next regions parts run (ap ends_segment free) in
-      let b = behind regions parts run n in
+      let q = next_one.next in let run = with_next regions parts r next_one in
+      let n = has_next regions parts run (ap ends_segment free) in let b = behind regions parts run n in
       let kind = behind_free n.next.kind (subst (λ k. MayStand k n.next.kind) free b.1.kind) in
       let whole = told_whole q.kind q.size stand.1.size in
       let is_size : told_size q.kind q.size ≡ q.size = ap (λ k. told_size k q.size) free in
@@ -190,7 +193,8 @@ module _ (regions : List Grant) {words : ℕ → ℕ} {segments : List Segment} 
       let told : free_of (words (at + size + 8)) ≡ true = ap free_of head ∙ rw (pinuse_of-head_of q.size true false sized, cinuse_of-head_of q.size true false sized) refl in
       let bytes : size_of (words (at + size + 8)) ≡ q.size = ap size_of head ∙ size_of-head_of q.size true false sized in
       let unused : is_used q.kind ≡ false = ap is_used free in
-      let ends : at + size + q.size ≡ end_of words (at + size) = ap (λ n. at + size + n) (sym bytes) ∙ ap (λ b. if b then at + size + size_of (words (at + size + 8)) else at + size) (sym told) in
+      let ends : at + size + q.size ≡ end_of words (at + size) = ap (λ n. at + size + n) (sym bytes)
+      ∙ ap (λ b. if b then at + size + size_of (words (at + size + 8)) else at + size) (sym told) in
       subst (λ t. Right words segments at size t) ends (record {
         rights = q ∷ [];
         next = n.next;

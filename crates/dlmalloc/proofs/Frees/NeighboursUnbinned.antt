@@ -14,7 +14,8 @@ use Rattle.dlmalloc.proofs.Frees.OfChunk.{run_one, right}
 use Rattle.dlmalloc.proofs.Frees.WhatCallsWant.{left_one, no_top, ends_at, from_at}
 
 -- a heap with an extent has a segment
-pub some_size : {A : Type 0} {regions : A → List Grant} {word : A → ℕ → ℕ} {heap : Dlmalloc A} → IsSound regions word heap → (k : ℕ) {one : Extent} → extent_at k (extents_in (state_of word heap)) ≡ Some one → 0 < heap.size
+pub some_size : {A : Type 0} {regions : A → List Grant} {word : A → ℕ → ℕ} {heap : Dlmalloc A} → IsSound regions word heap →
+    (k : ℕ) {one : Extent} → extent_at k (extents_in (state_of word heap)) ≡ Some one → 0 < heap.size
 some_size {word} {heap} sound k {one} there = go (segments_of word heap) sound.told there
   where
     go : (segments : List Segment) → AreTold (word heap.system) heap segments → extent_at k (extents_all segments) ≡ Some one → 0 < heap.size
@@ -22,8 +23,9 @@ some_size {word} {heap} sound k {one} there = go (segments_of word heap) sound.t
     go (segment ∷ segments) told found = told.0
 
 -- the words that tell a chunk in use and what is beside it stay, where those in free chunks alone change
-pub told_stays : {A : Type 0} {regions : A → List Grant} (word : A → ℕ → ℕ) (heap : Dlmalloc A) → IsSound regions word heap → (at size : ℕ) → extent_at at (extents_in (state_of word heap)) ≡ Some (extent at size Used) → (granted : List Grant) (new : ℕ → ℕ) →
-    OnlyFreeChange granted (state_of word heap) (word heap.system) new → (k : ℕ) → at ≤ k → k ≤ at + size + 8 → IsWordOf granted k → new k ≡ word heap.system k
+pub told_stays : {A : Type 0} {regions : A → List Grant} (word : A → ℕ → ℕ) (heap : Dlmalloc A) → IsSound regions word heap → (at size : ℕ) →
+    extent_at at (extents_in (state_of word heap)) ≡ Some (extent at size Used) → (granted : List Grant) (new : ℕ → ℕ) → OnlyFreeChange granted
+    (state_of word heap) (word heap.system) new → (k : ℕ) → at ≤ k → k ≤ at + size + 8 → IsWordOf granted k → new k ≡ word heap.system k
 told_stays word heap sound at size there granted new only k low high inside = only k inside (λ f n free. out f n free (same_or_beside sound free there))
   where
     out : (f n : ℕ) → IsFreeAt (state_of word heap) f n → (extent at size Used ≡ extent f n Free) ⊎ ((at + size ≤ f) ⊎ (f + n ≤ at)) → (k < f + 16) ⊎ (f + n ≤ k)
@@ -32,7 +34,8 @@ told_stays word heap sound at size there granted new only k low high inside = on
     out f n free (inr (inr behind)) = inr (omega arith)
 
 -- the one extent that is joined, where there is one
-whole_beside : (words : ℕ → ℕ) (before : Kind) (from : ℕ) (extents : List Extent) (to : ℕ) → IsBeside extents → AllFree extents → Tiles words before from extents to → from < to → extent_at from extents ≡ Some (extent from (to - from) Free)
+whole_beside : (words : ℕ → ℕ) (before : Kind) (from : ℕ) (extents : List Extent) (to : ℕ) → IsBeside extents → AllFree extents →
+    Tiles words before from extents to → from < to → extent_at from extents ≡ Some (extent from (to - from) Free)
 whole_beside words before from [] to beside free h some = absurd (omega arith)
 whole_beside words before from (one ∷ []) to beside free h some =
     let place : one.at ≡ from = h.0 in
@@ -43,7 +46,8 @@ whole_beside words before from (one ∷ []) to beside free h some =
 whole_beside words before from (one ∷ next ∷ extents) to beside free h some = absurd beside
 
 module _ {A : Type 0} {regions : A → List Grant} {word : A → ℕ → ℕ} {heap : Dlmalloc A} (sound : IsSound regions word heap) {at size : ℕ}
-    (there : extent_at at (extents_in (state_of word heap)) ≡ Some (extent at size Used)) {from : ℕ} (from_is : from ≡ (if pinuse_of (word heap.system (at + 8)) then at else at - word heap.system at)) where
+    (there : extent_at at (extents_in (state_of word heap)) ≡ Some (extent at size Used)) {from : ℕ}
+    (from_is : from ≡ (if pinuse_of (word heap.system (at + 8)) then at else at - word heap.system at)) where
   abbrev words : ℕ → ℕ
   words = word heap.system
 
@@ -56,15 +60,15 @@ module _ {A : Type 0} {regions : A → List Grant} {word : A → ℕ → ℕ} {h
 
   pub left_free : from < at → IsFreeAt (state_of word heap) from (at - from)
   left_free some =
-      let one = run_one sound there in
-      let left = left_one sound there from_is in
+      let one = run_one sound there in let left = left_one sound there from_is in
       let here = whole_beside words Used from left.lefts at left.beside left.free left.lefts_stand some in
       let first : extent_at from one.first ≡ Some (extent from (at - from) Free) =
       ap (extent_at from) left.is ∙ (found_later from left.front left.lefts (none_outside words Used one.segment.base left.front from from (inr (omega arith)) left.front_stand) ∙ here) in
       among_all (regions heap.system) words sound.segments sound.apart one.front one.segment one.back one.is from
       (ap (extent_at from) one.extents ∙ found_more from one.first ((extent at size Used ∷ []) ++ one.last) first)
 
-  module _ {to : ℕ} (to_is : to ≡ (if at + size == heap.top then at + size else if free_of (word heap.system (at + size + 8)) then at + size + size_of (word heap.system (at + size + 8)) else at + size)) where
+  module _ {to : ℕ} (to_is : to ≡ (if at + size == heap.top then at + size else if free_of (word heap.system (at + size + 8)) then at + size + size_of
+      (word heap.system (at + size + 8)) else at + size)) where
     by_top : {b : Bool} → (at + size == heap.top) ≡ b → to ≡ (if b then at + size else end_of words (at + size))
     by_top {b} is = to_is ∙ ap (λ b. if b then at + size else end_of words (at + size)) is
 
@@ -72,7 +76,8 @@ module _ {A : Type 0} {regions : A → List Grant} {word : A → ℕ → ℕ} {h
     top_behind : at + size ≡ heap.top → 0 < heap.size → (n : ℕ) → IsFreeAt (state_of word heap) (at + size) n → ⊥
     top_behind is some n free =
         let top = top_among sound some in
-        let here : extent_at heap.top (extents_in (state_of word heap)) ≡ Some (extent (at + size) n Free) = subst (λ a. extent_at a (extents_in (state_of word heap)) ≡ Some (extent (at + size) n Free)) is free in
+        let here : extent_at heap.top (extents_in (state_of word heap)) ≡ Some
+        (extent (at + size) n Free) = subst (λ a. extent_at a (extents_in (state_of word heap)) ≡ Some (extent (at + size) n Free)) is free in
         (let no : Free ≡ Top = ap (λ e. e.kind) (the_extent (sym here ∙ top)) in cc)
 
     module _ (some : 0 < heap.size) (goes_on : at + size ≢ heap.top) where
@@ -85,14 +90,14 @@ module _ {A : Type 0} {regions : A → List Grant} {word : A → ℕ → ℕ} {h
           let test : (at == k) ≡ false = nat_isnt (inl (let long = r.run.here.1.size.1 in omega arith)) in
           among_all (regions heap.system) words sound.segments sound.apart r.run.front r.run.segment r.run.back r.run.is k {one = one}
           (ap (extent_at k) r.run.extents ∙ (found_later k r.run.first ((extent at size Used ∷ (r.rights ++ r.next ∷ [])) ++ r.run.last)
-          (none_outside words Used r.run.segment.base r.run.first at k (inr (omega arith)) r.run.first_stand) ∙ found_more k (extent at size Used ∷ (r.rights ++ r.next ∷ [])) r.run.last {extent = one} (rw test found)))
+          (none_outside words Used r.run.segment.base r.run.first at k (inr (omega arith)) r.run.first_stand)
+          ∙ found_more k (extent at size Used ∷ (r.rights ++ r.next ∷ [])) r.run.last {extent = one} (rw test found)))
 
       behind_free : at + size < to → IsFreeAt (state_of word heap) (at + size) (to - (at + size))
       behind_free more =
           let s = tiles_split words Used (at + size) r.rights (r.next ∷ []) (to + r.next.size) r.run.here.2 in
           let ends : s.middle ≡ to = sym s.second.0 ∙ r.place in
-          behind (at + size) (omega arith)
-          (found_more (at + size) r.rights (r.next ∷ [])
+          behind (at + size) (omega arith) (found_more (at + size) r.rights (r.next ∷ [])
           (whole_beside words Used (at + size) r.rights to r.beside r.free (subst (λ m. Tiles words Used (at + size) r.rights m) ends s.first) more))
 
       behind_none : to ≤ at + size → (n : ℕ) → IsFreeAt (state_of word heap) (at + size) n → ⊥
@@ -149,7 +154,8 @@ module _ {A : Type 0} {regions : A → List Grant} {word : A → ℕ → ℕ} {h
         ]
 
     -- what is in no bin once they are joined is the joined one
-    pub accounted : 0 < heap.size → (new : Dlmalloc A) → FreeMoves (state_of word heap) (state_of word new) (from ∷ (at + size) ∷ []) (from ∷ []) → IsVictimAfter from to heap.victim new.victim →
+    pub accounted : 0 < heap.size → (new : Dlmalloc A) → FreeMoves (state_of word heap) (state_of word new) (from ∷ (at + size) ∷ []) (from ∷ []) →
+        IsVictimAfter from to heap.victim new.victim →
         AreAccounted (state_of word heap) (state_of word new) ((at + size) ∷ from ∷ []) (from ∷ []) (from ∷ (at + size) ∷ []) (from ∷ [])
     accounted some new moves victim = record {
       gone = λ k is n free other. turn k is;

@@ -27,7 +27,8 @@ pub record IsFree {A : Type 0} (regions : A → List Grant) (word : A → ℕ �
   pub free : FreeMoves (state_of word old) (state_of word new) (from ∷ (at + size) ∷ []) (from ∷ [])
   pub joined : IsJoint (state_of word new) new.top from (to - from)
 
-pub begins_whole : (words : ℕ → ℕ) (before : Kind) (from : ℕ) (front : List Extent) (extent : Extent) (back : List Extent) (to : ℕ) → Tiles words before from (front ++ extent ∷ back) to → from % 16 ≡ 0
+pub begins_whole : (words : ℕ → ℕ) (before : Kind) (from : ℕ) (front : List Extent) (extent : Extent) (back : List Extent) (to : ℕ) →
+    Tiles words before from (front ++ extent ∷ back) to → from % 16 ≡ 0
 begins_whole words before from [] extent back to h = let place = h.0 in let whole = h.1.whole in omega arith
 begins_whole words before from (first ∷ front) extent back to h = let place = h.0 in let whole = h.1.whole in omega arith
 
@@ -52,15 +53,16 @@ module _ {A : Type 0} {regions : A → List Grant} {word : A → ℕ → ℕ} {h
   abbrev pub run_one : IsRunOf words segments at (at + size) (chunk ∷ [])
   run_one = run_of (regions heap.system) words segments sound.segments there
 
-  module _ (no_top : (next_one (regions heap.system) sound.segments run_one).next.kind ≢ Top) {from : ℕ} (from_is : from ≡ (if pinuse_of (words (at + 8)) then at else at - words at))
-      {to : ℕ} (to_is : to ≡ end_of words (at + size)) where
+  module _ (no_top : (next_one (regions heap.system) sound.segments run_one).next.kind ≢ Top) {from : ℕ}
+      (from_is : from ≡ (if pinuse_of (words (at + 8)) then at else at - words at)) {to : ℕ} (to_is : to ≡ end_of words (at + size)) where
     pub right : Right words segments at size to
     right = subst (λ t. Right words segments at size t) (sym to_is) (right_of (regions heap.system) sound.segments run_one no_top)
 
     pub left : Left words right.run.segment.base right.run.first at from
     left =
         let whole : size % 8 ≡ 0 = (let w = right.run.here.1.size.0 in omega arith) in
-        let told : pinuse_of (words (at + 8)) ≡ is_used (last_kind Used right.run.first) = ap pinuse_of right.run.here.1.head ∙ pinuse_of-head_of size (is_used (last_kind Used right.run.first)) true whole in
+        let told : pinuse_of (words (at + 8)) ≡ is_used (last_kind Used right.run.first) = ap pinuse_of right.run.here.1.head
+        ∙ pinuse_of-head_of size (is_used (last_kind Used right.run.first)) true whole in
         subst (λ f. Left words right.run.segment.base right.run.first at f) (ap (λ b. if b then at else at - words at) (sym told) ∙ sym from_is)
         (left_of words right.run.segment.base right.run.first at right.run.first_stand right.run.here.1.kind)
 
@@ -102,7 +104,8 @@ module _ {A : Type 0} {regions : A → List Grant} {word : A → ℕ → ℕ} {h
     high = tiles_le words (last_kind (last_kind Used run.first) less) end run.last (run.segment.base + run.segment.size) run.last_stand
 
     pub word_there : (k : ℕ) → from ≤ k → k < end → k % 8 ≡ 0 → IsWordOf (regions heap.system) k
-    word_there k above below m = run_word (regions heap.system) sound.segments run k (omega (arith, tiles_le words Used run.segment.base run.first from run.first_stand)) (omega (arith, high)) m
+    word_there k above below m = run_word (regions heap.system) sound.segments run k
+        (omega (arith, tiles_le words Used run.segment.base run.first from run.first_stand)) (omega (arith, high)) m
 
     last_less : last_kind (last_kind Used run.first) less ≡ next.kind
     last_less = last_append (last_kind Used run.first) left.lefts (chunk ∷ (right.rights ++ next ∷ [])) ∙ last_append Used right.rights (next ∷ [])
@@ -137,7 +140,8 @@ module _ {A : Type 0} {regions : A → List Grant} {word : A → ℕ → ℕ} {h
     tails : (k : ℕ) {tail : Extent} → extent_at k less ≡ Some tail → (tail.kind ≡ Record → extent_at k more ≡ Some tail) × (tail.kind ≡ Top → extent_at k more ≡ Some tail)
     tails k {tail} found = go (in_run k tail found)
       where
-        go : ((tail.kind ≡ Free) ⊎ (tail.kind ≡ Used)) ⊎ (extent_at k more ≡ Some tail) → (tail.kind ≡ Record → extent_at k more ≡ Some tail) × (tail.kind ≡ Top → extent_at k more ≡ Some tail)
+        go : ((tail.kind ≡ Free) ⊎ (tail.kind ≡ Used)) ⊎ (extent_at k more ≡ Some tail) →
+            (tail.kind ≡ Record → extent_at k more ≡ Some tail) × (tail.kind ≡ Top → extent_at k more ≡ Some tail)
         go (inl (inl free)) = ((λ is. absurd (let no : Free ≡ Record = sym free ∙ is in cc)), (λ is. absurd (let no : Free ≡ Top = sym free ∙ is in cc)))
         go (inl (inr used)) = ((λ is. absurd (let no : Used ≡ Record = sym used ∙ is in cc)), (λ is. absurd (let no : Used ≡ Top = sym used ∙ is in cc)))
         go (inr still) = ((λ is. still), (λ is. still))
@@ -177,9 +181,8 @@ module _ {A : Type 0} {regions : A → List Grant} {word : A → ℕ → ℕ} {h
     next_there =
         let first : (from == to) ≡ false = nat_isnt (inl (omega (arith, room))) in
         let second : (next.at == to) ≡ true = (let p = right.place in grind (arith, nat_tests)) in
-        ap (extent_at to) run.extents
-        ∙ (found_later to run.first (less ++ run.last) (none_outside words Used run.segment.base run.first from to (inr (omega (arith, room))) run.first_stand)
-        ∙ found_more to less run.last {extent = next} (beyond to (inr (omega arith)) ∙ rw (first, second) refl))
+        ap (extent_at to) run.extents ∙ (found_later to run.first (less ++ run.last) (none_outside words Used run.segment.base run.first from to (inr
+        (omega (arith, room))) run.first_stand) ∙ found_more to less run.last {extent = next} (beyond to (inr (omega arith)) ∙ rw (first, second) refl))
 
     -- so it does not end at the top
     pub below_top : to ≢ heap.top
@@ -251,12 +254,13 @@ module _ {A : Type 0} {regions : A → List Grant} {word : A → ℕ → ℕ} {h
     -- ---- the words are stored
 
     module _ (system : A) (same : regions system ≡ regions heap.system)
-        (stored : AreStored (regions heap.system) words ((from + (to - from) + 8, without_pinuse (words (from + (to - from) + 8))) ∷ (from + 8, head_of (to - from) true false) ∷ (from + (to - from), to - from) ∷ []) (word system)) where
+        (stored : AreStored (regions heap.system) words ((from + (to - from) + 8, without_pinuse (words (from + (to - from) + 8)))
+        ∷ (from + 8, head_of (to - from) true false) ∷ (from + (to - from), to - from) ∷ []) (word system)) where
       move : IsMove (regions heap.system) words (word system) (last_kind Used run.first) from end end less more
       move =
-          subst (λ k. IsMove (regions heap.system) words (word system) k from end end less more) (sym left.used)
-          (join (regions heap.system) words (word system) from less from_whole to next to_whole room right.place right.stands right.kind (subst (λ k. Tiles words k from less end) left.used run.here) stored
-          (λ k above below m. word_there k (omega (arith, right.place, room)) (omega (arith, right.place)) m))
+          subst (λ k. IsMove (regions heap.system) words (word system) k from end end less more) (sym left.used) (join (regions heap.system) words
+          (word system) from less from_whole to next to_whole room right.place right.stands right.kind (subst (λ k. Tiles words k from less end) left.used
+          run.here) stored (λ k above below m. word_there k (omega (arith, right.place, room)) (omega (arith, right.place)) m))
 
       abbrev after : ℕ → ℕ → Dlmalloc A
       after victim victim_size = record heap { system = system; victim = victim; victim_size = victim_size }
@@ -269,8 +273,8 @@ module _ {A : Type 0} {regions : A → List Grant} {word : A → ℕ → ℕ} {h
       state_segments =
           let is : extent from (next.at - from) (joint_kind right.rights) ≡ joint = same_extent refl (ap (λ a. a - from) right.place) right.joint in
           freed_run (regions heap.system) (word system) sound.segments sound.apart at size left.lefts right.rights next left.beside right.beside not_free run
-          (subst (λ e. Tiles (word system) Used run.segment.base (run.first ++ (e ∷ next ∷ run.last)) (run.segment.base + run.segment.size)) (sym is) (step 0 0).changed.now.extents)
-          ∙ ap (λ e. run.front ++ with_extents run.segment (run.first ++ (e ∷ next ∷ run.last)) ∷ run.back) is
+          (subst (λ e. Tiles (word system) Used run.segment.base (run.first ++ (e ∷ next ∷ run.last)) (run.segment.base + run.segment.size)) (sym is)
+          (step 0 0).changed.now.extents) ∙ ap (λ e. run.front ++ with_extents run.segment (run.first ++ (e ∷ next ∷ run.last)) ∷ run.back) is
 
       abbrev Freed : ℕ → ℕ → Type 0
       Freed victim victim_size = IsFree regions word heap at size from to (after victim victim_size)
@@ -283,8 +287,9 @@ module _ {A : Type 0} {regions : A → List Grant} {word : A → ℕ → ℕ} {h
           (λ k is. elim is [ inl same ↦ inl (inl same) | inr later ↦ elim later [ inl same ↦ inr (subst (λ a. IsThere a less) (sym same) right_there) | inr none ↦ absurd none ] ])
           (λ k is. elim is [ inl same ↦ inl (inl same) | inr none ↦ absurd none ])
 
-      done : (victim victim_size : ℕ) → (victim_size ≢ 0 → extent_at victim (extents_in (state_of word (after victim victim_size))) ≡ Some (extent victim victim_size Free)) → (victim_size ≡ 0 → victim ≡ 0) →
-          victim ≡ victim_in heap.victim (extents_in (state_of word (after victim victim_size))) → Freed victim victim_size
+      done : (victim victim_size : ℕ) → (victim_size ≢ 0 →
+          extent_at victim (extents_in (state_of word (after victim victim_size))) ≡ Some (extent victim victim_size Free)) → (victim_size ≡ 0 →
+          victim ≡ 0) → victim ≡ victim_in heap.victim (extents_in (state_of word (after victim victim_size))) → Freed victim victim_size
       done victim victim_size named none left =
           let segments_are = read sound (step victim victim_size) ∙ sym state_segments in
           let whole : victim ≡ victim_in heap.victim (extents_all (in_segments (freed_in at) segments)) = left ∙ ap (λ ss. victim_in heap.victim (extents_all ss)) segments_are in
@@ -299,7 +304,8 @@ module _ {A : Type 0} {regions : A → List Grant} {word : A → ℕ → ℕ} {h
               λ is.
                   let top = found_again sound (step victim victim_size) heap.top (λ found. (tails heap.top found).1 refl)
                   (top_among sound (some_there sound (step victim victim_size))) in
-                  let here : extent_at heap.top (extents_in (state_of word (after victim victim_size))) ≡ Some joint = subst (λ a. extent_at a (extents_in (state_of word (after victim victim_size))) ≡ Some joint) is (joint_there victim victim_size) in
+                  let here : extent_at heap.top (extents_in (state_of word (after victim victim_size))) ≡ Some joint = subst (λ a. extent_at a
+                  (extents_in (state_of word (after victim victim_size))) ≡ Some joint) is (joint_there victim victim_size) in
                   (let no : Free ≡ Top = ap (λ e. e.kind) (the_extent (sym here ∙ top)) in cc),
               joint_there victim victim_size,
             );
@@ -307,14 +313,15 @@ module _ {A : Type 0} {regions : A → List Grant} {word : A → ℕ → ℕ} {h
 
       -- the victim was one of those that are joined
       pub as_victim : from ≤ heap.victim → heap.victim < to → Freed from (to - from)
-      as_victim reached within = done from (to - from) (λ some. joint_there from (to - from)) (λ none. absurd (omega (arith, room)))
-          (sym (ap (λ o. unwrap_or (option_map (λ e. e.at) o) 0)
-          (has_in (regions system) (word system) (segments_of word (after from (to - from))) (segments_now sound (step from (to - from))) (apart_now sound (step from (to - from))) heap.victim (joint_there from (to - from)) refl reached (omega (arith, room)))))
+      as_victim reached within = done from (to - from) (λ some. joint_there from (to - from)) (λ none. absurd (omega (arith, room))) (sym (ap (λ o. unwrap_or
+          (option_map (λ e. e.at) o) 0) (has_in (regions system) (word system) (segments_of word (after from (to - from))) (segments_now sound
+          (step from (to - from))) (apart_now sound (step from (to - from))) heap.victim (joint_there from (to - from)) refl reached (omega (arith, room)))))
 
       -- it stays
       pub as_other : (heap.victim < from) ⊎ (to ≤ heap.victim) → Freed heap.victim heap.victim_size
-      as_other out = done heap.victim heap.victim_size named sound.no_victim
-          (victim_same (regions system) (word system) (segments_of word (after heap.victim heap.victim_size)) (segments_now sound (step heap.victim heap.victim_size)) (apart_now sound (step heap.victim heap.victim_size)) heap.victim heap.victim_size named sound.no_victim)
+      as_other out = done heap.victim heap.victim_size named sound.no_victim (victim_same (regions system) (word system)
+          (segments_of word (after heap.victim heap.victim_size)) (segments_now sound (step heap.victim heap.victim_size))
+          (apart_now sound (step heap.victim heap.victim_size)) heap.victim heap.victim_size named sound.no_victim)
         where
           named : heap.victim_size ≢ 0 → extent_at heap.victim (extents_in (state_of word (after heap.victim heap.victim_size))) ≡ Some (extent heap.victim heap.victim_size Free)
           named some = found_again sound (step heap.victim heap.victim_size) heap.victim (λ found. sym (beyond heap.victim out) ∙ found) (sound.victim some)

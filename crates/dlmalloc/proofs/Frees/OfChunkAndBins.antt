@@ -14,8 +14,9 @@ IsFrom words at from = from ≡ (if pinuse_of (words (at + 8)) then at else at -
 abbrev pub IsTo : (ℕ → ℕ) → ℕ → ℕ → ℕ → Type 0
 IsTo words top at to = to ≡ (if at == top then at else if free_of (words (at + 8)) then at + size_of (words (at + 8)) else at)
 
-module _ {A : Type 0} {regions : A → List Grant} {word : A → ℕ → ℕ} (follows : A → List Event → A → Type 0) {heap : Dlmalloc A} (sound : IsSound regions word heap) {at size : ℕ}
-    (there : extent_at at (extents_in (state_of word heap)) ≡ Some (extent at size Used)) (from to : ℕ) (from_is : IsFrom (word heap.system) at from) (to_is : IsTo (word heap.system) heap.top (at + size) to) where
+module _ {A : Type 0} {regions : A → List Grant} {word : A → ℕ → ℕ} (follows : A → List Event → A → Type 0) {heap : Dlmalloc A}
+    (sound : IsSound regions word heap) {at size : ℕ} (there : extent_at at (extents_in (state_of word heap)) ≡ Some (extent at size Used)) (from to : ℕ)
+    (from_is : IsFrom (word heap.system) at from) (to_is : IsTo (word heap.system) heap.top (at + size) to) where
   pub some : 0 < heap.size
   some = some_size sound at there
 
@@ -34,8 +35,7 @@ module _ {A : Type 0} {regions : A → List Grant} {word : A → ℕ → ℕ} (f
   joined_other free = elim (dec_lt from at) [
     | yes before ↦
         let same = one_size (state_of word heap) free (left_free sound there from_is before) in
-        let long = used_long in
-        let end = to_above in
+        let long = used_long in let end = to_above in
         omega arith
     | no here ↦ left_none sound there from_is (omega arith) (to - from) free
   ]
@@ -78,8 +78,9 @@ module _ {A : Type 0} {regions : A → List Grant} {word : A → ℕ → ℕ} (f
     to_still = to_is ∙ (λ i. if at + size == (sym top_same) i then at + size else if free_of ((sym behind_same) i) then at + size + size_of ((sym behind_same) i) else at + size)
 
     -- they were joined to it
-    module _ (stays : IndexStays) (loose : IsBinnedBut ((at + size) ∷ from ∷ []) regions word middle) {joined : Dlmalloc A} (moved : IsMoved regions word follows middle joined)
-        (moves : FreeMoves (state_of word middle) (state_of word joined) (from ∷ (at + size) ∷ []) (from ∷ [])) (victim : IsVictimAfter from to middle.victim joined.victim) (bins : joined.bins ≡ middle.bins) where
+    module _ (stays : IndexStays) (loose : IsBinnedBut ((at + size) ∷ from ∷ []) regions word middle) {joined : Dlmalloc A}
+        (moved : IsMoved regions word follows middle joined) (moves : FreeMoves (state_of word middle) (state_of word joined) (from ∷ (at + size) ∷ [])
+        (from ∷ [])) (victim : IsVictimAfter from to middle.victim joined.victim) (bins : joined.bins ≡ middle.bins) where
       abbrev pub joined_loose : IsBinnedBut (from ∷ []) regions word joined
       joined_loose = binned_moved stays left.sound moved.sound (λ k was is boundary tag tag'. moved.words k was boundary) bins
           ((at + size) ∷ from ∷ []) (from ∷ []) (from ∷ (at + size) ∷ []) (from ∷ []) moves

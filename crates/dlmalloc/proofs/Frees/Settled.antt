@@ -14,20 +14,23 @@ use Rattle.dlmalloc.proofs.Frees.Counted.{top_told, counted_none}
 
 -- ---- the only one of some sort
 
-find_only : (is : Extent → Bool) (extents : List Extent) {one : Extent} → AreDistinct extents → extent_at one.at extents ≡ Some one → is one ≡ true →
-    ((other : Extent) → extent_at other.at extents ≡ Some other → is other ≡ true → other.at ≡ one.at) → find is extents ≡ Some one
+find_only : (is : Extent → Bool) (extents : List Extent) {one : Extent} → AreDistinct extents → extent_at one.at extents ≡ Some one → is one
+    ≡ true → ((other : Extent) → extent_at other.at extents ≡ Some other → is other ≡ true → other.at ≡ one.at) → find is extents ≡ Some one
 find_only is [] distinct there holds only = absurd (cc)
 find_only is (first ∷ extents) {one} distinct there holds only =
-    go (is first) refl (first.at == one.at) refl there (λ found. find_only is extents distinct.1 found holds (λ other found' test. only other (distinct_later (first ∷ []) extents other.at distinct found') test))
+    go (is first) refl (first.at == one.at) refl there (λ found. find_only is extents distinct.1 found holds
+    (λ other found' test. only other (distinct_later (first ∷ []) extents other.at distinct found') test))
   where
-    go : (a : Bool) → is first ≡ a → (b : Bool) → (first.at == one.at) ≡ b → (if b then Some first else extent_at one.at extents) ≡ Some one → (extent_at one.at extents ≡ Some one → find is extents ≡ Some one) →
-        (if a then Some first else find is extents) ≡ Some one
+    go : (a : Bool) → is first ≡ a → (b : Bool) → (first.at == one.at) ≡ b → (if b then Some first else extent_at one.at extents) ≡ Some one →
+        (extent_at one.at extents ≡ Some one → find is extents ≡ Some one) → (if a then Some first else find is extents) ≡ Some one
     go true test true same found rest = found
-    go true test false other found rest = absurd (let place = only first (found_here first extents) test in let no : (first.at == one.at) ≡ true = ap (λ n. n == one.at) place ∙ nat_same one.at in let both = sym no ∙ other in cc)
+    go true test false other found rest = absurd (let place = only first (found_here first extents) test in
+        let no : (first.at == one.at) ≡ true = ap (λ n. n == one.at) place ∙ nat_same one.at in let both = sym no ∙ other in cc)
     go false test true same found rest = absurd (let both = sym test ∙ (ap is (the_extent found) ∙ holds) in cc)
     go false test false other found rest = rest found
 
-find_none : (is : Extent → Bool) (extents : List Extent) → AreDistinct extents → ((other : Extent) → extent_at other.at extents ≡ Some other → is other ≡ true → ⊥) → find is extents ≡ None
+find_none : (is : Extent → Bool) (extents : List Extent) → AreDistinct extents →
+    ((other : Extent) → extent_at other.at extents ≡ Some other → is other ≡ true → ⊥) → find is extents ≡ None
 find_none is [] distinct none = refl
 find_none is (first ∷ extents) distinct none =
     go (is first) refl (find_none is extents distinct.1 (λ other found holds. none other (distinct_later (first ∷ []) extents other.at distinct found) holds))
@@ -55,7 +58,8 @@ top_with at one test = go one.kind refl test
     go Record is test = absurd (cc)
     go Foot is test = absurd (cc)
 
-module _ {A : Type 0} {regions : A → List Grant} {word : A → ℕ → ℕ} {heap : Dlmalloc A} (sound : IsSound regions word heap) {at from : ℕ} (around : IsFreeAround (state_of word heap) at from) where
+module _ {A : Type 0} {regions : A → List Grant} {word : A → ℕ → ℕ} {heap : Dlmalloc A} (sound : IsSound regions word heap) {at from : ℕ}
+    (around : IsFreeAround (state_of word heap) at from) where
   abbrev one : Extent
   one = around.extent
 
@@ -75,8 +79,8 @@ module _ {A : Type 0} {regions : A → List Grant} {word : A → ℕ → ℕ} {h
       (is_top sound l.front l.segment l.back l.is (l.there ∙ (λ i. Some (extent other.at other.size (is i))))).1
 
   pub above_top : from ≡ heap.top → is_above_check (state_of word heap) at ≡ nat_lt heap.trim_check heap.top_size
-  above_top is = ap (λ o. nat_lt heap.trim_check (unwrap_or (option_map (λ extent. extent.size) o) 0))
-      (find_only (is_top_with at) all apart (top_among sound (some_segment word heap one.at there)) holds (λ other found test. place_of found (top_with at other test).kind))
+  above_top is = ap (λ o. nat_lt heap.trim_check (unwrap_or (option_map (λ extent. extent.size) o) 0)) (find_only (is_top_with at) all apart
+      (top_among sound (some_segment word heap one.at there)) holds (λ other found test. place_of found (top_with at other test).kind))
     where
       same : one ≡ extent heap.top heap.top_size Top
       same = the_extent (sym there ∙ (ap (λ a. extent_at a all) (around.place ∙ is) ∙ (top_among sound (some_segment word heap one.at there))))
@@ -89,13 +93,12 @@ module _ {A : Type 0} {regions : A → List Grant} {word : A → ℕ → ℕ} {h
 
   pub above_none : from ≢ heap.top → is_above_check (state_of word heap) at ≡ false
   above_none differs = ap (λ o. nat_lt heap.trim_check (unwrap_or (option_map (λ extent. extent.size) o) 0))
-      (find_none (is_top_with at) all apart (λ other found test.
-      (let t = top_with at other test in let low = t.low in let high = t.high in
-      elim (beside (regions heap.system) (word heap.system) (segments_of word heap) sound.segments sound.apart there found (λ same. differs (sym around.place ∙ (same ∙ place_of found t.kind)))) [
+      (find_none (is_top_with at) all apart (λ other found test. (let t = top_with at other test in let low = t.low in let high = t.high in
+      elim (beside (regions heap.system) (word heap.system) (segments_of word heap) sound.segments sound.apart there found
+      (λ same. differs (sym around.place ∙ (same ∙ place_of found t.kind)))) [
         | inl before ↦ omega arith
         | inr behind ↦ omega arith
-      ])))
-      ∙ never heap.trim_check
+      ]))) ∙ never heap.trim_check
     where
       never : (n : ℕ) → nat_lt n 0 ≡ false
       never n = grind (arith, nat_tests)
@@ -107,13 +110,15 @@ module _ {A : Type 0} {regions : A → List Grant} {word : A → ℕ → ℕ} {h
       go : (b : Bool) → (from == heap.top) ≡ b → (from ≡ heap.top) × (at < heap.top + heap.top_size)
       go true is =
           let place : from ≡ heap.top = nat_is is in
-          let size : one.size ≡ heap.top_size = ap (λ e. e.size) (the_extent (sym there ∙ (ap (λ a. extent_at a all) (around.place ∙ place) ∙ (top_among sound (some_segment word heap one.at there))))) in
+          let size : one.size ≡ heap.top_size = ap (λ e. e.size)
+          (the_extent (sym there ∙ (ap (λ a. extent_at a all) (around.place ∙ place) ∙ (top_among sound (some_segment word heap one.at there))))) in
           (place, omega arith)
       go false isnt = absurd (let under = above_none (λ same. (let is : (from == heap.top) ≡ true = ap (λ n. n == heap.top) same ∙ nat_same heap.top in cc)) in cc)
 
 -- ---- so it is settled
 
-module _ {A : Type 0} (regions : A → List Grant) (word : A → ℕ → ℕ) (follows : A → List Event → A → Type 0) (frees parts : Bool) (unit : ℕ) (old : Dlmalloc A) (at : ℕ) (new : Dlmalloc A) where
+module _ {A : Type 0} (regions : A → List Grant) (word : A → ℕ → ℕ) (follows : A → List Event → A → Type 0) (frees parts : Bool) (unit : ℕ)
+    (old : Dlmalloc A) (at : ℕ) (new : Dlmalloc A) where
   pub settled_counted : is_above_check (state_of word old) at ≡ false → IsCounted regions word follows frees parts old at new → IsSettled regions word follows frees parts unit old at new
   settled_counted none c = record {
     state = c.state ∙ sym (ap (λ b. if b then trimmed frees parts unit 0 (state_of word old) else counted frees parts (state_of word old) at) none);
@@ -122,12 +127,14 @@ module _ {A : Type 0} (regions : A → List Grant) (word : A → ℕ → ℕ) (f
     kept = c.kept;
     words = λ k inside free own out. c.words k inside free out;
     index = λ b. (let a = c.index b in (a.0, λ n. a.1 n ∙ sym (ap (λ t. (if t then after_trim frees parts 0 (state_of word old) b.index else after_count frees parts (state_of word old) at b.index) n) none)));
-    regions_are = c.regions_are ∙ sym (ap (λ b. if b then regions_trimmed frees parts unit 0 (state_of word old) (regions old.system) else regions_without (left_by_count frees parts (state_of word old) at) (regions old.system)) none);
-    followed = subst (λ events. follows old.system events new.system)
-        (sym (ap (λ b. if b then trim_releases frees parts unit 0 (state_of word old) else releases (left_by_count frees parts (state_of word old) at)) none)) c.followed;
+    regions_are = c.regions_are ∙ sym (ap (λ b. if b then regions_trimmed frees parts unit 0 (state_of word old) (regions old.system) else regions_without
+        (left_by_count frees parts (state_of word old) at) (regions old.system)) none);
+    followed = subst (λ events. follows old.system events new.system) (sym (ap (λ b. if b then trim_releases frees parts unit 0
+        (state_of word old) else releases (left_by_count frees parts (state_of word old) at)) none)) c.followed;
   }
 
-  pub settled_trimmed : is_above_check (state_of word old) at ≡ true → {answer : Bool} → IsTrimmed regions word follows frees parts unit old 0 answer new → IsSettled regions word follows frees parts unit old at new
+  pub settled_trimmed : is_above_check (state_of word old) at ≡ true → {answer : Bool} →
+      IsTrimmed regions word follows frees parts unit old 0 answer new → IsSettled regions word follows frees parts unit old at new
   settled_trimmed above t = record {
     state = t.state ∙ sym (ap (λ b. if b then trimmed frees parts unit 0 (state_of word old) else counted frees parts (state_of word old) at) above);
     sound = t.sound;
@@ -135,19 +142,22 @@ module _ {A : Type 0} (regions : A → List Grant) (word : A → ℕ → ℕ) (f
     kept = t.kept;
     words = t.words;
     index = λ b. (let a = t.index b in (a.0, λ n. a.1 n ∙ sym (ap (λ t. (if t then after_trim frees parts 0 (state_of word old) b.index else after_count frees parts (state_of word old) at b.index) n) above)));
-    regions_are = t.regions_are ∙ sym (ap (λ b. if b then regions_trimmed frees parts unit 0 (state_of word old) (regions old.system) else regions_without (left_by_count frees parts (state_of word old) at) (regions old.system)) above);
-    followed = subst (λ events. follows old.system events new.system)
-        (sym (ap (λ b. if b then trim_releases frees parts unit 0 (state_of word old) else releases (left_by_count frees parts (state_of word old) at)) above)) t.followed;
+    regions_are = t.regions_are ∙ sym (ap (λ b. if b then regions_trimmed frees parts unit 0 (state_of word old) (regions old.system) else regions_without
+        (left_by_count frees parts (state_of word old) at) (regions old.system)) above);
+    followed = subst (λ events. follows old.system events new.system) (sym (ap (λ b. if b then trim_releases frees parts unit 0
+        (state_of word old) else releases (left_by_count frees parts (state_of word old) at)) above)) t.followed;
   }
 
 -- where the chunk became part of the top
-pub settled_top : {A : Type 0} {regions : A → List Grant} {word : A → ℕ → ℕ} (follows : A → List Event → A → Type 0) (follows_none : (x : A) → follows x [] x) (frees parts : Bool) (unit : ℕ) {old : Dlmalloc A} (sound : IsSound regions word old)
-    (at : ℕ) {from : ℕ} (around : IsFreeAround (state_of word old) at from) (is : from ≡ old.top) (new : Dlmalloc A) →
-    (old.trim_check < old.top_size → (answer : Bool) × IsTrimmed regions word follows frees parts unit old 0 answer new) → (old.top_size ≤ old.trim_check → new ≡ old) → IsSettled regions word follows frees parts unit old at new
+pub settled_top : {A : Type 0} {regions : A → List Grant} {word : A → ℕ → ℕ} (follows : A → List Event → A → Type 0) (follows_none : (x : A) →
+    follows x [] x) (frees parts : Bool) (unit : ℕ) {old : Dlmalloc A} (sound : IsSound regions word old) (at : ℕ) {from : ℕ}
+    (around : IsFreeAround (state_of word old) at from) (is : from ≡ old.top) (new : Dlmalloc A) →
+    (old.trim_check < old.top_size → (answer : Bool) × IsTrimmed regions word follows frees parts unit old 0 answer new) →
+    (old.top_size ≤ old.trim_check → new ≡ old) → IsSettled regions word follows frees parts unit old at new
 settled_top {A} {regions} {word} follows follows_none frees parts unit {old} sound at around is new above same = elim (dec_lt old.trim_check old.top_size) [
   | yes more ↦ (let t = above more in settled_trimmed regions word follows frees parts unit old at new (test_is ∙ over more) t.1)
-  | no less ↦ subst (λ heap. IsSettled regions word follows frees parts unit old at heap) (sym (same (omega arith)))
-      (settled_counted regions word follows frees parts unit old at old (test_is ∙ under less) (counted_none follows follows_none frees parts sound at (sym (top_told sound around is))))
+  | no less ↦ subst (λ heap. IsSettled regions word follows frees parts unit old at heap) (sym (same (omega arith))) (settled_counted regions word follows
+      frees parts unit old at old (test_is ∙ under less) (counted_none follows follows_none frees parts sound at (sym (top_told sound around is))))
 ]
   where
     test_is : is_above_check (state_of word old) at ≡ nat_lt old.trim_check old.top_size

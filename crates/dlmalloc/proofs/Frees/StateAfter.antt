@@ -40,14 +40,14 @@ merged_same words kind from [] to h = refl
 merged_same words kind from (extent ∷ []) to h = refl
 merged_same words kind from (extent ∷ next ∷ extents) to h =
     let apart = touch extent.kind next.kind h.2.1.kind in
-    ap (before extent) (merged_same words extent.kind (from + extent.size) (next ∷ extents) to h.2)
-    ∙ rw apart refl
+    ap (before extent) (merged_same words extent.kind (from + extent.size) (next ∷ extents) to h.2) ∙ rw apart refl
 
 merged_behind : (front one other : List Extent) → merged one ≡ merged other → merged (front ++ one) ≡ merged (front ++ other)
 merged_behind [] one other is = is
 merged_behind (extent ∷ front) one other is = ap (before extent) (merged_behind front one other is)
 
-pub set_free_none : (words : ℕ → ℕ) (before : Kind) (from : ℕ) (extents : List Extent) (to at : ℕ) → (at < from) ⊎ (to ≤ at) → Tiles words before from extents to → map (set_free at) extents ≡ extents
+pub set_free_none : (words : ℕ → ℕ) (before : Kind) (from : ℕ) (extents : List Extent) (to at : ℕ) →
+    (at < from) ⊎ (to ≤ at) → Tiles words before from extents to → map (set_free at) extents ≡ extents
 set_free_none words before from [] to at out h = refl
 set_free_none words before from (extent ∷ extents) to at out h =
     let long = (sized extent.kind extent.size h.1.size).1 in
@@ -78,20 +78,22 @@ module _ (words : ℕ → ℕ) (kind : Kind) (at size : ℕ) (next : Extent) (re
       (merged (freed ∷ (rights ++ next ∷ rest)) ≡ extent at (next.at - at) (joint_kind rights) ∷ next ∷ rest) × (is_free (joint_kind rights) ≡ true) × (at + size ≤ next.at)
   joined_behind [] beside h =
       let place = h.0 in (
-        ap (before freed) (merged_same words kind (at + size) (next ∷ rest) end h) ∙ before_next_used freed next rest used ∙ ap (λ e. e ∷ next ∷ rest) (same_extent refl (omega arith) refl),
+        ap (before freed) (merged_same words kind (at + size) (next ∷ rest) end h) ∙ before_next_used freed next rest used
+            ∙ ap (λ e. e ∷ next ∷ rest) (same_extent refl (omega arith) refl),
         refl,
         omega arith,
       )
   joined_behind (q ∷ []) beside h =
       let first = h.0 in let place = h.2.0 in (
-        ap (λ l. before freed (before q l)) (merged_same words q.kind (at + size + q.size) (next ∷ rest) end h.2)
-            ∙ (ap (before freed) (before_next_used q next rest used) ∙ (before_free freed q (next ∷ rest) refl beside ∙ ap (λ e. e ∷ next ∷ rest) (same_extent refl (omega arith) refl))),
+        ap (λ l. before freed (before q l)) (merged_same words q.kind (at + size + q.size) (next ∷ rest) end h.2) ∙ (ap (before freed) (before_next_used q
+            next rest used) ∙ (before_free freed q (next ∷ rest) refl beside ∙ ap (λ e. e ∷ next ∷ rest) (same_extent refl (omega arith) refl))),
         beside,
         omega arith,
       )
   joined_behind (q ∷ r ∷ more) beside h = absurd beside
 
-  pub joined : (lefts rights : List Extent) → IsBeside lefts → IsBeside rights → (from : ℕ) (before : Kind) → Tiles words before from lefts at → Tiles words kind (at + size) (rights ++ next ∷ rest) end →
+  pub joined : (lefts rights : List Extent) → IsBeside lefts → IsBeside rights →
+      (from : ℕ) (before : Kind) → Tiles words before from lefts at → Tiles words kind (at + size) (rights ++ next ∷ rest) end →
       merged (lefts ++ freed ∷ (rights ++ next ∷ rest)) ≡ extent from (next.at - from) (joint_kind rights) ∷ next ∷ rest
   joined [] rights left right from before h k =
       (joined_behind rights right k).0 ∙ ap (λ e. e ∷ next ∷ rest) (same_extent (sym h) (ap (λ a. next.at - a) (sym h)) refl)
@@ -103,18 +105,19 @@ module _ (words : ℕ → ℕ) (kind : Kind) (at size : ℕ) (next : Extent) (re
 
 -- ---- the state
 
-pub freed_run : (regions : List Grant) {words : ℕ → ℕ} (words' : ℕ → ℕ) {segments : List Segment} → AreSegments regions words segments → AreApart segments → (at size : ℕ) {from to : ℕ} (lefts rights : List Extent) (next : Extent) →
-    IsBeside lefts → IsBeside rights → is_free next.kind ≡ false →
-    (run : IsRunOf words segments from to (lefts ++ extent at size Used ∷ (rights ++ next ∷ []))) →
-    Tiles words' Used run.segment.base (run.first ++ (extent from (next.at - from) (joint_kind rights) ∷ next ∷ run.last)) (run.segment.base + run.segment.size) →
-    in_segments (freed_in at) segments ≡ run.front ++ with_extents run.segment (run.first ++ (extent from (next.at - from) (joint_kind rights) ∷ next ∷ run.last)) ∷ run.back
+pub freed_run : (regions : List Grant) {words : ℕ → ℕ} (words' : ℕ → ℕ) {segments : List Segment} → AreSegments regions words segments →
+    AreApart segments →
+    (at size : ℕ) {from to : ℕ} (lefts rights : List Extent) (next : Extent) → IsBeside lefts → IsBeside rights → is_free next.kind ≡ false →
+    (run : IsRunOf words segments from to (lefts ++ extent at size Used ∷ (rights ++ next ∷ []))) → Tiles words' Used run.segment.base
+    (run.first ++ (extent from (next.at - from) (joint_kind rights) ∷ next ∷ run.last)) (run.segment.base + run.segment.size) → in_segments (freed_in at)
+    segments ≡ run.front ++ with_extents run.segment (run.first ++ (extent from (next.at - from) (joint_kind rights) ∷ next ∷ run.last)) ∷ run.back
 freed_run regions {words} words' parts apart at size {from} {to} lefts rights next left right used run now =
-    ap (in_segments (freed_in at)) run.is
-    ∙ in_one regions words (freed_in at) run.front run.segment run.back (subst (AreSegments regions words) run.is parts) (subst AreApart run.is apart)
-    (λ other part beyond. ap merged (set_free_none words Used other.base other.extents (other.base + other.size) at (out other beyond) part.extents) ∙ merged_same words Used other.base other.extents (other.base + other.size) part.extents)
-    (ap (freed_in at) run.extents ∙ (ap merged marked
-    ∙ (merged_behind run.first (lefts ++ extent at size Free ∷ (rights ++ next ∷ run.last)) after
-    (joined words Used at size next run.last (run.segment.base + run.segment.size) used lefts rights left right from (last_kind Used run.first) lefts_stand behind_stand ∙ sym (merged_same words' (last_kind Used run.first) middle after (run.segment.base + run.segment.size) now_split.second))
+    ap (in_segments (freed_in at)) run.is ∙ in_one regions words (freed_in at) run.front run.segment run.back (subst (AreSegments regions words) run.is parts)
+    (subst AreApart run.is apart) (λ other part beyond. ap merged (set_free_none words Used other.base other.extents (other.base + other.size) at
+    (out other beyond) part.extents) ∙ merged_same words Used other.base other.extents (other.base + other.size) part.extents)
+    (ap (freed_in at) run.extents ∙ (ap merged marked ∙ (merged_behind run.first (lefts ++ extent at size Free ∷ (rights ++ next ∷ run.last)) after
+    (joined words Used at size next run.last (run.segment.base + run.segment.size) used lefts rights left right from (last_kind Used run.first) lefts_stand
+    behind_stand ∙ sym (merged_same words' (last_kind Used run.first) middle after (run.segment.base + run.segment.size) now_split.second))
     ∙ merged_same words' Used run.segment.base (run.first ++ after) (run.segment.base + run.segment.size) now)))
   where
     after : List Extent
@@ -162,15 +165,16 @@ freed_run regions {words} words' parts apart at size {from} {to} lefts rights ne
     marked_chunk : set_free at (extent at size Used) ≡ extent at size Free
     marked_chunk = rw here refl
 
-    marked : map (set_free at) (run.first ++ ((lefts ++ extent at size Used ∷ (rights ++ next ∷ [])) ++ run.last)) ≡ run.first ++ (lefts ++ extent at size Free ∷ (rights ++ next ∷ run.last))
+    marked : map (set_free at) (run.first ++ ((lefts ++ extent at size Used ∷ (rights ++ next ∷ [])) ++ run.last)) ≡ run.first ++ (lefts ++ extent at size
+        Free ∷ (rights ++ next ∷ run.last))
     marked =
         let one = set_free_none words Used run.segment.base run.first from at (inr reach) run.first_stand in
         let two = set_free_none words (last_kind Used run.first) from lefts at at (inr (omega arith)) lefts_stand in
         let three = set_free_none words Used (at + size) (rights ++ next ∷ run.last) (run.segment.base + run.segment.size) at (inl (omega (arith, some))) behind_stand in
-        ap (λ l. map (set_free at) (run.first ++ l))
-        (append_assoc lefts (extent at size Used ∷ (rights ++ next ∷ [])) run.last ∙ ap (λ l. lefts ++ extent at size Used ∷ l) (append_assoc rights (next ∷ []) run.last))
-        ∙ (map-append (set_free at) run.first (lefts ++ extent at size Used ∷ (rights ++ next ∷ run.last))
-        ∙ (λ i. one i ++ (map-append (set_free at) lefts (extent at size Used ∷ (rights ++ next ∷ run.last)) ∙ (λ j. two j ++ (marked_chunk j ∷ three j))) i))
+        ap (λ l. map (set_free at) (run.first ++ l)) (append_assoc lefts (extent at size Used ∷ (rights ++ next ∷ [])) run.last
+        ∙ ap (λ l. lefts ++ extent at size Used ∷ l) (append_assoc rights (next ∷ []) run.last))
+        ∙ (map-append (set_free at) run.first (lefts ++ extent at size Used ∷ (rights ++ next ∷ run.last)) ∙ (λ i. one
+        i ++ (map-append (set_free at) lefts (extent at size Used ∷ (rights ++ next ∷ run.last)) ∙ (λ j. two j ++ (marked_chunk j ∷ three j))) i))
 
     out : (other : Segment) → (IsApartFrom other run.segment) ⊎ (IsApartFrom run.segment other) → (at < other.base) ⊎ (other.base + other.size ≤ at)
     out other (inl (inl a)) = let l = low in let r = reach in inr (omega arith)

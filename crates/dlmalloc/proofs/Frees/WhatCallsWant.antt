@@ -64,8 +64,8 @@ module _ {A : Type 0} {regions : A → List Grant} {word : A → ℕ → ℕ} {h
   next_found : extent_at (at + size) one.segment.extents ≡ Some next.next
   next_found =
       ap (extent_at (at + size)) (one.extents ∙ ap (λ l. one.first ++ ((extent at size Used) ∷ l)) next.is)
-      ∙ (found_later (at + size) one.first ((extent at size Used) ∷ next.next ∷ next.rest) (none_outside words Used one.segment.base one.first at (at + size) (inr (omega arith)) one.first_stand)
-      ∙ (let first : (at == at + size) ≡ false = nat_isnt (inl (let s = one.some in omega arith)) in
+      ∙ (found_later (at + size) one.first ((extent at size Used) ∷ next.next ∷ next.rest) (none_outside words Used one.segment.base one.first at
+      (at + size) (inr (omega arith)) one.first_stand) ∙ (let first : (at == at + size) ≡ false = nat_isnt (inl (let s = one.some in omega arith)) in
       let second : (next.next.at == at + size) ≡ true = (let p = stand.0 in grind (arith, nat_tests)) in
       rw (first, second) refl))
 
@@ -73,8 +73,7 @@ module _ {A : Type 0} {regions : A → List Grant} {word : A → ℕ → ℕ} {h
   next_top is = the_top sound one.front one.segment one.back one.is (ap (λ k. extent_at k one.segment.extents) stand.0 ∙ next_found) (stand.0 ∙ is)
 
   pub no_top : at + size ≢ heap.top → next.next.kind ≢ Top
-  no_top isnt kind = isnt (is_top sound one.front one.segment one.back one.is
-      (next_found ∙ (λ i. Some (extent (stand.0 i) next.next.size (kind i))))).1
+  no_top isnt kind = isnt (is_top sound one.front one.segment one.back one.is (next_found ∙ (λ i. Some (extent (stand.0 i) next.next.size (kind i))))).1
 
   -- a free chunk behind it ends below 2 ^ 64
   pub end_below : at + size ≢ heap.top → free_of (words (at + size + 8)) ≡ true → at + size + size_of (words (at + size + 8)) < 2 ^ 64
@@ -112,7 +111,8 @@ module _ {A : Type 0} {regions : A → List Grant} {word : A → ℕ → ℕ} {h
     pub from_there : HasHead (regions heap.system) from
     from_there = record { aligned = omega (arith, from_whole); small = omega (arith, from_at, behind_small, head_room, high); granted = granted (from + 8) (omega (arith, from_low)) (omega (arith, from_at)) (omega (arith, from_whole)) }
 
-    module _ {to : ℕ} (to_is : to ≡ (if at + size == heap.top then at + size else if free_of (words (at + size + 8)) then at + size + size_of (words (at + size + 8)) else at + size)) where
+    module _ {to : ℕ} (to_is : to ≡ (if at + size == heap.top then at + size else if free_of (words (at + size + 8)) then at + size + size_of
+        (words (at + size + 8)) else at + size)) where
       by_top : (b : Bool) → (at + size == heap.top) ≡ b → to ≡ (if b then at + size else end_of words (at + size))
       by_top b is = to_is ∙ ap (λ b. if b then at + size else end_of words (at + size)) is
 
@@ -142,7 +142,8 @@ module _ {A : Type 0} {regions : A → List Grant} {word : A → ℕ → ℕ} {h
         from_some = omega (arith, from_low, (run_part (regions heap.system) sound.segments one).low)
 
         -- the top has the chunk's first byte
-        pub around_top : (new : Dlmalloc A) → IsSound regions word new → new.size ≡ heap.size → new.top ≡ from → new.top_size ≡ heap.top_size + (to - from) → IsFreeAround (state_of word new) at from
+        pub around_top : (new : Dlmalloc A) → IsSound regions word new → new.size ≡ heap.size → new.top ≡ from →
+            new.top_size ≡ heap.top_size + (to - from) → IsFreeAround (state_of word new) at from
         around_top new sound' size_same top top_size = record {
           extent = extent new.top new.top_size Top;
           there = ap (λ k. extent_at k (extents_in (state_of word new))) (sym top) ∙ top_among sound' (omega (arith, some_segment word heap at there));
@@ -152,14 +153,18 @@ module _ {A : Type 0} {regions : A → List Grant} {word : A → ℕ → ℕ} {h
           high = omega (arith, one.some, to_eq, from_at);
         }
 
-        module _ (system : A) (same : regions system ≡ regions heap.system) (stored : IsStored (regions heap.system) words (from + 8) (heap.top_size + (to - from) + 1) (word system)) where
+        module _ (system : A) (same : regions system ≡ regions heap.system)
+            (stored : IsStored (regions heap.system) words (from + 8) (heap.top_size + (to - from) + 1) (word system)) where
           stored_at : IsStored (regions heap.system) words (from + 8) (heap.top_size + (at + size - from) + 1) (word system)
           stored_at = subst (λ t. IsStored (regions heap.system) words (from + 8) (heap.top_size + (t - from) + 1) (word system)) (sym to_eq) stored
 
-          pub top_victim : from ≤ heap.victim → heap.victim < to → IsFree regions word heap at size from to (record heap { system = system; top = from; top_size = heap.top_size + (to - from); victim = 0; victim_size = 0 })
-          top_victim reached within = subst (λ t. IsFree regions word heap at size from t (record heap { system = system; top = from; top_size = heap.top_size + (t - from); victim = 0; victim_size = 0 })) to_eq
+          pub top_victim : from ≤ heap.victim → heap.victim < to → IsFree regions word heap at size from to
+              (record heap { system = system; top = from; top_size = heap.top_size + (to - from); victim = 0; victim_size = 0 })
+          top_victim reached within = subst (λ t. IsFree regions word heap at size from t
+              (record heap { system = system; top = from; top_size = heap.top_size + (t - from); victim = 0; victim_size = 0 })) to_eq
               (as_top_victim sound there (next_top (touches is)) from_is system same stored_at reached (omega (arith, to_eq)))
 
-          pub top_other : (heap.victim < from) ⊎ (to ≤ heap.victim) → IsFree regions word heap at size from to (record heap { system = system; top = from; top_size = heap.top_size + (to - from) })
+          pub top_other : (heap.victim < from) ⊎ (to ≤ heap.victim) →
+              IsFree regions word heap at size from to (record heap { system = system; top = from; top_size = heap.top_size + (to - from) })
           top_other out = subst (λ t. IsFree regions word heap at size from t (record heap { system = system; top = from; top_size = heap.top_size + (t - from) })) to_eq
               (as_top_other sound there (next_top (touches is)) from_is system same stored_at (subst (λ t. (heap.victim < from) ⊎ (t ≤ heap.victim)) (sym to_eq) out))

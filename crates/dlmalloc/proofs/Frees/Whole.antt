@@ -14,21 +14,25 @@ end_granted : (less : ℕ) (segments : List Segment) (regions : List Grant) (k :
 end_granted less [] regions k granted = granted
 end_granted less (head ∷ rest) regions k granted = granted_before (head.base + (head.size - less)) (head.base + head.size) regions k granted
 
-trim_granted : (frees parts : Bool) (unit pad : ℕ) (heap : HeapState) (regions : List Grant) (k : ℕ) → IsTrue (is_granted (regions_trimmed frees parts unit pad heap regions) k) → IsTrue (is_granted regions k)
+trim_granted : (frees parts : Bool) (unit pad : ℕ) (heap : HeapState) (regions : List Grant) (k : ℕ) →
+    IsTrue (is_granted (regions_trimmed frees parts unit pad heap regions) k) → IsTrue (is_granted regions k)
 trim_granted frees parts unit pad heap regions k = made (is_trimmed pad heap)
   where
     cut : (b : Bool) → IsTrue (is_granted (if b then without_end (cut_of heap pad) heap.segments regions else regions) k) → IsTrue (is_granted regions k)
     cut true granted = end_granted (cut_of heap pad) heap.segments regions k granted
     cut false granted = granted
 
-    made : (b : Bool) → IsTrue (is_granted (if b then regions_without (taken_back frees (handed_out parts heap.segments)) (regions_cut parts unit pad heap regions) else regions) k) → IsTrue (is_granted regions k)
+    made : (b : Bool) → IsTrue (is_granted (if b then regions_without (taken_back frees (handed_out parts heap.segments))
+        (regions_cut parts unit pad heap regions) else regions) k) → IsTrue (is_granted regions k)
     made true granted = cut (is_cut parts unit pad heap) (still_granted (taken_back frees (handed_out parts heap.segments)) (regions_cut parts unit pad heap regions) k granted)
     made false granted = granted
 
-pub after_granted : (frees parts : Bool) (unit : ℕ) (heap : HeapState) (at : ℕ) (regions : List Grant) (k : ℕ) → IsTrue (is_granted (regions_after frees parts unit heap at regions) k) → IsTrue (is_granted regions k)
+pub after_granted : (frees parts : Bool) (unit : ℕ) (heap : HeapState) (at : ℕ) (regions : List Grant) (k : ℕ) →
+    IsTrue (is_granted (regions_after frees parts unit heap at regions) k) → IsTrue (is_granted regions k)
 after_granted frees parts unit heap at regions k = above (is_above_check heap at)
   where
-    above : (b : Bool) → IsTrue (is_granted (if b then regions_trimmed frees parts unit 0 heap regions else regions_without (left_by_count frees parts heap at) regions) k) → IsTrue (is_granted regions k)
+    above : (b : Bool) → IsTrue (is_granted (if b then regions_trimmed frees parts unit 0 heap regions else regions_without
+        (left_by_count frees parts heap at) regions) k) → IsTrue (is_granted regions k)
     above true granted = trim_granted frees parts unit 0 heap regions k granted
     above false granted = still_granted (left_by_count frees parts heap at) regions k granted
 
@@ -56,7 +60,8 @@ granularity_after frees parts unit heap at = above (is_above_check heap at)
         let left = passed frees parts (after_cut parts unit 0 heap) in
         given (nat_lt left.trim_check (top_bytes left)) left ∙ cut (is_cut parts unit 0 heap)
 
-    made : (b : Bool) → (if b then (if gives_back frees parts unit 0 heap then passed frees parts (after_cut parts unit 0 heap) else given_up (passed frees parts (after_cut parts unit 0 heap))) else heap).granularity ≡ heap.granularity
+    made : (b : Bool) → (if b then (if gives_back frees parts unit 0 heap then passed frees parts (after_cut parts unit 0 heap) else given_up
+        (passed frees parts (after_cut parts unit 0 heap))) else heap).granularity ≡ heap.granularity
     made true = gave (gives_back frees parts unit 0 heap)
     made false = refl
 
@@ -71,12 +76,13 @@ granularity_after frees parts unit heap at = above (is_above_check heap at)
 
 -- ---- both steps
 
-module _ {A : Type 0} {regions : A → List Grant} {word : A → ℕ → ℕ} {follows : A → List Event → A → Type 0} (on : (x y z : A) (a b c : List Event) → follows x a y → follows y b z → a ++ b ≡ c → follows x c z) {frees parts : Bool} {unit : ℕ}
-    {old middle new : Dlmalloc A} {address : ℕ} (sound : IsSound regions word old) (disposed : IsDisposed regions word follows old address middle) {from : ℕ} (around : IsFreeAround (state_of word middle) (address - 16) from)
-    (settled : IsSettled regions word follows frees parts unit middle (address - 16) new) where
+module _ {A : Type 0} {regions : A → List Grant} {word : A → ℕ → ℕ} {follows : A → List Event → A → Type 0} (on : (x y z : A)
+    (a b c : List Event) → follows x a y → follows y b z → a ++ b ≡ c → follows x c z) {frees parts : Bool} {unit : ℕ} {old middle new : Dlmalloc A}
+    {address : ℕ} (sound : IsSound regions word old) (disposed : IsDisposed regions word follows old address middle) {from : ℕ} (around : IsFreeAround
+    (state_of word middle) (address - 16) from) (settled : IsSettled regions word follows frees parts unit middle (address - 16) new) where
   head_merged : (old.base ≡ middle.base) × (old.size ≡ middle.size)
-  head_merged = same_head old disposed.sound sound (some_segment word middle from around.there)
-      (let same = first_changed (freed_in (address - 16)) (segments_of word old) in let is = ap (λ heap. heap.segments) disposed.state in (sym same.0 ∙ sym (ap first_base is), sym same.1 ∙ sym (ap first_size is)))
+  head_merged = same_head old disposed.sound sound (some_segment word middle from around.there) (let same = first_changed (freed_in (address - 16)) (segments_of
+      word old) in let is = ap (λ heap. heap.segments) disposed.state in (sym same.0 ∙ sym (ap first_base is), sym same.1 ∙ sym (ap first_size is)))
 
   -- so does the rest, unless it became part of a top above the trim check
   head_left : ((new.base ≡ old.base) × (new.size ≡ old.size)) ⊎ IsBehindUsed old (state_of word new) (address - 16)
@@ -84,15 +90,14 @@ module _ {A : Type 0} {regions : A → List Grant} {word : A → ℕ → ℕ} {f
     where
       go : (b : Bool) → is_above_check (state_of word middle) (address - 16) ≡ b → ((new.base ≡ old.base) × (new.size ≡ old.size)) ⊎ IsBehindUsed old (state_of word new) (address - 16)
       go false under =
-          let state : state_of word new ≡ counted frees parts (state_of word middle) (address - 16)
-          = settled.state ∙ ap (λ b. if b then trimmed frees parts unit 0 (state_of word middle) else counted frees parts (state_of word middle) (address - 16)) under in
+          let state : state_of word new ≡ counted frees parts (state_of word middle) (address - 16) = settled.state
+          ∙ ap (λ b. if b then trimmed frees parts unit 0 (state_of word middle) else counted frees parts (state_of word middle) (address - 16)) under in
           let same = first_counted frees parts (state_of word middle) (address - 16) in
           let is = ap (λ heap. heap.segments) state in
           let left = same_head new disposed.sound settled.sound (some_segment word middle from around.there) (ap first_base is ∙ same.0, ap first_size is ∙ same.1) in
           inl (left.0 ∙ sym head_merged.0, left.1 ∙ sym head_merged.1)
       go true above =
-          let place = top_around disposed.sound around above in
-          let low = around.low in
+          let place = top_around disposed.sound around above in let low = around.low in
           inr (record {
             within = omega (arith, ends disposed.sound (some_segment word middle from around.there), head_merged.0, head_merged.1);
             behind = λ used is there. elim (beside_top disposed.sound (some_segment word middle from around.there) is (settled.used.before used is there)) [
@@ -103,8 +108,8 @@ module _ {A : Type 0} {regions : A → List Grant} {word : A → ℕ → ℕ} {f
 
   inside : (k : ℕ) → IsWordOf (regions new.system) k → IsWordOf (regions old.system) k
   inside k is = record {
-    granted = subst (λ rs. IsTrue (is_granted rs k)) disposed.regions_same
-        (after_granted frees parts unit (state_of word middle) (address - 16) (regions middle.system) k (subst (λ rs. IsTrue (is_granted rs k)) settled.regions_are is.granted));
+    granted = subst (λ rs. IsTrue (is_granted rs k)) disposed.regions_same (after_granted frees parts unit (state_of word middle) (address - 16)
+        (regions middle.system) k (subst (λ rs. IsTrue (is_granted rs k)) settled.regions_are is.granted));
     aligned = is.aligned;
   }
 
@@ -117,11 +122,12 @@ module _ {A : Type 0} {regions : A → List Grant} {word : A → ℕ → ℕ} {f
       new = λ used is there. disposed.less.new used is (settled.used.before used is there);
     };
     kept = record {
-      words = λ block there used k low high m. (let was = settled.used.before block used there in settled.kept.words block was used k low high m ∙ disposed.kept.words block was used k low high m);
+      words = λ block there used k low high m. (let was = settled.used.before block used there in
+          settled.kept.words block was used k low high m ∙ disposed.kept.words block was used k low high m);
       heads = λ block there used. (let was = settled.used.before block used there in settled.kept.heads block was used ∙ disposed.kept.heads block was used);
     };
-    words = λ k is free first last recorded.
-        settled.words k is (λ f. first (subst (λ heap. IsOwn heap k) disposed.state (inr f))) last (λ r. recorded (subst (λ heap. IsInRecord heap k) disposed.state r))
+    words = λ k is free first last recorded. settled.words k is (λ f. first (subst (λ heap. IsOwn heap k) disposed.state (inr f))) last
+        (λ r. recorded (subst (λ heap. IsInRecord heap k) disposed.state r))
         ∙ disposed.words k (inside k is) free (λ own. first (subst (λ heap. IsOwn heap k) disposed.state own));
     sound = settled.sound;
     granularity = ap (λ heap. heap.granularity) settled.state
@@ -129,7 +135,8 @@ module _ {A : Type 0} {regions : A → List Grant} {word : A → ℕ → ℕ} {f
     head = head_left;
     regions_are = settled.regions_are ∙ (λ i. regions_after frees parts unit (disposed.state i) (address - 16) (disposed.regions_same i));
     followed = subst (λ heap. follows old.system (free_releases frees parts unit heap (address - 16)) new.system) disposed.state
-        (on old.system middle.system new.system [] (free_releases frees parts unit (state_of word middle) (address - 16)) (free_releases frees parts unit (state_of word middle) (address - 16)) disposed.followed settled.followed refl);
+        (on old.system middle.system new.system [] (free_releases frees parts unit (state_of word middle) (address - 16))
+        (free_releases frees parts unit (state_of word middle) (address - 16)) disposed.followed settled.followed refl);
     order = λ b.
         let first = disposed.order b in
         let last = settled.index first.0 in (
@@ -144,13 +151,14 @@ module _ {A : Type 0} {regions : A → List Grant} {word : A → ℕ → ℕ} {f
 
 module _ {A : Type 0} (zeros frees parts : A → Bool) (unit : A → ℕ) where
   -- so what holds by its rules holds by those that it had before
-  pub by_rules : {old new : A} → IsFixed zeros frees parts unit old new → (Holds : Bool → Bool → ℕ → Type 0) → Holds (frees new) (parts new) (unit new) → Holds (frees old) (parts old) (unit old)
+  pub by_rules : {old new : A} → IsFixed zeros frees parts unit old new →
+      (Holds : Bool → Bool → ℕ → Type 0) → Holds (frees new) (parts new) (unit new) → Holds (frees old) (parts old) (unit old)
   by_rules {old} {new} same Holds holds =
       subst (λ b. Holds b (parts old) (unit old)) same.frees_same
-      (subst (λ b. Holds (frees new) b (unit old)) same.parts_same
-      (subst (λ n. Holds (frees new) (parts new) n) same.unit_same holds))
+      (subst (λ b. Holds (frees new) b (unit old)) same.parts_same (subst (λ n. Holds (frees new) (parts new) n) same.unit_same holds))
 
-  pub rules_found : (follows : A → List Event → A → Type 0) → ((x y : A) (events : List Event) → follows x events y → IsFixed zeros frees parts unit x y) → (regions : A → List Grant) (old : A) (heap : HeapState) (n : ℕ) (new : A) (heap' : HeapState) →
+  pub rules_found : (follows : A → List Event → A → Type 0) → ((x y : A) (events : List Event) → follows x events y →
+      IsFixed zeros frees parts unit x y) → (regions : A → List Grant) (old : A) (heap : HeapState) (n : ℕ) (new : A) (heap' : HeapState) →
       IsFound follows regions old heap n new heap' → IsFixed zeros frees parts unit old new
   rules_found follows fixed regions old heap n new heap' (inl here) = fixed old new [] here.1
   rules_found follows fixed regions old heap n new heap' (inr there) = fixed old new (Granted (round_up (n + 96) heap.granularity) there.0 ∷ []) there.4

@@ -8,7 +8,8 @@ use Rattle.dlmalloc.proofs.Grants.PutBefore.{IsJoining, before_means, front_part
 use Rattle.dlmalloc.proofs.Grants.SegmentBehind.{told_around}
 
 -- the heads of the two parts of a grant are granted
-pub part_head : {regions : List Grant} {segments : List Segment} {grant : Grant} → IsFresh regions segments grant → (k : ℕ) → grant.base ≤ k → k + 16 ≤ grant.base + grant.size → k % 16 ≡ 0 → HasHead regions k
+pub part_head : {regions : List Grant} {segments : List Segment} {grant : Grant} → IsFresh regions segments grant →
+    (k : ℕ) → grant.base ≤ k → k + 16 ≤ grant.base + grant.size → k % 16 ≡ 0 → HasHead regions k
 part_head fresh k low high m = record {
   aligned = omega arith;
   small = omega arith;
@@ -16,16 +17,18 @@ part_head fresh k low high m = record {
 }
 
 -- what is found behind the two parts of a grant
-behind_two : (grant : Grant) (n : ℕ) (segment : Segment) (k : ℕ) {one : Extent} → segment.base ≡ grant.base + grant.size → n < grant.size → segment.base ≤ k → extent_at k segment.extents ≡ Some one → extent_at k (put_before grant n segment).extents ≡ Some one
+behind_two : (grant : Grant) (n : ℕ) (segment : Segment) (k : ℕ) {one : Extent} → segment.base ≡ grant.base + grant.size → n < grant.size →
+    segment.base ≤ k → extent_at k segment.extents ≡ Some one → extent_at k (put_before grant n segment).extents ≡ Some one
 behind_two grant n segment k place room low there =
     let first : (grant.base == k) ≡ false = nat_isnt (inl (omega arith)) in
     let second : (grant.base + n == k) ≡ false = nat_isnt (inl (omega arith)) in
     rw (first, second) there
 
-module _ {A : Type 0} {regions : A → List Grant} {word : A → ℕ → ℕ} (follows : A → List Event → A → Type 0) {heap : Dlmalloc A} (sound : IsSound regions word heap) {grant : Grant}
-    (fresh : IsFresh (regions heap.system) (segments_of word heap) grant) (n : ℕ) (multiple : n % 16 ≡ 0) (least : 32 ≤ n) (room : n + 96 ≤ grant.size) (whole : AllByRecursion IsWhole (regions heap.system))
-    (system : A) (same : regions system ≡ regions heap.system) (first : word system (grant.base + 8) ≡ head_of n true true) (second : word system (grant.base + n + 8) ≡ head_of (grant.size - n) true true)
-    (followed : follows heap.system [] system) where
+module _ {A : Type 0} {regions : A → List Grant} {word : A → ℕ → ℕ} (follows : A → List Event → A → Type 0) {heap : Dlmalloc A}
+    (sound : IsSound regions word heap) {grant : Grant} (fresh : IsFresh (regions heap.system) (segments_of word heap) grant) (n : ℕ)
+    (multiple : n % 16 ≡ 0) (least : 32 ≤ n) (room : n + 96 ≤ grant.size) (whole : AllByRecursion IsWhole (regions heap.system)) (system : A)
+    (same : regions system ≡ regions heap.system) (first : word system (grant.base + 8) ≡ head_of n true true)
+    (second : word system (grant.base + n + 8) ≡ head_of (grant.size - n) true true) (followed : follows heap.system [] system) where
   -- ---- before the head segment
 
   module _ (b : IsHeadBehind word heap grant) (kept : (k : ℕ) → IsWordOf (regions heap.system) k → k ≢ grant.base + 8 → k ≢ grant.base + n + 8 → word system k ≡ word heap.system k) where
@@ -68,18 +71,18 @@ module _ {A : Type 0} {regions : A → List Grant} {word : A → ℕ → ℕ} (f
       omega (arith, told_are.2),
       told_are.3,
       behind_two grant n b.segment heap.top ((before_means grant b.segment b.joins).0) (omega arith) top_in.low told_are.4,
-      records_stay (regions heap.system) (word heap.system) (word system) b.back parts_are.1
-          (back_keeps head_now sound joint) heap.next told_are.5,
+      records_stay (regions heap.system) (word heap.system) (word system) b.back parts_are.1 (back_keeps head_now sound joint) heap.next told_are.5,
     )
 
     pub before_head : IsPrepended regions word follows heap grant n head_now
-    before_head = is_prepended head_now sound joint
-        whole first second ((one_stays (regions heap.system) (word heap.system) (word system) parts_are.0 keeps_its).extents) told_now follows followed (omega (arith, told_are.0)) refl refl refl refl refl refl (λ k tag. tt)
+    before_head = is_prepended head_now sound joint whole first second ((one_stays (regions heap.system) (word heap.system)
+        (word system) parts_are.0 keeps_its).extents) told_now follows followed (omega (arith, told_are.0)) refl refl refl refl refl refl (λ k tag. tt)
 
   -- ---- before one that a record tells
 
-  module _ {payload : ℕ} (b : IsToldBehind word heap grant payload) (base : word system payload ≡ grant.base) (size : word system (payload + 8) ≡ grant.size + word heap.system (payload + 8))
-      (kept : (k : ℕ) → IsWordOf (regions heap.system) k → k ≢ grant.base + 8 → k ≢ grant.base + n + 8 → k ≢ payload → k ≢ payload + 8 → word system k ≡ word heap.system k) where
+  module _ {payload : ℕ} (b : IsToldBehind word heap grant payload) (base : word system payload ≡ grant.base)
+      (size : word system (payload + 8) ≡ grant.size + word heap.system (payload + 8)) (kept : (k : ℕ) → IsWordOf (regions heap.system) k →
+      k ≢ grant.base + 8 → k ≢ grant.base + n + 8 → k ≢ payload → k ≢ payload + 8 → word system k ≡ word heap.system k) where
     abbrev pub told_new : Dlmalloc A
     told_new = record heap { system = system }
 
@@ -148,8 +151,8 @@ module _ {A : Type 0} {regions : A → List Grant} {word : A → ℕ → ℕ} (f
         (λ is. omega (arith, segment_place)) (λ is. omega (arith, segment_place)) not_base not_size
 
     tiles_told : Tiles (word system) Used b.segment.base b.segment.extents end
-    tiles_told = recorded_tiles segment_part payload payload_some b.told.4 (word system)
-        (λ k low high m out. kept_in k low high m (λ is. elim out [ inl below ↦ omega arith | inr above ↦ omega arith ]) (λ is. elim out [ inl below ↦ omega arith | inr above ↦ omega arith ]))
+    tiles_told = recorded_tiles segment_part payload payload_some b.told.4 (word system) (λ k low high m out. kept_in k low high m
+        (λ is. elim out [ inl below ↦ omega arith | inr above ↦ omega arith ]) (λ is. elim out [ inl below ↦ omega arith | inr above ↦ omega arith ]))
 
     abbrev now_told : Segment
     now_told = put_before grant n b.segment
@@ -166,17 +169,18 @@ module _ {A : Type 0} {regions : A → List Grant} {word : A → ℕ → ℕ} (f
       payload_some,
       base,
       size ∙ ap (λ m. grant.size + m) b.told.2,
-      kept_in (payload + 24) (omega (arith, record_in.low, payload_some)) (omega (arith, record_long, payload_some)) (omega (arith, payload_whole)) (λ is. omega arith) (λ is. omega arith) ∙ b.told.3,
+      kept_in (payload + 24) (omega (arith, record_in.low, payload_some)) (omega (arith, record_long, payload_some)) (omega (arith, payload_whole))
+          (λ is. omega arith) (λ is. omega arith) ∙ b.told.3,
       record_now,
-      subst (λ p. AreRecords (word system) p b.back) (sym (kept_in (payload + 16) (omega (arith, record_in.low, payload_some)) (omega (arith, record_long, payload_some)) (omega (arith, payload_whole)) (λ is. omega arith) (λ is. omega arith)))
+      subst (λ p. AreRecords (word system) p b.back) (sym (kept_in (payload + 16) (omega (arith, record_in.low, payload_some))
+          (omega (arith, record_long, payload_some)) (omega (arith, payload_whole)) (λ is. omega arith) (λ is. omega arith)))
           (records_stay (regions heap.system) (word heap.system) (word system) b.back (back_parts told_new sound joint_told)
           (back_keeps told_new sound joint_told) (word heap.system (payload + 16)) b.told.5),
     )
 
     told_after : AreTold (word system) told_new (front ++ now_told ∷ b.back)
     told_after =
-        let parts = front_parts told_new sound joint_told in
-        let keeps = front_keeps told_new sound joint_told in
+        let parts = front_parts told_new sound joint_told in let keeps = front_keeps told_new sound joint_told in
         (heap_told.0, heap_told.1, heap_told.2, heap_told.3, heap_told.4, told_around (regions heap.system) (word heap.system) (word system) (b.segment ∷ b.back) (now_told ∷ b.back) b.front heap.next b.reached parts.1 keeps.1 heap_told.5 here_told)
 
     recorded : (k : ℕ) → (IsInRecord (state_of word told_new) k → ⊥) → IsUntold k
@@ -220,8 +224,7 @@ module _ {A : Type 0} {regions : A → List Grant} {word : A → ℕ → ℕ} {h
       let end = b.segment.base + b.segment.size in
       let r = in_part (word heap.system) Used b.segment.base b.segment.extents end part.extents b.told.4 in
       let long : 80 ≤ end - (payload - 16) = elim (r.stands.size) [ inl short ↦ omega arith | inr longer ↦ omega arith ] in
-      let some = b.told.0 in
-      let place = (before_means grant b.segment b.joins).0 in
+      let some = b.told.0 in let place = (before_means grant b.segment b.joins).0 in
       record {
         base_word = record { granted = part.run.covered payload (omega arith) (omega arith); aligned = omega arith };
         size_word = record { granted = part.run.covered (payload + 8) (omega arith) (omega arith); aligned = omega arith };

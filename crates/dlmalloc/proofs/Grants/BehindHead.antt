@@ -34,11 +34,12 @@ abbrev pub extended_heap : {A : Type 0} → Dlmalloc A → Grant → A → Dlmal
 extended_heap heap grant system =
     record heap { system = system; size = heap.size + grant.size; top_size = heap.base + (heap.size + grant.size) - 80 - heap.top; trim_check = trim_threshold }
 
-module _ {A : Type 0} {regions : A → List Grant} {word : A → ℕ → ℕ} {heap : Dlmalloc A} (system : A) (sound : IsSound regions word heap) {grant : Grant}
-    (fresh : IsFresh (regions heap.system) (segments_of word heap) grant) (same : regions system ≡ regions heap.system) (some : 0 < heap.size)
-    (begins : grant.base ≡ heap.base + heap.size) (equal : grant.flags ≡ heap.flags) (behind : is_behind grant (bare_head heap) ≡ true) (whole : AllByRecursion IsWhole (regions heap.system))
-    (head : word system (heap.top + 8) ≡ heap.base + (heap.size + grant.size) - 80 - heap.top + 1) (foot : word system (heap.base + (heap.size + grant.size) - 72) ≡ 80)
-    (kept : (k : ℕ) → IsWordOf (regions heap.system) k → k ≢ heap.top + 8 → k ≢ heap.base + (heap.size + grant.size) - 72 → word system k ≡ word heap.system k) where
+module _ {A : Type 0} {regions : A → List Grant} {word : A → ℕ → ℕ} {heap : Dlmalloc A} (system : A) (sound : IsSound regions word heap)
+    {grant : Grant} (fresh : IsFresh (regions heap.system) (segments_of word heap) grant) (same : regions system ≡ regions heap.system) (some : 0 < heap.size)
+    (begins : grant.base ≡ heap.base + heap.size) (equal : grant.flags ≡ heap.flags) (behind : is_behind grant (bare_head heap) ≡ true)
+    (whole : AllByRecursion IsWhole (regions heap.system)) (head : word system (heap.top + 8) ≡ heap.base + (heap.size + grant.size) - 80 - heap.top + 1)
+    (foot : word system (heap.base + (heap.size + grant.size) - 72) ≡ 80) (kept : (k : ℕ) → IsWordOf (regions heap.system) k → k ≢ heap.top + 8 →
+    k ≢ heap.base + (heap.size + grant.size) - 72 → word system k ≡ word heap.system k) where
   abbrev new : Dlmalloc A
   new = extended_heap heap grant system
 
@@ -71,22 +72,21 @@ module _ {A : Type 0} {regions : A → List Grant} {word : A → ℕ → ℕ} {h
   first_kept k inside below = kept k inside (λ is. omega arith) (λ is. omega (arith, ends sound some))
 
   outside_kept : (k : ℕ) → IsWordOf (regions heap.system) k → IsOutside old_run.segment k → IsOutside (opened grant) k → word system k ≡ word heap.system k
-  outside_kept k inside first second = kept k inside
-      (λ is. elim first [
-        | inl below ↦ omega (arith, was.base, top_low sound some)
-        | inr above ↦ omega (arith, (top_last sound some).1)
-      ])
-      (λ is. elim second [
-        | inl below ↦ omega arith
-        | inr above ↦ omega arith
-      ])
+  outside_kept k inside first second = kept k inside (λ is. elim first [
+    | inl below ↦ omega (arith, was.base, top_low sound some)
+    | inr above ↦ omega (arith, (top_last sound some).1)
+  ]) (λ is. elim second [
+    | inl below ↦ omega arith
+    | inr above ↦ omega arith
+  ])
 
   more_stand : Tiles (word system) (last_kind Used old_run.first) heap.top more (old_run.segment.base + (old_run.segment.size + grant.size))
   more_stand =
       let units = fresh.size_aligned in
       let place : heap.top + length_now + 8 ≡ heap.base + (heap.size + grant.size) - 72 = omega (arith, ends sound some) in
       subst (λ end. Tiles (word system) (last_kind Used old_run.first) heap.top more end) now_end
-      (top_stands (word system) heap.top length_now old_run.here.1.kind (top_whole sound some) (omega (arith, (top_sizes sound some).0)) (omega (arith, (top_sizes sound some).1)) (head ∙ ap (λ n. n + 1) (sym length_is)) (ap (word system) place ∙ foot))
+      (top_stands (word system) heap.top length_now old_run.here.1.kind (top_whole sound some) (omega (arith, (top_sizes sound some).0))
+      (omega (arith, (top_sizes sound some).1)) (head ∙ ap (λ n. n + 1) (sym length_is)) (ap (word system) place ∙ foot))
 
   is_now : IsSegment (regions system) (word system) now
   is_now = record {
@@ -97,12 +97,13 @@ module _ {A : Type 0} {regions : A → List Grant} {word : A → ℕ → ℕ} {h
     high = omega (arith, was.base, was.size);
     long = omega (arith, (top_part sound some).long);
     extents = tiles_append (word system) Used old_run.segment.base old_run.first more heap.top (old_run.segment.base + (old_run.segment.size + grant.size))
-        (tiles_kept (word heap.system) (word system) Used old_run.segment.base old_run.first heap.top old_run.first_stand
-        (λ k above below m free. first_kept k (record { granted = (top_part sound some).run.covered k (omega arith) (omega (arith, (top_last sound some).1)); aligned = m }) below)) more_stand;
+        (tiles_kept (word heap.system) (word system) Used old_run.segment.base old_run.first heap.top old_run.first_stand (λ k above below m free. first_kept k
+        (record { granted = (top_part sound some).run.covered k (omega arith) (omega (arith, (top_last sound some).1)); aligned = m }) below)) more_stand;
     tail = ap ends_segment (last_append Used old_run.first more);
   }
 
-  longer_apart : (others : List Segment) → AreSegments (regions heap.system) (word heap.system) others → AllByRecursion (IsApartFrom old_run.segment) others → AllByRecursion (λ segment. IsApartFrom segment (opened grant)) others → AllByRecursion (IsApartFrom now) others
+  longer_apart : (others : List Segment) → AreSegments (regions heap.system) (word heap.system) others → AllByRecursion (IsApartFrom old_run.segment)
+      others → AllByRecursion (λ segment. IsApartFrom segment (opened grant)) others → AllByRecursion (IsApartFrom now) others
   longer_apart [] parts one two = tt
   longer_apart (other ∷ others) parts one two = (
     elim (one.0) [
@@ -118,14 +119,14 @@ module _ {A : Type 0} {regions : A → List Grant} {word : A → ℕ → ℕ} {h
   where_top : extent_at new.top now.extents ≡ Some (extent new.top new.top_size Top)
   where_top =
       let here : (heap.top == heap.top) ≡ true = nat_same heap.top in
-      found_later heap.top old_run.first more (none_outside (word heap.system) Used old_run.segment.base old_run.first heap.top heap.top (inr (omega arith)) old_run.first_stand)
-      ∙ (rw here refl ∙ (λ i. Some (extent heap.top (length_is i) Top)))
+      found_later heap.top old_run.first more (none_outside (word heap.system) Used old_run.segment.base old_run.first heap.top heap.top
+      (inr (omega arith)) old_run.first_stand) ∙ (rw here refl ∙ (λ i. Some (extent heap.top (length_is i) Top)))
 
   extents_were : extents_in (state_of word heap) ≡ old_run.first ++ (less ++ extents_all old_run.back)
   extents_were =
       ap extents_all (segments_are system sound fresh same some)
-      ∙ (ap (λ es. es ++ extents_all old_run.back) (old_run.extents ∙ ap (λ es. old_run.first ++ extent heap.top heap.top_size Top ∷ es) ((top_last sound some).0 ∙ (λ i. extent (foot_at i) 80 Foot ∷ [])))
-      ∙ append_assoc old_run.first less (extents_all old_run.back))
+      ∙ (ap (λ es. es ++ extents_all old_run.back) (old_run.extents ∙ ap (λ es. old_run.first ++ extent heap.top heap.top_size Top ∷ es)
+      ((top_last sound some).0 ∙ (λ i. extent (foot_at i) 80 Foot ∷ []))) ∙ append_assoc old_run.first less (extents_all old_run.back))
     where
       foot_at : old_run.segment.base + old_run.segment.size - 80 ≡ heap.top + heap.top_size
       foot_at = omega (arith, (top_last sound some).1)
@@ -134,7 +135,8 @@ module _ {A : Type 0} {regions : A → List Grant} {word : A → ℕ → ℕ} {h
   it = record {
     now = now ∷ old_run.back;
     parts = (is_now, parts_kept system sound fresh same some outside_kept);
-    apart = (let back = back_apart system sound fresh same some in (longer_apart old_run.back (back_parts system sound fresh same some) back.0 (grant_apart system sound fresh same some).1, back.1));
+    apart = (let back = back_apart system sound fresh same some in
+        (longer_apart old_run.back (back_parts system sound fresh same some) back.0 (grant_apart system sound fresh same some).1, back.1));
     told = (omega arith, was.base, ap (λ n. n + grant.size) was.size, was.flags, where_top, told_kept system sound fresh same some outside_kept);
     some = omega arith;
     granularity = refl;
@@ -167,15 +169,16 @@ module _ {A : Type 0} {regions : A → List Grant} {word : A → ℕ → ℕ} {h
       after = (let test = here in rw test refl)
 
       chunks : AreChunks old_run.first
-      chunks = are_chunks (word heap.system) Used old_run.segment.base old_run.first (extent heap.top heap.top_size Top) old_run.last (old_run.segment.base + old_run.segment.size) (λ is. cc)
-          (subst (λ es. Tiles (word heap.system) Used old_run.segment.base es (old_run.segment.base + old_run.segment.size)) old_run.extents (top_part sound some).extents)
+      chunks = are_chunks (word heap.system) Used old_run.segment.base old_run.first (extent heap.top heap.top_size Top) old_run.last
+          (old_run.segment.base + old_run.segment.size) (λ is. cc) (subst (λ es. Tiles (word heap.system) Used old_run.segment.base es
+          (old_run.segment.base + old_run.segment.size)) old_run.extents (top_part sound some).extents)
 
       grown_are : map (grown grant.size) old_run.segment.extents ≡ old_run.first ++ more
       grown_are =
           let place : old_run.segment.base + old_run.segment.size - 80 + grant.size ≡ heap.top + length_now = omega (arith, (top_last sound some).1) in
           ap (map (grown grant.size)) (old_run.extents ∙ ap (λ es. old_run.first ++ extent heap.top heap.top_size Top ∷ es) (top_last sound some).0)
-          ∙ (map-append (grown grant.size) old_run.first (extent heap.top heap.top_size Top ∷ extent (old_run.segment.base + old_run.segment.size - 80) 80 Foot ∷ [])
-          ∙ (λ i. map_grown grant.size old_run.first chunks i ++ (extent heap.top length_now Top ∷ extent (place i) 80 Foot ∷ [])))
+          ∙ (map-append (grown grant.size) old_run.first (extent heap.top heap.top_size Top ∷ extent (old_run.segment.base + old_run.segment.size - 80) 80
+          Foot ∷ []) ∙ (λ i. map_grown grant.size old_run.first chunks i ++ (extent heap.top length_now Top ∷ extent (place i) 80 Foot ∷ [])))
 
       segments_now : segments_of word new ≡ extended grant.size old_run.segment ∷ old_run.back
       segments_now = exchanged_read sound it ∙ (λ i. (record { base = old_run.segment.base; size = old_run.segment.size + grant.size; flags = old_run.segment.flags; extents = (sym grown_are) i }) ∷ old_run.back)

@@ -18,18 +18,19 @@ record IsFoundBehind (segments : List Segment) (one : Extent) : Type 0 where
   pub place : next.at ≡ one.at + one.size
   pub there : extent_at next.at (extents_all segments) ≡ Some next
 
-found_behind : (regions : List Grant) (words : ℕ → ℕ) (segments : List Segment) (parts : AreSegments regions words segments) → AreApart segments → {one : Extent} → extent_at one.at (extents_all segments) ≡ Some one → ends_segment one.kind ≡ false → IsFoundBehind segments one
+found_behind : (regions : List Grant) (words : ℕ → ℕ) (segments : List Segment) (parts : AreSegments regions words segments) → AreApart segments →
+    {one : Extent} → extent_at one.at (extents_all segments) ≡ Some one → ends_segment one.kind ≡ false → IsFoundBehind segments one
 found_behind regions words segments parts apart {one} there goes_on =
-    let run = run_of regions words segments parts there in
-    let part = run_part regions parts run in
+    let run = run_of regions words segments parts there in let part = run_part regions parts run in
     let n = has_next regions parts run goes_on in
-    let is : run.segment.extents ≡ (run.first ++ one ∷ []) ++ n.next ∷ n.rest = run.extents ∙ (ap (λ es. run.first ++ one ∷ es) n.is ∙ sym (append_assoc run.first (one ∷ []) (n.next ∷ n.rest))) in
+    let is : run.segment.extents ≡ (run.first ++ one ∷ []) ++ n.next ∷ n.rest = run.extents
+    ∙ (ap (λ es. run.first ++ one ∷ es) n.is ∙ sym (append_assoc run.first (one ∷ []) (n.next ∷ n.rest))) in
     record {
       next = n.next;
       place = (behind regions parts run n).0;
       there = among_all regions words parts apart run.front run.segment run.back run.is n.next.at
-          (ap (extent_at n.next.at) is ∙ distinct_later (run.first ++ one ∷ []) (n.next ∷ n.rest) n.next.at
-          (subst AreDistinct is (tiles_distinct words Used run.segment.base run.segment.extents (run.segment.base + run.segment.size) part.extents)) (found_here n.next n.rest));
+          (ap (extent_at n.next.at) is ∙ distinct_later (run.first ++ one ∷ []) (n.next ∷ n.rest) n.next.at (subst AreDistinct is
+          (tiles_distinct words Used run.segment.base run.segment.extents (run.segment.base + run.segment.size) part.extents)) (found_here n.next n.rest));
     }
 
 -- where the grant is put before a segment, the state is that
@@ -51,13 +52,15 @@ granted_before grant n heap test = go heap.segments test
 
 -- ---- the free extents of a heap that a grant was put before
 
-module _ {A : Type 0} {regions : A → List Grant} {word : A → ℕ → ℕ} {follows : A → List Event → A → Type 0} {old middle : Dlmalloc A} {grant : Grant} {n : ℕ} (first : IsPrepended regions word follows old grant n middle) where
+module _ {A : Type 0} {regions : A → List Grant} {word : A → ℕ → ℕ} {follows : A → List Event → A → Type 0} {old middle : Dlmalloc A}
+    {grant : Grant} {n : ℕ} (first : IsPrepended regions word follows old grant n middle) where
   -- what is free then was free before
   was_free : {at size : ℕ} → IsFreeAt (state_of word middle) at size → IsFreeAt (state_of word old) at size
   was_free {at} {size} free = first.before (extent at size Free) (λ same. clash n same first.chunk) (λ same. clash (grant.size - n) same first.rest) free
     where
       clash : {place : ℕ} (bytes : ℕ) → at ≡ place → extent_at place (extents_in (state_of word middle)) ≡ Some (extent place bytes Used) → ⊥
-      clash {place} bytes same used = (let no : Used ≡ Free = ap (λ e. e.kind) (the_extent (sym used ∙ (ap (λ a. extent_at a (extents_in (state_of word middle))) (sym same) ∙ free))) in cc)
+      clash {place} bytes same used = (let no : Used ≡ Free = ap (λ e. e.kind)
+          (the_extent (sym used ∙ (ap (λ a. extent_at a (extents_in (state_of word middle))) (sym same) ∙ free))) in cc)
 
   pub no_free : (k : ℕ) → (IsInFree (state_of word old) k → ⊥) → IsInFree (state_of word middle) k → ⊥
   no_free k was f = was (record { at = f.at; size = f.size; free = was_free f.free; low = f.low; high = f.high })
@@ -98,10 +101,11 @@ module _ {A : Type 0} {regions : A → List Grant} {word : A → ℕ → ℕ} {f
   abbrev pub prepended_binned : IndexStays → IsSound regions word old → IsSameBins old middle → IsBinned regions word old → IsBinned regions word middle
   prepended_binned stays sound same = binned_same stays sound first.sound (λ k was is boundary tag tag'. prepended_tags k was boundary tag') same.bins prepended_free same.victim
 
-module _ {A : Type 0} {regions : A → List Grant} {word : A → ℕ → ℕ} {follows : A → List Event → A → Type 0} {old middle new : Dlmalloc A} {grant : Grant} {n : ℕ} (least : 32 ≤ n) (first : IsPrepended regions word follows old grant n middle)
-    (state : state_of word new ≡ freed (state_of word middle) (grant.base + n)) (less : HasOneMore (state_of word new) (state_of word middle) (grant.base + n)) (moved : IsTurned regions word follows middle new)
-    (records : (one : Extent) → one.kind ≡ Record → extent_at one.at (extents_in (state_of word middle)) ≡ Some one → extent_at one.at (extents_in (state_of word new)) ≡ Some one)
-    (followed : follows old.system [] new.system) where
+module _ {A : Type 0} {regions : A → List Grant} {word : A → ℕ → ℕ} {follows : A → List Event → A → Type 0} {old middle new : Dlmalloc A}
+    {grant : Grant} {n : ℕ} (least : 32 ≤ n) (first : IsPrepended regions word follows old grant n middle) (state : state_of word new ≡ freed
+    (state_of word middle) (grant.base + n)) (less : HasOneMore (state_of word new) (state_of word middle) (grant.base + n)) (moved : IsTurned regions word
+    follows middle new) (records : (one : Extent) → one.kind ≡ Record → extent_at one.at (extents_in (state_of word middle)) ≡ Some one →
+    extent_at one.at (extents_in (state_of word new)) ≡ Some one) (followed : follows old.system [] new.system) where
   chunk_there : extent_at grant.base (extents_in (state_of word new)) ≡ Some (extent grant.base n Used)
   chunk_there = less.only (extent grant.base n Used) refl first.chunk (λ is. omega arith)
 
@@ -132,12 +136,14 @@ module _ {A : Type 0} {regions : A → List Grant} {word : A → ℕ → ℕ} {f
 
 -- ---- so the chunk is cut out
 
-module _ {A : Type 0} {regions : A → List Grant} {word : A → ℕ → ℕ} (zeros : A → Bool) {follows : A → List Event → A → Type 0} {old : Dlmalloc A} (sound : IsSound regions word old) {n asked : ℕ} (enough : n + 96 ≤ asked) (none : chosen (state_of word old) n ≡ None)
-    {grant : Grant} (good : IsGoodGrant asked grant) (long : 128 ≤ grant.size) (beside : AllByRecursion (IsApart grant.base (grant.base + grant.size)) (regions old.system)) (middle : A)
-    (with_it : regions middle ≡ with_grant grant (regions old.system)) (same : state_of word (record old { system = middle }) ≡ state_of word old) (test : is_put_before grant (segments_of word old) ≡ true)
-    (words : (k : ℕ) → IsWordOf (regions old.system) k → word middle k ≡ word old.system k)
-    (zero : zeros old.system ≡ true → (k : ℕ) → grant.base ≤ k → k < grant.base + grant.size → k % 8 ≡ 0 → word middle k ≡ 0)
-    {new : Dlmalloc A} (put : IsPutBefore regions word follows (record old { system = middle }) grant n new) (followed : follows old.system (Granted (round_up (n + 96) old.granularity) grant ∷ []) new.system) where
+module _ {A : Type 0} {regions : A → List Grant} {word : A → ℕ → ℕ} (zeros : A → Bool) {follows : A → List Event → A → Type 0}
+    {old : Dlmalloc A} (sound : IsSound regions word old) {n asked : ℕ} (enough : n + 96 ≤ asked)
+    (none : chosen (state_of word old) n ≡ None) {grant : Grant} (good : IsGoodGrant asked grant) (long : 128 ≤ grant.size) (beside : AllByRecursion
+    (IsApart grant.base (grant.base + grant.size)) (regions old.system)) (middle : A) (with_it : regions middle ≡ with_grant grant (regions old.system))
+    (same : state_of word (record old { system = middle }) ≡ state_of word old) (test : is_put_before grant (segments_of word old) ≡ true)
+    (words : (k : ℕ) → IsWordOf (regions old.system) k → word middle k ≡ word old.system k) (zero : zeros old.system ≡ true → (k : ℕ) →
+    grant.base ≤ k → k < grant.base + grant.size → k % 8 ≡ 0 → word middle k ≡ 0) {new : Dlmalloc A} (put : IsPutBefore regions word follows
+    (record old { system = middle }) grant n new) (followed : follows old.system (Granted (round_up (n + 96) old.granularity) grant ∷ []) new.system) where
   more_put : HasOneMore (state_of word old) (state_of word new) grant.base
   more_put = subst (λ s. HasOneMore s (state_of word new) grant.base) same put.more
 

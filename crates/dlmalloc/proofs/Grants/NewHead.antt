@@ -33,14 +33,14 @@ new_head heap grant system at = record heap {
 abbrev pub record_of_head : {A : Type 0} → Dlmalloc A → SegmentRecord
 record_of_head heap = record { base = heap.base; size = heap.size; next = heap.next; flags = heap.flags }
 
-module _ {A : Type 0} {regions : A → List Grant} {word : A → ℕ → ℕ} {heap : Dlmalloc A} (system : A) (sound : IsSound regions word heap) {grant : Grant}
-    (fresh : IsFresh (regions heap.system) (segments_of word heap) grant) (same : regions system ≡ regions heap.system) (some : 0 < heap.size)
-    (beside : is_behind grant (bare_head heap) ≡ false) (no_join : is_put_before grant (segments_of word heap) ≡ false)
-    {at : ℕ} {small : Bool} (small_is : (heap.top_size == 16) ≡ small) (at_is : at ≡ place small heap.top heap.top_size)
-    (head : word system (grant.base + 8) ≡ grant.base + grant.size - 80 - grant.base + 1) (foot : word system (grant.base + grant.size - 72) ≡ 80)
-    (recorded : IsRecordAt (word system) at (record_of_head heap) (heap.base + heap.size) small)
-    (left_foot : small ≡ false → word system (heap.top + heap.top_size) ≡ heap.top_size)
-    (kept : (k : ℕ) → IsWordOf (regions heap.system) k → (k ≤ at) ⊎ (heap.base + heap.size ≤ k) → (k ≡ heap.top + heap.top_size → small ≡ true) → k ≢ grant.base + 8 → k ≢ grant.base + grant.size - 72 → word system k ≡ word heap.system k) where
+module _ {A : Type 0} {regions : A → List Grant} {word : A → ℕ → ℕ} {heap : Dlmalloc A} (system : A) (sound : IsSound regions word heap)
+    {grant : Grant} (fresh : IsFresh (regions heap.system) (segments_of word heap) grant) (same : regions system ≡ regions heap.system) (some : 0 < heap.size)
+    (beside : is_behind grant (bare_head heap) ≡ false) (no_join : is_put_before grant (segments_of word heap) ≡ false) {at : ℕ} {small : Bool}
+    (small_is : (heap.top_size == 16) ≡ small) (at_is : at ≡ place small heap.top heap.top_size) (head : word system (grant.base + 8) ≡ grant.base
+    + grant.size - 80 - grant.base + 1) (foot : word system (grant.base + grant.size - 72) ≡ 80) (recorded : IsRecordAt (word system) at (record_of_head heap)
+    (heap.base + heap.size) small) (left_foot : small ≡ false → word system (heap.top + heap.top_size) ≡ heap.top_size) (kept : (k : ℕ) →
+    IsWordOf (regions heap.system) k → (k ≤ at) ⊎ (heap.base + heap.size ≤ k) → (k ≡ heap.top + heap.top_size → small ≡ true) →
+    k ≢ grant.base + 8 → k ≢ grant.base + grant.size - 72 → word system k ≡ word heap.system k) where
   abbrev new : Dlmalloc A
   new = new_head heap grant system at
 
@@ -81,22 +81,20 @@ module _ {A : Type 0} {regions : A → List Grant} {word : A → ℕ → ℕ} {h
 
   -- a word of the segment before the record is none of those written
   inside_kept : (k : ℕ) → it.segment.base ≤ k → k ≤ heap.top + 8 → k ≤ at → k % 8 ≡ 0 → (k ≡ heap.top + heap.top_size → small ≡ true) → word system k ≡ word heap.system k
-  inside_kept k low below before m free = kept k (record { granted = old_part.run.covered k low (omega (arith, last_is.1, sizes.1)); aligned = m }) (inl before) free
-      (λ is. elim (grant_beside) [ inl a ↦ omega (arith, last_is.1, sizes.1) | inr b ↦ omega arith ])
+  inside_kept k low below before m free = kept k (record { granted = old_part.run.covered k low (omega (arith, last_is.1, sizes.1)); aligned = m })
+      (inl before) free (λ is. elim (grant_beside) [ inl a ↦ omega (arith, last_is.1, sizes.1) | inr b ↦ omega arith ])
       (λ is. elim (grant_beside) [ inl a ↦ omega (arith, last_is.1, sizes.1) | inr b ↦ omega arith ])
 
   rest_stand : Tiles (word system) (last_kind Used it.first) heap.top rest (it.segment.base + it.segment.size)
-  rest_stand = left_stands (word system) heap.top heap.top_size (record_of_head heap) it.here.1.kind (top_whole sound some) sizes.0 sizes.1 last_is.1
-      small small_is (subst (λ a. IsRecordAt (word system) a (record_of_head heap) (it.segment.base + it.segment.size) small) at_is
-      (subst (λ e. IsRecordAt (word system) at (record_of_head heap) e small) (λ i. was.base i + was.size i) recorded))
-      (λ large. was_top large) left_foot
+  rest_stand = left_stands (word system) heap.top heap.top_size (record_of_head heap) it.here.1.kind (top_whole sound some) sizes.0 sizes.1 last_is.1 small
+      small_is (subst (λ a. IsRecordAt (word system) a (record_of_head heap) (it.segment.base + it.segment.size) small) at_is
+      (subst (λ e. IsRecordAt (word system) at (record_of_head heap) e small) (λ i. was.base i + was.size i) recorded)) (λ large. was_top large) left_foot
     where
       was_top : small ≡ false → word system (heap.top + 8) ≡ heap.top_size + 1
       was_top large =
           let there : at ≡ heap.top + heap.top_size = at_is ∙ ap (λ b. place b heap.top heap.top_size) large in
           inside_kept (heap.top + 8) (omega (arith, low_top)) (omega arith) (omega (arith, sizes.1)) (omega (arith, top_whole sound some))
-          (λ is. absurd (omega (arith, sizes.1)))
-          ∙ (it.here.1.head ∙ (ap (λ k. head_of heap.top_size (is_used k) false) it.here.1.kind ∙ omega arith))
+          (λ is. absurd (omega (arith, sizes.1))) ∙ (it.here.1.head ∙ (ap (λ k. head_of heap.top_size (is_used k) false) it.here.1.kind ∙ omega arith))
 
   is_now : IsSegment (regions system) (word system) now
   is_now = record {
@@ -107,15 +105,15 @@ module _ {A : Type 0} {regions : A → List Grant} {word : A → ℕ → ℕ} {h
     extents = tiles_append (word system) Used it.segment.base it.first rest heap.top (it.segment.base + it.segment.size)
         (tiles_kept (word heap.system) (word system) Used it.segment.base it.first heap.top it.first_stand
         (λ k above below m free. inside_kept k (omega arith) (omega arith) (omega (arith, bounds.0)) m (λ is. absurd (omega (arith, sizes.1))))) rest_stand;
-    tail = ap ends_segment (last_append Used it.first rest) ∙ left_tail (word system) heap.top heap.top_size (record_of_head heap) it.here.1.kind (top_whole sound some) sizes.0 sizes.1 last_is.1 small;
+    tail = ap ends_segment (last_append Used it.first rest)
+        ∙ left_tail (word system) heap.top heap.top_size (record_of_head heap) it.here.1.kind (top_whole sound some) sizes.0 sizes.1 last_is.1 small;
   }
 
   outside_kept : (k : ℕ) → IsWordOf (regions heap.system) k → IsOutside it.segment k → IsOutside (opened grant) k → word system k ≡ word heap.system k
   outside_kept k inside first second = kept k inside
       (elim first [ inl below ↦ inl (omega (arith, low_top, bounds.0)) | inr above ↦ inr (omega (arith, was.base, was.size)) ])
-      (λ is. absurd (elim first [ inl below ↦ omega (arith, low_top) | inr above ↦ omega (arith, last_is.1) ]))
-      (λ is. elim second [ inl below ↦ omega arith | inr above ↦ omega arith ])
-      (λ is. elim second [ inl below ↦ omega arith | inr above ↦ omega arith ])
+      (λ is. absurd (elim first [ inl below ↦ omega (arith, low_top) | inr above ↦ omega (arith, last_is.1) ])) (λ is. elim second
+      [ inl below ↦ omega arith | inr above ↦ omega arith ]) (λ is. elim second [ inl below ↦ omega arith | inr above ↦ omega arith ])
 
   abbrev all : List Segment
   all = opened grant ∷ now ∷ it.back
@@ -150,9 +148,8 @@ module _ {A : Type 0} {regions : A → List Grant} {word : A → ℕ → ℕ} {h
   before = extent heap.top heap.top_size Top ∷ extent (it.segment.base + it.segment.size - 80) 80 Foot ∷ []
 
   extents_were : extents_in (state_of word heap) ≡ it.first ++ (before ++ extents_all it.back)
-  extents_were = ap extents_all (segments_are system sound fresh same some)
-      ∙ (ap (λ es. es ++ extents_all it.back) (it.extents ∙ ap (λ es. it.first ++ extent heap.top heap.top_size Top ∷ es) last_is.0)
-      ∙ append_assoc it.first before (extents_all it.back))
+  extents_were = ap extents_all (segments_are system sound fresh same some) ∙ (ap (λ es. es ++ extents_all it.back)
+      (it.extents ∙ ap (λ es. it.first ++ extent heap.top heap.top_size Top ∷ es) last_is.0) ∙ append_assoc it.first before (extents_all it.back))
 
   abbrev exchange : Exchange regions word heap new
   exchange = record {
@@ -181,13 +178,14 @@ module _ {A : Type 0} {regions : A → List Grant} {word : A → ℕ → ℕ} {h
   -- ---- the free extents
 
   pub added_free : FreeMoves (state_of word heap) (state_of word new) [] (left_free small heap.top)
-  added_free = exchanged_free sound exchange ((λ is. cc), ((λ is. cc), tt)) [] (left_free small heap.top) (λ k size found. absurd (none_of Free before k ((λ is. cc), ((λ is. cc), tt)) refl found)) (in_left small heap.top heap.top_size)
+  added_free = exchanged_free sound exchange ((λ is. cc), ((λ is. cc), tt)) [] (left_free small heap.top)
+      (λ k size found. absurd (none_of Free before k ((λ is. cc), ((λ is. cc), tt)) refl found)) (in_left small heap.top heap.top_size)
       (λ k none. absurd none) (λ k came. inr (left_there small heap.top heap.top_size k came))
 
   pub added_rest : small ≡ false → IsFreeAt (state_of word new) heap.top heap.top_size
-  added_rest large = exchanged_found sound exchange heap.top
-      (found_later heap.top it.first (rest ++ extents_all it.back) (none_outside (word heap.system) Used it.segment.base it.first heap.top heap.top (inr (omega arith)) it.first_stand)
-      ∙ found_more heap.top rest (extents_all it.back) (subst (λ b. extent_at heap.top (left b heap.top heap.top_size) ≡ Some (extent heap.top heap.top_size Free)) (sym large)
+  added_rest large = exchanged_found sound exchange heap.top (found_later heap.top it.first (rest ++ extents_all it.back)
+      (none_outside (word heap.system) Used it.segment.base it.first heap.top heap.top (inr (omega arith)) it.first_stand) ∙ found_more heap.top rest
+      (extents_all it.back) (subst (λ b. extent_at heap.top (left b heap.top heap.top_size) ≡ Some (extent heap.top heap.top_size Free)) (sym large)
       (found_here (extent heap.top heap.top_size Free) (extent (heap.top + heap.top_size) 80 Record ∷ []))))
 
   pub added_sound : IsSound regions word new
@@ -199,7 +197,8 @@ module _ {A : Type 0} {regions : A → List Grant} {word : A → ℕ → ℕ} {h
       kept k inside out free (λ is. tags.0 (omega arith)) (λ is. tags.1 (omega arith))
     where
       there : (k : ℕ) (one : Extent) → extent_at k now.extents ≡ Some one → extent_at k (extents_in (state_of word new)) ≡ Some one
-      there k one found = exchanged_found sound exchange k (ap (extent_at k) (sym (append_assoc it.first rest (extents_all it.back))) ∙ found_more k now.extents (extents_all it.back) found)
+      there k one found = exchanged_found sound exchange k
+          (ap (extent_at k) (sym (append_assoc it.first rest (extents_all it.back))) ∙ found_more k now.extents (extents_all it.back) found)
 
       out : (k ≤ at) ⊎ (heap.base + heap.size ≤ k)
       out = elim (dec_lt at k) [
@@ -223,18 +222,18 @@ module _ {A : Type 0} {regions : A → List Grant} {word : A → ℕ → ℕ} {h
           go true test = refl
           go false test = absurd (boundary (record {
             extent = extent heap.top heap.top_size Free;
-            there = there heap.top (extent heap.top heap.top_size Free)
-                (found_later heap.top it.first rest (none_outside (word heap.system) Used it.segment.base it.first heap.top heap.top (inr (omega arith)) it.first_stand)
-                ∙ (ap (λ b. extent_at heap.top (left b heap.top heap.top_size)) test ∙ found_here (extent heap.top heap.top_size Free) (extent (heap.top + heap.top_size) 80 Record ∷ [])));
+            there = there heap.top (extent heap.top heap.top_size Free) (found_later heap.top it.first rest (none_outside
+                (word heap.system) Used it.segment.base it.first heap.top heap.top (inr (omega arith)) it.first_stand) ∙ (ap (λ b. extent_at heap.top (left b
+                heap.top heap.top_size)) test ∙ found_here (extent heap.top heap.top_size Free) (extent (heap.top + heap.top_size) 80 Record ∷ [])));
             is = inr (refl, is);
           }))
 
   -- of the grant the heads of the top and of its foot alone are written
-  pub added_new : (k : ℕ) → IsWordOf (regions heap.system) k → grant.base ≤ k → k < grant.base + grant.size → k ≢ new.top + 8 → k ≢ new.top + new.top_size + 8 → word system k ≡ word heap.system k
-  added_new k inside low high not_top not_foot = kept k inside
-      (elim (grant_beside) [ inl a ↦ inr (omega (arith, was.base, was.size)) | inr b ↦ inl (omega (arith, low_top, bounds.0)) ])
-      (λ is. absurd (elim (grant_beside) [ inl a ↦ omega (arith, last_is.1) | inr b ↦ omega (arith, low_top) ]))
-      (λ is. not_top (omega arith)) (λ is. not_foot (omega arith))
+  pub added_new : (k : ℕ) → IsWordOf (regions heap.system) k → grant.base ≤ k → k < grant.base + grant.size → k ≢ new.top + 8 →
+      k ≢ new.top + new.top_size + 8 → word system k ≡ word heap.system k
+  added_new k inside low high not_top not_foot = kept k inside (elim (grant_beside)
+      [ inl a ↦ inr (omega (arith, was.base, was.size)) | inr b ↦ inl (omega (arith, low_top, bounds.0)) ]) (λ is. absurd (elim (grant_beside)
+      [ inl a ↦ omega (arith, last_is.1) | inr b ↦ omega (arith, low_top) ])) (λ is. not_top (omega arith)) (λ is. not_foot (omega arith))
 
   pub added_state : (n : ℕ) → state_of word new ≡ granted grant n (state_of word heap)
   added_state n =
@@ -253,19 +252,18 @@ module _ {A : Type 0} {regions : A → List Grant} {word : A → ℕ → ℕ} {h
       after = (let one = apart in let two = none in rw (one, two) refl)
 
       chunks : AreChunks it.first
-      chunks = are_chunks (word heap.system) Used it.segment.base it.first (extent heap.top heap.top_size Top) it.last (it.segment.base + it.segment.size) (λ is. cc)
-          (subst (λ es. Tiles (word heap.system) Used it.segment.base es (it.segment.base + it.segment.size)) it.extents old_part.extents)
+      chunks = are_chunks (word heap.system) Used it.segment.base it.first (extent heap.top heap.top_size Top) it.last (it.segment.base + it.segment.size)
+          (λ is. cc) (subst (λ es. Tiles (word heap.system) Used it.segment.base es (it.segment.base + it.segment.size)) it.extents old_part.extents)
 
       closed_are : flat_map closed it.segment.extents ≡ it.first ++ rest
       closed_are =
           ap (flat_map closed) (it.extents ∙ ap (λ es. it.first ++ extent heap.top heap.top_size Top ∷ es) last_is.0)
-          ∙ (flat_map-append closed it.first before
-          ∙ (λ i. closed_chunks it.first chunks i ++ of_top small small_is i))
+          ∙ (flat_map-append closed it.first before ∙ (λ i. closed_chunks it.first chunks i ++ of_top small small_is i))
         where
           of_top : (b : Bool) → (heap.top_size == 16) ≡ b → flat_map closed before ≡ left b heap.top heap.top_size
           of_top true is = rw is refl
           of_top false is = rw is refl
 
       segments_now : segments_of word new ≡ opened grant ∷ without_top it.segment ∷ it.back
-      segments_now = exchanged_read sound exchange
-          ∙ (λ i. opened grant ∷ (record { base = it.segment.base; size = it.segment.size; flags = it.segment.flags; extents = (sym closed_are) i }) ∷ it.back)
+      segments_now = exchanged_read sound exchange ∙ (λ i. opened
+          grant ∷ (record { base = it.segment.base; size = it.segment.size; flags = it.segment.flags; extents = (sym closed_are) i }) ∷ it.back)

@@ -26,7 +26,8 @@ record_place at top size is units long = go (nat_lt size 32) refl is
         (other ∙ sym beyond, is ∙ ap (λ b. place b top size) (sym beyond))
 
 -- it is in the segment
-pub record_bounds : (at top size : ℕ) {end : ℕ} → at ≡ (if nat_lt size 32 then top else top + size) → top % 16 ≡ 0 → size % 16 ≡ 0 → 16 ≤ size → top + size + 80 ≡ end → (top ≤ at) × (at + 80 ≤ end) × (at % 16 ≡ 0)
+pub record_bounds : (at top size : ℕ) {end : ℕ} → at ≡ (if nat_lt size 32 then top else top + size) → top % 16 ≡ 0 → size % 16 ≡ 0 →
+    16 ≤ size → top + size + 80 ≡ end → (top ≤ at) × (at + 80 ≤ end) × (at % 16 ≡ 0)
 record_bounds at top size {end} is whole units long ends = go (nat_lt size 32) is
   where
     go : (b : Bool) → at ≡ (if b then top else top + size) → (top ≤ at) × (at + 80 ≤ end) × (at % 16 ≡ 0)
@@ -41,9 +42,9 @@ large_at top size is large = (let test : nat_lt size 32 ≡ false = grind (arith
 pub ends_same : {A : Type 0} (heap : Dlmalloc A) {middle : Dlmalloc A} → middle ≡ record heap { system = middle.system } → middle.base + middle.size ≡ heap.base + heap.size
 ends_same {A} heap is = ap (λ h. h.base + h.size) is
 
-pub told_same : {A : Type 0} {words : ℕ → ℕ} (at : ℕ) (heap : Dlmalloc A) {middle : Dlmalloc A} → middle ≡ record heap { system = middle.system } →
-    IsRecordAt words at (record { base = middle.base; size = middle.size; next = middle.next; flags = middle.flags }) (middle.base + middle.size) (at == middle.top) →
-    IsRecordAt words at (record_of_head heap) (heap.base + heap.size) (at == heap.top)
+pub told_same : {A : Type 0} {words : ℕ → ℕ} (at : ℕ) (heap : Dlmalloc A) {middle : Dlmalloc A} → middle ≡ record heap
+    { system = middle.system } → IsRecordAt words at (record { base = middle.base; size = middle.size; next = middle.next; flags = middle.flags })
+    (middle.base + middle.size) (at == middle.top) → IsRecordAt words at (record_of_head heap) (heap.base + heap.size) (at == heap.top)
 told_same {A} {words} at heap is told = subst (λ h. IsRecordAt words at (record { base = h.base; size = h.size; next = h.next; flags = h.flags }) (h.base + h.size) (at == h.top)) is told
 
 module _ {A : Type 0} {regions : A → List Grant} {word : A → ℕ → ℕ} {heap : Dlmalloc A} (sound : IsSound regions word heap) (some : 0 < heap.size) where
@@ -55,13 +56,13 @@ module _ {A : Type 0} {regions : A → List Grant} {word : A → ℕ → ℕ} {h
   -- the grant is beside the head segment
   pub beside_head : (grant : Grant) → IsFresh (regions heap.system) (segments_of word heap) grant → (heap.base + heap.size ≤ grant.base) ⊎ (grant.base + grant.size ≤ heap.base)
   beside_head grant fresh =
-      let run = top_run sound some in
-      let is = top_segment sound some in
+      let run = top_run sound some in let is = top_segment sound some in
       let apart = (subst (AllByRecursion (λ segment. IsApartFrom segment (opened grant))) (run.is ∙ ap (λ front. front ++ run.segment ∷ run.back) (top_front sound some)) fresh.apart).0 in
       elim apart [ inl before ↦ inl (omega arith) | inr behind ↦ inr (omega arith) ]
 
 -- a record rests on its own words
-pub record_kept : {old : ℕ → ℕ} (new : ℕ → ℕ) {at : ℕ} {told : SegmentRecord} {end : ℕ} {behind : Bool} → at % 8 ≡ 0 → at + 80 ≤ end → ((k : ℕ) → at < k → k < end → k % 8 ≡ 0 → new k ≡ old k) → IsRecordAt old at told end behind → IsRecordAt new at told end behind
+pub record_kept : {old : ℕ → ℕ} (new : ℕ → ℕ) {at : ℕ} {told : SegmentRecord} {end : ℕ} {behind : Bool} → at % 8 ≡ 0 → at + 80 ≤ end →
+    ((k : ℕ) → at < k → k < end → k % 8 ≡ 0 → new k ≡ old k) → IsRecordAt old at told end behind → IsRecordAt new at told end behind
 record_kept new {at} whole room same h = record {
   head = same (at + 8) (omega arith) (omega arith) (omega arith) ∙ h.head;
   base = same (at + 16) (omega arith) (omega arith) (omega arith) ∙ h.base;
@@ -71,21 +72,23 @@ record_kept new {at} whole room same h = record {
   fences = λ k low high m. same k (omega arith) high m ∙ h.fences k low high m;
 }
 
-module _ {A : Type 0} {regions : A → List Grant} {word : A → ℕ → ℕ} (follows : A → List Event → A → Type 0) {heap : Dlmalloc A} (sound : IsSound regions word heap) {grant : Grant}
-    (fresh : IsFresh (regions heap.system) (segments_of word heap) grant) (some : 0 < heap.size)
-    (beside : is_behind grant (bare_head heap) ≡ false) (no_join : is_put_before grant (segments_of word heap) ≡ false)
-    (system : A) (same : regions system ≡ regions heap.system) {at : ℕ} (at_is : at ≡ (if nat_lt heap.top_size 32 then heap.top else heap.top + heap.top_size))
-    (head : word system (grant.base + 8) ≡ grant.base + grant.size - 80 - grant.base + 1) (foot : word system (grant.base + grant.size - 72) ≡ 80)
-    (recorded : IsRecordAt (word system) at (record_of_head heap) (heap.base + heap.size) (at == heap.top))
-    (left_foot : 32 ≤ heap.top_size → word system (heap.top + heap.top_size) ≡ heap.top_size)
-    (kept : (k : ℕ) → IsWordOf (regions heap.system) k → (k ≤ at) ⊎ (heap.base + heap.size ≤ k) → (k ≡ heap.top + heap.top_size → heap.top_size < 32) → k ≢ grant.base + 8 → k ≢ grant.base + grant.size - 72 → word system k ≡ word heap.system k) where
+module _ {A : Type 0} {regions : A → List Grant} {word : A → ℕ → ℕ} (follows : A → List Event → A → Type 0) {heap : Dlmalloc A} (sound : IsSound
+    regions word heap) {grant : Grant} (fresh : IsFresh (regions heap.system) (segments_of word heap) grant) (some : 0 < heap.size) (beside : is_behind grant
+    (bare_head heap) ≡ false) (no_join : is_put_before grant (segments_of word heap) ≡ false) (system : A) (same : regions system ≡ regions heap.system)
+    {at : ℕ} (at_is : at ≡ (if nat_lt heap.top_size 32 then heap.top else heap.top + heap.top_size)) (head : word system (grant.base + 8) ≡ grant.base
+    + grant.size - 80 - grant.base + 1) (foot : word system (grant.base + grant.size - 72) ≡ 80) (recorded : IsRecordAt (word system) at (record_of_head heap)
+    (heap.base + heap.size) (at == heap.top)) (left_foot : 32 ≤ heap.top_size → word system (heap.top + heap.top_size) ≡ heap.top_size)
+    (kept : (k : ℕ) → IsWordOf (regions heap.system) k → (k ≤ at) ⊎ (heap.base + heap.size ≤ k) → (k ≡ heap.top + heap.top_size →
+    heap.top_size < 32) → k ≢ grant.base + 8 → k ≢ grant.base + grant.size - 72 → word system k ≡ word heap.system k) where
   where_is : ((heap.top_size == 16) ≡ (at == heap.top)) × (at ≡ place (at == heap.top) heap.top heap.top_size)
   where_is = record_place at heap.top heap.top_size at_is (top_sizes sound some).0 (top_sizes sound some).1
 
   foot_stands : (at == heap.top) ≡ false → word system (heap.top + heap.top_size) ≡ heap.top_size
-  foot_stands large = left_foot (let other : (heap.top_size == 16) ≡ false = where_is.0 ∙ large in let units = (top_sizes sound some).0 in let long = (top_sizes sound some).1 in grind (arith, nat_tests))
+  foot_stands large = left_foot (let other : (heap.top_size == 16) ≡ false = where_is.0 ∙ large in let units = (top_sizes sound some).0 in
+      let long = (top_sizes sound some).1 in grind (arith, nat_tests))
 
-  kept_all : (k : ℕ) → IsWordOf (regions heap.system) k → (k ≤ at) ⊎ (heap.base + heap.size ≤ k) → (k ≡ heap.top + heap.top_size → (at == heap.top) ≡ true) → k ≢ grant.base + 8 → k ≢ grant.base + grant.size - 72 → word system k ≡ word heap.system k
+  kept_all : (k : ℕ) → IsWordOf (regions heap.system) k → (k ≤ at) ⊎ (heap.base + heap.size ≤ k) → (k ≡ heap.top + heap.top_size →
+      (at == heap.top) ≡ true) → k ≢ grant.base + 8 → k ≢ grant.base + grant.size - 72 → word system k ≡ word heap.system k
   kept_all k inside out free not_top not_foot = kept k inside out (λ is. (let sixteen : (heap.top_size == 16) ≡ true = where_is.0 ∙ free is in grind (arith, nat_tests))) not_top not_foot
 
   joined_new : follows heap.system [] system → IsAdmitted regions word follows heap grant (new_head heap grant system at)
@@ -104,7 +107,8 @@ module _ {A : Type 0} {regions : A → List Grant} {word : A → ℕ → ℕ} (f
 
   small_is : (b : Bool) → (at == heap.top) ≡ b → left_free b heap.top ≡ (if nat_le 32 heap.top_size then heap.top ∷ [] else [])
   small_is true is = (let sixteen : (heap.top_size == 16) ≡ true = where_is.0 ∙ is in let few : nat_le 32 heap.top_size ≡ false = grind (arith, nat_tests) in rw few refl)
-  small_is false is = (let other : (heap.top_size == 16) ≡ false = where_is.0 ∙ is in let units = (top_sizes sound some).0 in let long = (top_sizes sound some).1 in let many : nat_le 32 heap.top_size ≡ true = grind (arith, nat_tests) in rw many refl)
+  small_is false is = (let other : (heap.top_size == 16) ≡ false = where_is.0 ∙ is in let units = (top_sizes sound some).0 in
+      let long = (top_sizes sound some).1 in let many : nat_le 32 heap.top_size ≡ true = grind (arith, nat_tests) in rw many refl)
 
   -- what was the top is free, if it has more than 16 bytes
   new_free : FreeMoves (state_of word heap) (state_of word (new_head heap grant system at)) [] (if nat_le 32 heap.top_size then heap.top ∷ [] else [])
@@ -116,8 +120,7 @@ module _ {A : Type 0} {regions : A → List Grant} {word : A → ℕ → ℕ} (f
       (sym (where_is.0) ∙ (let other : (heap.top_size == 16) ≡ false = nat_isnt (inr (omega arith)) in other))
 
   -- all three
-  pub new_added : follows heap.system [] system →
-      IsAdmitted regions word follows heap grant (new_head heap grant system at)
-      × FreeMoves (state_of word heap) (state_of word (new_head heap grant system at)) [] (if nat_le 32 heap.top_size then heap.top ∷ [] else [])
-      × (32 ≤ heap.top_size → IsFreeAt (state_of word (new_head heap grant system at)) heap.top heap.top_size)
+  pub new_added : follows heap.system [] system → IsAdmitted regions word follows heap grant (new_head heap grant system at) × FreeMoves (state_of word heap)
+      (state_of word (new_head heap grant system at)) [] (if nat_le 32 heap.top_size then heap.top ∷ [] else []) × (32 ≤ heap.top_size →
+      IsFreeAt (state_of word (new_head heap grant system at)) heap.top heap.top_size)
   new_added followed = (joined_new followed, new_free, new_rest)

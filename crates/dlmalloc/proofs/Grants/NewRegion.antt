@@ -4,23 +4,27 @@ use Rattle.dlmalloc.proofs.Segments.RegionsMore.{run_apart, run_alone}
 use Rattle.dlmalloc.proofs.Blocks.WordsOutside.{still_sound, still_state, still_binned}
 
 -- a grant that is apart from a segment is none of its regions
-not_in : (segment : Segment) (grant : Grant) (regions : List Grant) → 0 < grant.size → IsApartFrom segment (opened grant) → regions_in segment (grant ∷ regions) ≡ regions_in segment regions
+not_in : (segment : Segment) (grant : Grant) (regions : List Grant) → 0 < grant.size → IsApartFrom segment (opened grant) →
+    regions_in segment (grant ∷ regions) ≡ regions_in segment regions
 not_in segment grant regions some apart = (let test = out in rw test refl)
   where
     out : (nat_lt grant.base (segment.base + segment.size) && nat_lt segment.base (grant.base + grant.size)) ≡ false
     out = elim apart [ inl before ↦ grind (arith, nat_tests) | inr behind ↦ grind (arith, nat_tests) ]
 
 -- the regions of a segment stay with a grant that is apart from it
-same_in : (segment : Segment) (grant : Grant) (regions : List Grant) → 0 < grant.size → IsApartFrom segment (opened grant) → regions_in segment (with_grant grant regions) ≡ regions_in segment regions
+same_in : (segment : Segment) (grant : Grant) (regions : List Grant) → 0 < grant.size → IsApartFrom segment (opened grant) →
+    regions_in segment (with_grant grant regions) ≡ regions_in segment regions
 same_in segment grant [] some apart = not_in segment grant [] some apart
 same_in segment grant (region ∷ regions) some apart = split (nat_lt grant.base region.base) (same_in segment grant regions some apart)
   where
-    split : (b : Bool) → regions_in segment (with_grant grant regions) ≡ regions_in segment regions → regions_in segment (if b then grant ∷ region ∷ regions else region ∷ with_grant grant regions) ≡ regions_in segment (region ∷ regions)
+    split : (b : Bool) → regions_in segment (with_grant grant regions) ≡ regions_in segment regions →
+        regions_in segment (if b then grant ∷ region ∷ regions else region ∷ with_grant grant regions) ≡ regions_in segment (region ∷ regions)
     split true rest = not_in segment grant (region ∷ regions) some apart
     split false rest = ap (λ others. if nat_lt region.base (segment.base + segment.size) && nat_lt segment.base (region.base + region.size) then region ∷ others else others) rest
 
-module _ {A : Type 0} {regions : A → List Grant} {word : A → ℕ → ℕ} {heap : Dlmalloc A} (sound : IsSound regions word heap) (system : A) {asked : ℕ} (enough : 128 ≤ asked) {grant : Grant} (good : IsGoodGrant asked grant)
-    (apart : AllByRecursion (IsApart grant.base (grant.base + grant.size)) (regions heap.system)) (with_it : regions system ≡ with_grant grant (regions heap.system))
+module _ {A : Type 0} {regions : A → List Grant} {word : A → ℕ → ℕ} {heap : Dlmalloc A} (sound : IsSound regions word heap) (system : A) {asked : ℕ}
+    (enough : 128 ≤ asked) {grant : Grant} (good : IsGoodGrant asked grant) (apart : AllByRecursion (IsApart grant.base (grant.base + grant.size))
+    (regions heap.system)) (with_it : regions system ≡ with_grant grant (regions heap.system))
     (words : (k : ℕ) → IsWordOf (regions heap.system) k → word system k ≡ word heap.system k) where
   long : 128 ≤ grant.size
   long = omega arith

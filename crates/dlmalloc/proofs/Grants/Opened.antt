@@ -20,8 +20,8 @@ opened_heap heap grant system countdown = record heap {
   trim_check = trim_threshold;
 }
 
-module _ {A : Type 0} {regions : A → List Grant} {word : A → ℕ → ℕ} {heap : Dlmalloc A} (system : A) (sound : IsSound regions word heap) {grant : Grant}
-    (fresh : IsFresh (regions heap.system) (segments_of word heap) grant) (same : regions system ≡ regions heap.system) where
+module _ {A : Type 0} {regions : A → List Grant} {word : A → ℕ → ℕ} {heap : Dlmalloc A} (system : A) (sound : IsSound regions word heap)
+    {grant : Grant} (fresh : IsFresh (regions heap.system) (segments_of word heap) grant) (same : regions system ≡ regions heap.system) where
   -- ---- the grant as the head segment
 
   module _ (head : word system (grant.base + 8) ≡ grant.base + grant.size - 80 - grant.base + 1) (foot : word system (grant.base + grant.size - 72) ≡ 80) where
@@ -44,9 +44,9 @@ module _ {A : Type 0} {regions : A → List Grant} {word : A → ℕ → ℕ} {h
         stands : Tiles (word system) Used grant.base (opened grant).extents (grant.base + grant.size)
         stands =
             let place : grant.base + bytes + 8 ≡ grant.base + grant.size - 72 = omega (arith, fits) in
-            subst (λ end. Tiles (word system) Used grant.base (opened grant).extents end) fits
-            (subst (λ at. Tiles (word system) Used grant.base (extent grant.base bytes Top ∷ extent at 80 Foot ∷ []) (grant.base + bytes + 80)) (omega (arith, fits))
-            (top_stands (word system) {before = Used} grant.base bytes refl fresh.base_aligned (omega (arith, fits)) (omega (arith, fits)) head (ap (word system) place ∙ foot)))
+            subst (λ end. Tiles (word system) Used grant.base (opened grant).extents end) fits (subst (λ at. Tiles (word system) Used grant.base
+            (extent grant.base bytes Top ∷ extent at 80 Foot ∷ []) (grant.base + bytes + 80)) (omega (arith, fits)) (top_stands (word system)
+            {before = Used} grant.base bytes refl fresh.base_aligned (omega (arith, fits)) (omega (arith, fits)) head (ap (word system) place ∙ foot)))
 
     -- ---- the first grant
 
@@ -74,7 +74,8 @@ module _ {A : Type 0} {regions : A → List Grant} {word : A → ℕ → ℕ} {h
           go true is = (let t = is in grind (arith, nat_tests))
           go false isnt =
               let found = sound.victim (grind (arith, nat_tests)) in
-              absurd (let gone : extent_at heap.victim [] ≡ Some (extent heap.victim heap.victim_size Free) = ap (λ ss. extent_at heap.victim (flat_map (λ s. s.extents) ss)) (sym (no_segments word heap none)) ∙ found in cc)
+              absurd (let gone : extent_at heap.victim [] ≡ Some (extent heap.victim heap.victim_size Free) = ap (λ ss. extent_at heap.victim
+              (flat_map (λ s. s.extents) ss)) (sym (no_segments word heap none)) ∙ found in cc)
 
       pub opened_sound : IsSound regions word new
       opened_sound = retold_sound regions word new (opened grant ∷ []) (opened_segment, tt) (tt, tt) told sound.granularity (omega arith) sound.no_victim (λ some. absurd (some no_victim))
@@ -87,13 +88,14 @@ module _ {A : Type 0} {regions : A → List Grant} {word : A → ℕ → ℕ} {h
       -- no extent is in use before, nor after
       pub opened_used : HasSameUsed (state_of word heap) (state_of word new)
       opened_used = record {
-        still = λ used is there.
-            absurd (let gone : None ≡ Some used = ap (λ ss. extent_at used.at (flat_map (λ s. s.extents) ss)) (sym (no_segments word heap none)) ∙ there in cc);
-        before = λ used is there.
-            absurd (no_used used is (grant.base == used.at) (grant.base + grant.size - 80 == used.at) (ap (λ ss. extent_at used.at (flat_map (λ s. s.extents) ss)) (sym opened_read) ∙ there));
+        still = λ used is there. absurd
+            (let gone : None ≡ Some used = ap (λ ss. extent_at used.at (flat_map (λ s. s.extents) ss)) (sym (no_segments word heap none)) ∙ there in cc);
+        before = λ used is there. absurd (no_used used is (grant.base == used.at) (grant.base + grant.size - 80 == used.at)
+            (ap (λ ss. extent_at used.at (flat_map (λ s. s.extents) ss)) (sym opened_read) ∙ there));
       }
         where
-          no_used : (used : Extent) → used.kind ≡ Used → (b d : Bool) → (if b then Some (extent grant.base bytes Top) else if d then Some (extent (grant.base + grant.size - 80) 80 Foot) else None) ≡ Some used → ⊥
+          no_used : (used : Extent) → used.kind ≡ Used → (b d : Bool) →
+              (if b then Some (extent grant.base bytes Top) else if d then Some (extent (grant.base + grant.size - 80) 80 Foot) else None) ≡ Some used → ⊥
           no_used used is true d found = (let k : Top ≡ used.kind = ap (λ o. (unwrap_or o used).kind) found in let no : Top ≡ Used = k ∙ is in cc)
           no_used used is false true found = (let k : Foot ≡ used.kind = ap (λ o. (unwrap_or o used).kind) found in let no : Foot ≡ Used = k ∙ is in cc)
           no_used used is false false found = cc
@@ -101,13 +103,14 @@ module _ {A : Type 0} {regions : A → List Grant} {word : A → ℕ → ℕ} {h
       -- no free extent but the top is there before, nor after
       pub opened_free : FreeMoves (state_of word heap) (state_of word new) [] []
       opened_free = record {
-        stays = λ k size free out.
-            absurd (let gone : None ≡ Some (extent k size Free) = ap (λ ss. extent_at k (flat_map (λ s. s.extents) ss)) (sym (no_segments word heap none)) ∙ free in cc);
-        was = λ k size free out.
-            absurd (no_free k size (grant.base == k) (grant.base + grant.size - 80 == k) (ap (λ ss. extent_at k (flat_map (λ s. s.extents) ss)) (sym opened_read) ∙ free));
+        stays = λ k size free out. absurd (let gone : None ≡ Some (extent k size Free) = ap (λ ss. extent_at k (flat_map (λ s. s.extents) ss))
+            (sym (no_segments word heap none)) ∙ free in cc);
+        was = λ k size free out. absurd (no_free k size (grant.base == k) (grant.base + grant.size - 80 == k)
+            (ap (λ ss. extent_at k (flat_map (λ s. s.extents) ss)) (sym opened_read) ∙ free));
       }
         where
-          no_free : (k size : ℕ) (b d : Bool) → (if b then Some (extent grant.base bytes Top) else if d then Some (extent (grant.base + grant.size - 80) 80 Foot) else None) ≡ Some (extent k size Free) → ⊥
+          no_free : (k size : ℕ) (b d : Bool) → (if b then Some (extent grant.base bytes Top) else if d then Some
+              (extent (grant.base + grant.size - 80) 80 Foot) else None) ≡ Some (extent k size Free) → ⊥
           no_free k size true d found = (let no : Top ≡ Free = ap (λ o. (unwrap_or o (extent k size Free)).kind) found in cc)
           no_free k size false true found = (let no : Foot ≡ Free = ap (λ o. (unwrap_or o (extent k size Free)).kind) found in cc)
           no_free k size false false found = cc
@@ -152,4 +155,5 @@ module _ {A : Type 0} {regions : A → List Grant} {word : A → ℕ → ℕ} {h
       parts_kept = subst (λ rs. AreSegments rs (word system) run.back) (sym same) (parts_stay (regions heap.system) (word heap.system) (word system) run.back back_parts back_keeps)
 
       pub told_kept : AreRecords (word system) heap.next run.back
-      told_kept = records_stay (regions heap.system) (word heap.system) (word system) run.back back_parts back_keeps heap.next ((subst (AreTold (word heap.system) heap) segments_are sound.told).5)
+      told_kept = records_stay (regions heap.system) (word heap.system) (word system) run.back back_parts back_keeps heap.next
+          ((subst (AreTold (word heap.system) heap) segments_are sound.told).5)

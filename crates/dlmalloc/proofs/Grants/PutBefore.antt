@@ -17,7 +17,8 @@ pub flip : (one : Segment) (others : List Segment) → AllByRecursion (λ other.
 flip one [] all = tt
 flip one (other ∷ others) all = (apart_back other one all.0, flip one others all.1)
 
-pub parts_around : {regions : List Grant} {words : ℕ → ℕ} {now : Segment} (front back : List Segment) → AreSegments regions words front → IsSegment regions words now → AreSegments regions words back → AreSegments regions words (front ++ now ∷ back)
+pub parts_around : {regions : List Grant} {words : ℕ → ℕ} {now : Segment} (front back : List Segment) → AreSegments regions words front →
+    IsSegment regions words now → AreSegments regions words back → AreSegments regions words (front ++ now ∷ back)
 parts_around [] back first one last = (one, last)
 parts_around (other ∷ front) back first one last = (first.0, parts_around front back first.1 one last)
 
@@ -36,8 +37,8 @@ pub record IsJoining {A : Type 0} (regions : A → List Grant) (word : A → ℕ
   pub untold : (k : ℕ) → IsOutside segment k → IsUntold k
   pub kept : (k : ℕ) → IsWordOf (regions heap.system) k → k ≢ grant.base + 8 → k ≢ grant.base + n + 8 → IsUntold k → word system k ≡ word heap.system k
 
-module _ {A : Type 0} {regions : A → List Grant} {word : A → ℕ → ℕ} {heap : Dlmalloc A} (new : Dlmalloc A) (sound : IsSound regions word heap) {grant : Grant} {n : ℕ} {IsUntold : ℕ → Type 0}
-    (joint : IsJoining regions word heap new.system grant n IsUntold) where
+module _ {A : Type 0} {regions : A → List Grant} {word : A → ℕ → ℕ} {heap : Dlmalloc A} (new : Dlmalloc A) (sound : IsSound regions word heap)
+    {grant : Grant} {n : ℕ} {IsUntold : ℕ → Type 0} (joint : IsJoining regions word heap new.system grant n IsUntold) where
   open joint use {fresh, same, multiple, least, room, front, segment, back, is, joins, untold, kept}
 
   place : segment.base ≡ grant.base + grant.size
@@ -68,16 +69,16 @@ module _ {A : Type 0} {regions : A → List Grant} {word : A → ℕ → ℕ} {h
   back_beside = (all_back (λ other. IsApartFrom other (opened grant)) front (segment ∷ back) beside).1
 
   outside_kept : (k : ℕ) → IsWordOf (regions heap.system) k → IsOutside segment k → IsOutside (opened grant) k → word new.system k ≡ word heap.system k
-  outside_kept k inside first second = kept k inside
-      (λ at. elim second [ inl below ↦ omega arith | inr above ↦ omega arith ])
-      (λ at. elim second [ inl below ↦ omega arith | inr above ↦ omega arith ])
-      (untold k first)
+  outside_kept k inside first second = kept k inside (λ at. elim second [ inl below ↦ omega arith | inr above ↦ omega arith ])
+      (λ at. elim second [ inl below ↦ omega arith | inr above ↦ omega arith ]) (untold k first)
 
   pub front_keeps : AllByRecursion (KeepsIts (word heap.system) (word new.system)) front
-  front_keeps = apart_stay (regions heap.system) (word heap.system) (word new.system) segment (opened grant) front front_parts (flip segment front (front_apart front segment back apart)) front_beside outside_kept
+  front_keeps = apart_stay (regions heap.system) (word heap.system) (word new.system) segment (opened grant) front front_parts
+      (flip segment front (front_apart front segment back apart)) front_beside outside_kept
 
   pub back_keeps : AllByRecursion (KeepsIts (word heap.system) (word new.system)) back
-  back_keeps = apart_stay (regions heap.system) (word heap.system) (word new.system) segment (opened grant) back back_parts (flip segment back (back_apart front segment back apart)) back_beside outside_kept
+  back_keeps = apart_stay (regions heap.system) (word heap.system) (word new.system) segment (opened grant) back back_parts
+      (flip segment back (back_apart front segment back apart)) back_beside outside_kept
 
   abbrev pub now : Segment
   now = put_before grant n segment
@@ -85,8 +86,9 @@ module _ {A : Type 0} {regions : A → List Grant} {word : A → ℕ → ℕ} {h
   abbrev two : List Extent
   two = extent grant.base n Used ∷ extent (grant.base + n) (grant.size - n) Used ∷ []
 
-  module _ (whole : AllByRecursion IsWhole (regions heap.system)) (first : word new.system (grant.base + 8) ≡ head_of n true true) (second : word new.system (grant.base + n + 8) ≡ head_of (grant.size - n) true true)
-      (tiles : Tiles (word new.system) Used segment.base segment.extents (segment.base + segment.size)) (told : AreTold (word new.system) new (front ++ now ∷ back)) where
+  module _ (whole : AllByRecursion IsWhole (regions heap.system)) (first : word new.system (grant.base + 8) ≡ head_of n true true)
+      (second : word new.system (grant.base + n + 8) ≡ head_of (grant.size - n) true true) (tiles : Tiles (word new.system) Used segment.base segment.extents
+      (segment.base + segment.size)) (told : AreTold (word new.system) new (front ++ now ∷ back)) where
     two_stand : Tiles (word new.system) Used grant.base now.extents (grant.base + (grant.size + segment.size))
     two_stand = (
       refl,
@@ -107,8 +109,7 @@ module _ {A : Type 0} {regions : A → List Grant} {word : A → ℕ → ℕ} {h
 
     is_now : IsSegment (regions new.system) (word new.system) now
     is_now = record {
-      run = subst (λ rs. IsRun rs grant.base (grant.size + segment.size) segment.flags) (sym same)
-          (runs_joined place
+      run = subst (λ rs. IsRun rs grant.base (grant.size + segment.size) segment.flags) (sym same) (runs_joined place
           (subst (λ f. IsRun (regions heap.system) grant.base grant.size f) (before_means grant segment joins).1 fresh.run) the_part.run whole);
       low = fresh.low;
       high = omega (arith, the_part.high, place);
@@ -118,10 +119,9 @@ module _ {A : Type 0} {regions : A → List Grant} {word : A → ℕ → ℕ} {h
     }
 
     parts_now : AreSegments (regions new.system) (word new.system) (front ++ now ∷ back)
-    parts_now = parts_around front back
-        (subst (λ rs. AreSegments rs (word new.system) front) (sym same) (parts_stay (regions heap.system) (word heap.system) (word new.system) front front_parts front_keeps))
-        is_now
-        (subst (λ rs. AreSegments rs (word new.system) back) (sym same) (parts_stay (regions heap.system) (word heap.system) (word new.system) back back_parts back_keeps))
+    parts_now = parts_around front back (subst (λ rs. AreSegments rs (word new.system) front) (sym same) (parts_stay (regions heap.system) (word heap.system)
+        (word new.system) front front_parts front_keeps)) is_now (subst (λ rs. AreSegments rs (word new.system) back) (sym same)
+        (parts_stay (regions heap.system) (word heap.system) (word new.system) back back_parts back_keeps))
 
     -- what is apart from the segment and from the grant is apart from both as one
     step : (other : Segment) → 96 < other.size → IsApartFrom other segment → IsApartFrom other (opened grant) → IsApartFrom other now
@@ -133,11 +133,13 @@ module _ {A : Type 0} {regions : A → List Grant} {word : A → ℕ → ℕ} {h
       ]
     ]
 
-    now_back : (others : List Segment) → AreSegments (regions heap.system) (word heap.system) others → AllByRecursion (λ other. IsApartFrom other segment) others → AllByRecursion (λ other. IsApartFrom other (opened grant)) others → AllByRecursion (IsApartFrom now) others
+    now_back : (others : List Segment) → AreSegments (regions heap.system) (word heap.system) others → AllByRecursion (λ other. IsApartFrom other segment)
+        others → AllByRecursion (λ other. IsApartFrom other (opened grant)) others → AllByRecursion (IsApartFrom now) others
     now_back [] p one two = tt
     now_back (other ∷ others) p one two = (apart_back other now (step other p.0.long one.0 two.0), now_back others p.1 one.1 two.1)
 
-    around : (others : List Segment) → AreSegments (regions heap.system) (word heap.system) others → AreApart (others ++ segment ∷ back) → AllByRecursion (λ other. IsApartFrom other (opened grant)) others → AreApart (others ++ now ∷ back)
+    around : (others : List Segment) → AreSegments (regions heap.system) (word heap.system) others → AreApart (others ++ segment ∷ back) →
+        AllByRecursion (λ other. IsApartFrom other (opened grant)) others → AreApart (others ++ now ∷ back)
     around [] p all two = (now_back back back_parts (back_apart front segment back apart) back_beside, all.1)
     around (other ∷ others) p all two = (all_with (IsApartFrom other) others segment now back (λ one. step other p.0.long one two.0) all.0, around others p.1 all.1 two.1)
 
@@ -158,7 +160,8 @@ module _ {A : Type 0} {regions : A → List Grant} {word : A → ℕ → ℕ} {h
 
     -- what is found in the segment is found among all
     pub among_new : (k : ℕ) {one : Extent} → extent_at k now.extents ≡ Some one → extent_at k (extents_all (front ++ now ∷ back)) ≡ Some one
-    among_new k there = ap (extent_at k) (all_among front now back) ∙ distinct_later (extents_all front) (now.extents ++ extents_all back) k (subst AreDistinct (all_among front now back) all_apart) (found_more k now.extents (extents_all back) there)
+    among_new k there = ap (extent_at k) (all_among front now back) ∙ distinct_later (extents_all front) (now.extents ++ extents_all back) k
+        (subst AreDistinct (all_among front now back) all_apart) (found_more k now.extents (extents_all back) there)
 
     found_now : (k : ℕ) {one : Extent} → extent_at k (extents_in (state_of word heap)) ≡ Some one → extent_at k (extents_all (front ++ now ∷ back)) ≡ Some one
     found_now k there = replaced_found k (extents_all front) [] two after (all_among front now back) all_apart (λ found. absurd (cc)) (ap (extent_at k) (sym all_old) ∙ there)
@@ -176,12 +179,14 @@ module _ {A : Type 0} {regions : A → List Grant} {word : A → ℕ → ℕ} {h
         let here = nat_same (grant.base + n) in
         of_two (grant.base + n) {one = (extent (grant.base + n) (grant.size - n) Used)} (rw (other, here) refl)
 
-    found_before : (k : ℕ) (one : Extent) → k ≢ grant.base → k ≢ grant.base + n → extent_at k (extents_all (front ++ now ∷ back)) ≡ Some one → extent_at k (extents_in (state_of word heap)) ≡ Some one
+    found_before : (k : ℕ) (one : Extent) → k ≢ grant.base → k ≢ grant.base + n → extent_at k (extents_all (front ++ now ∷ back)) ≡ Some one →
+        extent_at k (extents_in (state_of word heap)) ≡ Some one
     found_before k one not_chunk not_rest there =
         replaced_found k (extents_all front) two [] after all_old (all_distinct (regions heap.system) (word heap.system) (segments_of word heap) sound.segments sound.apart)
         (λ found. absurd (none (grant.base == k) refl (grant.base + n == k) refl found)) (ap (extent_at k) (sym (all_among front now back)) ∙ there)
       where
-        none : (a : Bool) → (grant.base == k) ≡ a → (b : Bool) → (grant.base + n == k) ≡ b → (if a then Some (extent grant.base n Used) else if b then Some (extent (grant.base + n) (grant.size - n) Used) else None) ≡ Some one → ⊥
+        none : (a : Bool) → (grant.base == k) ≡ a → (b : Bool) → (grant.base + n == k) ≡ b →
+            (if a then Some (extent grant.base n Used) else if b then Some (extent (grant.base + n) (grant.size - n) Used) else None) ≡ Some one → ⊥
         none true is b other found = not_chunk (sym (nat_is is))
         none false isnt true is found = not_rest (sym (nat_is is))
         none false isnt false other found = cc
@@ -189,53 +194,53 @@ module _ {A : Type 0} {regions : A → List Grant} {word : A → ℕ → ℕ} {h
     -- nothing was found in the grant
     none_in_grant : (k : ℕ) {one : Extent} → grant.base ≤ k → k < grant.base + grant.size → extent_at k (extents_in (state_of word heap)) ≡ Some one → ⊥
     none_in_grant k low high there =
-        let none = none_there (regions heap.system) (word heap.system) (opened grant) (segments_of word heap) sound.segments (flip (opened grant) (segments_of word heap) fresh.apart) k low high in
+        let none = none_there (regions heap.system) (word heap.system) (opened grant) (segments_of word heap) sound.segments
+        (flip (opened grant) (segments_of word heap) fresh.apart) k low high in
         cc
 
     -- the other segments are as they were
     same_other : (other : Segment) → 96 < other.size → IsApartFrom other segment → joined grant n other ≡ other
     same_other other long one =
-        let long' = the_part.long in
-        let p = place in
+        let long' = the_part.long in let p = place in
         let test : (other.base == grant.base + grant.size) ≡ false = nat_isnt (elim one [ inl below ↦ inl (omega arith) | inr above ↦ inr (omega arith) ]) in
         rw test refl
 
-    same_others : (others : List Segment) → AreSegments (regions heap.system) (word heap.system) others → AllByRecursion (λ other. IsApartFrom other segment) others → map (joined grant n) others ≡ others
+    same_others : (others : List Segment) → AreSegments (regions heap.system) (word heap.system) others →
+        AllByRecursion (λ other. IsApartFrom other segment) others → map (joined grant n) others ≡ others
     same_others [] p one = refl
     same_others (other ∷ others) p one = λ i. same_other other p.0.long one.0 i ∷ same_others others p.1 one.1 i
 
     joined_are : map (joined grant n) (segments_of word heap) ≡ front ++ now ∷ back
     joined_are =
-        ap (map (joined grant n)) is ∙ (map-append (joined grant n) front (segment ∷ back)
-        ∙ (λ i. same_others front front_parts (front_apart front segment back apart) i ++ here i ∷ same_others back back_parts (back_apart front segment back apart) i))
+        ap (map (joined grant n)) is ∙ (map-append (joined grant n) front (segment ∷ back) ∙ (λ i. same_others front front_parts
+        (front_apart front segment back apart) i ++ here i ∷ same_others back back_parts (back_apart front segment back apart) i))
       where
         here : joined grant n segment ≡ now
         here = (let test = joins in rw test refl)
 
     module _ (follows : A → List Event → A → Type 0) (followed : follows heap.system [] new.system) (size_some : 0 < new.size)
-        (victim : new.victim ≡ heap.victim) (victim_size : new.victim_size ≡ heap.victim_size) (granularity : new.granularity ≡ heap.granularity) (rate : new.rate ≡ heap.rate)
-        (countdown : new.countdown ≡ heap.countdown) (trim_check : new.trim_check ≡ heap.trim_check)
+        (victim : new.victim ≡ heap.victim) (victim_size : new.victim_size ≡ heap.victim_size) (granularity : new.granularity ≡ heap.granularity)
+        (rate : new.rate ≡ heap.rate) (countdown : new.countdown ≡ heap.countdown) (trim_check : new.trim_check ≡ heap.trim_check)
         (recorded : (k : ℕ) → (IsInRecord (state_of word new) k → ⊥) → IsUntold k) where
       pub is_prepended : IsPrepended regions word follows heap grant n new
       is_prepended = record {
         state = λ i. record { segments = (retold regions word new (front ++ now ∷ back) parts_now apart_now told ∙ sym joined_are) i; victim = victim i; granularity = granularity i; rate = rate i; countdown = countdown i; trim_check = trim_check i };
-        sound = retold_sound regions word new (front ++ now ∷ back) parts_now apart_now told (subst IsGranularity (sym granularity) sound.granularity) size_some
-            (λ none. victim ∙ sound.no_victim (sym victim_size ∙ none))
-            (λ there. (λ i. extent_at (victim i) (extents_all (front ++ now ∷ back))) ∙ (found_now heap.victim (sound.victim (λ none. there (victim_size ∙ none)))
-            ∙ (λ i. Some (extent ((sym victim) i) ((sym victim_size) i) Free))));
+        sound = retold_sound regions word new (front ++ now ∷ back) parts_now apart_now told
+            (subst IsGranularity (sym granularity) sound.granularity) size_some (λ none. victim ∙ sound.no_victim (sym victim_size ∙ none))
+            (λ there. (λ i. extent_at (victim i) (extents_all (front ++ now ∷ back))) ∙ (found_now heap.victim
+            (sound.victim (λ none. there (victim_size ∙ none))) ∙ (λ i. Some (extent ((sym victim) i) ((sym victim_size) i) Free))));
         regions_same = same;
         followed = followed;
         chunk = in_now grant.base chunk_there;
         rest = in_now (grant.base + n) rest_there;
         still = λ one there. in_now one.at (found_now one.at there);
-        before = λ one not_chunk not_rest there. found_before one.at one not_chunk not_rest (ap (extent_at one.at) (sym (all_retold regions word new (front ++ now ∷ back) parts_now apart_now told)) ∙ there);
+        before = λ one not_chunk not_rest there. found_before one.at one not_chunk not_rest
+            (ap (extent_at one.at) (sym (all_retold regions word new (front ++ now ∷ back) parts_now apart_now told)) ∙ there);
         apart = λ one there. (
           (λ at. none_in_grant one.at (omega arith) (omega arith) there),
           (λ at. none_in_grant one.at (omega arith) (omega arith) there),
         );
-        words = λ k inside out tag. kept k inside
-            (λ at. elim out [ inl below ↦ omega arith | inr above ↦ omega arith ])
-            (λ at. elim out [ inl below ↦ omega arith | inr above ↦ omega arith ])
-            (recorded k tag);
+        words = λ k inside out tag. kept k inside (λ at. elim out [ inl below ↦ omega arith | inr above ↦ omega arith ])
+            (λ at. elim out [ inl below ↦ omega arith | inr above ↦ omega arith ]) (recorded k tag);
         new_words = λ k inside low high not_first not_second. kept k inside not_first not_second (untold k (inl (omega (arith, place))));
       }

@@ -15,15 +15,18 @@ pub record PassedBehind {A : Type 0} (word : A → ℕ → ℕ) (heap : Dlmalloc
   pub reached : payload ≡ payload_behind (word heap.system) heap.next passed
   pub none : list_any (is_before grant) (head ∷ passed) ≡ false
 
-abbrev pub as_passed : {A : Type 0} {word : A → ℕ → ℕ} {heap : Dlmalloc A} {grant : Grant} {payload : ℕ} → PassedBehind word heap grant payload → PassedSegments word heap payload (λ ss. ⊤)
+abbrev pub as_passed : {A : Type 0} {word : A → ℕ → ℕ} {heap : Dlmalloc A} {grant : Grant} {payload : ℕ} → PassedBehind word heap grant payload →
+    PassedSegments word heap payload (λ ss. ⊤)
 as_passed p = record { passed = p.head ∷ p.passed; rest = p.rest; is = p.is; some = omega arith; told = p.told; so_far = tt }
 
 -- the payload behind one more
-pub behind_more : (words : ℕ → ℕ) (payload : ℕ) (front : List Segment) (segment : Segment) → payload_behind words payload (front ++ segment ∷ []) ≡ words (payload_behind words payload front + 16)
+pub behind_more : (words : ℕ → ℕ) (payload : ℕ) (front : List Segment) (segment : Segment) →
+    payload_behind words payload (front ++ segment ∷ []) ≡ words (payload_behind words payload front + 16)
 behind_more words payload [] segment = refl
 behind_more words payload (first ∷ front) segment = behind_more words (words (payload + 16)) front segment
 
-any_more : (grant : Grant) (front : List Segment) (segment : Segment) → list_any (is_before grant) front ≡ false → is_before grant segment ≡ false → list_any (is_before grant) (front ++ segment ∷ []) ≡ false
+any_more : (grant : Grant) (front : List Segment) (segment : Segment) → list_any (is_before grant) front ≡ false → is_before grant segment ≡ false →
+    list_any (is_before grant) (front ++ segment ∷ []) ≡ false
 any_more grant front segment none other = list_any-append (is_before grant) front (segment ∷ []) ∙ (let a = none in let b = other in rw (a, b) refl)
 
 module _ {A : Type 0} {regions : A → List Grant} {word : A → ℕ → ℕ} {heap : Dlmalloc A} (sound : IsSound regions word heap) (some : 0 < heap.size) (grant : Grant) where
@@ -89,10 +92,12 @@ module _ {A : Type 0} {regions : A → List Grant} {word : A → ℕ → ℕ} {h
     told_high = omega (arith, long, told_rest.0, ((ahead_segment sound (as_passed p) more).part).high)
 
     -- the test on its words is that on the segment
-    test_is : {b : Bool} → (word heap.system payload == grant.base + grant.size && (grant.flags % 2 == 0 && grant.flags == word heap.system (payload + 24))) ≡ b → is_before grant segment ≡ b
+    test_is : {b : Bool} → (word heap.system payload == grant.base + grant.size &&
+        (grant.flags % 2 == 0 && grant.flags == word heap.system (payload + 24))) ≡ b → is_before grant segment ≡ b
     test_is test = (λ i. (sym told_rest.1) i == grant.base + grant.size && (grant.flags % 2 == 0 && grant.flags == (sym told_rest.3) i)) ∙ test
 
-    pub found_behind : (word heap.system payload == grant.base + grant.size && (grant.flags % 2 == 0 && grant.flags == word heap.system (payload + 24))) ≡ true → IsToldBehind word heap grant payload
+    pub found_behind : (word heap.system payload == grant.base + grant.size &&
+        (grant.flags % 2 == 0 && grant.flags == word heap.system (payload + 24))) ≡ true → IsToldBehind word heap grant payload
     found_behind test = record {
       head = p.head;
       front = p.passed;
@@ -104,12 +109,14 @@ module _ {A : Type 0} {regions : A → List Grant} {word : A → ℕ → ℕ} {h
       told = told_rest;
     }
 
-    pub onward_behind : (word heap.system payload == grant.base + grant.size && (grant.flags % 2 == 0 && grant.flags == word heap.system (payload + 24))) ≡ false → PassedBehind word heap grant (word heap.system (payload + 16))
+    pub onward_behind : (word heap.system payload == grant.base + grant.size &&
+        (grant.flags % 2 == 0 && grant.flags == word heap.system (payload + 24))) ≡ false → PassedBehind word heap grant (word heap.system (payload + 16))
     onward_behind test = record {
       head = p.head;
       passed = p.passed ++ segment ∷ [];
       rest = (ahead_segment sound (as_passed p) more).others;
-      is = p.is ∙ (ap (λ ss. p.head ∷ (p.passed ++ ss)) ((ahead_segment sound (as_passed p) more).is) ∙ ap (λ ss. p.head ∷ ss) (sym (append_assoc p.passed (segment ∷ []) ((ahead_segment sound (as_passed p) more).others))));
+      is = p.is ∙ (ap (λ ss. p.head ∷ (p.passed ++ ss)) ((ahead_segment sound (as_passed p) more).is)
+          ∙ ap (λ ss. p.head ∷ ss) (sym (append_assoc p.passed (segment ∷ []) ((ahead_segment sound (as_passed p) more).others))));
       told = told_rest.5;
       reached = ap (λ k. word heap.system (k + 16)) p.reached ∙ sym (behind_more (word heap.system) heap.next p.passed segment);
       none = any_more grant (p.head ∷ p.passed) segment p.none (test_is test);
@@ -117,7 +124,8 @@ module _ {A : Type 0} {regions : A → List Grant} {word : A → ℕ → ℕ} {h
 
   -- where no record is left, the grant is before no segment
   pub none_behind : {payload : ℕ} → PassedBehind word heap grant payload → payload ≡ 0 → list_any (is_before grant) (segments_of word heap) ≡ false
-  none_behind {payload} p empty = ap (list_any (is_before grant)) (p.is ∙ (ap (λ ss. p.head ∷ (p.passed ++ ss)) (nothing p.rest p.told))) ∙ (list_any-append (is_before grant) (p.head ∷ p.passed) [] ∙ (let none = p.none in rw none refl))
+  none_behind {payload} p empty = ap (list_any (is_before grant)) (p.is ∙ (ap (λ ss. p.head ∷ (p.passed ++ ss)) (nothing p.rest p.told)))
+      ∙ (list_any-append (is_before grant) (p.head ∷ p.passed) [] ∙ (let none = p.none in rw none refl))
     where
       nothing : (rest : List Segment) → AreRecords (word heap.system) payload rest → rest ≡ []
       nothing [] h = refl
@@ -126,7 +134,8 @@ module _ {A : Type 0} {regions : A → List Grant} {word : A → ℕ → ℕ} {h
 -- ---- records that tell segments as before, and others behind them
 
 module _ (regions : List Grant) (old new : ℕ → ℕ) (rest now : List Segment) where
-  pub told_around : (front : List Segment) {payload : ℕ} (start : ℕ) → payload ≡ payload_behind old start front → AreSegments regions old front → AllByRecursion (KeepsIts old new) front → AreRecords old start (front ++ rest) → AreRecords new payload now → AreRecords new start (front ++ now)
+  pub told_around : (front : List Segment) {payload : ℕ} (start : ℕ) → payload ≡ payload_behind old start front → AreSegments regions old front →
+      AllByRecursion (KeepsIts old new) front → AreRecords old start (front ++ rest) → AreRecords new payload now → AreRecords new start (front ++ now)
   told_around [] start reached parts same h here = subst (λ p. AreRecords new p now) reached here
   told_around (other ∷ front) start reached parts same h here = (
     h.0,
@@ -134,7 +143,8 @@ module _ (regions : List Grant) (old new : ℕ → ℕ) (rest now : List Segment
     at (start + 8) (omega arith) (omega arith) (omega (arith, whole)) ∙ h.2,
     at (start + 24) (omega arith) (omega arith) (omega (arith, whole)) ∙ h.3,
     h.4,
-    subst (λ p. AreRecords new p (front ++ now)) (sym (at (start + 16) (omega arith) (omega arith) (omega (arith, whole)))) (told_around front (old (start + 16)) reached parts.1 same.1 h.5 here),
+    subst (λ p. AreRecords new p (front ++ now)) (sym (at (start + 16) (omega arith) (omega arith) (omega (arith, whole))))
+        (told_around front (old (start + 16)) reached parts.1 same.1 h.5 here),
   )
     where
       r : IsIn old other.base (other.base + other.size) (record_of (start - 16) (other.base + other.size))

@@ -12,7 +12,8 @@ use Rattle.dlmalloc.proofs.Blocks.HandedOut.{spans_aligned, spans_new}
 use Rattle.dlmalloc.proofs.Segments.Head.{HasSameFirst, first_spans, first_granted, first_told, first_end, top_place, head_granted, beside_top}
 
 -- the chunk of a block
-module _ {A : Type 0} {regions : A → List Grant} {word : A → ℕ → ℕ} {heap : Dlmalloc A} (sound : IsSound regions word heap) {address size : ℕ} (block : IsBlock (state_of word heap) address size) where
+module _ {A : Type 0} {regions : A → List Grant} {word : A → ℕ → ℕ} {heap : Dlmalloc A} (sound : IsSound regions word heap) {address size : ℕ}
+    (block : IsBlock (state_of word heap) address size) where
   chunk_place : block.extent.at ≡ address - 16
   chunk_place = (found (address - 16) block.extent (extents_in (state_of word heap)) block.there).place
 
@@ -32,8 +33,9 @@ module _ {A : Type 0} {regions : A → List Grant} {word : A → ℕ → ℕ} {z
   some = some_segment word old block.extent.at (chunk_there sound block)
 
   -- a region was granted for a chunk, in which the new block's begins
-  module _ {bytes at : ℕ} {grant : Grant} {heap : HeapState} (taken : IsTakenFromGrant (state_of word old) bytes at grant heap) (fresh : AllByRecursion (IsApart grant.base (grant.base + grant.size)) (regions old.system))
-      (stays : spans (state_of word out.filled) ≡ spans heap) (low : at ≤ chunk.at) (high : chunk.at < at + bytes) where
+  module _ {bytes at : ℕ} {grant : Grant} {heap : HeapState} (taken : IsTakenFromGrant (state_of word old) bytes at grant heap)
+      (fresh : AllByRecursion (IsApart grant.base (grant.base + grant.size)) (regions old.system)) (stays : spans (state_of word out.filled) ≡ spans heap)
+      (low : at ≤ chunk.at) (high : chunk.at < at + bytes) where
     -- behind the head segment
     module _ (behind : IsBehindTop (state_of word old) grant at) where
       end : grant.base ≡ old.base + old.size
@@ -44,8 +46,7 @@ module _ {A : Type 0} {regions : A → List Grant} {word : A → ℕ → ℕ} {z
 
       longer : (out.filled.base ≡ old.base) × (out.filled.size ≡ old.size + grant.size)
       longer =
-          let told = first_told sound in
-          let told_then = first_told out.same.sound in
+          let told = first_told sound in let told_then = first_told out.same.sound in
           let more = first_granted grant bytes (state_of word old) behind.0 in
           let bytes_then : out.filled.size ≡ old.size + grant.size = told_then.0 ∙ (first.1 ∙ (more.1 ∙ ap (λ n. n + grant.size) (sym told.0))) in
           (told_then.1 (omega (arith, some)) ∙ (first.0 ∙ (more.0 ∙ sym (told.1 some))), bytes_then)
@@ -82,24 +83,29 @@ module _ {A : Type 0} {regions : A → List Grant} {word : A → ℕ → ℕ} {z
     ]
 
   -- whichever way the chunk was cut
-  still_cut : (middle : Dlmalloc A) (bytes at : ℕ) → IsObtained follows regions old.system (state_of word old) bytes at middle.system (state_of word middle) → spans (state_of word out.filled) ≡ spans (state_of word middle) → regions out.filled.system ≡ regions middle.system →
-      at ≤ chunk.at → chunk.at < at + bytes → (grant : Grant) → regions out.filled.system ≡ with_grant grant (regions old.system) → HasByteOf grant (regions new.system)
+  still_cut : (middle : Dlmalloc A) (bytes at : ℕ) →
+      IsObtained follows regions old.system (state_of word old) bytes at middle.system (state_of word middle) →
+      spans (state_of word out.filled) ≡ spans (state_of word middle) → regions out.filled.system ≡ regions middle.system → at ≤ chunk.at →
+      chunk.at < at + bytes → (grant : Grant) → regions out.filled.system ≡ with_grant grant (regions old.system) → HasByteOf grant (regions new.system)
   still_cut middle bytes at (inl here) stays same low high grant with_it = absurd (with_other grant (sym with_it ∙ (same ∙ here.2)))
   still_cut middle bytes at (inr cut) stays same low high grant with_it =
       subst (λ g. HasByteOf g (regions new.system)) (one_more cut.0 grant (regions old.system) (sym (same ∙ cut.3) ∙ with_it))
       (still_new cut.1 cut.4 stays low high)
 
-  still_low : IsServed regions word zeros follows old size address out.middle → (grant : Grant) → regions out.filled.system ≡ with_grant grant (regions old.system) → HasByteOf grant (regions new.system)
-  still_low served = still_cut out.middle (padded size) (address - 16) served.cut (ap spans out.same.state) out.same.regions_same (omega (arith, chunk_place out.freed.sound out.block)) (omega (arith, chunk_place out.freed.sound out.block, padded_holds size))
+  still_low : IsServed regions word zeros follows old size address out.middle →
+      (grant : Grant) → regions out.filled.system ≡ with_grant grant (regions old.system) → HasByteOf grant (regions new.system)
+  still_low served = still_cut out.middle (padded size) (address - 16) served.cut (ap spans out.same.state) out.same.regions_same
+      (omega (arith, chunk_place out.freed.sound out.block)) (omega (arith, chunk_place out.freed.sound out.block, padded_holds size))
 
-  still_high : 16 < align → IsServedAligned regions word zeros follows old size align address out.middle → (grant : Grant) → regions out.filled.system ≡ with_grant grant (regions old.system) → HasByteOf grant (regions new.system)
+  still_high : 16 < align → IsServedAligned regions word zeros follows old size align address out.middle →
+      (grant : Grant) → regions out.filled.system ≡ with_grant grant (regions old.system) → HasByteOf grant (regions new.system)
   still_high large served =
       let p = is_place (served.greater - 16) align power large (omega arith) in
       let more = enlarged_is size align {n = (padded size)} refl in
       still_cut served.middle (padded (enlarged size align)) (served.greater - 16) served.served.cut
       (ap spans out.same.state ∙ (ap spans served.state ∙ spans_aligned (state_of word served.middle) (served.greater - 16) align (padded size)))
-      (out.same.regions_same ∙ served.regions_same)
-      (omega (arith, chunk_place out.freed.sound out.block)) (omega (arith, chunk_place out.freed.sound out.block, padded_holds (enlarged size align), padded_holds size))
+      (out.same.regions_same ∙ served.regions_same) (omega (arith, chunk_place out.freed.sound out.block))
+      (omega (arith, chunk_place out.freed.sound out.block, padded_holds (enlarged size align), padded_holds size))
 
   pub still_granted : (grant : Grant) → regions out.filled.system ≡ with_grant grant (regions old.system) → HasByteOf grant (regions new.system)
   still_granted = elim out.served [

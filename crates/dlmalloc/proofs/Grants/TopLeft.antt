@@ -48,8 +48,10 @@ abbrev pub place : Bool → ℕ → ℕ → ℕ
 place b at size = if b then at else at + size
 
 -- it stands up to the segment's end
-module _ (words : ℕ → ℕ) {before : Kind} (at size : ℕ) {end : ℕ} (told : SegmentRecord) (used : before ≡ Used) (whole : at % 16 ≡ 0) (units : size % 16 ≡ 0) (long : 16 ≤ size) (ends_at : at + size + 80 ≡ end) where
-  pub left_stands : (b : Bool) → (size == 16) ≡ b → IsRecordAt words (place b at size) told end b → (b ≡ false → words (at + 8) ≡ size + 1) → (b ≡ false → words (at + size) ≡ size) → Tiles words before at (left b at size) end
+module _ (words : ℕ → ℕ) {before : Kind} (at size : ℕ) {end : ℕ} (told : SegmentRecord) (used : before ≡ Used) (whole : at % 16 ≡ 0)
+    (units : size % 16 ≡ 0) (long : 16 ≤ size) (ends_at : at + size + 80 ≡ end) where
+  pub left_stands : (b : Bool) → (size == 16) ≡ b → IsRecordAt words (place b at size) told end b → (b ≡ false → words (at + 8) ≡ size + 1) →
+      (b ≡ false → words (at + size) ≡ size) → Tiles words before at (left b at size) end
   left_stands true is recorded head foot =
       let s : size ≡ 16 = grind (arith, nat_tests) in (
         refl,

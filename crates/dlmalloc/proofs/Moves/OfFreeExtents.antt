@@ -24,9 +24,10 @@ distinct_second (first ∷ front) back apart = distinct_second front back apart.
 
 -- Some extents give way to others. A free one that is not of those at the addresses `gone` is found as before, and at no
 -- address of those that come.
-module _ (front less more back : List Extent) (apart : AreDistinct (front ++ (more ++ back))) (gone come : List ℕ)
-    (in_less : (k size : ℕ) → extent_at k less ≡ Some (extent k size Free) → IsIn k gone) (come_there : (k : ℕ) → IsIn k come → IsIn k gone ⊎ IsThere k more) where
-  pub free_stays : {k size : ℕ} → extent_at k (front ++ (less ++ back)) ≡ Some (extent k size Free) → (IsIn k gone → ⊥) → (extent_at k (front ++ (more ++ back)) ≡ Some (extent k size Free)) × (IsIn k come → ⊥)
+module _ (front less more back : List Extent) (apart : AreDistinct (front ++ (more ++ back))) (gone come : List ℕ) (in_less : (k size : ℕ) →
+    extent_at k less ≡ Some (extent k size Free) → IsIn k gone) (come_there : (k : ℕ) → IsIn k come → IsIn k gone ⊎ IsThere k more) where
+  pub free_stays : {k size : ℕ} → extent_at k (front ++ (less ++ back)) ≡ Some (extent k size Free) → (IsIn k gone → ⊥) →
+      (extent_at k (front ++ (more ++ back)) ≡ Some (extent k size Free)) × (IsIn k come → ⊥)
   free_stays {k} {size} free out = elim (found_either k front (less ++ back) free) [
     | inl first ↦ (
       found_more k front (more ++ back) first,
@@ -48,9 +49,10 @@ module _ (front less more back : List Extent) (apart : AreDistinct (front ++ (mo
   ]
 
 -- so the free extents of two heaps are, whose extents differ so
-pub free_changes : (old new : HeapState) (front less more back : List Extent) → extents_in old ≡ front ++ (less ++ back) → extents_in new ≡ front ++ (more ++ back) → AreDistinct (extents_in old) → AreDistinct (extents_in new) → (gone come : List ℕ) →
-    ((k size : ℕ) → extent_at k less ≡ Some (extent k size Free) → IsIn k gone) → ((k size : ℕ) → extent_at k more ≡ Some (extent k size Free) → IsIn k come) →
-    ((k : ℕ) → IsIn k gone → IsIn k come ⊎ IsThere k less) → ((k : ℕ) → IsIn k come → IsIn k gone ⊎ IsThere k more) → FreeMoves old new gone come
+pub free_changes : (old new : HeapState) (front less more back : List Extent) → extents_in old ≡ front ++ (less ++ back) → extents_in new ≡ front
+    ++ (more ++ back) → AreDistinct (extents_in old) → AreDistinct (extents_in new) → (gone come : List ℕ) → ((k size : ℕ) → extent_at k less
+    ≡ Some (extent k size Free) → IsIn k gone) → ((k size : ℕ) → extent_at k more ≡ Some (extent k size Free) → IsIn k come) → ((k : ℕ) →
+    IsIn k gone → IsIn k come ⊎ IsThere k less) → ((k : ℕ) → IsIn k come → IsIn k gone ⊎ IsThere k more) → FreeMoves old new gone come
 free_changes old new front less more back was is apart apart' gone come in_less in_more gone_there come_there = record {
   stays = λ k size free out.
       let found = free_stays front less more back (subst AreDistinct is apart') gone come in_less come_there (ap (extent_at k) (sym was) ∙ free) out in
@@ -61,10 +63,11 @@ free_changes old new front less more back was is apart apart' gone come in_less 
 }
 
 -- and those before and after a step
-module _ {A : Type 0} {regions : A → List Grant} {word : A → ℕ → ℕ} {heap new : Dlmalloc A} (sound : IsSound regions word heap) {less more : List Extent} (step : IsStep regions word heap new less more) (gone come : List ℕ)
-    (in_less : (k size : ℕ) → extent_at k less ≡ Some (extent k size Free) → IsIn k gone) (in_more : (k size : ℕ) → extent_at k more ≡ Some (extent k size Free) → IsIn k come)
-    (gone_there : (k : ℕ) → IsIn k gone → IsIn k come ⊎ IsThere k less) (come_there : (k : ℕ) → IsIn k come → IsIn k gone ⊎ IsThere k more) where
+module _ {A : Type 0} {regions : A → List Grant} {word : A → ℕ → ℕ} {heap new : Dlmalloc A}
+    (sound : IsSound regions word heap) {less more : List Extent} (step : IsStep regions word heap new less more) (gone come : List ℕ)
+    (in_less : (k size : ℕ) → extent_at k less ≡ Some (extent k size Free) → IsIn k gone) (in_more : (k size : ℕ) →
+    extent_at k more ≡ Some (extent k size Free) → IsIn k come) (gone_there : (k : ℕ) → IsIn k gone → IsIn k come ⊎ IsThere k less)
+    (come_there : (k : ℕ) → IsIn k come → IsIn k gone ⊎ IsThere k more) where
   pub free_moves : FreeMoves (state_of word heap) (state_of word new) gone come
-  free_moves = free_changes (state_of word heap) (state_of word new) (before sound step) less more (behind sound step)
-      (all_old sound step) (all_new sound step) (distinct_old sound step) (distinct_new sound step)
-      gone come in_less in_more gone_there come_there
+  free_moves = free_changes (state_of word heap) (state_of word new) (before sound step) less more (behind sound step) (all_old sound step) (all_new sound step)
+      (distinct_old sound step) (distinct_new sound step) gone come in_less in_more gone_there come_there

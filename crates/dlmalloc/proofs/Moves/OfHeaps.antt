@@ -8,8 +8,8 @@ use Rattle.dlmalloc.proofs.Segments.OneReplaced.{IsChanged, all_spared, segments
 
 -- ---- the segments that are read are those that are told
 
-pub segments_read : {A : Type 0} (regions : List Grant) (word : A → ℕ → ℕ) (heap : Dlmalloc A) (segments : List Segment) →
-    AreSegments regions (word heap.system) segments → AreTold (word heap.system) heap segments → length segments ≤ suc (2 ^ 64) → segments_of word heap ≡ segments
+pub segments_read : {A : Type 0} (regions : List Grant) (word : A → ℕ → ℕ) (heap : Dlmalloc A) (segments : List Segment) → AreSegments regions
+    (word heap.system) segments → AreTold (word heap.system) heap segments → length segments ≤ suc (2 ^ 64) → segments_of word heap ≡ segments
 segments_read regions word heap [] parts told few = (let none : (heap.size == 0) ≡ true = grind (arith, nat_tests) in rw none refl)
 segments_read regions word heap (segment ∷ segments) parts told few =
     let words = word heap.system in
@@ -46,7 +46,8 @@ pub record IsStep {A : Type 0} (regions : A → List Grant) (word : A → ℕ �
   pub changed : IsChanged (regions heap.system) (regions new.system) (word heap.system) (word new.system) segment now
   pub told : AreTold (word new.system) new (front ++ now ∷ back)
 
-module _ {A : Type 0} {regions : A → List Grant} {word : A → ℕ → ℕ} {heap new : Dlmalloc A} (sound : IsSound regions word heap) {less more : List Extent} (step : IsStep regions word heap new less more) where
+module _ {A : Type 0} {regions : A → List Grant} {word : A → ℕ → ℕ} {heap new : Dlmalloc A}
+    (sound : IsSound regions word heap) {less more : List Extent} (step : IsStep regions word heap new less more) where
   was_segments : AreSegments (regions heap.system) (word heap.system) (step.front ++ step.segment ∷ step.back)
   was_segments = subst (AreSegments (regions heap.system) (word heap.system)) step.is sound.segments
 
@@ -74,8 +75,8 @@ module _ {A : Type 0} {regions : A → List Grant} {word : A → ℕ → ℕ} {h
   around : (segment : Segment) (run : List Extent) → segment.extents ≡ step.first ++ (run ++ step.last) → extents_all (step.front ++ segment ∷ step.back) ≡ before ++ (run ++ behind)
   around segment run is =
       all_among step.front segment step.back ∙ (ap (λ es. extents_all step.front ++ (es ++ extents_all step.back)) is
-      ∙ (ap (λ es. extents_all step.front ++ es) (append_assoc step.first (run ++ step.last) (extents_all step.back) ∙ ap (λ es. step.first ++ es) (append_assoc run step.last (extents_all step.back)))
-      ∙ sym (append_assoc (extents_all step.front) step.first (run ++ behind))))
+      ∙ (ap (λ es. extents_all step.front ++ es) (append_assoc step.first (run ++ step.last) (extents_all step.back) ∙ ap (λ es. step.first ++ es)
+      (append_assoc run step.last (extents_all step.back))) ∙ sym (append_assoc (extents_all step.front) step.first (run ++ behind))))
 
   pub all_old : extents_in (state_of word heap) ≡ before ++ (less ++ behind)
   all_old = ap extents_all step.is ∙ around step.segment less step.old_extents
@@ -101,7 +102,8 @@ module _ {A : Type 0} {regions : A → List Grant} {word : A → ℕ → ℕ} {h
   found_new k one there = ap (extent_at k) all_new ∙ distinct_later before (more ++ behind) k distinct (found_more k more behind there)
 
   -- what is found still is, where it is found among the new ones too
-  pub found_again : (k : ℕ) {one : Extent} → (extent_at k less ≡ Some one → extent_at k more ≡ Some one) → extent_at k (extents_in (state_of word heap)) ≡ Some one → extent_at k (extents_in (state_of word new)) ≡ Some one
+  pub found_again : (k : ℕ) {one : Extent} → (extent_at k less ≡ Some one → extent_at k more ≡ Some one) →
+      extent_at k (extents_in (state_of word heap)) ≡ Some one → extent_at k (extents_in (state_of word new)) ≡ Some one
   found_again k {one} stays there =
       ap (extent_at k) all_new ∙ elim (found_either k before (less ++ behind) (ap (extent_at k) (sym all_old) ∙ there)) [
         | inl first ↦ found_more k before (more ++ behind) first
@@ -112,7 +114,8 @@ module _ {A : Type 0} {regions : A → List Grant} {word : A → ℕ → ℕ} {h
       ]
 
   -- what is found was there, where it was found among the old ones too
-  pub found_before : (k : ℕ) {one : Extent} → (extent_at k more ≡ Some one → extent_at k less ≡ Some one) → extent_at k (extents_in (state_of word new)) ≡ Some one → extent_at k (extents_in (state_of word heap)) ≡ Some one
+  pub found_before : (k : ℕ) {one : Extent} → (extent_at k more ≡ Some one → extent_at k less ≡ Some one) →
+      extent_at k (extents_in (state_of word new)) ≡ Some one → extent_at k (extents_in (state_of word heap)) ≡ Some one
   found_before k {one} stays there =
       ap (extent_at k) all_old ∙ elim (found_either k before (more ++ behind) (ap (extent_at k) (sym all_new) ∙ there)) [
         | inl first ↦ found_more k before (less ++ behind) first
@@ -129,7 +132,8 @@ module _ {A : Type 0} {regions : A → List Grant} {word : A → ℕ → ℕ} {h
   pub keeps_words : OnlyBoundariesChange (regions heap.system) (state_of word new) (word heap.system) (word new.system)
   keeps_words k inside apart = step.changed.kept k inside (all_spared (state_of word new) k step.now.extents
       (distinct_front step.now.extents (extents_all step.back) (distinct_second (extents_all step.front) (step.now.extents ++ extents_all step.back) among))
-      (λ extent there. ap (extent_at extent.at) now_all ∙ distinct_later (extents_all step.front) (step.now.extents ++ extents_all step.back) extent.at among (found_more extent.at step.now.extents (extents_all step.back) there)) apart)
+      (λ extent there. ap (extent_at extent.at) now_all ∙ distinct_later (extents_all step.front) (step.now.extents ++ extents_all step.back) extent.at among
+      (found_more extent.at step.now.extents (extents_all step.back) there)) apart)
     where
       now_all : extents_in (state_of word new) ≡ extents_all step.front ++ (step.now.extents ++ extents_all step.back)
       now_all = ap extents_all read ∙ all_among step.front step.now step.back
@@ -149,8 +153,8 @@ module _ {A : Type 0} {regions : A → List Grant} {word : A → ℕ → ℕ} {h
       distinct_front (extent ∷ one) other d = (none_first extent.at one other d.0, distinct_front one other d.1)
 
   -- it is sound, where the victim is one of its extents
-  pub keeps_sound : IsGranularity new.granularity → 0 < new.size →
-      (new.victim_size ≡ 0 → new.victim ≡ 0) → (new.victim_size ≢ 0 → extent_at new.victim (extents_in (state_of word new)) ≡ Some (extent new.victim new.victim_size Free)) → IsSound regions word new
+  pub keeps_sound : IsGranularity new.granularity → 0 < new.size → (new.victim_size ≡ 0 → new.victim ≡ 0) → (new.victim_size ≢ 0 →
+      extent_at new.victim (extents_in (state_of word new)) ≡ Some (extent new.victim new.victim_size Free)) → IsSound regions word new
   keeps_sound granularity some none named = record {
     granularity = granularity;
     segments = segments_now;
@@ -164,17 +168,17 @@ module _ {A : Type 0} {regions : A → List Grant} {word : A → ℕ → ℕ} {h
   -- ---- extents in use
 
   pub has_more : (one : Extent) → HasMore less more one → HasOneMore (state_of word heap) (state_of word new) one.at
-  has_more one h = one_more (state_of word heap) (state_of word new) distinct_old distinct_new
-      (subst (λ es. HasMore es (extents_in (state_of word new)) one) (sym all_old) (subst (λ es. HasMore (before ++ (less ++ behind)) es one) (sym all_new) (more_between before behind h)))
+  has_more one h = one_more (state_of word heap) (state_of word new) distinct_old distinct_new (subst (λ es. HasMore es (extents_in (state_of word new)) one)
+      (sym all_old) (subst (λ es. HasMore (before ++ (less ++ behind)) es one) (sym all_new) (more_between before behind h)))
 
   pub has_less : {one : Extent} → HasMore more less one → HasOneMore (state_of word new) (state_of word heap) one.at
-  has_less {one} h = one_more (state_of word new) (state_of word heap) distinct_new distinct_old
-      (subst (λ es. HasMore es (extents_in (state_of word heap)) one) (sym all_new) (subst (λ es. HasMore (before ++ (more ++ behind)) es one) (sym all_old) (more_between before behind h)))
+  has_less {one} h = one_more (state_of word new) (state_of word heap) distinct_new distinct_old (subst (λ es. HasMore es (extents_in (state_of word heap))
+      one) (sym all_new) (subst (λ es. HasMore (before ++ (more ++ behind)) es one) (sym all_old) (more_between before behind h)))
 
   -- where as many are in use, the same are
   same_used : used_of less ≡ used_of more → used_of (extents_in (state_of word heap)) ≡ used_of (extents_in (state_of word new))
-  same_used same = ap used_of all_old ∙ (used_append before (less ++ behind) ∙ (ap (λ es. used_of before ++ es) (used_append less behind ∙ (ap (λ es. es ++ used_of behind) same ∙ sym (used_append more behind)))
-      ∙ sym (used_append before (more ++ behind)))) ∙ ap used_of (sym all_new)
+  same_used same = ap used_of all_old ∙ (used_append before (less ++ behind) ∙ (ap (λ es. used_of before ++ es) (used_append less behind ∙
+      (ap (λ es. es ++ used_of behind) same ∙ sym (used_append more behind))) ∙ sym (used_append before (more ++ behind)))) ∙ ap used_of (sym all_new)
 
   -- there is a head segment
   pub some_there : 0 < heap.size
@@ -185,7 +189,8 @@ module _ {A : Type 0} {regions : A → List Grant} {word : A → ℕ → ℕ} {h
       go (first ∷ front) h = h.0
 
   -- it is sound where the head segment's size stayed
-  pub stays_sound : regions new.system ≡ regions heap.system → new.granularity ≡ heap.granularity → new.base ≡ heap.base → new.size ≡ heap.size → new.flags ≡ heap.flags →
-      (new.victim_size ≡ 0 → new.victim ≡ 0) → (new.victim_size ≢ 0 → extent_at new.victim (extents_in (state_of word new)) ≡ Some (extent new.victim new.victim_size Free)) → IsSound regions word new
+  pub stays_sound : regions new.system ≡ regions heap.system → new.granularity ≡ heap.granularity → new.base ≡ heap.base →
+      new.size ≡ heap.size → new.flags ≡ heap.flags → (new.victim_size ≡ 0 → new.victim ≡ 0) → (new.victim_size ≢ 0 →
+      extent_at new.victim (extents_in (state_of word new)) ≡ Some (extent new.victim new.victim_size Free)) → IsSound regions word new
   stays_sound same granularity base size flags none named =
       keeps_sound (subst IsGranularity (sym granularity) sound.granularity) (subst (λ n. 0 < n) (sym size) some_there) none named

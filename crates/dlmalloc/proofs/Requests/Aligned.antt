@@ -49,7 +49,8 @@ pub record HasAlignedPlace (align at size n place : ℕ) : Type 0 where
   pub multiple : (place + 16) % align ≡ 0
   pub small : place + 16 < 2 ^ 64
 
-module _ {A : Type 0} {regions : A → List Grant} {word : A → ℕ → ℕ} {heap : Dlmalloc A} (sound : IsSound regions word heap) {ptr : ℕ} (n align : ℕ) (block : IsBlock (state_of word heap) ptr (n + align + 24)) where
+module _ {A : Type 0} {regions : A → List Grant} {word : A → ℕ → ℕ} {heap : Dlmalloc A} (sound : IsSound regions word heap) {ptr : ℕ}
+    (n align : ℕ) (block : IsBlock (state_of word heap) ptr (n + align + 24)) where
   place : block.extent.at ≡ ptr - 16
   place = (found (ptr - 16) block.extent (extents_in (state_of word heap)) block.there).place
 
@@ -62,7 +63,8 @@ module _ {A : Type 0} {regions : A → List Grant} {word : A → ℕ → ℕ} {h
   pub chunk_small : 32 ≤ n → ptr - 16 + align + 64 < 2 ^ 64
   chunk_small least = omega (arith, inside.high, place)
 
-  pub place_here : IsPowerOfTwo align → 16 < align → 32 ≤ n → {told : ℕ} → told ≡ size_of (word heap.system (ptr - 16 + 8)) → {at : ℕ} → at ≡ aligned_place (ptr - 16) align → HasAlignedPlace align (ptr - 16) told n at
+  pub place_here : IsPowerOfTwo align → 16 < align → 32 ≤ n → {told : ℕ} → told ≡ size_of (word heap.system (ptr - 16 + 8)) → {at : ℕ} →
+      at ≡ aligned_place (ptr - 16) align → HasAlignedPlace align (ptr - 16) told n at
   place_here power large least {told} is_told {at} is =
       let there = block_chunk regions word heap sound ptr (n + align + 24) block told is_told in
       let same : block.extent.size ≡ told = ap (λ e. e.size) (the_extent (sym block.there ∙ there)) in
@@ -96,8 +98,9 @@ pub record IsAligned {A : Type 0} (regions : A → List Grant) (word : A → ℕ
   pub followed : follows old.system [] new.system
   pub order : KeepsOrderThrough regions word (lead_freed (state_of word old) (ptr - 16) result) old new
 
-pub served_aligned : {A : Type 0} {regions : A → List Grant} {word : A → ℕ → ℕ} {zeros : A → Bool} {follows : A → List Event → A → Type 0} {old middle new : Dlmalloc A} (size : ℕ) {align n greater result : ℕ} →
-    n ≡ padded size → size + 8 ≤ n → n ≤ size + 32 → IsServed regions word zeros follows old (n + align + 24) greater middle → IsAligned regions word follows middle greater align n result new →
+pub served_aligned : {A : Type 0} {regions : A → List Grant} {word : A → ℕ → ℕ} {zeros : A → Bool} {follows : A → List Event → A → Type 0}
+    {old middle new : Dlmalloc A} (size : ℕ) {align n greater result : ℕ} → n ≡ padded size → size + 8 ≤ n → n ≤ size + 32 →
+    IsServed regions word zeros follows old (n + align + 24) greater middle → IsAligned regions word follows middle greater align n result new →
     IsServedAligned regions word zeros follows old size align (result + 16) new
 served_aligned {regions} {word} {zeros} {follows} {old} {middle} {new} size {align} {greater} {result} is holds near served left =
     let back : result ≡ result + 16 - 16 = omega arith in
@@ -111,8 +114,9 @@ served_aligned {regions} {word} {zeros} {follows} {old} {middle} {new} size {ali
       little = omega arith;
     } in
     let placed = block_placed regions word new left.sound (result + 16) size block in
-    let same_words : (k : ℕ) → IsWordOf (regions middle.system) k → IsPassedOver (state_of word middle) (lead_freed (state_of word middle) (greater - 16) (result + 16 - 16)) (state_of word new) k → word new.system k ≡ word middle.system k
-    = λ k inside over. left.words k inside (subst (λ p. IsPassedOver (state_of word middle) (lead_freed (state_of word middle) (greater - 16) p) (state_of word new) k) (sym back) over) in
+    let same_words : (k : ℕ) → IsWordOf (regions middle.system) k → IsPassedOver (state_of word middle) (lead_freed (state_of word middle) (greater - 16)
+    (result + 16 - 16)) (state_of word new) k → word new.system k ≡ word middle.system k = λ k inside over. left.words k inside
+    (subst (λ p. IsPassedOver (state_of word middle) (lead_freed (state_of word middle) (greater - 16) p) (state_of word new) k) (sym back) over) in
     record {
       middle = middle;
       greater = greater;

@@ -18,12 +18,11 @@ more_on more moved = record {
 }
 
 -- the others keep their words when the lead is freed, and then the tail
-pub kept_on : {A : Type 0} {regions : A → List Grant} {word : A → ℕ → ℕ} {follows : A → List Event → A → Type 0} (old : Dlmalloc A) {middle new : Dlmalloc A} {from to : ℕ} → HasOneMoved (state_of word old) (state_of word middle) from to →
-    KeepsOthers (state_of word old) from (word old.system) (word middle.system) → IsSound regions word middle → HasSameOthers (state_of word middle) (state_of word new) to to → IsTurned regions word follows middle new →
-    KeepsOthers (state_of word old) from (word old.system) (word new.system)
+pub kept_on : {A : Type 0} {regions : A → List Grant} {word : A → ℕ → ℕ} {follows : A → List Event → A → Type 0}
+    (old : Dlmalloc A) {middle new : Dlmalloc A} {from to : ℕ} → HasOneMoved (state_of word old) (state_of word middle) from to →
+    KeepsOthers (state_of word old) from (word old.system) (word middle.system) → IsSound regions word middle → HasSameOthers (state_of word middle)
+    (state_of word new) to to → IsTurned regions word follows middle new → KeepsOthers (state_of word old) from (word old.system) (word new.system)
 kept_on old moved kept sound same after blocks others =
-    keeps_on (kept blocks others)
-    (blocks_law sound after.sound after.words blocks (λ used there is.
-    let o = others used is there in
-    let beside = moved.apart used is o.0 o.1 in
+    keeps_on (kept blocks others) (blocks_law sound after.sound after.words blocks (λ used there is.
+    let o = others used is there in let beside = moved.apart used is o.0 o.1 in
     let now = moved.kept used is o.0 o.1 in (now, same.kept used is beside beside now)))

@@ -24,7 +24,8 @@ request_small g size {n} power least less whole near is = go (g == 16) refl (nat
     units : g % 16 ≡ 0
     units = granularity_whole g power least
 
-    go : (b : Bool) → (g == 16) ≡ b → (s : Bool) → nat_lt size 23 ≡ s → size < (if b then 2 ^ 64 - 135 else 2 ^ 64 - g - 103) → n ≡ (if s then 32 else (size + 8 + (16 - 1)) / 16 * 16) → n + 96 + g ≤ 2 ^ 64
+    go : (b : Bool) → (g == 16) ≡ b → (s : Bool) → nat_lt size 23 ≡ s → size < (if b then 2 ^ 64 - 135 else 2 ^ 64 - g - 103) →
+        n ≡ (if s then 32 else (size + 8 + (16 - 1)) / 16 * 16) → n + 96 + g ≤ 2 ^ 64
     go true sixteen true small bound is = let sixteen' = nat_is sixteen in omega arith
     go true sixteen false large bound is = let sixteen' = nat_is sixteen in omega arith
     go false other true small bound is = let most = granularity_bound g power (omega arith) in omega arith
@@ -32,21 +33,23 @@ request_small g size {n} power least less whole near is = go (g == 16) refl (nat
 
 -- ---- the block that is cut
 
-pub replaced_segments : (at : ℕ) (others : Extent → List Extent) (segments : List Segment) → flat_map (λ segment. segment.extents) (in_segments (replaced at others) segments) ≡ replaced at others (flat_map (λ segment. segment.extents) segments)
+pub replaced_segments : (at : ℕ) (others : Extent → List Extent) (segments : List Segment) →
+    flat_map (λ segment. segment.extents) (in_segments (replaced at others) segments) ≡ replaced at others (flat_map (λ segment. segment.extents) segments)
 replaced_segments at others [] = refl
 replaced_segments at others (segment ∷ segments) =
-    ap (λ l. replaced at others segment.extents ++ l) (replaced_segments at others segments)
-    ∙ sym (flat_map-append (λ extent. if extent.at == at then others extent else extent ∷ []) segment.extents (flat_map (λ segment. segment.extents) segments))
+    ap (λ l. replaced at others segment.extents ++ l) (replaced_segments at others segments) ∙ sym
+    (flat_map-append (λ extent. if extent.at == at then others extent else extent ∷ []) segment.extents (flat_map (λ segment. segment.extents) segments))
 
-replaced_found : (at : ℕ) (others : Extent → List Extent) (extents : List Extent) (extent first : Extent) (rest : List Extent) → extent_at at extents ≡ Some extent → others extent ≡ first ∷ rest → first.at ≡ at → extent_at at (replaced at others extents) ≡ Some first
+replaced_found : (at : ℕ) (others : Extent → List Extent) (extents : List Extent) (extent first : Extent) (rest : List Extent) →
+    extent_at at extents ≡ Some extent → others extent ≡ first ∷ rest → first.at ≡ at → extent_at at (replaced at others extents) ≡ Some first
 replaced_found at others [] extent first rest found is place = absurd (cc)
 replaced_found at others (one ∷ extents) extent first rest found is place = go (one.at == at) refl found (replaced_found at others extents extent first rest)
   where
     here : (first.at == at) ≡ true
     here = subst (λ k. (first.at == k) ≡ true) place (nat_same first.at)
 
-    go : (b : Bool) → (one.at == at) ≡ b → (if b then Some one else extent_at at extents) ≡ Some extent →
-        (extent_at at extents ≡ Some extent → others extent ≡ first ∷ rest → first.at ≡ at → extent_at at (replaced at others extents) ≡ Some first) →
+    go : (b : Bool) → (one.at == at) ≡ b → (if b then Some one else extent_at at extents) ≡ Some extent → (extent_at at extents ≡ Some extent →
+        others extent ≡ first ∷ rest → first.at ≡ at → extent_at at (replaced at others extents) ≡ Some first) →
         extent_at at ((if b then others one else one ∷ []) ++ replaced at others extents) ≡ Some first
     go true test found later =
         let same : one ≡ extent = ap (λ o. unwrap_or o one) found in
@@ -58,7 +61,8 @@ or_false true b h = absurd (cc)
 or_false false b h = h
 
 -- what is cut holds the block, and little more
-pub taken_block : (old : HeapState) {extent : Extent} (n size : ℕ) → extent_at extent.at (extents_in old) ≡ Some extent → n ≤ extent.size → size + 8 ≤ n → n ≤ size + 32 → IsBlock (taken old extent n) (extent.at + 16) size
+pub taken_block : (old : HeapState) {extent : Extent} (n size : ℕ) → extent_at extent.at (extents_in old) ≡ Some extent → n ≤ extent.size →
+    size + 8 ≤ n → n ≤ size + 32 → IsBlock (taken old extent n) (extent.at + 16) size
 taken_block old {extent} n size there fits holds near = go (leaves_rest n extent) refl
   where
     back : extent.at + 16 - 16 ≡ extent.at

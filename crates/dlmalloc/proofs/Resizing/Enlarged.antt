@@ -86,16 +86,16 @@ module _ {A : Type 0} {regions : A → List Grant} {word : A → ℕ → ℕ} {h
       after = record heap { system = system; top = top; top_size = top_size; victim = victim; victim_size = victim_size }
 
       pub enlarged : {less more : List Extent} (others : List Extent) (step : IsStep regions word heap after less more) →
-          step.front ++ step.now ∷ step.back ≡ two.front ++ with_extents two.segment (two.first ++ (others ++ two.last)) ∷ two.back → cut n (joined chunk behind) ≡ others →
-          extent_at at more ≡ Some (extent at whole Used) →
-          ((used : Extent) → used.kind ≡ Used → used.at ≢ at → extent_at used.at less ≡ Some used → extent_at used.at more ≡ Some used) →
-          ((used : Extent) → used.kind ≡ Used → used.at ≢ at → extent_at used.at more ≡ Some used → extent_at used.at less ≡ Some used) →
-          (victim_size ≡ 0 → victim ≡ 0) → (victim_size ≢ 0 → extent_at victim (extents_in (state_of word after)) ≡ Some (extent victim victim_size Free)) →
+          step.front ++ step.now ∷ step.back ≡ two.front ++ with_extents two.segment (two.first ++ (others ++ two.last)) ∷ two.back →
+          cut n (joined chunk behind) ≡ others → extent_at at more ≡ Some (extent at whole Used) → ((used : Extent) → used.kind ≡ Used →
+          used.at ≢ at → extent_at used.at less ≡ Some used → extent_at used.at more ≡ Some used) → ((used : Extent) → used.kind ≡ Used →
+          used.at ≢ at → extent_at used.at more ≡ Some used → extent_at used.at less ≡ Some used) → (victim_size ≡ 0 → victim ≡ 0) →
+          (victim_size ≢ 0 → extent_at victim (extents_in (state_of word after)) ≡ Some (extent victim victim_size Free)) →
           victim ≡ (grown_into (state_of word heap) chunk behind n).victim → IsEnlarged regions word heap chunk behind n whole after
       enlarged others step now parts held kept only none named left = record {
         state = (
-            let segments_are = read sound step ∙ (now ∙ (ap (λ es. two.front ++ with_extents two.segment (two.first ++ (es ++ two.last)) ∷ two.back) (sym parts)
-            ∙ sym (both_run (regions heap.system) words sound.segments sound.apart chunk behind (λ one behind. cut n (joined one behind)) two))) in
+            let segments_are = read sound step ∙ (now ∙ (ap (λ es. two.front ++ with_extents two.segment (two.first ++ (es ++ two.last)) ∷ two.back) (sym
+            parts) ∙ sym (both_run (regions heap.system) words sound.segments sound.apart chunk behind (λ one behind. cut n (joined one behind)) two))) in
             λ i. record { segments = segments_are i; victim = left i; granularity = heap.granularity; rate = heap.rate; countdown = heap.countdown; trim_check = heap.trim_check });
         held = found_new sound step at (extent at whole Used) held;
         others = record {

@@ -8,7 +8,8 @@ use Rattle.dlmalloc.proofs.Cuts.StateAfter.{in_one}
 
 -- ---- two extents that give way to others
 
-both_none : (words : ℕ → ℕ) (before : Kind) (from : ℕ) (extents : List Extent) (to at : ℕ) (others : Extent → Extent → List Extent) → (at < from) ⊎ (to ≤ at) → Tiles words before from extents to → replaced_both at others extents ≡ extents
+both_none : (words : ℕ → ℕ) (before : Kind) (from : ℕ) (extents : List Extent) (to at : ℕ) (others : Extent → Extent → List Extent) →
+    (at < from) ⊎ (to ≤ at) → Tiles words before from extents to → replaced_both at others extents ≡ extents
 both_none words before from [] to at others out h = refl
 both_none words before from (extent ∷ []) to at others out h = refl
 both_none words before from (extent ∷ next ∷ extents) to at others out h =
@@ -19,7 +20,8 @@ both_none words before from (extent ∷ next ∷ extents) to at others out h =
     let test : (extent.at == at) ≡ false = nat_isnt (grind arith) in
     rw test (ap (λ es. extent ∷ es) rest)
 
-both_here : (words : ℕ → ℕ) (before : Kind) (from : ℕ) (first : List Extent) (one next : Extent) (last : List Extent) (others : Extent → Extent → List Extent) → Tiles words before from first one.at →
+both_here : (words : ℕ → ℕ) (before : Kind) (from : ℕ) (first : List Extent) (one next : Extent) (last : List Extent) (others : Extent → Extent →
+    List Extent) → Tiles words before from first one.at →
     replaced_both one.at others (first ++ (one ∷ next ∷ last)) ≡ first ++ (others one next ++ last)
 both_here words before from [] one next last others h = (let here = nat_same one.at in rw here refl)
 both_here words before from (extent ∷ []) one next last others h =
@@ -37,12 +39,12 @@ both_here words before from (extent ∷ second ∷ first) one next last others h
     let rest = both_here words extent.kind (from + extent.size) (second ∷ first) one next last others h.2 in
     rw test (ap (λ es. extent ∷ es) rest)
 
-pub both_run : (regions : List Grant) (words : ℕ → ℕ) {segments : List Segment} → AreSegments regions words segments → AreApart segments → (one next : Extent) {to : ℕ} (others : Extent → Extent → List Extent) →
-    (run : IsRunOf words segments one.at to (one ∷ next ∷ [])) →
+pub both_run : (regions : List Grant) (words : ℕ → ℕ) {segments : List Segment} → AreSegments regions words segments → AreApart segments →
+    (one next : Extent) {to : ℕ} (others : Extent → Extent → List Extent) → (run : IsRunOf words segments one.at to (one ∷ next ∷ [])) →
     in_segments (replaced_both one.at others) segments ≡ run.front ++ with_extents run.segment (run.first ++ (others one next ++ run.last)) ∷ run.back
 both_run regions words parts apart one next {to} others run =
-    ap (in_segments (replaced_both one.at others)) run.is
-    ∙ in_one regions words (replaced_both one.at others) run.front run.segment run.back (subst (AreSegments regions words) run.is parts) (subst AreApart run.is apart)
+    ap (in_segments (replaced_both one.at others)) run.is ∙ in_one regions words (replaced_both one.at others) run.front run.segment run.back
+    (subst (AreSegments regions words) run.is parts) (subst AreApart run.is apart)
     (λ other part beyond. both_none words Used other.base other.extents (other.base + other.size) one.at others (out other beyond) part.extents)
     (ap (replaced_both one.at others) run.extents ∙ both_here words Used run.segment.base run.first one next run.last others run.first_stand)
   where
@@ -71,11 +73,10 @@ module _ (regions : List Grant) {old : ℕ → ℕ} (new : ℕ → ℕ) {before 
   -- the top keeps a rest
   pub grown_top : {top : ℕ} (n : ℕ) → HasChunk old Used (extent (at + size) top Top) → n % 16 ≡ 0 → 32 ≤ n → n + 16 ≤ size + top →
       AreStored regions old ((at + 8, head_of n (pinuse_of (old (at + 8))) true) ∷ (at + n + 8, size + top - n + 1) ∷ []) new →
-      IsMove regions old new before at (at + size + top) (at + size + top) (extent at size Used ∷ extent (at + size) top Top ∷ []) (extent at n Used ∷ extent (at + n) (size + top - n) Top ∷ [])
+      IsMove regions old new before at (at + size + top) (at + size + top) (extent at size Used ∷ extent (at + size) top Top ∷ [])
+      (extent at n Used ∷ extent (at + n) (size + top - n) Top ∷ [])
   grown_top n behind whole least room stored =
-      let place = stands.whole in
-      let units = stands.size.0 in
-      let units_top = behind.size.0 in
+      let place = stands.whole in let units = stands.size.0 in let units_top = behind.size.0 in
       record {
         less_stand = (refl, stands, (refl, behind, refl));
         more_stand = (
@@ -92,12 +93,11 @@ module _ (regions : List Grant) {old : ℕ → ℕ} (new : ℕ → ℕ) {before 
 
   -- a free one keeps a rest
   pub grown_split : (free n : ℕ) → HasChunk old Used (extent (at + size) free Free) → n % 16 ≡ 0 → 32 ≤ n → n + 32 ≤ size + free →
-      AreStored regions old ((at + 8, head_of n (pinuse_of (old (at + 8))) true) ∷ (at + n + 8, head_of (size + free - n) true false) ∷ (at + n + (size + free - n), size + free - n) ∷ []) new →
-      IsMove regions old new before at (at + size + free) (at + size + free) (extent at size Used ∷ extent (at + size) free Free ∷ []) (extent at n Used ∷ extent (at + n) (size + free - n) Free ∷ [])
+      AreStored regions old ((at + 8, head_of n (pinuse_of (old (at + 8))) true) ∷ (at + n + 8, head_of (size + free - n) true false)
+      ∷ (at + n + (size + free - n), size + free - n) ∷ []) new → IsMove regions old new before at (at + size + free) (at + size + free)
+      (extent at size Used ∷ extent (at + size) free Free ∷ []) (extent at n Used ∷ extent (at + n) (size + free - n) Free ∷ [])
   grown_split free n behind whole least room stored =
-      let place = stands.whole in
-      let units = stands.size.0 in
-      let units_free = behind.size.0 in
+      let place = stands.whole in let units = stands.size.0 in let units_free = behind.size.0 in
       record {
         less_stand = (refl, stands, (refl, behind, refl));
         more_stand = (
@@ -113,17 +113,14 @@ module _ (regions : List Grant) {old : ℕ → ℕ} (new : ℕ → ℕ) {before 
       }
 
   -- nothing of it stays free, and what is behind it is told
-  pub grown_whole : (free : ℕ) (next : Extent) → HasChunk old Used (extent (at + size) free Free) → HasChunk old Free next → next.at ≡ at + size + free →
-      AreStored regions old ((at + 8, head_of (size + free) (pinuse_of (old (at + 8))) true) ∷ (at + (size + free) + 8, with_pinuse (old (at + (size + free) + 8))) ∷ []) new →
-      ((k : ℕ) → next.at < k → k < next.at + next.size → k % 8 ≡ 0 → IsWordOf regions k) →
-      IsMove regions old new before at (at + size + free + next.size) (at + size + free + next.size) (extent at size Used ∷ extent (at + size) free Free ∷ next ∷ []) (extent at (size + free) Used ∷ next ∷ [])
+  pub grown_whole : (free : ℕ) (next : Extent) → HasChunk old Used (extent (at + size) free Free) → HasChunk old Free next →
+      next.at ≡ at + size + free → AreStored regions old ((at + 8, head_of (size + free) (pinuse_of (old (at + 8))) true)
+      ∷ (at + (size + free) + 8, with_pinuse (old (at + (size + free) + 8))) ∷ []) new → ((k : ℕ) → next.at < k → k < next.at + next.size →
+      k % 8 ≡ 0 → IsWordOf regions k) → IsMove regions old new before at (at + size + free + next.size) (at + size + free + next.size)
+      (extent at size Used ∷ extent (at + size) free Free ∷ next ∷ []) (extent at (size + free) Used ∷ next ∷ [])
   grown_whole free next behind after touch stored granted =
-      let place = stands.whole in
-      let units = stands.size.0 in
-      let long = stands.size.1 in
-      let units_free = behind.size.0 in
-      let long_free = behind.size.1 in
-      let kind = behind_free next.kind after.kind in
+      let place = stands.whole in let units = stands.size.0 in let long = stands.size.1 in
+      let units_free = behind.size.0 in let long_free = behind.size.1 in let kind = behind_free next.kind after.kind in
       let sum : next.at ≡ at + (size + free) = omega arith in
       record {
         less_stand = (refl, stands, (refl, behind, (touch, after, refl)));
@@ -132,10 +129,9 @@ module _ (regions : List Grant) {old : ℕ → ℕ} (new : ℕ → ℕ) {before 
           longer (size + free) (omega arith) (omega arith) (stored.here.0 ((λ is. omega arith), tt)),
           (
             sum,
-            rehung new Used after kind (may_stand next.kind Used kind (inl refl))
-                (subst (λ a. new (a + 8) ≡ head_of (told_size next.kind next.size) true (is_used next.kind)) (sym sum)
-                (stored.here.1.0 tt ∙ (ap (λ a. with_pinuse (old (a + 8))) (sym sum)
-                ∙ (ap with_pinuse after.head ∙ with_pinuse-head_of (told_size next.kind next.size) false (is_used next.kind) (told_whole next.kind next.size after.size)))))
+            rehung new Used after kind (may_stand next.kind Used kind (inl refl)) (subst (λ a. new (a + 8) ≡ head_of (told_size next.kind next.size) true
+                (is_used next.kind)) (sym sum) (stored.here.1.0 tt ∙ (ap (λ a. with_pinuse (old (a + 8))) (sym sum) ∙ (ap with_pinuse after.head
+                ∙ with_pinuse-head_of (told_size next.kind next.size) false (is_used next.kind) (told_whole next.kind next.size after.size)))))
                 (λ k low high m. stored.elsewhere k (granted k (omega arith) high m) ((λ is. omega arith), ((λ is. omega arith), tt))),
             omega arith,
           ),

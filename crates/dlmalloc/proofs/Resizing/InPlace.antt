@@ -75,13 +75,15 @@ module _ {A : Type 0} {regions : A → List Grant} {word : A → ℕ → ℕ} {h
 
   module _ (no_touch : at + size ≢ heap.top) where
     -- it is a free chunk
-    pub free_behind : free_of (words (at + size + 8)) ≡ true → {told : ℕ} → told ≡ size_of (words (at + size + 8)) → extent_at (at + size) (extents_in (state_of word heap)) ≡ Some (extent (at + size) told Free)
+    pub free_behind : free_of (words (at + size + 8)) ≡ true → {told : ℕ} → told ≡ size_of (words (at + size + 8)) →
+        extent_at (at + size) (extents_in (state_of word heap)) ≡ Some (extent (at + size) told Free)
     free_behind free {told} is = go after.kind refl stand.1.kind
       where
         go : (kind : Kind) → after.kind ≡ kind → MayStand Used kind → extent_at (at + size) (extents_in (state_of word heap)) ≡ Some (extent (at + size) told Free)
         go Used kind may = absurd (let no : true ≡ false = sym free ∙ (free_told ∙ ap (λ k. not (is_used k)) kind) in cc)
         go Free kind may =
-            let size_told : size_of (words (at + size + 8)) ≡ told_size after.kind after.size = ap size_of head ∙ size_of-head_of (told_size after.kind after.size) true (is_used after.kind) (told_whole after.kind after.size stand.1.size) in
+            let size_told : size_of (words (at + size + 8)) ≡ told_size after.kind after.size = ap size_of head
+            ∙ size_of-head_of (told_size after.kind after.size) true (is_used after.kind) (told_whole after.kind after.size stand.1.size) in
             let sizes : told ≡ after.size = is ∙ (size_told ∙ ap (λ k. told_size k after.size) kind) in
             after_there ∙ (λ i. Some (extent (stand.0 i) (sym sizes i) (kind i)))
         go Victim kind may = absurd may
@@ -93,7 +95,8 @@ module _ {A : Type 0} {regions : A → List Grant} {word : A → ℕ → ℕ} {h
     pub used_behind : (n : ℕ) → size < n → free_of (words (at + size + 8)) ≡ false → in_place (state_of word heap) at n ≡ None
     used_behind n more used = has_no_room (state_of word heap) n there more after_there (go after.kind refl stand.1.kind)
       where
-        of_kind : (kind : Kind) → after.kind ≡ kind → has_room n (joined (extent at size Used) (extent after.at after.size kind)) ≡ false → has_room n (joined (extent at size Used) after) ≡ false
+        of_kind : (kind : Kind) → after.kind ≡ kind → has_room n (joined (extent at size Used) (extent after.at after.size kind)) ≡ false →
+            has_room n (joined (extent at size Used) after) ≡ false
         of_kind kind is none = subst (λ k. has_room n (joined (extent at size Used) (extent after.at after.size k)) ≡ false) (sym is) none
 
         go : (kind : Kind) → after.kind ≡ kind → MayStand Used kind → has_room n (joined (extent at size Used) after) ≡ false

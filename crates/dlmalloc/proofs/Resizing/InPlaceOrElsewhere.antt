@@ -39,14 +39,15 @@ pub other_there : (at : ℕ) (extents : List Extent) (k : ℕ) {one : Extent} �
 other_there at [] k there = absurd (cc)
 other_there at (first ∷ extents) k {one} there = go (first.at == at) (first.at == k) refl refl (λ later. other_there at extents k later)
   where
-    go : (here is : Bool) → (first.at == at) ≡ here → (first.at == k) ≡ is → (extent_at k (others_at at extents) ≡ Some one → (one.at ≢ at) × (extent_at k extents ≡ Some one)) →
-        (one.at ≢ at) × (extent_at k (first ∷ extents) ≡ Some one)
+    go : (here is : Bool) → (first.at == at) ≡ here → (first.at == k) ≡ is → (extent_at k (others_at at extents) ≡ Some one →
+        (one.at ≢ at) × (extent_at k extents ≡ Some one)) → (one.at ≢ at) × (extent_at k (first ∷ extents) ≡ Some one)
     go true is at_first at_k rest =
         let later = rest (subst (λ b. extent_at k (if not b then first ∷ others_at at extents else others_at at extents) ≡ Some one) at_first there) in
         let apart : (first.at == k) ≡ false = differ first.at k (λ same. later.0 (place_found k extents later.1 ∙ (sym same ∙ nat_is at_first))) in
         (later.0, rw apart later.1)
     go false true at_first at_k rest =
-        let with_first : extent_at k (first ∷ others_at at extents) ≡ Some one = subst (λ b. extent_at k (if not b then first ∷ others_at at extents else others_at at extents) ≡ Some one) at_first there in
+        let with_first : extent_at k (first ∷ others_at at extents) ≡ Some
+        one = subst (λ b. extent_at k (if not b then first ∷ others_at at extents else others_at at extents) ≡ Some one) at_first there in
         let same : Some first ≡ Some one = subst (λ b. (if b then Some first else extent_at k (others_at at extents)) ≡ Some one) at_k with_first in (
           (λ place. (
               let is : first.at ≡ at = ap (λ e. e.at) (the_extent same) ∙ place in
@@ -55,16 +56,19 @@ other_there at (first ∷ extents) k {one} there = go (first.at == at) (first.at
           rw at_k same,
         )
     go false false at_first at_k rest =
-        let with_first : extent_at k (first ∷ others_at at extents) ≡ Some one = subst (λ b. extent_at k (if not b then first ∷ others_at at extents else others_at at extents) ≡ Some one) at_first there in
+        let with_first : extent_at k (first ∷ others_at at extents) ≡ Some
+        one = subst (λ b. extent_at k (if not b then first ∷ others_at at extents else others_at at extents) ≡ Some one) at_first there in
         let later = rest (subst (λ b. (if b then Some first else extent_at k (others_at at extents)) ≡ Some one) at_k with_first) in
         (later.0, rw at_k later.1)
 
 -- ---- where it stands
 
-pub stays_there : {A : Type 0} {regions : A → List Grant} {word : A → ℕ → ℕ} {follows : A → List Event → A → Type 0} (old new : Dlmalloc A) {ptr n : ℕ} (held size whole : ℕ) → IsSound regions word old → (block : IsBlock (state_of word old) ptr n) → held + 8 ≤ block.extent.size → size < limit old.granularity →
-    size + 8 ≤ padded size → padded size ≤ size + 32 → padded size ≤ whole → whole < padded size + 32 →
-    in_place (state_of word old) (ptr - 16) (padded size) ≡ Some (state_of word new) → extent_at (ptr - 16) (extents_in (state_of word new)) ≡ Some (extent (ptr - 16) whole Used) →
-    HasSameOthers (state_of word old) (state_of word new) (ptr - 16) (ptr - 16) → IsTurned regions word follows old new → KeepsOrder regions word old new → IsInPlace regions word follows old ptr held size new
+pub stays_there : {A : Type 0} {regions : A → List Grant} {word : A → ℕ → ℕ} {follows : A → List Event → A → Type 0}
+    (old new : Dlmalloc A) {ptr n : ℕ} (held size whole : ℕ) → IsSound regions word old → (block : IsBlock (state_of word old) ptr n) →
+    held + 8 ≤ block.extent.size → size < limit old.granularity → size + 8 ≤ padded size → padded size ≤ size + 32 → padded size ≤ whole →
+    whole < padded size + 32 → in_place (state_of word old) (ptr - 16) (padded size) ≡ Some (state_of word new) → extent_at (ptr - 16)
+    (extents_in (state_of word new)) ≡ Some (extent (ptr - 16) whole Used) → HasSameOthers (state_of word old) (state_of word new) (ptr - 16) (ptr - 16) →
+    IsTurned regions word follows old new → KeepsOrder regions word old new → IsInPlace regions word follows old ptr held size new
 stays_there {regions} {word} old new {ptr} held size whole sound block kept_bytes small holds near fits little state there others moved order = record {
   order = order;
   small = small;
@@ -77,11 +81,9 @@ stays_there {regions} {word} old new {ptr} held size whole sound block kept_byte
       kept_in regions word old moved.sound moved.words chunk there refl (ptr + k) (omega arith) (omega arith) (record {
         granted = subst (λ rs. IsTrue (is_granted rs (ptr + k))) moved.regions_same (inside.granted (ptr + k) (omega arith) (omega arith));
         aligned = omega arith;
-      })
-      (let place = (found (ptr - 16) block.extent (extents_in (state_of word old)) block.there).place in
+      }) (let place = (found (ptr - 16) block.extent (extents_in (state_of word old)) block.there).place in
       not_in_free sound (ap (λ a. extent_at a (extents_in (state_of word old))) place ∙ block.there) block.used (ptr + k) (omega arith) (omega arith));
-  kept = blocks_law sound moved.sound moved.words (others_at (ptr - 16) (extents_in (state_of word old)))
-      (λ other there used.
+  kept = blocks_law sound moved.sound moved.words (others_at (ptr - 16) (extents_in (state_of word old))) (λ other there used.
       let is = other_there (ptr - 16) (extents_in (state_of word old)) other.at there in
       (is.1, others.kept other used is.0 is.0 is.1));
   moved = moved;
@@ -93,11 +95,14 @@ stays_there {regions} {word} old new {ptr} held size whole sound block kept_byte
 -- ---- elsewhere
 
 -- what is held of a block is in its chunk
-pub held_there : {heap : HeapState} {ptr n : ℕ} (held : ℕ) (block : IsBlock heap ptr n) → held + 8 ≤ size_where (λ extent. extent.at == ptr - 16) (extents_in heap) → held + 8 ≤ block.extent.size
+pub held_there : {heap : HeapState} {ptr n : ℕ} (held : ℕ) (block : IsBlock heap ptr n) →
+    held + 8 ≤ size_where (λ extent. extent.at == ptr - 16) (extents_in heap) → held + 8 ≤ block.extent.size
 held_there {heap} {ptr} held block fits = omega (arith, size_at heap (ptr - 16) block.extent block.there)
 
-module _ {A : Type 0} {regions : A → List Grant} {word : A → ℕ → ℕ} (zeros : A → Bool) (follows : A → List Event → A → Type 0) {old : Dlmalloc A} {ptr : ℕ} (held align size address : ℕ) {n : ℕ} (sound : IsSound regions word old) (block : IsBlock (state_of word old) ptr n)
-    (fits : held + 8 ≤ size_where (λ extent. extent.at == ptr - 16) (extents_in (state_of word old))) (middle : Dlmalloc A) (served : IsServedAt regions word zeros follows old size align address middle) where
+module _ {A : Type 0} {regions : A → List Grant} {word : A → ℕ → ℕ} (zeros : A → Bool)
+    (follows : A → List Event → A → Type 0) {old : Dlmalloc A} {ptr : ℕ} (held align size address : ℕ) {n : ℕ} (sound : IsSound regions word old)
+    (block : IsBlock (state_of word old) ptr n) (fits : held + 8 ≤ size_where (λ extent. extent.at == ptr - 16) (extents_in (state_of word old)))
+    (middle : Dlmalloc A) (served : IsServedAt regions word zeros follows old size align address middle) where
   more : HasOneMore (state_of word old) (state_of word middle) (address - 16)
   more = elim served [ inl few ↦ few.1.more | inr many ↦ many.1.more ]
 
@@ -171,7 +176,8 @@ module _ {A : Type 0} {regions : A → List Grant} {word : A → ℕ → ℕ} (z
       cut_there = ap (λ a. extent_at a (extents_in (state_of word middle))) cut_place ∙ new_block.1.there
 
       -- what is in use then, elsewhere, is in use in the end
-      ends : {used : Extent} → used.kind ≡ Used → extent_at used.at (extents_in (state_of word middle)) ≡ Some used → used.at ≢ ptr - 16 → extent_at used.at (extents_in (state_of word new)) ≡ Some used
+      ends : {used : Extent} → used.kind ≡ Used → extent_at used.at (extents_in (state_of word middle)) ≡ Some used → used.at ≢ ptr - 16 →
+          extent_at used.at (extents_in (state_of word new)) ≡ Some used
       ends {used} is found other = freed.less.only used is (ap (λ s. extent_at used.at (extents_in s)) copied_heap.state ∙ found) other
 
       cut_new : extent_at cut.at (extents_in (state_of word new)) ≡ Some cut
@@ -205,19 +211,19 @@ module _ {A : Type 0} {regions : A → List Grant} {word : A → ℕ → ℕ} (z
             let then_there = more.kept other used is.1 in
             let inside = used_inside regions word middle new_block.0 other used then_there in
             freed.kept.words other (ends used then_there is.0) used k low high m
-            ∙ (copied.elsewhere k (record { granted = inside.granted k (omega arith) (omega arith); aligned = m }) (beside other used is.1 k (omega arith) high)
-            ∙ first_kept.words other is.1 used k low high m);
+            ∙ (copied.elsewhere k (record { granted = inside.granted k (omega arith) (omega arith); aligned = m })
+            (beside other used is.1 k (omega arith) high) ∙ first_kept.words other is.1 used k low high m);
         heads = λ other found used.
             let is = other_there (ptr - 16) (extents_in (state_of word old)) other.at found in
             let then_there = more.kept other used is.1 in
             let inside = used_inside regions word middle new_block.0 other used then_there in
-            freed.kept.heads other (ends used then_there is.0) used
-            ∙ (ap (λ w. w / 2) (copied.elsewhere (other.at + 8) (record { granted = inside.granted (other.at + 8) (omega arith) (omega arith); aligned = omega arith })
-            (beside other used is.1 (other.at + 8) (omega arith) (omega arith)))
-            ∙ first_kept.heads other is.1 used);
+            freed.kept.heads other (ends used then_there is.0) used ∙ (ap (λ w. w / 2)
+            (copied.elsewhere (other.at + 8) (record { granted = inside.granted (other.at + 8) (omega arith) (omega arith); aligned = omega arith })
+            (beside other used is.1 (other.at + 8) (omega arith) (omega arith))) ∙ first_kept.heads other is.1 used);
       }
         where
-          beside : (other : Extent) → other.kind ≡ Used → extent_at other.at (extents_in (state_of word old)) ≡ Some other → (k : ℕ) → other.at + 8 ≤ k → k < other.at + other.size + 8 → IsBeside address (words_in (min held size)) k
+          beside : (other : Extent) → other.kind ≡ Used → extent_at other.at (extents_in (state_of word old)) ≡ Some other →
+              (k : ℕ) → other.at + 8 ≤ k → k < other.at + other.size + 8 → IsBeside address (words_in (min held size)) k
           beside other used found k low high =
               let new_low = new_block.1.low in let holds = new_block.1.holds in
               let size_whole = (used_inside regions word middle new_block.0 cut new_block.1.used cut_there).size_whole in

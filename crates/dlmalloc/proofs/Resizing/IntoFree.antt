@@ -13,9 +13,9 @@ use Rattle.dlmalloc.proofs.Moves.OfHeaps.{IsStep, found_new, found_again}
 use Rattle.dlmalloc.proofs.Extents.RunReplaced.{step_beside, HasNext, has_next, with_next, behind, run_word}
 use Rattle.dlmalloc.proofs.Frees.Behind.{next_there, place}
 
-module _ {A : Type 0} {regions : A → List Grant} {word : A → ℕ → ℕ} {heap : Dlmalloc A} (sound : IsSound regions word heap) {at size length : ℕ} (n : ℕ)
-    (there : extent_at at (extents_in (state_of word heap)) ≡ Some (extent at size Used)) (free_there : extent_at (at + size) (extents_in (state_of word heap)) ≡ Some (extent (at + size) length Free))
-    (multiple : n % 16 ≡ 0) (more : size < n) (room : n ≤ size + length) where
+module _ {A : Type 0} {regions : A → List Grant} {word : A → ℕ → ℕ} {heap : Dlmalloc A} (sound : IsSound regions word heap) {at size length : ℕ}
+    (n : ℕ) (there : extent_at at (extents_in (state_of word heap)) ≡ Some (extent at size Used)) (free_there : extent_at (at + size)
+    (extents_in (state_of word heap)) ≡ Some (extent (at + size) length Free)) (multiple : n % 16 ≡ 0) (more : size < n) (room : n ≤ size + length) where
   abbrev words : ℕ → ℕ
   words = word heap.system
 
@@ -26,8 +26,7 @@ module _ {A : Type 0} {regions : A → List Grant} {word : A → ℕ → ℕ} {h
   free = extent (at + size) length Free
 
   next_is : (next sound there).next ≡ free
-  next_is = the_extent (sym (next_there sound there)
-      ∙ (ap (λ a. extent_at a (extents_in (state_of word heap))) (place sound there) ∙ free_there))
+  next_is = the_extent (sym (next_there sound there) ∙ (ap (λ a. extent_at a (extents_in (state_of word heap))) (place sound there) ∙ free_there))
 
   abbrev both : IsRunOf words (segments_of word heap) at (at + size + length) (chunk ∷ free ∷ [])
   both = two sound there next_is
@@ -64,8 +63,7 @@ module _ {A : Type 0} {regions : A → List Grant} {word : A → ℕ → ℕ} {h
   free_foot_there k above under m = record {
     aligned = m;
     small = omega (arith, free_end_small);
-    granted = run_word (regions heap.system) sound.segments both k
-        (omega (arith, low sound there next_is)) (omega (arith, end_room)) m;
+    granted = run_word (regions heap.system) sound.segments both k (omega (arith, low sound there next_is)) (omega (arith, end_room)) m;
   }
 
   -- the free chunk is found in a run
@@ -81,15 +79,15 @@ module _ {A : Type 0} {regions : A → List Grant} {word : A → ℕ → ℕ} {h
 
     -- ---- a rest stays free
 
-    module _ (rest_room : n + 32 ≤ size + length)
-        (stored : AreStored (regions heap.system) words ((at + 8, head_of n (pinuse_of (words (at + 8))) true) ∷ (at + n + 8, head_of (size + length - n) true false) ∷ (at + n + (size + length - n), size + length - n) ∷ []) (word system)) where
+    module _ (rest_room : n + 32 ≤ size + length) (stored : AreStored (regions heap.system) words ((at + 8, head_of n (pinuse_of (words (at + 8))) true)
+        ∷ (at + n + 8, head_of (size + length - n) true false) ∷ (at + n + (size + length - n), size + length - n) ∷ []) (word system)) where
       abbrev parts : List Extent
       parts = extent at n Used ∷ extent (at + n) (size + length - n) Free ∷ []
 
       abbrev split_step : (victim victim_size : ℕ) → IsStep regions word heap (after victim victim_size) (chunk ∷ free ∷ []) parts
       split_step victim victim_size = step_beside (after victim victim_size) sound same both
-          (grown_split (regions heap.system) (word system) both.here.1 length n both.here.2.1 multiple least rest_room stored) refl
-          (λ k tail found is. absurd (no_kind chunk free Record (λ is. cc) (λ is. cc) k found is)) refl (record { base = refl; size = refl; flags = refl; top = refl; top_size = refl })
+          (grown_split (regions heap.system) (word system) both.here.1 length n both.here.2.1 multiple least rest_room stored) refl (λ k tail found is. absurd
+          (no_kind chunk free Record (λ is. cc) (λ is. cc) k found is)) refl (record { base = refl; size = refl; flags = refl; top = refl; top_size = refl })
           (λ k tail found is. absurd (no_kind chunk free Top (λ is. cc) (λ is. cc) k found is))
 
       has_rest : nat_le (n + 32) (size + length) ≡ true
@@ -105,15 +103,17 @@ module _ {A : Type 0} {regions : A → List Grant} {word : A → ℕ → ℕ} {h
       split_rest : (victim victim_size : ℕ) → IsFreeAt (state_of word (after victim victim_size)) (at + n) (size + length - n)
       split_rest victim victim_size = found_new sound (split_step victim victim_size) (at + n) (extent (at + n) (size + length - n) Free) rest_there
 
-      split_free : (victim victim_size : ℕ) → FreeMoves (state_of word heap) (state_of word (after victim victim_size)) ((at + size) ∷ []) (if nat_le (n + 32) (size + length) then (at + n) ∷ [] else [])
-      split_free victim victim_size = subst (λ b. FreeMoves (state_of word heap) (state_of word (after victim victim_size)) ((at + size) ∷ []) (if b then (at + n) ∷ [] else [])) (sym has_rest)
-          (free_moves sound (split_step victim victim_size) ((at + size) ∷ []) ((at + n) ∷ []) only_free
+      split_free : (victim victim_size : ℕ) → FreeMoves (state_of word heap) (state_of word (after victim victim_size)) ((at + size) ∷ [])
+          (if nat_le (n + 32) (size + length) then (at + n) ∷ [] else [])
+      split_free victim victim_size = subst (λ b. FreeMoves (state_of word heap) (state_of word (after victim victim_size)) ((at + size) ∷ [])
+          (if b then (at + n) ∷ [] else [])) (sym has_rest) (free_moves sound (split_step victim victim_size) ((at + size) ∷ []) ((at + n) ∷ []) only_free
           (λ k bytes found. elim (in_two (extent at n Used) (extent (at + n) (size + length - n) Free) k found) [
             | inl here ↦ absurd (let no : Used ≡ Free = ap (λ e. e.kind) here in cc)
             | inr behind ↦ inl (sym (ap (λ e. e.at) behind))
-          ])
-          (λ k is. elim is [ inl place ↦ inr (free, subst (λ a. extent_at a (chunk ∷ free ∷ []) ≡ Some free) (sym place) (found_free [])) | inr none ↦ absurd none ])
-          (λ k is. elim is [ inl place ↦ inr (extent (at + n) (size + length - n) Free, subst (λ a. extent_at a parts ≡ Some (extent (at + n) (size + length - n) Free)) (sym place) rest_there) | inr none ↦ absurd none ]))
+          ]) (λ k is. elim is
+          [ inl place ↦ inr (free, subst (λ a. extent_at a (chunk ∷ free ∷ []) ≡ Some free) (sym place) (found_free [])) | inr none ↦ absurd none ])
+          (λ k is. elim is
+          [ inl place ↦ inr (extent (at + n) (size + length - n) Free, subst (λ a. extent_at a parts ≡ Some (extent (at + n) (size + length - n) Free)) (sym place) rest_there) | inr none ↦ absurd none ]))
         where
           only_free : (k bytes : ℕ) → extent_at k (chunk ∷ free ∷ []) ≡ Some (extent k bytes Free) → IsIn k ((at + size) ∷ [])
           only_free k bytes found = elim (in_two chunk free k found) [
@@ -123,19 +123,17 @@ module _ {A : Type 0} {regions : A → List Grant} {word : A → ℕ → ℕ} {h
 
       abbrev Split : ℕ → ℕ → Type 0
       Split victim victim_size =
-          IsEnlarged regions word heap chunk free n n (after victim victim_size)
-          × FreeMoves (state_of word heap) (state_of word (after victim victim_size)) ((at + size) ∷ []) (if nat_le (n + 32) (size + length) then (at + n) ∷ [] else [])
-          × IsFreeAt (state_of word (after victim victim_size)) (at + n) (size + length - n)
+          IsEnlarged regions word heap chunk free n n (after victim victim_size) × FreeMoves (state_of word heap) (state_of word (after victim victim_size))
+          ((at + size) ∷ []) (if nat_le (n + 32) (size + length) then (at + n) ∷ [] else []) × IsFreeAt (state_of word (after victim victim_size)) (at + n)
+          (size + length - n)
 
       split : (victim victim_size : ℕ) → (victim_size ≡ 0 → victim ≡ 0) →
           (victim_size ≢ 0 → extent_at victim (extents_in (state_of word (after victim victim_size))) ≡ Some (extent victim victim_size Free)) →
           victim ≡ (grown_into (state_of word heap) chunk free n).victim → Split victim victim_size
       split victim victim_size none named left = (
-        enlarged sound there next_is n n system same heap.top heap.top_size victim victim_size parts (split_step victim victim_size) refl
-            (rw has_rest refl) (let here = nat_same at in rw here refl)
-            (λ used is other found. absurd (no_other chunk free (λ is. cc) is other found))
-            (λ used is other found. absurd (no_other (extent at n Used) (extent (at + n) (size + length - n) Free) (λ is. cc) is other found))
-            none named left,
+        enlarged sound there next_is n n system same heap.top heap.top_size victim victim_size parts (split_step victim victim_size) refl (rw has_rest refl)
+            (let here = nat_same at in rw here refl) (λ used is other found. absurd (no_other chunk free (λ is. cc) is other found)) (λ used is other found.
+            absurd (no_other (extent at n Used) (extent (at + n) (size + length - n) Free) (λ is. cc) is other found)) none named left,
         split_free victim victim_size,
         split_rest victim victim_size,
       )
@@ -144,8 +142,7 @@ module _ {A : Type 0} {regions : A → List Grant} {word : A → ℕ → ℕ} {h
       pub into_victim : at + size ≡ heap.victim → Split (at + n) (size + length - n)
       into_victim is =
           let test : (at + size == heap.victim) ≡ true = (let e = is in grind (arith, nat_tests)) in
-          split (at + n) (size + length - n) (λ none. absurd (omega arith))
-          (λ some.
+          split (at + n) (size + length - n) (λ none. absurd (omega arith)) (λ some.
           let first : (at == at + n) ≡ false = nat_isnt (inl (omega (arith, least))) in
           let second : (at + n == at + n) ≡ true = nat_same (at + n) in
           found_new sound (split_step (at + n) (size + length - n)) (at + n) (extent (at + n) (size + length - n) Free) (rw (first, second) refl))
@@ -156,12 +153,10 @@ module _ {A : Type 0} {regions : A → List Grant} {word : A → ℕ → ℕ} {h
       into_binned isnt =
           let test : (at + size == heap.victim) ≡ false = differ (at + size) heap.victim isnt in
           split heap.victim heap.victim_size sound.no_victim
-          (λ some. found_again sound (split_step heap.victim heap.victim_size) heap.victim
-          (λ found. absurd (elim (in_two chunk free heap.victim found) [
+          (λ some. found_again sound (split_step heap.victim heap.victim_size) heap.victim (λ found. absurd (elim (in_two chunk free heap.victim found) [
             | inl here ↦ (let no : Used ≡ Free = ap (λ e. e.kind) here in cc)
             | inr behind ↦ isnt (ap (λ e. e.at) behind)
-          ])) (sound.victim some))
-          (rw test refl)
+          ])) (sound.victim some)) (rw test refl)
 
     -- ---- nothing of it stays free
 
@@ -207,7 +202,8 @@ module _ {A : Type 0} {regions : A → List Grant} {word : A → ℕ → ℕ} {h
 
       abbrev whole_step : (victim victim_size : ℕ) → IsStep regions word heap (after victim victim_size) three all
       whole_step victim victim_size = step_beside (after victim victim_size) sound same (with_next (regions heap.system) sound.segments both third) move refl
-          (λ k tail found is. still k found (no_chunk (λ is. cc) tail is) (no_free (λ is. cc) tail is)) refl (record { base = refl; size = refl; flags = refl; top = refl; top_size = refl })
+          (λ k tail found is. still k found (no_chunk (λ is. cc) tail is) (no_free (λ is. cc) tail is)) refl
+          (record { base = refl; size = refl; flags = refl; top = refl; top_size = refl })
           (λ k tail found is. still k found (no_chunk (λ is. cc) tail is) (no_free (λ is. cc) tail is))
 
       no_rest : nat_le (n + 32) (size + length) ≡ false
@@ -230,14 +226,15 @@ module _ {A : Type 0} {regions : A → List Grant} {word : A → ℕ → ℕ} {h
                 rw (first, second) later.1)
           ]
 
-      whole_free : (victim victim_size : ℕ) → FreeMoves (state_of word heap) (state_of word (after victim victim_size)) ((at + size) ∷ []) (if nat_le (n + 32) (size + length) then (at + n) ∷ [] else [])
-      whole_free victim victim_size = subst (λ b. FreeMoves (state_of word heap) (state_of word (after victim victim_size)) ((at + size) ∷ []) (if b then (at + n) ∷ [] else [])) (sym no_rest)
-          (free_moves sound (whole_step victim victim_size) ((at + size) ∷ []) [] only_free
+      whole_free : (victim victim_size : ℕ) → FreeMoves (state_of word heap) (state_of word (after victim victim_size)) ((at + size) ∷ [])
+          (if nat_le (n + 32) (size + length) then (at + n) ∷ [] else [])
+      whole_free victim victim_size = subst (λ b. FreeMoves (state_of word heap) (state_of word (after victim victim_size)) ((at + size) ∷ [])
+          (if b then (at + n) ∷ [] else [])) (sym no_rest) (free_moves sound (whole_step victim victim_size) ((at + size) ∷ []) [] only_free
           (λ k bytes found. elim (in_two (extent at (size + length) Used) last k found) [
             | inl here ↦ (let no : Used ≡ Free = ap (λ e. e.kind) here in cc)
             | inr behind ↦ no_last k bytes behind
-          ])
-          (λ k is. elim is [ inl place ↦ inr (free, subst (λ a. extent_at a three ≡ Some free) (sym place) (found_free (last ∷ []))) | inr none ↦ absurd none ])
+          ]) (λ k is. elim is
+          [ inl place ↦ inr (free, subst (λ a. extent_at a three ≡ Some free) (sym place) (found_free (last ∷ []))) | inr none ↦ absurd none ])
           (λ k none. absurd none))
         where
           no_last : (k bytes : ℕ) → last ≡ extent k bytes Free → ⊥
@@ -256,19 +253,17 @@ module _ {A : Type 0} {regions : A → List Grant} {word : A → ℕ → ℕ} {h
 
       abbrev Whole : ℕ → ℕ → Type 0
       Whole victim victim_size =
-          IsEnlarged regions word heap chunk free n (size + length) (after victim victim_size)
-          × FreeMoves (state_of word heap) (state_of word (after victim victim_size)) ((at + size) ∷ []) (if nat_le (n + 32) (size + length) then (at + n) ∷ [] else [])
+          IsEnlarged regions word heap chunk free n (size + length) (after victim victim_size) × FreeMoves (state_of word heap)
+          (state_of word (after victim victim_size)) ((at + size) ∷ []) (if nat_le (n + 32) (size + length) then (at + n) ∷ [] else [])
 
       whole : (victim victim_size : ℕ) → (victim_size ≡ 0 → victim ≡ 0) →
           (victim_size ≢ 0 → extent_at victim (extents_in (state_of word (after victim victim_size))) ≡ Some (extent victim victim_size Free)) →
           victim ≡ (grown_into (state_of word heap) chunk free n).victim → Whole victim victim_size
       whole victim victim_size none named left = (
-        enlarged sound there next_is n (size + length) system same heap.top heap.top_size victim victim_size (extent at (size + length) Used ∷ []) (whole_step victim victim_size)
-            (ap (λ es. both.front ++ with_extents both.segment (both.first ++ (extent at (size + length) Used ∷ es)) ∷ both.back) (sym third.is))
-            (rw no_rest refl) (let here = nat_same at in rw here refl)
-            (λ used is other found. still used.at found (λ here. other (ap (λ e. e.at) (sym here))) (no_free (λ is. cc) used is))
-            (λ used is other found. was used other found)
-            none named left,
+        enlarged sound there next_is n (size + length) system same heap.top heap.top_size victim victim_size (extent at (size + length) Used ∷ []) (whole_step
+            victim victim_size) (ap (λ es. both.front ++ with_extents both.segment (both.first ++ (extent at (size + length) Used ∷ es)) ∷ both.back)
+            (sym third.is)) (rw no_rest refl) (let here = nat_same at in rw here refl) (λ used is other found. still used.at found
+            (λ here. other (ap (λ e. e.at) (sym here))) (no_free (λ is. cc) used is)) (λ used is other found. was used other found) none named left,
         whole_free victim victim_size,
       )
 
@@ -282,20 +277,19 @@ module _ {A : Type 0} {regions : A → List Grant} {word : A → ℕ → ℕ} {h
       pub whole_binned : at + size ≢ heap.victim → Whole heap.victim heap.victim_size
       whole_binned isnt =
           let test : (at + size == heap.victim) ≡ false = differ (at + size) heap.victim isnt in
-          whole heap.victim heap.victim_size sound.no_victim
-          (λ some. found_again sound (whole_step heap.victim heap.victim_size) heap.victim
-          (λ found. still heap.victim found
-          (no_chunk {kind = Free} (λ is. cc) (extent heap.victim heap.victim_size Free) refl)
-          (λ here. isnt (ap (λ e. e.at) here))) (sound.victim some))
-          (rw test refl)
+          whole heap.victim heap.victim_size sound.no_victim (λ some. found_again sound (whole_step heap.victim heap.victim_size) heap.victim
+          (λ found. still heap.victim found (no_chunk {kind = Free} (λ is. cc) (extent heap.victim heap.victim_size Free) refl)
+          (λ here. isnt (ap (λ e. e.at) here))) (sound.victim some)) (rw test refl)
 
   -- the stores of two calls, as one
-  pub free_stores : (middle system : A) (value : ℕ) → regions middle ≡ regions heap.system →
-      AreStored (regions heap.system) words ((at + 8, head_of n (pinuse_of (words (at + 8))) true) ∷ (at + n + 8, value) ∷ []) (word middle) →
-      AreStored (regions middle) (word middle) ((at + n + 8, head_of (size + length - n) true false) ∷ (at + n + (size + length - n), size + length - n) ∷ []) (word system) →
-      AreStored (regions heap.system) words ((at + 8, head_of n (pinuse_of (words (at + 8))) true) ∷ (at + n + 8, head_of (size + length - n) true false) ∷ (at + n + (size + length - n), size + length - n) ∷ []) (word system)
+  pub free_stores : (middle system : A) (value : ℕ) → regions middle ≡ regions heap.system → AreStored (regions heap.system) words
+      ((at + 8, head_of n (pinuse_of (words (at + 8))) true) ∷ (at + n + 8, value) ∷ []) (word middle) → AreStored (regions middle) (word middle)
+      ((at + n + 8, head_of (size + length - n) true false) ∷ (at + n + (size + length - n), size + length - n) ∷ []) (word system) →
+      AreStored (regions heap.system) words ((at + 8, head_of n (pinuse_of (words (at + 8))) true) ∷ (at + n + 8, head_of (size + length - n) true false)
+      ∷ (at + n + (size + length - n), size + length - n) ∷ []) (word system)
   free_stores middle system value same first second =
-      let last = subst (λ rs. AreStored rs (word middle) ((at + n + 8, head_of (size + length - n) true false) ∷ (at + n + (size + length - n), size + length - n) ∷ []) (word system)) same second in
+      let last = subst (λ rs. AreStored rs (word middle)
+      ((at + n + 8, head_of (size + length - n) true false) ∷ (at + n + (size + length - n), size + length - n) ∷ []) (word system)) same second in
       record {
         here = ((λ apart. last.elsewhere (at + 8) (free_head_there at (omega arith) (omega arith) (omega (arith, free_at_whole))).granted apart ∙ first.here.0 (apart.0, tt)), last.here);
         elsewhere = λ k is apart. last.elsewhere k is apart.1 ∙ first.elsewhere k is (apart.0, (apart.1.0, tt));

@@ -13,7 +13,8 @@ use Rattle.dlmalloc.proofs.Extents.Top.{is_top}
 use Rattle.dlmalloc.proofs.Frees.WhatCallsWant.{next_top}
 
 module _ {A : Type 0} {regions : A → List Grant} {word : A → ℕ → ℕ} {heap : Dlmalloc A} (sound : IsSound regions word heap) {at size : ℕ} (n : ℕ)
-    (there : extent_at at (extents_in (state_of word heap)) ≡ Some (extent at size Used)) (touch : at + size ≡ heap.top) (whole : n % 16 ≡ 0) (more : size < n) (room : n < size + heap.top_size) where
+    (there : extent_at at (extents_in (state_of word heap)) ≡ Some (extent at size Used)) (touch : at + size ≡ heap.top) (whole : n % 16 ≡ 0)
+    (more : size < n) (room : n < size + heap.top_size) where
   abbrev words : ℕ → ℕ
   words = word heap.system
 
@@ -42,15 +43,15 @@ module _ {A : Type 0} {regions : A → List Grant} {word : A → ℕ → ℕ} {h
   top_rest_head = head_there sound there next_is (at + n) (omega arith) (omega (arith, high sound there next_is, rest_room)) (omega (arith, both.here.1.whole))
 
   head_segment : both.front ≡ []
-  head_segment = (is_top sound both.front both.segment both.back both.is {at = (at + size)} {size = heap.top_size}
-      (ap (extent_at (at + size)) both.extents
-      ∙ (found_later (at + size) both.first (chunk ∷ top ∷ both.last) (none_outside words Used both.segment.base both.first at (at + size) (inr (omega arith)) both.first_stand)
-      ∙ (let isnt : (at == at + size) ≡ false = nat_isnt (inl (omega (arith, both.here.1.size.1))) in
+  head_segment = (is_top sound both.front both.segment both.back both.is {at = (at + size)} {size = heap.top_size} (ap (extent_at (at + size)) both.extents
+      ∙ (found_later (at + size) both.first (chunk ∷ top ∷ both.last) (none_outside words Used both.segment.base both.first at (at + size)
+      (inr (omega arith)) both.first_stand) ∙ (let isnt : (at == at + size) ≡ false = nat_isnt (inl (omega (arith, both.here.1.size.1))) in
       let is : (at + size == at + size) ≡ true = nat_same (at + size) in
       rw (isnt, is) refl)))).0
 
-  module _ (middle system : A) (same_middle : regions middle ≡ regions heap.system) (same_system : regions system ≡ regions middle) (value : ℕ) {rest : ℕ} (rest_is : rest ≡ size + heap.top_size - n)
-      (stored_first : AreStored (regions heap.system) words ((at + 8, head_of n (pinuse_of (words (at + 8))) true) ∷ (at + n + 8, value) ∷ []) (word middle))
+  module _ (middle system : A) (same_middle : regions middle ≡ regions heap.system) (same_system : regions system ≡ regions middle)
+      (value : ℕ) {rest : ℕ} (rest_is : rest ≡ size + heap.top_size - n) (stored_first : AreStored (regions heap.system) words
+      ((at + 8, head_of n (pinuse_of (words (at + 8))) true) ∷ (at + n + 8, value) ∷ []) (word middle))
       (stored_rest : IsStored (regions middle) (word middle) (at + n + 8) (rest + 1) (word system)) where
     stored : AreStored (regions heap.system) words ((at + 8, head_of n (pinuse_of (words (at + 8))) true) ∷ (at + n + 8, rest + 1) ∷ []) (word system)
     stored = stored_over (head_of n (pinuse_of (words (at + 8))) true) value top_first_head.granted stored_first
@@ -70,31 +71,26 @@ module _ {A : Type 0} {regions : A → List Grant} {word : A → ℕ → ℕ} {h
 
     move : IsMove (regions heap.system) words (word system) (last_kind Used both.first) at (at + size + heap.top_size) (at + size + heap.top_size) (chunk ∷ top ∷ []) parts
     move =
-        subst (λ r. IsMove (regions heap.system) words (word system) (last_kind Used both.first) at (at + size + heap.top_size) (at + size + heap.top_size) (chunk ∷ top ∷ []) (extent at n Used ∷ extent (at + n) r Top ∷ [])) (sym rest_is)
-        (grown_top (regions heap.system) (word system) both.here.1 n both.here.2.1 whole least rest_room
-        (subst (λ r. AreStored (regions heap.system) words ((at + 8, head_of n (pinuse_of (words (at + 8))) true) ∷ (at + n + 8, r + 1) ∷ []) (word system)) rest_is stored))
+        subst (λ r. IsMove (regions heap.system) words (word system) (last_kind Used both.first) at (at + size + heap.top_size) (at + size + heap.top_size)
+        (chunk ∷ top ∷ []) (extent at n Used ∷ extent (at + n) r Top ∷ [])) (sym rest_is)
+        (grown_top (regions heap.system) (word system) both.here.1 n both.here.2.1 whole least rest_room (subst (λ r. AreStored (regions heap.system) words
+        ((at + 8, head_of n (pinuse_of (words (at + 8))) true) ∷ (at + n + 8, r + 1) ∷ []) (word system)) rest_is stored))
 
     abbrev step : IsStep regions word heap after (chunk ∷ top ∷ []) parts
     step =
         let head = head_is word heap both.front both.segment both.back head_segment both.is sound.told in
-        step_top after sound (same_system ∙ same_middle) both
-        move refl (λ k tail found is. absurd (no_kind chunk top Record (λ is. cc) (λ is. cc) k found is)) refl head_segment
-        (record { some = head.some; base = head.base; size = head.size; flags = head.flags; top = where_top })
+        step_top after sound (same_system ∙ same_middle) both move refl (λ k tail found is. absurd (no_kind chunk top Record (λ is. cc)
+        (λ is. cc) k found is)) refl head_segment (record { some = head.some; base = head.base; size = head.size; flags = head.flags; top = where_top })
 
     -- the top keeps the rest
     pub into_top : IsEnlarged regions word heap chunk top n n after
     into_top = enlarged sound there next_is n n system (same_system ∙ same_middle) (at + n) rest heap.victim heap.victim_size parts step refl
         (λ i. extent at n Used ∷ extent (at + n) (sym rest_is i) Top ∷ []) (let here = nat_same at in rw here refl)
         (λ used is other found. absurd (no_other chunk top (λ is. cc) is other found))
-        (λ used is other found. absurd (no_other (extent at n Used) (extent (at + n) rest Top) (λ is. cc) is other found))
-        sound.no_victim
-        (λ some. found_again sound step heap.victim
-        (λ found. absurd (no_kind chunk top Free (λ is. cc) (λ is. cc) heap.victim found refl)) (sound.victim some))
-        refl
+        (λ used is other found. absurd (no_other (extent at n Used) (extent (at + n) rest Top) (λ is. cc) is other found)) sound.no_victim (λ some.
+        found_again sound step heap.victim (λ found. absurd (no_kind chunk top Free (λ is. cc) (λ is. cc) heap.victim found refl)) (sound.victim some)) refl
 
     -- no free extent but the top changes
     pub into_top_free : FreeMoves (state_of word heap) (state_of word after) [] []
-    into_top_free = free_moves sound step [] []
-        (λ k bytes found. no_kind chunk top Free (λ is. cc) (λ is. cc) k found refl)
-        (λ k bytes found. no_kind (extent at n Used) (extent (at + n) rest Top) Free (λ is. cc) (λ is. cc) k found refl)
-        (λ k none. absurd none) (λ k none. absurd none)
+    into_top_free = free_moves sound step [] [] (λ k bytes found. no_kind chunk top Free (λ is. cc) (λ is. cc) k found refl) (λ k bytes found. no_kind
+        (extent at n Used) (extent (at + n) rest Top) Free (λ is. cc) (λ is. cc) k found refl) (λ k none. absurd none) (λ k none. absurd none)

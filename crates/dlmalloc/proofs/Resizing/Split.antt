@@ -17,8 +17,7 @@ pub split_used : {regions : List Grant} {old new : ℕ → ℕ} {before : Kind} 
     AreStored regions old ((at + 8, head_of n (pinuse_of (old (at + 8))) true) ∷ (at + n + 8, head_of (size - n) true true) ∷ []) new →
     IsMove regions old new before at (at + size) (at + size) (extent at size Used ∷ []) (extent at n Used ∷ extent (at + n) (size - n) Used ∷ [])
 split_used {old} {before} at size n stands whole least room stored =
-    let place = stands.whole in
-    let units = stands.size.0 in
+    let place = stands.whole in let units = stands.size.0 in
     let told : pinuse_of (old (at + 8)) ≡ is_used before = ap pinuse_of stands.head ∙ pinuse_of-head_of size (is_used before) true (omega arith) in
     record {
       less_stand = (refl, stands, refl);
@@ -52,7 +51,8 @@ module _ {A : Type 0} {regions : A → List Grant} {word : A → ℕ → ℕ} {h
   head_there k above below m = record {
     aligned = m;
     small = omega (arith, end_small);
-    granted = run_word (regions heap.system) sound.segments run (k + 8) (omega (arith, tiles_le (word heap.system) Used run.segment.base run.first at run.first_stand)) (omega (arith, high)) (omega arith);
+    granted = run_word (regions heap.system) sound.segments run (k + 8)
+        (omega (arith, tiles_le (word heap.system) Used run.segment.base run.first at run.first_stand)) (omega (arith, high)) (omega arith);
   }
 
   pub first_head : HasHead (regions heap.system) at
@@ -65,17 +65,17 @@ module _ {A : Type 0} {regions : A → List Grant} {word : A → ℕ → ℕ} {h
   rest_whole = omega (arith, run.here.1.size.0)
 
   -- the stores of two calls, as one
-  stores : (middle system : A) (value : ℕ) → regions middle ≡ regions heap.system →
-      AreStored (regions heap.system) (word heap.system) ((at + 8, head_of n (pinuse_of (word heap.system (at + 8))) true) ∷ (at + n + 8, value) ∷ []) (word middle) →
-      IsStored (regions middle) (word middle) (at + n + 8) (head_of (size - n) true true) (word system) →
-      AreStored (regions heap.system) (word heap.system) ((at + 8, head_of n (pinuse_of (word heap.system (at + 8))) true) ∷ (at + n + 8, head_of (size - n) true true) ∷ []) (word system)
+  stores : (middle system : A) (value : ℕ) → regions middle ≡ regions heap.system → AreStored (regions heap.system) (word heap.system)
+      ((at + 8, head_of n (pinuse_of (word heap.system (at + 8))) true) ∷ (at + n + 8, value) ∷ []) (word middle) →
+      IsStored (regions middle) (word middle) (at + n + 8) (head_of (size - n) true true) (word system) → AreStored (regions heap.system) (word heap.system)
+      ((at + 8, head_of n (pinuse_of (word heap.system (at + 8))) true) ∷ (at + n + 8, head_of (size - n) true true) ∷ []) (word system)
   stores middle system value same first second =
       stored_over (head_of n (pinuse_of (word heap.system (at + 8))) true) value first_head.granted first
       (subst (λ rs. IsStored rs (word middle) (at + n + 8) (head_of (size - n) true true) (word system)) same second)
 
   module _ (middle system : A) (same_middle : regions middle ≡ regions heap.system) (same_system : regions system ≡ regions middle) (value : ℕ)
-      (first : AreStored (regions heap.system) (word heap.system) ((at + 8, head_of n (pinuse_of (word heap.system (at + 8))) true) ∷ (at + n + 8, value) ∷ []) (word middle))
-      (second : IsStored (regions middle) (word middle) (at + n + 8) (head_of (size - n) true true) (word system)) where
+      (first : AreStored (regions heap.system) (word heap.system) ((at + 8, head_of n (pinuse_of (word heap.system (at + 8))) true) ∷ (at + n + 8, value)
+      ∷ []) (word middle)) (second : IsStored (regions middle) (word middle) (at + n + 8) (head_of (size - n) true true) (word system)) where
     same : regions system ≡ regions heap.system
     same = same_system ∙ same_middle
 
@@ -92,9 +92,9 @@ module _ {A : Type 0} {regions : A → List Grant} {word : A → ℕ → ℕ} {h
     place_one k there = ap (λ e. e.at) (found_one k chunk there)
 
     abbrev split_step : IsStep regions word heap after (chunk ∷ []) both
-    split_step = step_beside after sound same run
-        (split_used at size n run.here.1 whole least room (stores middle system value same_middle first second)) refl
-        (λ k tail found is. absurd (let no : Used ≡ Record = used_one k found ∙ is in cc)) refl (record { base = refl; size = refl; flags = refl; top = refl; top_size = refl })
+    split_step = step_beside after sound same run (split_used at size n run.here.1 whole least room (stores middle system value same_middle first second)) refl
+        (λ k tail found is. absurd (let no : Used ≡ Record = used_one k found ∙ is in cc)) refl
+        (record { base = refl; size = refl; flags = refl; top = refl; top_size = refl })
         (λ k tail found is. absurd (let no : Used ≡ Top = used_one k found ∙ is in cc))
 
     apart : (at == at + n) ≡ false
@@ -102,8 +102,7 @@ module _ {A : Type 0} {regions : A → List Grant} {word : A → ℕ → ℕ} {h
 
     pub split_state : state_of word after ≡ exchanged (state_of word heap) at (halves n)
     split_state =
-        let segments_are = read sound split_step
-        ∙ sym (replaced_run (regions heap.system) sound.segments sound.apart (halves n) run) in
+        let segments_are = read sound split_step ∙ sym (replaced_run (regions heap.system) sound.segments sound.apart (halves n) run) in
         λ i. record { segments = segments_are i; victim = heap.victim; granularity = heap.granularity; rate = heap.rate; countdown = heap.countdown; trim_check = heap.trim_check }
 
     pub split_first : extent_at at (extents_in (state_of word after)) ≡ Some (extent at n Used)
@@ -116,8 +115,7 @@ module _ {A : Type 0} {regions : A → List Grant} {word : A → ℕ → ℕ} {h
     pub split_others : HasSameOthers (state_of word heap) (state_of word after) at (at + n)
     split_others = record {
       kept = λ used is other_at other_end there. found_again sound split_step used.at (λ here. absurd (other_at (sym (place_one used.at here)))) there;
-      only = λ used is other_at other_end there. found_before sound split_step used.at
-          (λ here. absurd (neither used other_at other_end here)) there;
+      only = λ used is other_at other_end there. found_before sound split_step used.at (λ here. absurd (neither used other_at other_end here)) there;
     }
       where
         neither : (used : Extent) → used.at ≢ at → used.at ≢ at + n → extent_at used.at both ≡ Some used → ⊥
@@ -129,18 +127,15 @@ module _ {A : Type 0} {regions : A → List Grant} {word : A → ℕ → ℕ} {h
 
     pub split_sound : IsSound regions word after
     split_sound = stays_sound sound split_step same refl refl refl refl sound.no_victim
-        (λ more. found_again sound split_step heap.victim
-        (λ here. absurd (let no : Used ≡ Free = used_one heap.victim here in cc)) (sound.victim more))
+        (λ more. found_again sound split_step heap.victim (λ here. absurd (let no : Used ≡ Free = used_one heap.victim here in cc)) (sound.victim more))
 
     pub split_words : OnlyBoundariesChange (regions heap.system) (state_of word after) (word heap.system) (word system)
     split_words = keeps_words sound split_step
 
     -- no free extent changes
     pub split_free : FreeMoves (state_of word heap) (state_of word after) [] []
-    split_free = free_moves sound split_step [] []
-        (λ k bytes found. (let no : Used ≡ Free = used_one k found in cc))
+    split_free = free_moves sound split_step [] [] (λ k bytes found. (let no : Used ≡ Free = used_one k found in cc))
         (λ k bytes found. elim (found_either k (extent at n Used ∷ []) (extent (at + n) (size - n) Used ∷ []) found) [
           | inl first ↦ (let no : Used ≡ Free = ap (λ e. e.kind) (found_one k (extent at n Used) first) in cc)
           | inr later ↦ (let no : Used ≡ Free = ap (λ e. e.kind) (found_one k (extent (at + n) (size - n) Used) later.1) in cc)
-        ])
-        (λ k none. absurd none) (λ k none. absurd none)
+        ]) (λ k none. absurd none) (λ k none. absurd none)

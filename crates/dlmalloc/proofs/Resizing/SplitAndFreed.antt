@@ -14,8 +14,9 @@ pub record IsSplit {A : Type 0} (regions : A → List Grant) (word : A → ℕ �
   pub words : (k : ℕ) → IsWordOf (regions old.system) k → k ≢ at + 8 → k ≢ at + n + 8 → word new.system k ≡ word old.system k
   pub regions_same : regions new.system ≡ regions old.system
 
-module _ {A : Type 0} {regions : A → List Grant} {word : A → ℕ → ℕ} {follows : A → List Event → A → Type 0} {heap middle new : Dlmalloc A} (sound : IsSound regions word heap) {at size n : ℕ}
-    (there : extent_at at (extents_in (state_of word heap)) ≡ Some (extent at size Used)) (least : 32 ≤ n) (room : n + 32 ≤ size) (split : IsSplit regions word heap at size n middle)
+module _ {A : Type 0} {regions : A → List Grant} {word : A → ℕ → ℕ} {follows : A → List Event → A → Type 0} {heap middle new : Dlmalloc A}
+    (sound : IsSound regions word heap) {at size n : ℕ} (there : extent_at at (extents_in (state_of word heap)) ≡ Some (extent at size Used))
+    (least : 32 ≤ n) (room : n + 32 ≤ size) (split : IsSplit regions word heap at size n middle)
     (frees : FreeMoves (state_of word heap) (state_of word middle) [] []) (moved : IsTurned regions word follows middle new) where
   -- a word that is granted before is granted after the split
   still : (k : ℕ) → IsWordOf (regions heap.system) k → IsWordOf (regions middle.system) k
@@ -52,8 +53,8 @@ module _ {A : Type 0} {regions : A → List Grant} {word : A → ℕ → ℕ} {f
 
     pub tail_words : OnlyOwnChange (regions heap.system) (state_of word heap) (state_of word new) (word heap.system) (word new.system)
     tail_words k is was own =
-        moved.words k (still k is) (no_free k was) own
-        ∙ split.words k is (λ e. own (inl (subst (IsBoundary (state_of word new)) (sym e) (record { extent = extent at n Used; there = tail_first; is = inl refl }))))
+        moved.words k (still k is) (no_free k was) own ∙ split.words k is
+        (λ e. own (inl (subst (IsBoundary (state_of word new)) (sym e) (record { extent = extent at n Used; there = tail_first; is = inl refl }))))
         (λ e. own (inl (subst (IsBoundary (state_of word new)) (sym e) (next_boundary moved.sound tail_first))))
 
   -- ---- the first was freed
@@ -75,15 +76,16 @@ module _ {A : Type 0} {regions : A → List Grant} {word : A → ℕ → ℕ} {f
 
     pub lead_kept : IsMoved regions word follows heap middle → KeepsOthers (state_of word heap) at (word heap.system) (word new.system)
     lead_kept split_moved blocks others =
-        keeps_on
-        (blocks_law sound split_moved.sound (λ k inside was own. split_moved.words k inside (λ boundary. own (inl boundary))) blocks (λ used there is. (let o = others used is there in (o.1, then_there used is o.0 o.1))))
-        (blocks_law split_moved.sound moved.sound moved.words blocks (λ used there is. (let o = others used is there in (then_there used is o.0 o.1, less.only used is (then_there used is o.0 o.1) o.0))))
+        keeps_on (blocks_law sound split_moved.sound (λ k inside was own. split_moved.words k inside (λ boundary. own (inl boundary))) blocks
+        (λ used there is. (let o = others used is there in (o.1, then_there used is o.0 o.1)))) (blocks_law split_moved.sound moved.sound moved.words blocks
+        (λ used there is. (let o = others used is there in (then_there used is o.0 o.1, less.only used is (then_there used is o.0 o.1) o.0))))
       where
-        then_there : (used : Extent) → used.kind ≡ Used → used.at ≢ at → extent_at used.at (extents_in (state_of word heap)) ≡ Some used → extent_at used.at (extents_in (state_of word middle)) ≡ Some used
+        then_there : (used : Extent) → used.kind ≡ Used → used.at ≢ at → extent_at used.at (extents_in (state_of word heap)) ≡ Some used →
+            extent_at used.at (extents_in (state_of word middle)) ≡ Some used
         then_there used is other found = split.others.kept used is other (inside other found) found
 
-    pub lead_words : (k : ℕ) → IsWordOf (regions heap.system) k → k ≢ at + 8 → (IsInFree (state_of word heap) k → ⊥) → (IsOwn (state_of word new) k → ⊥) → word new.system k ≡ word heap.system k
+    pub lead_words : (k : ℕ) → IsWordOf (regions heap.system) k → k ≢ at + 8 → (IsInFree (state_of word heap) k → ⊥) →
+        (IsOwn (state_of word new) k → ⊥) → word new.system k ≡ word heap.system k
     lead_words k is other was own =
-        moved.words k (still k is) (no_free k was) own
-        ∙ split.words k is other
-        (λ e. own (inl (subst (IsBoundary (state_of word new)) (sym e) (record { extent = extent (at + n) (size - n) Used; there = lead_second; is = inl refl }))))
+        moved.words k (still k is) (no_free k was) own ∙ split.words k is other (λ e. own
+        (inl (subst (IsBoundary (state_of word new)) (sym e) (record { extent = extent (at + n) (size - n) Used; there = lead_second; is = inl refl }))))

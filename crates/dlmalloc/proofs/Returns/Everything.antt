@@ -34,7 +34,8 @@ pub parity : {flags word : ℕ} → word ≡ flags → (word % 2 ^ 32 % 2 == 0) 
 parity is = ap (λ n. n == 0) (omega arith)
 
 -- all words of segments stay, where granted words do
-pub all_keep : (regions : List Grant) (old new : ℕ → ℕ) → ((k : ℕ) → IsWordOf regions k → new k ≡ old k) → (segments : List Segment) → AreSegments regions old segments → AllByRecursion (KeepsIts old new) segments
+pub all_keep : (regions : List Grant) (old new : ℕ → ℕ) → ((k : ℕ) → IsWordOf regions k → new k ≡ old k) →
+    (segments : List Segment) → AreSegments regions old segments → AllByRecursion (KeepsIts old new) segments
 all_keep regions old new kept [] parts = tt
 all_keep regions old new kept (segment ∷ segments) parts =
     (λ k low high m. kept k (record { granted = parts.0.run.covered k (omega arith) high; aligned = m }), all_keep regions old new kept segments parts.1)
@@ -54,27 +55,32 @@ pub record Destroying {A : Type 0} (regions : A → List Grant) (word : A → �
 module _ {A : Type 0} (regions : A → List Grant) (word : A → ℕ → ℕ) (follows : A → List Event → A → Type 0)
     (follows_on : (x y z : A) (a b c : List Event) → follows x a y → follows y b z → a ++ b ≡ c → follows x c z) where
   -- what the told segment is, the one in the heap is
-  pub given_told : (takes : Bool) (told segment : Segment) (old new : A) (bytes : ℕ) → told.base ≡ segment.base → told.size ≡ segment.size → is_own told ≡ is_own segment →
-      AreGivenBack regions word follows (taken_back takes (filter is_own (told ∷ []))) old bytes new → AreGivenBack regions word follows (taken_back takes (filter is_own (segment ∷ []))) old bytes new
+  pub given_told : (takes : Bool) (told segment : Segment) (old new : A) (bytes : ℕ) → told.base ≡ segment.base → told.size ≡ segment.size →
+      is_own told ≡ is_own segment → AreGivenBack regions word follows (taken_back takes (filter is_own (told ∷ []))) old bytes new →
+      AreGivenBack regions word follows (taken_back takes (filter is_own (segment ∷ []))) old bytes new
   given_told takes told segment old new bytes base size own given =
       subst (λ b. AreGivenBack regions word follows (taken_back takes (cond b (segment ∷ []) [])) old bytes new) own (go takes (is_own told) given)
     where
-      go : (takes own : Bool) → AreGivenBack regions word follows (taken_back takes (cond own (told ∷ []) [])) old bytes new → AreGivenBack regions word follows (taken_back takes (cond own (segment ∷ []) [])) old bytes new
+      go : (takes own : Bool) → AreGivenBack regions word follows (taken_back takes (cond own (told ∷ []) [])) old bytes new →
+          AreGivenBack regions word follows (taken_back takes (cond own (segment ∷ []) [])) old bytes new
       go true true given = given_same regions word follows follows_on told segment true old new base size given
       go true false given = given
       go false own given = given
 
   -- those behind it stay
-  pub rest_stay : (takes : Bool) (segment : Segment) (others : List Segment) (old new : A) (bytes : ℕ) → AreSegments (regions old) (word old) (segment ∷ others) → AllByRecursion (IsApartFrom segment) others →
-      AreGivenBack regions word follows (taken_back takes (filter is_own (segment ∷ []))) old bytes new → AreSegments (regions new) (word new) others × AllByRecursion (KeepsIts (word old) (word new)) others
+  pub rest_stay : (takes : Bool) (segment : Segment) (others : List Segment) (old new : A) (bytes : ℕ) → AreSegments (regions old) (word old)
+      (segment ∷ others) → AllByRecursion (IsApartFrom segment) others → AreGivenBack regions word follows (taken_back takes
+      (filter is_own (segment ∷ []))) old bytes new → AreSegments (regions new) (word new) others × AllByRecursion (KeepsIts (word old) (word new)) others
   rest_stay takes segment others old new bytes parts apart given = go takes (is_own segment) given
     where
-      kept : regions new ≡ regions old → ((k : ℕ) → IsWordOf (regions new) k → word new k ≡ word old k) → AreSegments (regions new) (word new) others × AllByRecursion (KeepsIts (word old) (word new)) others
+      kept : regions new ≡ regions old → ((k : ℕ) → IsWordOf (regions new) k → word new k ≡ word old k) →
+          AreSegments (regions new) (word new) others × AllByRecursion (KeepsIts (word old) (word new)) others
       kept same words =
           let keeps = all_keep (regions old) (word old) (word new) (λ k inside. words k (subst (λ rs. IsWordOf rs k) (sym same) inside)) others parts.1 in
           (subst (λ rs. AreSegments rs (word new) others) (sym same) (parts_stay (regions old) (word old) (word new) others parts.1 keeps), keeps)
 
-      go : (takes own : Bool) → AreGivenBack regions word follows (taken_back takes (cond own (segment ∷ []) [])) old bytes new → AreSegments (regions new) (word new) others × AllByRecursion (KeepsIts (word old) (word new)) others
+      go : (takes own : Bool) → AreGivenBack regions word follows (taken_back takes (cond own (segment ∷ []) [])) old bytes new →
+          AreSegments (regions new) (word new) others × AllByRecursion (KeepsIts (word old) (word new)) others
       go true true given =
           let some : 0 < segment.size = (let l = parts.0.long in omega arith) in
           let run = parts.0.run in
@@ -86,10 +92,11 @@ module _ {A : Type 0} (regions : A → List Grant) (word : A → ℕ → ℕ) (f
 
   module _ (takes : Bool) {heap : Dlmalloc A} (sound : IsSound regions word heap) where
     -- a segment is given back
-    abbrev pub given_next : (done : List Segment) (segment : Segment) (others : List Segment) → segments_of word heap ≡ done ++ segment ∷ others → (released : ℕ) {old : A} → AreSegments (regions old) (word old) (segment ∷ others) →
-        AreGivenBack regions word follows (taken_back takes (filter is_own done)) heap.system released old → (told : Segment) → told.base ≡ segment.base → told.size ≡ segment.size → is_own told ≡ is_own segment →
-        {bytes : ℕ} {new : A} → AreGivenBack regions word follows (taken_back takes (filter is_own (told ∷ []))) old bytes new → (next : ℕ) → AreRecords (word old) next others →
-        Destroying regions word follows takes heap next (released + bytes) new
+    abbrev pub given_next : (done : List Segment) (segment : Segment) (others : List Segment) → segments_of word heap ≡ done ++ segment ∷ others →
+        (released : ℕ) {old : A} → AreSegments (regions old) (word old) (segment ∷ others) → AreGivenBack regions word follows
+        (taken_back takes (filter is_own done)) heap.system released old → (told : Segment) → told.base ≡ segment.base → told.size ≡ segment.size →
+        is_own told ≡ is_own segment → {bytes : ℕ} {new : A} → AreGivenBack regions word follows (taken_back takes (filter is_own (told ∷ []))) old
+        bytes new → (next : ℕ) → AreRecords (word old) next others → Destroying regions word follows takes heap next (released + bytes) new
     given_next done segment others is released {old} parts before told base size own {bytes} {new} given next records =
         let here = given_told takes told segment old new bytes base size own given in
         let apart : AllByRecursion (IsApartFrom segment) others = flip segment others (back_apart done segment others (subst AreApart is sound.apart)) in
@@ -101,37 +108,40 @@ module _ {A : Type 0} (regions : A → List Grant) (word : A → ℕ → ℕ) (f
           some = omega (arith, length-append done (segment ∷ []));
           parts = stay.0;
           told = records_stay (regions old) (word old) (word new) others parts.1 stay.1 next records;
-          given = subst (λ gone. AreGivenBack regions word follows gone heap.system (released + bytes) new)
-              (sym (ap (taken_back takes) (filter-append is_own done (segment ∷ [])) ∙ taken_append takes (filter is_own done) (filter is_own (segment ∷ []))))
+          given = subst (λ gone. AreGivenBack regions word follows gone heap.system (released + bytes) new) (sym
+              (ap (taken_back takes) (filter-append is_own done (segment ∷ [])) ∙ taken_append takes (filter is_own done) (filter is_own (segment ∷ []))))
               (given_on regions word follows follows_on old new before here);
         }
 
     -- the head is
-    pub head_given : heap.size ≢ 0 → (follows_none : (x : A) → follows x [] x) → {told : SegmentRecord} → told ≡ record { base = heap.base; size = heap.size; next = heap.next; flags = heap.flags } →
-        {bytes : ℕ} {new : A} → AreGivenBack regions word follows (taken_back takes (filter is_own (told_of told ∷ []))) heap.system bytes new → Destroying regions word follows takes heap told.next bytes new
+    pub head_given : heap.size ≢ 0 → (follows_none : (x : A) → follows x [] x) → {told : SegmentRecord} →
+        told ≡ record { base = heap.base; size = heap.size; next = heap.next; flags = heap.flags } → {bytes : ℕ} {new : A} →
+        AreGivenBack regions word follows (taken_back takes (filter is_own (told_of told ∷ []))) heap.system bytes new →
+        Destroying regions word follows takes heap told.next bytes new
     head_given some follows_none {told} read {bytes} {new} given = go (segments_of word heap) refl sound.segments sound.told
       where
         nothing : (takes : Bool) → AreGivenBack regions word follows (taken_back takes []) heap.system 0 heap.system
         nothing true = record { bytes_are = refl; words = λ k inside. refl; regions_are = refl; followed = follows_none heap.system }
         nothing false = record { bytes_are = refl; words = λ k inside. refl; regions_are = refl; followed = follows_none heap.system }
 
-        go : (segments : List Segment) → segments_of word heap ≡ segments → AreSegments (regions heap.system) (word heap.system) segments → AreTold (word heap.system) heap segments → Destroying regions word follows takes heap told.next bytes new
+        go : (segments : List Segment) → segments_of word heap ≡ segments → AreSegments (regions heap.system) (word heap.system) segments →
+            AreTold (word heap.system) heap segments → Destroying regions word follows takes heap told.next bytes new
         go [] is parts h = absurd (some h)
         go (segment ∷ segments) is parts h =
-            subst (λ n. Destroying regions word follows takes heap told.next n new) (omega arith)
-            (given_next [] segment segments is 0 parts (nothing takes)
-            (told_of told) (ap (λ t. t.base) read ∙ h.1) (ap (λ t. t.size) read ∙ h.2) (ap (λ t. t.flags % 2 == 0) read ∙ ap (λ f. f % 2 == 0) h.3) given told.next (subst (λ p. AreRecords (word heap.system) p segments) (ap (λ t. t.next) (sym read)) h.5))
+            subst (λ n. Destroying regions word follows takes heap told.next n new) (omega arith) (given_next [] segment segments is 0 parts (nothing takes)
+            (told_of told) (ap (λ t. t.base) read ∙ h.1) (ap (λ t. t.size) read ∙ h.2) (ap (λ t. t.flags % 2 == 0) read ∙ ap (λ f. f % 2 == 0) h.3)
+            given told.next (subst (λ p. AreRecords (word heap.system) p segments) (ap (λ t. t.next) (sym read)) h.5))
 
     -- the head segment is a run
     pub head_is_run : heap.size ≢ 0 → {told : SegmentRecord} → told ≡ record { base = heap.base; size = heap.size; next = heap.next; flags = heap.flags } → IsWholeRun (regions heap.system) told.base (told.base + told.size)
     head_is_run some read = subst (λ t. IsWholeRun (regions heap.system) t.base (t.base + t.size)) (sym read) (go (segments_of word heap) sound.segments sound.told)
       where
-        go : (segments : List Segment) → AreSegments (regions heap.system) (word heap.system) segments → AreTold (word heap.system) heap segments → IsWholeRun (regions heap.system) heap.base (heap.base + heap.size)
+        go : (segments : List Segment) → AreSegments (regions heap.system) (word heap.system) segments → AreTold (word heap.system) heap segments →
+            IsWholeRun (regions heap.system) heap.base (heap.base + heap.size)
         go [] parts h = absurd (some h)
         go (segment ∷ segments) parts h =
-            subst (λ base. IsWholeRun (regions heap.system) base (base + heap.size)) (sym h.1)
-            (subst (λ size. IsWholeRun (regions heap.system) segment.base (segment.base + size)) (sym h.2)
-            (whole_run (let long = parts.0.long in omega arith) parts.0.run))
+            subst (λ base. IsWholeRun (regions heap.system) base (base + heap.size)) (sym h.1) (subst (λ size. IsWholeRun (regions heap.system) segment.base
+            (segment.base + size)) (sym h.2) (whole_run (let long = parts.0.long in omega arith) parts.0.run))
 
     -- the records that are read are those that are left
     records_left : {payload released : ℕ} (system : A) (d : Destroying regions word follows takes heap payload released system) → records_from (word system) (2 ^ 64) payload ≡ d.rest
@@ -171,14 +181,13 @@ module _ {A : Type 0} (regions : A → List Grant) (word : A → ℕ → ℕ) (f
 
           pub is_run : IsWholeRun (regions old) told.base (told.base + told.size)
           is_run =
-              subst (λ base. IsWholeRun (regions old) base (base + told.size)) (sym base_is)
-              (subst (λ size. IsWholeRun (regions old) a.segment.base (a.segment.base + size)) (sym size_is)
-              (whole_run (let long = parts_are.0.long in omega arith) parts_are.0.run))
+              subst (λ base. IsWholeRun (regions old) base (base + told.size)) (sym base_is) (subst (λ size. IsWholeRun (regions old) a.segment.base
+              (a.segment.base + size)) (sym size_is) (whole_run (let long = parts_are.0.long in omega arith) parts_are.0.run))
 
           module _ {bytes : ℕ} {new : A} (given : AreGivenBack regions word follows (taken_back takes (filter is_own (told_of told ∷ []))) old bytes new) where
             abbrev pub on_given : Destroying regions word follows takes heap told.next (released + bytes) new
-            on_given = given_next d.done a.segment a.others there_is released parts_are d.given (told_of told) base_is size_is
-                (ap (λ t. t.flags % 2 == 0) read ∙ parity a.told.3) given told.next (subst (λ p. AreRecords (word old) p a.others) (ap (λ t. t.next) (sym read)) a.told.5)
+            on_given = given_next d.done a.segment a.others there_is released parts_are d.given (told_of told) base_is size_is (ap (λ t. t.flags % 2 == 0) read
+                ∙ parity a.told.3) given told.next (subst (λ p. AreRecords (word old) p a.others) (ap (λ t. t.next) (sym read)) a.told.5)
 
             pub sum_fits : released + bytes < 2 ^ 64
             sum_fits =
@@ -190,7 +199,6 @@ module _ {A : Type 0} (regions : A → List Grant) (word : A → ℕ → ℕ) (f
 
             pub fewer_given : length (records_from (word new) (2 ^ 64) told.next) < length (records_from (word old) (2 ^ 64) payload)
             fewer_given =
-                let now = ap length (records_left new on_given) in
-                let was = ap length (records_left old d) in
+                let now = ap length (records_left new on_given) in let was = ap length (records_left old d) in
                 let all = ap length a.is in
                 omega arith

@@ -8,7 +8,8 @@ use Rattle.dlmalloc.proofs.Extents.Top.{no_record}
 use Rattle.dlmalloc.proofs.Extents.FreeParted.{bare, either}
 use Rattle.dlmalloc.proofs.Returns.Unused.{unused_extents, two_found}
 
-module _ {regions : List Grant} {words : ℕ → ℕ} {segment : Segment} (part : IsSegment regions words segment) (at : ℕ) (there : extent_at at segment.extents ≡ Some (record_of at (segment.base + segment.size))) where
+module _ {regions : List Grant} {words : ℕ → ℕ} {segment : Segment} (part : IsSegment regions words segment) (at : ℕ)
+    (there : extent_at at segment.extents ≡ Some (record_of at (segment.base + segment.size))) where
   abbrev end : ℕ
   end = segment.base + segment.size
 

@@ -23,16 +23,20 @@ visit_same frees parts segment i j n same = go (may_leave parts segment) frees
     go true false = with_same (segment.size - 80) segment.base (left_of segment i) (left_of segment j) n (without_same (segment.size - 80) segment.base i j n same)
     go false f = same
 
-visits_same : (frees parts : Bool) (segments : List Segment) (i j : ℕ → List ℕ) → ((n : ℕ) → i n ≡ j n) → (n : ℕ) → after_visits frees parts segments i n ≡ after_visits frees parts segments j n
+visits_same : (frees parts : Bool) (segments : List Segment) (i j : ℕ → List ℕ) → ((n : ℕ) → i n ≡ j n) →
+    (n : ℕ) → after_visits frees parts segments i n ≡ after_visits frees parts segments j n
 visits_same frees parts [] i j same n = same n
-visits_same frees parts (segment ∷ segments) i j same n = visits_same frees parts segments (after_visit frees parts segment i) (after_visit frees parts segment j) (λ m. visit_same frees parts segment i j m (same m)) n
+visits_same frees parts (segment ∷ segments) i j same n = visits_same frees parts segments (after_visit frees parts segment i)
+    (after_visit frees parts segment j) (λ m. visit_same frees parts segment i j m (same m)) n
 
-pub pass_same : (frees parts : Bool) (segments : List Segment) (i j : ℕ → List ℕ) → ((n : ℕ) → i n ≡ j n) → (n : ℕ) → after_pass frees parts segments i n ≡ after_pass frees parts segments j n
+pub pass_same : (frees parts : Bool) (segments : List Segment) (i j : ℕ → List ℕ) → ((n : ℕ) → i n ≡ j n) →
+    (n : ℕ) → after_pass frees parts segments i n ≡ after_pass frees parts segments j n
 pass_same frees parts [] i j same n = same n
 pass_same frees parts (head ∷ segments) i j same n = visits_same frees parts segments i j same n
 
 -- one more is visited
-pub visits_on : (frees parts : Bool) (done : List Segment) (segment : Segment) (index : ℕ → List ℕ) (n : ℕ) → after_visit frees parts segment (after_visits frees parts done index) n ≡ after_visits frees parts (done ++ segment ∷ []) index n
+pub visits_on : (frees parts : Bool) (done : List Segment) (segment : Segment) (index : ℕ → List ℕ) (n : ℕ) →
+    after_visit frees parts segment (after_visits frees parts done index) n ≡ after_visits frees parts (done ++ segment ∷ []) index n
 visits_on frees parts [] segment index n = refl
 visits_on frees parts (first ∷ done) segment index n = visits_on frees parts done segment (after_visit frees parts first index) n
 

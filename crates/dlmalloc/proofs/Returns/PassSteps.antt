@@ -4,12 +4,12 @@ use Rattle.std.proofs.lemmas.List.{length-map}
 
 -- a freed chunk leaves the segments
 pub freed_pass : (old : HeapState) (at : ℕ) {new : HeapState} → new ≡ freed old at → pass_steps new ≡ pass_steps old
-freed_pass old at is = ap pass_steps is
-    ∙ ap (λ n. 512 * n) (length-map old.segments (λ segment. record segment { extents = freed_in at segment.extents }))
+freed_pass old at is = ap pass_steps is ∙ ap (λ n. 512 * n) (length-map old.segments (λ segment. record segment { extents = freed_in at segment.extents }))
 
 -- so does a cut of the top
-cut_pass : (less : ℕ) (segments : List Segment) (victim granularity rate countdown trim_check : ℕ) →
-    pass_steps (cut_top less (record { segments = segments; victim = victim; granularity = granularity; rate = rate; countdown = countdown; trim_check = trim_check })) ≡ 512 * length segments
+cut_pass : (less : ℕ) (segments : List Segment) (victim granularity rate countdown trim_check : ℕ) → pass_steps (cut_top less
+    (record { segments = segments; victim = victim; granularity = granularity; rate = rate; countdown = countdown; trim_check = trim_check })) ≡ 512 * length
+    segments
 cut_pass less [] victim granularity rate countdown trim_check = refl
 cut_pass less (head ∷ rest) victim granularity rate countdown trim_check = refl
 
@@ -21,8 +21,8 @@ after_cut_pass parts unit pad old is = ap pass_steps is ∙ go (is_cut parts uni
     go false = refl
 
 -- and what is cut from an extent that is chosen
-pub found_pass : {A : Type 0} (follows : A → List Event → A → Type 0) (regions : A → List Grant) (system : A) (old : HeapState) (n : ℕ) (system' : A) (new : HeapState) →
-    IsFound follows regions system old n system' new → chosen old n ≢ None → pass_steps new ≡ pass_steps old
+pub found_pass : {A : Type 0} (follows : A → List Event → A → Type 0) (regions : A → List Grant) (system : A) (old : HeapState) (n : ℕ) (system' : A)
+    (new : HeapState) → IsFound follows regions system old n system' new → chosen old n ≢ None → pass_steps new ≡ pass_steps old
 found_pass follows regions system old n system' new (inl here) some =
     ap (λ k. 512 * k) (sym (many new) ∙ (ap length here.0 ∙ many old))
   where

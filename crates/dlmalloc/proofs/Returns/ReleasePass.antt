@@ -33,7 +33,8 @@ none_filtered : (segments : List Segment) → filter (λ segment. false) segment
 none_filtered [] = refl
 none_filtered (segment ∷ segments) = none_filtered segments
 
-remaining_is : (frees parts : Bool) (head : Segment) (segments : List Segment) → head ∷ remaining frees parts segments ≡ (if frees then staying parts (head ∷ segments) else head ∷ segments)
+remaining_is : (frees parts : Bool) (head : Segment) (segments : List Segment) →
+    head ∷ remaining frees parts segments ≡ (if frees then staying parts (head ∷ segments) else head ∷ segments)
 remaining_is true parts head segments = refl
 remaining_is false parts head segments = ap (λ rest. head ∷ rest) (all_filtered segments)
 
@@ -44,7 +45,8 @@ leaving_is false parts head segments = none_filtered segments
 -- ---- what has left
 
 -- the countdown is no part of what makes a heap sound
-pub countdown_sound : {A : Type 0} {regions : A → List Grant} {word : A → ℕ → ℕ} {heap : Dlmalloc A} → IsSound regions word heap → (countdown : ℕ) → IsSound regions word (record heap { countdown = countdown })
+pub countdown_sound : {A : Type 0} {regions : A → List Grant} {word : A → ℕ → ℕ} {heap : Dlmalloc A} → IsSound regions word heap →
+    (countdown : ℕ) → IsSound regions word (record heap { countdown = countdown })
 countdown_sound {word} {heap} sound countdown = record {
   granularity = sound.granularity;
   segments = sound.segments;
@@ -84,14 +86,18 @@ module _ {A : Type 0} (regions : A → List Grant) (word : A → ℕ → ℕ) (f
   }
 
   -- the blocks keep their words
-  blocks_left : {segments : List Segment} (old new : Dlmalloc A) → IsSound regions word old → HaveLeft regions word follows segments old new → KeepsBlocks (extents_in (state_of word old)) (word old.system) (word new.system)
+  blocks_left : {segments : List Segment} (old new : Dlmalloc A) → IsSound regions word old → HaveLeft regions word follows segments old new →
+      KeepsBlocks (extents_in (state_of word old)) (word old.system) (word new.system)
   blocks_left old new sound left = record {
-    words = λ block there used k low high m. left.words k (inside block there used k (omega arith) high m) (not_in_free sound there used k (omega arith) high) (λ r. no_record_is block there used k (omega arith) high m r);
+    words = λ block there used k low high m. left.words k (inside block there used k (omega arith) high m) (not_in_free sound there used k (omega arith) high)
+        (λ r. no_record_is block there used k (omega arith) high m r);
     heads = λ block there used. (let is = stands block there used in
-        ap (λ w. w / 2) (left.words (block.at + 8) (inside block there used (block.at + 8) (omega arith) (omega arith) (omega arith)) (not_in_free sound there used (block.at + 8) (omega arith) (omega arith)) (λ r. no_record_is block there used (block.at + 8) (omega arith) (omega arith) (omega arith) r)));
+        ap (λ w. w / 2) (left.words (block.at + 8) (inside block there used (block.at + 8) (omega arith) (omega arith) (omega arith)) (not_in_free sound there
+        used (block.at + 8) (omega arith) (omega arith)) (λ r. no_record_is block there used (block.at + 8) (omega arith) (omega arith) (omega arith) r)));
   }
     where
-      no_record_is : (block : Extent) → extent_at block.at (extents_in (state_of word old)) ≡ Some block → block.kind ≡ Used → (k : ℕ) → block.at ≤ k → k < block.at + block.size + 8 → k % 8 ≡ 0 → IsInRecord (state_of word old) k → ⊥
+      no_record_is : (block : Extent) → extent_at block.at (extents_in (state_of word old)) ≡ Some block → block.kind ≡ Used →
+          (k : ℕ) → block.at ≤ k → k < block.at + block.size + 8 → k % 8 ≡ 0 → IsInRecord (state_of word old) k → ⊥
       no_record_is block there used k low high m r =
           no_record (regions old.system) (word old.system) (segments_of word old) sound.segments sound.apart there used r.there r.is k low high m r.low r.high
 
@@ -103,7 +109,8 @@ module _ {A : Type 0} (regions : A → List Grant) (word : A → ℕ → ℕ) (f
           let from = is.low in let to = is.high in let long = is.long in let whole = is.whole in
           record { long = omega arith; whole = omega arith; covered = λ k low high. p.run.covered k (omega arith) (omega arith) }
 
-      inside : (block : Extent) → extent_at block.at (extents_in (state_of word old)) ≡ Some block → block.kind ≡ Used → (k : ℕ) → block.at ≤ k → k < block.at + block.size + 8 → k % 8 ≡ 0 → IsWordOf (regions new.system) k
+      inside : (block : Extent) → extent_at block.at (extents_in (state_of word old)) ≡ Some block → block.kind ≡ Used →
+          (k : ℕ) → block.at ≤ k → k < block.at + block.size + 8 → k % 8 ≡ 0 → IsWordOf (regions new.system) k
       inside block there used k low high m = record { granted = (stands block there used).covered k low high; aligned = m }
 
 -- ---- the segments up to a record are visited
@@ -126,7 +133,8 @@ pub record Passing {A : Type 0} (regions : A → List Grant) (word : A → ℕ �
   pub rate_same : new.rate ≡ old.rate
   pub trim_check_same : new.trim_check ≡ old.trim_check
 
-module _ {A : Type 0} {regions : A → List Grant} {word : A → ℕ → ℕ} (follows : A → List Event → A → Type 0) (frees parts : Bool) {old : Dlmalloc A} (sound : IsSound regions word old) where
+module _ {A : Type 0} {regions : A → List Grant} {word : A → ℕ → ℕ} (follows : A → List Event → A → Type 0)
+    (frees parts : Bool) {old : Dlmalloc A} (sound : IsSound regions word old) where
   -- none is at the beginning
   pub begun_passing : 0 < old.size → ((x : A) → follows x [] x) → Passing regions word follows frees parts old 0 old.next 0 0 old
   begun_passing some follows_none = go (segments_of word old) refl sound.told
@@ -218,8 +226,9 @@ module _ {A : Type 0} {regions : A → List Grant} {word : A → ℕ → ℕ} (f
         pub sum_fits : released + told.size < 2 ^ 64
         sum_fits = omega (arith, few_released, bounded, told_size)
 
-        module _ (follows_on : (x y z : A) (a b c : List Event) → follows x a y → follows y b z → a ++ b ≡ c → follows x c z)
-            {b : Bool} (b_is : b ≡ (frees && may_leave parts ahead.segment)) {new : Dlmalloc A} (v : IsVisited regions word follows (may_leave parts ahead.segment) b now before told chained new) (next : IsReindexed regions word (after_visit frees parts ahead.segment) now new) where
+        module _ (follows_on : (x y z : A) (a b c : List Event) → follows x a y → follows y b z → a ++ b ≡ c → follows x c z) {b : Bool}
+            (b_is : b ≡ (frees && may_leave parts ahead.segment)) {new : Dlmalloc A} (v : IsVisited regions word follows (may_leave parts ahead.segment) b now
+            before told chained new) (next : IsReindexed regions word (after_visit frees parts ahead.segment) now new) where
           stay_is : remaining frees parts (p.done ++ ahead.segment ∷ []) ≡ remaining frees parts p.done ++ (if not b then ahead.segment ∷ [] else [])
           stay_is = filter-append (λ segment. not (frees && may_leave parts segment)) p.done (ahead.segment ∷ [])
               ∙ ap (λ t. remaining frees parts p.done ++ cond (not t) (ahead.segment ∷ []) []) (sym b_is)
@@ -228,7 +237,8 @@ module _ {A : Type 0} {regions : A → List Grant} {word : A → ℕ → ℕ} (f
           gone_is = filter-append (λ segment. frees && may_leave parts segment) p.done (ahead.segment ∷ [])
               ∙ ap (λ t. leaving frees parts p.done ++ cond t (ahead.segment ∷ []) []) (sym b_is)
 
-          joined : (b : Bool) (segments others : List Segment) → segments ++ (if b then others else ahead.segment ∷ others) ≡ (segments ++ (if not b then ahead.segment ∷ [] else [])) ++ others
+          joined : (b : Bool) (segments others : List Segment) →
+              segments ++ (if b then others else ahead.segment ∷ others) ≡ (segments ++ (if not b then ahead.segment ∷ [] else [])) ++ others
           joined true segments others = ap (λ ss. ss ++ others) (sym (append-nil segments))
           joined false segments others = sym (append_assoc segments (ahead.segment ∷ []) others)
 
@@ -264,16 +274,15 @@ module _ {A : Type 0} {regions : A → List Grant} {word : A → ℕ → ℕ} (f
             is = v.segments ∙ ap (λ segments. p.head ∷ segments)
                 (joined b (remaining frees parts p.done) ahead.others ∙ ap (λ segments. segments ++ ahead.others) (sym stay_is));
             records = v.records;
-            linked = subst (λ front. IsLinked (word new.system) new.next (if b then before else payload) told.next front) (front_is b (remaining frees parts p.done) ∙ sym stay_is) v.linked;
+            linked = subst (λ front. IsLinked (word new.system) new.next (if b then before else payload) told.next front)
+                (front_is b (remaining frees parts p.done) ∙ sym stay_is) v.linked;
             victim = v.victim ∙ (ap (λ victim. if may_leave parts ahead.segment && ahead.segment.base == victim then 0 else victim) p.victim
                 ∙ (victim_is (list_any (λ segment. segment.base == old.victim) (filter (may_leave parts) p.done)) (may_leave parts ahead.segment)
                 ∙ ap (λ a. if a then 0 else old.victim) (sym (ap (list_any (λ segment. segment.base == old.victim)) (filter-append (may_leave parts) p.done (ahead.segment ∷ []))
                 ∙ list_any-append (λ segment. segment.base == old.victim) (filter (may_leave parts) p.done) (filter (may_leave parts) (ahead.segment ∷ []))))));
-            left = subst (λ gone. HaveLeft regions word follows gone old new) (sym gone_is)
-                (left_on regions word follows follows_on p.left v.left);
+            left = subst (λ gone. HaveLeft regions word follows gone old new) (sym gone_is) (left_on regions word follows follows_on p.left v.left);
             index = λ b.
-                let was = p.index b in
-                let is = next was.0 in
+                let was = p.index b in let is = next was.0 in
                 (is.0, λ n. is.1 n ∙ (visit_same frees parts ahead.segment was.0.index (after_visits frees parts p.done b.index) n (was.1 n) ∙ visits_on frees parts p.done ahead.segment b.index n));
             bytes_are = bytes_now b ∙ ap bytes_of (sym gone_is);
             counted = omega (arith, length-append p.done (ahead.segment ∷ []));
@@ -292,7 +301,8 @@ module _ {A : Type 0} {regions : A → List Grant} {word : A → ℕ → ℕ} (f
       was_all = p.was ∙ ap (λ segments. p.head ∷ segments) (ap (λ rest. p.done ++ rest) (none_ahead (word now.system) p.rest none p.records) ∙ append-nil p.done)
 
       is_all : segments_of word now ≡ p.head ∷ remaining frees parts p.done
-      is_all = p.is ∙ ap (λ segments. p.head ∷ segments) (ap (λ rest. remaining frees parts p.done ++ rest) (none_ahead (word now.system) p.rest none p.records) ∙ append-nil (remaining frees parts p.done))
+      is_all = p.is ∙ ap (λ segments. p.head ∷ segments) (ap (λ rest. remaining frees parts p.done ++ rest)
+          (none_ahead (word now.system) p.rest none p.records) ∙ append-nil (remaining frees parts p.done))
 
       segments_are : segments_of word now ≡ (if frees then staying parts (segments_of word old) else segments_of word old)
       segments_are = is_all ∙ (remaining_is frees parts p.head p.done ∙ ap (λ segments. if frees then staying parts segments else segments) (sym was_all))

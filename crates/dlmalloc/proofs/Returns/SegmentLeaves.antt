@@ -25,14 +25,16 @@ apart_less (first ∷ front) segment back apart = (all_less (IsApartFrom first) 
 
 -- ---- the records before it
 
-behind_stays : (regions : List Grant) (old new : ℕ → ℕ) (payload : ℕ) (front rest : List Segment) → AreSegments regions old front → AllByRecursion (KeepsIts old new) front → AreRecords old payload (front ++ rest) → payload_behind old payload front ≡ payload_behind new payload front
+behind_stays : (regions : List Grant) (old new : ℕ → ℕ) (payload : ℕ) (front rest : List Segment) → AreSegments regions old front →
+    AllByRecursion (KeepsIts old new) front → AreRecords old payload (front ++ rest) → payload_behind old payload front ≡ payload_behind new payload front
 behind_stays regions old new payload [] rest parts keeps h = refl
 behind_stays regions old new payload (segment ∷ front) rest parts keeps h =
     behind_stays regions old new (old (payload + 16)) front rest parts.1 keeps.1 h.5
-    ∙ ap (λ p. payload_behind new p front) (sym (keeps.0 (payload + 16)
-    (omega (arith, payload_low parts.0 payload h.0 h.4)) (omega (arith, payload_high parts.0 payload h.0 h.4)) (omega (arith, payload_whole parts.0 payload h.0 h.4))))
+    ∙ ap (λ p. payload_behind new p front) (sym (keeps.0 (payload + 16) (omega (arith, payload_low parts.0 payload h.0 h.4))
+    (omega (arith, payload_high parts.0 payload h.0 h.4)) (omega (arith, payload_whole parts.0 payload h.0 h.4))))
 
-module _ {A : Type 0} {regions : A → List Grant} {word : A → ℕ → ℕ} {heap : Dlmalloc A} (sound : IsSound regions word heap) {before : ℕ} {told : SegmentRecord} (c : IsChained word heap before told) where
+module _ {A : Type 0} {regions : A → List Grant} {word : A → ℕ → ℕ} {heap : Dlmalloc A}
+    (sound : IsSound regions word heap) {before : ℕ} {told : SegmentRecord} (c : IsChained word heap before told) where
   abbrev words : ℕ → ℕ
   words = word heap.system
 
@@ -87,8 +89,8 @@ module _ {A : Type 0} {regions : A → List Grant} {word : A → ℕ → ℕ} {h
     link_in : IsInRecord (state_of word heap) (before + 16)
     link_in = record {
       extent = record_of (before - 16) (l.last.base + l.last.size);
-      there = among_all granted words sound.segments sound.apart (c.head ∷ l.first) l.last (c.segment ∷ c.back) (c.is ∙ ap (λ segments. c.head ∷ segments) split_is)
-          (before - 16) last_told.4;
+      there = among_all granted words sound.segments sound.apart (c.head ∷ l.first) l.last (c.segment ∷ c.back)
+          (c.is ∙ ap (λ segments. c.head ∷ segments) split_is) (before - 16) last_told.4;
       is = refl;
       low = omega (arith, low_is);
       high = omega (arith, low_is, high_is);
@@ -113,8 +115,8 @@ module _ {A : Type 0} {regions : A → List Grant} {word : A → ℕ → ℕ} {h
       go (inr l) = subst (λ rs. IsWordOf rs (before + 16)) (sym gone_is)
           (word_stays c.segment it.part.run it.sized (link_word l) (beside_gone l (before + 16) (omega (arith, low_is l)) (omega (arith, high_is l))))
 
-  module _ (system : A) (told_gone : regions system ≡ without told.base (told.base + told.size) granted)
-      (kept : (k : ℕ) → IsWordOf (regions system) k → (before ≢ 0 → k ≢ before + 16) → word system k ≡ words k) (here : before ≢ 0 → word system (before + 16) ≡ told.next) where
+  module _ (system : A) (told_gone : regions system ≡ without told.base (told.base + told.size) granted) (kept : (k : ℕ) → IsWordOf (regions system) k →
+      (before ≢ 0 → k ≢ before + 16) → word system k ≡ words k) (here : before ≢ 0 → word system (before + 16) ≡ told.next) where
     gone : regions system ≡ without c.segment.base (c.segment.base + c.segment.size) granted
     gone = told_gone ∙ (λ i. without (base_is sound c i) (base_is sound c i + size_is sound c i) granted)
 
@@ -135,8 +137,8 @@ module _ {A : Type 0} {regions : A → List Grant} {word : A → ℕ → ℕ} {h
     at_head : (c.front ≡ []) × (before ≡ 0) × (c.payload ≡ heap.next) → IsRest
     at_head h = record {
       segments = subst (λ front. AreSegments (regions system) (word system) (c.head ∷ (front ++ c.back))) (sym h.0)
-          (subst (λ rs. AreSegments rs (word system) (c.head ∷ c.back)) (sym gone)
-          (apart_segments c.segment it.part.run it.sized words (word system) (c.head ∷ c.back) (it.front_parts.0, it.back_parts) (it.front_beside.0, it.back_beside) keeps));
+          (subst (λ rs. AreSegments rs (word system) (c.head ∷ c.back)) (sym gone) (apart_segments c.segment it.part.run it.sized words (word system)
+          (c.head ∷ c.back) (it.front_parts.0, it.back_parts) (it.front_beside.0, it.back_beside) keeps));
       records = subst (λ front. AreRecords (word system) next (front ++ c.back)) (sym h.0) (subst (λ p. AreRecords (word system) p c.back) (sym next_now) behind);
       behind = behind;
       linked = inl (h.0, h.1, sym next_now);
@@ -146,8 +148,8 @@ module _ {A : Type 0} {regions : A → List Grant} {word : A → ℕ → ℕ} {h
         next_now = ap (λ b. if b == 0 then told.next else heap.next) h.1
 
         keeps : AllByRecursion (KeepsIts words (word system)) (c.head ∷ c.back)
-        keeps = apart_keeps c.segment it.part.run it.sized words (word system) (λ k inside. kept k (subst (λ rs. IsWordOf rs k) (sym gone) inside) (λ more. absurd (more h.1)))
-            (c.head ∷ c.back) (it.front_parts.0, it.back_parts) (it.front_beside.0, it.back_beside)
+        keeps = apart_keeps c.segment it.part.run it.sized words (word system) (λ k inside. kept k (subst (λ rs. IsWordOf rs k) (sym gone) inside)
+            (λ more. absurd (more h.1))) (c.head ∷ c.back) (it.front_parts.0, it.back_parts) (it.front_beside.0, it.back_beside)
 
         behind : AreRecords (word system) told.next c.back
         behind = records_stay granted words (word system) c.back it.back_parts keeps.1 told.next it.back_told
@@ -155,10 +157,8 @@ module _ {A : Type 0} {regions : A → List Grant} {word : A → ℕ → ℕ} {h
     behind_last : IsToldByLast words heap.next before c.payload c.front → IsRest
     behind_last l = record {
       segments = subst (λ segments. AreSegments (regions system) (word system) (c.head ∷ segments)) (sym (joined_is l))
-          (subst (λ rs. AreSegments rs (word system) (c.head ∷ (l.first ++ l.last ∷ c.back))) (sym gone)
-          (parts_around (c.head ∷ l.first) c.back
-          (apart_segments c.segment it.part.run it.sized words (word system) (c.head ∷ l.first) first_parts first_beside first_keeps)
-          last_now
+          (subst (λ rs. AreSegments rs (word system) (c.head ∷ (l.first ++ l.last ∷ c.back))) (sym gone) (parts_around (c.head ∷ l.first) c.back
+          (apart_segments c.segment it.part.run it.sized words (word system) (c.head ∷ l.first) first_parts first_beside first_keeps) last_now
           (apart_segments c.segment it.part.run it.sized words (word system) c.back it.back_parts it.back_beside back_keeps)));
       records = subst (λ segments. AreRecords (word system) next segments) (sym (joined_is l)) (subst (λ p. AreRecords (word system) p (l.first ++ l.last ∷ c.back)) (sym next_now)
           (told_around granted words (word system) (l.last ∷ (c.segment ∷ c.back)) (l.last ∷ c.back) l.first heap.next l.reached first_parts.1 first_keeps.1 (split_told l) (
@@ -174,7 +174,8 @@ module _ {A : Type 0} {regions : A → List Grant} {word : A → ℕ → ℕ} {h
         first = l.first;
         last = l.last;
         is = l.is;
-        reached = l.reached ∙ (behind_stays granted words (word system) heap.next l.first (l.last ∷ (c.segment ∷ c.back)) first_parts.1 first_keeps.1 (split_told l) ∙ ap (λ p. payload_behind (word system) p l.first) (sym next_now));
+        reached = l.reached ∙ (behind_stays granted words (word system) heap.next l.first (l.last ∷ (c.segment ∷ c.back)) first_parts.1 first_keeps.1
+            (split_told l) ∙ ap (λ p. payload_behind (word system) p l.first) (sym next_now));
         some = l.some;
         tells = sym (here l.some);
       });
@@ -210,8 +211,8 @@ module _ {A : Type 0} {regions : A → List Grant} {word : A → ℕ → ℕ} {h
         last_now : IsSegment (without c.segment.base (c.segment.base + c.segment.size) granted) (word system) l.last
         last_now =
             let is = recorded_stays (last_part l) before (last_told l).0 (last_told l).4 (word system)
-            (λ k low high m out. kept_outside k (record { granted = (last_part l).run.covered k (omega arith) high; aligned = m }) (beside_gone l k (omega arith) high)
-            (λ more same. elim out [ inl below ↦ omega arith | inr above ↦ omega arith ])) in
+            (λ k low high m out. kept_outside k (record { granted = (last_part l).run.covered k (omega arith) high; aligned = m })
+            (beside_gone l k (omega arith) high) (λ more same. elim out [ inl below ↦ omega arith | inr above ↦ omega arith ])) in
             record { run = run_stays c.segment it.part.run it.sized l.last (last_behind l).0 is.run; low = is.low; high = is.high; long = is.long; extents = is.extents; tail = is.tail }
 
         behind : AreRecords (word system) told.next c.back
@@ -276,14 +277,11 @@ module _ {A : Type 0} {regions : A → List Grant} {word : A → ℕ → ℕ} {h
 
       -- that alone is no free extent any more
       pub left_free : FreeMoves (state_of word heap) (state_of word left_heap) (told.base ∷ []) []
-      left_free = exchanged_free sound exchange tt (told.base ∷ []) []
-          (λ k size found. elim (in_gone k found) [
-            | inl free ↦ inl (sym ((base_is sound c) ∙ free.1))
-            | inr tail ↦ absurd (let no : Free ≡ Record = tail in cc)
-          ])
-          (λ k size found. absurd (cc))
-          (λ k is. elim is [ inl same ↦ inr (subst (λ a. IsThere a c.segment.extents) (sym same) first_free) | inr none ↦ absurd none ])
-          (λ k none. absurd none)
+      left_free = exchanged_free sound exchange tt (told.base ∷ []) [] (λ k size found. elim (in_gone k found) [
+        | inl free ↦ inl (sym ((base_is sound c) ∙ free.1))
+        | inr tail ↦ absurd (let no : Free ≡ Record = tail in cc)
+      ]) (λ k size found. absurd (cc)) (λ k is. elim is
+          [ inl same ↦ inr (subst (λ a. IsThere a c.segment.extents) (sym same) first_free) | inr none ↦ absurd none ]) (λ k none. absurd none)
 
       none_used : (k : ℕ) (one : Extent) → one.kind ≡ Used → extent_at k c.segment.extents ≡ Some one → ⊥
       none_used k one used found = elim (in_gone k found) [
@@ -295,14 +293,16 @@ module _ {A : Type 0} {regions : A → List Grant} {word : A → ℕ → ℕ} {h
       no_victim true is = refl
       no_victim false is = sound.no_victim is
 
-      victim_there : (b : Bool) → (told.base == heap.victim) ≡ b → (if b then 0 else heap.victim_size) ≢ 0 → extent_at (if b then 0 else heap.victim) (extents_in (state_of word left_heap)) ≡ Some (extent (if b then 0 else heap.victim) (if b then 0 else heap.victim_size) Free)
+      victim_there : (b : Bool) → (told.base == heap.victim) ≡ b → (if b then 0 else heap.victim_size) ≢ 0 → extent_at (if b then 0 else heap.victim)
+          (extents_in (state_of word left_heap)) ≡ Some (extent (if b then 0 else heap.victim) (if b then 0 else heap.victim_size) Free)
       victim_there true test more = absurd (more refl)
       victim_there false test more = exchanged_still sound exchange heap.victim (λ found. elim (in_gone heap.victim found) [
         | inl free ↦ (let yes : (told.base == heap.victim) ≡ true = ap (λ b. b == heap.victim) ((base_is sound c) ∙ free.1) ∙ nat_same heap.victim in let no = sym test ∙ yes in cc)
         | inr tail ↦ (let no : Free ≡ Record = tail in cc)
       ]) (sound.victim more)
 
-      pub leaves : (follows : A → List Event → A → Type 0) → follows heap.system (Released told.base told.size 0 ∷ []) system → IsVisited regions word follows true true heap before told c left_heap
+      pub leaves : (follows : A → List Event → A → Type 0) → follows heap.system (Released told.base told.size 0 ∷ []) system →
+          IsVisited regions word follows true true heap before told c left_heap
       leaves follows followed = record {
         segments = exchanged_read sound exchange;
         records = rest.behind;

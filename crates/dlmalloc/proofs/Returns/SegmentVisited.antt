@@ -25,7 +25,8 @@ pub records_behind : (words : ℕ → ℕ) (payload : ℕ) (front rest : List Se
 records_behind words payload [] rest h = h
 records_behind words payload (segment ∷ front) rest h = records_behind words (words (payload + 16)) front rest h.5
 
-module _ {A : Type 0} {regions : A → List Grant} {word : A → ℕ → ℕ} {heap : Dlmalloc A} (sound : IsSound regions word heap) {before : ℕ} {told : SegmentRecord} (c : IsChained word heap before told) where
+module _ {A : Type 0} {regions : A → List Grant} {word : A → ℕ → ℕ} {heap : Dlmalloc A}
+    (sound : IsSound regions word heap) {before : ℕ} {told : SegmentRecord} (c : IsChained word heap before told) where
   abbrev words : ℕ → ℕ
   words = word heap.system
 
@@ -95,8 +96,8 @@ module _ {A : Type 0} {regions : A → List Grant} {word : A → ℕ → ℕ} {h
 
   -- where it is unused, its first chunk is free
   pub first_is_free : is_unused c.segment ≡ true → IsFreeAt (state_of word heap) told.base (told.size - 80)
-  first_is_free unused = subst (λ base. IsFreeAt (state_of word heap) base (told.size - 80)) (sym base_is) (subst (λ size. IsFreeAt (state_of word heap) c.segment.base (size - 80)) (sym size_is)
-      (among_all granted words sound.segments sound.apart (c.head ∷ c.front) c.segment c.back c.is c.segment.base (
+  first_is_free unused = subst (λ base. IsFreeAt (state_of word heap) base (told.size - 80)) (sym base_is) (subst (λ size. IsFreeAt (state_of word heap)
+      c.segment.base (size - 80)) (sym size_is) (among_all granted words sound.segments sound.apart (c.head ∷ c.front) c.segment c.back c.is c.segment.base (
       ap (extent_at c.segment.base) (unused_extents around.part (c.payload - 16) c.records.4 unused)
       ∙ found_here (extent c.segment.base (c.segment.size - 80) Free) (record_of (c.payload - 16) (c.segment.base + c.segment.size) ∷ [])
       )))
@@ -133,11 +134,13 @@ module _ {A : Type 0} {regions : A → List Grant} {word : A → ℕ → ℕ} {h
       no_victim true is = refl
       no_victim false is = sound.no_victim is
 
-      victim : (b : Bool) → (if b then 0 else heap.victim_size) ≢ 0 → extent_at (if b then 0 else heap.victim) (extents_all (segments_of word heap)) ≡ Some (extent (if b then 0 else heap.victim) (if b then 0 else heap.victim_size) Free)
+      victim : (b : Bool) → (if b then 0 else heap.victim_size) ≢ 0 → extent_at (if b then 0 else heap.victim)
+          (extents_all (segments_of word heap)) ≡ Some (extent (if b then 0 else heap.victim) (if b then 0 else heap.victim_size) Free)
       victim true more = absurd (more refl)
       victim false more = sound.victim more
 
-  pub stays : (follows : A → List Event → A → Type 0) → ((x : A) → follows x [] x) → (handed : Bool) → IsVisited regions word follows handed false heap before told c (forgetful (handed && c.segment.base == heap.victim))
+  pub stays : (follows : A → List Event → A → Type 0) → ((x : A) → follows x [] x) →
+      (handed : Bool) → IsVisited regions word follows handed false heap before told c (forgetful (handed && c.segment.base == heap.victim))
   stays follows follows_none handed = record {
     segments = c.is;
     records = around.back_told;
@@ -160,8 +163,10 @@ module _ {A : Type 0} {regions : A → List Grant} {word : A → ℕ → ℕ} {h
   -- so it does where the victim was forgotten that began with it
   pub stays_handed : (follows : A → List Event → A → Type 0) → ((x : A) → follows x [] x) → IsVisited regions word follows true false heap before told c
       (record heap { victim = if told.base == heap.victim then 0 else heap.victim; victim_size = if told.base == heap.victim then 0 else heap.victim_size })
-  stays_handed follows follows_none = subst (λ base. IsVisited regions word follows true false heap before told c (forgetful (base == heap.victim))) (sym base_is) (stays follows follows_none true)
+  stays_handed follows follows_none = subst (λ base. IsVisited regions word follows true false heap before told c (forgetful (base == heap.victim)))
+      (sym base_is) (stays follows follows_none true)
 
   -- and its free extents stay
-  pub free_kept : FreeMoves (state_of word heap) (state_of word (record heap { victim = if told.base == heap.victim then 0 else heap.victim; victim_size = if told.base == heap.victim then 0 else heap.victim_size })) [] []
+  pub free_kept : FreeMoves (state_of word heap) (state_of word (record heap
+      { victim = if told.base == heap.victim then 0 else heap.victim; victim_size = if told.base == heap.victim then 0 else heap.victim_size })) [] []
   free_kept = record { stays = λ at size free out. (free, λ came. came); was = λ at size free out. (free, λ came. came) }

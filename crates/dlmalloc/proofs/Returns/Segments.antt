@@ -26,11 +26,12 @@ whole_run {regions} {base} {size} {flags} some run = record { some = omega arith
 
 module _ (low high : ℕ) where
   -- a region that loses its end is still apart from a run, or one of it
-  shorter : (base end flags : ℕ) (region : Grant) → IsApart base end region ⊎ IsWithin base end flags region → IsApart base end (up_to low region) ⊎ IsWithin base end flags (up_to low region)
+  shorter : (base end flags : ℕ) (region : Grant) → IsApart base end region ⊎ IsWithin base end flags region →
+      IsApart base end (up_to low region) ⊎ IsWithin base end flags (up_to low region)
   shorter base end flags region is = go (nat_lt region.base low && nat_lt low (region.base + region.size)) refl
     where
-      go : (b : Bool) → (nat_lt region.base low && nat_lt low (region.base + region.size)) ≡ b →
-          IsApart base end (if b then record region { size = low - region.base } else region) ⊎ IsWithin base end flags (if b then record region { size = low - region.base } else region)
+      go : (b : Bool) → (nat_lt region.base low && nat_lt low (region.base + region.size)) ≡ b → IsApart base end (if b then record region
+          { size = low - region.base } else region) ⊎ IsWithin base end flags (if b then record region { size = low - region.base } else region)
       go false test = is
       go true test =
           let above : region.base < low = grind (arith, nat_tests) in
@@ -41,14 +42,14 @@ module _ (low high : ℕ) where
             | inr within ↦ inr (within.0, omega arith, within.2)
           ]
 
-  all_shorter : (base end flags : ℕ) (regions : List Grant) → AllByRecursion (λ region. IsApart base end region ⊎ IsWithin base end flags region) regions →
-      AllByRecursion (λ region. IsApart base end region ⊎ IsWithin base end flags region) (without low high regions)
+  all_shorter : (base end flags : ℕ) (regions : List Grant) → AllByRecursion (λ region. IsApart base end region ⊎ IsWithin base end flags region)
+      regions → AllByRecursion (λ region. IsApart base end region ⊎ IsWithin base end flags region) (without low high regions)
   all_shorter base end flags [] all = tt
   all_shorter base end flags (region ∷ regions) all = go (begins_in low high region) (all_shorter base end flags regions all.1)
     where
       go : (b : Bool) → AllByRecursion (λ region. IsApart base end region ⊎ IsWithin base end flags region) (without low high regions) →
-          AllByRecursion (λ region. IsApart base end region ⊎ IsWithin base end flags region)
-          (map (λ r. up_to low r) (cond (not b) (region ∷ filter (λ r. not (begins_in low high r)) regions) (filter (λ r. not (begins_in low high r)) regions)))
+          AllByRecursion (λ region. IsApart base end region ⊎ IsWithin base end flags region) (map (λ r. up_to low r)
+          (cond (not b) (region ∷ filter (λ r. not (begins_in low high r)) regions) (filter (λ r. not (begins_in low high r)) regions)))
       go true rest = rest
       go false rest = (shorter base end flags region all.0, rest)
 
@@ -81,17 +82,20 @@ module _ {regions : List Grant} (gone : Segment) (run : IsRun regions gone.base 
   }
 
   -- segments that are apart are segments still
-  pub apart_segments : (old new : ℕ → ℕ) (segments : List Segment) → AreSegments regions old segments → AllByRecursion (IsApartFrom gone) segments → AllByRecursion (KeepsIts old new) segments → AreSegments after new segments
+  pub apart_segments : (old new : ℕ → ℕ) (segments : List Segment) → AreSegments regions old segments → AllByRecursion (IsApartFrom gone) segments →
+      AllByRecursion (KeepsIts old new) segments → AreSegments after new segments
   apart_segments old new [] parts apart keeps = tt
   apart_segments old new (segment ∷ segments) parts apart keeps =
       let is = one_stays regions old new parts.0 keeps.0 in
       (record { run = run_stays segment apart.0 is.run; low = is.low; high = is.high; long = is.long; extents = is.extents; tail = is.tail }, apart_segments old new segments parts.1 apart.1 keeps.1)
 
   -- they keep their words, where granted words stay
-  pub apart_keeps : (old new : ℕ → ℕ) → ((k : ℕ) → IsWordOf after k → new k ≡ old k) → (segments : List Segment) → AreSegments regions old segments → AllByRecursion (IsApartFrom gone) segments → AllByRecursion (KeepsIts old new) segments
+  pub apart_keeps : (old new : ℕ → ℕ) → ((k : ℕ) → IsWordOf after k → new k ≡ old k) → (segments : List Segment) →
+      AreSegments regions old segments → AllByRecursion (IsApartFrom gone) segments → AllByRecursion (KeepsIts old new) segments
   apart_keeps old new kept [] parts apart = tt
   apart_keeps old new kept (segment ∷ segments) parts apart = (
-    λ k low high m. kept k (word_stays {k = k} (record { granted = parts.0.run.covered k (omega arith) high; aligned = m }) (elim (apart.0) [ inl before ↦ inr (omega arith) | inr behind ↦ inl (omega arith) ])),
+    λ k low high m. kept k (word_stays {k = k} (record { granted = parts.0.run.covered k (omega arith) high; aligned = m })
+        (elim (apart.0) [ inl before ↦ inr (omega arith) | inr behind ↦ inl (omega arith) ])),
     apart_keeps old new kept segments parts.1 apart.1,
   )
 
@@ -124,7 +128,8 @@ part_same k segment out = go (nat_lt (suc k) (segment.base + segment.size)) refl
     go : (b : Bool) → nat_lt (suc k) (segment.base + segment.size) ≡ b → (c : Bool) → nat_lt k (segment.base + segment.size) ≡ c →
         (if b then suc k - segment.base else segment.size) ≡ (if c then k - segment.base else segment.size)
     go true next true here = elim out [ inl below ↦ omega arith | inr above ↦ absurd (let t : k < segment.base + segment.size = grind (arith, nat_tests) in omega arith) ]
-    go true next false here = absurd (let t : suc k < segment.base + segment.size = grind (arith, nat_tests) in let f : segment.base + segment.size ≤ k = grind (arith, nat_tests) in omega arith)
+    go true next false here = absurd (let t : suc k < segment.base + segment.size = grind (arith, nat_tests) in
+        let f : segment.base + segment.size ≤ k = grind (arith, nat_tests) in omega arith)
     go false next true here =
         let f : segment.base + segment.size ≤ suc k = grind (arith, nat_tests) in let t : k < segment.base + segment.size = grind (arith, nat_tests) in
         elim out [ inl below ↦ omega arith | inr above ↦ absurd (omega arith) ]
@@ -137,11 +142,13 @@ part_one k segment = go (nat_lt (suc k) (segment.base + segment.size)) refl (nat
     go : (b : Bool) → nat_lt (suc k) (segment.base + segment.size) ≡ b → (c : Bool) → nat_lt k (segment.base + segment.size) ≡ c →
         (if b then suc k - segment.base else segment.size) ≤ suc (if c then k - segment.base else segment.size)
     go true next true here = omega arith
-    go true next false here = absurd (let t : suc k < segment.base + segment.size = grind (arith, nat_tests) in let f : segment.base + segment.size ≤ k = grind (arith, nat_tests) in omega arith)
+    go true next false here = absurd (let t : suc k < segment.base + segment.size = grind (arith, nat_tests) in
+        let f : segment.base + segment.size ≤ k = grind (arith, nat_tests) in omega arith)
     go false next true here = (let f : segment.base + segment.size ≤ suc k = grind (arith, nat_tests) in let t : k < segment.base + segment.size = grind (arith, nat_tests) in omega arith)
     go false next false here = omega arith
 
-bytes_same : (k : ℕ) (segment : Segment) (segments : List Segment) → segment.base ≤ k → k < segment.base + segment.size → AllByRecursion (IsApartFrom segment) segments → bytes_below (suc k) segments ≡ bytes_below k segments
+bytes_same : (k : ℕ) (segment : Segment) (segments : List Segment) → segment.base ≤ k → k < segment.base + segment.size →
+    AllByRecursion (IsApartFrom segment) segments → bytes_below (suc k) segments ≡ bytes_below k segments
 unfolding bytes_below
 bytes_same k segment [] low high apart = refl
 bytes_same k segment (other ∷ segments) low high apart =
@@ -153,8 +160,7 @@ bytes_one : (k : ℕ) (segments : List Segment) → AreApart segments → bytes_
 unfolding bytes_below
 bytes_one k [] apart = omega arith
 bytes_one k (segment ∷ segments) apart =
-    let one = part_one k segment in
-    let rest = bytes_one k segments apart.1 in
+    let one = part_one k segment in let rest = bytes_one k segments apart.1 in
     elim (dec_lt k segment.base) [
       | yes below ↦ (let same = part_same k segment (inl below) in omega arith)
       | no low ↦ elim (dec_lt k (segment.base + segment.size)) [
@@ -208,8 +214,8 @@ taken_few false segments = omega arith
 
 module _ {A : Type 0} (regions : A → List Grant) (word : A → ℕ → ℕ) (follows : A → List Event → A → Type 0)
     (follows_on : (x y z : A) (a b c : List Event) → follows x a y → follows y b z → a ++ b ≡ c → follows x c z) where
-  pub given_on : {first second : List Segment} {old : A} (middle new : A) {a b : ℕ} → AreGivenBack regions word follows first old a middle → AreGivenBack regions word follows second middle b new →
-      AreGivenBack regions word follows (first ++ second) old (a + b) new
+  pub given_on : {first second : List Segment} {old : A} (middle new : A) {a b : ℕ} → AreGivenBack regions word follows first old a middle →
+      AreGivenBack regions word follows second middle b new → AreGivenBack regions word follows (first ++ second) old (a + b) new
   given_on {first} {second} {old} middle new one two = record {
     bytes_are = (λ i. one.bytes_are i + two.bytes_are i) ∙ sym (bytes_append first second);
     words = λ k inside. two.words k inside ∙ one.words k (record { granted = still_granted second (regions middle) k (subst (λ rs. IsTrue (is_granted rs k)) two.regions_are inside.granted); aligned = inside.aligned });

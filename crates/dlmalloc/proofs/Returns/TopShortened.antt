@@ -108,29 +108,28 @@ module _ {A : Type 0} {regions : A → List Grant} {word : A → ℕ → ℕ} {h
         now_end = omega (arith, (top_last sound some).1, was.base, was.size, closes, low)
 
         now_run : IsRun (regions system) run.segment.base (run.segment.size - less) run.segment.flags
-        now_run = subst (λ f. IsRun (regions system) run.segment.base (run.segment.size - less) f) was.flags
-            (subst (λ n. IsRun (regions system) run.segment.base (n - less) heap.flags) was.size (subst (λ b. IsRun (regions system) b (heap.size - less) heap.flags) was.base rest_run))
+        now_run = subst (λ f. IsRun (regions system) run.segment.base (run.segment.size - less) f) was.flags (subst (λ n. IsRun (regions system)
+            run.segment.base (n - less) heap.flags) was.size (subst (λ b. IsRun (regions system) b (heap.size - less) heap.flags) was.base rest_run))
 
         -- words of the chunks before the top stay, and so do those of other segments
         first_kept : (k : ℕ) → IsWordOf (regions system) k → k ≤ heap.top → word system k ≡ word heap.system k
         first_kept k inside below = kept k inside (λ is. omega arith) (λ is. omega (arith, closes, low))
 
         outside_kept : (k : ℕ) → IsWordOf (regions system) k → IsOutside run.segment k → IsOutside run.segment k → word system k ≡ word heap.system k
-        outside_kept k inside first second = kept k inside
-            (λ is. elim first [
-              | inl below ↦ omega (arith, was.base, low)
-              | inr above ↦ omega (arith, (top_last sound some).1)
-            ])
-            (λ is. elim first [
-              | inl below ↦ omega (arith, was.base, closes, low)
-              | inr above ↦ omega (arith, was.base, was.size, closes, low)
-            ])
+        outside_kept k inside first second = kept k inside (λ is. elim first [
+          | inl below ↦ omega (arith, was.base, low)
+          | inr above ↦ omega (arith, (top_last sound some).1)
+        ]) (λ is. elim first [
+          | inl below ↦ omega (arith, was.base, closes, low)
+          | inr above ↦ omega (arith, was.base, was.size, closes, low)
+        ])
 
         more_stand : Tiles (word system) (last_kind Used run.first) heap.top more (run.segment.base + (run.segment.size - less))
         more_stand =
             let place : heap.top + length_now + 8 ≡ heap.base + (heap.size - less) - 72 = omega (arith, closes, low) in
             subst (λ end. Tiles (word system) (last_kind Used run.first) heap.top more end) now_end
-            (top_stands (word system) heap.top length_now run.here.1.kind (top_whole sound some) (omega (arith, (top_sizes sound some).0)) (omega arith) (head ∙ ap (λ n. n + 1) (sym length_is)) (ap (word system) place ∙ foot))
+            (top_stands (word system) heap.top length_now run.here.1.kind (top_whole sound some) (omega (arith, (top_sizes sound some).0)) (omega arith)
+            (head ∙ ap (λ n. n + 1) (sym length_is)) (ap (word system) place ∙ foot))
 
         is_now : IsSegment (regions system) (word system) now
         is_now = record {
@@ -149,7 +148,8 @@ module _ {A : Type 0} {regions : A → List Grant} {word : A → ℕ → ℕ} {h
             (segments_beside head_run less within (word heap.system) run.segment run.back (sym was.base) (sym was.size) parts.1 apart.0)
 
         back_keeps : AllByRecursion (KeepsIts (word heap.system) (word system)) run.back
-        back_keeps = apart_stay (regions system) (word heap.system) (word system) run.segment run.segment run.back back_parts apart.0 (back_apart [] run.segment run.back apart) outside_kept
+        back_keeps = apart_stay (regions system) (word heap.system) (word system) run.segment run.segment run.back back_parts apart.0
+            (back_apart [] run.segment run.back apart) outside_kept
 
         apart_now : AreApart (now ∷ run.back)
         apart_now = (shorter run.back apart.0, apart.1)
@@ -161,14 +161,13 @@ module _ {A : Type 0} {regions : A → List Grant} {word : A → ℕ → ℕ} {h
         where_top : extent_at heap.top now.extents ≡ Some (extent heap.top after.top_size Top)
         where_top =
             let here : (heap.top == heap.top) ≡ true = nat_same heap.top in
-            found_later heap.top run.first more (none_outside (word heap.system) Used run.segment.base run.first heap.top heap.top (inr (omega arith)) run.first_stand)
-            ∙ (rw here refl ∙ (λ i. Some (extent heap.top (length_is i) Top)))
+            found_later heap.top run.first more (none_outside (word heap.system) Used run.segment.base run.first heap.top heap.top
+            (inr (omega arith)) run.first_stand) ∙ (rw here refl ∙ (λ i. Some (extent heap.top (length_is i) Top)))
 
         extents_were : extents_in (state_of word heap) ≡ run.first ++ (old ++ extents_all run.back)
         extents_were =
-            ap extents_all segments_are
-            ∙ (ap (λ es. es ++ extents_all run.back) (run.extents ∙ ap (λ es. run.first ++ extent heap.top heap.top_size Top ∷ es) ((top_last sound some).0 ∙ (λ i. extent (foot_at i) 80 Foot ∷ [])))
-            ∙ append_assoc run.first old (extents_all run.back))
+            ap extents_all segments_are ∙ (ap (λ es. es ++ extents_all run.back) (run.extents ∙ ap (λ es. run.first ++ extent heap.top heap.top_size
+            Top ∷ es) ((top_last sound some).0 ∙ (λ i. extent (foot_at i) 80 Foot ∷ []))) ∙ append_assoc run.first old (extents_all run.back))
           where
             foot_at : run.segment.base + run.segment.size - 80 ≡ heap.top + heap.top_size
             foot_at = omega (arith, (top_last sound some).1)
@@ -213,8 +212,8 @@ module _ {A : Type 0} {regions : A → List Grant} {word : A → ℕ → ℕ} {h
                 ∙ (λ i. map_shrunk less run.first chunks i ++ (extent heap.top length_now Top ∷ extent (place i) 80 Foot ∷ [])))
 
             segments_now : segments_of word after ≡ shortened less run.segment ∷ run.back
-            segments_now = exchanged_read sound it
-                ∙ (λ i. (record { base = run.segment.base; size = run.segment.size - less; flags = run.segment.flags; extents = (sym shrunk_are) i }) ∷ run.back)
+            segments_now = exchanged_read sound it ∙ (λ i.
+                (record { base = run.segment.base; size = run.segment.size - less; flags = run.segment.flags; extents = (sym shrunk_are) i }) ∷ run.back)
 
         shortened_words : (k : ℕ) → IsWordOf (regions system) k → k ≢ after.top + 8 → k ≢ after.top + after.top_size + 8 → word system k ≡ word heap.system k
         shortened_words k inside at_top at_foot = kept k inside at_top (λ is. at_foot (omega (arith, closes, low)))
@@ -224,10 +223,11 @@ module _ {A : Type 0} {regions : A → List Grant} {word : A → ℕ → ℕ} {h
         shortened_boundaries k inside boundary = let tags = head_tags shortened_sound rest_some k boundary in shortened_words k inside tags.0 tags.1
 
         shortened_kept : KeepsBlocks (extents_in (state_of word heap)) (word heap.system) (word system)
-        shortened_kept = blocks_law_still regions word after sound shortened_sound (λ k inside was own recorded. shortened_boundaries k inside (λ boundary. own (inl boundary))) (extents_in (state_of word heap))
-            (λ block there used. (there, shortened_used.still block used there))
+        shortened_kept = blocks_law_still regions word after sound shortened_sound (λ k inside was own recorded. shortened_boundaries k inside
+            (λ boundary. own (inl boundary))) (extents_in (state_of word heap)) (λ block there used. (there, shortened_used.still block used there))
 
-        pub is_shortened : (follows : A → List Event → A → Type 0) → follows heap.system (Released heap.base heap.size (heap.size - less) ∷ []) system → IsShortened regions word follows heap less after
+        pub is_shortened : (follows : A → List Event → A → Type 0) →
+            follows heap.system (Released heap.base heap.size (heap.size - less) ∷ []) system → IsShortened regions word follows heap less after
         is_shortened follows followed = record {
           state = shortened_state;
           stays = record {

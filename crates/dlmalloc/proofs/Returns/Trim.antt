@@ -12,7 +12,8 @@ use Rattle.dlmalloc.proofs.Segments.HeadTop.{no_segments}
 use Rattle.dlmalloc.proofs.Returns.Segments.{still_granted}
 
 -- extents that are among others keep their words with them
-kept_among : (fewer : List Extent) {more : List Extent} {old new : ℕ → ℕ} → ((block : Extent) → block.kind ≡ Used → extent_at block.at fewer ≡ Some block → extent_at block.at more ≡ Some block) → KeepsBlocks more old new → KeepsBlocks fewer old new
+kept_among : (fewer : List Extent) {more : List Extent} {old new : ℕ → ℕ} → ((block : Extent) → block.kind ≡ Used →
+    extent_at block.at fewer ≡ Some block → extent_at block.at more ≡ Some block) → KeepsBlocks more old new → KeepsBlocks fewer old new
 kept_among fewer among kept = record {
   words = λ block there used k low high m. kept.words block (among block used there) used k low high m;
   heads = λ block there used. kept.heads block (among block used there) used;
@@ -25,10 +26,12 @@ module _ {A : Type 0} {regions : A → List Grant} {word : A → ℕ → ℕ} {h
   left = if frees then staying parts (segments_of word heap) else segments_of word heap
 
   -- so does each of its extents
-  in_head : (k : ℕ) (one : Extent) → ((segment : Segment) → IsSegment (regions heap.system) (word heap.system) segment → extent_at heap.top segment.extents ≡ Some (extent heap.top heap.top_size Top) → extent_at k segment.extents ≡ Some one) → extent_at k (extents_all left) ≡ Some one
+  in_head : (k : ℕ) (one : Extent) → ((segment : Segment) → IsSegment (regions heap.system) (word heap.system) segment → extent_at heap.top
+      segment.extents ≡ Some (extent heap.top heap.top_size Top) → extent_at k segment.extents ≡ Some one) → extent_at k (extents_all left) ≡ Some one
   in_head k one found = go (segments_of word heap) sound.segments sound.told
     where
-      go : (segments : List Segment) → AreSegments (regions heap.system) (word heap.system) segments → AreTold (word heap.system) heap segments → extent_at k (extents_all (if frees then staying parts segments else segments)) ≡ Some one
+      go : (segments : List Segment) → AreSegments (regions heap.system) (word heap.system) segments → AreTold (word heap.system) heap segments →
+          extent_at k (extents_all (if frees then staying parts segments else segments)) ≡ Some one
       go [] are h = absurd (omega arith)
       go (head ∷ segments) are h = by frees
         where
@@ -63,19 +66,22 @@ module _ {A : Type 0} (word : A → ℕ → ℕ) (heap : Dlmalloc A) (pad : ℕ)
       none_so false = refl
 
   -- then nothing is done
-  pub untouched : {regions : A → List Grant} (follows : A → List Event → A → Type 0) (frees parts : Bool) (unit : ℕ) → IsSound regions word heap → follows heap.system [] heap.system → is_trimmed pad (state_of word heap) ≡ false →
+  pub untouched : {regions : A → List Grant} (follows : A → List Event → A → Type 0) (frees parts : Bool) (unit : ℕ) → IsSound regions word heap →
+      follows heap.system [] heap.system → is_trimmed pad (state_of word heap) ≡ false →
       IsTrimmed regions word follows frees parts unit heap pad false heap
   untouched {regions} follows frees parts unit sound none isnt = record {
     answer_is = sym (ap (λ b. b && gives_back frees parts unit pad (state_of word heap)) isnt);
-    state = sym (ap (λ b. if b then (if gives_back frees parts unit pad (state_of word heap) then passed frees parts (after_cut parts unit pad (state_of word heap)) else given_up (passed frees parts (after_cut parts unit pad (state_of word heap)))) else state_of word heap) isnt);
+    state = sym (ap (λ b. if b then (if gives_back frees parts unit pad (state_of word heap) then passed frees parts (after_cut parts unit pad
+        (state_of word heap)) else given_up (passed frees parts (after_cut parts unit pad (state_of word heap)))) else state_of word heap) isnt);
     sound = sound;
     used = record { still = λ used is there. there; before = λ used is there. there };
     kept = record { words = λ block there used k low high m. refl; heads = λ block there used. refl };
     words = λ k inside was own recorded. refl;
     index = λ b. (b, λ n. sym (ap (λ t. (if t then after_pass frees parts (segments_of word heap) b.index else b.index) n) isnt));
-    regions_are = sym (ap (λ b. if b then regions_without (taken_back frees (handed_out parts (segments_of word heap))) (regions_cut parts unit pad (state_of word heap) (regions heap.system)) else regions heap.system) isnt);
-    followed = subst (λ es. follows heap.system es heap.system)
-        (sym (ap (λ b. if b then cut_off parts unit pad (state_of word heap) ++ releases (taken_back frees (handed_out parts (segments_of word heap))) else []) isnt)) none;
+    regions_are = sym (ap (λ b. if b then regions_without (taken_back frees (handed_out parts (segments_of word heap)))
+        (regions_cut parts unit pad (state_of word heap) (regions heap.system)) else regions heap.system) isnt);
+    followed = subst (λ es. follows heap.system es heap.system) (sym (ap (λ b. if b then cut_off parts unit pad (state_of word heap) ++ releases
+        (taken_back frees (handed_out parts (segments_of word heap))) else []) isnt)) none;
   }
 
 -- a cut changes the head segment alone, which a pass does not visit
@@ -88,7 +94,8 @@ pass_cut word heap frees parts unit pad index n = go (is_cut parts unit pad (sta
     cut less [] = refl
     cut less (head ∷ rest) = refl
 
-    go : (b : Bool) → after_pass frees parts (if b then cut_top (cut_of (state_of word heap) pad) (state_of word heap) else state_of word heap).segments index n ≡ after_pass frees parts (segments_of word heap) index n
+    go : (b : Bool) → after_pass frees parts (if b then cut_top (cut_of (state_of word heap) pad) (state_of word heap) else state_of word heap).segments index
+        n ≡ after_pass frees parts (segments_of word heap) index n
     go true = cut (cut_of (state_of word heap) pad) (segments_of word heap)
     go false = refl
 
@@ -102,14 +109,16 @@ module _ {A : Type 0} (word : A → ℕ → ℕ) (heap : Dlmalloc A) (parts : Bo
       cut less [] = refl
       cut less (head ∷ rest) = refl
 
-      go : (b : Bool) → handed_out parts (if b then cut_top (cut_of (state_of word heap) pad) (state_of word heap) else state_of word heap).segments ≡ handed_out parts (segments_of word heap)
+      go : (b : Bool) → handed_out parts (if b then cut_top (cut_of (state_of word heap) pad)
+          (state_of word heap) else state_of word heap).segments ≡ handed_out parts (segments_of word heap)
       go true = cut (cut_of (state_of word heap) pad) (segments_of word heap)
       go false = refl
 
 -- ---- a trim that is made
 
-module _ {A : Type 0} {regions : A → List Grant} {word : A → ℕ → ℕ} {follows : A → List Event → A → Type 0} {frees parts : Bool} {unit pad : ℕ} {old middle after : Dlmalloc A} (made : is_trimmed pad (state_of word old) ≡ true)
-    (cut : IsCutBack regions word follows parts unit old pad middle) (some : 0 < middle.size) {bytes : ℕ} (pass : IsPassed regions word follows frees parts middle bytes after) where
+module _ {A : Type 0} {regions : A → List Grant} {word : A → ℕ → ℕ} {follows : A → List Event → A → Type 0} {frees parts : Bool}
+    {unit pad : ℕ} {old middle after : Dlmalloc A} (made : is_trimmed pad (state_of word old) ≡ true) (cut : IsCutBack regions word follows parts unit old
+    pad middle) (some : 0 < middle.size) {bytes : ℕ} (pass : IsPassed regions word follows frees parts middle bytes after) where
   handed_same : handed_out parts (segments_of word middle) ≡ handed_out parts (segments_of word old)
   handed_same = ap (λ s. handed_out parts s.segments) cut.state ∙ handed_cut word old parts unit pad
 
@@ -130,7 +139,8 @@ module _ {A : Type 0} {regions : A → List Grant} {word : A → ℕ → ℕ} {f
   -- a word that is granted still was granted before the pass
   inside_middle : (k : ℕ) → IsWordOf (regions after.system) k → IsWordOf (regions middle.system) k
   inside_middle k inside = record {
-    granted = still_granted (taken_back frees (handed_out parts (segments_of word middle))) (regions middle.system) k (subst (λ rs. IsTrue (is_granted rs k)) pass.regions_are inside.granted);
+    granted = still_granted (taken_back frees (handed_out parts (segments_of word middle))) (regions middle.system) k
+        (subst (λ rs. IsTrue (is_granted rs k)) pass.regions_are inside.granted);
     aligned = inside.aligned;
   }
 
@@ -141,26 +151,27 @@ module _ {A : Type 0} {regions : A → List Grant} {word : A → ℕ → ℕ} {f
     pub is_done : IsTrimmed regions word follows frees parts unit old pad gives (record after { trim_check = check })
     is_done = record {
       answer_is = answer_is ∙ sym (ap (λ b. b && gives_back frees parts unit pad (state_of word old)) made);
-      state = state ∙ ((λ i. if answer_is i then state_after i else given_up (state_after i))
-          ∙ sym (ap (λ b. if b then (if gives_back frees parts unit pad (state_of word old) then passed frees parts (after_cut parts unit pad (state_of word old)) else given_up (passed frees parts (after_cut parts unit pad (state_of word old)))) else state_of word old) made));
+      state = state ∙ ((λ i. if answer_is i then state_after i else given_up (state_after i)) ∙ sym
+          (ap (λ b. if b then (if gives_back frees parts unit pad (state_of word old) then passed frees parts (after_cut parts unit pad (state_of word old))
+          else given_up (passed frees parts (after_cut parts unit pad (state_of word old)))) else state_of word old) made));
       sound = sound;
       used = record {
         still = λ used is there. pass.used.still used is (cut.stays.used.still used is there);
         before = λ used is there. cut.stays.used.before used is (pass.used.before used is there);
       };
-      kept = keeps_on cut.stays.kept
-          (kept_among (extents_in (state_of word old)) (λ block is there. cut.stays.used.still block is there) pass.kept);
-      words = λ k inside was own recorded.
-          pass.words k inside (λ f. was (record { at = f.at; size = f.size; free = (cut.stays.free.was f.at f.size f.free (λ none. none)).0; low = f.low; high = f.high })) (λ r. recorded (record { extent = r.extent; there = cut.stays.records r.extent r.is r.there; is = r.is; low = r.low; high = r.high }))
-          ∙ cut.stays.words k (inside_middle k inside)
-          (λ is. own (inl (record { extent = extent middle.top middle.top_size Top; there = top_found; is = inl is })))
+      kept = keeps_on cut.stays.kept (kept_among (extents_in (state_of word old)) (λ block is there. cut.stays.used.still block is there) pass.kept);
+      words = λ k inside was own recorded. pass.words k inside
+          (λ f. was (record { at = f.at; size = f.size; free = (cut.stays.free.was f.at f.size f.free (λ none. none)).0; low = f.low; high = f.high })) (λ r.
+          recorded (record { extent = r.extent; there = cut.stays.records r.extent r.is r.there; is = r.is; low = r.low; high = r.high })) ∙ cut.stays.words k
+          (inside_middle k inside) (λ is. own (inl (record { extent = extent middle.top middle.top_size Top; there = top_found; is = inl is })))
           (λ is. own (inl (record { extent = extent (middle.top + middle.top_size) 80 Foot; there = foot_found; is = inl is })));
       index = index;
       regions_are = pass.regions_are ∙ ((λ i. regions_without (taken_back frees (handed_same i)) (cut.regions_are i))
-          ∙ sym (ap (λ b. if b then regions_without (taken_back frees (handed_out parts (segments_of word old))) (regions_cut parts unit pad (state_of word old) (regions old.system)) else regions old.system) made));
+          ∙ sym (ap (λ b. if b then regions_without (taken_back frees (handed_out parts (segments_of word old)))
+          (regions_cut parts unit pad (state_of word old) (regions old.system)) else regions old.system) made));
       followed = subst (λ es. follows old.system es after.system)
-          ((λ i. cut_off parts unit pad (state_of word old) ++ releases (taken_back frees (handed_same i)))
-          ∙ sym (ap (λ b. if b then cut_off parts unit pad (state_of word old) ++ releases (taken_back frees (handed_out parts (segments_of word old))) else []) made)) followed;
+          ((λ i. cut_off parts unit pad (state_of word old) ++ releases (taken_back frees (handed_same i))) ∙ sym (ap (λ b. if b then cut_off parts unit pad
+          (state_of word old) ++ releases (taken_back frees (handed_out parts (segments_of word old))) else []) made)) followed;
     }
 
 -- ---- giving up
@@ -179,10 +190,11 @@ module _ {A : Type 0} {regions : A → List Grant} {word : A → ℕ → ℕ} {h
   }
 
   pub gave_up : 0 < heap.size → state_of word (record heap { trim_check = if nat_lt heap.trim_check heap.top_size then 2 ^ 64 - 1 else heap.trim_check }) ≡ given_up (state_of word heap)
-  gave_up some = go (nat_lt heap.trim_check heap.top_size)
-      ∙ sym (ap (λ top. if nat_lt heap.trim_check top then record (state_of word heap) { trim_check = 2 ^ 64 - 1 } else state_of word heap) (top_size_is sound some))
+  gave_up some = go (nat_lt heap.trim_check heap.top_size) ∙ sym
+      (ap (λ top. if nat_lt heap.trim_check top then record (state_of word heap) { trim_check = 2 ^ 64 - 1 } else state_of word heap) (top_size_is sound some))
     where
-      go : (b : Bool) → state_of word (record heap { trim_check = if b then 2 ^ 64 - 1 else heap.trim_check }) ≡ (if b then record (state_of word heap) { trim_check = 2 ^ 64 - 1 } else state_of word heap)
+      go : (b : Bool) → state_of word (record heap { trim_check = if b then 2 ^ 64 - 1 else heap.trim_check }) ≡ (if b then record (state_of word heap)
+          { trim_check = 2 ^ 64 - 1 } else state_of word heap)
       go true = refl
       go false = refl
 
@@ -197,13 +209,13 @@ limit_small g least = go (g == 16)
 
 -- ---- both ends of a trim that is made, of a system whose laws are these
 
-module _ {A : Type 0} {regions : A → List Grant} {word : A → ℕ → ℕ} {follows : A → List Event → A → Type 0} (zeros frees parts : A → Bool) (unit : A → ℕ)
-    (fixed : (x y : A) (events : List Event) → follows x events y → IsFixed zeros frees parts unit x y)
-    (follows_on : (x y z : A) (a b c : List Event) → follows x a y → follows y b z → a ++ b ≡ c → follows x c z)
-    {pad : ℕ} {old middle after : Dlmalloc A} (some_old : 0 < old.size) (small : pad < limit old.granularity)
-    (cut : IsCutBack regions word follows (parts old.system) (unit old.system) old pad middle) (some : 0 < middle.size) {bytes : ℕ}
-    (given : IsPassed regions word follows (frees middle.system) (parts middle.system) middle bytes after)
-    {is_cut_off : Bool} (is : is_cut_off ≡ is_cut (parts old.system) (unit old.system) pad (state_of word old)) (kept : IsReindexed regions word (λ index. index) old middle) where
+module _ {A : Type 0} {regions : A → List Grant} {word : A → ℕ → ℕ} {follows : A → List Event → A → Type 0} (zeros frees parts : A → Bool)
+    (unit : A → ℕ) (fixed : (x y : A) (events : List Event) → follows x events y → IsFixed zeros frees parts unit x y) (follows_on : (x y z : A)
+    (a b c : List Event) → follows x a y → follows y b z → a ++ b ≡ c → follows x c z) {pad : ℕ} {old middle after : Dlmalloc A}
+    (some_old : 0 < old.size) (small : pad < limit old.granularity) (cut : IsCutBack regions word follows (parts old.system) (unit old.system) old pad middle)
+    (some : 0 < middle.size) {bytes : ℕ} (given : IsPassed regions word follows (frees middle.system) (parts middle.system) middle bytes after)
+    {is_cut_off : Bool} (is : is_cut_off ≡ is_cut (parts old.system) (unit old.system) pad (state_of word old))
+    (kept : IsReindexed regions word (λ index. index) old middle) where
   same : IsFixed zeros frees parts unit old.system middle.system
   same = fixed old.system middle.system (cut_off (parts old.system) (unit old.system) pad (state_of word old)) cut.followed
 
@@ -215,7 +227,8 @@ module _ {A : Type 0} {regions : A → List Grant} {word : A → ℕ → ℕ} {f
   events = cut_off (parts old.system) (unit old.system) pad (state_of word old) ++ releases (taken_back (frees old.system) (handed_out (parts old.system) (segments_of word middle)))
 
   joined : follows old.system events after.system
-  joined = follows_on old.system middle.system after.system (cut_off (parts old.system) (unit old.system) pad (state_of word old)) (releases (taken_back (frees old.system) (handed_out (parts old.system) (segments_of word middle)))) events cut.followed pass.followed refl
+  joined = follows_on old.system middle.system after.system (cut_off (parts old.system) (unit old.system) pad (state_of word old))
+      (releases (taken_back (frees old.system) (handed_out (parts old.system) (segments_of word middle)))) events cut.followed pass.followed refl
 
   -- what the pass makes of the index
   index_now : IsReindexed regions word (after_trim (frees old.system) (parts old.system) pad (state_of word old)) old after
@@ -223,11 +236,10 @@ module _ {A : Type 0} {regions : A → List Grant} {word : A → ℕ → ℕ} {f
       let was = kept b in
       let a = pass.index was.0 in (
         a.0,
-        λ n. a.1 n
-            ∙ (ap (λ segments. after_pass (frees old.system) (parts old.system) segments was.0.index n) (ap (λ s. s.segments) cut.state)
+        λ n. a.1 n ∙ (ap (λ segments. after_pass (frees old.system) (parts old.system) segments was.0.index n) (ap (λ s. s.segments) cut.state)
             ∙ (pass_cut word old (frees old.system) (parts old.system) (unit old.system) pad was.0.index n
-            ∙ (pass_same (frees old.system) (parts old.system) (segments_of word old) was.0.index b.index was.1 n
-            ∙ sym (ap (λ t. (if t then after_pass (frees old.system) (parts old.system) (segments_of word old) b.index else b.index) n) (is_made word old pad small some_old))))),
+            ∙ (pass_same (frees old.system) (parts old.system) (segments_of word old) was.0.index b.index was.1 n ∙ sym (ap (λ t. (if t then after_pass
+            (frees old.system) (parts old.system) (segments_of word old) b.index else b.index) n) (is_made word old pad small some_old))))),
       )
 
   pub trim_gave : (is_cut_off || nat_lt 0 bytes) ≡ true → IsTrimmed regions word follows (frees old.system) (parts old.system) (unit old.system) old pad true after
@@ -240,13 +252,14 @@ module _ {A : Type 0} {regions : A → List Grant} {word : A → ℕ → ℕ} {f
       go : (b : Bool) → (after.size == 0) ≡ b → 0 < after.size
       go true none =
           let top = top_found (is_made word old pad small some_old) cut some pass in
-          let isnt : None ≡ Some (extent middle.top middle.top_size Top) = ap (λ ss. extent_at middle.top (extents_all ss)) (sym (no_segments word after (grind (arith, nat_tests)))) ∙ top in
+          let isnt : None ≡ Some (extent middle.top middle.top_size Top) = ap (λ ss. extent_at middle.top (extents_all ss))
+          (sym (no_segments word after (grind (arith, nat_tests)))) ∙ top in
           absurd (cc)
       go false some = grind (arith, nat_tests)
 
-  pub trim_gave_up : (is_cut_off || nat_lt 0 bytes) ≡ false → IsTrimmed regions word follows (frees old.system) (parts old.system) (unit old.system) old pad false
-      (record after { trim_check = if nat_lt after.trim_check after.top_size then 2 ^ 64 - 1 else after.trim_check })
-  trim_gave_up isnt = is_done (is_made word old pad small some_old) cut some pass
-      (if nat_lt after.trim_check after.top_size then 2 ^ 64 - 1 else after.trim_check) (sym isnt ∙ (answer (is_made word old pad small some_old) cut some pass is))
+  pub trim_gave_up : (is_cut_off || nat_lt 0 bytes) ≡ false → IsTrimmed regions word follows (frees old.system) (parts old.system)
+      (unit old.system) old pad false (record after { trim_check = if nat_lt after.trim_check after.top_size then 2 ^ 64 - 1 else after.trim_check })
+  trim_gave_up isnt = is_done (is_made word old pad small some_old) cut some pass (if nat_lt after.trim_check after.top_size then 2 ^ 64 - 1
+      else after.trim_check) (sym isnt ∙ (answer (is_made word old pad small some_old) cut some pass is))
       (checked_sound pass.sound (if nat_lt after.trim_check after.top_size then 2 ^ 64 - 1 else after.trim_check)) (gave_up pass.sound after_some) joined
       (λ b. (let a = index_now b in (same_check (if nat_lt after.trim_check after.top_size then 2 ^ 64 - 1 else after.trim_check) a.0, a.1)))

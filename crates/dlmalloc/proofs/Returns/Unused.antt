@@ -18,15 +18,18 @@ left_of : (part whole : ℕ) → 96 < whole → (part == whole - 80) ≡ (part +
 left_of part whole long = grind (arith, nat_tests)
 
 -- what is found of a free extent and a record behind it
-pub two_found : (base size at end : ℕ) (k : ℕ) {one : Extent} → extent_at k (extent base size Free ∷ record_of at end ∷ []) ≡ Some one → ((one.kind ≡ Free) × (base ≡ k)) ⊎ (one.kind ≡ Record)
+pub two_found : (base size at end : ℕ) (k : ℕ) {one : Extent} → extent_at k (extent base size Free ∷ record_of at end ∷ []) ≡ Some one →
+    ((one.kind ≡ Free) × (base ≡ k)) ⊎ (one.kind ≡ Record)
 two_found base size at end k {one} there = go (base == k) refl (at == k) there
   where
-    go : (b : Bool) → (base == k) ≡ b → (c : Bool) → (if b then Some (extent base size Free) else if c then Some (record_of at end) else None) ≡ Some one → ((one.kind ≡ Free) × (base ≡ k)) ⊎ (one.kind ≡ Record)
+    go : (b : Bool) → (base == k) ≡ b → (c : Bool) → (if b then Some (extent base size Free) else if c then Some (record_of at end) else None) ≡ Some
+        one → ((one.kind ≡ Free) × (base ≡ k)) ⊎ (one.kind ≡ Record)
     go true is c found = inl (ap (λ e. e.kind) (sym (the_extent found)), nat_is is)
     go false isnt true found = inr (ap (λ e. e.kind) (sym (the_extent found)))
     go false isnt false found = absurd (cc)
 
-module _ {regions : List Grant} {words : ℕ → ℕ} {segment : Segment} (part : IsSegment regions words segment) (at : ℕ) (there : extent_at at segment.extents ≡ Some (record_of at (segment.base + segment.size))) where
+module _ {regions : List Grant} {words : ℕ → ℕ} {segment : Segment} (part : IsSegment regions words segment) (at : ℕ)
+    (there : extent_at at segment.extents ≡ Some (record_of at (segment.base + segment.size))) where
   abbrev end : ℕ
   end = segment.base + segment.size
 
@@ -67,7 +70,8 @@ module _ {regions : List Grant} {words : ℕ → ℕ} {segment : Segment} (part 
       go : (chunks : List Extent) → Tiles words Used segment.base chunks at → AreChunks chunks → segment.extents ≡ chunks ++ record_of at end ∷ [] →
           (free_of (words (segment.base + 8)) && size_of (words (segment.base + 8)) == segment.size - 80) ≡ is_unused segment
       go [] h are is =
-          let used : free_of (words (segment.base + 8)) ≡ false = ap (λ a. free_of (words (a + 8))) h ∙ (ap free_of record_in.stands.head ∙ record_in_use 48 (is_used record_in.before) refl) in
+          let used : free_of (words (segment.base + 8)) ≡ false = ap (λ a. free_of (words (a + 8))) h
+          ∙ (ap free_of record_in.stands.head ∙ record_in_use 48 (is_used record_in.before) refl) in
           ap (λ b. b && size_of (words (segment.base + 8)) == segment.size - 80) used ∙ sym (ap (λ es. is_unused (with_extents segment es)) is)
       go (chunk ∷ chunks) h are is =
           let same : extent segment.base (size_of (words (segment.base + 8))) (kind_of (words (segment.base + 8))) ≡ chunk =
@@ -89,12 +93,13 @@ module _ {regions : List Grant} {words : ℕ → ℕ} {segment : Segment} (part 
       both true c h = (refl, h)
       both false c h = absurd (cc)
 
-      go : (chunks : List Extent) → Tiles words Used segment.base chunks at → AreChunks chunks → is_unused (with_extents segment (chunks ++ record_of at end ∷ [])) ≡ true →
-          chunks ++ record_of at end ∷ [] ≡ extent segment.base (segment.size - 80) Free ∷ record_of at end ∷ []
+      go : (chunks : List Extent) → Tiles words Used segment.base chunks at → AreChunks chunks → is_unused (with_extents segment (chunks ++ record_of at
+          end ∷ [])) ≡ true → chunks ++ record_of at end ∷ [] ≡ extent segment.base (segment.size - 80) Free ∷ record_of at end ∷ []
       go [] h are test = absurd (cc)
       go (chunk ∷ chunks) h are test =
           let b = both (is_free_below_top chunk.kind) (chunk.size + 80 == segment.size) test in
           let size = nat_is b.1 in
           let none : chunks ≡ [] = none_left words chunk.kind (segment.base + chunk.size) chunks at (omega (arith, long)) h.2 in
-          let same : chunk ≡ extent segment.base (segment.size - 80) Free = same_extent {at = chunk.at} {at' = segment.base} {size = chunk.size} {size' = segment.size - 80} {kind = chunk.kind} {kind' = Free} h.0 (omega arith) (of_kind chunk.kind are.0 b.0) in
+          let same : chunk ≡ extent segment.base (segment.size - 80) Free = same_extent {at = chunk.at} {at' = segment.base} {size = chunk.size}
+          {size' = segment.size - 80} {kind = chunk.kind} {kind' = Free} h.0 (omega arith) (of_kind chunk.kind are.0 b.0) in
           λ i. same i ∷ (none i ++ record_of at end ∷ [])

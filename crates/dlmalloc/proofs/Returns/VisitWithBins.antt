@@ -12,7 +12,8 @@ use Rattle.dlmalloc.proofs.Returns.ReleasePass.{left_on}
 -- ---- the chain of records stays where words of free chunks change
 
 module _ {A : Type 0} {regions : A → List Grant} {word : A → ℕ → ℕ} {heap : Dlmalloc A} (sound : IsSound regions word heap) (new : Dlmalloc A)
-    (state : state_of word new ≡ state_of word heap) (next : new.next ≡ heap.next) (only : OnlyFreeChange (regions heap.system) (state_of word heap) (word heap.system) (word new.system)) where
+    (state : state_of word new ≡ state_of word heap) (next : new.next ≡ heap.next)
+    (only : OnlyFreeChange (regions heap.system) (state_of word heap) (word heap.system) (word new.system)) where
   abbrev words : ℕ → ℕ
   words = word heap.system
 
@@ -23,20 +24,23 @@ module _ {A : Type 0} {regions : A → List Grant} {word : A → ℕ → ℕ} {h
   granted = regions heap.system
 
   -- the words of a record's payload are in no free extent
-  record_stays : (front : List Segment) {segment : Segment} (back : List Segment) → segments_of word heap ≡ front ++ segment ∷ back → IsSegment granted words segment → (payload : ℕ) → 16 < payload →
-      extent_at (payload - 16) segment.extents ≡ Some (record_of (payload - 16) (segment.base + segment.size)) → (k : ℕ) → payload ≤ k → k < payload + 32 → k % 8 ≡ 0 → now k ≡ words k
-  record_stays front {segment} back is part payload some there k low high m = only k (payload_word part payload some there k low high m) (λ at size free. out at size
-      (same_or_beside sound free (among_all granted words sound.segments sound.apart front segment back is (payload - 16) there)))
+  record_stays : (front : List Segment) {segment : Segment} (back : List Segment) → segments_of word heap ≡ front ++ segment ∷ back →
+      IsSegment granted words segment → (payload : ℕ) → 16 < payload → extent_at (payload - 16) segment.extents ≡ Some
+      (record_of (payload - 16) (segment.base + segment.size)) → (k : ℕ) → payload ≤ k → k < payload + 32 → k % 8 ≡ 0 → now k ≡ words k
+  record_stays front {segment} back is part payload some there k low high m = only k (payload_word part payload some there k low high m)
+      (λ at size free. out at size (same_or_beside sound free (among_all granted words sound.segments sound.apart front segment back is (payload - 16) there)))
     where
       room : payload + 64 ≤ segment.base + segment.size
       room = payload_high part payload some there
 
-      out : (at size : ℕ) → (record_of (payload - 16) (segment.base + segment.size) ≡ record { at = at; size = size; kind = Free }) ⊎ ((payload - 16 + (segment.base + segment.size - (payload - 16)) ≤ at) ⊎ (at + size ≤ payload - 16)) → (k < at + 16) ⊎ (at + size ≤ k)
+      out : (at size : ℕ) → (record_of (payload - 16) (segment.base + segment.size) ≡ record { at = at; size = size; kind = Free })
+          ⊎ ((payload - 16 + (segment.base + segment.size - (payload - 16)) ≤ at) ⊎ (at + size ≤ payload - 16)) → (k < at + 16) ⊎ (at + size ≤ k)
       out at size (inl is) = absurd (let no : Record ≡ Free = ap (λ e. e.kind) is in cc)
       out at size (inr (inl before)) = inl (omega (arith, room))
       out at size (inr (inr behind)) = inr (omega arith)
 
-  pub records_still : (front segments : List Segment) → segments_of word heap ≡ front ++ segments → AreSegments granted words segments → (payload : ℕ) → AreRecords words payload segments → AreRecords now payload segments
+  pub records_still : (front segments : List Segment) → segments_of word heap ≡ front ++ segments → AreSegments granted words segments →
+      (payload : ℕ) → AreRecords words payload segments → AreRecords now payload segments
   records_still front [] is parts payload h = h
   records_still front (segment ∷ segments) is parts payload h =
       let rest = records_still (front ++ segment ∷ []) segments (is ∙ sym (append_assoc front (segment ∷ []) segments)) parts.1 (words (payload + 16)) h.5 in (
@@ -54,14 +58,17 @@ module _ {A : Type 0} {regions : A → List Grant} {word : A → ℕ → ℕ} {h
       keeps : (k : ℕ) → payload ≤ k → k < payload + 32 → k % 8 ≡ 0 → now k ≡ words k
       keeps = record_stays front segments is parts.0 payload h.0 h.4
 
-  behind_still : (front first rest : List Segment) → segments_of word heap ≡ front ++ (first ++ rest) → AreSegments granted words (first ++ rest) → (payload : ℕ) → AreRecords words payload (first ++ rest) → payload_behind words payload first ≡ payload_behind now payload first
+  behind_still : (front first rest : List Segment) → segments_of word heap ≡ front ++ (first ++ rest) → AreSegments granted words (first ++ rest) →
+      (payload : ℕ) → AreRecords words payload (first ++ rest) → payload_behind words payload first ≡ payload_behind now payload first
   behind_still front [] rest is parts payload h = refl
   behind_still front (segment ∷ first) rest is parts payload h =
       behind_still (front ++ segment ∷ []) first rest (is ∙ sym (append_assoc front (segment ∷ []) (first ++ rest))) parts.1 (words (payload + 16)) h.5
-      ∙ ap (λ p. payload_behind now p first) (sym (record_stays front (first ++ rest) is parts.0 payload h.0 h.4 (payload + 16) (omega arith) (omega arith) (omega (arith, payload_whole parts.0 payload h.0 h.4))))
+      ∙ ap (λ p. payload_behind now p first) (sym (record_stays front (first ++ rest) is parts.0 payload h.0 h.4 (payload + 16) (omega arith) (omega arith)
+      (omega (arith, payload_whole parts.0 payload h.0 h.4))))
 
   -- what tells the next record
-  pub linked_still : (head : Segment) (front back : List Segment) → segments_of word heap ≡ head ∷ (front ++ back) → (before payload : ℕ) → IsLinked words heap.next before payload front → IsLinked now new.next before payload front
+  pub linked_still : (head : Segment) (front back : List Segment) → segments_of word heap ≡ head ∷ (front ++ back) →
+      (before payload : ℕ) → IsLinked words heap.next before payload front → IsLinked now new.next before payload front
   linked_still head front back is before payload (inl h) = inl (h.0, h.1, h.2 ∙ sym next)
   linked_still head front back is before payload (inr l) = inr (record {
     first = l.first;
@@ -116,14 +123,16 @@ module _ {A : Type 0} {regions : A → List Grant} {word : A → ℕ → ℕ} {h
     back = c.back;
     payload = c.payload;
     is = ap (λ s. s.segments) state ∙ c.is;
-    records = records_still (c.head ∷ c.front) (c.segment ∷ c.back) c.is (all_back (IsSegment granted words) (c.head ∷ c.front) (c.segment ∷ c.back) (subst (AreSegments granted words) c.is sound.segments)) c.payload c.records;
+    records = records_still (c.head ∷ c.front) (c.segment ∷ c.back) c.is (all_back (IsSegment granted words) (c.head ∷ c.front) (c.segment ∷ c.back)
+        (subst (AreSegments granted words) c.is sound.segments)) c.payload c.records;
     linked = linked_still c.head c.front (c.segment ∷ c.back) c.is before c.payload c.linked;
     read = read_still c;
   }
 
 -- ---- chunks went into bins, or left them
 
-module _ {A : Type 0} {regions : A → List Grant} {word : A → ℕ → ℕ} {follows : A → List Event → A → Type 0} {heap new : Dlmalloc A} (sound : IsSound regions word heap) (same : IsRebinned regions word follows heap new) where
+module _ {A : Type 0} {regions : A → List Grant} {word : A → ℕ → ℕ} {follows : A → List Event → A → Type 0} {heap new : Dlmalloc A}
+    (sound : IsSound regions word heap) (same : IsRebinned regions word follows heap new) where
   pub next_same : new.next ≡ heap.next
   next_same = ap (λ h. h.next) same.fields
 
@@ -146,19 +155,21 @@ module _ {A : Type 0} {regions : A → List Grant} {word : A → ℕ → ℕ} {f
 
   -- the same words of the heap before are changed back
   only_back : OnlyFreeChange (regions new.system) (state_of word new) (word new.system) (word heap.system)
-  only_back = λ k inside out. sym (same.words k (subst (λ rs. IsWordOf rs k) same.regions_same inside) (λ at size free. out at size (subst (λ s. IsFreeAt s at size) (sym same.state) free)))
+  only_back = λ k inside out. sym (same.words k (subst (λ rs. IsWordOf rs k) same.regions_same inside)
+      (λ at size free. out at size (subst (λ s. IsFreeAt s at size) (sym same.state) free)))
 
   -- a segment may leave as before
-  pub may_still : (parts : Bool) {before : ℕ} {told : SegmentRecord} →
-      (told.flags % 2 == 0 && (parts && (free_of (word heap.system (told.base + 8)) && size_of (word heap.system (told.base + 8)) == told.size - 80))) ≡ true → (c : IsChained word new before told) → may_leave parts c.segment ≡ true
+  pub may_still : (parts : Bool) {before : ℕ} {told : SegmentRecord} → (told.flags % 2 == 0 && (parts && (free_of (word heap.system (told.base + 8)) &&
+      size_of (word heap.system (told.base + 8)) == told.size - 80))) ≡ true → (c : IsChained word new before told) → may_leave parts c.segment ≡ true
   may_still parts test c =
       sym (test_is sound (chained_on same.sound heap (sym same.state) (sym next_same) only_back c) parts) ∙ test
 
 module _ {A : Type 0} {regions : A → List Grant} {word : A → ℕ → ℕ} (follows : A → List Event → A → Type 0)
-    (follows_on : (x y z : A) (a b c : List Event) → follows x a y → follows y b z → a ++ b ≡ c → follows x c z) {heap : Dlmalloc A} (sound : IsSound regions word heap) {before : ℕ} {told : SegmentRecord} (c : IsChained word heap before told) where
+    (follows_on : (x y z : A) (a b c : List Event) → follows x a y → follows y b z → a ++ b ≡ c → follows x c z) {heap : Dlmalloc A}
+    (sound : IsSound regions word heap) {before : ℕ} {told : SegmentRecord} (c : IsChained word heap before told) where
   -- chunks left bins before a visit
-  pub visited_then : {middle : Dlmalloc A} (same : IsRebinned regions word follows heap middle) {handed leaves : Bool} {new : Dlmalloc A} →
-      IsVisited regions word follows handed leaves middle before told (chained_then sound same c) new → IsVisited regions word follows handed leaves heap before told c new
+  pub visited_then : {middle : Dlmalloc A} (same : IsRebinned regions word follows heap middle) {handed leaves : Bool} {new : Dlmalloc A} → IsVisited regions
+      word follows handed leaves middle before told (chained_then sound same c) new → IsVisited regions word follows handed leaves heap before told c new
   visited_then same {handed} v = record {
     segments = v.segments;
     records = v.records;
@@ -172,11 +183,13 @@ module _ {A : Type 0} {regions : A → List Grant} {word : A → ℕ → ℕ} (f
   }
 
   -- they went into bins behind one that stays
-  pub visited_binned : {handed : Bool} (new : Dlmalloc A) {last : Dlmalloc A} → IsVisited regions word follows handed false heap before told c new → IsRebinned regions word follows new last → IsVisited regions word follows handed false heap before told c last
+  pub visited_binned : {handed : Bool} (new : Dlmalloc A) {last : Dlmalloc A} → IsVisited regions word follows handed false heap before told c new →
+      IsRebinned regions word follows new last → IsVisited regions word follows handed false heap before told c last
   visited_binned new {last} v same = record {
     segments = ap (λ s. s.segments) same.state ∙ v.segments;
     records = records_still v.left.sound last same.state next_same same.words (c.head ∷ (c.front ++ c.segment ∷ [])) c.back split
-        (all_back (IsSegment (regions new.system) (word new.system)) (c.head ∷ (c.front ++ c.segment ∷ [])) c.back (subst (AreSegments (regions new.system) (word new.system)) split v.left.sound.segments)) told.next v.records;
+        (all_back (IsSegment (regions new.system) (word new.system)) (c.head ∷ (c.front ++ c.segment ∷ [])) c.back
+        (subst (AreSegments (regions new.system) (word new.system)) split v.left.sound.segments)) told.next v.records;
     linked = linked_still v.left.sound last same.state next_same same.words c.head (c.front ++ c.segment ∷ []) c.back split c.payload told.next v.linked;
     victim = ap (λ h. h.victim) same.fields ∙ v.victim;
     left = left_on regions word follows follows_on v.left (none_left v.left.sound same);
@@ -194,8 +207,9 @@ module _ {A : Type 0} {regions : A → List Grant} {word : A → ℕ → ℕ} (f
 
 -- ---- the bins where a segment is handed out whose first chunk is in none
 
-module _ {A : Type 0} {regions : A → List Grant} {word : A → ℕ → ℕ} {follows : A → List Event → A → Type 0} {old new : Dlmalloc A} (sound : IsSound regions word old) {before : ℕ} {told : SegmentRecord} {c : IsChained word old before told}
-    {leaves : Bool} (visited : IsVisited regions word follows true leaves old before told c new) where
+module _ {A : Type 0} {regions : A → List Grant} {word : A → ℕ → ℕ} {follows : A → List Event → A → Type 0} {old new : Dlmalloc A}
+    (sound : IsSound regions word old) {before : ℕ} {told : SegmentRecord} {c : IsChained word old before told} {leaves : Bool}
+    (visited : IsVisited regions word follows true leaves old before told c new) where
   base_is : told.base ≡ c.segment.base
   base_is = ap (λ t. t.base) c.read ∙ c.records.1
 
@@ -204,7 +218,8 @@ module _ {A : Type 0} {regions : A → List Grant} {word : A → ℕ → ℕ} {f
 
   -- it begins behind the first page
   base_some : 4096 ≤ told.base
-  base_some = subst (λ base. 4096 ≤ base) (sym base_is) (all_at (IsSegment (regions old.system) (word old.system)) (c.head ∷ c.front) c.segment c.back (subst (AreSegments (regions old.system) (word old.system)) c.is sound.segments)).low
+  base_some = subst (λ base. 4096 ≤ base) (sym base_is) (all_at (IsSegment (regions old.system) (word old.system)) (c.head ∷ c.front) c.segment c.back
+      (subst (AreSegments (regions old.system) (word old.system)) c.is sound.segments)).low
 
   -- its first chunk is not the victim any more
   pub not_victim : told.base ≢ new.victim
@@ -230,9 +245,10 @@ module _ {A : Type 0} {regions : A → List Grant} {word : A → ℕ → ℕ} {f
       go true test = (let none : k ≡ 0 = is ∙ victim test in let low = (is_chunk sound free).low in absurd (omega arith))
       go false test = other (is ∙ victim test)
 
-module _ (index_stays : IndexStays) {A : Type 0} {regions : A → List Grant} {word : A → ℕ → ℕ} {follows : A → List Event → A → Type 0} {old new : Dlmalloc A} (sound : IsSound regions word old) {before : ℕ} {told : SegmentRecord} {c : IsChained word old before told}
-    {leaves : Bool} (visited : IsVisited regions word follows true leaves old before told c new)
-    (words : (k : ℕ) → IsWordOf (regions new.system) k → (IsInRecord (state_of word old) k → ⊥) → word new.system k ≡ word old.system k) (bins : new.bins ≡ old.bins) where
+module _ (index_stays : IndexStays) {A : Type 0} {regions : A → List Grant} {word : A → ℕ → ℕ} {follows : A → List Event → A → Type 0}
+    {old new : Dlmalloc A} (sound : IsSound regions word old) {before : ℕ} {told : SegmentRecord} {c : IsChained word old before told} {leaves : Bool}
+    (visited : IsVisited regions word follows true leaves old before told c new) (words : (k : ℕ) → IsWordOf (regions new.system) k →
+    (IsInRecord (state_of word old) k → ⊥) → word new.system k ≡ word old.system k) (bins : new.bins ≡ old.bins) where
   -- it stays, and is in no bin
   abbrev pub loose_still : FreeMoves (state_of word old) (state_of word new) [] [] → IsBinnedBut (told.base ∷ []) regions word old → IsBinnedBut (told.base ∷ []) regions word new
   loose_still moves = binned_moved index_stays sound visited.left.sound (λ k was is boundary tag tag'. words k is tag) bins (told.base ∷ []) (told.base ∷ []) [] [] moves (record {

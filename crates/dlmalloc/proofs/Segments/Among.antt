@@ -30,7 +30,8 @@ module _ (Is : Segment → Type 0) where
   all_back [] back all = all
   all_back (first ∷ front) back all = all_back front back all.1
 
-  pub all_with : (front : List Segment) (segment other : Segment) (back : List Segment) → (Is segment → Is other) → AllByRecursion Is (front ++ segment ∷ back) → AllByRecursion Is (front ++ other ∷ back)
+  pub all_with : (front : List Segment) (segment other : Segment) (back : List Segment) →
+      (Is segment → Is other) → AllByRecursion Is (front ++ segment ∷ back) → AllByRecursion Is (front ++ other ∷ back)
   all_with [] segment other back each all = (each all.0, all.1)
   all_with (first ∷ front) segment other back each all = (all.0, all_with front segment other back each all.1)
 
@@ -89,23 +90,23 @@ as_many (first ∷ front) one other back = ap suc (as_many front one other back)
 
 -- ---- each extent begins at an address of its own
 
-pub none_there : (regions : List Grant) (words : ℕ → ℕ) (segment : Segment) (segments : List Segment) → AreSegments regions words segments → AllByRecursion (IsApartFrom segment) segments →
+pub none_there : (regions : List Grant) (words : ℕ → ℕ) (segment : Segment) (segments : List Segment) → AreSegments regions words segments →
+    AllByRecursion (IsApartFrom segment) segments →
     (k : ℕ) → segment.base ≤ k → k < segment.base + segment.size → extent_at k (extents_all segments) ≡ None
 none_there regions words segment [] parts apart k low high = refl
 none_there regions words segment (other ∷ segments) parts apart k low high =
-    found_later k other.extents (extents_all segments) (none_outside words Used other.base other.extents (other.base + other.size) k (out apart.0) parts.0.extents)
-    ∙ none_there regions words segment segments parts.1 apart.1 k low high
+    found_later k other.extents (extents_all segments) (none_outside words Used other.base other.extents (other.base + other.size) k
+    (out apart.0) parts.0.extents) ∙ none_there regions words segment segments parts.1 apart.1 k low high
   where
     out : IsApartFrom segment other → (k < other.base) ⊎ (other.base + other.size ≤ k)
     out (inl before) = inl (omega arith)
     out (inr behind) = inr (omega arith)
 
-distinct_append : (words : ℕ → ℕ) (before : Kind) (from : ℕ) (extents : List Extent) (to : ℕ) (others : List Extent) → Tiles words before from extents to →
-    ((k : ℕ) → from ≤ k → k < to → extent_at k others ≡ None) → AreDistinct others → AreDistinct (extents ++ others)
+distinct_append : (words : ℕ → ℕ) (before : Kind) (from : ℕ) (extents : List Extent) (to : ℕ) (others : List Extent) → Tiles words before from
+    extents to → ((k : ℕ) → from ≤ k → k < to → extent_at k others ≡ None) → AreDistinct others → AreDistinct (extents ++ others)
 distinct_append words before from [] to others h none distinct = distinct
 distinct_append words before from (extent ∷ extents) to others h none distinct =
-    let long = (sized extent.kind extent.size h.1.size).1 in
-    let place = h.0 in
+    let long = (sized extent.kind extent.size h.1.size).1 in let place = h.0 in
     let later = tiles_le words extent.kind (from + extent.size) extents to h.2 in (
       found_later extent.at extents others (none_outside words extent.kind (from + extent.size) extents to extent.at (inl (omega arith)) h.2) ∙ none extent.at (omega arith) (omega arith),
       distinct_append words extent.kind (from + extent.size) extents to others h.2 (λ k low high. none k (omega arith) high) distinct,
@@ -133,7 +134,8 @@ pub record IsIn (words : ℕ → ℕ) (from to : ℕ) (extent : Extent) : Type 0
   pub before : Kind
   pub stands : HasChunk words before extent
 
-pub in_part : (words : ℕ → ℕ) (before : Kind) (from : ℕ) (extents : List Extent) (to : ℕ) {extent : Extent} → Tiles words before from extents to → extent_at extent.at extents ≡ Some extent → IsIn words from to extent
+pub in_part : (words : ℕ → ℕ) (before : Kind) (from : ℕ) (extents : List Extent) (to : ℕ) {extent : Extent} → Tiles words before from extents to →
+    extent_at extent.at extents ≡ Some extent → IsIn words from to extent
 in_part words before from extents to {extent} h there =
     let f = found extent.at extent extents there in
     let s = tiles_split words before from f.front (extent ∷ f.back) to (subst (λ es. Tiles words before from es to) f.is h) in
@@ -143,10 +145,10 @@ in_part words before from extents to {extent} h there =
     record { low = omega arith; high = omega arith; before = last_kind before f.front; stands = s.second.1 }
 
 -- what is found in one of the segments is found among all
-pub among_all : (regions : List Grant) (words : ℕ → ℕ) {segments : List Segment} → AreSegments regions words segments → AreApart segments → (front : List Segment) (segment : Segment) (back : List Segment) → segments ≡ front ++ segment ∷ back → (k : ℕ) {one : Extent} →
-    extent_at k segment.extents ≡ Some one → extent_at k (extents_all segments) ≡ Some one
+pub among_all : (regions : List Grant) (words : ℕ → ℕ) {segments : List Segment} → AreSegments regions words segments → AreApart segments →
+    (front : List Segment) (segment : Segment) (back : List Segment) → segments ≡ front ++ segment ∷ back →
+    (k : ℕ) {one : Extent} → extent_at k segment.extents ≡ Some one → extent_at k (extents_all segments) ≡ Some one
 among_all regions words {segments} parts apart front segment back is k there =
     ap (λ ss. extent_at k (extents_all ss)) is ∙ (ap (extent_at k) (all_among front segment back)
-    ∙ distinct_later (extents_all front) (segment.extents ++ extents_all back) k
-    (subst AreDistinct (ap extents_all is ∙ all_among front segment back) (all_distinct regions words segments parts apart))
-    (found_more k segment.extents (extents_all back) there))
+    ∙ distinct_later (extents_all front) (segment.extents ++ extents_all back) k (subst AreDistinct (ap extents_all is ∙ all_among front segment back)
+    (all_distinct regions words segments parts apart)) (found_more k segment.extents (extents_all back) there))

@@ -56,30 +56,36 @@ module _ {A : Type 0} {regions : A → List Grant} {word : A → ℕ → ℕ} {h
   exchanged_found k there = ap (extent_at k) extents_now ∙ distinct_later it.ahead (it.first ++ (it.more ++ it.last)) k distinct_all there
 
   -- what is found still is, but for what gave way
-  pub exchanged_still : (k : ℕ) {one : Extent} → (extent_at k it.less ≡ Some one → ⊥) → extent_at k (extents_in (state_of word heap)) ≡ Some one → extent_at k (extents_in (state_of word new)) ≡ Some one
-  exchanged_still k out there = exchanged_found k (replaced_found k it.first it.less it.more it.last refl distinct_rest (λ found. absurd (out found)) (ap (extent_at k) (sym it.were) ∙ there))
+  pub exchanged_still : (k : ℕ) {one : Extent} → (extent_at k it.less ≡ Some one → ⊥) →
+      extent_at k (extents_in (state_of word heap)) ≡ Some one → extent_at k (extents_in (state_of word new)) ≡ Some one
+  exchanged_still k out there = exchanged_found k
+      (replaced_found k it.first it.less it.more it.last refl distinct_rest (λ found. absurd (out found)) (ap (extent_at k) (sym it.were) ∙ there))
 
   -- and was, but for what came
-  pub exchanged_was : (k : ℕ) {one : Extent} → (extent_at k it.ahead ≡ Some one → ⊥) → (extent_at k it.more ≡ Some one → ⊥) → extent_at k (extents_in (state_of word new)) ≡ Some one →
-      extent_at k (extents_in (state_of word heap)) ≡ Some one
+  pub exchanged_was : (k : ℕ) {one : Extent} → (extent_at k it.ahead ≡ Some one → ⊥) → (extent_at k it.more ≡ Some one → ⊥) →
+      extent_at k (extents_in (state_of word new)) ≡ Some one → extent_at k (extents_in (state_of word heap)) ≡ Some one
   exchanged_was k none out there = elim (found_either k it.ahead (it.first ++ (it.more ++ it.last)) (ap (extent_at k) (sym extents_now) ∙ there)) [
     | inl here ↦ absurd (none here)
     | inr later ↦ ap (extent_at k) it.were ∙ replaced_found k it.first it.more it.less it.last refl distinct_old (λ found. absurd (out found)) later.1
   ]
 
   -- so it is with the extents of a kind that none has which gave way or came
-  pub kind_still : (kind : Kind) → HasNo kind it.less → {one : Extent} → one.kind ≡ kind → (k : ℕ) → extent_at k (extents_in (state_of word heap)) ≡ Some one → extent_at k (extents_in (state_of word new)) ≡ Some one
+  pub kind_still : (kind : Kind) → HasNo kind it.less → {one : Extent} → one.kind ≡ kind →
+      (k : ℕ) → extent_at k (extents_in (state_of word heap)) ≡ Some one → extent_at k (extents_in (state_of word new)) ≡ Some one
   kind_still kind none is k there = exchanged_still k (none_of kind it.less k none is) there
 
-  pub kind_was : (kind : Kind) → HasNo kind it.ahead → HasNo kind it.more → {one : Extent} → one.kind ≡ kind → (k : ℕ) → extent_at k (extents_in (state_of word new)) ≡ Some one → extent_at k (extents_in (state_of word heap)) ≡ Some one
+  pub kind_was : (kind : Kind) → HasNo kind it.ahead → HasNo kind it.more → {one : Extent} → one.kind ≡ kind →
+      (k : ℕ) → extent_at k (extents_in (state_of word new)) ≡ Some one → extent_at k (extents_in (state_of word heap)) ≡ Some one
   kind_was kind ahead more is k there = exchanged_was k (none_of kind it.ahead k ahead is) (none_of kind it.more k more is) there
 
   pub exchanged_used : HasNo Used it.less → HasNo Used it.ahead → HasNo Used it.more → HasSameUsed (state_of word heap) (state_of word new)
   exchanged_used less ahead more = record { still = λ used is there. kind_still Used less is used.at there; before = λ used is there. kind_was Used ahead more is used.at there }
 
   -- free ones go at some addresses and come at others
-  pub exchanged_free : HasNo Free it.ahead → (gone come : List ℕ) → ((k size : ℕ) → extent_at k it.less ≡ Some (extent k size Free) → IsIn k gone) → ((k size : ℕ) → extent_at k it.more ≡ Some (extent k size Free) → IsIn k come) →
-      ((k : ℕ) → IsIn k gone → IsIn k come ⊎ IsThere k it.less) → ((k : ℕ) → IsIn k come → IsIn k gone ⊎ IsThere k it.more) → FreeMoves (state_of word heap) (state_of word new) gone come
+  pub exchanged_free : HasNo Free it.ahead → (gone come : List ℕ) → ((k size : ℕ) → extent_at k it.less ≡ Some (extent k size Free) →
+      IsIn k gone) → ((k size : ℕ) → extent_at k it.more ≡ Some (extent k size Free) → IsIn k come) →
+      ((k : ℕ) → IsIn k gone → IsIn k come ⊎ IsThere k it.less) →
+      ((k : ℕ) → IsIn k come → IsIn k gone ⊎ IsThere k it.more) → FreeMoves (state_of word heap) (state_of word new) gone come
   exchanged_free ahead gone come in_less in_more gone_there come_there = record {
     stays = λ k size free out.
         let found = free_stays it.first it.less it.more it.last distinct_rest gone come in_less come_there (ap (extent_at k) (sym it.were) ∙ free) out in
@@ -94,15 +100,18 @@ module _ {A : Type 0} {regions : A → List Grant} {word : A → ℕ → ℕ} {h
 
   pub none_exchanged : HasNo Free it.ahead → HasNo Free it.less → HasNo Free it.more → FreeMoves (state_of word heap) (state_of word new) [] []
   none_exchanged ahead less more =
-      exchanged_free ahead [] [] (λ k size found. absurd (none_of Free it.less k less refl found)) (λ k size found. absurd (none_of Free it.more k more refl found)) (λ k none. absurd none) (λ k none. absurd none)
+      exchanged_free ahead [] [] (λ k size found. absurd (none_of Free it.less k less refl found))
+      (λ k size found. absurd (none_of Free it.more k more refl found)) (λ k none. absurd none) (λ k none. absurd none)
 
   -- the heap is sound, where its victim is a free extent
-  pub sound_as : (new.victim_size ≡ 0 → new.victim ≡ 0) → (new.victim_size ≢ 0 → extent_at new.victim (extents_in (state_of word new)) ≡ Some (extent new.victim new.victim_size Free)) → IsSound regions word new
+  pub sound_as : (new.victim_size ≡ 0 → new.victim ≡ 0) → (new.victim_size ≢ 0 →
+      extent_at new.victim (extents_in (state_of word new)) ≡ Some (extent new.victim new.victim_size Free)) → IsSound regions word new
   sound_as none there =
-      retold_sound regions word new it.now it.parts it.apart it.told (subst IsGranularity (sym it.granularity) sound.granularity) it.some none (λ some. ap (extent_at new.victim) (sym (ap extents_all exchanged_read)) ∙ there some)
+      retold_sound regions word new it.now it.parts it.apart it.told (subst IsGranularity (sym it.granularity) sound.granularity) it.some none
+      (λ some. ap (extent_at new.victim) (sym (ap extents_all exchanged_read)) ∙ there some)
 
   -- so it is, where no free extent gave way and the victim is the same
   pub exchanged_sound : HasNo Free it.less → new.victim ≡ heap.victim → new.victim_size ≡ heap.victim_size → IsSound regions word new
   exchanged_sound less victim victim_size = sound_as (λ none. victim ∙ sound.no_victim (sym victim_size ∙ none))
-      (λ there. ap (λ v. extent_at v (extents_in (state_of word new))) victim
-      ∙ (kind_still Free less {one = extent heap.victim heap.victim_size Free} refl heap.victim (sound.victim (λ none. there (victim_size ∙ none))) ∙ (λ i. Some (extent ((sym victim) i) ((sym victim_size) i) Free))))
+      (λ there. ap (λ v. extent_at v (extents_in (state_of word new))) victim ∙ (kind_still Free less {one = extent heap.victim heap.victim_size Free} refl
+      heap.victim (sound.victim (λ none. there (victim_size ∙ none))) ∙ (λ i. Some (extent ((sym victim) i) ((sym victim_size) i) Free))))

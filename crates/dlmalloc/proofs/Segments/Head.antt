@@ -53,8 +53,8 @@ first_counted frees parts heap at = count (is_counted heap at) (nat_le heap.coun
     count false b frees = (refl, refl)
 
 -- a grant behind it makes it longer
-pub first_granted : (grant : Grant) (n : ℕ) (heap : HeapState) → is_behind_head grant heap.segments ≡ true →
-    (first_base (granted grant n heap).segments ≡ first_base heap.segments) × (first_size (granted grant n heap).segments ≡ first_size heap.segments + grant.size)
+pub first_granted : (grant : Grant) (n : ℕ) (heap : HeapState) → is_behind_head grant heap.segments ≡ true → (first_base
+    (granted grant n heap).segments ≡ first_base heap.segments) × (first_size (granted grant n heap).segments ≡ first_size heap.segments + grant.size)
 first_granted grant n heap test = go heap.segments test
   where
     go : (segments : List Segment) → is_behind_head grant segments ≡ true →
@@ -66,7 +66,8 @@ first_granted grant n heap test = go heap.segments test
 -- ---- the head segment of a heap
 
 -- the test of a grant goes by the fields
-pub behind_first : {A : Type 0} (word : A → ℕ → ℕ) (heap : Dlmalloc A) (grant : Grant) → 0 < heap.size → is_behind grant (bare_head heap) ≡ true → is_behind_head grant (segments_of word heap) ≡ true
+pub behind_first : {A : Type 0} (word : A → ℕ → ℕ) (heap : Dlmalloc A) (grant : Grant) → 0 < heap.size →
+    is_behind grant (bare_head heap) ≡ true → is_behind_head grant (segments_of word heap) ≡ true
 behind_first word heap grant some test = let there : (heap.size == 0) ≡ false = grind (arith, nat_tests) in rw there test
 
 module _ {A : Type 0} {regions : A → List Grant} {word : A → ℕ → ℕ} {heap : Dlmalloc A} (sound : IsSound regions word heap) where
@@ -97,14 +98,16 @@ module _ {A : Type 0} {regions : A → List Grant} {word : A → ℕ → ℕ} {h
         (top_part sound some).run.covered k (omega arith) (omega arith)
 
     -- what is in use ends before the top, or is beyond the segment
-    pub beside_top : {used : Extent} → used.kind ≡ Used → extent_at used.at (extents_in (state_of word heap)) ≡ Some used → (used.at + used.size ≤ heap.top) ⊎ (heap.base + heap.size ≤ used.at)
+    pub beside_top : {used : Extent} → used.kind ≡ Used → extent_at used.at (extents_in (state_of word heap)) ≡ Some used →
+        (used.at + used.size ≤ heap.top) ⊎ (heap.base + heap.size ≤ used.at)
     beside_top {used} is there =
         elim (used_apart regions word heap sound used (extent heap.top heap.top_size Top) there top (λ same. no_top (kind_of (extent heap.top heap.top_size Top) same top))) [
           | inl before ↦ inl before
-          | inr behind ↦ elim (used_apart regions word heap sound used (extent (heap.top + heap.top_size) 80 Foot) there foot (λ same. no_foot (kind_of (extent (heap.top + heap.top_size) 80 Foot) same foot))) [
-            | inl less ↦ (let low : heap.top + heap.top_size ≤ used.at = behind in let high : used.at + used.size ≤ heap.top + heap.top_size = less in absurd (omega (arith, long)))
-            | inr more ↦ (let low : heap.top + heap.top_size + 80 ≤ used.at = more in inr (omega (arith, ends sound some)))
-          ]
+          | inr behind ↦ elim (used_apart regions word heap sound used (extent (heap.top + heap.top_size) 80 Foot) there foot
+              (λ same. no_foot (kind_of (extent (heap.top + heap.top_size) 80 Foot) same foot))) [
+                | inl less ↦ (let low : heap.top + heap.top_size ≤ used.at = behind in let high : used.at + used.size ≤ heap.top + heap.top_size = less in absurd (omega (arith, long)))
+                | inr more ↦ (let low : heap.top + heap.top_size + 80 ≤ used.at = more in inr (omega (arith, ends sound some)))
+              ]
         ]
       where
         top : extent_at heap.top (extents_in (state_of word heap)) ≡ Some (extent heap.top heap.top_size Top)
@@ -126,10 +129,10 @@ module _ {A : Type 0} {regions : A → List Grant} {word : A → ℕ → ℕ} {h
         no_foot same = cc
 
 -- heaps with the same first segment have the same head
-pub same_head : {A : Type 0} {regions : A → List Grant} {word : A → ℕ → ℕ} {one : Dlmalloc A} (other : Dlmalloc A) → IsSound regions word one → IsSound regions word other → 0 < one.size → HasSameFirst (segments_of word other) (segments_of word one) →
+pub same_head : {A : Type 0} {regions : A → List Grant} {word : A → ℕ → ℕ} {one : Dlmalloc A} (other : Dlmalloc A) → IsSound regions word one →
+    IsSound regions word other → 0 < one.size → HasSameFirst (segments_of word other) (segments_of word one) →
     (other.base ≡ one.base) × (other.size ≡ one.size)
 same_head {one} other sound_one sound_other some same =
-    let told = first_told sound_one in
-    let told_other = first_told sound_other in
+    let told = first_told sound_one in let told_other = first_told sound_other in
     let size : other.size ≡ one.size = told_other.0 ∙ (same.1 ∙ sym told.0) in
     (told_other.1 (omega arith) ∙ (same.0 ∙ sym (told.1 some)), size)

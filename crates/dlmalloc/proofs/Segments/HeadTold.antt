@@ -23,9 +23,11 @@ pub record HasSameHead {A : Type 0} (heap new : Dlmalloc A) : Type 0 where
 abbrev pub bare_head : {A : Type 0} → Dlmalloc A → Segment
 bare_head heap = record { base = heap.base; size = heap.size; flags = heap.flags; extents = [] }
 
-module _ {A : Type 0} {regions regions' : List Grant} {old words : ℕ → ℕ} (heap new : Dlmalloc A) {segment segment' : Segment} (changed : IsChanged regions regions' old words segment segment') (next : new.next ≡ heap.next) where
+module _ {A : Type 0} {regions regions' : List Grant} {old words : ℕ → ℕ} (heap new : Dlmalloc A) {segment segment' : Segment}
+    (changed : IsChanged regions regions' old words segment segment') (next : new.next ≡ heap.next) where
   -- the head segment changed
-  pub told_head : (front back : List Segment) → front ≡ [] → AreApart (front ++ segment ∷ back) → AreSegments regions old (front ++ segment ∷ back) → AreTold old heap (front ++ segment ∷ back) → IsHead new segment' → AreTold words new (front ++ segment' ∷ back)
+  pub told_head : (front back : List Segment) → front ≡ [] → AreApart (front ++ segment ∷ back) → AreSegments regions old
+      (front ++ segment ∷ back) → AreTold old heap (front ++ segment ∷ back) → IsHead new segment' → AreTold words new (front ++ segment' ∷ back)
   told_head [] back none apart parts h head = (
     head.some,
     head.base,
@@ -37,8 +39,10 @@ module _ {A : Type 0} {regions regions' : List Grant} {old words : ℕ → ℕ} 
   told_head (first ∷ front) back none apart parts h head = absurd (cc)
 
   -- what the fields tell stayed
-  pub told_same : (front back : List Segment) → AreApart (front ++ segment ∷ back) → AreSegments regions old (front ++ segment ∷ back) → AreTold old heap (front ++ segment ∷ back) → HasSameHead heap new → segment'.base ≡ segment.base → segment'.size ≡ segment.size → segment'.flags ≡ segment.flags →
-      (extent_at heap.top segment.extents ≡ Some (extent heap.top heap.top_size Top) → extent_at heap.top segment'.extents ≡ Some (extent heap.top heap.top_size Top)) → AreTold words new (front ++ segment' ∷ back)
+  pub told_same : (front back : List Segment) → AreApart (front ++ segment ∷ back) → AreSegments regions old (front ++ segment ∷ back) →
+      AreTold old heap (front ++ segment ∷ back) → HasSameHead heap new → segment'.base ≡ segment.base → segment'.size ≡ segment.size →
+      segment'.flags ≡ segment.flags → (extent_at heap.top segment.extents ≡ Some (extent heap.top heap.top_size Top) →
+      extent_at heap.top segment'.extents ≡ Some (extent heap.top heap.top_size Top)) → AreTold words new (front ++ segment' ∷ back)
   told_same [] back apart parts h same base size flags top = (
     subst (λ n. 0 < n) (sym same.size) h.0,
     same.base ∙ (h.1 ∙ sym base),
@@ -57,6 +61,7 @@ module _ {A : Type 0} {regions regions' : List Grant} {old words : ℕ → ℕ} 
   )
 
 -- the first of the segments is told by the fields
-pub head_is : {A : Type 0} (word : A → ℕ → ℕ) (heap : Dlmalloc A) (front : List Segment) (segment : Segment) (back : List Segment) → front ≡ [] → segments_of word heap ≡ front ++ segment ∷ back → AreTold (word heap.system) heap (segments_of word heap) → IsHead heap segment
+pub head_is : {A : Type 0} (word : A → ℕ → ℕ) (heap : Dlmalloc A) (front : List Segment) (segment : Segment) (back : List Segment) → front ≡ [] →
+    segments_of word heap ≡ front ++ segment ∷ back → AreTold (word heap.system) heap (segments_of word heap) → IsHead heap segment
 head_is word heap [] segment back none is told = let h = subst (AreTold (word heap.system) heap) is told in record { some = h.0; base = h.1; size = h.2; flags = h.3; top = h.4 }
 head_is word heap (first ∷ front) segment back none is told = absurd (cc)

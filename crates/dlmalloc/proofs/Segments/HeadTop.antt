@@ -22,8 +22,8 @@ some_segment word heap k {one} there = elim (dec_lt 0 heap.size) [
 ]
 
 -- a top and its foot, as their heads tell them
-pub top_stands : (words : ℕ → ℕ) {before : Kind} (at size : ℕ) → before ≡ Used → at % 16 ≡ 0 → size % 16 ≡ 0 → 16 ≤ size → words (at + 8) ≡ size + 1 → words (at + size + 8) ≡ 80 →
-    Tiles words before at (extent at size Top ∷ extent (at + size) 80 Foot ∷ []) (at + size + 80)
+pub top_stands : (words : ℕ → ℕ) {before : Kind} (at size : ℕ) → before ≡ Used → at % 16 ≡ 0 → size % 16 ≡ 0 → 16 ≤ size → words
+    (at + 8) ≡ size + 1 → words (at + size + 8) ≡ 80 → Tiles words before at (extent at size Top ∷ extent (at + size) 80 Foot ∷ []) (at + size + 80)
 top_stands words at size used place whole long head foot = (
   refl,
   plain_chunk place (whole, long) used (head ∙ (omega arith ∙ ap (λ k. head_of size (is_used k) false) (sym used))) (λ free. cc) (λ is. cc),
@@ -44,15 +44,16 @@ module _ {A : Type 0} {regions : A → List Grant} {word : A → ℕ → ℕ} {h
   top_part = run_part (regions heap.system) sound.segments top_run
 
   pub top_front : top_run.front ≡ []
-  top_front = (is_top sound top_run.front top_run.segment top_run.back top_run.is {at = heap.top} {size = heap.top_size}
-      (ap (extent_at heap.top) top_run.extents ∙ (found_later heap.top top_run.first (extent heap.top heap.top_size Top ∷ top_run.last) (none_outside (word heap.system) Used top_run.segment.base top_run.first heap.top heap.top (inr (omega arith)) top_run.first_stand)
-      ∙ (let here = nat_same heap.top in rw here refl)))).0
+  top_front = (is_top sound top_run.front top_run.segment top_run.back top_run.is {at = heap.top} {size = heap.top_size} (ap (extent_at heap.top)
+      top_run.extents ∙ (found_later heap.top top_run.first (extent heap.top heap.top_size Top ∷ top_run.last) (none_outside (word heap.system) Used
+      top_run.segment.base top_run.first heap.top heap.top (inr (omega arith)) top_run.first_stand) ∙ (let here = nat_same heap.top in rw here refl)))).0
 
   pub top_segment : IsHead heap top_run.segment
   top_segment = head_is word heap top_run.front top_run.segment top_run.back top_front top_run.is sound.told
 
   tail_behind : ends_segment (last_kind Top top_run.last) ≡ true
-  tail_behind = ap ends_segment (sym (last_append (last_kind Used top_run.first) (extent heap.top heap.top_size Top ∷ []) top_run.last)) ∙ (ap ends_segment (sym (last_append Used top_run.first (extent heap.top heap.top_size Top ∷ top_run.last)))
+  tail_behind = ap ends_segment (sym (last_append (last_kind Used top_run.first) (extent heap.top heap.top_size Top ∷ []) top_run.last))
+      ∙ (ap ends_segment (sym (last_append Used top_run.first (extent heap.top heap.top_size Top ∷ top_run.last)))
       ∙ (ap (λ es. ends_segment (last_kind Used es)) (sym top_run.extents) ∙ top_part.tail))
 
   pub top_last : (top_run.last ≡ extent (top_run.segment.base + top_run.segment.size - 80) 80 Foot ∷ []) × (heap.top + heap.top_size + 80 ≡ top_run.segment.base + top_run.segment.size)

@@ -14,10 +14,12 @@ pub record IsChanged (regions regions' : List Grant) (old new : ℕ → ℕ) (se
   pub kept : (k : ℕ) → IsWordOf regions k → AllSpare segment'.extents k → new k ≡ old k
   pub others : (other : Segment) → IsSegment regions old other → IsApartFrom other segment → IsRun regions' other.base other.size other.flags × IsApartFrom other segment'
   pub records : (at : ℕ) → extent_at at segment.extents ≡ Some (record_of at (segment.base + segment.size)) →
-      (segment'.base ≡ segment.base) × (segment'.size ≡ segment.size) × (segment'.flags ≡ segment.flags) × (extent_at at segment'.extents ≡ Some (record_of at (segment.base + segment.size)))
+      (segment'.base ≡ segment.base) × (segment'.size ≡ segment.size) × (segment'.flags ≡ segment.flags)
+      × (extent_at at segment'.extents ≡ Some (record_of at (segment.base + segment.size)))
 
 -- an extent that is found is spared by what is no boundary
-found_spared : (heap : HeapState) (k : ℕ) (extent : Extent) → extent_at extent.at (extents_in heap) ≡ Some extent → (IsBoundary heap k → ⊥) → (kind : Kind) → extent.kind ≡ kind → IsSpared k kind extent.at extent.size
+found_spared : (heap : HeapState) (k : ℕ) (extent : Extent) → extent_at extent.at (extents_in heap) ≡ Some extent → (IsBoundary heap k → ⊥) →
+    (kind : Kind) → extent.kind ≡ kind → IsSpared k kind extent.at extent.size
 found_spared heap k extent there apart Used is = λ e. apart (record { extent = extent; there = there; is = inl e })
 found_spared heap k extent there apart Free is =
     ((λ e. apart (record { extent = extent; there = there; is = inl e })), (λ e. apart (record { extent = extent; there = there; is = inr (ap is_free_below_top is, e) })))
@@ -28,8 +30,8 @@ found_spared heap k extent there apart Record is = λ e. apart (record { extent 
 found_spared heap k extent there apart Foot is = λ e. apart (record { extent = extent; there = there; is = inl e })
 
 -- and so are all
-pub all_spared : (heap : HeapState) (k : ℕ) (extents : List Extent) → AreDistinct extents → ((extent : Extent) → extent_at extent.at extents ≡ Some extent → extent_at extent.at (extents_in heap) ≡ Some extent) →
-    (IsBoundary heap k → ⊥) → AllSpare extents k
+pub all_spared : (heap : HeapState) (k : ℕ) (extents : List Extent) → AreDistinct extents → ((extent : Extent) → extent_at extent.at extents ≡ Some
+    extent → extent_at extent.at (extents_in heap) ≡ Some extent) → (IsBoundary heap k → ⊥) → AllSpare extents k
 all_spared heap k [] distinct there apart = tt
 all_spared heap k (extent ∷ extents) distinct there apart = (
   found_spared heap k extent (there extent (found_here extent extents)) apart extent.kind refl,
@@ -67,7 +69,8 @@ module _ {regions regions' : List Grant} {old new : ℕ → ℕ} {segment segmen
   behind_kept (other ∷ back) apart parts = (other_kept (apart_back segment other apart.0) parts.0, behind_kept back apart.1 parts.1)
 
   -- all are segments again, and apart
-  pub segments_after : (front back : List Segment) → AreApart (front ++ segment ∷ back) → AreSegments regions old (front ++ segment ∷ back) → AreSegments regions' new (front ++ segment' ∷ back)
+  pub segments_after : (front back : List Segment) → AreApart (front ++ segment ∷ back) → AreSegments regions old (front ++ segment ∷ back) →
+      AreSegments regions' new (front ++ segment' ∷ back)
   segments_after [] back apart parts = (changed.now, behind_kept back apart.0 parts.1)
   segments_after (other ∷ front) back apart parts = (other_kept (all_at (IsApartFrom other) front segment back apart.0) parts.0, segments_after front back apart.1 parts.1)
 
@@ -75,7 +78,8 @@ module _ {regions regions' : List Grant} {old new : ℕ → ℕ} {segment segmen
   behind_apart [] apart parts = tt
   behind_apart (other ∷ back) apart parts = (apart_back other segment' (changed.others other parts.0 (apart_back segment other apart.0)).1, behind_apart back apart.1 parts.1)
 
-  among_apart : (other : Segment) → IsSegment regions old other → (front back : List Segment) → AllByRecursion (IsApartFrom other) (front ++ segment ∷ back) → AllByRecursion (IsApartFrom other) (front ++ segment' ∷ back)
+  among_apart : (other : Segment) → IsSegment regions old other → (front back : List Segment) →
+      AllByRecursion (IsApartFrom other) (front ++ segment ∷ back) → AllByRecursion (IsApartFrom other) (front ++ segment' ∷ back)
   among_apart other part [] back apart = ((changed.others other part apart.0).1, apart.1)
   among_apart other part (first ∷ front) back apart = (apart.0, among_apart other part front back apart.1)
 
@@ -85,9 +89,10 @@ module _ {regions regions' : List Grant} {old new : ℕ → ℕ} {segment segmen
 
   -- ---- the payload of a record stays
 
-  record_told : {other : Segment} → IsSegment regions' new other → ((k : ℕ) → other.base < k → k < other.base + other.size → k % 8 ≡ 0 → AllSpare other.extents k → new k ≡ old k) → (others : List Segment) (payload : ℕ) → 16 < payload →
-      old payload ≡ other.base → old (payload + 8) ≡ other.size → old (payload + 24) ≡ other.flags →
-      extent_at (payload - 16) other.extents ≡ Some (record_of (payload - 16) (other.base + other.size)) → AreRecords new (old (payload + 16)) others → AreRecords new payload (other ∷ others)
+  record_told : {other : Segment} → IsSegment regions' new other → ((k : ℕ) → other.base < k → k < other.base + other.size → k % 8 ≡ 0 →
+      AllSpare other.extents k → new k ≡ old k) → (others : List Segment) (payload : ℕ) → 16 < payload → old payload ≡ other.base →
+      old (payload + 8) ≡ other.size → old (payload + 24) ≡ other.flags → extent_at (payload - 16) other.extents ≡ Some
+      (record_of (payload - 16) (other.base + other.size)) → AreRecords new (old (payload + 16)) others → AreRecords new payload (other ∷ others)
   record_told {other} part same others payload some base size flags there rest = (
     some,
     at payload (omega arith) (omega arith) whole ∙ base,
@@ -110,20 +115,23 @@ module _ {regions regions' : List Grant} {old new : ℕ → ℕ} {segment segmen
       at k low high m = same k (omega (arith, r.low)) (omega (arith, r.high, long)) m
           (inner_spared new Used other.base other.extents (other.base + other.size) part.extents there refl k (omega arith) (omega (arith, long)))
 
-  pub records_behind : (back : List Segment) → AllByRecursion (IsApartFrom segment) back → AreSegments regions old back → (payload : ℕ) → AreRecords old payload back → AreRecords new payload back
+  pub records_behind : (back : List Segment) → AllByRecursion (IsApartFrom segment) back → AreSegments regions old back →
+      (payload : ℕ) → AreRecords old payload back → AreRecords new payload back
   records_behind [] apart parts payload h = h
   records_behind (other ∷ back) apart parts payload h =
       let beyond = apart_back segment other apart.0 in
-      record_told (other_kept beyond parts.0) (λ k low high m spared. beside parts.0 beyond k low high m) back payload h.0 h.1 h.2 h.3 h.4 (records_behind back apart.1 parts.1 (old (payload + 16)) h.5)
+      record_told (other_kept beyond parts.0) (λ k low high m spared. beside parts.0 beyond k low high m) back payload h.0 h.1 h.2 h.3 h.4
+      (records_behind back apart.1 parts.1 (old (payload + 16)) h.5)
 
   -- and so the records tell them
-  pub records_after : (front back : List Segment) → AreApart (front ++ segment ∷ back) → AreSegments regions old (front ++ segment ∷ back) → (payload : ℕ) → AreRecords old payload (front ++ segment ∷ back) → AreRecords new payload (front ++ segment' ∷ back)
+  pub records_after : (front back : List Segment) → AreApart (front ++ segment ∷ back) → AreSegments regions old (front ++ segment ∷ back) →
+      (payload : ℕ) → AreRecords old payload (front ++ segment ∷ back) → AreRecords new payload (front ++ segment' ∷ back)
   records_after [] back apart parts payload h =
       let is = changed.records (payload - 16) h.4 in
-      record_told changed.now (λ k low high m spared. changed.kept k (record { granted = parts.0.run.covered k (omega arith) (omega arith); aligned = m }) spared) back payload h.0
-      (h.1 ∙ sym is.0) (h.2 ∙ sym is.1) (h.3 ∙ sym is.2) (is.3 ∙ (λ i. Some (record_of (payload - 16) (sym is.0 i + sym is.1 i))))
-      (records_behind back apart.0 parts.1 (old (payload + 16)) h.5)
+      record_told changed.now (λ k low high m spared. changed.kept k (record { granted = parts.0.run.covered k (omega arith) (omega arith); aligned = m })
+      spared) back payload h.0 (h.1 ∙ sym is.0) (h.2 ∙ sym is.1) (h.3 ∙ sym is.2)
+      (is.3 ∙ (λ i. Some (record_of (payload - 16) (sym is.0 i + sym is.1 i)))) (records_behind back apart.0 parts.1 (old (payload + 16)) h.5)
   records_after (other ∷ front) back apart parts payload h =
       let beyond = all_at (IsApartFrom other) front segment back apart.0 in
-      record_told (other_kept beyond parts.0) (λ k low high m spared. beside parts.0 beyond k low high m) (front ++ segment' ∷ back) payload h.0 h.1 h.2 h.3 h.4
-      (records_after front back apart.1 parts.1 (old (payload + 16)) h.5)
+      record_told (other_kept beyond parts.0) (λ k low high m spared. beside parts.0 beyond k low high m)
+      (front ++ segment' ∷ back) payload h.0 h.1 h.2 h.3 h.4 (records_after front back apart.1 parts.1 (old (payload + 16)) h.5)

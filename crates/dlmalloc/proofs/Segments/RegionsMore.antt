@@ -17,7 +17,8 @@ word_new grant old with_it k low high multiple = record {
 }
 
 -- and each that was not granted before is a word of the grant
-pub word_fresh : (grant : Grant) (old : List Grant) {new : List Grant} → new ≡ with_grant grant old → (k : ℕ) → IsWordOf new k → (IsWordOf old k → ⊥) → (grant.base ≤ k) × (k < grant.base + grant.size)
+pub word_fresh : (grant : Grant) (old : List Grant) {new : List Grant} → new ≡ with_grant grant old → (k : ℕ) → IsWordOf new k →
+    (IsWordOf old k → ⊥) → (grant.base ≤ k) × (k < grant.base + grant.size)
 word_fresh grant old with_it k inside fresh =
     elim (granted_split grant old k (subst (λ rs. IsTrue (is_granted rs k)) with_it inside.granted)) [
       | inl within ↦ within
@@ -36,7 +37,8 @@ with_other grant {regions} same = (let more = longer regions in let as_many = ap
     longer [] = refl
     longer (region ∷ regions) = go (nat_lt grant.base region.base) (longer regions)
       where
-        go : (b : Bool) → length (with_grant grant regions) ≡ length regions + 1 → length (if b then grant ∷ region ∷ regions else region ∷ with_grant grant regions) ≡ length (region ∷ regions) + 1
+        go : (b : Bool) → length (with_grant grant regions) ≡ length regions + 1 →
+            length (if b then grant ∷ region ∷ regions else region ∷ with_grant grant regions) ≡ length (region ∷ regions) + 1
         go true rest = omega arith
         go false rest = omega arith
 
@@ -45,8 +47,8 @@ pub one_more : (grant other : Grant) (regions : List Grant) → with_grant grant
 one_more grant other [] same = cc
 one_more grant other (region ∷ regions) same = go (nat_lt grant.base region.base) refl (nat_lt other.base region.base) refl same (λ rest. one_more grant other regions rest)
   where
-    go : (a : Bool) → nat_lt grant.base region.base ≡ a → (b : Bool) → nat_lt other.base region.base ≡ b →
-        (if a then grant ∷ region ∷ regions else region ∷ with_grant grant regions) ≡ (if b then other ∷ region ∷ regions else region ∷ with_grant other regions) →
+    go : (a : Bool) → nat_lt grant.base region.base ≡ a → (b : Bool) → nat_lt other.base region.base ≡ b → (if a then grant ∷ region ∷ regions
+        else region ∷ with_grant grant regions) ≡ (if b then other ∷ region ∷ regions else region ∷ with_grant other regions) →
         (with_grant grant regions ≡ with_grant other regions → grant ≡ other) → grant ≡ other
     go true first true second same rest = cc
     go true first false second same rest = absurd (let is : grant ≡ region = cc in let place : grant.base ≡ region.base = ap (λ g. g.base) is in grind (arith, nat_tests))
@@ -62,8 +64,8 @@ none_granted low high (region ∷ regions) apart k above below granted =
     none_granted low high regions apart.1 k above below (elim apart.0 [ inl before ↦ grind (arith, nat_tests) | inr behind ↦ grind (arith, nat_tests) ])
 
 -- so a run of regions is apart from a grant that is apart from all of them
-pub run_apart : {regions : List Grant} {base size flags : ℕ} → IsRun regions base size flags → 0 < size → (grant : Grant) → 0 < grant.size → AllByRecursion (IsApart grant.base (grant.base + grant.size)) regions →
-    (grant.base + grant.size ≤ base) ⊎ (base + size ≤ grant.base)
+pub run_apart : {regions : List Grant} {base size flags : ℕ} → IsRun regions base size flags → 0 < size → (grant : Grant) → 0 < grant.size →
+    AllByRecursion (IsApart grant.base (grant.base + grant.size)) regions → (grant.base + grant.size ≤ base) ⊎ (base + size ≤ grant.base)
 run_apart {regions} {base} {size} run some grant more apart =
     elim (dec_lt base (grant.base + grant.size)) [
       | yes before ↦ elim (dec_lt grant.base (base + size)) [
@@ -77,7 +79,8 @@ run_apart {regions} {base} {size} run some grant more apart =
     ]
 
 -- two runs of the same flags, one at the end of the other, are one
-pub runs_joined : {regions : List Grant} {base one next two flags : ℕ} → next ≡ base + one → IsRun regions base one flags → IsRun regions next two flags → AllByRecursion IsWhole regions → IsRun regions base (one + two) flags
+pub runs_joined : {regions : List Grant} {base one next two flags : ℕ} → next ≡ base + one → IsRun regions base one flags →
+    IsRun regions next two flags → AllByRecursion IsWhole regions → IsRun regions base (one + two) flags
 runs_joined {regions} {base} {one} {next} {two} {flags} place first second whole = record {
   covered = λ k low high. elim (dec_lt k next) [
     | yes below ↦ first.covered k low (omega arith)
@@ -86,12 +89,14 @@ runs_joined {regions} {base} {one} {next} {two} {flags} place first second whole
   whole = go regions first.whole second.whole whole;
 }
   where
-    go : (regions : List Grant) → AllByRecursion (λ region. IsApart base (base + one) region ⊎ IsWithin base (base + one) flags region) regions → AllByRecursion (λ region. IsApart next (next + two) region ⊎ IsWithin next (next + two) flags region) regions → AllByRecursion IsWhole regions →
+    go : (regions : List Grant) → AllByRecursion (λ region. IsApart base (base + one) region ⊎ IsWithin base (base + one) flags region) regions →
+        AllByRecursion (λ region. IsApart next (next + two) region ⊎ IsWithin next (next + two) flags region) regions → AllByRecursion IsWhole regions →
         AllByRecursion (λ region. IsApart base (base + (one + two)) region ⊎ IsWithin base (base + (one + two)) flags region) regions
     go [] a b whole = tt
     go (region ∷ regions) a b whole = (each a.0 b.0, go regions a.1 b.1 whole.1)
       where
-        each : IsApart base (base + one) region ⊎ IsWithin base (base + one) flags region → IsApart next (next + two) region ⊎ IsWithin next (next + two) flags region → IsApart base (base + (one + two)) region ⊎ IsWithin base (base + (one + two)) flags region
+        each : IsApart base (base + one) region ⊎ IsWithin base (base + one) flags region → IsApart next (next + two) region ⊎ IsWithin next
+            (next + two) flags region → IsApart base (base + (one + two)) region ⊎ IsWithin base (base + (one + two)) flags region
         each (inr within) b = inr (within.0, omega arith, within.2)
         each (inl a) (inr within) = inr (omega arith, omega arith, within.2)
         each (inl (inl before)) (inl b) = inl (inl before)
@@ -99,13 +104,15 @@ runs_joined {regions} {base} {one} {next} {two} {flags} place first second whole
         each (inl (inr behind)) (inl (inr after)) = inl (inr (omega arith))
 
 -- a grant is one
-pub run_alone : (regions : List Grant) (grant : Grant) → AllByRecursion (IsApart grant.base (grant.base + grant.size)) regions → IsRun (with_grant grant regions) grant.base grant.size grant.flags
+pub run_alone : (regions : List Grant) (grant : Grant) → AllByRecursion (IsApart grant.base (grant.base + grant.size)) regions →
+    IsRun (with_grant grant regions) grant.base grant.size grant.flags
 run_alone regions grant apart = record {
   covered = λ k low high. granted_new grant regions k low high;
-  whole = all_with (λ region. IsApart grant.base (grant.base + grant.size) region ⊎ IsWithin grant.base (grant.base + grant.size) grant.flags region) grant regions (inr (omega arith, omega arith, refl)) (go regions apart);
+  whole = all_with (λ region. IsApart grant.base (grant.base + grant.size) region ⊎ IsWithin grant.base (grant.base + grant.size) grant.flags region) grant
+      regions (inr (omega arith, omega arith, refl)) (go regions apart);
 }
   where
-    go : (regions : List Grant) → AllByRecursion (IsApart grant.base (grant.base + grant.size)) regions →
-        AllByRecursion (λ region. IsApart grant.base (grant.base + grant.size) region ⊎ IsWithin grant.base (grant.base + grant.size) grant.flags region) regions
+    go : (regions : List Grant) → AllByRecursion (IsApart grant.base (grant.base + grant.size)) regions → AllByRecursion
+        (λ region. IsApart grant.base (grant.base + grant.size) region ⊎ IsWithin grant.base (grant.base + grant.size) grant.flags region) regions
     go [] apart = tt
     go (region ∷ regions) apart = (inl apart.0, go regions apart.1)

@@ -39,21 +39,25 @@ pub record SpanFits (regions : List Grant) (words : ℕ → ℕ) (payload : ℕ)
   pub ends : words payload + words (payload + 8) < 2 ^ 64
   pub within : payload ≤ words payload + words (payload + 8)
 
-next_segment : (regions : List Grant) (words : ℕ → ℕ) (payload : ℕ) (rest : List Segment) → payload ≢ 0 → AreSegments regions words rest → AreRecords words payload rest → NextSegment regions words payload rest
+next_segment : (regions : List Grant) (words : ℕ → ℕ) (payload : ℕ) (rest : List Segment) → payload ≢ 0 → AreSegments regions words rest →
+    AreRecords words payload rest → NextSegment regions words payload rest
 next_segment regions words payload [] some parts h = absurd (some h)
-next_segment regions words payload (segment ∷ others) some parts h = record { segment = segment; others = others; is = refl; some = h.0; base = h.1; size = h.2; told = h.5; part = parts.0; there = h.4 }
+next_segment regions words payload (segment ∷ others) some parts h =
+    record { segment = segment; others = others; is = refl; some = h.0; base = h.1; size = h.2; told = h.5; part = parts.0; there = h.4 }
 
 rest_segments : (regions : List Grant) (words : ℕ → ℕ) (front back : List Segment) → AreSegments regions words (front ++ back) → AreSegments regions words back
 rest_segments regions words [] back parts = parts
 rest_segments regions words (first ∷ front) back parts = rest_segments regions words front back parts.1
 
 -- the head is passed
-pub head_passed : {A : Type 0} {regions : A → List Grant} {word : A → ℕ → ℕ} (heap : Dlmalloc A) → IsSound regions word heap → 0 < heap.size → (known : List Segment → Type 0) →
-    ((segment : Segment) → segment.base ≡ heap.base → HasTail (regions heap.system) (word heap.system) segment heap.top (extent heap.top heap.top_size Top ∷ extent (heap.top + heap.top_size) 80 Foot ∷ []) → known (segment ∷ [])) →
+pub head_passed : {A : Type 0} {regions : A → List Grant} {word : A → ℕ → ℕ} (heap : Dlmalloc A) → IsSound regions word heap → 0 < heap.size →
+    (known : List Segment → Type 0) → ((segment : Segment) → segment.base ≡ heap.base → HasTail (regions heap.system)
+    (word heap.system) segment heap.top (extent heap.top heap.top_size Top ∷ extent (heap.top + heap.top_size) 80 Foot ∷ []) → known (segment ∷ [])) →
     PassedSegments word heap heap.next known
 head_passed {regions} {word} heap sound some known holds = go (segments_of word heap) refl sound.segments sound.told
   where
-    go : (segments : List Segment) → segments_of word heap ≡ segments → AreSegments (regions heap.system) (word heap.system) segments → AreTold (word heap.system) heap segments → PassedSegments word heap heap.next known
+    go : (segments : List Segment) → segments_of word heap ≡ segments → AreSegments (regions heap.system) (word heap.system) segments →
+        AreTold (word heap.system) heap segments → PassedSegments word heap heap.next known
     go [] is parts h = absurd (omega arith)
     go (segment ∷ segments) is parts h = record {
       passed = segment ∷ [];
@@ -69,7 +73,8 @@ module _ {A : Type 0} {regions : A → List Grant} {word : A → ℕ → ℕ} {h
   pub head_run : 0 < heap.size → IsChunkRun (regions heap.system) (word heap.system) heap.base heap.top
   head_run some = go (segments_of word heap) sound.segments sound.told
     where
-      go : (segments : List Segment) → AreSegments (regions heap.system) (word heap.system) segments → AreTold (word heap.system) heap segments → IsChunkRun (regions heap.system) (word heap.system) heap.base heap.top
+      go : (segments : List Segment) → AreSegments (regions heap.system) (word heap.system) segments → AreTold (word heap.system) heap segments →
+          IsChunkRun (regions heap.system) (word heap.system) heap.base heap.top
       go [] parts h = absurd (omega arith)
       go (segment ∷ segments) parts h = subst (λ base. IsChunkRun (regions heap.system) (word heap.system) base heap.top) (sym h.1) (top_tail parts.0 h.4).run
 
@@ -158,15 +163,15 @@ module _ {A : Type 0} {regions : A → List Grant} {word : A → ℕ → ℕ} {h
 
       -- its extents
       pub extents_told : segment.extents ≡ chunks_between words (words payload) (payload - 16) ++ record_of (payload - 16) (words payload + words (payload + 8)) ∷ []
-      extents_told = tail_there.is ∙ (λ i. chunks_between words ((sym ahead_segment.base) i) (payload - 16) ++ record_of (payload - 16) ((sym ahead_segment.base) i + (sym ahead_segment.size) i) ∷ [])
+      extents_told = tail_there.is ∙ (λ i. chunks_between words ((sym ahead_segment.base) i) (payload - 16) ++ record_of (payload - 16)
+          ((sym ahead_segment.base) i + (sym ahead_segment.size) i) ∷ [])
 
       -- and fewer are left
       pub fewer_left : length (records_from words (2 ^ 64) (words (payload + 16))) < length (records_from words (2 ^ 64) payload)
       fewer_left =
           let rest = left_read ∙ ahead_segment.is in
           let parts = subst (AreSegments (regions heap.system) words) ahead_segment.is parts_left in
-          let few = few_left in
-          let as_many = ap length ahead_segment.is in
+          let few = few_left in let as_many = ap length ahead_segment.is in
           let behind = records_read (regions heap.system) words (2 ^ 64) (words (payload + 16)) ahead_segment.others (omega arith) parts.1 ahead_segment.told in
           let one = ap length rest in let two = ap length behind in
           omega arith

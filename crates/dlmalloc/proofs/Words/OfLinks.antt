@@ -8,7 +8,8 @@ use Rattle.dlmalloc.proofs.Extents.Disjoint.{AreBeside, beside, stands_there}
 
 -- ---- a free chunk of a heap
 
-module _ {A : Type 0} {regions : A → List Grant} {word : A → ℕ → ℕ} {heap : Dlmalloc A} (sound : IsSound regions word heap) {at size : ℕ} (free : IsFreeAt (state_of word heap) at size) where
+module _ {A : Type 0} {regions : A → List Grant} {word : A → ℕ → ℕ} {heap : Dlmalloc A} (sound : IsSound regions word heap) {at size : ℕ}
+    (free : IsFreeAt (state_of word heap) at size) where
   abbrev chunk : Extent
   chunk = extent at size Free
 
@@ -71,7 +72,8 @@ module _ {A : Type 0} {regions : A → List Grant} {word : A → ℕ → ℕ} {h
   ]
 
 -- two free chunks share no byte
-pub free_apart : {A : Type 0} (regions : A → List Grant) (word : A → ℕ → ℕ) (heap : Dlmalloc A) → IsSound regions word heap → {at size other n : ℕ} → IsFreeAt (state_of word heap) at size → IsFreeAt (state_of word heap) other n → at ≢ other →
+pub free_apart : {A : Type 0} (regions : A → List Grant) (word : A → ℕ → ℕ) (heap : Dlmalloc A) → IsSound regions word heap →
+    {at size other n : ℕ} → IsFreeAt (state_of word heap) at size → IsFreeAt (state_of word heap) other n → at ≢ other →
     (at + size ≤ other) ⊎ (other + n ≤ at)
 free_apart regions word heap sound one two apart =
     beside (regions heap.system) (word heap.system) (segments_of word heap) sound.segments sound.apart one two apart
@@ -83,8 +85,9 @@ no_link n other k long (inl below) = inl below
 no_link n other k long (inr behind) = elim (dec_lt n 64) [ yes small ↦ inr (inr (omega arith, omega arith)) | no large ↦ inr (inl (omega arith)) ]
 
 -- links are stored in free chunks alone
-pub only_free : {regions : List Grant} {words : ℕ → ℕ} (heap : HeapState) {index : ℕ → List ℕ} {size : ℕ} (chunk : ℕ) (old new : ℕ → ℕ) → AreChunks regions words index → ((at n : ℕ) → IsIn at (index n) → IsFreeAt heap at n) →
-    IsFreeAt heap chunk size → 32 ≤ size → OnlyLinksChange regions index size chunk old new → OnlyFreeChange regions heap old new
+pub only_free : {regions : List Grant} {words : ℕ → ℕ} (heap : HeapState) {index : ℕ → List ℕ} {size : ℕ} (chunk : ℕ) (old new : ℕ →
+    ℕ) → AreChunks regions words index → ((at n : ℕ) → IsIn at (index n) → IsFreeAt heap at n) → IsFreeAt heap chunk size → 32 ≤ size →
+    OnlyLinksChange regions index size chunk old new → OnlyFreeChange regions heap old new
 only_free heap {size} chunk old new chunks held free long links k granted out =
     links k granted (no_link size chunk k long (out chunk size free)) (λ n other is. no_link n other k (chunks.each n other is).long (out other n (held other n is)))
 
@@ -92,22 +95,23 @@ only_free heap {size} chunk old new chunks held free long links k granted out =
 
 -- words of neither boundaries nor records stay
 abbrev pub OthersStay : {A : Type 0} → (A → List Grant) → (A → ℕ → ℕ) → Dlmalloc A → Dlmalloc A → Type 0
-OthersStay regions word old new = (k : ℕ) → IsWordOf (regions old.system) k → IsWordOf (regions new.system) k → (IsBoundary (state_of word new) k → ⊥) → (IsInRecord (state_of word old) k → ⊥) → (IsInRecord (state_of word new) k → ⊥) → word new.system k ≡ word old.system k
+OthersStay regions word old new = (k : ℕ) → IsWordOf (regions old.system) k → IsWordOf (regions new.system) k → (IsBoundary (state_of word new) k →
+    ⊥) → (IsInRecord (state_of word old) k → ⊥) → (IsInRecord (state_of word new) k → ⊥) → word new.system k ≡ word old.system k
 
 -- A chunk that is free before and after a move keeps its words, where those at boundaries and of records alone change.
-pub kept : {A : Type 0} (regions : A → List Grant) (word : A → ℕ → ℕ) (old new : Dlmalloc A) → IsSound regions word old → IsSound regions word new → OthersStay regions word old new →
-    (index : ℕ → List ℕ) → ((at size : ℕ) → IsIn at (index size) → IsFreeAt (state_of word old) at size) → ((at size : ℕ) → IsIn at (index size) → IsFreeAt (state_of word new) at size) →
-    AreKept (regions old.system) (regions new.system) (word old.system) (word new.system) index
+pub kept : {A : Type 0} (regions : A → List Grant) (word : A → ℕ → ℕ) (old new : Dlmalloc A) → IsSound regions word old →
+    IsSound regions word new → OthersStay regions word old new → (index : ℕ → List ℕ) →
+    ((at size : ℕ) → IsIn at (index size) → IsFreeAt (state_of word old) at size) → ((at size : ℕ) → IsIn at (index size) →
+    IsFreeAt (state_of word new) at size) → AreKept (regions old.system) (regions new.system) (word old.system) (word new.system) index
 kept regions word old new sound sound' others index was is = record {
   granted = λ size chunk k there low high inside. (is_chunk sound' (is chunk size there)).granted k low high inside.aligned;
   words = λ size chunk k there low high near inside. go size chunk k (was chunk size there) (is chunk size there) low high inside;
 }
   where
-    go : (size chunk k : ℕ) → IsFreeAt (state_of word old) chunk size → IsFreeAt (state_of word new) chunk size → chunk + 8 ≤ k → k < chunk + size → IsWordOf (regions old.system) k → word new.system k ≡ word old.system k
+    go : (size chunk k : ℕ) → IsFreeAt (state_of word old) chunk size → IsFreeAt (state_of word new) chunk size → chunk + 8 ≤ k →
+        k < chunk + size → IsWordOf (regions old.system) k → word new.system k ≡ word old.system k
     go size chunk k before after low high inside =
-        let c = is_chunk sound' after in
-        let whole = c.aligned in
-        let m = inside.aligned in
+        let c = is_chunk sound' after in let whole = c.aligned in let m = inside.aligned in
         elim (dec_lt k (chunk + 16)) [
           | yes head ↦ (let place : k ≡ chunk + 8 = omega arith in
               ap (word new.system) place ∙ (free_head sound' after ∙ (sym (free_head sound before) ∙ ap (word old.system) (sym place))))

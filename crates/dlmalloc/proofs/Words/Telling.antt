@@ -9,7 +9,8 @@ use Rattle.dlmalloc.proofs.Moves.OfHeaps.{segments_read, segments_few}
 
 -- a word that an extent rests on, or may: its head, the words of a record, and the word behind a free one
 abbrev pub IsTelling : ℕ → Extent → Type 0
-IsTelling k one = (one.at < k) × (k ≤ one.at + one.size) × (k % 8 ≡ 0) × ((k ≡ one.at + 8) ⊎ ((one.kind ≡ Record) ⊎ (k ≡ one.at + one.size))) × (k ≡ one.at + one.size → IsTrue (is_free_below_top one.kind))
+IsTelling k one = (one.at < k) × (k ≤ one.at + one.size) × (k % 8 ≡ 0) × ((k ≡ one.at + 8) ⊎ ((one.kind ≡ Record) ⊎ (k ≡ one.at + one.size)))
+    × (k ≡ one.at + one.size → IsTrue (is_free_below_top one.kind))
 
 -- an extent rests on the words that tell it
 stands_told : {words : ℕ → ℕ} (words' : ℕ → ℕ) {before : Kind} (one : Extent) → HasChunk words before one → ((k : ℕ) → IsTelling k one → words' k ≡ words k) → HasChunk words' before one
@@ -43,8 +44,10 @@ has_its segment k low high =
 
 -- Each segment is a run still, and the words that tell the extents stay. The bins do not matter.
 module _ {A : Type 0} {regions : A → List Grant} {word : A → ℕ → ℕ} {heap : Dlmalloc A} (sound : IsSound regions word heap) (system : A) (bins : Bins)
-    (stay : AllByRecursion (λ (segment : Segment). IsRun (regions heap.system) segment.base segment.size segment.flags → IsRun (regions system) segment.base segment.size segment.flags) (segments_of word heap))
-    (same : (one : Extent) → extent_at one.at (extents_in (state_of word heap)) ≡ Some one → (k : ℕ) → IsTelling k one → IsWordOf (regions heap.system) k → IsTrue (list_any (has_byte_in k) (segments_of word heap)) → word system k ≡ word heap.system k) where
+    (stay : AllByRecursion (λ (segment : Segment). IsRun (regions heap.system) segment.base segment.size segment.flags →
+    IsRun (regions system) segment.base segment.size segment.flags) (segments_of word heap))
+    (same : (one : Extent) → extent_at one.at (extents_in (state_of word heap)) ≡ Some one → (k : ℕ) → IsTelling k one →
+    IsWordOf (regions heap.system) k → IsTrue (list_any (has_byte_in k) (segments_of word heap)) → word system k ≡ word heap.system k) where
   abbrev words : ℕ → ℕ
   words = word heap.system
 
@@ -55,7 +58,8 @@ module _ {A : Type 0} {regions : A → List Grant} {word : A → ℕ → ℕ} {h
   after = record heap { system = system; bins = bins }
 
   -- a word that an extent rests on stays
-  told : (front : List Segment) (segment : Segment) (back : List Segment) → segments_of word heap ≡ front ++ segment ∷ back → (one : Extent) → extent_at one.at segment.extents ≡ Some one → (k : ℕ) → IsTelling k one → now k ≡ words k
+  told : (front : List Segment) (segment : Segment) (back : List Segment) → segments_of word heap ≡ front ++ segment ∷ back →
+      (one : Extent) → extent_at one.at segment.extents ≡ Some one → (k : ℕ) → IsTelling k one → now k ≡ words k
   told front segment back is one there k tells =
       let in_it = in_part words Used segment.base segment.extents (segment.base + segment.size) part.extents there in
       let low = in_it.low in let high = in_it.high in let above = tells.0 in
@@ -83,7 +87,8 @@ module _ {A : Type 0} {regions : A → List Grant} {word : A → ℕ → ℕ} {h
 
   -- each segment is one still
   still_in : (front segments : List Segment) → segments_of word heap ≡ front ++ segments → AreSegments (regions heap.system) words segments →
-      AllByRecursion (λ segment. IsRun (regions heap.system) segment.base segment.size segment.flags → IsRun (regions system) segment.base segment.size segment.flags) segments → AreSegments (regions system) now segments
+      AllByRecursion (λ segment. IsRun (regions heap.system) segment.base segment.size segment.flags →
+      IsRun (regions system) segment.base segment.size segment.flags) segments → AreSegments (regions system) now segments
   still_in front [] is parts runs = tt
   still_in front (segment ∷ segments) is parts runs = (
     record {
@@ -91,8 +96,8 @@ module _ {A : Type 0} {regions : A → List Grant} {word : A → ℕ → ℕ} {h
       low = parts.0.low;
       high = parts.0.high;
       long = parts.0.long;
-      extents = tiles_told words now Used segment.base segment.extents (segment.base + segment.size) parts.0.extents (tiles_distinct words Used segment.base segment.extents (segment.base + segment.size) parts.0.extents)
-          (told front segment segments is);
+      extents = tiles_told words now Used segment.base segment.extents (segment.base + segment.size) parts.0.extents
+          (tiles_distinct words Used segment.base segment.extents (segment.base + segment.size) parts.0.extents) (told front segment segments is);
       tail = parts.0.tail;
     },
     still_in (front ++ segment ∷ []) segments (is ∙ sym (append_assoc front (segment ∷ []) segments)) parts.1 runs.1,
@@ -102,7 +107,8 @@ module _ {A : Type 0} {regions : A → List Grant} {word : A → ℕ → ℕ} {h
   still_segments = still_in [] (segments_of word heap) refl sound.segments stay
 
   -- the records tell the same
-  still_records : (front segments : List Segment) → segments_of word heap ≡ front ++ segments → AreSegments (regions heap.system) words segments → (payload : ℕ) → AreRecords words payload segments → AreRecords now payload segments
+  still_records : (front segments : List Segment) → segments_of word heap ≡ front ++ segments → AreSegments (regions heap.system) words segments →
+      (payload : ℕ) → AreRecords words payload segments → AreRecords now payload segments
   still_records front [] is parts payload h = h
   still_records front (segment ∷ segments) is parts payload h =
       let rest = still_records (front ++ segment ∷ []) segments (is ∙ sym (append_assoc front (segment ∷ []) segments)) parts.1 (words (payload + 16)) h.5 in (

@@ -3,7 +3,8 @@ use Rattle.dlmalloc.proofs.Extents.Lookup.{extent}
 use Rattle.dlmalloc.proofs.tests.apply.Goals as goal
 
 -- a chunk in use is one of a block
-block_of : (heap : HeapState) (address size : ℕ) → (16 ≤ address) × (32 ≤ size) × (extent_at (address - 16) (extents_in heap) ≡ Some (extent (address - 16) size Used)) → (n : ℕ) × IsBlock heap address n
+block_of : (heap : HeapState) (address size : ℕ) → (16 ≤ address) × (32 ≤ size)
+    × (extent_at (address - 16) (extents_in heap) ≡ Some (extent (address - 16) size Used)) → (n : ℕ) × IsBlock heap address n
 block_of heap address size told =
     let long = told.1 in (
       size - 8,

@@ -7,10 +7,12 @@ abbrev told : Extent → Kind × ℕ
 told extent = (extent.kind, extent.size)
 
 -- an extent that is listed as in use is one
-listed : (heap : HeapState) (at size : ℕ) → option_map told (option_map (shown heap) (extent_at at (extents_in heap))) ≡ Some (Used, size) → extent_at at (extents_in heap) ≡ Some (extent at size Used)
+listed : (heap : HeapState) (at size : ℕ) → option_map told (option_map (shown heap) (extent_at at (extents_in heap))) ≡ Some (Used, size) →
+    extent_at at (extents_in heap) ≡ Some (extent at size Used)
 listed heap at size is = go (extent_at at (extents_in heap)) refl is
   where
-    as_used : (one : Extent) → extent_at at (extents_in heap) ≡ Some one → (victim : Bool) → is_victim heap one ≡ victim → Some (told (shown heap one)) ≡ Some (Used, size) → extent_at at (extents_in heap) ≡ Some (extent at size Used)
+    as_used : (one : Extent) → extent_at at (extents_in heap) ≡ Some one → (victim : Bool) → is_victim heap one ≡ victim →
+        Some (told (shown heap one)) ≡ Some (Used, size) → extent_at at (extents_in heap) ≡ Some (extent at size Used)
     as_used one there true test is =
         let other : Some (Victim, one.size) ≡ Some (Used, size) = subst (λ b. Some (told (if b then record one { kind = Victim } else one)) ≡ Some (Used, size)) test is in
         let kinds : Victim ≡ Used = ap (λ o. (unwrap_or o (Used, size)).0) other in
@@ -22,15 +24,14 @@ listed heap at size is = go (extent_at at (extents_in heap)) refl is
         let place : one.at ≡ at = (found at one (extents_in heap) there).place in
         there ∙ (λ i. Some (extent (place i) (sizes i) (kinds i)))
 
-    go : (one : Option Extent) → extent_at at (extents_in heap) ≡ one → option_map told (option_map (shown heap) one) ≡ Some (Used, size) → extent_at at (extents_in heap) ≡ Some (extent at size Used)
+    go : (one : Option Extent) → extent_at at (extents_in heap) ≡ one → option_map told (option_map (shown heap) one) ≡ Some (Used, size) →
+        extent_at at (extents_in heap) ≡ Some (extent at size Used)
     go None there is = absurd (cc)
     go (Some one) there is = as_used one there (is_victim heap one) refl is
 
 pub returns : goal.returns
 returns g c =
-    let heap = c.args.heap.now in
-    let state = state_of word_of heap in
-    let at = c.args.address - 16 in
+    let heap = c.args.heap.now in let state = state_of word_of heap in let at = c.args.address - 16 in
     let size = c.in-Some-Used-default.size in
     let low : 16 ≤ c.args.address = omega arith in
     let is : option_map told (option_map (shown state) (extent_at at (extents_in state))) ≡ Some (Used, size) =

@@ -14,39 +14,46 @@ pub aligned_place-place-requires-clause-whole : goal.aligned_place-place-require
 aligned_place-place-requires-clause-whole g c = chunk_whole c.requires.sound c.args.n c.args.align c.requires.block
 
 pub free_before-requires-clause-chunk : goal.free_before-requires-clause-chunk
-free_before-requires-clause-chunk g c = block_chunk g.A.Links.regions g.A.Links.word c.args.self.now c.requires.sound c.args.ptr (c.args.n + c.args.align + 24) c.requires.block c.size-size.result c.size-size.ensures.value
+free_before-requires-clause-chunk g c = block_chunk g.A.Links.regions g.A.Links.word c.args.self.now c.requires.sound c.args.ptr
+    (c.args.n + c.args.align + 24) c.requires.block c.size-size.result c.size-size.ensures.value
 
 pub free_before-requires-clause-lead : goal.free_before-requires-clause-lead
-free_before-requires-clause-lead g c = (place_here c.requires.sound c.args.n c.args.align c.requires.block c.requires.align.0 c.requires.align.1 c.requires.least c.size-size.ensures.value c.aligned_place-place.ensures.place).lead
+free_before-requires-clause-lead g c = (place_here c.requires.sound c.args.n c.args.align c.requires.block c.requires.align.0 c.requires.align.1
+    c.requires.least c.size-size.ensures.value c.aligned_place-place.ensures.place).lead
 
 pub free_before-requires-clause-whole : goal.free_before-requires-clause-whole
-free_before-requires-clause-whole g c = (place_here c.requires.sound c.args.n c.args.align c.requires.block c.requires.align.0 c.requires.align.1 c.requires.least c.size-size.ensures.value c.aligned_place-place.ensures.place).whole
+free_before-requires-clause-whole g c = (place_here c.requires.sound c.args.n c.args.align c.requires.block c.requires.align.0 c.requires.align.1
+    c.requires.least c.size-size.ensures.value c.aligned_place-place.ensures.place).whole
 
 pub free_before-requires-clause-room : goal.free_before-requires-clause-room
-free_before-requires-clause-room g c = (place_here c.requires.sound c.args.n c.args.align c.requires.block c.requires.align.0 c.requires.align.1 c.requires.least c.size-size.ensures.value c.aligned_place-place.ensures.place).room
+free_before-requires-clause-room g c = (place_here c.requires.sound c.args.n c.args.align c.requires.block c.requires.align.0 c.requires.align.1
+    c.requires.least c.size-size.ensures.value c.aligned_place-place.ensures.place).room
 
 pub overflow_sub-size : goal.overflow_sub-size
-overflow_sub-size g c = (place_here c.requires.sound c.args.n c.args.align c.requires.block c.requires.align.0 c.requires.align.1 c.requires.least c.size-size.ensures.value c.aligned_place-place.ensures.place).first
+overflow_sub-size g c = (place_here c.requires.sound c.args.n c.args.align c.requires.block c.requires.align.0 c.requires.align.1 c.requires.least
+    c.size-size.ensures.value c.aligned_place-place.ensures.place).first
 
 pub free_behind-requires-clause-room : goal.free_behind-requires-clause-room
-free_behind-requires-clause-room g c = (place_here c.requires.sound c.args.n c.args.align c.requires.block c.requires.align.0 c.requires.align.1 c.requires.least c.size-size.ensures.value c.aligned_place-place.ensures.place).rest
+free_behind-requires-clause-room g c = (place_here c.requires.sound c.args.n c.args.align c.requires.block c.requires.align.0 c.requires.align.1
+    c.requires.least c.size-size.ensures.value c.aligned_place-place.ensures.place).rest
 
 pub returns-clause-multiple : goal.returns-clause-multiple
-returns-clause-multiple g c = (place_here c.requires.sound c.args.n c.args.align c.requires.block c.requires.align.0 c.requires.align.1 c.requires.least c.size-size.ensures.value c.aligned_place-place.ensures.place).multiple
+returns-clause-multiple g c = (place_here c.requires.sound c.args.n c.args.align c.requires.block c.requires.align.0 c.requires.align.1 c.requires.least
+    c.size-size.ensures.value c.aligned_place-place.ensures.place).multiple
 
 pub returns-clause-small : goal.returns-clause-small
-returns-clause-small g c = (place_here c.requires.sound c.args.n c.args.align c.requires.block c.requires.align.0 c.requires.align.1 c.requires.least c.size-size.ensures.value c.aligned_place-place.ensures.place).small
+returns-clause-small g c = (place_here c.requires.sound c.args.n c.args.align c.requires.block c.requires.align.0 c.requires.align.1 c.requires.least
+    c.size-size.ensures.value c.aligned_place-place.ensures.place).small
 
 pub returns-clause-state : goal.returns-clause-state
 returns-clause-state g c =
     let place = c.aligned_place-place.result in
-    subst (λ p. state_of g.A.Links.word c.free_behind.new.self ≡ tail_cut (lead_freed (state_of g.A.Links.word c.args.self.now) (c.args.ptr - 16) p) p c.args.n) c.aligned_place-place.ensures.place
-    (c.free_behind.ensures.state ∙ ap (λ s. tail_cut s place c.args.n) c.free_before.ensures.state)
+    subst (λ p. state_of g.A.Links.word c.free_behind.new.self ≡ tail_cut (lead_freed (state_of g.A.Links.word c.args.self.now) (c.args.ptr - 16) p) p
+    c.args.n) c.aligned_place-place.ensures.place (c.free_behind.ensures.state ∙ ap (λ s. tail_cut s place c.args.n) c.free_before.ensures.state)
 
 pub returns-clause-others : goal.returns-clause-others
 returns-clause-others g c =
-    moved_on
-    c.free_before.ensures.others c.free_behind.ensures.others
+    moved_on c.free_before.ensures.others c.free_behind.ensures.others
 
 pub returns-clause-kept : goal.returns-clause-kept
 returns-clause-kept g c =
@@ -61,6 +68,5 @@ returns-clause-words g c = λ k inside passed.
 
 pub returns-clause-order : goal.returns-clause-order
 returns-clause-order g c = λ b.
-    let lead = c.free_before.ensures.order b in
-    let tail = c.free_behind.ensures.order lead.0 in
+    let lead = c.free_before.ensures.order b in let tail = c.free_behind.ensures.order lead.0 in
     (lead.0.index, subst (λ s. HoldsBinned s lead.0.index) c.free_before.ensures.state lead.0.holds, lead.1, tail)

@@ -15,8 +15,7 @@ returns-then-from-self-clause-same g c = not_rebinned g.A.Links.follows c.requir
 
 -- it is the victim
 pub returns-then-from-self-2-clause-binned : goal.returns-then-from-self-2-clause-binned
-returns-then-from-self-2-clause-binned g c = λ b.
-    (none_binned b (λ n free. c.if-from-self-2.true), added_none (c.args.to - c.args.from) c.args.from b.index)
+returns-then-from-self-2-clause-binned g c = λ b. (none_binned b (λ n free. c.if-from-self-2.true), added_none (c.args.to - c.args.from) c.args.from b.index)
 
 pub returns-then-from-self-2-clause-same : goal.returns-then-from-self-2-clause-same
 returns-then-from-self-2-clause-same g c = not_rebinned g.A.Links.follows c.requires.sound (g.A.Links.follows_none c.args.self.now.system)

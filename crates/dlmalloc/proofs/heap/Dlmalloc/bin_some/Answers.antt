@@ -10,7 +10,8 @@ pub bin-requires-clause-other : goal.bin-requires-clause-other
 bin-requires-clause-other g c = c.requires.other (λ none. (let some = c.if-size-gt0.true in omega arith))
 
 pub returns-else-size-gt0-clause-binned : goal.returns-else-size-gt0-clause-binned
-returns-else-size-gt0-clause-binned g c = λ loose b apart. (none_binned b (λ n free. absurd (c.requires.none (let none = c.if-size-gt0.false in omega arith) n free)), added_none c.args.size c.args.at b.index)
+returns-else-size-gt0-clause-binned g c = λ loose b apart.
+    (none_binned b (λ n free. absurd (c.requires.none (let none = c.if-size-gt0.false in omega arith) n free)), added_none c.args.size c.args.at b.index)
 
 pub returns-else-size-gt0-clause-same : goal.returns-else-size-gt0-clause-same
 returns-else-size-gt0-clause-same g c = not_rebinned g.A.Links.follows c.requires.sound (g.A.Links.follows_none c.args.self.now.system)

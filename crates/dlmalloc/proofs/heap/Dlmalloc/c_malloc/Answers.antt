@@ -7,8 +7,7 @@ use Rattle.dlmalloc.proofs.heap.Dlmalloc.c_malloc.Goals as goal
 
 pub cut-requires-clause-small : goal.cut-requires-clause-small
 cut-requires-clause-small g c =
-    let granularity = c.requires.sound.granularity in
-    let e = c.request2size.ensures in
+    let granularity = c.requires.sound.granularity in let e = c.request2size.ensures in
     let less : c.args.size < limit c.args.self.now.granularity = (let not = c.if-size-max_request.false in let is = c.max_request.ensures.is in omega arith) in
     request_small c.args.self.now.granularity c.args.size granularity.0 granularity.1 less e.whole e.near e.is
 

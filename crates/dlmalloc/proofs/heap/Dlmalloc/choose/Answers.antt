@@ -4,19 +4,20 @@ use Rattle.dlmalloc.proofs.heap.Dlmalloc.choose.Goals as goal
 
 pub returns-in-Some-clause-chunk : goal.returns-in-Some-clause-chunk
 returns-in-Some-clause-chunk g c place is =
-    of_place (λ place. IsChosen (state_of g.A.Links.word c.args.self.now) c.args.n (record { at = place.at; size = place.size; kind = Free })) c.in-Some.place place is
-    (bins_chosen c.requires.sound c.requires.there c.args.n c.in-Some.place.at
-    c.in-Some.ensures.least (sym c.goes_first.ensures ∙ c.if-goes_first.true) c.in-Some.ensures.there c.in-Some.ensures.other)
+    of_place (λ place. IsChosen (state_of g.A.Links.word c.args.self.now) c.args.n (record { at = place.at; size = place.size; kind = Free })) c.in-Some.place
+    place is (bins_chosen c.requires.sound c.requires.there c.args.n c.in-Some.place.at c.in-Some.ensures.least
+    (sym c.goes_first.ensures ∙ c.if-goes_first.true) c.in-Some.ensures.there c.in-Some.ensures.other)
 
 pub returns-in-Some-2-clause-chunk : goal.returns-in-Some-2-clause-chunk
 returns-in-Some-2-clause-chunk g c place is =
-    of_place (λ place. IsChosen (state_of g.A.Links.word c.args.self.now) c.args.n (record { at = place.at; size = place.size; kind = Free })) (record { at = c.args.self.now.victim; size = c.args.self.now.victim_size }) place is
-    (victim_first c.requires.sound c.requires.there c.args.n
-    c.in-Some.ensures.least (sym c.goes_first.ensures ∙ c.if-goes_first.false) (omega arith))
+    of_place (λ place. IsChosen (state_of g.A.Links.word c.args.self.now) c.args.n (record { at = place.at; size = place.size; kind = Free }))
+    (record { at = c.args.self.now.victim; size = c.args.self.now.victim_size }) place is
+    (victim_first c.requires.sound c.requires.there c.args.n c.in-Some.ensures.least (sym c.goes_first.ensures ∙ c.if-goes_first.false) (omega arith))
 
 pub returns-in-None-clause-chunk : goal.returns-in-None-clause-chunk
 returns-in-None-clause-chunk g c place is =
-    of_place (λ place. IsChosen (state_of g.A.Links.word c.args.self.now) c.args.n (record { at = place.at; size = place.size; kind = Free })) (record { at = c.args.self.now.victim; size = c.args.self.now.victim_size }) place is
+    of_place (λ place. IsChosen (state_of g.A.Links.word c.args.self.now) c.args.n (record { at = place.at; size = place.size; kind = Free }))
+    (record { at = c.args.self.now.victim; size = c.args.self.now.victim_size }) place is
     (victim_alone c.requires.sound c.requires.there c.args.n c.in-None.ensures.least c.if-n-victim.true (omega arith))
 
 pub returns-in-None-2-clause-top : goal.returns-in-None-2-clause-top
@@ -27,12 +28,15 @@ returns-in-None-3-clause-none g c is = none_chosen c.requires.sound c.requires.t
 
 pub returns-in-Some-clause-member : goal.returns-in-Some-clause-member
 returns-in-Some-clause-member g c place is =
-    of_place (λ place. place.at ≢ c.args.self.now.victim → IsMember g.A.Links.regions g.A.Links.word c.args.self.now c.args.n place.at) c.in-Some.place place is (λ other. c.in-Some.ensures.member)
+    of_place (λ place. place.at ≢ c.args.self.now.victim → IsMember g.A.Links.regions g.A.Links.word c.args.self.now c.args.n place.at) c.in-Some.place
+    place is (λ other. c.in-Some.ensures.member)
 
 pub returns-in-Some-2-clause-member : goal.returns-in-Some-2-clause-member
 returns-in-Some-2-clause-member g c place is =
-    of_place (λ place. place.at ≢ c.args.self.now.victim → IsMember g.A.Links.regions g.A.Links.word c.args.self.now c.args.n place.at) (record { at = c.args.self.now.victim; size = c.args.self.now.victim_size }) place is (λ other. absurd (other refl))
+    of_place (λ place. place.at ≢ c.args.self.now.victim → IsMember g.A.Links.regions g.A.Links.word c.args.self.now c.args.n place.at)
+    (record { at = c.args.self.now.victim; size = c.args.self.now.victim_size }) place is (λ other. absurd (other refl))
 
 pub returns-in-None-clause-member : goal.returns-in-None-clause-member
 returns-in-None-clause-member g c place is =
-    of_place (λ place. place.at ≢ c.args.self.now.victim → IsMember g.A.Links.regions g.A.Links.word c.args.self.now c.args.n place.at) (record { at = c.args.self.now.victim; size = c.args.self.now.victim_size }) place is (λ other. absurd (other refl))
+    of_place (λ place. place.at ≢ c.args.self.now.victim → IsMember g.A.Links.regions g.A.Links.word c.args.self.now c.args.n place.at)
+    (record { at = c.args.self.now.victim; size = c.args.self.now.victim_size }) place is (λ other. absurd (other refl))

@@ -10,23 +10,19 @@ use Rattle.dlmalloc.proofs.heap.Dlmalloc.cut.Goals as goal
 
 pub returns-in-Some-Chunk-clause-cut : goal.returns-in-Some-Chunk-clause-cut
 returns-in-Some-Chunk-clause-cut g c =
-    let place = c.in-Some-Chunk.place in
-    let is = ap Some c.in-Some-Chunk.field-0-is in
+    let place = c.in-Some-Chunk.place in let is = ap Some c.in-Some-Chunk.field-0-is in
     let chosen = c.in-Some-Chunk.ensures.chunk place is in
-    cut_here g.A.Allocator.zeros g.A.Links.follows c.requires.sound c.args.n
-    chosen (c.in-Some-Chunk.ensures.fits place is) (free_below c.requires.sound chosen.there)
-    c.take.ensures.state c.take.ensures.more c.take.ensures.moved
+    cut_here g.A.Allocator.zeros g.A.Links.follows c.requires.sound c.args.n chosen (c.in-Some-Chunk.ensures.fits place is)
+    (free_below c.requires.sound chosen.there) c.take.ensures.state c.take.ensures.more c.take.ensures.moved
 
 pub returns-in-Some-Top-clause-cut : goal.returns-in-Some-Top-clause-cut
 returns-in-Some-Top-clause-cut g c =
-    let heap = c.args.self.now in
-    let is = ap Some c.in-Some-Top.field-0-is in
-    let chosen = c.in-Some-Top.ensures.top is in
-    let fits = c.in-Some-Top.ensures.top_fits is in
-    subst (λ k. IsCutOut g.A.Links.regions g.A.Links.word g.A.Allocator.zeros g.A.Links.follows heap c.args.n k c.take_top.new.self) (sym c.take_top.ensures.chunk)
-    (cut_here g.A.Allocator.zeros g.A.Links.follows c.requires.sound c.args.n
-    chosen (omega arith) (free_below c.requires.sound chosen.there) c.take_top.ensures.state c.take_top.ensures.more
-    (as_turned g.A.Allocator.zeros g.A.Links.follows c.requires.sound c.args.n c.take_top.ensures.moved))
+    let heap = c.args.self.now in let is = ap Some c.in-Some-Top.field-0-is in
+    let chosen = c.in-Some-Top.ensures.top is in let fits = c.in-Some-Top.ensures.top_fits is in
+    subst (λ k. IsCutOut g.A.Links.regions g.A.Links.word g.A.Allocator.zeros g.A.Links.follows heap c.args.n k c.take_top.new.self)
+    (sym c.take_top.ensures.chunk)
+    (cut_here g.A.Allocator.zeros g.A.Links.follows c.requires.sound c.args.n chosen (omega arith) (free_below c.requires.sound chosen.there)
+    c.take_top.ensures.state c.take_top.ensures.more (as_turned g.A.Allocator.zeros g.A.Links.follows c.requires.sound c.args.n c.take_top.ensures.moved))
 
 pub cut_new-requires-clause-none : goal.cut_new-requires-clause-none
 cut_new-requires-clause-none g c = elim c.if-self-gt0.branch [
@@ -36,14 +32,11 @@ cut_new-requires-clause-none g c = elim c.if-self-gt0.branch [
 
 pub returns-in-Some-Chunk-clause-member : goal.returns-in-Some-Chunk-clause-member
 returns-in-Some-Chunk-clause-member g c = λ size is.
-    let place = c.in-Some-Chunk.place in
-    let same = ap Some c.in-Some-Chunk.field-0-is in
-    c.in-Some-Chunk.ensures.member place same
-    (bins_no_victim size (c.in-Some-Chunk.ensures.chunk place same) is)
+    let place = c.in-Some-Chunk.place in let same = ap Some c.in-Some-Chunk.field-0-is in
+    c.in-Some-Chunk.ensures.member place same (bins_no_victim size (c.in-Some-Chunk.ensures.chunk place same) is)
 
 pub returns-in-Some-Top-clause-member : goal.returns-in-Some-Top-clause-member
-returns-in-Some-Top-clause-member g c = λ size is.
-    absurd (top_no_bins size (c.in-Some-Top.ensures.top (ap Some c.in-Some-Top.field-0-is)) refl is)
+returns-in-Some-Top-clause-member g c = λ size is. absurd (top_no_bins size (c.in-Some-Top.ensures.top (ap Some c.in-Some-Top.field-0-is)) refl is)
 
 pub returns-in-Some-Top-clause-linked : goal.returns-in-Some-Top-clause-linked
 returns-in-Some-Top-clause-linked g c =

@@ -7,16 +7,12 @@ use Rattle.dlmalloc.proofs.heap.Dlmalloc.cut_new.Goals as goal
 
 pub returns-in-None-clause-cut : goal.returns-in-None-clause-cut
 returns-in-None-clause-cut g c =
-    let heap = c.args.self.now in
-    let middle = c.grow.new.self in
-    let new = c.take_top.new.self in
+    let heap = c.args.self.now in let middle = c.grow.new.self in let new = c.take_top.new.self in
     let grown = c.in_ok-chunk.ensures.top c.in-None.is in
     let events = Granted (round_up (c.args.n + 96) heap.granularity) grown.grant ∷ [] in
     subst (λ k. IsCutOut g.A.Links.regions g.A.Links.word g.A.Allocator.zeros g.A.Links.follows heap c.args.n k new) (sym c.take_top.ensures.chunk)
-    (cut_new g.A.Allocator.zeros g.A.Links.follows c.requires.sound c.args.n grown
-    c.take_top.ensures.state c.take_top.ensures.more c.take_top.ensures.moved c.take_top.ensures.head c.take_top.ensures.foot c.take_top.ensures.others
-    c.requires.none
-    (top_below grown.sound grown.there)
+    (cut_new g.A.Allocator.zeros g.A.Links.follows c.requires.sound c.args.n grown c.take_top.ensures.state c.take_top.ensures.more c.take_top.ensures.moved
+    c.take_top.ensures.head c.take_top.ensures.foot c.take_top.ensures.others c.requires.none (top_below grown.sound grown.there)
     (g.A.Links.follows_on heap.system middle.system new.system events [] events grown.followed c.take_top.ensures.moved.followed refl))
 
 pub returns-in-Some-clause-cut : goal.returns-in-Some-clause-cut
@@ -29,13 +25,11 @@ returns-in_err-chunk-clause-denied g c =
 
 pub returns-in-None-clause-linked : goal.returns-in-None-clause-linked
 returns-in-None-clause-linked g c =
-    let grown = c.in_ok-chunk.ensures.top c.in-None.is in
-    let e = c.take_top.ensures in
+    let grown = c.in_ok-chunk.ensures.top c.in-None.is in let e = c.take_top.ensures in
     binned_beside c.index_stays.ensures grown.sound e.moved e.bins e.free (ap (λ s. s.victim) e.state) c.grow.ensures.linked
 
 pub returns-in-None-clause-order : goal.returns-in-None-clause-order
 returns-in-None-clause-order g c = λ b.
-    let grown = c.in_ok-chunk.ensures.top c.in-None.is in
-    let e = c.take_top.ensures in
+    let grown = c.in_ok-chunk.ensures.top c.in-None.is in let e = c.take_top.ensures in
     let after = c.grow.ensures.order b in
     (binned_beside c.index_stays.ensures grown.sound e.moved e.bins e.free (ap (λ s. s.victim) e.state) after.0, after.1)

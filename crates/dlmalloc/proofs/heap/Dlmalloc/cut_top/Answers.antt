@@ -4,13 +4,15 @@ use Rattle.dlmalloc.proofs.Returns.TopShortened.{head_given, within, rest_some, 
 use Rattle.dlmalloc.proofs.heap.Dlmalloc.cut_top.Goals as goal
 
 pub overflow_sub-size : goal.overflow_sub-size
-overflow_sub-size g c = within c.requires.sound c.requires.there c.args.cut c.requires.whole c.requires.room (whole_each (g.A.Links.regions c.args.self.now.system) (g.A.Links.whole c.args.self.now.system))
+overflow_sub-size g c = within c.requires.sound c.requires.there c.args.cut c.requires.whole c.requires.room
+    (whole_each (g.A.Links.regions c.args.self.now.system) (g.A.Links.whole c.args.self.now.system))
 
 pub free_part-requires-clause-run : goal.free_part-requires-clause-run
 free_part-requires-clause-run g c = head_given c.requires.sound c.requires.there
 
 pub free_part-requires-clause-some : goal.free_part-requires-clause-some
-free_part-requires-clause-some g c = rest_some c.requires.sound c.requires.there c.args.cut c.requires.whole c.requires.room (whole_each (g.A.Links.regions c.args.self.now.system) (g.A.Links.whole c.args.self.now.system))
+free_part-requires-clause-some g c = rest_some c.requires.sound c.requires.there c.args.cut c.requires.whole c.requires.room
+    (whole_each (g.A.Links.regions c.args.self.now.system) (g.A.Links.whole c.args.self.now.system))
 
 pub free_part-requires-clause-whole : goal.free_part-requires-clause-whole
 free_part-requires-clause-whole g c =
@@ -22,40 +24,36 @@ close_top-requires-clause-low g c = top_low c.requires.sound c.requires.there
 
 pub close_top-requires-clause-room : goal.close_top-requires-clause-room
 close_top-requires-clause-room g c =
-    let closes = ends c.requires.sound c.requires.there in
-    let low = top_low c.requires.sound c.requires.there in
+    let closes = ends c.requires.sound c.requires.there in let low = top_low c.requires.sound c.requires.there in
     let room = c.requires.room in
     omega arith
 
 pub close_top-requires-clause-top : goal.close_top-requires-clause-top
-close_top-requires-clause-top g c = top_still c.requires.sound c.requires.there c.args.cut c.requires.whole c.requires.room (whole_each (g.A.Links.regions c.args.self.now.system) (g.A.Links.whole c.args.self.now.system))
-    c.free_part.new.self (c.free_part.ensures.regions c.if-not-free_part.false)
+close_top-requires-clause-top g c = top_still c.requires.sound c.requires.there c.args.cut c.requires.whole c.requires.room (whole_each (g.A.Links.regions
+    c.args.self.now.system) (g.A.Links.whole c.args.self.now.system)) c.free_part.new.self (c.free_part.ensures.regions c.if-not-free_part.false)
 
 pub close_top-requires-clause-foot : goal.close_top-requires-clause-foot
-close_top-requires-clause-foot g c = foot_still c.requires.sound c.requires.there c.args.cut c.requires.whole c.requires.room (whole_each (g.A.Links.regions c.args.self.now.system) (g.A.Links.whole c.args.self.now.system))
-    c.free_part.new.self (c.free_part.ensures.regions c.if-not-free_part.false)
+close_top-requires-clause-foot g c = foot_still c.requires.sound c.requires.there c.args.cut c.requires.whole c.requires.room (whole_each (g.A.Links.regions
+    c.args.self.now.system) (g.A.Links.whole c.args.self.now.system)) c.free_part.new.self (c.free_part.ensures.regions c.if-not-free_part.false)
 
 pub returns-clause-cut : goal.returns-clause-cut
 returns-clause-cut g c = λ is.
-    let regions = g.A.Links.regions in
-    let word = g.A.Links.word in
-    let heap = c.args.self.now in
-    let less = c.args.cut in
-    let freed = c.free_part.ensures in
-    let middle = c.free_part.new.self in
-    let closed = c.close_top.ensures in
-    let new = c.close_top.new.self in
+    let regions = g.A.Links.regions in let word = g.A.Links.word in let heap = c.args.self.now in
+    let less = c.args.cut in let freed = c.free_part.ensures in let middle = c.free_part.new.self in
+    let closed = c.close_top.ensures in let new = c.close_top.new.self in
     let whole = whole_each (regions heap.system) (g.A.Links.whole heap.system) in
     let taken = c.if-not-free_part.false in
     let after : Dlmalloc _ = record heap { system = new.system; size = heap.size - less; top_size = heap.base + (heap.size - less) - 80 - heap.top; trim_check = trim_threshold } in
     let is : new ≡ after = closed.fields in
-    subst (λ h. IsShortened regions word g.A.Links.follows heap less h) (sym is)
-    (is_shortened c.requires.sound c.requires.there less c.requires.whole c.requires.room whole new.system (closed.regions ∙ freed.regions taken) closed.head closed.foot_head
+    subst (λ h. IsShortened regions word g.A.Links.follows heap less h) (sym is) (is_shortened c.requires.sound c.requires.there less c.requires.whole
+    c.requires.room whole new.system (closed.regions ∙ freed.regions taken) closed.head closed.foot_head
     (λ k inside at_top at_foot. (let was = subst (λ rs. IsWordOf rs k) closed.regions inside in closed.elsewhere k was at_top at_foot ∙ freed.words k was))
-    g.A.Links.follows (g.A.Links.follows_on heap.system middle new.system (Released heap.base heap.size (heap.size - less) ∷ []) [] (Released heap.base heap.size (heap.size - less) ∷ []) (freed.follows taken) closed.follows refl))
+    g.A.Links.follows (g.A.Links.follows_on heap.system middle new.system (Released heap.base heap.size (heap.size - less) ∷ []) []
+    (Released heap.base heap.size (heap.size - less) ∷ []) (freed.follows taken) closed.follows refl))
 
 pub returns-clause-there : goal.returns-clause-there
 returns-clause-there g c =
     let heap = c.args.self.now in
-    let left : 0 < heap.size - c.args.cut = rest_some c.requires.sound c.requires.there c.args.cut c.requires.whole c.requires.room (whole_each (g.A.Links.regions heap.system) (g.A.Links.whole heap.system)) in
+    let left : 0 < heap.size - c.args.cut = rest_some c.requires.sound c.requires.there c.args.cut c.requires.whole c.requires.room
+    (whole_each (g.A.Links.regions heap.system) (g.A.Links.whole heap.system)) in
     subst (λ h. 0 < h.size) (sym c.close_top.ensures.fields) left

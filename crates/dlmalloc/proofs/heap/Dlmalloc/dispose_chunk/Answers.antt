@@ -87,26 +87,20 @@ bin_joined-requires-clause-joined g c = c.join_free.ensures.joined
 
 pub bin_joined-requires-clause-loose : goal.bin_joined-requires-clause-loose
 bin_joined-requires-clause-loose g c =
-    let first = c.unbin_between.ensures in
-    let second = c.unbin_between-2.ensures in
+    let first = c.unbin_between.ensures in let second = c.unbin_between-2.ensures in
     let from = c.free_begin-from.result in
     joined_loose g.A.Links.follows c.requires.sound c.requires.chunk from c.free_end-to.result c.free_begin-from.ensures.value c.free_end-to.ensures.value
-    (rebinned_on g.A.Links.regions g.A.Links.word g.A.Links.follows g.A.Links.follows_on first.same second.same)
-    c.index_stays.ensures
+    (rebinned_on g.A.Links.regions g.A.Links.word g.A.Links.follows g.A.Links.follows_on first.same second.same) c.index_stays.ensures
     (second.loose (from ∷ []) (first.loose [] c.requires.linked (λ none. none)).0
-    (two g.A.Links.follows c.requires.sound c.requires.chunk from c.free_end-to.result c.free_begin-from.ensures.value c.free_end-to.ensures.value)).0 c.join_free.ensures.moved c.join_free.ensures.free c.join_free.ensures.victim c.join_free.ensures.bins
+    (two g.A.Links.follows c.requires.sound c.requires.chunk from c.free_end-to.result c.free_begin-from.ensures.value c.free_end-to.ensures.value)).0
+    c.join_free.ensures.moved c.join_free.ensures.free c.join_free.ensures.victim c.join_free.ensures.bins
 
 pub returns : goal.returns
 returns g c =
-    let word = g.A.Links.word in
-    let old = c.args.self.now in
-    let new = c.bin_joined.new.self in
+    let word = g.A.Links.word in let old = c.args.self.now in let new = c.bin_joined.new.self in
     let left = rebinned_on g.A.Links.regions word g.A.Links.follows g.A.Links.follows_on c.unbin_between.ensures.same c.unbin_between-2.ensures.same in
-    let e = c.join_free.ensures in
-    let last = c.bin_joined.ensures.same in
-    let from = c.free_begin-from.result in
-    let to = c.free_end-to.result in
-    let begin = c.free_begin-from.ensures.value in
+    let e = c.join_free.ensures in let last = c.bin_joined.ensures.same in let from = c.free_begin-from.result in
+    let to = c.free_end-to.result in let begin = c.free_begin-from.ensures.value in
     let end = c.free_end-to.ensures.value in
     let order : KeepsOrder g.A.Links.regions word old new = λ b.
     let one = c.unbin_between.ensures.loose [] b (λ none. none) in

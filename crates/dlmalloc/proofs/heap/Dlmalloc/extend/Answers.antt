@@ -7,8 +7,7 @@ use Rattle.dlmalloc.proofs.heap.Dlmalloc.extend.Goals as goal
 pub overflow_add-self : goal.overflow_add-self
 overflow_add-self g c =
     let m = behind_means c.args.grant.now (record { base = c.args.self.now.base; size = c.args.self.now.size; flags = c.args.self.now.flags; extents = [] }) c.requires.behind in
-    let high = c.requires.fresh.high in
-    let begins = m.0 in
+    let high = c.requires.fresh.high in let begins = m.0 in
     grind arith
 
 pub close_top-requires-clause-low : goal.close_top-requires-clause-low
@@ -16,8 +15,7 @@ close_top-requires-clause-low g c = top_low c.requires.sound c.requires.there
 
 pub close_top-requires-clause-room : goal.close_top-requires-clause-room
 close_top-requires-clause-room g c =
-    let e = ends c.requires.sound c.requires.there in
-    let long = c.requires.fresh.long in
+    let e = ends c.requires.sound c.requires.there in let long = c.requires.fresh.long in
     omega arith
 
 pub close_top-requires-clause-high : goal.close_top-requires-clause-high
@@ -31,9 +29,7 @@ close_top-requires-clause-top g c = top_word c.requires.sound c.requires.there
 
 pub close_top-requires-clause-foot : goal.close_top-requires-clause-foot
 close_top-requires-clause-foot g c =
-    let heap = c.args.self.now in
-    let grant = c.args.grant.now in
-    let f = c.requires.fresh in
+    let heap = c.args.self.now in let grant = c.args.grant.now in let f = c.requires.fresh in
     let m = behind_means grant (bare_head heap) c.requires.behind in
     let whole = end_whole c.requires.sound c.requires.there in
     record {
@@ -43,18 +39,12 @@ close_top-requires-clause-foot g c =
 
 pub returns : goal.returns
 returns g c =
-    let regions = g.A.Links.regions in
-    let word = g.A.Links.word in
-    let heap = c.args.self.now in
-    let grant = c.args.grant.now in
-    let fresh = c.requires.fresh in
-    let there = c.requires.there in
-    let closed = c.close_top.ensures in
-    let new = c.close_top.new.self in
+    let regions = g.A.Links.regions in let word = g.A.Links.word in let heap = c.args.self.now in
+    let grant = c.args.grant.now in let fresh = c.requires.fresh in let there = c.requires.there in
+    let closed = c.close_top.ensures in let new = c.close_top.new.self in
     let m = behind_means grant (bare_head heap) c.requires.behind in
     let whole = whole_each (regions heap.system) (g.A.Links.whole heap.system) in
-    let long = fresh.long in
-    let e = ends c.requires.sound there in
+    let long = fresh.long in let e = ends c.requires.sound there in
     let some : 0 < heap.size + grant.size = omega arith in
     let is : new ≡ extended_heap heap grant new.system = closed.fields in
     record {
@@ -70,6 +60,7 @@ returns g c =
         words = extended_words new.system c.requires.sound fresh closed.regions there m.0 m.1 c.requires.behind whole closed.head closed.foot_head closed.elsewhere;
         new_words = λ k inside low high a b. closed.elsewhere k inside a (λ at_foot. b (omega arith));
       });
-      free = subst (λ h. FreeMoves (state_of word heap) (state_of word h) [] []) (sym is) (extended_free new.system c.requires.sound fresh closed.regions there m.0 m.1 c.requires.behind whole closed.head closed.foot_head closed.elsewhere);
+      free = subst (λ h. FreeMoves (state_of word heap) (state_of word h) [] []) (sym is)
+          (extended_free new.system c.requires.sound fresh closed.regions there m.0 m.1 c.requires.behind whole closed.head closed.foot_head closed.elsewhere);
       same = subst (λ h. IsSameBins heap h) (sym is) (record { bins = refl; victim = refl });
     }

@@ -8,18 +8,13 @@ least_fit-requires g c = let b = c.requires.linked in (b.index, b.linked)
 
 pub size-requires : goal.size-requires
 size-requires g c =
-    let b = c.requires.linked in
-    let fit = c.in-Some.ensures.fit b.index b.linked in
+    let b = c.requires.linked in let fit = c.in-Some.ensures.fit b.index b.linked in
     record { head = free_has_head c.requires.sound (fit_free c.requires.sound b c.args.n fit) }
 
 pub returns-in-Some : goal.returns-in-Some
 returns-in-Some g c =
-    let word = g.A.Links.word in
-    let heap = c.args.self.now in
-    let at = c.in-Some.at in
-    let b = c.requires.linked in
-    let fit = c.in-Some.ensures.fit b.index b.linked in
-    let free = fit_free c.requires.sound b c.args.n fit in
+    let word = g.A.Links.word in let heap = c.args.self.now in let at = c.in-Some.at in let b = c.requires.linked in
+    let fit = c.in-Some.ensures.fit b.index b.linked in let free = fit_free c.requires.sound b c.args.n fit in
     let size : c.size.result ≡ fit.size = c.size.ensures.value ∙ (is_chunk c.requires.sound free).head in
     let enough = fit.enough in
     record {

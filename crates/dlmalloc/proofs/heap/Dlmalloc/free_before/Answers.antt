@@ -6,8 +6,8 @@ use Rattle.dlmalloc.proofs.heap.Dlmalloc.free_before.Goals as goal
 -- the chunk's own head is at a boundary
 pub returns-clause-words : goal.returns-clause-words
 returns-clause-words g c k is was now =
-    c.free_lead.ensures.words k is
-    (λ same. was (inl (subst (IsBoundary (state_of g.A.Links.word c.args.self.now)) (sym same) (record { extent = extent c.args.at c.args.size Used; there = c.requires.chunk; is = inl refl })))) (λ free. was (inr free)) now
+    c.free_lead.ensures.words k is (λ same. was (inl (subst (IsBoundary (state_of g.A.Links.word c.args.self.now)) (sym same)
+    (record { extent = extent c.args.at c.args.size Used; there = c.requires.chunk; is = inl refl })))) (λ free. was (inr free)) now
 
 pub returns-then-place-at-clause-order : goal.returns-then-place-at-clause-order
 returns-then-place-at-clause-order g c = λ b. (b, order_same b.index)

@@ -25,7 +25,8 @@ pub returns-clause-kept : goal.returns-clause-kept
 returns-clause-kept g c =
     let e = c.split.ensures in
     let split : IsSplit g.A.Links.regions g.A.Links.word c.args.self.now c.args.at c.args.size c.args.n c.split.new.self = record { state = e.state; first = e.first; second = e.second; others = e.others; words = e.words; regions_same = e.moved.regions_same } in
-    lead_kept c.requires.sound c.requires.chunk c.requires.least c.requires.room split e.free c.dispose_chunk.ensures.moved c.dispose_chunk.ensures.state c.dispose_chunk.ensures.less e.moved
+    lead_kept c.requires.sound c.requires.chunk c.requires.least c.requires.room split e.free c.dispose_chunk.ensures.moved c.dispose_chunk.ensures.state
+    c.dispose_chunk.ensures.less e.moved
 
 pub returns-clause-words : goal.returns-clause-words
 returns-clause-words g c =

@@ -33,7 +33,8 @@ returns-clause-moved g c =
     let split : IsSplit g.A.Links.regions g.A.Links.word c.args.self.now c.args.at c.args.size c.args.n c.split.new.self = record { state = e.state; first = e.first; second = e.second; others = e.others; words = e.words; regions_same = e.moved.regions_same } in
     record {
       sound = c.dispose_chunk.ensures.moved.sound;
-      words = tail_words c.requires.sound c.requires.chunk c.requires.least c.requires.room split e.free c.dispose_chunk.ensures.moved c.dispose_chunk.ensures.state c.dispose_chunk.ensures.less;
+      words = tail_words c.requires.sound c.requires.chunk c.requires.least c.requires.room split e.free c.dispose_chunk.ensures.moved
+          c.dispose_chunk.ensures.state c.dispose_chunk.ensures.less;
       regions_same = c.dispose_chunk.ensures.moved.regions_same ∙ e.moved.regions_same;
       followed = g.A.Links.follows_on c.args.self.now.system c.split.new.self.system c.dispose_chunk.new.self.system [] [] [] e.moved.followed c.dispose_chunk.ensures.moved.followed refl;
     }

@@ -14,10 +14,12 @@ pub overflow_add-rest : goal.overflow_add-rest
 overflow_add-rest g c = let s = free_end_small c.requires.sound c.args.n c.requires.chunk c.requires.next c.requires.whole c.requires.more c.requires.room in grind arith
 
 pub overflow_add-at : goal.overflow_add-at
-overflow_add-at g c = let s = free_end_small c.requires.sound c.args.n c.requires.chunk c.requires.next c.requires.whole c.requires.more c.requires.room in let room = c.requires.room in grind arith
+overflow_add-at g c = let s = free_end_small c.requires.sound c.args.n c.requires.chunk c.requires.next c.requires.whole c.requires.more c.requires.room in
+    let room = c.requires.room in grind arith
 
 pub overflow_add-at-2 : goal.overflow_add-at-2
-overflow_add-at-2 g c = let s = free_end_small c.requires.sound c.args.n c.requires.chunk c.requires.next c.requires.whole c.requires.more c.requires.room in let room = c.requires.room in grind arith
+overflow_add-at-2 g c = let s = free_end_small c.requires.sound c.args.n c.requires.chunk c.requires.next c.requires.whole c.requires.more c.requires.room in
+    let room = c.requires.room in grind arith
 
 pub unbin-requires-clause-binned : goal.unbin-requires-clause-binned
 unbin-requires-clause-binned g c = ([], c.requires.linked, λ none. none)
@@ -33,11 +35,8 @@ join_part-requires-clause-next g c = ap (λ s. extent_at (c.args.at + c.args.siz
 
 pub returns-then-was_victim : goal.returns-then-was_victim
 returns-then-was_victim g c =
-    let regions = g.A.Links.regions in
-    let word = g.A.Links.word in
-    let new = c.join_part.new.self in
-    let one = c.unbin.ensures in
-    let e = c.join_part.ensures in
+    let regions = g.A.Links.regions in let word = g.A.Links.word in let new = c.join_part.new.self in
+    let one = c.unbin.ensures in let e = c.join_part.ensures in
     let mine = c.if-was_victim.true ∙ sym (ap (λ h. h.victim) one.same.fields) in
     let order : KeepsOrder regions word c.args.self.now new = λ b.
     let left = one.loose [] b (λ none. none) in
@@ -55,12 +54,8 @@ returns-then-was_victim g c =
 
 pub returns-then-rest-lt-LEAST_CHUNK : goal.returns-then-rest-lt-LEAST_CHUNK
 returns-then-rest-lt-LEAST_CHUNK g c =
-    let regions = g.A.Links.regions in
-    let word = g.A.Links.word in
-    let new = c.join_part.new.self in
-    let one = c.unbin.ensures in
-    let e = c.join_part.ensures in
-    let little = c.if-rest-lt-LEAST_CHUNK.true in
+    let regions = g.A.Links.regions in let word = g.A.Links.word in let new = c.join_part.new.self in
+    let one = c.unbin.ensures in let e = c.join_part.ensures in let little = c.if-rest-lt-LEAST_CHUNK.true in
     let room = c.requires.room in
     let order : KeepsOrder regions word c.args.self.now new = λ b.
     let left = one.loose [] b (λ none. none) in (
@@ -86,19 +81,14 @@ bin-requires-clause-free g c = c.join_part.ensures.rest (let many = c.if-rest-lt
 
 pub bin-requires-clause-other : goal.bin-requires-clause-other
 bin-requires-clause-other g c =
-    let one = c.unbin.ensures in
-    let e = c.join_part.ensures in
-    let many = c.if-rest-lt-LEAST_CHUNK.false in
-    let more = c.requires.more in
-    let room = c.requires.room in
+    let one = c.unbin.ensures in let e = c.join_part.ensures in let many = c.if-rest-lt-LEAST_CHUNK.false in
+    let more = c.requires.more in let room = c.requires.room in
     part_other c.index_stays.ensures one.same.sound c.args.at c.args.size c.args.free c.args.n e.moved e.state e.free e.bins
     (λ is. c.if-was_victim.false (is ∙ ap (λ h. h.victim) one.same.fields)) (omega arith) (omega arith)
 
 pub bin-requires-clause-loose : goal.bin-requires-clause-loose
 bin-requires-clause-loose g c =
-    let one = c.unbin.ensures in
-    let e = c.join_part.ensures in
-    let many = c.if-rest-lt-LEAST_CHUNK.false in
+    let one = c.unbin.ensures in let e = c.join_part.ensures in let many = c.if-rest-lt-LEAST_CHUNK.false in
     let room = c.requires.room in (
       [],
       into_part c.index_stays.ensures one.same.sound c.args.at c.args.size c.args.free c.args.n e.moved e.state e.free e.bins
@@ -107,31 +97,27 @@ bin-requires-clause-loose g c =
 
 pub returns : goal.returns
 returns g c =
-    let regions = g.A.Links.regions in
-    let word = g.A.Links.word in
-    let middle = c.unbin.new.self in
-    let joined = c.join_part.new.self in
-    let new = c.bin.new.self in
-    let one = c.unbin.ensures in
-    let e = c.join_part.ensures in
-    let last = c.bin.ensures in
-    let many = c.if-rest-lt-LEAST_CHUNK.false in
-    let room = c.requires.room in
-    let rest = c.args.at + c.args.n in
+    let regions = g.A.Links.regions in let word = g.A.Links.word in let middle = c.unbin.new.self in
+    let joined = c.join_part.new.self in let new = c.bin.new.self in let one = c.unbin.ensures in
+    let e = c.join_part.ensures in let last = c.bin.ensures in let many = c.if-rest-lt-LEAST_CHUNK.false in
+    let room = c.requires.room in let rest = c.args.at + c.args.n in
     let rest_size = c.args.size + c.args.free - c.args.n in
     let other : c.args.at + c.args.size ≢ middle.victim = λ is. c.if-was_victim.false (is ∙ ap (λ h. h.victim) one.same.fields) in
     let order : KeepsOrder regions word c.args.self.now new = λ b.
     let left = one.loose [] b (λ none. none) in
-    let after = last.binned [] (into_part c.index_stays.ensures one.same.sound c.args.at c.args.size c.args.free c.args.n e.moved e.state e.free e.bins other left.0 (omega arith)) (λ none. none) in (
+    let after = last.binned [] (into_part c.index_stays.ensures one.same.sound c.args.at c.args.size c.args.free c.args.n e.moved e.state e.free e.bins other
+    left.0 (omega arith)) (λ none. none) in (
       after.0,
-      in_order rest_size rest b.index left.0.index after.0.index (lessened_as c.args.free (c.args.at + c.args.size) b.index left.0.index left.1) (added_as rest_size rest left.0.index after.0.index after.1)
-          (λ is. part_came c.index_stays.ensures one.same.sound c.args.at c.args.size c.args.free c.args.n e.moved e.state e.free e.bins other (omega arith) (let m = c.requires.more in omega arith)
-          (subst (λ s. IsFreeAt s rest rest_size) (sym one.same.state) (b.holds.free rest rest_size is))),
+      in_order rest_size rest b.index left.0.index after.0.index (lessened_as c.args.free (c.args.at + c.args.size) b.index left.0.index left.1)
+          (added_as rest_size rest left.0.index after.0.index after.1)
+          (λ is. part_came c.index_stays.ensures one.same.sound c.args.at c.args.size c.args.free c.args.n e.moved e.state e.free e.bins other (omega arith)
+          (let m = c.requires.more in omega arith) (subst (λ s. IsFreeAt s rest rest_size) (sym one.same.state) (b.holds.free rest rest_size is))),
     ) in
     record {
       state = last.same.state ∙ (e.state ∙ ap (λ s. grown_into s (extent c.args.at c.args.size Used) (extent (c.args.at + c.args.size) c.args.free Free) c.args.n) one.same.state);
       held = (e.held.0, ap (λ s. extent_at c.args.at (extents_in s)) last.same.state ∙ e.held.1, e.held.2, e.held.3);
-      others = subst (λ s. HasSameOthers (state_of word c.args.self.now) s c.args.at c.args.at) (sym last.same.state) (subst (λ s. HasSameOthers s (state_of word joined) c.args.at c.args.at) one.same.state e.others);
+      others = subst (λ s. HasSameOthers (state_of word c.args.self.now) s c.args.at c.args.at) (sym last.same.state)
+          (subst (λ s. HasSameOthers s (state_of word joined) c.args.at c.args.at) one.same.state e.others);
       moved = turned regions word g.A.Links.follows g.A.Links.follows_on one.same e.moved last.same;
       linked = (order c.requires.linked).0;
       order = order;

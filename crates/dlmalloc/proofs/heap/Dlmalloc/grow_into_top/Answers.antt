@@ -22,9 +22,7 @@ store_counted-requires g c = subst (λ rs. IsWordOf rs (c.args.at + c.args.n + 8
 
 pub returns : goal.returns
 returns g c =
-    let first = c.set_inuse.ensures in
-    let second = c.store_counted.ensures in
-    let less = c.requires.more in
+    let first = c.set_inuse.ensures in let second = c.store_counted.ensures in let less = c.requires.more in
     let room = c.requires.room in
     let rest = c.args.self.now.top_size - (c.args.n - c.args.size) in
     let rest_is : rest ≡ c.args.size + c.args.self.now.top_size - c.args.n = omega arith in

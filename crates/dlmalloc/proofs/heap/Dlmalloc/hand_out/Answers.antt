@@ -5,25 +5,23 @@ use Rattle.dlmalloc.proofs.Returns.SegmentVisited.{last_test, run_told, stays_ha
 use Rattle.dlmalloc.proofs.heap.Dlmalloc.hand_out.Goals as goal
 
 pub free-requires : goal.free-requires
-free-requires g c = subst (λ heap. IsRun (g.A.Links.regions heap.system) c.args.told.now.base (c.args.told.now.base + c.args.told.now.size)) (sym c.forget.ensures)
-    (run_told c.requires.sound c.requires.chained)
+free-requires g c = subst (λ heap. IsRun (g.A.Links.regions heap.system) c.args.told.now.base (c.args.told.now.base + c.args.told.now.size))
+    (sym c.forget.ensures) (run_told c.requires.sound c.requires.chained)
 
 pub returns-then-not-free-clause-visited : goal.returns-then-not-free-clause-visited
 returns-then-not-free-clause-visited g c = λ chained.
     let heap = c.args.self.now in
     let visited = stays_handed c.requires.sound chained g.A.Links.follows g.A.Links.follows_none in
-    subst (λ system. IsVisited g.A.Links.regions g.A.Links.word g.A.Links.follows true false heap c.args.before c.args.told.now chained (record c.forget.new.self { system = system }))
-    (sym (c.free.ensures.same c.if-not-free.true))
-    (subst (λ now. IsVisited g.A.Links.regions g.A.Links.word g.A.Links.follows true false heap c.args.before c.args.told.now chained now) (sym c.forget.ensures)
-    visited)
+    subst (λ system. IsVisited g.A.Links.regions g.A.Links.word g.A.Links.follows true false heap c.args.before c.args.told.now chained
+    (record c.forget.new.self { system = system })) (sym (c.free.ensures.same c.if-not-free.true)) (subst (λ now. IsVisited g.A.Links.regions g.A.Links.word
+    g.A.Links.follows true false heap c.args.before c.args.told.now chained now) (sym c.forget.ensures) visited)
 
 pub returns-then-not-free-clause-free : goal.returns-then-not-free-clause-free
 returns-then-not-free-clause-free g c =
     let heap = c.args.self.now in
     subst (λ system. FreeMoves (state_of g.A.Links.word heap) (state_of g.A.Links.word (record c.forget.new.self { system = system })) [] [])
-    (sym (c.free.ensures.same c.if-not-free.true))
-    (subst (λ now. FreeMoves (state_of g.A.Links.word heap) (state_of g.A.Links.word now) [] []) (sym c.forget.ensures)
-    (free_kept c.requires.sound c.requires.chained))
+    (sym (c.free.ensures.same c.if-not-free.true)) (subst (λ now. FreeMoves (state_of g.A.Links.word heap) (state_of g.A.Links.word now) [] [])
+    (sym c.forget.ensures) (free_kept c.requires.sound c.requires.chained))
 
 pub returns-then-not-free-clause-words : goal.returns-then-not-free-clause-words
 returns-then-not-free-clause-words g c = λ k inside out.
@@ -34,38 +32,38 @@ set_next-requires-clause-high g c = link_small c.requires.sound c.requires.chain
 
 pub set_next-requires-clause-word : goal.set_next-requires-clause-word
 set_next-requires-clause-word g c =
-    link_granted c.requires.sound c.requires.chained
-    (c.free.ensures.regions c.if-not-free.false ∙ ap (λ heap. without c.args.told.now.base (c.args.told.now.base + c.args.told.now.size) (g.A.Links.regions heap.system)) c.forget.ensures)
+    link_granted c.requires.sound c.requires.chained (c.free.ensures.regions c.if-not-free.false
+    ∙ ap (λ heap. without c.args.told.now.base (c.args.told.now.base + c.args.told.now.size) (g.A.Links.regions heap.system)) c.forget.ensures)
 
 pub returns-clause-answer : goal.returns-clause-answer
 returns-clause-answer g c = sym c.if-not-free.false ∙ (c.free.ensures.answer ∙ ap (λ now. g.A.Allocator.frees now.system) c.forget.ensures)
 
 pub returns-clause-visited : goal.returns-clause-visited
 returns-clause-visited g c = λ chained.
-    let heap = c.args.self.now in
-    let told = c.args.told.now in
-    let system = c.set_next.new.self.system in
-    let gone = c.free.ensures.regions c.if-not-free.false ∙ ap (λ (now : Dlmalloc g.row.A.Denot). without told.base (told.base + told.size) (g.A.Links.regions now.system)) c.forget.ensures in
+    let heap = c.args.self.now in let told = c.args.told.now in let system = c.set_next.new.self.system in
+    let gone = c.free.ensures.regions c.if-not-free.false
+    ∙ ap (λ (now : Dlmalloc g.row.A.Denot). without told.base (told.base + told.size) (g.A.Links.regions now.system)) c.forget.ensures in
     let kept : (k : ℕ) → IsWordOf (g.A.Links.regions system) k → (c.args.before ≢ 0 → k ≢ c.args.before + 16) → g.A.Links.word system k ≡ g.A.Links.word heap.system k =
     λ k inside other.
     let inside' = subst (λ (rs : List Grant). IsWordOf rs k) c.set_next.ensures.regions inside in
     c.set_next.ensures.elsewhere k inside' other ∙ (c.free.ensures.words k inside' ∙ ap (λ (now : Dlmalloc g.row.A.Denot). g.A.Links.word now.system k) c.forget.ensures) in
-    let freed = subst (λ (now : Dlmalloc g.row.A.Denot). g.A.Links.follows now.system (Released told.base told.size 0 ∷ []) c.free.new.self) c.forget.ensures (c.free.ensures.follows c.if-not-free.false) in
-    let followed = g.A.Links.follows_on heap.system c.free.new.self system (Released told.base told.size 0 ∷ []) [] (Released told.base told.size 0 ∷ []) freed c.set_next.ensures.follows refl in
+    let freed = subst (λ (now : Dlmalloc g.row.A.Denot). g.A.Links.follows now.system (Released told.base told.size 0 ∷ []) c.free.new.self) c.forget.ensures
+    (c.free.ensures.follows c.if-not-free.false) in
+    let followed = g.A.Links.follows_on heap.system c.free.new.self system (Released told.base told.size 0 ∷ []) []
+    (Released told.base told.size 0 ∷ []) freed c.set_next.ensures.follows refl in
     let unused = last_test (is_own chained.segment) (g.A.Allocator.parts heap.system) (is_unused chained.segment) (sym (c.requires.may chained)) in
     let visited = leaves c.requires.sound chained system (c.set_next.ensures.regions ∙ gone) kept c.set_next.ensures.here unused g.A.Links.follows followed in
     let same : c.set_next.new.self ≡ left_heap c.requires.sound chained system (c.set_next.ensures.regions ∙ gone) kept c.set_next.ensures.here unused =
     c.set_next.ensures.fields ∙ ap (λ (now : Dlmalloc g.row.A.Denot). record now { system = system; next = if c.args.before == 0 then told.next else now.next }) c.forget.ensures in
-    subst (λ (now : Dlmalloc g.row.A.Denot). IsVisited g.A.Links.regions g.A.Links.word g.A.Links.follows true true heap c.args.before told chained now) (sym same)
-    visited
+    subst (λ (now : Dlmalloc g.row.A.Denot). IsVisited g.A.Links.regions g.A.Links.word g.A.Links.follows true true heap c.args.before told chained now)
+    (sym same) visited
 
 pub returns-clause-free : goal.returns-clause-free
 returns-clause-free g c =
-    let chained = c.requires.chained in
-    let heap = c.args.self.now in
-    let told = c.args.told.now in
+    let chained = c.requires.chained in let heap = c.args.self.now in let told = c.args.told.now in
     let system = c.set_next.new.self.system in
-    let gone = c.free.ensures.regions c.if-not-free.false ∙ ap (λ (now : Dlmalloc g.row.A.Denot). without told.base (told.base + told.size) (g.A.Links.regions now.system)) c.forget.ensures in
+    let gone = c.free.ensures.regions c.if-not-free.false
+    ∙ ap (λ (now : Dlmalloc g.row.A.Denot). without told.base (told.base + told.size) (g.A.Links.regions now.system)) c.forget.ensures in
     let kept : (k : ℕ) → IsWordOf (g.A.Links.regions system) k → (c.args.before ≢ 0 → k ≢ c.args.before + 16) → g.A.Links.word system k ≡ g.A.Links.word heap.system k =
     λ k inside other.
     let inside' = subst (λ (rs : List Grant). IsWordOf rs k) c.set_next.ensures.regions inside in
@@ -78,9 +76,7 @@ returns-clause-free g c =
 
 pub returns-clause-words : goal.returns-clause-words
 returns-clause-words g c = λ k inside out.
-    let heap = c.args.self.now in
-    let told = c.args.told.now in
-    let system = c.set_next.new.self.system in
+    let heap = c.args.self.now in let told = c.args.told.now in let system = c.set_next.new.self.system in
     let gone = c.free.ensures.regions c.if-not-free.false ∙ ap (λ now. without told.base (told.base + told.size) (g.A.Links.regions now.system)) c.forget.ensures in
     let kept : (k : ℕ) → IsWordOf (g.A.Links.regions system) k → (c.args.before ≢ 0 → k ≢ c.args.before + 16) → g.A.Links.word system k ≡ g.A.Links.word heap.system k =
     λ k inside other.

@@ -52,18 +52,21 @@ pub overflow_add-from : goal.overflow_add-from
 overflow_add-from g c = let s = (from_there c.requires.sound c.requires.chunk c.requires.from).small in grind arith
 
 pub overflow_add-self-then-to-self : goal.overflow_add-self-then-to-self
-overflow_add-self-then-to-self g c = let s = small_top c.requires.sound c.requires.chunk c.requires.from c.requires.to c.if-to-self.true in let l = from_some c.requires.sound c.requires.chunk c.requires.from c.requires.to c.if-to-self.true in grind arith
+overflow_add-self-then-to-self g c = let s = small_top c.requires.sound c.requires.chunk c.requires.from c.requires.to c.if-to-self.true in
+    let l = from_some c.requires.sound c.requires.chunk c.requires.from c.requires.to c.if-to-self.true in grind arith
 
 pub returns-then-self-to : goal.returns-then-self-to
 returns-then-self-to g c =
-    let o = top_victim c.requires.sound c.requires.chunk c.requires.from c.requires.to c.if-to-self.true c.store_counted.new.self c.store_counted.ensures.regions c.store_counted.ensures.stored c.if-from-self.true c.if-self-to.true in
+    let o = top_victim c.requires.sound c.requires.chunk c.requires.from c.requires.to c.if-to-self.true c.store_counted.new.self
+    c.store_counted.ensures.regions c.store_counted.ensures.stored c.if-from-self.true c.if-self-to.true in
     record { state = o.state; less = o.less; records = o.records; around = around_top c.requires.sound c.requires.chunk c.requires.from c.requires.to c.if-to-self.true _ o.sound refl refl refl; free = o.free; joined = o.joined; victim = inr (c.if-from-self.true, c.if-self-to.true, inl refl); bins = refl; moved = record { sound = o.sound; words = o.words; regions_same = search rules; followed = search rules }; counted = omega arith }
 
 pub returns-else-from-self : goal.returns-else-from-self
 returns-else-from-self g c =
     let out : (c.args.self.now.victim < c.args.from) ⊎ (c.args.to ≤ c.args.self.now.victim) =
     elim c.else-from-self.branch [ else-from-self-via-then-from-self+else-self-to w ↦ inr w.if-self-to.false | else-from-self-via-else-from-self w ↦ inl w.if-from-self.false ] in
-    let o = top_other c.requires.sound c.requires.chunk c.requires.from c.requires.to c.if-to-self.true c.store_counted.new.self c.store_counted.ensures.regions c.store_counted.ensures.stored out in
+    let o = top_other c.requires.sound c.requires.chunk c.requires.from c.requires.to c.if-to-self.true c.store_counted.new.self c.store_counted.ensures.regions
+    c.store_counted.ensures.stored out in
     record { state = o.state; less = o.less; records = o.records; around = around_top c.requires.sound c.requires.chunk c.requires.from c.requires.to c.if-to-self.true _ o.sound refl refl refl; free = o.free; joined = o.joined; victim = inl refl; bins = refl; moved = record { sound = o.sound; words = o.words; regions_same = search rules; followed = search rules }; counted = omega arith }
 
 pub returns-then-self-to-2 : goal.returns-then-self-to-2
@@ -71,7 +74,8 @@ returns-then-self-to-2 g c =
     let on = goes_on c.requires.sound c.requires.chunk c.requires.from c.requires.to c.if-to-self.false in
     let none = no_top c.requires.sound c.requires.chunk on in
     let end = ends_at c.requires.sound c.requires.chunk c.requires.from c.requires.to on in
-    let o = as_victim c.requires.sound c.requires.chunk none c.requires.from end c.make_free.new.memory c.make_free.ensures.regions c.make_free.ensures.stored c.if-from-self-2.true c.if-self-to-2.true in
+    let o = as_victim c.requires.sound c.requires.chunk none c.requires.from end c.make_free.new.memory c.make_free.ensures.regions c.make_free.ensures.stored
+    c.if-from-self-2.true c.if-self-to-2.true in
     record { state = o.state; less = o.less; records = o.records; around = around c.requires.sound c.requires.chunk none c.requires.from end c.make_free.new.memory c.make_free.ensures.regions c.make_free.ensures.stored c.args.from (c.args.to - c.args.from); free = o.free; joined = o.joined; victim = inr (c.if-from-self-2.true, c.if-self-to-2.true, inr refl); bins = refl; moved = record { sound = o.sound; words = o.words; regions_same = search rules; followed = search rules }; counted = omega arith }
 
 pub returns-else-from-self-2 : goal.returns-else-from-self-2

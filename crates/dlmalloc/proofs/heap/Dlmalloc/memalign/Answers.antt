@@ -19,23 +19,21 @@ returns-then-size-limit-clause-refused g c =
 pub overflow_add-n-2 : goal.overflow_add-n-2
 overflow_add-n-2 g c =
     let small = limit_small c.args.self.now.granularity c.requires.sound.granularity.1 in
-    let bound = c.max_request-limit.ensures.is in
-    let near = c.request2size-n.ensures.near in
+    let bound = c.max_request-limit.ensures.is in let near = c.request2size-n.ensures.near in
     let less = c.if-align-limit.false in omega arith
 
 pub returns-in-Ok-clause-served : goal.returns-in-Ok-clause-served
 returns-in-Ok-clause-served g c =
-    let e = c.align_block.ensures in
-    let n = c.request2size-n.ensures in
-    let left : IsAligned g.A.Links.regions g.A.Links.word g.A.Links.follows c.c_malloc.new.self c.in-Ok.block c.args.align c.request2size-n.result c.align_block.result c.align_block.new.self =
+    let e = c.align_block.ensures in let n = c.request2size-n.ensures in
+    let left : IsAligned g.A.Links.regions g.A.Links.word g.A.Links.follows c.c_malloc.new.self c.in-Ok.block c.args.align c.request2size-n.result
+    c.align_block.result c.align_block.new.self =
     record { place = e.place; multiple = e.multiple; state = e.state; held = e.held; others = e.others; kept = e.kept; words = e.words; sound = e.sound; regions_same = e.regions; followed = e.follows; order = e.order } in
-    served_aligned c.args.size
-    n.is n.holds n.near c.in-Ok.ensures.served left
+    served_aligned c.args.size n.is n.holds n.near c.in-Ok.ensures.served left
 
 pub returns-in-Err-clause-refused : goal.returns-in-Err-clause-refused
 returns-in-Err-clause-refused g c =
-    subst (λ m. IsRefusedWith g.A.Links.regions g.A.Links.word g.A.Links.follows g.A.Allocator.refuses g.A.Allocator.denies c.args.self.now m c.in-Err.error c.c_malloc.new.self)
-    (enlarged_is c.args.size c.args.align c.request2size-n.ensures.is) c.in-Err.ensures.refused
+    subst (λ m. IsRefusedWith g.A.Links.regions g.A.Links.word g.A.Links.follows g.A.Allocator.refuses g.A.Allocator.denies c.args.self.now m c.in-Err.error
+    c.c_malloc.new.self) (enlarged_is c.args.size c.args.align c.request2size-n.ensures.is) c.in-Err.ensures.refused
 
 pub returns-in-Ok-clause-member : goal.returns-in-Ok-clause-member
 returns-in-Ok-clause-member g c =
@@ -44,10 +42,12 @@ returns-in-Ok-clause-member g c =
 
 pub returns-in-Ok-clause-counted : goal.returns-in-Ok-clause-counted
 returns-in-Ok-clause-counted g c = λ some.
-    let few = c.c_malloc.ensures.counted (λ none. some (subst (λ m. chosen (state_of g.A.Links.word c.args.self.now) (padded m) ≡ None) (enlarged_is c.args.size c.args.align c.request2size-n.ensures.is) none)) in
+    let few = c.c_malloc.ensures.counted (λ none. some (subst (λ m. chosen (state_of g.A.Links.word c.args.self.now) (padded m) ≡ None)
+    (enlarged_is c.args.size c.args.align c.request2size-n.ensures.is) none)) in
     omega arith
 
 pub returns-in-Err-clause-counted : goal.returns-in-Err-clause-counted
 returns-in-Err-clause-counted g c = λ some.
-    let few = c.c_malloc.ensures.counted (λ none. some (subst (λ m. chosen (state_of g.A.Links.word c.args.self.now) (padded m) ≡ None) (enlarged_is c.args.size c.args.align c.request2size-n.ensures.is) none)) in
+    let few = c.c_malloc.ensures.counted (λ none. some (subst (λ m. chosen (state_of g.A.Links.word c.args.self.now) (padded m) ≡ None)
+    (enlarged_is c.args.size c.args.align c.request2size-n.ensures.is) none)) in
     omega arith

@@ -16,18 +16,13 @@ make_head-requires-clause-top g c =
 
 pub make_head-requires-clause-foot : goal.make_head-requires-clause-foot
 make_head-requires-clause-foot g c =
-    let f = c.requires.fresh in
-    let grant = c.args.grant.now in
+    let f = c.requires.fresh in let grant = c.args.grant.now in
     record { granted = f.run.covered (grant.base + grant.size - 72) (omega arith) (omega arith); aligned = omega arith }
 
 pub returns : goal.returns
 returns g c =
-    let regions = g.A.Links.regions in
-    let word = g.A.Links.word in
-    let heap = c.args.self.now in
-    let grant = c.args.grant.now in
-    let fresh = c.requires.fresh in
-    let made = c.make_head.ensures in
+    let regions = g.A.Links.regions in let word = g.A.Links.word in let heap = c.args.self.now in
+    let grant = c.args.grant.now in let fresh = c.requires.fresh in let made = c.make_head.ensures in
     let new = c.make_head.new.self in
     let after = opened_heap heap grant new.system c.countdown_from-self.result in
     let is : new ≡ after = made.fields in
@@ -47,6 +42,7 @@ returns g c =
         words = λ k inside apart recorded. (let tags = head_tags sound some k apart in made.elsewhere k inside tags.0 (λ is. tags.1 (omega arith)));
         new_words = λ k inside low high a b. made.elsewhere k inside a (λ is. b (omega arith));
       });
-      free = subst (λ h. FreeMoves (state_of word heap) (state_of word h) [] []) (sym is) (opened_free new.system c.requires.sound fresh made.regions made.head made.foot_head c.requires.none c.countdown_from-self.ensures);
+      free = subst (λ h. FreeMoves (state_of word heap) (state_of word h) [] []) (sym is)
+          (opened_free new.system c.requires.sound fresh made.regions made.head made.foot_head c.requires.none c.countdown_from-self.ensures);
       same = subst (λ h. IsSameBins heap h) (sym is) (record { bins = refl; victim = refl });
     }

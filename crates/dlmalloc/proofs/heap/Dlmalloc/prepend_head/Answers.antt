@@ -27,11 +27,10 @@ put_two-requires-clause-ends g c = let high = c.requires.fresh.high in let room 
 
 pub returns : goal.returns
 returns g c =
-    let regions = g.A.Links.regions in
-    let heap = c.args.self.now in
-    let put = c.put_two.ensures in
+    let regions = g.A.Links.regions in let heap = c.args.self.now in let put = c.put_two.ensures in
     record {
-      prepended = before_head g.A.Links.follows c.requires.sound c.requires.fresh c.args.n c.requires.whole c.requires.least c.requires.room (whole_each (regions heap.system) (g.A.Links.whole heap.system))
-          c.put_two.new.memory put.regions put.first put.second put.follows c.requires.behind put.elsewhere;
+      prepended = before_head g.A.Links.follows c.requires.sound c.requires.fresh c.args.n c.requires.whole c.requires.least c.requires.room
+          (whole_each (regions heap.system) (g.A.Links.whole heap.system)) c.put_two.new.memory put.regions put.first put.second put.follows c.requires.behind
+          put.elsewhere;
       same = record { bins = refl; victim = refl };
     }

@@ -45,32 +45,28 @@ put_two-requires-clause-ends g c = let high = c.requires.fresh.high in let room 
 
 pub returns : goal.returns
 returns g c =
-    let regions = g.A.Links.regions in
-    let word = g.A.Links.word in
-    let heap = c.args.self.now in
-    let grant = c.args.grant.now in
-    let payload = c.args.payload in
-    let one = c.store_counted.ensures in
-    let two = c.store_counted-2.ensures in
-    let put = c.put_two.ensures in
+    let regions = g.A.Links.regions in let word = g.A.Links.word in let heap = c.args.self.now in
+    let grant = c.args.grant.now in let payload = c.args.payload in let one = c.store_counted.ensures in
+    let two = c.store_counted-2.ensures in let put = c.put_two.ensures in
     let p = told_place c.requires.sound grant c.requires.behind in
-    let at_first = c.store_counted.new.self in
-    let at_second = c.store_counted-2.new.self in
-    let system = c.put_two.new.memory in
-    let same = two.regions ∙ one.regions in
+    let at_first = c.store_counted.new.self in let at_second = c.store_counted-2.new.self in
+    let system = c.put_two.new.memory in let same = two.regions ∙ one.regions in
     let into : (k : ℕ) → IsWordOf (regions heap.system) k → IsWordOf (regions at_second) k = λ k inside. subst (λ rs. IsWordOf rs k) (sym same) inside in
     let onto : (k : ℕ) → IsWordOf (regions heap.system) k → IsWordOf (regions at_first) k = λ k inside. subst (λ rs. IsWordOf rs k) (sym one.regions) inside in
     let room = c.requires.room in
     let base : word system payload ≡ grant.base =
-    put.elsewhere payload (into payload p.base_word) (λ is. p.apart payload (omega arith) (omega arith) (omega arith) (omega arith)) (λ is. p.apart payload (omega arith) (omega arith) (omega arith) (omega arith))
+    put.elsewhere payload (into payload p.base_word) (λ is. p.apart payload (omega arith) (omega arith) (omega arith) (omega arith))
+    (λ is. p.apart payload (omega arith) (omega arith) (omega arith) (omega arith))
     ∙ (two.stored.elsewhere payload (onto payload p.base_word) (λ is. omega arith) ∙ one.stored.here) in
     let size : word system (payload + 8) ≡ grant.size + word heap.system (payload + 8) =
-    put.elsewhere (payload + 8) (into (payload + 8) p.size_word) (λ is. p.apart (payload + 8) (omega arith) (omega arith) (omega arith) (omega arith)) (λ is. p.apart (payload + 8) (omega arith) (omega arith) (omega arith) (omega arith))
+    put.elsewhere (payload + 8) (into (payload + 8) p.size_word) (λ is. p.apart (payload + 8) (omega arith) (omega arith) (omega arith) (omega arith))
+    (λ is. p.apart (payload + 8) (omega arith) (omega arith) (omega arith) (omega arith))
     ∙ (two.stored.here ∙ (λ i. grant.size + c.load_counted-size.ensures.value i)) in
     record {
-      prepended = before_told g.A.Links.follows c.requires.sound c.requires.fresh c.args.n c.requires.whole c.requires.least c.requires.room (whole_each (regions heap.system) (g.A.Links.whole heap.system))
-          system (put.regions ∙ same) put.first put.second
-          (g.A.Links.follows_on heap.system at_second system [] [] [] (g.A.Links.follows_on heap.system at_first at_second [] [] [] one.follows two.follows refl) put.follows refl) c.requires.behind base size
-          (λ k inside not_first not_second not_base not_size. put.elsewhere k (into k inside) not_first not_second ∙ (two.stored.elsewhere k (onto k inside) not_size ∙ one.stored.elsewhere k inside not_base));
+      prepended = before_told g.A.Links.follows c.requires.sound c.requires.fresh c.args.n c.requires.whole c.requires.least c.requires.room
+          (whole_each (regions heap.system) (g.A.Links.whole heap.system)) system (put.regions ∙ same) put.first put.second (g.A.Links.follows_on heap.system
+          at_second system [] [] [] (g.A.Links.follows_on heap.system at_first at_second [] [] [] one.follows two.follows refl) put.follows refl)
+          c.requires.behind base size (λ k inside not_first not_second not_base not_size. put.elsewhere k (into k inside) not_first not_second
+          ∙ (two.stored.elsewhere k (onto k inside) not_size ∙ one.stored.elsewhere k inside not_base));
       same = record { bins = refl; victim = refl };
     }

@@ -14,11 +14,8 @@ dispose_chunk-requires-clause-linked g c =
 
 pub returns : goal.returns
 returns g c =
-    let heap = c.args.self.now in
-    let middle = c.prepend.new.self in
-    let new = c.dispose_chunk.new.self in
-    let first = c.prepend.ensures.prepended in
-    let last = c.dispose_chunk.ensures in
+    let heap = c.args.self.now in let middle = c.prepend.new.self in let new = c.dispose_chunk.new.self in
+    let first = c.prepend.ensures.prepended in let last = c.dispose_chunk.ensures in
     record {
       put = put_before_is c.requires.least first last.state last.less last.moved last.records
           (g.A.Links.follows_on heap.system middle.system new.system [] [] [] first.followed last.moved.followed refl);

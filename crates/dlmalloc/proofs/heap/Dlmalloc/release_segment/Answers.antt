@@ -28,8 +28,7 @@ overflow_sub-size g c = let long = long_told c.requires.sound c.requires.chained
 
 pub unbin-requires-clause-free : goal.unbin-requires-clause-free
 unbin-requires-clause-free g c =
-    let heap = c.args.self.now in
-    let chained = c.requires.chained in
+    let heap = c.args.self.now in let chained = c.requires.chained in
     let may = sym c.if-not-may_leave.false ∙ (c.may_leave.ensures.told ∙ test_is c.requires.sound chained (g.A.Allocator.parts heap.system)) in
     first_is_free c.requires.sound chained (last_test (is_own chained.segment) (g.A.Allocator.parts heap.system) (is_unused chained.segment) may)
 
@@ -48,9 +47,8 @@ hand_out-requires-clause-chained g c = chained_then c.requires.sound c.unbin.ens
 pub hand_out-requires-clause-may : goal.hand_out-requires-clause-may
 hand_out-requires-clause-may g c = λ chained.
     let fixed = g.met.A.Allocator.fixed c.args.self.now.system c.unbin.new.self.system _ c.unbin.ensures.same.followed in
-    ap (λ parts. may_leave parts chained.segment) fixed.parts_same
-    ∙ may_still c.requires.sound c.unbin.ensures.same (g.A.Allocator.parts c.args.self.now.system)
-    (sym c.may_leave.ensures.told ∙ c.if-not-may_leave.false) chained
+    ap (λ parts. may_leave parts chained.segment) fixed.parts_same ∙ may_still c.requires.sound c.unbin.ensures.same
+    (g.A.Allocator.parts c.args.self.now.system) (sym c.may_leave.ensures.told ∙ c.if-not-may_leave.false) chained
 
 pub returns-then-not-may_leave-clause-index : goal.returns-then-not-may_leave-clause-index
 returns-then-not-may_leave-clause-index g c = λ chained b.
@@ -62,12 +60,8 @@ returns-then-not-may_leave-clause-index g c = λ chained b.
 
 pub returns-then-hand_out : goal.returns-then-hand_out
 returns-then-hand_out g c =
-    let heap = c.args.self.now in
-    let middle = c.unbin.new.self in
-    let told = c.args.told.now in
-    let new = c.hand_out.new.self in
-    let e = c.hand_out.ensures in
-    let frees = g.A.Allocator.frees heap.system in
+    let heap = c.args.self.now in let middle = c.unbin.new.self in let told = c.args.told.now in
+    let new = c.hand_out.new.self in let e = c.hand_out.ensures in let frees = g.A.Allocator.frees heap.system in
     let parts = g.A.Allocator.parts heap.system in
     let fixed = g.met.A.Allocator.fixed heap.system middle.system _ c.unbin.ensures.same.followed in
     let takes : true ≡ frees = sym c.if-hand_out.true ∙ (e.answer ∙ fixed.frees_same) in
@@ -75,9 +69,10 @@ returns-then-hand_out g c =
     sym c.if-not-may_leave.false ∙ (c.may_leave.ensures.told ∙ test_is c.requires.sound chained parts) in
     let chain : (chained : IsChained g.A.Links.word heap c.args.before told) → IsChained g.A.Links.word middle c.args.before told = λ chained.
     chained_then c.requires.sound c.unbin.ensures.same chained in
-    let visited : (chained : IsChained g.A.Links.word heap c.args.before told) → IsVisited g.A.Links.regions g.A.Links.word g.A.Links.follows true true heap c.args.before told chained new = λ chained.
-    visited_then g.A.Links.follows g.A.Links.follows_on c.requires.sound chained c.unbin.ensures.same
-    (subst (λ leaves. IsVisited g.A.Links.regions g.A.Links.word g.A.Links.follows true leaves middle c.args.before told (chain chained) new) c.if-hand_out.true (e.visited (chain chained))) in
+    let visited : (chained : IsChained g.A.Links.word heap c.args.before told) → IsVisited g.A.Links.regions g.A.Links.word g.A.Links.follows true true heap
+    c.args.before told chained new = λ chained. visited_then g.A.Links.follows g.A.Links.follows_on c.requires.sound chained c.unbin.ensures.same
+    (subst (λ leaves. IsVisited g.A.Links.regions g.A.Links.word g.A.Links.follows true leaves middle c.args.before told (chain chained) new)
+    c.if-hand_out.true (e.visited (chain chained))) in
     let moves = subst (λ left. FreeMoves (state_of g.A.Links.word middle) (state_of g.A.Links.word new) (if left then told.base ∷ [] else []) []) c.if-hand_out.true e.free in
     let after : (loose : IsBinnedBut (told.base ∷ []) g.A.Links.regions g.A.Links.word middle) → IsBinned g.A.Links.regions g.A.Links.word new = λ loose.
     binned_without c.index_stays.ensures c.unbin.ensures.same.sound (e.visited (chain c.requires.chained)) e.words e.bins moves loose in
@@ -86,8 +81,7 @@ returns-then-hand_out g c =
       visited = λ chained. subst (λ handed. IsVisited g.A.Links.regions g.A.Links.word g.A.Links.follows handed true heap c.args.before told chained new) (may chained) (visited chained);
       linked = after (c.unbin.ensures.loose [] c.requires.linked (λ none. none)).0;
       index = λ chained b.
-          let left = c.unbin.ensures.loose [] b (λ none. none) in
-          let base = base_is c.requires.sound chained in
+          let left = c.unbin.ensures.loose [] b (λ none. none) in let base = base_is c.requires.sound chained in
           let size = ap (λ n. n - 80) (size_is c.requires.sound chained) in
           (after left.0, λ n. left.1 n ∙ visit_left frees parts chained.segment b.index n base size (may chained) takes);
       counted = (let tested = c.may_leave.ensures.counted in let left = c.unbin.ensures.counted in let handed = e.counted in omega arith);
@@ -101,14 +95,12 @@ bin-requires-clause-sound g c =
 
 pub bin-requires-clause-free : goal.bin-requires-clause-free
 bin-requires-clause-free g c =
-    let heap = c.args.self.now in
-    let middle = c.unbin.new.self in
-    let told = c.args.told.now in
-    let new = c.hand_out.new.self in
-    let chained = c.requires.chained in
+    let heap = c.args.self.now in let middle = c.unbin.new.self in let told = c.args.told.now in
+    let new = c.hand_out.new.self in let chained = c.requires.chained in
     let may = sym c.if-not-may_leave.false ∙ (c.may_leave.ensures.told ∙ test_is c.requires.sound chained (g.A.Allocator.parts heap.system)) in
     let first = first_is_free c.requires.sound chained (last_test (is_own chained.segment) (g.A.Allocator.parts heap.system) (is_unused chained.segment) may) in
-    let moves = subst (λ left. FreeMoves (state_of g.A.Links.word middle) (state_of g.A.Links.word new) (if left then told.base ∷ [] else []) []) c.if-hand_out.false c.hand_out.ensures.free in
+    let moves = subst (λ left. FreeMoves (state_of g.A.Links.word middle) (state_of g.A.Links.word new) (if left then told.base ∷ [] else []) [])
+    c.if-hand_out.false c.hand_out.ensures.free in
     (moves.stays told.base (told.size - 80) (subst (λ s. IsFreeAt s told.base (told.size - 80)) (sym c.unbin.ensures.same.state) first) (λ none. none)).0
 
 pub bin-requires-clause-other : goal.bin-requires-clause-other
@@ -118,25 +110,19 @@ bin-requires-clause-other g c =
 
 pub bin-requires-clause-loose : goal.bin-requires-clause-loose
 bin-requires-clause-loose g c =
-    let middle = c.unbin.new.self in
-    let told = c.args.told.now in
-    let new = c.hand_out.new.self in
+    let middle = c.unbin.new.self in let told = c.args.told.now in let new = c.hand_out.new.self in
     let e = c.hand_out.ensures in
     let chain = chained_then c.requires.sound c.unbin.ensures.same c.requires.chained in (
       [],
       loose_still c.index_stays.ensures c.unbin.ensures.same.sound (e.visited chain) e.words e.bins
-          (subst (λ left. FreeMoves (state_of g.A.Links.word middle) (state_of g.A.Links.word new) (if left then told.base ∷ [] else []) []) c.if-hand_out.false e.free)
-          (c.unbin.ensures.loose [] c.requires.linked (λ none. none)).0,
+          (subst (λ left. FreeMoves (state_of g.A.Links.word middle) (state_of g.A.Links.word new) (if left then told.base ∷ [] else []) [])
+          c.if-hand_out.false e.free) (c.unbin.ensures.loose [] c.requires.linked (λ none. none)).0,
     )
 
 pub returns : goal.returns
 returns g c =
-    let heap = c.args.self.now in
-    let middle = c.unbin.new.self in
-    let told = c.args.told.now in
-    let new = c.hand_out.new.self in
-    let e = c.hand_out.ensures in
-    let frees = g.A.Allocator.frees heap.system in
+    let heap = c.args.self.now in let middle = c.unbin.new.self in let told = c.args.told.now in
+    let new = c.hand_out.new.self in let e = c.hand_out.ensures in let frees = g.A.Allocator.frees heap.system in
     let parts = g.A.Allocator.parts heap.system in
     let fixed = g.met.A.Allocator.fixed heap.system middle.system _ c.unbin.ensures.same.followed in
     let takes : false ≡ frees = sym c.if-hand_out.false ∙ (e.answer ∙ fixed.frees_same) in
@@ -144,9 +130,10 @@ returns g c =
     sym c.if-not-may_leave.false ∙ (c.may_leave.ensures.told ∙ test_is c.requires.sound chained parts) in
     let chain : (chained : IsChained g.A.Links.word heap c.args.before told) → IsChained g.A.Links.word middle c.args.before told = λ chained.
     chained_then c.requires.sound c.unbin.ensures.same chained in
-    let visited : (chained : IsChained g.A.Links.word heap c.args.before told) → IsVisited g.A.Links.regions g.A.Links.word g.A.Links.follows true false heap c.args.before told chained new = λ chained.
-    visited_then g.A.Links.follows g.A.Links.follows_on c.requires.sound chained c.unbin.ensures.same
-    (subst (λ leaves. IsVisited g.A.Links.regions g.A.Links.word g.A.Links.follows true leaves middle c.args.before told (chain chained) new) c.if-hand_out.false (e.visited (chain chained))) in
+    let visited : (chained : IsChained g.A.Links.word heap c.args.before told) → IsVisited g.A.Links.regions g.A.Links.word g.A.Links.follows true false heap
+    c.args.before told chained new = λ chained. visited_then g.A.Links.follows g.A.Links.follows_on c.requires.sound chained c.unbin.ensures.same
+    (subst (λ leaves. IsVisited g.A.Links.regions g.A.Links.word g.A.Links.follows true leaves middle c.args.before told (chain chained) new)
+    c.if-hand_out.false (e.visited (chain chained))) in
     let moves = subst (λ left. FreeMoves (state_of g.A.Links.word middle) (state_of g.A.Links.word new) (if left then told.base ∷ [] else []) []) c.if-hand_out.false e.free in
     let after : (loose : IsBinnedBut (told.base ∷ []) g.A.Links.regions g.A.Links.word middle) → IsBinnedBut (told.base ∷ []) g.A.Links.regions g.A.Links.word new = λ loose.
     loose_still c.index_stays.ensures c.unbin.ensures.same.sound (e.visited (chain c.requires.chained)) e.words e.bins moves loose in
@@ -156,8 +143,7 @@ returns g c =
           (visited_binned g.A.Links.follows g.A.Links.follows_on c.requires.sound chained new (visited chained) c.bin.ensures.same);
       linked = (c.bin.ensures.binned [] (after (c.unbin.ensures.loose [] c.requires.linked (λ none. none)).0) (λ none. none)).0;
       index = λ chained b.
-          let left = c.unbin.ensures.loose [] b (λ none. none) in
-          let base = base_is c.requires.sound chained in
+          let left = c.unbin.ensures.loose [] b (λ none. none) in let base = base_is c.requires.sound chained in
           let size = ap (λ n. n - 80) (size_is c.requires.sound chained) in
           let last = c.bin.ensures.binned [] (after left.0) (λ none. none) in
           (last.0, λ n. last.1 n ∙ (with_same (told.size - 80) told.base left.0.index (without_chunk (told.size - 80) told.base b.index) n (left.1 n) ∙ visit_kept frees parts chained.segment b.index n base size (may chained) takes));

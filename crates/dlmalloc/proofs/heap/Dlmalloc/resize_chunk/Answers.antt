@@ -15,22 +15,19 @@ free_tail-requires-clause-chunk g c = chunk_told c.requires.sound c.requires.chu
 pub returns-then-size-n-ge-LEAST_CHUNK-clause-resized : goal.returns-then-size-n-ge-LEAST_CHUNK-clause-resized
 returns-then-size-n-ge-LEAST_CHUNK-clause-resized g c =
     let there = chunk_told c.requires.sound c.requires.chunk.1 c.size-size.ensures.value in
-    let fits = c.if-n-size.true in
-    let rest = c.if-size-n-ge-LEAST_CHUNK.true in
+    let fits = c.if-n-size.true in let rest = c.if-size-n-ge-LEAST_CHUNK.true in
     λ yes. shrinks (state_of g.A.Links.word c.args.self.now) c.args.n there (omega arith) ∙ ap Some (sym c.free_tail.ensures.state)
 
 pub returns-else-size-n-ge-LEAST_CHUNK-clause-resized : goal.returns-else-size-n-ge-LEAST_CHUNK-clause-resized
 returns-else-size-n-ge-LEAST_CHUNK-clause-resized g c =
     let there = chunk_told c.requires.sound c.requires.chunk.1 c.size-size.ensures.value in
-    let fits = c.if-n-size.true in
-    let few = c.if-size-n-ge-LEAST_CHUNK.false in
+    let fits = c.if-n-size.true in let few = c.if-size-n-ge-LEAST_CHUNK.false in
     λ yes. stays (state_of g.A.Links.word c.args.self.now) c.args.n there fits (omega arith)
 
 pub returns-else-size-n-ge-LEAST_CHUNK-clause-held : goal.returns-else-size-n-ge-LEAST_CHUNK-clause-held
 returns-else-size-n-ge-LEAST_CHUNK-clause-held g c =
     let there = chunk_told c.requires.sound c.requires.chunk.1 c.size-size.ensures.value in
-    let fits = c.if-n-size.true in
-    let few = c.if-size-n-ge-LEAST_CHUNK.false in
+    let fits = c.if-n-size.true in let few = c.if-size-n-ge-LEAST_CHUNK.false in
     λ yes. (c.size-size.result, there, fits, omega arith)
 
 pub overflow_add-next : goal.overflow_add-next
@@ -41,8 +38,7 @@ overflow_add-next g c =
 pub returns-then-more-self-clause-none : goal.returns-then-more-self-clause-none
 returns-then-more-self-clause-none g c =
     let there = chunk_told c.requires.sound c.requires.chunk.1 c.size-size.ensures.value in
-    let more = c.if-n-size.false in
-    let little = c.if-more-self.true in
+    let more = c.if-n-size.false in let little = c.if-more-self.true in
     let room : nat_lt c.args.n (c.size-size.result + c.args.self.now.top_size) ≡ false = grind (arith, nat_tests) in
     λ no. has_no_room (state_of g.A.Links.word c.args.self.now) c.args.n there more (top_behind c.requires.sound there c.if-next-self.true) room
 
@@ -52,8 +48,7 @@ grow_into_top-requires-clause-chunk g c = chunk_told c.requires.sound c.requires
 pub returns-then-next-self-clause-resized : goal.returns-then-next-self-clause-resized
 returns-then-next-self-clause-resized g c =
     let there = chunk_told c.requires.sound c.requires.chunk.1 c.size-size.ensures.value in
-    let more = c.if-n-size.false in
-    let much = c.if-more-self.false in
+    let more = c.if-n-size.false in let much = c.if-more-self.false in
     let room : nat_lt c.args.n (c.size-size.result + c.args.self.now.top_size) ≡ true = grind (arith, nat_tests) in
     λ yes. grows (state_of g.A.Links.word c.args.self.now) c.args.n there more (top_behind c.requires.sound there c.if-next-self.true) room ∙ ap Some (sym c.grow_into_top.ensures.state)
 
@@ -75,10 +70,10 @@ size-free-requires g c =
 pub returns-then-free-more-clause-none : goal.returns-then-free-more-clause-none
 returns-then-free-more-clause-none g c =
     let there = chunk_told c.requires.sound c.requires.chunk.1 c.size-size.ensures.value in
-    let more = c.if-n-size.false in
-    let little = c.if-free-more.true in
+    let more = c.if-n-size.false in let little = c.if-free-more.true in
     let room : nat_le c.args.n (c.size-size.result + c.size-free.result) ≡ false = grind (arith, nat_tests) in
-    λ no. has_no_room (state_of g.A.Links.word c.args.self.now) c.args.n there more (free_behind c.requires.sound there c.if-next-self.false (is_free_told _ (sym c.inuse.ensures.value ∙ c.if-inuse.false)) c.size-free.ensures.value) room
+    λ no. has_no_room (state_of g.A.Links.word c.args.self.now) c.args.n there more
+    (free_behind c.requires.sound there c.if-next-self.false (is_free_told _ (sym c.inuse.ensures.value ∙ c.if-inuse.false)) c.size-free.ensures.value) room
 
 pub grow_into_free-requires-clause-chunk : goal.grow_into_free-requires-clause-chunk
 grow_into_free-requires-clause-chunk g c = chunk_told c.requires.sound c.requires.chunk.1 c.size-size.ensures.value
@@ -91,19 +86,21 @@ grow_into_free-requires-clause-next g c =
 pub returns-clause-resized : goal.returns-clause-resized
 returns-clause-resized g c =
     let there = chunk_told c.requires.sound c.requires.chunk.1 c.size-size.ensures.value in
-    let more = c.if-n-size.false in
-    let much = c.if-free-more.false in
+    let more = c.if-n-size.false in let much = c.if-free-more.false in
     let room : nat_le c.args.n (c.size-size.result + c.size-free.result) ≡ true = grind (arith, nat_tests) in
-    λ yes. grows (state_of g.A.Links.word c.args.self.now) c.args.n there more (free_behind c.requires.sound there c.if-next-self.false (is_free_told _ (sym c.inuse.ensures.value ∙ c.if-inuse.false)) c.size-free.ensures.value) room ∙ ap Some (sym c.grow_into_free.ensures.state)
+    λ yes. grows (state_of g.A.Links.word c.args.self.now) c.args.n there more (free_behind c.requires.sound there c.if-next-self.false
+    (is_free_told _ (sym c.inuse.ensures.value ∙ c.if-inuse.false)) c.size-free.ensures.value) room ∙ ap Some (sym c.grow_into_free.ensures.state)
 
 pub returns-else-size-n-ge-LEAST_CHUNK-clause-moved : goal.returns-else-size-n-ge-LEAST_CHUNK-clause-moved
-returns-else-size-n-ge-LEAST_CHUNK-clause-moved g c = record { sound = c.requires.sound; words = λ k inside was own. refl; regions_same = refl; followed = g.A.Links.follows_none c.args.self.now.system }
+returns-else-size-n-ge-LEAST_CHUNK-clause-moved g c =
+    record { sound = c.requires.sound; words = λ k inside was own. refl; regions_same = refl; followed = g.A.Links.follows_none c.args.self.now.system }
 
 pub returns-then-inuse-clause-moved : goal.returns-then-inuse-clause-moved
 returns-then-inuse-clause-moved g c = record { sound = c.requires.sound; words = λ k inside was own. refl; regions_same = refl; followed = g.A.Links.follows_none c.args.self.now.system }
 
 pub returns-then-free-more-clause-moved : goal.returns-then-free-more-clause-moved
-returns-then-free-more-clause-moved g c = record { sound = c.requires.sound; words = λ k inside was own. refl; regions_same = refl; followed = g.A.Links.follows_none c.args.self.now.system }
+returns-then-free-more-clause-moved g c =
+    record { sound = c.requires.sound; words = λ k inside was own. refl; regions_same = refl; followed = g.A.Links.follows_none c.args.self.now.system }
 
 pub returns-then-next-self-clause-moved : goal.returns-then-next-self-clause-moved
 returns-then-next-self-clause-moved g c = as_turned g.A.Allocator.zeros g.A.Links.follows c.requires.sound c.args.n c.grow_into_top.ensures.moved

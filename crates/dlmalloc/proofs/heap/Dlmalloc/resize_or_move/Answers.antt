@@ -8,26 +8,16 @@ resize_chunk-requires-clause-chunk g c =
 
 pub returns-then-resize_chunk-clause-resized : goal.returns-then-resize_chunk-clause-resized
 returns-then-resize_chunk-clause-resized g c =
-    let old = c.args.self.now in
-    let new = c.resize_chunk.new.self in
-    let request = c.request2size.ensures in
-    let done = c.resize_chunk.ensures in
-    let held = done.held c.if-resize_chunk.true in
+    let old = c.args.self.now in let new = c.resize_chunk.new.self in let request = c.request2size.ensures in
+    let done = c.resize_chunk.ensures in let held = done.held c.if-resize_chunk.true in
     let small : c.args.size < limit old.granularity = (let less = c.if-size-max_request.false in let is = c.max_request.ensures.is in omega arith) in
     inl (
       c.requires.least,
       refl,
-      stays_there old new c.args.held c.args.size held.0 c.requires.sound c.requires.block.1
-          (held_there c.args.held c.requires.block.1 c.requires.held) small
-          (subst (λ n. c.args.size + 8 ≤ n) request.is request.holds)
-          (subst (λ n. n ≤ c.args.size + 32) request.is request.near)
-          (subst (λ n. n ≤ held.0) request.is held.2)
-          (subst (λ n. held.0 < n + 32) request.is held.3)
-          (subst (λ n. in_place (state_of g.A.Links.word old) (c.args.ptr - 16) n ≡ Some (state_of g.A.Links.word new)) request.is (done.resized c.if-resize_chunk.true))
-          held.1
-          done.others
-          done.moved
-          done.order,
+      stays_there old new c.args.held c.args.size held.0 c.requires.sound c.requires.block.1 (held_there c.args.held c.requires.block.1 c.requires.held) small
+          (subst (λ n. c.args.size + 8 ≤ n) request.is request.holds) (subst (λ n. n ≤ c.args.size + 32) request.is request.near) (subst (λ n.
+          n ≤ held.0) request.is held.2) (subst (λ n. held.0 < n + 32) request.is held.3) (subst (λ n. in_place (state_of g.A.Links.word old) (c.args.ptr
+          - 16) n ≡ Some (state_of g.A.Links.word new)) request.is (done.resized c.if-resize_chunk.true)) held.1 done.others done.moved done.order,
     )
 
 pub returns-then-size-max_request-clause-refused : goal.returns-then-size-max_request-clause-refused
@@ -43,11 +33,9 @@ pub returns-clause-member : goal.returns-clause-member
 returns-clause-member g c =
     let old = c.args.self.now in
     let same : c.resize_chunk.new.self ≡ old = c.resize_chunk.ensures.same c.if-resize_chunk.false in
-    IfOk-weaker c.move_block.result
-    (λ address. IsMemberServed g.A.Links.regions g.A.Links.word c.resize_chunk.new.self c.args.size c.args.align address)
-    (λ address. address ≢ c.args.ptr → IsMemberServed g.A.Links.regions g.A.Links.word old c.args.size c.args.align address)
-    (λ address member other. subst (λ heap. IsMemberServed g.A.Links.regions g.A.Links.word heap c.args.size c.args.align address) same member)
-    c.move_block.ensures.member
+    IfOk-weaker c.move_block.result (λ address. IsMemberServed g.A.Links.regions g.A.Links.word c.resize_chunk.new.self c.args.size c.args.align address)
+    (λ address. address ≢ c.args.ptr → IsMemberServed g.A.Links.regions g.A.Links.word old c.args.size c.args.align address) (λ address member other.
+    subst (λ heap. IsMemberServed g.A.Links.regions g.A.Links.word heap c.args.size c.args.align address) same member) c.move_block.ensures.member
 
 pub returns-clause-counted : goal.returns-clause-counted
 returns-clause-counted g c = λ some.
@@ -59,5 +47,5 @@ returns-clause-counted g c = λ some.
     omega arith
 
 pub returns-clause-in_place_counted : goal.returns-clause-in_place_counted
-returns-clause-in_place_counted g c = λ some.
-    absurd (some (subst (λ n. in_place (state_of g.A.Links.word c.args.self.now) (c.args.ptr - 16) n ≡ None) c.request2size.ensures.is (c.resize_chunk.ensures.none c.if-resize_chunk.false)))
+returns-clause-in_place_counted g c = λ some. absurd (some (subst (λ n. in_place (state_of g.A.Links.word c.args.self.now) (c.args.ptr - 16) n ≡ None)
+    c.request2size.ensures.is (c.resize_chunk.ensures.none c.if-resize_chunk.false)))

@@ -23,37 +23,44 @@ set_size_and_pinuse_of_inuse_chunk-requires-clause-head g c =
 
 pub returns-clause-state : goal.returns-clause-state
 returns-clause-state g c =
-    split_state c.requires.sound c.args.n c.requires.chunk c.requires.whole c.requires.least c.requires.room
-    c.set_inuse.new.memory c.set_size_and_pinuse_of_inuse_chunk.new.memory c.set_inuse.ensures.regions c.set_size_and_pinuse_of_inuse_chunk.ensures.regions _ c.set_inuse.ensures.stored c.set_size_and_pinuse_of_inuse_chunk.ensures.stored
+    split_state c.requires.sound c.args.n c.requires.chunk c.requires.whole c.requires.least c.requires.room c.set_inuse.new.memory
+    c.set_size_and_pinuse_of_inuse_chunk.new.memory c.set_inuse.ensures.regions c.set_size_and_pinuse_of_inuse_chunk.ensures.regions _
+    c.set_inuse.ensures.stored c.set_size_and_pinuse_of_inuse_chunk.ensures.stored
 
 pub returns-clause-first : goal.returns-clause-first
 returns-clause-first g c =
-    split_first c.requires.sound c.args.n c.requires.chunk c.requires.whole c.requires.least c.requires.room
-    c.set_inuse.new.memory c.set_size_and_pinuse_of_inuse_chunk.new.memory c.set_inuse.ensures.regions c.set_size_and_pinuse_of_inuse_chunk.ensures.regions _ c.set_inuse.ensures.stored c.set_size_and_pinuse_of_inuse_chunk.ensures.stored
+    split_first c.requires.sound c.args.n c.requires.chunk c.requires.whole c.requires.least c.requires.room c.set_inuse.new.memory
+    c.set_size_and_pinuse_of_inuse_chunk.new.memory c.set_inuse.ensures.regions c.set_size_and_pinuse_of_inuse_chunk.ensures.regions _
+    c.set_inuse.ensures.stored c.set_size_and_pinuse_of_inuse_chunk.ensures.stored
 
 pub returns-clause-second : goal.returns-clause-second
 returns-clause-second g c =
-    split_second c.requires.sound c.args.n c.requires.chunk c.requires.whole c.requires.least c.requires.room
-    c.set_inuse.new.memory c.set_size_and_pinuse_of_inuse_chunk.new.memory c.set_inuse.ensures.regions c.set_size_and_pinuse_of_inuse_chunk.ensures.regions _ c.set_inuse.ensures.stored c.set_size_and_pinuse_of_inuse_chunk.ensures.stored
+    split_second c.requires.sound c.args.n c.requires.chunk c.requires.whole c.requires.least c.requires.room c.set_inuse.new.memory
+    c.set_size_and_pinuse_of_inuse_chunk.new.memory c.set_inuse.ensures.regions c.set_size_and_pinuse_of_inuse_chunk.ensures.regions _
+    c.set_inuse.ensures.stored c.set_size_and_pinuse_of_inuse_chunk.ensures.stored
 
 pub returns-clause-others : goal.returns-clause-others
 returns-clause-others g c =
-    split_others c.requires.sound c.args.n c.requires.chunk c.requires.whole c.requires.least c.requires.room
-    c.set_inuse.new.memory c.set_size_and_pinuse_of_inuse_chunk.new.memory c.set_inuse.ensures.regions c.set_size_and_pinuse_of_inuse_chunk.ensures.regions _ c.set_inuse.ensures.stored c.set_size_and_pinuse_of_inuse_chunk.ensures.stored
+    split_others c.requires.sound c.args.n c.requires.chunk c.requires.whole c.requires.least c.requires.room c.set_inuse.new.memory
+    c.set_size_and_pinuse_of_inuse_chunk.new.memory c.set_inuse.ensures.regions c.set_size_and_pinuse_of_inuse_chunk.ensures.regions _
+    c.set_inuse.ensures.stored c.set_size_and_pinuse_of_inuse_chunk.ensures.stored
 
 pub returns-clause-moved : goal.returns-clause-moved
 returns-clause-moved g c = record {
   sound = (
-      split_sound c.requires.sound c.args.n c.requires.chunk c.requires.whole c.requires.least c.requires.room
-      c.set_inuse.new.memory c.set_size_and_pinuse_of_inuse_chunk.new.memory c.set_inuse.ensures.regions c.set_size_and_pinuse_of_inuse_chunk.ensures.regions _ c.set_inuse.ensures.stored c.set_size_and_pinuse_of_inuse_chunk.ensures.stored);
+      split_sound c.requires.sound c.args.n c.requires.chunk c.requires.whole c.requires.least c.requires.room c.set_inuse.new.memory
+      c.set_size_and_pinuse_of_inuse_chunk.new.memory c.set_inuse.ensures.regions c.set_size_and_pinuse_of_inuse_chunk.ensures.regions _
+      c.set_inuse.ensures.stored c.set_size_and_pinuse_of_inuse_chunk.ensures.stored);
   words = (
-      split_words c.requires.sound c.args.n c.requires.chunk c.requires.whole c.requires.least c.requires.room
-      c.set_inuse.new.memory c.set_size_and_pinuse_of_inuse_chunk.new.memory c.set_inuse.ensures.regions c.set_size_and_pinuse_of_inuse_chunk.ensures.regions _ c.set_inuse.ensures.stored c.set_size_and_pinuse_of_inuse_chunk.ensures.stored);
+      split_words c.requires.sound c.args.n c.requires.chunk c.requires.whole c.requires.least c.requires.room c.set_inuse.new.memory
+      c.set_size_and_pinuse_of_inuse_chunk.new.memory c.set_inuse.ensures.regions c.set_size_and_pinuse_of_inuse_chunk.ensures.regions _
+      c.set_inuse.ensures.stored c.set_size_and_pinuse_of_inuse_chunk.ensures.stored);
   regions_same = c.set_size_and_pinuse_of_inuse_chunk.ensures.regions ∙ c.set_inuse.ensures.regions;
   followed = search rules;
 }
 
 pub returns-clause-free : goal.returns-clause-free
 returns-clause-free g c =
-    split_free c.requires.sound c.args.n c.requires.chunk c.requires.whole c.requires.least c.requires.room
-    c.set_inuse.new.memory c.set_size_and_pinuse_of_inuse_chunk.new.memory c.set_inuse.ensures.regions c.set_size_and_pinuse_of_inuse_chunk.ensures.regions _ c.set_inuse.ensures.stored c.set_size_and_pinuse_of_inuse_chunk.ensures.stored
+    split_free c.requires.sound c.args.n c.requires.chunk c.requires.whole c.requires.least c.requires.room c.set_inuse.new.memory
+    c.set_size_and_pinuse_of_inuse_chunk.new.memory c.set_inuse.ensures.regions c.set_size_and_pinuse_of_inuse_chunk.ensures.regions _
+    c.set_inuse.ensures.stored c.set_size_and_pinuse_of_inuse_chunk.ensures.stored

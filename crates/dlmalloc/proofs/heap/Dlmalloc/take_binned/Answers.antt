@@ -23,14 +23,9 @@ unbin_fit-requires-clause-member g c = (c.args.n, c.requires.member)
 
 pub returns-then-rest-lt-LEAST_CHUNK : goal.returns-then-rest-lt-LEAST_CHUNK
 returns-then-rest-lt-LEAST_CHUNK g c =
-    let regions = g.A.Links.regions in
-    let word = g.A.Links.word in
-    let old = c.args.self.now in
-    let new = c.cut_chunk.new.self in
-    let one = c.unbin_fit.ensures in
-    let e = c.cut_chunk.ensures in
-    let less = c.if-rest-lt-LEAST_CHUNK.true in
-    let fits = c.requires.fits in
+    let regions = g.A.Links.regions in let word = g.A.Links.word in let old = c.args.self.now in
+    let new = c.cut_chunk.new.self in let one = c.unbin_fit.ensures in let e = c.cut_chunk.ensures in
+    let less = c.if-rest-lt-LEAST_CHUNK.true in let fits = c.requires.fits in
     let order : KeepsOrder regions word old new = λ b.
     let left = one.loose [] b (λ none. none) in
     (whole_taken c.index_stays.ensures one.same.sound c.args.size c.args.n e.moved e.state e.free e.bins (λ is. c.requires.other (is ∙ ap (λ h. h.victim) one.same.fields)) left.0 (omega arith), order_less b.index left.0.index (lessened_as c.args.size c.args.at b.index left.0.index left.1)) in
@@ -50,9 +45,7 @@ bin_some-requires-clause-sound g c = c.cut_chunk.ensures.moved.sound
 
 pub bin_some-requires-clause-free : goal.bin_some-requires-clause-free
 bin_some-requires-clause-free g c = λ some.
-    let same = c.unbin_fit.ensures.same in
-    let e = c.cut_chunk.ensures in
-    let at = ap (λ h. h.victim) same.fields in
+    let same = c.unbin_fit.ensures.same in let e = c.cut_chunk.ensures in let at = ap (λ h. h.victim) same.fields in
     let size = ap (λ h. h.victim_size) same.fields in
     subst (λ v. extent_at v (extents_in (state_of g.A.Links.word c.cut_chunk.new.self)) ≡ Some (extent v c.args.self.now.victim_size Free)) at
     (subst (λ n. extent_at c.unbin_fit.new.self.victim (extents_in (state_of g.A.Links.word c.cut_chunk.new.self)) ≡ Some (extent c.unbin_fit.new.self.victim n Free)) size
@@ -60,53 +53,39 @@ bin_some-requires-clause-free g c = λ some.
 
 pub bin_some-requires-clause-none : goal.bin_some-requires-clause-none
 bin_some-requires-clause-none g c = λ none n free.
-    let same = c.unbin_fit.ensures.same in
-    let e = c.cut_chunk.ensures in
-    let at = ap (λ h. h.victim) same.fields in
+    let same = c.unbin_fit.ensures.same in let e = c.cut_chunk.ensures in let at = ap (λ h. h.victim) same.fields in
     let size = ap (λ h. h.victim_size) same.fields in
     old_victim_none c.index_stays.ensures same.sound e.moved e.bins c.args.at (c.args.at + c.args.n) (size ∙ none) n
     (subst (λ v. extent_at v (extents_in (state_of g.A.Links.word c.cut_chunk.new.self)) ≡ Some (extent v n Free)) (sym at) free)
 
 pub bin_some-requires-clause-other : goal.bin_some-requires-clause-other
 bin_some-requires-clause-other g c = λ some is.
-    let same = c.unbin_fit.ensures.same in
-    let e = c.cut_chunk.ensures in
-    let at = ap (λ h. h.victim) same.fields in
-    let size = ap (λ h. h.victim_size) same.fields in
-    let more = c.if-rest-lt-LEAST_CHUNK.false in
+    let same = c.unbin_fit.ensures.same in let e = c.cut_chunk.ensures in let at = ap (λ h. h.victim) same.fields in
+    let size = ap (λ h. h.victim_size) same.fields in let more = c.if-rest-lt-LEAST_CHUNK.false in
     let fits = c.requires.fits in
-    small_other c.index_stays.ensures same.sound c.args.size c.args.n e.moved e.state e.free e.bins (λ is. c.requires.other (is ∙ at)) (omega arith) c.if-n-lt-LEAST_LARGE.true
-    (λ none. some (sym size ∙ none)) (at ∙ is)
+    small_other c.index_stays.ensures same.sound c.args.size c.args.n e.moved e.state e.free e.bins (λ is. c.requires.other (is ∙ at))
+    (omega arith) c.if-n-lt-LEAST_LARGE.true (λ none. some (sym size ∙ none)) (at ∙ is)
 
 pub bin_some-requires-clause-loose : goal.bin_some-requires-clause-loose
 bin_some-requires-clause-loose g c =
-    let one = c.unbin_fit.ensures in
-    let e = c.cut_chunk.ensures in
-    let at = ap (λ h. h.victim) one.same.fields in
+    let one = c.unbin_fit.ensures in let e = c.cut_chunk.ensures in let at = ap (λ h. h.victim) one.same.fields in
     let more = c.if-rest-lt-LEAST_CHUNK.false in
     let fits = c.requires.fits in (
       [],
-      renamed at
-          (small_taken c.index_stays.ensures one.same.sound c.args.size c.args.n e.moved e.state e.free e.bins (λ is. c.requires.other (is ∙ at)) (omega arith) c.if-n-lt-LEAST_LARGE.true
-          (one.loose [] c.requires.linked (λ none. none)).0),
+      renamed at (small_taken c.index_stays.ensures one.same.sound c.args.size c.args.n e.moved e.state e.free e.bins (λ is. c.requires.other (is ∙ at))
+          (omega arith) c.if-n-lt-LEAST_LARGE.true (one.loose [] c.requires.linked (λ none. none)).0),
     )
 
 pub returns-then-n-lt-LEAST_LARGE : goal.returns-then-n-lt-LEAST_LARGE
 returns-then-n-lt-LEAST_LARGE g c =
-    let regions = g.A.Links.regions in
-    let word = g.A.Links.word in
-    let cut = c.cut_chunk.new.self in
-    let new = c.bin_some.new.self in
-    let one = c.unbin_fit.ensures in
-    let e = c.cut_chunk.ensures in
-    let last = c.bin_some.ensures in
-    let at = ap (λ h. h.victim) one.same.fields in
-    let more = c.if-rest-lt-LEAST_CHUNK.false in
-    let fits = c.requires.fits in
+    let regions = g.A.Links.regions in let word = g.A.Links.word in let cut = c.cut_chunk.new.self in
+    let new = c.bin_some.new.self in let one = c.unbin_fit.ensures in let e = c.cut_chunk.ensures in
+    let last = c.bin_some.ensures in let at = ap (λ h. h.victim) one.same.fields in
+    let more = c.if-rest-lt-LEAST_CHUNK.false in let fits = c.requires.fits in
     let order : KeepsOrder regions word c.args.self.now new = λ b.
     let left = one.loose [] b (λ none. none) in
-    let loose = renamed at
-    (small_taken c.index_stays.ensures one.same.sound c.args.size c.args.n e.moved e.state e.free e.bins (λ is. c.requires.other (is ∙ at)) (omega arith) c.if-n-lt-LEAST_LARGE.true left.0) in
+    let loose = renamed at (small_taken c.index_stays.ensures one.same.sound c.args.size c.args.n e.moved e.state e.free e.bins
+    (λ is. c.requires.other (is ∙ at)) (omega arith) c.if-n-lt-LEAST_LARGE.true left.0) in
     let after = last.binned [] loose (λ none. none) in
     (after.0, in_order c.args.self.now.victim_size c.args.self.now.victim b.index left.0.index after.0.index (lessened_as c.args.size c.args.at b.index left.0.index left.1) after.1 (λ is. b.holds.no_victim c.args.self.now.victim c.args.self.now.victim_size is refl)) in
     record {
@@ -133,37 +112,26 @@ bin-requires-clause-free g c = c.cut_chunk.ensures.rest (let more = c.if-rest-lt
 
 pub bin-requires-clause-other : goal.bin-requires-clause-other
 bin-requires-clause-other g c =
-    let one = c.unbin_fit.ensures in
-    let e = c.cut_chunk.ensures in
-    let more = c.if-rest-lt-LEAST_CHUNK.false in
+    let one = c.unbin_fit.ensures in let e = c.cut_chunk.ensures in let more = c.if-rest-lt-LEAST_CHUNK.false in
     let fits = c.requires.fits in
     large_other c.index_stays.ensures one.same.sound c.args.size c.args.n e.moved e.state e.free e.bins
     (λ is. c.requires.other (is ∙ ap (λ h. h.victim) one.same.fields)) (omega arith) c.if-n-lt-LEAST_LARGE.false
 
 pub bin-requires-clause-loose : goal.bin-requires-clause-loose
 bin-requires-clause-loose g c =
-    let one = c.unbin_fit.ensures in
-    let e = c.cut_chunk.ensures in
-    let more = c.if-rest-lt-LEAST_CHUNK.false in
+    let one = c.unbin_fit.ensures in let e = c.cut_chunk.ensures in let more = c.if-rest-lt-LEAST_CHUNK.false in
     let fits = c.requires.fits in (
       [],
-      large_taken c.index_stays.ensures one.same.sound c.args.size c.args.n e.moved e.state e.free e.bins
-          (λ is. c.requires.other (is ∙ ap (λ h. h.victim) one.same.fields)) (omega arith) c.if-n-lt-LEAST_LARGE.false (one.loose [] c.requires.linked (λ none. none)).0,
+      large_taken c.index_stays.ensures one.same.sound c.args.size c.args.n e.moved e.state e.free e.bins (λ is. c.requires.other
+          (is ∙ ap (λ h. h.victim) one.same.fields)) (omega arith) c.if-n-lt-LEAST_LARGE.false (one.loose [] c.requires.linked (λ none. none)).0,
     )
 
 pub returns : goal.returns
 returns g c =
-    let regions = g.A.Links.regions in
-    let word = g.A.Links.word in
-    let middle = c.unbin_fit.new.self in
-    let cut = c.cut_chunk.new.self in
-    let new = c.bin.new.self in
-    let one = c.unbin_fit.ensures in
-    let e = c.cut_chunk.ensures in
-    let last = c.bin.ensures in
-    let more = c.if-rest-lt-LEAST_CHUNK.false in
-    let fits = c.requires.fits in
-    let rest = c.args.at + c.args.n in
+    let regions = g.A.Links.regions in let word = g.A.Links.word in let middle = c.unbin_fit.new.self in
+    let cut = c.cut_chunk.new.self in let new = c.bin.new.self in let one = c.unbin_fit.ensures in
+    let e = c.cut_chunk.ensures in let last = c.bin.ensures in let more = c.if-rest-lt-LEAST_CHUNK.false in
+    let fits = c.requires.fits in let rest = c.args.at + c.args.n in
     let other : c.args.at ≢ middle.victim = λ is. c.requires.other (is ∙ ap (λ h. h.victim) one.same.fields) in
     let order : KeepsOrder regions word c.args.self.now new = λ b.
     let left = one.loose [] b (λ none. none) in
@@ -171,8 +139,9 @@ returns g c =
     let after = last.binned [] loose (λ none. none) in
     let new_one = rest_came c.index_stays.ensures one.same.sound c.args.size c.args.n e.moved e.state e.free e.bins other (omega arith) in (
       after.0,
-      in_order (c.args.size - c.args.n) rest b.index left.0.index after.0.index (lessened_as c.args.size c.args.at b.index left.0.index left.1) (added_as (c.args.size - c.args.n) rest left.0.index after.0.index after.1)
-          (λ is. new_one (c.args.size - c.args.n) (subst (λ s. IsFreeAt s rest (c.args.size - c.args.n)) (sym one.same.state) (b.holds.free rest (c.args.size - c.args.n) is)) (let least = c.requires.least in omega arith)),
+      in_order (c.args.size - c.args.n) rest b.index left.0.index after.0.index (lessened_as c.args.size c.args.at b.index left.0.index left.1)
+          (added_as (c.args.size - c.args.n) rest left.0.index after.0.index after.1) (λ is. new_one (c.args.size - c.args.n) (subst (λ s. IsFreeAt s rest
+          (c.args.size - c.args.n)) (sym one.same.state) (b.holds.free rest (c.args.size - c.args.n) is)) (let least = c.requires.least in omega arith)),
     ) in
     record {
       state = last.same.state ∙ (e.state ∙ ap (λ s. taken s (extent c.args.at c.args.size Free) c.args.n) one.same.state);

@@ -11,11 +11,10 @@ store_counted-requires g c = subst (λ rs. IsWordOf rs (c.args.self.now.top + c.
 
 pub returns : goal.returns
 returns g c =
-    let system = c.store_counted.new.self in
-    let first = c.set_size_and_pinuse_of_inuse_chunk.ensures in
-    let second = c.store_counted.ensures in
-    let same = second.regions ∙ first.regions in
-    let stored = stores c.requires.sound c.requires.there c.args.n c.requires.whole c.requires.least c.requires.fits c.set_size_and_pinuse_of_inuse_chunk.new.memory system first.regions first.stored second.stored in
+    let system = c.store_counted.new.self in let first = c.set_size_and_pinuse_of_inuse_chunk.ensures in
+    let second = c.store_counted.ensures in let same = second.regions ∙ first.regions in
+    let stored = stores c.requires.sound c.requires.there c.args.n c.requires.whole c.requires.least c.requires.fits
+    c.set_size_and_pinuse_of_inuse_chunk.new.memory system first.regions first.stored second.stored in
     let t = top_taken c.requires.sound c.requires.there c.args.n c.requires.whole c.requires.least c.requires.fits system same stored in
     record {
       chunk = search rules;

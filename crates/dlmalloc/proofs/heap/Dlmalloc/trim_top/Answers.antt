@@ -5,41 +5,53 @@ use Rattle.dlmalloc.proofs.heap.Dlmalloc.trim_top.Goals as goal
 pub returns-then-may_cut-clause-answer : goal.returns-then-may_cut-clause-answer
 returns-then-may_cut-clause-answer g c =
     let heap = c.args.self.now in
-    c.cut_top.ensures.answer ∙ cut_answer c.requires.sound c.requires.there (g.A.Allocator.parts heap.system) (g.A.Allocator.unit heap.system) c.args.pad c.spare-cut.ensures.is (sym c.may_cut.ensures ∙ c.if-may_cut.true)
+    c.cut_top.ensures.answer ∙ cut_answer c.requires.sound c.requires.there (g.A.Allocator.parts heap.system)
+    (g.A.Allocator.unit heap.system) c.args.pad c.spare-cut.ensures.is (sym c.may_cut.ensures ∙ c.if-may_cut.true)
 
 pub returns-then-may_cut-clause-cut : goal.returns-then-may_cut-clause-cut
 returns-then-may_cut-clause-cut g c =
     let heap = c.args.self.now in
-    let answer = c.cut_top.ensures.answer ∙ cut_answer c.requires.sound c.requires.there (g.A.Allocator.parts heap.system) (g.A.Allocator.unit heap.system) c.args.pad c.spare-cut.ensures.is (sym c.may_cut.ensures ∙ c.if-may_cut.true) in
-    cut_back g.A.Links.regions g.A.Links.word g.A.Links.follows (g.A.Allocator.parts heap.system) (g.A.Allocator.unit heap.system) heap c.args.pad c.requires.sound c.requires.there (g.A.Links.follows_none heap.system) c.cut_top.new.self c.cut_top.result answer
-    (λ was. subst (λ n. IsShortened g.A.Links.regions g.A.Links.word g.A.Links.follows heap n c.cut_top.new.self) c.spare-cut.ensures.is (c.cut_top.ensures.cut was)) (λ isnt. c.cut_top.ensures.same isnt)
+    let answer = c.cut_top.ensures.answer ∙ cut_answer c.requires.sound c.requires.there (g.A.Allocator.parts heap.system)
+    (g.A.Allocator.unit heap.system) c.args.pad c.spare-cut.ensures.is (sym c.may_cut.ensures ∙ c.if-may_cut.true) in
+    cut_back g.A.Links.regions g.A.Links.word g.A.Links.follows (g.A.Allocator.parts heap.system) (g.A.Allocator.unit heap.system) heap c.args.pad
+    c.requires.sound c.requires.there (g.A.Links.follows_none heap.system) c.cut_top.new.self c.cut_top.result answer
+    (λ was. subst (λ n. IsShortened g.A.Links.regions g.A.Links.word g.A.Links.follows heap n c.cut_top.new.self) c.spare-cut.ensures.is
+    (c.cut_top.ensures.cut was)) (λ isnt. c.cut_top.ensures.same isnt)
 
 pub returns-else-may_cut-clause-answer : goal.returns-else-may_cut-clause-answer
 returns-else-may_cut-clause-answer g c =
     let heap = c.args.self.now in
-    c.if-may_cut.false ∙ cut_answer c.requires.sound c.requires.there (g.A.Allocator.parts heap.system) (g.A.Allocator.unit heap.system) c.args.pad c.spare-cut.ensures.is (sym c.may_cut.ensures ∙ c.if-may_cut.false)
+    c.if-may_cut.false ∙ cut_answer c.requires.sound c.requires.there (g.A.Allocator.parts heap.system)
+    (g.A.Allocator.unit heap.system) c.args.pad c.spare-cut.ensures.is (sym c.may_cut.ensures ∙ c.if-may_cut.false)
 
 pub returns-else-may_cut-clause-cut : goal.returns-else-may_cut-clause-cut
 returns-else-may_cut-clause-cut g c =
     let heap = c.args.self.now in
-    cut_back g.A.Links.regions g.A.Links.word g.A.Links.follows (g.A.Allocator.parts heap.system) (g.A.Allocator.unit heap.system) heap c.args.pad c.requires.sound c.requires.there (g.A.Links.follows_none heap.system) heap false
-    (cut_answer c.requires.sound c.requires.there (g.A.Allocator.parts heap.system) (g.A.Allocator.unit heap.system) c.args.pad c.spare-cut.ensures.is (sym c.may_cut.ensures ∙ c.if-may_cut.false))
-    (λ was. absurd (cc)) (λ isnt. refl)
+    cut_back g.A.Links.regions g.A.Links.word g.A.Links.follows (g.A.Allocator.parts heap.system)
+    (g.A.Allocator.unit heap.system) heap c.args.pad c.requires.sound c.requires.there (g.A.Links.follows_none heap.system) heap false
+    (cut_answer c.requires.sound c.requires.there (g.A.Allocator.parts heap.system) (g.A.Allocator.unit heap.system) c.args.pad c.spare-cut.ensures.is
+    (sym c.may_cut.ensures ∙ c.if-may_cut.false)) (λ was. absurd (cc)) (λ isnt. refl)
 
 pub returns-then-may_cut-clause-linked : goal.returns-then-may_cut-clause-linked
 returns-then-may_cut-clause-linked g c =
     let heap = c.args.self.now in
-    let answer = c.cut_top.ensures.answer ∙ cut_answer c.requires.sound c.requires.there (g.A.Allocator.parts heap.system) (g.A.Allocator.unit heap.system) c.args.pad c.spare-cut.ensures.is (sym c.may_cut.ensures ∙ c.if-may_cut.true) in
-    let cut = cut_back g.A.Links.regions g.A.Links.word g.A.Links.follows (g.A.Allocator.parts heap.system) (g.A.Allocator.unit heap.system) heap c.args.pad c.requires.sound c.requires.there (g.A.Links.follows_none heap.system) c.cut_top.new.self c.cut_top.result answer
-    (λ was. subst (λ n. IsShortened g.A.Links.regions g.A.Links.word g.A.Links.follows heap n c.cut_top.new.self) c.spare-cut.ensures.is (c.cut_top.ensures.cut was)) (λ isnt. c.cut_top.ensures.same isnt) in
+    let answer = c.cut_top.ensures.answer ∙ cut_answer c.requires.sound c.requires.there (g.A.Allocator.parts heap.system)
+    (g.A.Allocator.unit heap.system) c.args.pad c.spare-cut.ensures.is (sym c.may_cut.ensures ∙ c.if-may_cut.true) in
+    let cut = cut_back g.A.Links.regions g.A.Links.word g.A.Links.follows (g.A.Allocator.parts heap.system) (g.A.Allocator.unit heap.system) heap c.args.pad
+    c.requires.sound c.requires.there (g.A.Links.follows_none heap.system) c.cut_top.new.self c.cut_top.result answer
+    (λ was. subst (λ n. IsShortened g.A.Links.regions g.A.Links.word g.A.Links.follows heap n c.cut_top.new.self) c.spare-cut.ensures.is
+    (c.cut_top.ensures.cut was)) (λ isnt. c.cut_top.ensures.same isnt) in
     binned_but_top c.index_stays.ensures c.requires.sound cut.stays c.cut_top.ensures.there c.requires.linked
 
 pub returns-then-may_cut-clause-index : goal.returns-then-may_cut-clause-index
 returns-then-may_cut-clause-index g c = λ b.
     let heap = c.args.self.now in
-    let answer = c.cut_top.ensures.answer ∙ cut_answer c.requires.sound c.requires.there (g.A.Allocator.parts heap.system) (g.A.Allocator.unit heap.system) c.args.pad c.spare-cut.ensures.is (sym c.may_cut.ensures ∙ c.if-may_cut.true) in
-    let cut = cut_back g.A.Links.regions g.A.Links.word g.A.Links.follows (g.A.Allocator.parts heap.system) (g.A.Allocator.unit heap.system) heap c.args.pad c.requires.sound c.requires.there (g.A.Links.follows_none heap.system) c.cut_top.new.self c.cut_top.result answer
-    (λ was. subst (λ n. IsShortened g.A.Links.regions g.A.Links.word g.A.Links.follows heap n c.cut_top.new.self) c.spare-cut.ensures.is (c.cut_top.ensures.cut was)) (λ isnt. c.cut_top.ensures.same isnt) in
+    let answer = c.cut_top.ensures.answer ∙ cut_answer c.requires.sound c.requires.there (g.A.Allocator.parts heap.system)
+    (g.A.Allocator.unit heap.system) c.args.pad c.spare-cut.ensures.is (sym c.may_cut.ensures ∙ c.if-may_cut.true) in
+    let cut = cut_back g.A.Links.regions g.A.Links.word g.A.Links.follows (g.A.Allocator.parts heap.system) (g.A.Allocator.unit heap.system) heap c.args.pad
+    c.requires.sound c.requires.there (g.A.Links.follows_none heap.system) c.cut_top.new.self c.cut_top.result answer
+    (λ was. subst (λ n. IsShortened g.A.Links.regions g.A.Links.word g.A.Links.follows heap n c.cut_top.new.self) c.spare-cut.ensures.is
+    (c.cut_top.ensures.cut was)) (λ isnt. c.cut_top.ensures.same isnt) in
     (binned_but_top c.index_stays.ensures c.requires.sound cut.stays c.cut_top.ensures.there b, λ n. refl)
 
 pub returns-else-may_cut-clause-index : goal.returns-else-may_cut-clause-index

@@ -24,8 +24,7 @@ returns-clause-loose g c = λ loose b apart.
 
 pub returns-clause-same : goal.returns-clause-same
 returns-clause-same g c =
-    let loose = c.requires.binned.0 in
-    let b = c.requires.binned.1 in
+    let loose = c.requires.binned.0 in let b = c.requires.binned.1 in
     let is = is_binned c.requires.sound c.requires.free b c.if-at-self.false c.requires.binned.2 in
     let e = c.unlink.ensures in
     let links = links_unlink c.requires.sound c.requires.free b (g.A.Links.word c.unlink.new.memory) (e.words b.index b.linked is) in

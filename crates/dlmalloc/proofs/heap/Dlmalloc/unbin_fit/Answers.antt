@@ -6,8 +6,7 @@ use Rattle.dlmalloc.proofs.heap.Dlmalloc.unbin_fit.Goals as goal
 
 pub unlink_fit-requires : goal.unlink_fit-requires
 unlink_fit-requires g c =
-    let r = c.requires.binned in
-    let fit = c.requires.member.1 r.1.index r.1.linked in
+    let r = c.requires.binned in let fit = c.requires.member.1 r.1.index r.1.linked in
     let size = one_size (state_of g.A.Links.word c.args.self.now) (r.1.holds.free c.args.at fit.size fit.binned) c.requires.free in
     let oldest = subst (λ n. 256 ≤ n → c.args.at ≡ first_or 0 (r.1.index n)) size fit.oldest in
     record { linked = (r.1.index, r.1.linked, is_binned c.requires.sound c.requires.free r.1 c.requires.other r.2, oldest) }
@@ -22,8 +21,7 @@ returns-clause-loose g c = λ loose b apart.
 
 pub returns-clause-same : goal.returns-clause-same
 returns-clause-same g c =
-    let loose = c.requires.binned.0 in
-    let b = c.requires.binned.1 in
+    let loose = c.requires.binned.0 in let b = c.requires.binned.1 in
     let is = is_binned c.requires.sound c.requires.free b c.requires.other c.requires.binned.2 in
     let e = c.unlink_fit.ensures in
     let links = links_unlink c.requires.sound c.requires.free b (g.A.Links.word c.unlink_fit.new.memory) (e.words b.index b.linked is) in
