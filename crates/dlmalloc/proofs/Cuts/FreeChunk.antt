@@ -1,5 +1,5 @@
 -- A free chunk of a heap is taken.
-use Rattle.dlmalloc.proofs.Names.{◌≡◌, ◌≢◌, ℕ, ◌+◌, ◌-◌, ◌%◌, ◌^◌, ◌<◌, ◌≤◌, ◌⊎◌, inl, inr, Bool, true, false, ◌==◌, nat_le, nat_lt, if◌then◌else◌, List, [], ◌∷◌, ◌++◌, Some, None, refl, sym, ◌∙◌, ap, subst, arith, unwrap_or, nat_tests, Grant, IsStored, AreStored, HasHead, HasFoot, Extent, Used, Free, Top, Record, head_of, with_pinuse, extent_at, HasChunk, last_kind, Segment, extents_in, cut, victim_after, taken, OnlyBoundariesChange, HasOneMore, IsMove, IsRunOf, HasMore, used_of, segments_of, state_of, IsSound, Dlmalloc, IsIn, IsFreeAt, FreeMoves}
+use Rattle.dlmalloc.proofs.Names.{◌≡◌, ◌≢◌, ℕ, ◌+◌, ◌-◌, ◌%◌, ◌^◌, ◌<◌, ◌≤◌, ◌⊎◌, inl, inr, Bool, true, false, ◌==◌, nat_le, nat_lt, if◌then◌else◌, List, [], ◌∷◌, ◌++◌, Some, None, refl, sym, ◌∙◌, ap, subst, arith, unwrap_or, nat_tests, Grant, IsStored, AreStored, HasHead, HasFoot, Extent, Used, Free, Top, Record, head_of, with_pinuse, extent_at, HasChunk, last_kind, extents_in, cut, victim_after, taken, OnlyBoundariesChange, HasOneMore, IsMove, IsRunOf, HasMore, used_of, segments_of, state_of, IsSound, Dlmalloc, IsIn, IsFreeAt, FreeMoves}
 use Rattle.dlmalloc.proofs.Extents.Lookup.{extent, nat_same, nat_isnt, found_here, found_either}
 use Rattle.dlmalloc.proofs.Cuts.FreeExtent.{stored_then, cut_split, cut_whole, behind_free}
 use Rattle.dlmalloc.proofs.Moves.OfFreeExtents.{free_moves}

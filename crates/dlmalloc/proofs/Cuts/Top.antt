@@ -1,5 +1,5 @@
 -- The top of a heap is cut.
-use Rattle.dlmalloc.proofs.Names.{◌≡◌, ◌≢◌, ℕ, ◌+◌, ◌-◌, ◌%◌, ◌^◌, ◌<◌, ◌≤◌, inl, inr, true, false, ◌==◌, List, [], ◌∷◌, ◌++◌, Some, refl, sym, ◌∙◌, ap, subst, arith, Grant, IsStored, AreStored, HasHead, Extent, Used, Free, Top, Record, Foot, head_of, extent_at, HasChunk, last_kind, Segment, extents_in, cut, IsBoundary, IsRunOf, segments_of, state_of, IsSound, Dlmalloc, FreeMoves}
+use Rattle.dlmalloc.proofs.Names.{◌≡◌, ◌≢◌, ℕ, ◌+◌, ◌-◌, ◌%◌, ◌^◌, ◌<◌, ◌≤◌, inl, inr, true, false, ◌==◌, List, [], ◌∷◌, ◌++◌, Some, refl, sym, ◌∙◌, ap, subst, arith, Grant, IsStored, AreStored, HasHead, Extent, Used, Free, Top, Record, Foot, head_of, extent_at, extents_in, cut, IsBoundary, IsRunOf, segments_of, state_of, IsSound, Dlmalloc, FreeMoves}
 use Rattle.dlmalloc.proofs.Extents.Lookup.{extent, nat_isnt, nat_same, found_later, found_here, found_either}
 use Rattle.dlmalloc.proofs.Extents.Tiling.{tiles_le}
 use Rattle.dlmalloc.proofs.Extents.OneMoreUsed.{none_outside}

@@ -1,5 +1,5 @@
 -- A chunk before the top is freed.
-use Rattle.dlmalloc.proofs.Names.{◌≡◌, ◌≢◌, ℕ, ◌+◌, ◌-◌, ◌%◌, ◌^◌, ◌<◌, ◌≤◌, ◌⊎◌, inl, inr, Bool, true, false, ◌==◌, if◌then◌else◌, List, [], ◌∷◌, ◌++◌, Some, None, refl, sym, ◌∙◌, ap, subst, arith, dec_lt, unwrap_or, option_map, find, nat_tests, Grant, IsStored, Extent, Used, Free, Top, Record, Foot, pinuse_of, pinuse_of-head_of, is_free, ends_segment, is_used, Segment, extents_in, in_segments, freed_in, victim_in, has, IsIn, FreeMoves, MayStand, HasChunk, Tiles, last_kind, IsMove, IsRunOf, HasMore, used_of, IsSegment, AreSegments, AreApart, segments_of, state_of, IsSound, Dlmalloc}
+use Rattle.dlmalloc.proofs.Names.{◌≡◌, ◌≢◌, ℕ, ◌+◌, ◌-◌, ◌%◌, ◌^◌, ◌<◌, ◌≤◌, ◌⊎◌, inl, inr, Bool, true, false, ◌==◌, if◌then◌else◌, List, [], ◌∷◌, ◌++◌, Some, None, refl, sym, ◌∙◌, ap, subst, arith, dec_lt, unwrap_or, option_map, find, nat_tests, Grant, IsStored, Extent, Used, Free, Top, Record, Foot, pinuse_of, pinuse_of-head_of, is_free, ends_segment, is_used, Segment, extents_in, in_segments, freed_in, victim_in, has, IsIn, FreeMoves, MayStand, Tiles, last_kind, IsMove, IsRunOf, HasMore, used_of, IsSegment, AreSegments, AreApart, segments_of, state_of, IsSound, Dlmalloc}
 use Rattle.dlmalloc_chunks.specs.Tiling.{extent_at}
 use Rattle.dlmalloc.proofs.Extents.Lookup.{nat_same, nat_isnt, found_here, found_either, found_later, the_extent}
 use Rattle.dlmalloc.proofs.Extents.Lookup.{extent, same_extent}

@@ -1,5 +1,5 @@
 -- What stands behind a chunk in use.
-use Rattle.dlmalloc.proofs.Names.{◌≡◌, ℕ, ◌+◌, inl, false, ◌==◌, List, [], ◌∷◌, ◌++◌, Some, refl, sym, ◌∙◌, ap, subst, arith, Grant, Extent, Used, extent_at, Tiles, Segment, extents_in, IsBoundary, IsRunOf, segments_of, state_of, IsSound, Dlmalloc}
+use Rattle.dlmalloc.proofs.Names.{◌≡◌, ℕ, ◌+◌, inl, false, ◌==◌, List, [], ◌∷◌, ◌++◌, Some, refl, sym, ◌∙◌, ap, subst, arith, Grant, Extent, Used, extent_at, extents_in, IsBoundary, IsRunOf, segments_of, state_of, IsSound, Dlmalloc}
 use Rattle.dlmalloc.proofs.Extents.Lookup.{extent, nat_isnt, found_here}
 use Rattle.dlmalloc.proofs.Extents.OneMoreUsed.{AreDistinct, tiles_distinct}
 use Rattle.dlmalloc.proofs.Segments.Among.{distinct_later, among_all}

@@ -1,5 +1,5 @@
 -- A chunk of a heap is freed.
-use Rattle.dlmalloc.proofs.Names.{◌≡◌, ◌≢◌, ℕ, ◌+◌, ◌-◌, ◌%◌, ◌^◌, ◌<◌, ◌≤◌, ◌⊎◌, inl, inr, Bool, true, false, ◌==◌, if◌then◌else◌, List, [], ◌∷◌, ◌++◌, Some, None, refl, sym, ◌∙◌, ap, subst, arith, unwrap_or, option_map, nat_tests, Grant, IsWordOf, AreStored, HasHead, HasFoot, Extent, Kind, Used, Free, Top, Record, pinuse_of, head_of, without_pinuse, pinuse_of-head_of, is_free, is_used, Segment, extents_in, in_segments, freed_in, victim_in, freed, OnlyBoundariesChange, IsFreeAround, HasOneMore, IsIn, FreeMoves, HasChunk, Tiles, last_kind, IsMove, IsRunOf, HasMore, used_of, segments_of, state_of, IsSound, Dlmalloc}
+use Rattle.dlmalloc.proofs.Names.{◌≡◌, ◌≢◌, ℕ, ◌+◌, ◌-◌, ◌%◌, ◌^◌, ◌<◌, ◌≤◌, ◌⊎◌, inl, inr, Bool, true, false, ◌==◌, if◌then◌else◌, List, [], ◌∷◌, ◌++◌, Some, None, refl, sym, ◌∙◌, ap, subst, arith, unwrap_or, option_map, nat_tests, Grant, IsWordOf, AreStored, HasHead, HasFoot, Extent, Kind, Used, Free, Top, Record, pinuse_of, head_of, without_pinuse, pinuse_of-head_of, is_free, is_used, Segment, extents_in, in_segments, freed_in, victim_in, freed, OnlyBoundariesChange, IsFreeAround, HasOneMore, IsIn, FreeMoves, Tiles, last_kind, IsMove, IsRunOf, HasMore, used_of, segments_of, state_of, IsSound, Dlmalloc}
 use Rattle.dlmalloc_chunks.specs.Tiling.{extent_at}
 use Rattle.dlmalloc.proofs.Extents.Lookup.{nat_is, nat_same, nat_isnt, found_either, found_later, found_more}
 use Rattle.dlmalloc.proofs.Extents.Lookup.{extent, same_extent, end_of, the_extent}

@@ -1,5 +1,5 @@
 -- What the calls want when a chunk is freed.
-use Rattle.dlmalloc.proofs.Names.{◌≡◌, ◌≢◌, ℕ, ◌+◌, ◌-◌, ◌%◌, ◌^◌, ◌<◌, ◌≤◌, ◌⊎◌, inl, inr, Bool, true, false, ◌==◌, if◌then◌else◌, List, [], ◌∷◌, ◌++◌, Some, refl, sym, ◌∙◌, ap, subst, arith, nat_tests, Grant, IsWordOf, IsStored, HasHead, HasFoot, Extent, Used, Top, size_of, pinuse_of, free_of, pinuse_of-head_of, is_used, Segment, extents_in, IsFreeAround, HasChunk, Tiles, last_kind, IsRunOf, segments_of, state_of, IsSound, Dlmalloc}
+use Rattle.dlmalloc.proofs.Names.{◌≡◌, ◌≢◌, ℕ, ◌+◌, ◌-◌, ◌%◌, ◌^◌, ◌<◌, ◌≤◌, ◌⊎◌, inl, inr, Bool, true, false, ◌==◌, if◌then◌else◌, List, [], ◌∷◌, ◌++◌, Some, refl, sym, ◌∙◌, ap, subst, arith, nat_tests, Grant, IsWordOf, IsStored, HasHead, HasFoot, Extent, Used, Top, size_of, pinuse_of, free_of, pinuse_of-head_of, is_used, extents_in, IsFreeAround, HasChunk, Tiles, last_kind, IsRunOf, segments_of, state_of, IsSound, Dlmalloc}
 use Rattle.dlmalloc_chunks.specs.Tiling.{extent_at}
 use Rattle.dlmalloc.proofs.Extents.Lookup.{nat_is, nat_isnt, found_later}
 use Rattle.dlmalloc.proofs.Extents.Lookup.{extent, end_of}

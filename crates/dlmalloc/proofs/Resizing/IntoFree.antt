@@ -1,5 +1,5 @@
 -- A chunk in use takes bytes of a free chunk behind it, or all of them.
-use Rattle.dlmalloc.proofs.Names.{◌≡◌, ◌≢◌, ℕ, ◌+◌, ◌-◌, ◌%◌, ◌^◌, ◌<◌, ◌≤◌, inl, inr, Bool, true, false, ◌==◌, nat_le, if◌then◌else◌, List, [], ◌∷◌, ◌++◌, None, Some, refl, sym, ◌∙◌, ap, subst, arith, nat_tests, Grant, AreStored, HasHead, HasFoot, Extent, Kind, Used, Free, Top, Record, pinuse_of, head_of, with_pinuse, extent_at, HasChunk, Tiles, last_kind, Segment, extents_in, IsMove, IsRunOf, grown_into, segments_of, state_of, IsSound, Dlmalloc, IsIn, IsFreeAt, FreeMoves}
+use Rattle.dlmalloc.proofs.Names.{◌≡◌, ◌≢◌, ℕ, ◌+◌, ◌-◌, ◌%◌, ◌^◌, ◌<◌, ◌≤◌, inl, inr, Bool, true, false, ◌==◌, nat_le, if◌then◌else◌, List, [], ◌∷◌, ◌++◌, None, Some, refl, sym, ◌∙◌, ap, subst, arith, nat_tests, Grant, AreStored, HasHead, HasFoot, Extent, Kind, Used, Free, Top, Record, pinuse_of, head_of, with_pinuse, extent_at, Tiles, last_kind, extents_in, IsMove, IsRunOf, grown_into, segments_of, state_of, IsSound, Dlmalloc, IsIn, IsFreeAt, FreeMoves}
 use Rattle.dlmalloc.proofs.Extents.Lookup.{extent, the_extent, nat_isnt, nat_same, found_either}
 use Rattle.dlmalloc.proofs.Extents.Tiling.{sized, tiles_le}
 use Rattle.dlmalloc.proofs.Resizing.EnlargedWords.{grown_split, grown_whole}

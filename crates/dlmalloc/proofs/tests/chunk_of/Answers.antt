@@ -1,4 +1,4 @@
-use Rattle.dlmalloc.proofs.Names.{◌≡◌, ℕ, ◌-◌, ◌≤◌, Bool, true, false, if◌then◌else◌, List, Option, Some, None, refl, sym, ◌∙◌, ap, subst, arith, option_map, unwrap_or, regions_of, word_of, Extent, Kind, Used, Victim, extent_at, HeapState, extents_in, is_victim, shown, state_of}
+use Rattle.dlmalloc.proofs.Names.{◌≡◌, ℕ, ◌-◌, ◌≤◌, Bool, true, false, if◌then◌else◌, Option, Some, None, refl, sym, ◌∙◌, ap, subst, arith, option_map, unwrap_or, regions_of, word_of, Extent, Kind, Used, Victim, extent_at, HeapState, extents_in, is_victim, shown, state_of}
 use Rattle.dlmalloc.proofs.Extents.Lookup.{extent, found}
 use Rattle.dlmalloc.proofs.Laws.{used_inside}
 use Rattle.dlmalloc.proofs.tests.chunk_of.Goals as goal
