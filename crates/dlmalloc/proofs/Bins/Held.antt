@@ -1,13 +1,9 @@
 -- The extents that an index holds.
 use Rattle.dlmalloc.proofs.Names.{◌≡◌, ◌≢◌, ℕ, ◌⊎◌, inl, inr, Bool, true, false, ◌==◌, if◌then◌else◌, List, [], ◌∷◌, ◌++◌, refl, sym, ◌∙◌, ap, subst, arith, nat_tests, IsIn, AreDistinct, removed, with_chunk, without_chunk, HeapState, IsFreeAt, HoldsBut, FreeMoves}
+use Rattle.dlmalloc.proofs.Bins.OneOrder.{in_front}
 use Rattle.dlmalloc.proofs.Extents.Lookup.{nat_is, the_extent}
 
 -- ---- the chunks of an index with one more, and with one less
-
-in_more : (chunk : ℕ) (chunks more : List ℕ) → IsIn chunk chunks → IsIn chunk (chunks ++ more)
-in_more chunk [] more is = absurd is
-in_more chunk (first ∷ chunks) more (inl is) = inl is
-in_more chunk (first ∷ chunks) more (inr later) = inr (in_more chunk chunks more later)
 
 in_last : (chunk : ℕ) (chunks : List ℕ) → IsIn chunk (chunks ++ chunk ∷ [])
 in_last chunk [] = inl refl
@@ -52,7 +48,7 @@ module _ (size chunk : ℕ) (index : ℕ → List ℕ) where
   in_with k n is = go (n == size)
     where
       go : (b : Bool) → IsIn k (if b then index n ++ chunk ∷ [] else index n)
-      go true = in_more k (index n) (chunk ∷ []) is
+      go true = in_front k (index n) (chunk ∷ []) is
       go false = is
 
   with_it : (n : ℕ) → n ≡ size → IsIn chunk (with_chunk size chunk index n)

@@ -27,7 +27,7 @@ part_unique one two (chunk ∷ chunks) (inr (rest, is, a)) (inr (others, same, b
     later k more other (inl at) = absurd (other at)
     later k more other (inr there) = there
 
-in_front : (k : ℕ) (front back : List ℕ) → IsIn k front → IsIn k (front ++ back)
+pub in_front : (k : ℕ) (front back : List ℕ) → IsIn k front → IsIn k (front ++ back)
 in_front k [] back here = absurd here
 in_front k (first ∷ front) back (inl same) = inl same
 in_front k (first ∷ front) back (inr later) = inr (in_front k front back later)

@@ -1,6 +1,6 @@
 -- A free chunk of a heap is taken.
-use Rattle.dlmalloc.proofs.Names.{◌≡◌, ◌≢◌, ℕ, ◌+◌, ◌-◌, ◌%◌, ◌^◌, ◌<◌, ◌≤◌, ◌⊎◌, inl, inr, Bool, true, false, ◌==◌, nat_le, nat_lt, if◌then◌else◌, List, [], ◌∷◌, ◌++◌, Some, None, refl, sym, ◌∙◌, ap, subst, arith, unwrap_or, nat_tests, Grant, IsStored, AreStored, HasHead, HasFoot, Extent, Used, Free, Top, Record, head_of, with_pinuse, extent_at, HasChunk, last_kind, extents_in, cut, victim_after, taken, OnlyBoundariesChange, HasOneMore, IsMove, IsRunOf, HasMore, used_of, segments_of, state_of, IsSound, Dlmalloc, IsIn, IsFreeAt, FreeMoves}
-use Rattle.dlmalloc.proofs.Extents.Lookup.{extent, nat_same, nat_isnt, found_here, found_either}
+use Rattle.dlmalloc.proofs.Names.{◌≡◌, ◌≢◌, ℕ, ◌+◌, ◌-◌, ◌%◌, ◌^◌, ◌<◌, ◌≤◌, ◌⊎◌, inl, inr, Bool, true, false, ◌==◌, nat_le, nat_lt, if◌then◌else◌, List, [], ◌∷◌, ◌++◌, Some, refl, sym, ◌∙◌, ap, subst, arith, unwrap_or, nat_tests, Grant, IsStored, AreStored, HasHead, HasFoot, Extent, Used, Free, Top, Record, head_of, with_pinuse, extent_at, HasChunk, last_kind, extents_in, cut, victim_after, taken, OnlyBoundariesChange, HasOneMore, IsMove, IsRunOf, HasMore, used_of, segments_of, state_of, IsSound, Dlmalloc, IsIn, IsFreeAt, FreeMoves}
+use Rattle.dlmalloc.proofs.Extents.Lookup.{extent, nat_same, nat_isnt, found_here, found_either, the_one}
 use Rattle.dlmalloc.proofs.Cuts.FreeExtent.{stored_then, cut_split, cut_whole, behind_free}
 use Rattle.dlmalloc.proofs.Moves.OfFreeExtents.{free_moves}
 use Rattle.dlmalloc.proofs.Extents.Tiling.{sized, tiles_le}
@@ -21,14 +21,6 @@ pub record IsFreeTake {A : Type 0} (regions : A → List Grant) (word : A → �
   pub take : IsTake regions word old chunk n new
   pub free : FreeMoves (state_of word old) (state_of word new) (chunk.at ∷ []) (if nat_le (n + 32) chunk.size then (chunk.at + n) ∷ [] else [])
   pub rest : n + 32 ≤ chunk.size → IsFreeAt (state_of word new) (chunk.at + n) (chunk.size - n)
-
--- what is found in one
-pub found_one : (k : ℕ) (one : Extent) {tail : Extent} → extent_at k (one ∷ []) ≡ Some tail → one ≡ tail
-found_one k one {tail} there = go (one.at == k) there
-  where
-    go : (b : Bool) → (if b then Some one else None) ≡ Some tail → one ≡ tail
-    go true is = ap (λ o. unwrap_or o one) is
-    go false is = absurd (cc)
 
 module _ {A : Type 0} {regions : A → List Grant} {word : A → ℕ → ℕ} {heap : Dlmalloc A} (sound : IsSound regions word heap) {at size : ℕ} (n : ℕ)
     (there : extent_at at (extents_in (state_of word heap)) ≡ Some (extent at size Free)) where
@@ -77,7 +69,7 @@ module _ {A : Type 0} {regions : A → List Grant} {word : A → ℕ → ℕ} {h
       halves = extent at n Used ∷ extent (at + n) (size - n) Free ∷ []
 
       free_one : (k : ℕ) {tail : Extent} → extent_at k (chunk ∷ []) ≡ Some tail → Free ≡ tail.kind
-      free_one k found = ap (λ e. e.kind) (found_one k chunk found)
+      free_one k found = ap (λ e. e.kind) (the_one k chunk found)
 
       abbrev split_step : (victim victim_size : ℕ) → IsStep regions word heap (after victim victim_size) (chunk ∷ []) halves
       split_step victim victim_size = step_beside (after victim victim_size) sound same run (cut_split (regions heap.system)
@@ -104,13 +96,13 @@ module _ {A : Type 0} {regions : A → List Grant} {word : A → ℕ → ℕ} {h
 
           in_rest : (k bytes : ℕ) → extent_at k halves ≡ Some (extent k bytes Free) → IsIn k ((at + n) ∷ [])
           in_rest k bytes found = elim (found_either k (extent at n Used ∷ []) (extent (at + n) (size - n) Free ∷ []) found) [
-            | inl first ↦ absurd (let no : Used ≡ Free = ap (λ e. e.kind) (found_one k (extent at n Used) first) in cc)
-            | inr later ↦ inl (sym (ap (λ e. e.at) (found_one k (extent (at + n) (size - n) Free) later.1)))
+            | inl first ↦ absurd (let no : Used ≡ Free = ap (λ e. e.kind) (the_one k (extent at n Used) first) in cc)
+            | inr later ↦ inl (sym (ap (λ e. e.at) (the_one k (extent (at + n) (size - n) Free) later.1)))
           ]
 
           split_free : FreeMoves (state_of word heap) (state_of word (after victim victim_size)) (at ∷ []) ((at + n) ∷ [])
           split_free = free_moves sound (split_step victim victim_size) (at ∷ []) ((at + n) ∷ [])
-              (λ k bytes found. inl (sym (ap (λ e. e.at) (found_one k chunk found)))) in_rest (λ k is. elim is
+              (λ k bytes found. inl (sym (ap (λ e. e.at) (the_one k chunk found)))) in_rest (λ k is. elim is
               [ inl same ↦ inr (chunk, subst (λ a. extent_at a (chunk ∷ []) ≡ Some chunk) (sym same) (found_here chunk [])) | inr none ↦ absurd none ])
               (λ k is. elim is
               [ inl same ↦ inr (extent (at + n) (size - n) Free, subst (λ a. extent_at a halves ≡ Some (extent (at + n) (size - n) Free)) (sym same) rest_there) | inr none ↦ absurd none ])
@@ -137,7 +129,7 @@ module _ {A : Type 0} {regions : A → List Grant} {word : A → ℕ → ℕ} {h
           let test : (at == heap.victim) ≡ false = (let e = isnt in grind (arith, nat_tests)) in
           let large : nat_lt n 256 ≡ false = (let m = many in grind (arith, nat_tests)) in
           split heap.victim heap.victim_size (λ more. found_again sound (split_step heap.victim heap.victim_size) heap.victim
-          (λ here. absurd (isnt (ap (λ e. e.at) (found_one heap.victim chunk here)))) (sound.victim more)) sound.no_victim (rw (test, has_rest, large) refl)
+          (λ here. absurd (isnt (ap (λ e. e.at) (the_one heap.victim chunk here)))) (sound.victim more)) sound.no_victim (rw (test, has_rest, large) refl)
 
     -- ---- nothing stays free
 
@@ -204,14 +196,14 @@ module _ {A : Type 0} {regions : A → List Grant} {word : A → ℕ → ℕ} {h
 
           in_both : (k bytes : ℕ) → extent_at k both ≡ Some (extent k bytes Free) → IsIn k (at ∷ [])
           in_both k bytes found = elim (found_either k (chunk ∷ []) (next.next ∷ []) found) [
-            | inl first ↦ inl (sym (ap (λ e. e.at) (found_one k chunk first)))
-            | inr later ↦ absurd (next_used bytes k (found_one k next.next later.1))
+            | inl first ↦ inl (sym (ap (λ e. e.at) (the_one k chunk first)))
+            | inr later ↦ absurd (next_used bytes k (the_one k next.next later.1))
           ]
 
           in_all : (k bytes : ℕ) → extent_at k all ≡ Some (extent k bytes Free) → IsIn k []
           in_all k bytes found = elim (found_either k (extent at size Used ∷ []) (next.next ∷ []) found) [
-            | inl first ↦ (let no : Used ≡ Free = ap (λ e. e.kind) (found_one k (extent at size Used) first) in cc)
-            | inr later ↦ next_used bytes k (found_one k next.next later.1)
+            | inl first ↦ (let no : Used ≡ Free = ap (λ e. e.kind) (the_one k (extent at size Used) first) in cc)
+            | inr later ↦ next_used bytes k (the_one k next.next later.1)
           ]
 
           whole_free : FreeMoves (state_of word heap) (state_of word (after victim victim_size)) (at ∷ []) []

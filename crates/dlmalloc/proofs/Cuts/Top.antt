@@ -1,6 +1,6 @@
 -- The top of a heap is cut.
 use Rattle.dlmalloc.proofs.Names.{◌≡◌, ◌≢◌, ℕ, ◌+◌, ◌-◌, ◌%◌, ◌^◌, ◌<◌, ◌≤◌, inl, inr, true, false, ◌==◌, List, [], ◌∷◌, ◌++◌, Some, refl, sym, ◌∙◌, ap, subst, arith, Grant, IsStored, AreStored, HasHead, Extent, Used, Free, Top, Record, Foot, head_of, extent_at, extents_in, cut, IsBoundary, IsRunOf, segments_of, state_of, IsSound, Dlmalloc, FreeMoves}
-use Rattle.dlmalloc.proofs.Extents.Lookup.{extent, nat_isnt, nat_same, found_later, found_here, found_either}
+use Rattle.dlmalloc.proofs.Extents.Lookup.{extent, nat_isnt, nat_same, found_later, found_here, found_either, the_one}
 use Rattle.dlmalloc.proofs.Extents.Tiling.{tiles_le}
 use Rattle.dlmalloc.proofs.Extents.OneMoreUsed.{none_outside}
 use Rattle.dlmalloc.proofs.Cuts.FreeExtent.{cut_top, stored_then}
@@ -9,7 +9,7 @@ use Rattle.dlmalloc.proofs.Extents.RunReplaced.{run_of, step_top, run_part, run_
 use Rattle.dlmalloc.proofs.Segments.HeadTold.{head_is}
 use Rattle.dlmalloc.proofs.Cuts.StateAfter.{replaced_run}
 use Rattle.dlmalloc.proofs.Moves.OfFreeExtents.{free_moves}
-use Rattle.dlmalloc.proofs.Cuts.FreeChunk.{IsTake, found_one}
+use Rattle.dlmalloc.proofs.Cuts.FreeChunk.{IsTake}
 use Rattle.dlmalloc.proofs.Extents.Top.{is_top, top_among, foot_among}
 
 module _ {A : Type 0} {regions : A → List Grant} {word : A → ℕ → ℕ} {heap : Dlmalloc A} (sound : IsSound regions word heap) (some : 0 < heap.size)
@@ -60,7 +60,7 @@ module _ {A : Type 0} {regions : A → List Grant} {word : A → ℕ → ℕ} {h
     halves = extent heap.top n Used ∷ extent (heap.top + n) (heap.top_size - n) Top ∷ []
 
     top_one : (k : ℕ) {tail : Extent} → extent_at k (chunk ∷ []) ≡ Some tail → Top ≡ tail.kind
-    top_one k found = ap (λ e. e.kind) (found_one k chunk found)
+    top_one k found = ap (λ e. e.kind) (the_one k chunk found)
 
     where_top : extent_at (heap.top + n) (run.first ++ (halves ++ run.last)) ≡ Some (extent (heap.top + n) (heap.top_size - n) Top)
     where_top =
@@ -91,13 +91,13 @@ module _ {A : Type 0} {regions : A → List Grant} {word : A → ℕ → ℕ} {h
     pub top_free : FreeMoves (state_of word heap) (state_of word after) [] []
     top_free = free_moves sound cut_step [] [] (λ k bytes found. (let no : Top ≡ Free = top_one k found in cc))
         (λ k bytes found. elim (found_either k (extent heap.top n Used ∷ []) (extent (heap.top + n) (heap.top_size - n) Top ∷ []) found) [
-          | inl first ↦ (let no : Used ≡ Free = ap (λ e. e.kind) (found_one k (extent heap.top n Used) first) in cc)
-          | inr later ↦ (let no : Top ≡ Free = ap (λ e. e.kind) (found_one k (extent (heap.top + n) (heap.top_size - n) Top) later.1) in cc)
+          | inl first ↦ (let no : Used ≡ Free = ap (λ e. e.kind) (the_one k (extent heap.top n Used) first) in cc)
+          | inr later ↦ (let no : Top ≡ Free = ap (λ e. e.kind) (the_one k (extent (heap.top + n) (heap.top_size - n) Top) later.1) in cc)
         ]) (λ k none. absurd none) (λ k none. absurd none)
 
     -- all others are found as before
     pub others_still : (one : Extent) → one.at ≢ heap.top → extent_at one.at (extents_in (state_of word heap)) ≡ Some one → extent_at one.at (extents_in (state_of word after)) ≡ Some one
-    others_still one other there = found_again sound cut_step one.at (λ found. absurd (other (ap (λ e. e.at) (sym (found_one one.at chunk found))))) there
+    others_still one other there = found_again sound cut_step one.at (λ found. absurd (other (ap (λ e. e.at) (sym (the_one one.at chunk found))))) there
 
     -- the heads that the top and its foot had are boundaries still
     pub head_boundary : IsBoundary (state_of word after) (heap.top + 8)

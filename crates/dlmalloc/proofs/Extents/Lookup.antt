@@ -25,6 +25,13 @@ nat_isnt apart = grind (arith, nat_tests)
 pub the_extent : {one other : Extent} → Some one ≡ Some other → one ≡ other
 the_extent {one} h = ap (λ o. unwrap_or o one) h
 
+pub the_one : (k : ℕ) (one : Extent) {other : Extent} → extent_at k (one ∷ []) ≡ Some other → one ≡ other
+the_one k one {other} there = go (one.at == k) there
+  where
+    go : (b : Bool) → (if b then Some one else None) ≡ Some other → one ≡ other
+    go true is = ap (λ o. unwrap_or o one) is
+    go false is = absurd (cc)
+
 -- an extent with those before and behind it
 pub record Found (at : ℕ) (extent : Extent) (extents : List Extent) : Type 0 where
   pub front : List Extent

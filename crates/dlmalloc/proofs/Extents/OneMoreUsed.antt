@@ -1,7 +1,7 @@
 -- Lists with one extent in use more.
-use Rattle.dlmalloc.proofs.Names.{◌≡◌, ◌≢◌, ℕ, ◌+◌, ◌<◌, ◌≤◌, ◌⊎◌, inl, Bool, true, false, ◌==◌, if◌then◌else◌, List, [], ◌∷◌, ◌++◌, Option, Some, None, refl, sym, ◌∙◌, ap, subst, arith, append_assoc, ⊤, unwrap_or, filter-append, nat_tests, Extent, Kind, Used, is_used, HeapState, extents_in, HasOneMore, Tiles, used_of, HasMore}
+use Rattle.dlmalloc.proofs.Names.{◌≡◌, ◌≢◌, ℕ, ◌+◌, ◌<◌, ◌≤◌, ◌⊎◌, inl, Bool, true, false, ◌==◌, if◌then◌else◌, List, [], ◌∷◌, ◌++◌, Option, Some, None, refl, sym, ◌∙◌, ap, subst, arith, append_assoc, ⊤, filter-append, nat_tests, Extent, Kind, Used, is_used, HeapState, extents_in, HasOneMore, Tiles, used_of, HasMore}
 use Rattle.dlmalloc_chunks.specs.Tiling.{extent_at}
-use Rattle.dlmalloc.proofs.Extents.Lookup.{nat_is, nat_same, nat_isnt}
+use Rattle.dlmalloc.proofs.Extents.Lookup.{nat_is, nat_same, nat_isnt, the_extent}
 use Rattle.dlmalloc.proofs.Extents.Tiling.{sized, tiles_le}
 
 pub used_append : (front back : List Extent) → used_of (front ++ back) ≡ used_of front ++ used_of back
@@ -22,6 +22,10 @@ more_between front {less} {more} back h = record {
 abbrev pub AreDistinct : List Extent → Type 0
 AreDistinct [] = ⊤
 AreDistinct (extent ∷ extents) = (extent_at extent.at extents ≡ None) × AreDistinct extents
+
+pub distinct_second : (front back : List Extent) → AreDistinct (front ++ back) → AreDistinct back
+distinct_second [] back apart = apart
+distinct_second (first ∷ front) back apart = distinct_second front back apart.1
 
 -- none of the extents of a range begins outside of it
 pub none_outside : (words : ℕ → ℕ) (before : Kind) (from : ℕ) (extents : List Extent) (to k : ℕ) → (k < from) ⊎ (to ≤ k) → Tiles words before from extents to → extent_at k extents ≡ None
@@ -65,9 +69,6 @@ module _ (k : ℕ) (extent : Extent) (extents : List Extent) where
       go : (u : Bool) → extent_at k (if u then extent ∷ later else later) ≡ answer → (if u then (if b then Some extent else extent_at k later) else extent_at k later) ≡ answer
       go true is = subst (λ b. (if b then Some extent else extent_at k later) ≡ answer) test is
       go false is = is
-
-the_extent : {one other : Extent} → Some one ≡ Some other → one ≡ other
-the_extent {one} is = ap (λ o. unwrap_or o one) is
 
 pub used_there : (k : ℕ) (extents : List Extent) {used : Extent} → used.kind ≡ Used → extent_at k extents ≡ Some used → extent_at k (used_of extents) ≡ Some used
 used_there k [] is there = there

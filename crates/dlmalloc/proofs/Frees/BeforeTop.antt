@@ -1,7 +1,7 @@
 -- A chunk before the top is freed.
 use Rattle.dlmalloc.proofs.Names.{◌≡◌, ◌≢◌, ℕ, ◌+◌, ◌-◌, ◌%◌, ◌^◌, ◌<◌, ◌≤◌, ◌⊎◌, inl, inr, Bool, true, false, ◌==◌, if◌then◌else◌, List, [], ◌∷◌, ◌++◌, Some, None, refl, sym, ◌∙◌, ap, subst, arith, dec_lt, unwrap_or, option_map, find, nat_tests, Grant, IsStored, Extent, Used, Free, Top, Record, Foot, pinuse_of, pinuse_of-head_of, is_free, ends_segment, is_used, Segment, extents_in, in_segments, freed_in, victim_in, has, IsIn, FreeMoves, MayStand, Tiles, last_kind, IsMove, IsRunOf, HasMore, used_of, IsSegment, AreSegments, AreApart, segments_of, state_of, IsSound, Dlmalloc}
 use Rattle.dlmalloc_chunks.specs.Tiling.{extent_at}
-use Rattle.dlmalloc.proofs.Extents.Lookup.{nat_same, nat_isnt, found_here, found_either, found_later, the_extent}
+use Rattle.dlmalloc.proofs.Extents.Lookup.{nat_same, nat_isnt, found_here, found_either, found_later, the_extent, the_one}
 use Rattle.dlmalloc.proofs.Extents.Lookup.{extent, same_extent}
 use Rattle.dlmalloc.proofs.Extents.Tiling.{sized, tiles_le}
 use Rattle.dlmalloc.proofs.Moves.OfLists.{last_append}
@@ -11,7 +11,7 @@ use Rattle.dlmalloc.proofs.Segments.Among.{extents_all, with_extents, all_back, 
 use Rattle.dlmalloc.proofs.Extents.RunReplaced.{HasNext, has_next, with_next, behind, run_part, step_top}
 use Rattle.dlmalloc.proofs.Extents.FromWords.{only_foot}
 use Rattle.dlmalloc.proofs.Frees.StateAfter.{freed_run, joint_kind}
-use Rattle.dlmalloc.proofs.Frees.FreeBeside.{Left, left_of, with_left, the_one, beside_place}
+use Rattle.dlmalloc.proofs.Frees.FreeBeside.{Left, left_of, with_left, beside_place}
 use Rattle.dlmalloc.proofs.Moves.OfFreeExtents.{IsThere, free_moves}
 use Rattle.dlmalloc.proofs.Extents.Victim.{has_none, skip, has_none_beside, victim_same}
 use Rattle.dlmalloc.proofs.Segments.HeadTold.{head_is}

@@ -23,13 +23,6 @@ one_free extent free k one there = go (extent.at == k) there
 
 -- ---- what is found among them
 
-pub the_one : (k : ℕ) (one : Extent) {other : Extent} → extent_at k (one ∷ []) ≡ Some other → one ≡ other
-the_one k one {other} there = go (one.at == k) there
-  where
-    go : (b : Bool) → (if b then Some one else None) ≡ Some other → one ≡ other
-    go true is = ap (λ o. unwrap_or o one) is
-    go false is = absurd (cc)
-
 -- one that is joined begins where they do
 pub beside_place : (words : ℕ → ℕ) (before : Kind) (from : ℕ) (extents : List Extent) (to : ℕ) → IsBeside extents →
     Tiles words before from extents to → (k : ℕ) {one : Extent} → extent_at k extents ≡ Some one → k ≡ from

@@ -1,11 +1,11 @@
 -- The free chunks beside one in use, which leave their bins before it joins them.
 use Rattle.dlmalloc.proofs.Names.{◌≡◌, ◌≢◌, ℕ, ◌+◌, ◌-◌, ◌<◌, ◌≤◌, ◌⊎◌, inl, inr, Bool, true, false, ◌==◌, if◌then◌else◌, List, [], ◌∷◌, ◌++◌, Some, refl, sym, ◌∙◌, ap, subst, arith, dec_lt, nat_tests, Grant, IsWordOf, Extent, Kind, Used, Free, Top, Record, pinuse_of, free_of, size_of, IsIn, extent_at, Tiles, Segment, extents_in, segments_of, state_of, AreTold, IsSound, IsFreeAt, FreeMoves, IsVictimAfter, OnlyFreeChange, Dlmalloc}
-use Rattle.dlmalloc.proofs.Extents.Lookup.{extent, nat_is, nat_isnt, found_here, found_later, found_more, the_extent, end_of}
+use Rattle.dlmalloc.proofs.Extents.Lookup.{extent, nat_is, nat_isnt, found_here, found_later, found_more, the_extent, end_of, the_one}
 use Rattle.dlmalloc.proofs.Extents.Tiling.{tiles_split}
 use Rattle.dlmalloc.proofs.Extents.OneMoreUsed.{none_outside}
 use Rattle.dlmalloc.proofs.Segments.Among.{extents_all, among_all}
 use Rattle.dlmalloc.proofs.Frees.StateAfter.{IsBeside}
-use Rattle.dlmalloc.proofs.Frees.FreeBeside.{AllFree, Right, first_there, the_one}
+use Rattle.dlmalloc.proofs.Frees.FreeBeside.{AllFree, Right, first_there}
 use Rattle.dlmalloc.proofs.Extents.Top.{top_among}
 use Rattle.dlmalloc.proofs.Cuts.Chosen.{free_low}
 use Rattle.dlmalloc.proofs.Bins.Held.{AreAccounted}

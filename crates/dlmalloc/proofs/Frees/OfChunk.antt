@@ -1,7 +1,7 @@
 -- A chunk of a heap is freed.
 use Rattle.dlmalloc.proofs.Names.{◌≡◌, ◌≢◌, ℕ, ◌+◌, ◌-◌, ◌%◌, ◌^◌, ◌<◌, ◌≤◌, ◌⊎◌, inl, inr, Bool, true, false, ◌==◌, if◌then◌else◌, List, [], ◌∷◌, ◌++◌, Some, None, refl, sym, ◌∙◌, ap, subst, arith, unwrap_or, option_map, nat_tests, Grant, IsWordOf, AreStored, HasHead, HasFoot, Extent, Kind, Used, Free, Top, Record, pinuse_of, head_of, without_pinuse, pinuse_of-head_of, is_free, is_used, Segment, extents_in, in_segments, freed_in, victim_in, freed, OnlyBoundariesChange, IsFreeAround, HasOneMore, IsIn, FreeMoves, Tiles, last_kind, IsMove, IsRunOf, HasMore, used_of, segments_of, state_of, IsSound, Dlmalloc}
 use Rattle.dlmalloc_chunks.specs.Tiling.{extent_at}
-use Rattle.dlmalloc.proofs.Extents.Lookup.{nat_is, nat_same, nat_isnt, found_either, found_later, found_more}
+use Rattle.dlmalloc.proofs.Extents.Lookup.{nat_is, nat_same, nat_isnt, found_either, found_later, found_more, the_one}
 use Rattle.dlmalloc.proofs.Extents.Lookup.{extent, same_extent, end_of, the_extent}
 use Rattle.dlmalloc.specs.Binned.{IsJoint}
 use Rattle.dlmalloc.proofs.Extents.Tiling.{sized, tiles_le, tiles_split}
@@ -11,7 +11,7 @@ use Rattle.dlmalloc.proofs.Frees.Joined.{join}
 use Rattle.dlmalloc.proofs.Segments.Among.{extents_all, with_extents}
 use Rattle.dlmalloc.proofs.Extents.RunReplaced.{behind, run_of, run_part, run_word, step_beside}
 use Rattle.dlmalloc.proofs.Frees.StateAfter.{freed_run, joint_kind}
-use Rattle.dlmalloc.proofs.Frees.FreeBeside.{Left, left_of, with_left, Right, next_one, right_of, the_one, beside_place, first_there}
+use Rattle.dlmalloc.proofs.Frees.FreeBeside.{Left, left_of, with_left, Right, next_one, right_of, beside_place, first_there}
 use Rattle.dlmalloc.proofs.Moves.OfFreeExtents.{IsThere, free_moves}
 use Rattle.dlmalloc.proofs.Extents.Top.{the_top, top_among}
 use Rattle.dlmalloc.proofs.Extents.Victim.{has_in, victim_same}

@@ -1,7 +1,7 @@
 -- What a move does to the free extents of a heap.
 use Rattle.dlmalloc.proofs.Names.{◌≡◌, ℕ, ◌⊎◌, inl, inr, Bool, true, false, ◌==◌, if◌then◌else◌, List, [], ◌∷◌, ◌++◌, Some, None, refl, sym, ◌∙◌, ap, subst, Grant, Extent, Free, IsIn, extent_at, HeapState, extents_in, state_of, IsSound, FreeMoves, Dlmalloc}
 use Rattle.dlmalloc.proofs.Extents.Lookup.{extent, nat_is, found_either, found_more}
-use Rattle.dlmalloc.proofs.Extents.OneMoreUsed.{AreDistinct}
+use Rattle.dlmalloc.proofs.Extents.OneMoreUsed.{AreDistinct, distinct_second}
 use Rattle.dlmalloc.proofs.Segments.Among.{distinct_later}
 use Rattle.dlmalloc.proofs.Moves.OfHeaps.{IsStep, before, behind, all_old, all_new, distinct_old, distinct_new}
 
@@ -17,10 +17,6 @@ not_both (first ∷ front) back k {one} apart here there = go (first.at == k) re
     go : (b : Bool) → (first.at == k) ≡ b → (if b then Some first else extent_at k front) ≡ Some one → (extent_at k front ≡ Some one → ⊥) → ⊥
     go true test is rest = (let none = subst (λ a. extent_at a (front ++ back) ≡ None) (nat_is test) apart.0 in let some = distinct_later front back k apart.1 there in cc)
     go false test is rest = rest is
-
-distinct_second : (front back : List Extent) → AreDistinct (front ++ back) → AreDistinct back
-distinct_second [] back apart = apart
-distinct_second (first ∷ front) back apart = distinct_second front back apart.1
 
 -- Some extents give way to others. A free one that is not of those at the addresses `gone` is found as before, and at no
 -- address of those that come.

@@ -1,12 +1,11 @@
 -- A chunk in use, and the extent behind it, of which it takes bytes.
 use Rattle.dlmalloc.proofs.Names.{◌≡◌, ◌≢◌, ℕ, ◌+◌, ◌%◌, ◌^◌, ◌<◌, ◌≤◌, ◌⊎◌, inl, inr, List, [], ◌∷◌, ◌++◌, Some, refl, sym, ◌∙◌, ap, subst, arith, Grant, HasHead, Extent, Kind, Used, Free, extent_at, extents_in, OnlyBoundariesChange, cut, joined, grown_into, HasSameOthers, IsRunOf, segments_of, state_of, IsSound, Dlmalloc}
-use Rattle.dlmalloc.proofs.Extents.Lookup.{extent, found_either}
+use Rattle.dlmalloc.proofs.Extents.Lookup.{extent, found_either, the_one}
 use Rattle.dlmalloc.proofs.Extents.Tiling.{tiles_le}
 use Rattle.dlmalloc.proofs.Resizing.EnlargedWords.{both_run}
 use Rattle.dlmalloc.proofs.Segments.Among.{with_extents}
 use Rattle.dlmalloc.proofs.Moves.OfHeaps.{IsStep, read, found_new, found_again, found_before, keeps_words, stays_sound}
 use Rattle.dlmalloc.proofs.Extents.RunReplaced.{run_of, HasNext, has_next, with_next, run_part, run_word}
-use Rattle.dlmalloc.proofs.Cuts.FreeChunk.{found_one}
 
 -- A chunk in use took bytes of the extent behind it, so that it has so many.
 pub record IsEnlarged {A : Type 0} (regions : A → List Grant) (word : A → ℕ → ℕ) (old : Dlmalloc A) (chunk behind : Extent) (n whole : ℕ) (new : Dlmalloc A) : Type 0 where
@@ -21,8 +20,8 @@ pub record IsEnlarged {A : Type 0} (regions : A → List Grant) (word : A → �
 pub in_two : (first second : Extent) (k : ℕ) {one : Extent} → extent_at k (first ∷ second ∷ []) ≡ Some one → (first ≡ one) ⊎ (second ≡ one)
 in_two first second k found =
     elim (found_either k (first ∷ []) (second ∷ []) found) [
-      | inl here ↦ inl (found_one k first here)
-      | inr behind ↦ inr (found_one k second behind.1)
+      | inl here ↦ inl (the_one k first here)
+      | inr behind ↦ inr (the_one k second behind.1)
     ]
 
 -- none of them is of a kind that they have not

@@ -1,13 +1,12 @@
 -- A chunk in use takes bytes of a free chunk behind it, or all of them.
 use Rattle.dlmalloc.proofs.Names.{◌≡◌, ◌≢◌, ℕ, ◌+◌, ◌-◌, ◌%◌, ◌^◌, ◌<◌, ◌≤◌, inl, inr, Bool, true, false, ◌==◌, nat_le, if◌then◌else◌, List, [], ◌∷◌, ◌++◌, None, Some, refl, sym, ◌∙◌, ap, subst, arith, nat_tests, Grant, AreStored, HasHead, HasFoot, Extent, Kind, Used, Free, Top, Record, pinuse_of, head_of, with_pinuse, extent_at, Tiles, last_kind, extents_in, IsMove, IsRunOf, grown_into, segments_of, state_of, IsSound, Dlmalloc, IsIn, IsFreeAt, FreeMoves}
-use Rattle.dlmalloc.proofs.Extents.Lookup.{extent, the_extent, nat_isnt, nat_same, found_either}
+use Rattle.dlmalloc.proofs.Extents.Lookup.{extent, the_extent, nat_isnt, nat_same, found_either, the_one}
 use Rattle.dlmalloc.proofs.Extents.Tiling.{sized, tiles_le}
 use Rattle.dlmalloc.proofs.Resizing.EnlargedWords.{grown_split, grown_whole}
 use Rattle.dlmalloc.proofs.Resizing.Enlarged.{IsEnlarged, in_two, no_kind, no_other, next, two, low, end_small, head_there, enlarged}
 use Rattle.dlmalloc.proofs.Segments.Among.{with_extents}
 use Rattle.dlmalloc.proofs.Resizing.Split.{differ}
 use Rattle.dlmalloc.proofs.Cuts.FreeExtent.{behind_free}
-use Rattle.dlmalloc.proofs.Frees.FreeBeside.{the_one}
 use Rattle.dlmalloc.proofs.Moves.OfFreeExtents.{free_moves}
 use Rattle.dlmalloc.proofs.Moves.OfHeaps.{IsStep, found_new, found_again}
 use Rattle.dlmalloc.proofs.Extents.RunReplaced.{step_beside, HasNext, has_next, with_next, behind, run_word}

@@ -1,13 +1,12 @@
 -- A chunk in use is split into two.
 use Rattle.dlmalloc.proofs.Names.{◌≡◌, ◌≢◌, ℕ, ◌+◌, ◌-◌, ◌%◌, ◌^◌, ◌<◌, ◌≤◌, inl, inr, true, false, ◌==◌, List, [], ◌∷◌, None, Some, refl, sym, ◌∙◌, ap, subst, arith, nat_tests, Grant, IsStored, AreStored, HasHead, Extent, Kind, Used, Free, Top, Record, pinuse_of, head_of, pinuse_of-head_of, extent_at, is_used, HasChunk, extents_in, exchanged, halves, HasSameOthers, OnlyBoundariesChange, IsMove, IsRunOf, segments_of, state_of, IsSound, Dlmalloc, FreeMoves}
-use Rattle.dlmalloc.proofs.Extents.Lookup.{extent, nat_isnt, nat_same, found_either}
+use Rattle.dlmalloc.proofs.Extents.Lookup.{extent, nat_isnt, nat_same, found_either, the_one}
 use Rattle.dlmalloc.proofs.Cuts.FreeExtent.{stored_over}
 use Rattle.dlmalloc.proofs.Extents.Tiling.{tiles_le, plain_chunk}
 use Rattle.dlmalloc.proofs.Moves.OfFreeExtents.{free_moves}
 use Rattle.dlmalloc.proofs.Moves.OfHeaps.{IsStep, read, found_new, found_again, found_before, keeps_words, stays_sound}
 use Rattle.dlmalloc.proofs.Extents.RunReplaced.{run_of, step_beside, run_part, run_word}
 use Rattle.dlmalloc.proofs.Cuts.StateAfter.{replaced_run}
-use Rattle.dlmalloc.proofs.Cuts.FreeChunk.{found_one}
 
 pub differ : (m n : ℕ) → m ≢ n → (m == n) ≡ false
 differ m n other = (let e = other in grind (arith, nat_tests))
@@ -86,10 +85,10 @@ module _ {A : Type 0} {regions : A → List Grant} {word : A → ℕ → ℕ} {h
     both = extent at n Used ∷ extent (at + n) (size - n) Used ∷ []
 
     used_one : (k : ℕ) {one : Extent} → extent_at k (chunk ∷ []) ≡ Some one → Used ≡ one.kind
-    used_one k there = ap (λ e. e.kind) (found_one k chunk there)
+    used_one k there = ap (λ e. e.kind) (the_one k chunk there)
 
     place_one : (k : ℕ) {one : Extent} → extent_at k (chunk ∷ []) ≡ Some one → at ≡ one.at
-    place_one k there = ap (λ e. e.at) (found_one k chunk there)
+    place_one k there = ap (λ e. e.at) (the_one k chunk there)
 
     abbrev split_step : IsStep regions word heap after (chunk ∷ []) both
     split_step = step_beside after sound same run (split_used at size n run.here.1 whole least room (stores middle system value same_middle first second)) refl
@@ -136,6 +135,6 @@ module _ {A : Type 0} {regions : A → List Grant} {word : A → ℕ → ℕ} {h
     pub split_free : FreeMoves (state_of word heap) (state_of word after) [] []
     split_free = free_moves sound split_step [] [] (λ k bytes found. (let no : Used ≡ Free = used_one k found in cc))
         (λ k bytes found. elim (found_either k (extent at n Used ∷ []) (extent (at + n) (size - n) Used ∷ []) found) [
-          | inl first ↦ (let no : Used ≡ Free = ap (λ e. e.kind) (found_one k (extent at n Used) first) in cc)
-          | inr later ↦ (let no : Used ≡ Free = ap (λ e. e.kind) (found_one k (extent (at + n) (size - n) Used) later.1) in cc)
+          | inl first ↦ (let no : Used ≡ Free = ap (λ e. e.kind) (the_one k (extent at n Used) first) in cc)
+          | inr later ↦ (let no : Used ≡ Free = ap (λ e. e.kind) (the_one k (extent (at + n) (size - n) Used) later.1) in cc)
         ]) (λ k none. absurd none) (λ k none. absurd none)

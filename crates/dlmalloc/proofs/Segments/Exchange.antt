@@ -1,10 +1,10 @@
 -- Some extents of a heap give way to others, as its segments become others that are told: what stays is found as before.
 use Rattle.dlmalloc.proofs.Names.{◌≡◌, ◌≢◌, ℕ, ◌<◌, ◌⊎◌, inl, inr, Bool, true, false, ◌==◌, if◌then◌else◌, List, [], ◌∷◌, ◌++◌, Some, sym, ◌∙◌, ap, subst, refl, unwrap_or, Grant, Extent, Kind, Used, Free, extent_at, Segment, extents_in, AreSegments, AreApart, IsIn, FreeMoves, HasSameUsed, segments_of, state_of, AreTold, IsSound, IsGranularity, Dlmalloc}
 use Rattle.dlmalloc.proofs.Extents.Lookup.{extent, found_either}
-use Rattle.dlmalloc.proofs.Extents.OneMoreUsed.{AreDistinct}
+use Rattle.dlmalloc.proofs.Extents.OneMoreUsed.{AreDistinct, distinct_second}
 use Rattle.dlmalloc.proofs.Moves.OfFreeExtents.{IsThere, free_stays}
 use Rattle.dlmalloc.proofs.Segments.Among.{extents_all, all_distinct, distinct_later}
-use Rattle.dlmalloc.proofs.Segments.ToldAnew.{retold, distinct, distinct_second, retold_sound, replaced_found}
+use Rattle.dlmalloc.proofs.Segments.ToldAnew.{retold, distinct, retold_sound, replaced_found}
 
 -- no extent of a list is of a kind
 abbrev pub HasNo : Kind → List Extent → Type 0

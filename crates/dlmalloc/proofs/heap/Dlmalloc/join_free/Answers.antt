@@ -59,7 +59,18 @@ pub returns-then-self-to : goal.returns-then-self-to
 returns-then-self-to g c =
     let o = top_victim c.requires.sound c.requires.chunk c.requires.from c.requires.to c.if-to-self.true c.store_counted.new.self
     c.store_counted.ensures.regions c.store_counted.ensures.stored c.if-from-self.true c.if-self-to.true in
-    record { state = o.state; less = o.less; records = o.records; around = around_top c.requires.sound c.requires.chunk c.requires.from c.requires.to c.if-to-self.true _ o.sound refl refl refl; free = o.free; joined = o.joined; victim = inr (c.if-from-self.true, c.if-self-to.true, inl refl); bins = refl; moved = record { sound = o.sound; words = o.words; regions_same = search rules; followed = search rules }; counted = omega arith }
+    record {
+      state = o.state;
+      less = o.less;
+      records = o.records;
+      around = around_top c.requires.sound c.requires.chunk c.requires.from c.requires.to c.if-to-self.true _ o.sound refl refl refl;
+      free = o.free;
+      joined = o.joined;
+      victim = inr (c.if-from-self.true, c.if-self-to.true, inl refl);
+      bins = refl;
+      moved = record { sound = o.sound; words = o.words; regions_same = search rules; followed = search rules };
+      counted = omega arith;
+    }
 
 pub returns-else-from-self : goal.returns-else-from-self
 returns-else-from-self g c =
@@ -67,7 +78,18 @@ returns-else-from-self g c =
     elim c.else-from-self.branch [ else-from-self-via-then-from-self+else-self-to w ↦ inr w.if-self-to.false | else-from-self-via-else-from-self w ↦ inl w.if-from-self.false ] in
     let o = top_other c.requires.sound c.requires.chunk c.requires.from c.requires.to c.if-to-self.true c.store_counted.new.self c.store_counted.ensures.regions
     c.store_counted.ensures.stored out in
-    record { state = o.state; less = o.less; records = o.records; around = around_top c.requires.sound c.requires.chunk c.requires.from c.requires.to c.if-to-self.true _ o.sound refl refl refl; free = o.free; joined = o.joined; victim = inl refl; bins = refl; moved = record { sound = o.sound; words = o.words; regions_same = search rules; followed = search rules }; counted = omega arith }
+    record {
+      state = o.state;
+      less = o.less;
+      records = o.records;
+      around = around_top c.requires.sound c.requires.chunk c.requires.from c.requires.to c.if-to-self.true _ o.sound refl refl refl;
+      free = o.free;
+      joined = o.joined;
+      victim = inl refl;
+      bins = refl;
+      moved = record { sound = o.sound; words = o.words; regions_same = search rules; followed = search rules };
+      counted = omega arith;
+    }
 
 pub returns-then-self-to-2 : goal.returns-then-self-to-2
 returns-then-self-to-2 g c =
@@ -76,7 +98,18 @@ returns-then-self-to-2 g c =
     let end = ends_at c.requires.sound c.requires.chunk c.requires.from c.requires.to on in
     let o = as_victim c.requires.sound c.requires.chunk none c.requires.from end c.make_free.new.memory c.make_free.ensures.regions c.make_free.ensures.stored
     c.if-from-self-2.true c.if-self-to-2.true in
-    record { state = o.state; less = o.less; records = o.records; around = around c.requires.sound c.requires.chunk none c.requires.from end c.make_free.new.memory c.make_free.ensures.regions c.make_free.ensures.stored c.args.from (c.args.to - c.args.from); free = o.free; joined = o.joined; victim = inr (c.if-from-self-2.true, c.if-self-to-2.true, inr refl); bins = refl; moved = record { sound = o.sound; words = o.words; regions_same = search rules; followed = search rules }; counted = omega arith }
+    record {
+      state = o.state;
+      less = o.less;
+      records = o.records;
+      around = around c.requires.sound c.requires.chunk none c.requires.from end c.make_free.new.memory c.make_free.ensures.regions c.make_free.ensures.stored c.args.from (c.args.to - c.args.from);
+      free = o.free;
+      joined = o.joined;
+      victim = inr (c.if-from-self-2.true, c.if-self-to-2.true, inr refl);
+      bins = refl;
+      moved = record { sound = o.sound; words = o.words; regions_same = search rules; followed = search rules };
+      counted = omega arith;
+    }
 
 pub returns-else-from-self-2 : goal.returns-else-from-self-2
 returns-else-from-self-2 g c =
@@ -86,4 +119,15 @@ returns-else-from-self-2 g c =
     let out : (c.args.self.now.victim < c.args.from) ⊎ (c.args.to ≤ c.args.self.now.victim) =
     elim c.else-from-self-2.branch [ else-from-self-2-via-then-from-self-2+else-self-to-2 w ↦ inr w.if-self-to-2.false | else-from-self-2-via-else-from-self-2 w ↦ inl w.if-from-self-2.false ] in
     let o = as_other c.requires.sound c.requires.chunk none c.requires.from end c.make_free.new.memory c.make_free.ensures.regions c.make_free.ensures.stored out in
-    record { state = o.state; less = o.less; records = o.records; around = around c.requires.sound c.requires.chunk none c.requires.from end c.make_free.new.memory c.make_free.ensures.regions c.make_free.ensures.stored c.args.self.now.victim c.args.self.now.victim_size; free = o.free; joined = o.joined; victim = inl refl; bins = refl; moved = record { sound = o.sound; words = o.words; regions_same = search rules; followed = search rules }; counted = omega arith }
+    record {
+      state = o.state;
+      less = o.less;
+      records = o.records;
+      around = around c.requires.sound c.requires.chunk none c.requires.from end c.make_free.new.memory c.make_free.ensures.regions c.make_free.ensures.stored c.args.self.now.victim c.args.self.now.victim_size;
+      free = o.free;
+      joined = o.joined;
+      victim = inl refl;
+      bins = refl;
+      moved = record { sound = o.sound; words = o.words; regions_same = search rules; followed = search rules };
+      counted = omega arith;
+    }
