@@ -82,7 +82,7 @@ module _ {A : Type 0} {regions : A → List Grant} {word : A → ℕ → ℕ} {h
     low = part.low;
     high = part.high;
     long = part.long;
-    extents = moved Used run.segment.base (run.segment.base + run.segment.size) (run.segment.base + run.segment.size) run.first run.last run.first_stand move
+    extents = moved Used run.segment.base (run.segment.base + run.segment.size) run.first run.last run.first_stand move
         run.last_stand (λ k low high m. record { granted = part.run.covered k (omega arith) high; aligned = m }) run.some refl kind tail_kind;
     tail = ap ends_segment (last_append Used run.first (more ++ run.last)) ∙ (ap ends_segment (last_append (last_kind Used run.first) more run.last)
         ∙ (ap (λ k. ends_segment (last_kind k run.last)) kind ∙ tail_kind));

@@ -67,10 +67,10 @@ module _ {A : Type 0} {regions : A → List Grant} {word : A → ℕ → ℕ} {h
     less = left.lefts ++ chunk ∷ top ∷ []
 
     abbrev run : IsRunOf words segments from end less
-    run = with_left (regions heap.system) words segments two left
+    run = with_left words segments two left
 
     abbrev wide : IsRunOf words segments from (end + foot.next.size) (left.lefts ++ chunk ∷ (top ∷ foot.next ∷ []))
-    wide = with_left (regions heap.system) words segments (with_next (regions heap.system) sound.segments two foot) left
+    wide = with_left words segments (with_next (regions heap.system) sound.segments two foot) left
 
     -- the top that it becomes
     abbrev pub new_size : ℕ

@@ -102,7 +102,7 @@ left_of words base (first ∷ more) at h (inr free) =
 
 -- ---- a run in two lists
 
-module _ (regions : List Grant) (words : ℕ → ℕ) (segments : List Segment) where
+module _ (words : ℕ → ℕ) (segments : List Segment) where
   -- what stands before it goes into the run
   abbrev pub with_left : {at to : ℕ} {run : List Extent} (r : IsRunOf words segments at to run) {from : ℕ}
       (l : Left words r.segment.base r.first at from) → IsRunOf words segments from to (l.lefts ++ run)

@@ -80,7 +80,7 @@ module _ {A : Type 0} {regions : A → List Grant} {word : A → ℕ → ℕ} {h
         (extent (at + size) n Free) = subst (λ a. extent_at a (extents_in (state_of word heap)) ≡ Some (extent (at + size) n Free)) is free in
         (let no : Free ≡ Top = ap (λ e. e.kind) (the_extent (sym here ∙ top)) in cc)
 
-    module _ (some : 0 < heap.size) (goes_on : at + size ≢ heap.top) where
+    module _ (goes_on : at + size ≢ heap.top) where
       abbrev r : Right words (segments_of word heap) at size to
       r = right sound there (no_top sound there goes_on) from_is (ends_at sound there from_is to_is goes_on)
 
@@ -116,14 +116,14 @@ module _ {A : Type 0} {regions : A → List Grant} {word : A → ℕ → ℕ} {h
       where
         go : (b : Bool) → (at + size == heap.top) ≡ b → IsFreeAt (state_of word heap) (at + size) (to - (at + size))
         go true is = absurd (let t = by_top is in omega arith)
-        go false apart = behind_free some (grind (arith, nat_tests)) more
+        go false apart = behind_free (grind (arith, nat_tests)) more
 
     pub right_none : 0 < heap.size → to ≤ at + size → (n : ℕ) → IsFreeAt (state_of word heap) (at + size) n → ⊥
     right_none some less = go (at + size == heap.top) refl
       where
         go : (b : Bool) → (at + size == heap.top) ≡ b → (n : ℕ) → IsFreeAt (state_of word heap) (at + size) n → ⊥
         go true is = top_behind (nat_is is) some
-        go false apart = behind_none some (grind (arith, nat_tests)) less
+        go false apart = behind_none (grind (arith, nat_tests)) less
 
     -- a free extent that begins in the range is one of the two
     pub one_of_two : 0 < heap.size → (k n : ℕ) → IsFreeAt (state_of word heap) k n → from ≤ k → k < to → (IsIn k (from ∷ (at + size) ∷ []) → ⊥) → ⊥

@@ -76,7 +76,7 @@ module _ {A : Type 0} {regions : A → List Grant} {word : A → ℕ → ℕ} {h
     end = to + right.next.size
 
     abbrev pub run : IsRunOf words segments from end less
-    run = with_left (regions heap.system) words segments right.run left
+    run = with_left words segments right.run left
 
     pub room : from + 32 ≤ to
     room = omega (arith, tiles_le words Used from left.lefts at left.lefts_stand, right.reach, right.run.here.1.size.1)

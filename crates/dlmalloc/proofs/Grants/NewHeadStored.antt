@@ -40,12 +40,12 @@ large_at top size is large = (let test : nat_lt size 32 ≡ false = grind (arith
 
 -- what a heap over another system tells is the same
 pub ends_same : {A : Type 0} (heap : Dlmalloc A) {middle : Dlmalloc A} → middle ≡ record heap { system = middle.system } → middle.base + middle.size ≡ heap.base + heap.size
-ends_same {A} heap is = ap (λ h. h.base + h.size) is
+ends_same heap is = ap (λ h. h.base + h.size) is
 
 pub told_same : {A : Type 0} {words : ℕ → ℕ} (at : ℕ) (heap : Dlmalloc A) {middle : Dlmalloc A} → middle ≡ record heap
     { system = middle.system } → IsRecordAt words at (record { base = middle.base; size = middle.size; next = middle.next; flags = middle.flags })
     (middle.base + middle.size) (at == middle.top) → IsRecordAt words at (record_of_head heap) (heap.base + heap.size) (at == heap.top)
-told_same {A} {words} at heap is told = subst (λ h. IsRecordAt words at (record { base = h.base; size = h.size; next = h.next; flags = h.flags }) (h.base + h.size) (at == h.top)) is told
+told_same {words} at heap is told = subst (λ h. IsRecordAt words at (record { base = h.base; size = h.size; next = h.next; flags = h.flags }) (h.base + h.size) (at == h.top)) is told
 
 module _ {A : Type 0} {regions : A → List Grant} {word : A → ℕ → ℕ} {heap : Dlmalloc A} (sound : IsSound regions word heap) (some : 0 < heap.size) where
   pub bounds_of : {at : ℕ} → at ≡ (if nat_lt heap.top_size 32 then heap.top else heap.top + heap.top_size) → (heap.top ≤ at) × (at + 80 ≤ heap.base + heap.size) × (at % 16 ≡ 0)

@@ -54,7 +54,7 @@ module _ {A : Type 0} {regions : A → List Grant} {word : A → ℕ → ℕ} {z
       -- a block that was the last of the longer head segment would have been in the region
       not_last : chunk.at + chunk.size ≤ from - 16 → from - 16 < grant.base + grant.size → ⊥
       not_last before within = elim (beside_top sound some block.used (chunk_there sound block)) [
-        | inl sooner ↦ omega (arith, chunk_place sound block, top_place sound at behind.1.1, (chunk_inside sound block).long)
+        | inl sooner ↦ omega (arith, chunk_place sound block, top_place sound behind.1.1, (chunk_inside sound block).long)
         | inr beyond ↦ none_granted grant.base (grant.base + grant.size) (regions old.system) fresh (from - 16) (omega (arith, end, chunk_place sound block)) within
             ((chunk_inside sound block).granted (from - 16) (omega (arith, chunk_place sound block)) (omega (arith, chunk_place sound block, (chunk_inside sound block).long)))
       ]
@@ -73,7 +73,7 @@ module _ {A : Type 0} {regions : A → List Grant} {word : A → ℕ → ℕ} {z
             | inr beyond ↦ omega (arith, longer.0, longer.1, end)
           ])
         ]
-        | no above ↦ (chunk.at, omega arith, omega (arith, top_place sound at behind.1.1, ends sound some, end), (chunk_inside out.freed.sound out.block).granted chunk.at (omega arith) (omega (arith, (chunk_inside out.freed.sound out.block).long)))
+        | no above ↦ (chunk.at, omega arith, omega (arith, top_place sound behind.1.1, ends sound some, end), (chunk_inside out.freed.sound out.block).granted chunk.at (omega arith) (omega (arith, (chunk_inside out.freed.sound out.block).long)))
       ]
 
     still_new : HasByteOf grant (regions new.system)

@@ -16,7 +16,7 @@ no_plain Foot ends free = cc
 
 -- ---- the extents, with others for the run
 
-module _ {regions : List Grant} {old new : ℕ → ℕ} (before : Kind) (base : ℕ) {from to to' : ℕ} (end end' : ℕ)
+module _ {regions : List Grant} {old new : ℕ → ℕ} (before : Kind) (base : ℕ) {from to to' : ℕ} (end : ℕ)
     (front : List Extent) {less more : List Extent} (back : List Extent) (first : Tiles old before base front from)
     (move : IsMove regions old new (last_kind before front) from to to' less more) (second : Tiles old (last_kind (last_kind before front) less) to back end)
     (granted : (k : ℕ) → base < k → k < end → k % 8 ≡ 0 → IsWordOf regions k) (some : from < to) where

@@ -92,11 +92,11 @@ module _ (regions : List Grant) {old : ℕ → ℕ} (new : ℕ → ℕ) {before 
       }
 
   -- a free one keeps a rest
-  pub grown_split : (free n : ℕ) → HasChunk old Used (extent (at + size) free Free) → n % 16 ≡ 0 → 32 ≤ n → n + 32 ≤ size + free →
+  pub grown_split : {free : ℕ} (n : ℕ) → HasChunk old Used (extent (at + size) free Free) → n % 16 ≡ 0 → 32 ≤ n → n + 32 ≤ size + free →
       AreStored regions old ((at + 8, head_of n (pinuse_of (old (at + 8))) true) ∷ (at + n + 8, head_of (size + free - n) true false)
       ∷ (at + n + (size + free - n), size + free - n) ∷ []) new → IsMove regions old new before at (at + size + free) (at + size + free)
       (extent at size Used ∷ extent (at + size) free Free ∷ []) (extent at n Used ∷ extent (at + n) (size + free - n) Free ∷ [])
-  grown_split free n behind whole least room stored =
+  grown_split n behind whole least room stored =
       let place = stands.whole in let units = stands.size.0 in let units_free = behind.size.0 in
       record {
         less_stand = (refl, stands, (refl, behind, refl));

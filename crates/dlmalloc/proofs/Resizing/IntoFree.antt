@@ -85,7 +85,7 @@ module _ {A : Type 0} {regions : A → List Grant} {word : A → ℕ → ℕ} {h
 
       abbrev split_step : (victim victim_size : ℕ) → IsStep regions word heap (after victim victim_size) (chunk ∷ free ∷ []) parts
       split_step victim victim_size = step_beside (after victim victim_size) sound same both
-          (grown_split (regions heap.system) (word system) both.here.1 length n both.here.2.1 multiple least rest_room stored) refl (λ k tail found is. absurd
+          (grown_split (regions heap.system) (word system) both.here.1 n both.here.2.1 multiple least rest_room stored) refl (λ k tail found is. absurd
           (no_kind chunk free Record (λ is. cc) (λ is. cc) k found is)) refl (record { base = refl; size = refl; flags = refl; top = refl; top_size = refl })
           (λ k tail found is. absurd (no_kind chunk free Top (λ is. cc) (λ is. cc) k found is))
 

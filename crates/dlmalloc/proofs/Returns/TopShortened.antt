@@ -1,5 +1,5 @@
 -- The end of the head segment goes back to the system: the heap stays sound, and its top is shorter.
-use Rattle.dlmalloc.proofs.Names.{◌≡◌, ◌≢◌, ℕ, ◌+◌, ◌-◌, ◌%◌, ◌<◌, ◌≤◌, ◌⊎◌, inl, inr, true, ◌==◌, List, [], ◌∷◌, ◌++◌, map, Some, IsTrue, refl, sym, ◌∙◌, ap, subst, arith, append_assoc, AllByRecursion, map-append, Grant, Event, Released, IsWordOf, IsWhole, IsGivenRun, without, Extent, Used, Free, Top, Record, Foot, ends_segment, extent_at, Tiles, last_kind, Segment, extents_in, trim_threshold, cut_top, IsShortened, KeepsBlocks, OnlyBoundariesChange, HasSameUsed, IsRunOf, AreChunks, IsRun, IsSegment, AreSegments, IsApartFrom, AreApart, segments_of, state_of, AreTold, IsSound, Dlmalloc}
+use Rattle.dlmalloc.proofs.Names.{◌≡◌, ◌≢◌, ℕ, ◌+◌, ◌-◌, ◌%◌, ◌<◌, ◌≤◌, ◌⊎◌, inl, inr, true, ◌==◌, List, [], ◌∷◌, ◌++◌, map, Some, IsTrue, refl, sym, ◌∙◌, ap, subst, arith, append_assoc, AllByRecursion, map-append, Grant, Event, Released, IsWordOf, IsWhole, IsGivenRun, without, Extent, Used, Free, Top, Foot, ends_segment, extent_at, Tiles, last_kind, Segment, extents_in, trim_threshold, cut_top, IsShortened, KeepsBlocks, OnlyBoundariesChange, HasSameUsed, IsRunOf, AreChunks, IsRun, IsSegment, AreSegments, IsApartFrom, AreApart, segments_of, state_of, AreTold, IsSound, Dlmalloc}
 use Rattle.heap_memory.specs.Regions.{are_whole}
 use Rattle.heap_memory.specs.RunLaws.{run_aligned}
 use Rattle.dlmalloc.specs.Trimmed.{shrunk, shortened}
@@ -237,7 +237,7 @@ module _ {A : Type 0} {regions : A → List Grant} {word : A → ℕ → ℕ} {h
             free = none_exchanged sound it tt ((λ is. cc), ((λ is. cc), tt)) ((λ is. cc), ((λ is. cc), tt));
             victim_same = refl;
             bins_same = refl;
-            records = λ one is there. kind_was sound it Record tt ((λ is. cc), ((λ is. cc), tt)) is one.at there;
+            records = λ one is there. kind_was sound it tt ((λ is. cc), ((λ is. cc), tt)) is one.at there;
             words = shortened_words;
           };
           regions_are = gone;

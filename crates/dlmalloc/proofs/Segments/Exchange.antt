@@ -70,16 +70,16 @@ module _ {A : Type 0} {regions : A → List Grant} {word : A → ℕ → ℕ} {h
   ]
 
   -- so it is with the extents of a kind that none has which gave way or came
-  pub kind_still : (kind : Kind) → HasNo kind it.less → {one : Extent} → one.kind ≡ kind →
+  pub kind_still : {kind : Kind} → HasNo kind it.less → {one : Extent} → one.kind ≡ kind →
       (k : ℕ) → extent_at k (extents_in (state_of word heap)) ≡ Some one → extent_at k (extents_in (state_of word new)) ≡ Some one
-  kind_still kind none is k there = exchanged_still k (none_of kind it.less k none is) there
+  kind_still {kind} none is k there = exchanged_still k (none_of kind it.less k none is) there
 
-  pub kind_was : (kind : Kind) → HasNo kind it.ahead → HasNo kind it.more → {one : Extent} → one.kind ≡ kind →
+  pub kind_was : {kind : Kind} → HasNo kind it.ahead → HasNo kind it.more → {one : Extent} → one.kind ≡ kind →
       (k : ℕ) → extent_at k (extents_in (state_of word new)) ≡ Some one → extent_at k (extents_in (state_of word heap)) ≡ Some one
-  kind_was kind ahead more is k there = exchanged_was k (none_of kind it.ahead k ahead is) (none_of kind it.more k more is) there
+  kind_was {kind} ahead more is k there = exchanged_was k (none_of kind it.ahead k ahead is) (none_of kind it.more k more is) there
 
   pub exchanged_used : HasNo Used it.less → HasNo Used it.ahead → HasNo Used it.more → HasSameUsed (state_of word heap) (state_of word new)
-  exchanged_used less ahead more = record { still = λ used is there. kind_still Used less is used.at there; before = λ used is there. kind_was Used ahead more is used.at there }
+  exchanged_used less ahead more = record { still = λ used is there. kind_still less is used.at there; before = λ used is there. kind_was ahead more is used.at there }
 
   -- free ones go at some addresses and come at others
   pub exchanged_free : HasNo Free it.ahead → (gone come : List ℕ) → ((k size : ℕ) → extent_at k it.less ≡ Some (extent k size Free) →
@@ -113,5 +113,5 @@ module _ {A : Type 0} {regions : A → List Grant} {word : A → ℕ → ℕ} {h
   -- so it is, where no free extent gave way and the victim is the same
   pub exchanged_sound : HasNo Free it.less → new.victim ≡ heap.victim → new.victim_size ≡ heap.victim_size → IsSound regions word new
   exchanged_sound less victim victim_size = sound_as (λ none. victim ∙ sound.no_victim (sym victim_size ∙ none))
-      (λ there. ap (λ v. extent_at v (extents_in (state_of word new))) victim ∙ (kind_still Free less {one = extent heap.victim heap.victim_size Free} refl
+      (λ there. ap (λ v. extent_at v (extents_in (state_of word new))) victim ∙ (kind_still {kind = Free} less {one = extent heap.victim heap.victim_size Free} refl
       heap.victim (sound.victim (λ none. there (victim_size ∙ none))) ∙ (λ i. Some (extent ((sym victim) i) ((sym victim_size) i) Free))))

@@ -87,8 +87,8 @@ module _ {A : Type 0} {regions : A → List Grant} {word : A → ℕ → ℕ} {h
       go (segment ∷ segments) told is = let means = behind_means grant segment is in omega arith
 
   -- the top is where the field says
-  pub top_place : (at : ℕ) {size : ℕ} → extent_at at (extents_in (state_of word heap)) ≡ Some (extent at size Top) → at ≡ heap.top
-  top_place at there = let l = located at (segments_of word heap) there in (is_top sound l.front l.segment l.back l.is l.there).1
+  pub top_place : {at : ℕ} {size : ℕ} → extent_at at (extents_in (state_of word heap)) ≡ Some (extent at size Top) → at ≡ heap.top
+  top_place {at} there = let l = located at (segments_of word heap) there in (is_top sound l.front l.segment l.back l.is l.there).1
 
   module _ (some : 0 < heap.size) where
     -- its bytes are granted
