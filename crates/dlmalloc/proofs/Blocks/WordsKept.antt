@@ -116,9 +116,9 @@ kept_in regions word old sound same = kept_in_tags (regions old.system) (state_o
 
 -- blocks of two sound heaps keep their words, where of some granted words own ones and those of tags alone change
 module _ {A : Type 0} {regions : A → List Grant} {word : A → ℕ → ℕ} {old new : Dlmalloc A} (sound : IsSound regions word old)
-    (sound' : IsSound regions word new) (granted : List Grant) (same : OnlyOwnOrTagsChange granted (state_of word old) (state_of word new) (word old.system)
-    (word new.system)) (blocks : List Extent) (both : (block : Extent) → extent_at block.at blocks ≡ Some block → block.kind ≡ Used →
-    (extent_at block.at (extents_in (state_of word old)) ≡ Some block) × (extent_at block.at (extents_in (state_of word new)) ≡ Some block)) where
+    (sound' : IsSound regions word new) (granted : List Grant)
+    (same : OnlyOwnOrTagsChange granted (state_of word old) (state_of word new) (word old.system) (word new.system)) (blocks : List Extent)
+    (both : (block : Extent) → extent_at block.at blocks ≡ Some block → block.kind ≡ Used → (extent_at block.at (extents_in (state_of word old)) ≡ Some block) × (extent_at block.at (extents_in (state_of word new)) ≡ Some block)) where
   blocks_kept : ((block : Extent) → extent_at block.at blocks ≡ Some block → block.kind ≡ Used → (k : ℕ) → block.at + 16 ≤ k →
       k < block.at + block.size + 8 → IsTrue (is_granted granted k)) → KeepsBlocks blocks (word old.system) (word new.system)
   blocks_kept inside = record {

@@ -152,8 +152,9 @@ module _ (heap : HeapState) (at size n : ℕ) where
 
 module _ (stays : IndexStays) {A : Type 0} {regions : A → List Grant} {word : A → ℕ → ℕ} {follows : A → List Event → A → Type 0}
     {old new : Dlmalloc A} (sound : IsSound regions word old) {at : ℕ} (size n : ℕ) (moved : IsMoved regions word follows old new)
-    (state : state_of word new ≡ taken (state_of word old) (extent at size Free) n) (moves : FreeMoves (state_of word old) (state_of word new) (at ∷ [])
-    (if nat_le (n + 32) size then (at + n) ∷ [] else [])) (bins : new.bins ≡ old.bins) where
+    (state : state_of word new ≡ taken (state_of word old) (extent at size Free) n)
+    (moves : FreeMoves (state_of word old) (state_of word new) (at ∷ []) (if nat_le (n + 32) size then (at + n) ∷ [] else []))
+    (bins : new.bins ≡ old.bins) where
   pub victim_is : new.victim ≡ victim_after (state_of word old) n (extent at size Free)
   victim_is = ap (λ s. s.victim) state
 
@@ -205,8 +206,9 @@ module _ (stays : IndexStays) {A : Type 0} {regions : A → List Grant} {word : 
 
 module _ (stays : IndexStays) {A : Type 0} {regions : A → List Grant} {word : A → ℕ → ℕ} {follows : A → List Event → A → Type 0}
     {old new : Dlmalloc A} (sound : IsSound regions word old) (at size free n : ℕ) (moved : IsMoved regions word follows old new)
-    (state : state_of word new ≡ grown_into (state_of word old) (extent at size Used) (extent (at + size) free Free) n) (moves : FreeMoves (state_of word old)
-    (state_of word new) ((at + size) ∷ []) (if nat_le (n + 32) (size + free) then (at + n) ∷ [] else [])) (bins : new.bins ≡ old.bins) where
+    (state : state_of word new ≡ grown_into (state_of word old) (extent at size Used) (extent (at + size) free Free) n)
+    (moves : FreeMoves (state_of word old) (state_of word new) ((at + size) ∷ []) (if nat_le (n + 32) (size + free) then (at + n) ∷ [] else []))
+    (bins : new.bins ≡ old.bins) where
   victim_grown : new.victim ≡ (grown_into (state_of word old) (extent at size Used) (extent (at + size) free Free) n).victim
   victim_grown = ap (λ s. s.victim) state
 

@@ -63,8 +63,8 @@ module _ {A : Type 0} {regions : A → List Grant} {word : A → ℕ → ℕ} {h
 
     -- ---- a rest stays free
 
-    module _ (multiple : n % 16 ≡ 0) (least : 32 ≤ n) (room : n + 32 ≤ size) (stored : AreStored (regions heap.system) (word heap.system)
-        ((at + 8, head_of n true true) ∷ (at + n + 8, head_of (size - n) true false) ∷ (at + n + (size - n), size - n) ∷ []) (word system)) where
+    module _ (multiple : n % 16 ≡ 0) (least : 32 ≤ n) (room : n + 32 ≤ size)
+        (stored : AreStored (regions heap.system) (word heap.system) ((at + 8, head_of n true true) ∷ (at + n + 8, head_of (size - n) true false) ∷ (at + n + (size - n), size - n) ∷ []) (word system)) where
       abbrev halves : List Extent
       halves = extent at n Used ∷ extent (at + n) (size - n) Free ∷ []
 
@@ -133,8 +133,8 @@ module _ {A : Type 0} {regions : A → List Grant} {word : A → ℕ → ℕ} {h
 
     -- ---- nothing stays free
 
-    module _ (small : size < n + 32) (stored : AreStored (regions heap.system) (word heap.system) ((at + 8, head_of size true true)
-        ∷ (at + size + 8, with_pinuse (if size == 0 then head_of size true true else word heap.system (at + size + 8))) ∷ []) (word system)) where
+    module _ (small : size < n + 32)
+        (stored : AreStored (regions heap.system) (word heap.system) ((at + 8, head_of size true true) ∷ (at + size + 8, with_pinuse (if size == 0 then head_of size true true else word heap.system (at + size + 8))) ∷ []) (word system)) where
       abbrev next : HasNext run.last
       next = has_next (regions heap.system) sound.segments run refl
 

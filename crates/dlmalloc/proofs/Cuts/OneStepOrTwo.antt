@@ -33,11 +33,11 @@ module _ {A : Type 0} {regions : A → List Grant} {word : A → ℕ → ℕ} (z
   }
 
   -- a region was granted, and the top that it made cut
-  module _ {middle new : Dlmalloc A} (grown : IsGrown regions word zeros follows old n middle) (state : state_of word new ≡ taken (state_of word middle)
-      (extent middle.top middle.top_size Top) n) (after : HasOneMore (state_of word middle) (state_of word new) middle.top)
-      (moved : IsMoved regions word follows middle new) (head : IsBoundary (state_of word new) (middle.top + 8))
-      (foot : IsBoundary (state_of word new) (middle.top + middle.top_size + 8)) (others : (one : Extent) → one.at ≢ middle.top →
-      extent_at one.at (extents_in (state_of word middle)) ≡ Some one → extent_at one.at (extents_in (state_of word new)) ≡ Some one) where
+  module _ {middle new : Dlmalloc A} (grown : IsGrown regions word zeros follows old n middle)
+      (state : state_of word new ≡ taken (state_of word middle) (extent middle.top middle.top_size Top) n)
+      (after : HasOneMore (state_of word middle) (state_of word new) middle.top) (moved : IsMoved regions word follows middle new)
+      (head : IsBoundary (state_of word new) (middle.top + 8)) (foot : IsBoundary (state_of word new) (middle.top + middle.top_size + 8))
+      (others : (one : Extent) → one.at ≢ middle.top → extent_at one.at (extents_in (state_of word middle)) ≡ Some one → extent_at one.at (extents_in (state_of word new)) ≡ Some one) where
     -- what is found there is the top
     is_the_top : {one : Extent} → extent_at one.at (extents_in (state_of word middle)) ≡ Some one → one.at ≡ middle.top → extent middle.top middle.top_size Top ≡ one
     is_the_top there same = the_extent (sym (top_among grown.sound grown.there) ∙ (ap (λ a. extent_at a (extents_in (state_of word middle))) (sym same) ∙ there))

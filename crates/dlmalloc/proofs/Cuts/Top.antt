@@ -51,8 +51,8 @@ module _ {A : Type 0} {regions : A → List Grant} {word : A → ℕ → ℕ} {h
   pub rest_head : HasHead (regions heap.system) (heap.top + n)
   rest_head = head_there (heap.top + n) (omega arith) (omega (arith, room)) (omega (arith, run.here.1.whole))
 
-  module _ (system : A) (same : regions system ≡ regions heap.system) (stored : AreStored (regions heap.system) (word heap.system)
-      ((heap.top + 8, head_of n true true) ∷ (heap.top + n + 8, heap.top_size - n + 1) ∷ []) (word system)) where
+  module _ (system : A) (same : regions system ≡ regions heap.system)
+      (stored : AreStored (regions heap.system) (word heap.system) ((heap.top + 8, head_of n true true) ∷ (heap.top + n + 8, heap.top_size - n + 1) ∷ []) (word system)) where
     abbrev after : Dlmalloc A
     after = record heap { system = system; top = heap.top + n; top_size = heap.top_size - n }
 

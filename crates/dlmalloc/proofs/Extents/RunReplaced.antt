@@ -36,8 +36,9 @@ run_of regions words segments parts {extent} there =
 
 module _ {A : Type 0} {regions : A → List Grant} {word : A → ℕ → ℕ} {heap : Dlmalloc A} (new : Dlmalloc A) (sound : IsSound regions word heap)
     (same : regions new.system ≡ regions heap.system) {from to : ℕ} {less more : List Extent}
-    (run : IsRunOf (word heap.system) (segments_of word heap) from to less) (move : IsMove (regions heap.system) (word heap.system) (word new.system)
-    (last_kind Used run.first) from to to less more) (kind : last_kind (last_kind Used run.first) more ≡ last_kind (last_kind Used run.first) less)
+    (run : IsRunOf (word heap.system) (segments_of word heap) from to less)
+    (move : IsMove (regions heap.system) (word heap.system) (word new.system) (last_kind Used run.first) from to to less more)
+    (kind : last_kind (last_kind Used run.first) more ≡ last_kind (last_kind Used run.first) less)
     (tails : (k : ℕ) (tail : Extent) → extent_at k less ≡ Some tail → tail.kind ≡ Record → extent_at k more ≡ Some tail) where
   abbrev pub run_extents : List Extent
   run_extents = run.first ++ (more ++ run.last)

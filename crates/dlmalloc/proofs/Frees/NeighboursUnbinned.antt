@@ -67,8 +67,8 @@ module _ {A : Type 0} {regions : A → List Grant} {word : A → ℕ → ℕ} {h
       among_all (regions heap.system) words sound.segments sound.apart one.front one.segment one.back one.is from
       (ap (extent_at from) one.extents ∙ found_more from one.first ((extent at size Used ∷ []) ++ one.last) first)
 
-  module _ {to : ℕ} (to_is : to ≡ (if at + size == heap.top then at + size else if free_of (word heap.system (at + size + 8)) then at + size + size_of
-      (word heap.system (at + size + 8)) else at + size)) where
+  module _ {to : ℕ}
+      (to_is : to ≡ (if at + size == heap.top then at + size else if free_of (word heap.system (at + size + 8)) then at + size + size_of (word heap.system (at + size + 8)) else at + size)) where
     by_top : {b : Bool} → (at + size == heap.top) ≡ b → to ≡ (if b then at + size else end_of words (at + size))
     by_top {b} is = to_is ∙ ap (λ b. if b then at + size else end_of words (at + size)) is
 

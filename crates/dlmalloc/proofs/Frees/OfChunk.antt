@@ -254,8 +254,7 @@ module _ {A : Type 0} {regions : A → List Grant} {word : A → ℕ → ℕ} {h
     -- ---- the words are stored
 
     module _ (system : A) (same : regions system ≡ regions heap.system)
-        (stored : AreStored (regions heap.system) words ((from + (to - from) + 8, without_pinuse (words (from + (to - from) + 8)))
-        ∷ (from + 8, head_of (to - from) true false) ∷ (from + (to - from), to - from) ∷ []) (word system)) where
+        (stored : AreStored (regions heap.system) words ((from + (to - from) + 8, without_pinuse (words (from + (to - from) + 8))) ∷ (from + 8, head_of (to - from) true false) ∷ (from + (to - from), to - from) ∷ []) (word system)) where
       move : IsMove (regions heap.system) words (word system) (last_kind Used run.first) from end end less more
       move =
           subst (λ k. IsMove (regions heap.system) words (word system) k from end end less more) (sym left.used) (join (regions heap.system) words

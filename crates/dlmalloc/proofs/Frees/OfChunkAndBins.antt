@@ -79,8 +79,9 @@ module _ {A : Type 0} {regions : A → List Grant} {word : A → ℕ → ℕ} (f
 
     -- they were joined to it
     module _ (stays : IndexStays) (loose : IsBinnedBut ((at + size) ∷ from ∷ []) regions word middle) {joined : Dlmalloc A}
-        (moved : IsMoved regions word follows middle joined) (moves : FreeMoves (state_of word middle) (state_of word joined) (from ∷ (at + size) ∷ [])
-        (from ∷ [])) (victim : IsVictimAfter from to middle.victim joined.victim) (bins : joined.bins ≡ middle.bins) where
+        (moved : IsMoved regions word follows middle joined)
+        (moves : FreeMoves (state_of word middle) (state_of word joined) (from ∷ (at + size) ∷ []) (from ∷ []))
+        (victim : IsVictimAfter from to middle.victim joined.victim) (bins : joined.bins ≡ middle.bins) where
       abbrev pub joined_loose : IsBinnedBut (from ∷ []) regions word joined
       joined_loose = binned_moved stays left.sound moved.sound (λ k was is boundary tag tag'. moved.words k was boundary) bins
           ((at + size) ∷ from ∷ []) (from ∷ []) (from ∷ (at + size) ∷ []) (from ∷ []) moves

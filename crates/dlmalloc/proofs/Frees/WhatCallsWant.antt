@@ -111,8 +111,8 @@ module _ {A : Type 0} {regions : A → List Grant} {word : A → ℕ → ℕ} {h
     pub from_there : HasHead (regions heap.system) from
     from_there = record { aligned = omega (arith, from_whole); small = omega (arith, from_at, behind_small, head_room, high); granted = granted (from + 8) (omega (arith, from_low)) (omega (arith, from_at)) (omega (arith, from_whole)) }
 
-    module _ {to : ℕ} (to_is : to ≡ (if at + size == heap.top then at + size else if free_of (words (at + size + 8)) then at + size + size_of
-        (words (at + size + 8)) else at + size)) where
+    module _ {to : ℕ}
+        (to_is : to ≡ (if at + size == heap.top then at + size else if free_of (words (at + size + 8)) then at + size + size_of (words (at + size + 8)) else at + size)) where
       by_top : (b : Bool) → (at + size == heap.top) ≡ b → to ≡ (if b then at + size else end_of words (at + size))
       by_top b is = to_is ∙ ap (λ b. if b then at + size else end_of words (at + size)) is
 

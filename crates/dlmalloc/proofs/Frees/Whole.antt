@@ -76,10 +76,11 @@ granularity_after frees parts unit heap at = above (is_above_check heap at)
 
 -- ---- both steps
 
-module _ {A : Type 0} {regions : A → List Grant} {word : A → ℕ → ℕ} {follows : A → List Event → A → Type 0} (on : (x y z : A)
-    (a b c : List Event) → follows x a y → follows y b z → a ++ b ≡ c → follows x c z) {frees parts : Bool} {unit : ℕ} {old middle new : Dlmalloc A}
-    {address : ℕ} (sound : IsSound regions word old) (disposed : IsDisposed regions word follows old address middle) {from : ℕ} (around : IsFreeAround
-    (state_of word middle) (address - 16) from) (settled : IsSettled regions word follows frees parts unit middle (address - 16) new) where
+module _ {A : Type 0} {regions : A → List Grant} {word : A → ℕ → ℕ} {follows : A → List Event → A → Type 0}
+    (on : (x y z : A) (a b c : List Event) → follows x a y → follows y b z → a ++ b ≡ c → follows x c z) {frees parts : Bool} {unit : ℕ}
+    {old middle new : Dlmalloc A} {address : ℕ} (sound : IsSound regions word old)
+    (disposed : IsDisposed regions word follows old address middle) {from : ℕ} (around : IsFreeAround (state_of word middle) (address - 16) from)
+    (settled : IsSettled regions word follows frees parts unit middle (address - 16) new) where
   head_merged : (old.base ≡ middle.base) × (old.size ≡ middle.size)
   head_merged = same_head old disposed.sound sound (some_segment word middle from around.there) (let same = first_changed (freed_in (address - 16)) (segments_of
       word old) in let is = ap (λ heap. heap.segments) disposed.state in (sym same.0 ∙ sym (ap first_base is), sym same.1 ∙ sym (ap first_size is)))

@@ -81,8 +81,8 @@ module _ {A : Type 0} {regions : A → List Grant} {word : A → ℕ → ℕ} (f
   -- ---- before one that a record tells
 
   module _ {payload : ℕ} (b : IsToldBehind word heap grant payload) (base : word system payload ≡ grant.base)
-      (size : word system (payload + 8) ≡ grant.size + word heap.system (payload + 8)) (kept : (k : ℕ) → IsWordOf (regions heap.system) k →
-      k ≢ grant.base + 8 → k ≢ grant.base + n + 8 → k ≢ payload → k ≢ payload + 8 → word system k ≡ word heap.system k) where
+      (size : word system (payload + 8) ≡ grant.size + word heap.system (payload + 8))
+      (kept : (k : ℕ) → IsWordOf (regions heap.system) k → k ≢ grant.base + 8 → k ≢ grant.base + n + 8 → k ≢ payload → k ≢ payload + 8 → word system k ≡ word heap.system k) where
     abbrev pub told_new : Dlmalloc A
     told_new = record heap { system = system }
 

@@ -38,8 +38,8 @@ module _ {A : Type 0} {regions : A → List Grant} {word : A → ℕ → ℕ} {h
     {grant : Grant} (fresh : IsFresh (regions heap.system) (segments_of word heap) grant) (same : regions system ≡ regions heap.system) (some : 0 < heap.size)
     (begins : grant.base ≡ heap.base + heap.size) (equal : grant.flags ≡ heap.flags) (behind : is_behind grant (bare_head heap) ≡ true)
     (whole : AllByRecursion IsWhole (regions heap.system)) (head : word system (heap.top + 8) ≡ heap.base + (heap.size + grant.size) - 80 - heap.top + 1)
-    (foot : word system (heap.base + (heap.size + grant.size) - 72) ≡ 80) (kept : (k : ℕ) → IsWordOf (regions heap.system) k → k ≢ heap.top + 8 →
-    k ≢ heap.base + (heap.size + grant.size) - 72 → word system k ≡ word heap.system k) where
+    (foot : word system (heap.base + (heap.size + grant.size) - 72) ≡ 80)
+    (kept : (k : ℕ) → IsWordOf (regions heap.system) k → k ≢ heap.top + 8 → k ≢ heap.base + (heap.size + grant.size) - 72 → word system k ≡ word heap.system k) where
   abbrev new : Dlmalloc A
   new = extended_heap heap grant system
 

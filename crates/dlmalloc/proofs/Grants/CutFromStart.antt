@@ -102,10 +102,11 @@ module _ {A : Type 0} {regions : A → List Grant} {word : A → ℕ → ℕ} {f
   prepended_binned stays sound same = binned_same stays sound first.sound (λ k was is boundary tag tag'. prepended_tags k was boundary tag') same.bins prepended_free same.victim
 
 module _ {A : Type 0} {regions : A → List Grant} {word : A → ℕ → ℕ} {follows : A → List Event → A → Type 0} {old middle new : Dlmalloc A}
-    {grant : Grant} {n : ℕ} (least : 32 ≤ n) (first : IsPrepended regions word follows old grant n middle) (state : state_of word new ≡ freed
-    (state_of word middle) (grant.base + n)) (less : HasOneMore (state_of word new) (state_of word middle) (grant.base + n)) (moved : IsTurned regions word
-    follows middle new) (records : (one : Extent) → one.kind ≡ Record → extent_at one.at (extents_in (state_of word middle)) ≡ Some one →
-    extent_at one.at (extents_in (state_of word new)) ≡ Some one) (followed : follows old.system [] new.system) where
+    {grant : Grant} {n : ℕ} (least : 32 ≤ n) (first : IsPrepended regions word follows old grant n middle)
+    (state : state_of word new ≡ freed (state_of word middle) (grant.base + n))
+    (less : HasOneMore (state_of word new) (state_of word middle) (grant.base + n)) (moved : IsTurned regions word follows middle new)
+    (records : (one : Extent) → one.kind ≡ Record → extent_at one.at (extents_in (state_of word middle)) ≡ Some one → extent_at one.at (extents_in (state_of word new)) ≡ Some one)
+    (followed : follows old.system [] new.system) where
   chunk_there : extent_at grant.base (extents_in (state_of word new)) ≡ Some (extent grant.base n Used)
   chunk_there = less.only (extent grant.base n Used) refl first.chunk (λ is. omega arith)
 
@@ -136,14 +137,15 @@ module _ {A : Type 0} {regions : A → List Grant} {word : A → ℕ → ℕ} {f
 
 -- ---- so the chunk is cut out
 
-module _ {A : Type 0} {regions : A → List Grant} {word : A → ℕ → ℕ} (zeros : A → Bool) {follows : A → List Event → A → Type 0}
-    {old : Dlmalloc A} (sound : IsSound regions word old) {n asked : ℕ} (enough : n + 96 ≤ asked)
-    (none : chosen (state_of word old) n ≡ None) {grant : Grant} (good : IsGoodGrant asked grant) (long : 128 ≤ grant.size) (beside : AllByRecursion
-    (IsApart grant.base (grant.base + grant.size)) (regions old.system)) (middle : A) (with_it : regions middle ≡ with_grant grant (regions old.system))
-    (same : state_of word (record old { system = middle }) ≡ state_of word old) (test : is_put_before grant (segments_of word old) ≡ true)
-    (words : (k : ℕ) → IsWordOf (regions old.system) k → word middle k ≡ word old.system k) (zero : zeros old.system ≡ true → (k : ℕ) →
-    grant.base ≤ k → k < grant.base + grant.size → k % 8 ≡ 0 → word middle k ≡ 0) {new : Dlmalloc A} (put : IsPutBefore regions word follows
-    (record old { system = middle }) grant n new) (followed : follows old.system (Granted (round_up (n + 96) old.granularity) grant ∷ []) new.system) where
+module _ {A : Type 0} {regions : A → List Grant} {word : A → ℕ → ℕ}
+    (zeros : A → Bool) {follows : A → List Event → A → Type 0} {old : Dlmalloc A} (sound : IsSound regions word old) {n asked : ℕ}
+    (enough : n + 96 ≤ asked) (none : chosen (state_of word old) n ≡ None) {grant : Grant} (good : IsGoodGrant asked grant) (long : 128 ≤ grant.size)
+    (beside : AllByRecursion (IsApart grant.base (grant.base + grant.size)) (regions old.system)) (middle : A)
+    (with_it : regions middle ≡ with_grant grant (regions old.system)) (same : state_of word (record old { system = middle }) ≡ state_of word old)
+    (test : is_put_before grant (segments_of word old) ≡ true) (words : (k : ℕ) → IsWordOf (regions old.system) k → word middle k ≡ word old.system k)
+    (zero : zeros old.system ≡ true → (k : ℕ) → grant.base ≤ k → k < grant.base + grant.size → k % 8 ≡ 0 → word middle k ≡ 0)
+    {new : Dlmalloc A} (put : IsPutBefore regions word follows (record old { system = middle }) grant n new)
+    (followed : follows old.system (Granted (round_up (n + 96) old.granularity) grant ∷ []) new.system) where
   more_put : HasOneMore (state_of word old) (state_of word new) grant.base
   more_put = subst (λ s. HasOneMore s (state_of word new) grant.base) same put.more
 

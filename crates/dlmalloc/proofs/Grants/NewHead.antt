@@ -33,14 +33,14 @@ new_head heap grant system at = record heap {
 abbrev pub record_of_head : {A : Type 0} → Dlmalloc A → SegmentRecord
 record_of_head heap = record { base = heap.base; size = heap.size; next = heap.next; flags = heap.flags }
 
-module _ {A : Type 0} {regions : A → List Grant} {word : A → ℕ → ℕ} {heap : Dlmalloc A} (system : A) (sound : IsSound regions word heap)
-    {grant : Grant} (fresh : IsFresh (regions heap.system) (segments_of word heap) grant) (same : regions system ≡ regions heap.system) (some : 0 < heap.size)
-    (beside : is_behind grant (bare_head heap) ≡ false) (no_join : is_put_before grant (segments_of word heap) ≡ false) {at : ℕ} {small : Bool}
-    (small_is : (heap.top_size == 16) ≡ small) (at_is : at ≡ place small heap.top heap.top_size) (head : word system (grant.base + 8) ≡ grant.base
-    + grant.size - 80 - grant.base + 1) (foot : word system (grant.base + grant.size - 72) ≡ 80) (recorded : IsRecordAt (word system) at (record_of_head heap)
-    (heap.base + heap.size) small) (left_foot : small ≡ false → word system (heap.top + heap.top_size) ≡ heap.top_size) (kept : (k : ℕ) →
-    IsWordOf (regions heap.system) k → (k ≤ at) ⊎ (heap.base + heap.size ≤ k) → (k ≡ heap.top + heap.top_size → small ≡ true) →
-    k ≢ grant.base + 8 → k ≢ grant.base + grant.size - 72 → word system k ≡ word heap.system k) where
+module _ {A : Type 0} {regions : A → List Grant} {word : A → ℕ → ℕ} {heap : Dlmalloc A} (system : A)
+    (sound : IsSound regions word heap) {grant : Grant} (fresh : IsFresh (regions heap.system) (segments_of word heap) grant)
+    (same : regions system ≡ regions heap.system) (some : 0 < heap.size) (beside : is_behind grant (bare_head heap) ≡ false)
+    (no_join : is_put_before grant (segments_of word heap) ≡ false) {at : ℕ} {small : Bool} (small_is : (heap.top_size == 16) ≡ small)
+    (at_is : at ≡ place small heap.top heap.top_size) (head : word system (grant.base + 8) ≡ grant.base + grant.size - 80 - grant.base + 1)
+    (foot : word system (grant.base + grant.size - 72) ≡ 80) (recorded : IsRecordAt (word system) at (record_of_head heap) (heap.base + heap.size) small)
+    (left_foot : small ≡ false → word system (heap.top + heap.top_size) ≡ heap.top_size)
+    (kept : (k : ℕ) → IsWordOf (regions heap.system) k → (k ≤ at) ⊎ (heap.base + heap.size ≤ k) → (k ≡ heap.top + heap.top_size → small ≡ true) → k ≢ grant.base + 8 → k ≢ grant.base + grant.size - 72 → word system k ≡ word heap.system k) where
   abbrev new : Dlmalloc A
   new = new_head heap grant system at
 

@@ -72,14 +72,14 @@ record_kept new {at} whole room same h = record {
   fences = λ k low high m. same k (omega arith) high m ∙ h.fences k low high m;
 }
 
-module _ {A : Type 0} {regions : A → List Grant} {word : A → ℕ → ℕ} (follows : A → List Event → A → Type 0) {heap : Dlmalloc A} (sound : IsSound
-    regions word heap) {grant : Grant} (fresh : IsFresh (regions heap.system) (segments_of word heap) grant) (some : 0 < heap.size) (beside : is_behind grant
-    (bare_head heap) ≡ false) (no_join : is_put_before grant (segments_of word heap) ≡ false) (system : A) (same : regions system ≡ regions heap.system)
-    {at : ℕ} (at_is : at ≡ (if nat_lt heap.top_size 32 then heap.top else heap.top + heap.top_size)) (head : word system (grant.base + 8) ≡ grant.base
-    + grant.size - 80 - grant.base + 1) (foot : word system (grant.base + grant.size - 72) ≡ 80) (recorded : IsRecordAt (word system) at (record_of_head heap)
-    (heap.base + heap.size) (at == heap.top)) (left_foot : 32 ≤ heap.top_size → word system (heap.top + heap.top_size) ≡ heap.top_size)
-    (kept : (k : ℕ) → IsWordOf (regions heap.system) k → (k ≤ at) ⊎ (heap.base + heap.size ≤ k) → (k ≡ heap.top + heap.top_size →
-    heap.top_size < 32) → k ≢ grant.base + 8 → k ≢ grant.base + grant.size - 72 → word system k ≡ word heap.system k) where
+module _ {A : Type 0} {regions : A → List Grant} {word : A → ℕ → ℕ} (follows : A → List Event → A → Type 0) {heap : Dlmalloc A}
+    (sound : IsSound regions word heap) {grant : Grant} (fresh : IsFresh (regions heap.system) (segments_of word heap) grant) (some : 0 < heap.size)
+    (beside : is_behind grant (bare_head heap) ≡ false) (no_join : is_put_before grant (segments_of word heap) ≡ false) (system : A)
+    (same : regions system ≡ regions heap.system) {at : ℕ} (at_is : at ≡ (if nat_lt heap.top_size 32 then heap.top else heap.top + heap.top_size))
+    (head : word system (grant.base + 8) ≡ grant.base + grant.size - 80 - grant.base + 1) (foot : word system (grant.base + grant.size - 72) ≡ 80)
+    (recorded : IsRecordAt (word system) at (record_of_head heap) (heap.base + heap.size) (at == heap.top))
+    (left_foot : 32 ≤ heap.top_size → word system (heap.top + heap.top_size) ≡ heap.top_size)
+    (kept : (k : ℕ) → IsWordOf (regions heap.system) k → (k ≤ at) ⊎ (heap.base + heap.size ≤ k) → (k ≡ heap.top + heap.top_size → heap.top_size < 32) → k ≢ grant.base + 8 → k ≢ grant.base + grant.size - 72 → word system k ≡ word heap.system k) where
   where_is : ((heap.top_size == 16) ≡ (at == heap.top)) × (at ≡ place (at == heap.top) heap.top heap.top_size)
   where_is = record_place at heap.top heap.top_size at_is (top_sizes sound some).0 (top_sizes sound some).1
 

@@ -23,8 +23,9 @@ same_in segment grant (region ∷ regions) some apart = split (nat_lt grant.base
     split false rest = ap (λ others. if nat_lt region.base (segment.base + segment.size) && nat_lt segment.base (region.base + region.size) then region ∷ others else others) rest
 
 module _ {A : Type 0} {regions : A → List Grant} {word : A → ℕ → ℕ} {heap : Dlmalloc A} (sound : IsSound regions word heap) (system : A) {asked : ℕ}
-    (enough : 128 ≤ asked) {grant : Grant} (good : IsGoodGrant asked grant) (apart : AllByRecursion (IsApart grant.base (grant.base + grant.size))
-    (regions heap.system)) (with_it : regions system ≡ with_grant grant (regions heap.system))
+    (enough : 128 ≤ asked) {grant : Grant} (good : IsGoodGrant asked grant)
+    (apart : AllByRecursion (IsApart grant.base (grant.base + grant.size)) (regions heap.system))
+    (with_it : regions system ≡ with_grant grant (regions heap.system))
     (words : (k : ℕ) → IsWordOf (regions heap.system) k → word system k ≡ word heap.system k) where
   long : 128 ≤ grant.size
   long = omega arith

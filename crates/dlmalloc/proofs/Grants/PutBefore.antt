@@ -87,8 +87,9 @@ module _ {A : Type 0} {regions : A → List Grant} {word : A → ℕ → ℕ} {h
   two = extent grant.base n Used ∷ extent (grant.base + n) (grant.size - n) Used ∷ []
 
   module _ (whole : AllByRecursion IsWhole (regions heap.system)) (first : word new.system (grant.base + 8) ≡ head_of n true true)
-      (second : word new.system (grant.base + n + 8) ≡ head_of (grant.size - n) true true) (tiles : Tiles (word new.system) Used segment.base segment.extents
-      (segment.base + segment.size)) (told : AreTold (word new.system) new (front ++ now ∷ back)) where
+      (second : word new.system (grant.base + n + 8) ≡ head_of (grant.size - n) true true)
+      (tiles : Tiles (word new.system) Used segment.base segment.extents (segment.base + segment.size))
+      (told : AreTold (word new.system) new (front ++ now ∷ back)) where
     two_stand : Tiles (word new.system) Used grant.base now.extents (grant.base + (grant.size + segment.size))
     two_stand = (
       refl,

@@ -40,8 +40,9 @@ top_not_free sound some free = (let no : Free ≡ Top = ap (λ e. e.kind) (the_e
 
 module _ (stays : IndexStays) {A : Type 0} {regions : A → List Grant} {word : A → ℕ → ℕ} {follows : A → List Event → A → Type 0}
     {heap : Dlmalloc A} {grant : Grant} {new : Dlmalloc A} (sound : IsSound regions word heap) (some : 0 < heap.size)
-    (j : IsAdmitted regions word follows heap grant new) (moves : FreeMoves (state_of word heap) (state_of word new) []
-    (if nat_le 32 heap.top_size then heap.top ∷ [] else [])) (same : IsSameBins heap new) (b : IsBinned regions word heap) where
+    (j : IsAdmitted regions word follows heap grant new)
+    (moves : FreeMoves (state_of word heap) (state_of word new) [] (if nat_le 32 heap.top_size then heap.top ∷ [] else [])) (same : IsSameBins heap new)
+    (b : IsBinned regions word heap) where
   abbrev pub little_left : heap.top_size < 32 → IsBinned regions word new
   little_left few =
       let test : nat_le 32 heap.top_size ≡ false = grind (arith, nat_tests) in

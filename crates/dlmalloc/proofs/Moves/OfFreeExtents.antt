@@ -20,8 +20,9 @@ not_both (first ∷ front) back k {one} apart here there = go (first.at == k) re
 
 -- Some extents give way to others. A free one that is not of those at the addresses `gone` is found as before, and at no
 -- address of those that come.
-module _ (front less more back : List Extent) (apart : AreDistinct (front ++ (more ++ back))) (gone come : List ℕ) (in_less : (k size : ℕ) →
-    extent_at k less ≡ Some (extent k size Free) → IsIn k gone) (come_there : (k : ℕ) → IsIn k come → IsIn k gone ⊎ IsThere k more) where
+module _ (front less more back : List Extent) (apart : AreDistinct (front ++ (more ++ back))) (gone come : List ℕ)
+    (in_less : (k size : ℕ) → extent_at k less ≡ Some (extent k size Free) → IsIn k gone)
+    (come_there : (k : ℕ) → IsIn k come → IsIn k gone ⊎ IsThere k more) where
   pub free_stays : {k size : ℕ} → extent_at k (front ++ (less ++ back)) ≡ Some (extent k size Free) → (IsIn k gone → ⊥) →
       (extent_at k (front ++ (more ++ back)) ≡ Some (extent k size Free)) × (IsIn k come → ⊥)
   free_stays {k} {size} free out = elim (found_either k front (less ++ back) free) [
@@ -61,8 +62,9 @@ free_changes old new front less more back was is apart apart' gone come in_less 
 -- and those before and after a step
 module _ {A : Type 0} {regions : A → List Grant} {word : A → ℕ → ℕ} {heap new : Dlmalloc A}
     (sound : IsSound regions word heap) {less more : List Extent} (step : IsStep regions word heap new less more) (gone come : List ℕ)
-    (in_less : (k size : ℕ) → extent_at k less ≡ Some (extent k size Free) → IsIn k gone) (in_more : (k size : ℕ) →
-    extent_at k more ≡ Some (extent k size Free) → IsIn k come) (gone_there : (k : ℕ) → IsIn k gone → IsIn k come ⊎ IsThere k less)
+    (in_less : (k size : ℕ) → extent_at k less ≡ Some (extent k size Free) → IsIn k gone)
+    (in_more : (k size : ℕ) → extent_at k more ≡ Some (extent k size Free) → IsIn k come)
+    (gone_there : (k : ℕ) → IsIn k gone → IsIn k come ⊎ IsThere k less)
     (come_there : (k : ℕ) → IsIn k come → IsIn k gone ⊎ IsThere k more) where
   pub free_moves : FreeMoves (state_of word heap) (state_of word new) gone come
   free_moves = free_changes (state_of word heap) (state_of word new) (before sound step) less more (behind sound step) (all_old sound step) (all_new sound step)

@@ -13,8 +13,9 @@ use Rattle.dlmalloc.proofs.Extents.RunReplaced.{step_beside, HasNext, has_next, 
 use Rattle.dlmalloc.proofs.Frees.Behind.{next_there, place}
 
 module _ {A : Type 0} {regions : A → List Grant} {word : A → ℕ → ℕ} {heap : Dlmalloc A} (sound : IsSound regions word heap) {at size length : ℕ}
-    (n : ℕ) (there : extent_at at (extents_in (state_of word heap)) ≡ Some (extent at size Used)) (free_there : extent_at (at + size)
-    (extents_in (state_of word heap)) ≡ Some (extent (at + size) length Free)) (multiple : n % 16 ≡ 0) (more : size < n) (room : n ≤ size + length) where
+    (n : ℕ) (there : extent_at at (extents_in (state_of word heap)) ≡ Some (extent at size Used))
+    (free_there : extent_at (at + size) (extents_in (state_of word heap)) ≡ Some (extent (at + size) length Free)) (multiple : n % 16 ≡ 0) (more : size < n)
+    (room : n ≤ size + length) where
   abbrev words : ℕ → ℕ
   words = word heap.system
 
@@ -78,8 +79,8 @@ module _ {A : Type 0} {regions : A → List Grant} {word : A → ℕ → ℕ} {h
 
     -- ---- a rest stays free
 
-    module _ (rest_room : n + 32 ≤ size + length) (stored : AreStored (regions heap.system) words ((at + 8, head_of n (pinuse_of (words (at + 8))) true)
-        ∷ (at + n + 8, head_of (size + length - n) true false) ∷ (at + n + (size + length - n), size + length - n) ∷ []) (word system)) where
+    module _ (rest_room : n + 32 ≤ size + length)
+        (stored : AreStored (regions heap.system) words ((at + 8, head_of n (pinuse_of (words (at + 8))) true) ∷ (at + n + 8, head_of (size + length - n) true false) ∷ (at + n + (size + length - n), size + length - n) ∷ []) (word system)) where
       abbrev parts : List Extent
       parts = extent at n Used ∷ extent (at + n) (size + length - n) Free ∷ []
 
@@ -160,8 +161,7 @@ module _ {A : Type 0} {regions : A → List Grant} {word : A → ℕ → ℕ} {h
     -- ---- nothing of it stays free
 
     module _ (no_room : size + length < n + 32)
-        (stored : AreStored (regions heap.system) words ((at + 8, head_of (size + length) (pinuse_of (words (at + 8))) true)
-        ∷ (at + (size + length) + 8, with_pinuse (if size + length == 0 then head_of (size + length) (pinuse_of (words (at + 8))) true else words (at + (size + length) + 8))) ∷ []) (word system)) where
+        (stored : AreStored (regions heap.system) words ((at + 8, head_of (size + length) (pinuse_of (words (at + 8))) true) ∷ (at + (size + length) + 8, with_pinuse (if size + length == 0 then head_of (size + length) (pinuse_of (words (at + 8))) true else words (at + (size + length) + 8))) ∷ []) (word system)) where
       abbrev last : Extent
       last = third.next
 

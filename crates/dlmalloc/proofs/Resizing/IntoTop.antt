@@ -50,8 +50,8 @@ module _ {A : Type 0} {regions : A → List Grant} {word : A → ℕ → ℕ} {h
       rw (isnt, is) refl)))).0
 
   module _ (middle system : A) (same_middle : regions middle ≡ regions heap.system) (same_system : regions system ≡ regions middle)
-      (value : ℕ) {rest : ℕ} (rest_is : rest ≡ size + heap.top_size - n) (stored_first : AreStored (regions heap.system) words
-      ((at + 8, head_of n (pinuse_of (words (at + 8))) true) ∷ (at + n + 8, value) ∷ []) (word middle))
+      (value : ℕ) {rest : ℕ} (rest_is : rest ≡ size + heap.top_size - n)
+      (stored_first : AreStored (regions heap.system) words ((at + 8, head_of n (pinuse_of (words (at + 8))) true) ∷ (at + n + 8, value) ∷ []) (word middle))
       (stored_rest : IsStored (regions middle) (word middle) (at + n + 8) (rest + 1) (word system)) where
     stored : AreStored (regions heap.system) words ((at + 8, head_of n (pinuse_of (words (at + 8))) true) ∷ (at + n + 8, rest + 1) ∷ []) (word system)
     stored = stored_over (head_of n (pinuse_of (words (at + 8))) true) value top_first_head.granted stored_first

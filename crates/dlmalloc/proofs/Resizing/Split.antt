@@ -73,8 +73,8 @@ module _ {A : Type 0} {regions : A → List Grant} {word : A → ℕ → ℕ} {h
       (subst (λ rs. IsStored rs (word middle) (at + n + 8) (head_of (size - n) true true) (word system)) same second)
 
   module _ (middle system : A) (same_middle : regions middle ≡ regions heap.system) (same_system : regions system ≡ regions middle) (value : ℕ)
-      (first : AreStored (regions heap.system) (word heap.system) ((at + 8, head_of n (pinuse_of (word heap.system (at + 8))) true) ∷ (at + n + 8, value)
-      ∷ []) (word middle)) (second : IsStored (regions middle) (word middle) (at + n + 8) (head_of (size - n) true true) (word system)) where
+      (first : AreStored (regions heap.system) (word heap.system) ((at + 8, head_of n (pinuse_of (word heap.system (at + 8))) true) ∷ (at + n + 8, value) ∷ []) (word middle))
+      (second : IsStored (regions middle) (word middle) (at + n + 8) (head_of (size - n) true true) (word system)) where
     same : regions system ≡ regions heap.system
     same = same_system ∙ same_middle
 

@@ -227,8 +227,9 @@ module _ {A : Type 0} {regions : A → List Grant} {word : A → ℕ → ℕ} (f
         sum_fits = omega (arith, few_released, bounded, told_size)
 
         module _ (follows_on : (x y z : A) (a b c : List Event) → follows x a y → follows y b z → a ++ b ≡ c → follows x c z) {b : Bool}
-            (b_is : b ≡ (frees && may_leave parts ahead.segment)) {new : Dlmalloc A} (v : IsVisited regions word follows (may_leave parts ahead.segment) b now
-            before told chained new) (next : IsReindexed regions word (after_visit frees parts ahead.segment) now new) where
+            (b_is : b ≡ (frees && may_leave parts ahead.segment)) {new : Dlmalloc A}
+            (v : IsVisited regions word follows (may_leave parts ahead.segment) b now before told chained new)
+            (next : IsReindexed regions word (after_visit frees parts ahead.segment) now new) where
           stay_is : remaining frees parts (p.done ++ ahead.segment ∷ []) ≡ remaining frees parts p.done ++ (if not b then ahead.segment ∷ [] else [])
           stay_is = filter-append (λ segment. not (frees && may_leave parts segment)) p.done (ahead.segment ∷ [])
               ∙ ap (λ t. remaining frees parts p.done ++ cond (not t) (ahead.segment ∷ []) []) (sym b_is)

@@ -115,8 +115,9 @@ module _ {A : Type 0} {regions : A → List Grant} {word : A → ℕ → ℕ} {h
       go (inr l) = subst (λ rs. IsWordOf rs (before + 16)) (sym gone_is)
           (word_stays c.segment it.part.run it.sized (link_word l) (beside_gone l (before + 16) (omega (arith, low_is l)) (omega (arith, high_is l))))
 
-  module _ (system : A) (told_gone : regions system ≡ without told.base (told.base + told.size) granted) (kept : (k : ℕ) → IsWordOf (regions system) k →
-      (before ≢ 0 → k ≢ before + 16) → word system k ≡ words k) (here : before ≢ 0 → word system (before + 16) ≡ told.next) where
+  module _ (system : A) (told_gone : regions system ≡ without told.base (told.base + told.size) granted)
+      (kept : (k : ℕ) → IsWordOf (regions system) k → (before ≢ 0 → k ≢ before + 16) → word system k ≡ words k)
+      (here : before ≢ 0 → word system (before + 16) ≡ told.next) where
     gone : regions system ≡ without c.segment.base (c.segment.base + c.segment.size) granted
     gone = told_gone ∙ (λ i. without (base_is sound c i) (base_is sound c i + size_is sound c i) granted)
 

@@ -117,8 +117,9 @@ module _ {A : Type 0} (word : A → ℕ → ℕ) (heap : Dlmalloc A) (parts : Bo
 -- ---- a trim that is made
 
 module _ {A : Type 0} {regions : A → List Grant} {word : A → ℕ → ℕ} {follows : A → List Event → A → Type 0} {frees parts : Bool}
-    {unit pad : ℕ} {old middle after : Dlmalloc A} (made : is_trimmed pad (state_of word old) ≡ true) (cut : IsCutBack regions word follows parts unit old
-    pad middle) (some : 0 < middle.size) {bytes : ℕ} (pass : IsPassed regions word follows frees parts middle bytes after) where
+    {unit pad : ℕ} {old middle after : Dlmalloc A} (made : is_trimmed pad (state_of word old) ≡ true)
+    (cut : IsCutBack regions word follows parts unit old pad middle) (some : 0 < middle.size) {bytes : ℕ}
+    (pass : IsPassed regions word follows frees parts middle bytes after) where
   handed_same : handed_out parts (segments_of word middle) ≡ handed_out parts (segments_of word old)
   handed_same = ap (λ s. handed_out parts s.segments) cut.state ∙ handed_cut word old parts unit pad
 
@@ -210,11 +211,12 @@ limit_small g least = go (g == 16)
 -- ---- both ends of a trim that is made, of a system whose laws are these
 
 module _ {A : Type 0} {regions : A → List Grant} {word : A → ℕ → ℕ} {follows : A → List Event → A → Type 0} (zeros frees parts : A → Bool)
-    (unit : A → ℕ) (fixed : (x y : A) (events : List Event) → follows x events y → IsFixed zeros frees parts unit x y) (follows_on : (x y z : A)
-    (a b c : List Event) → follows x a y → follows y b z → a ++ b ≡ c → follows x c z) {pad : ℕ} {old middle after : Dlmalloc A}
-    (some_old : 0 < old.size) (small : pad < limit old.granularity) (cut : IsCutBack regions word follows (parts old.system) (unit old.system) old pad middle)
-    (some : 0 < middle.size) {bytes : ℕ} (given : IsPassed regions word follows (frees middle.system) (parts middle.system) middle bytes after)
-    {is_cut_off : Bool} (is : is_cut_off ≡ is_cut (parts old.system) (unit old.system) pad (state_of word old))
+    (unit : A → ℕ) (fixed : (x y : A) (events : List Event) → follows x events y → IsFixed zeros frees parts unit x y)
+    (follows_on : (x y z : A) (a b c : List Event) → follows x a y → follows y b z → a ++ b ≡ c → follows x c z) {pad : ℕ}
+    {old middle after : Dlmalloc A} (some_old : 0 < old.size) (small : pad < limit old.granularity)
+    (cut : IsCutBack regions word follows (parts old.system) (unit old.system) old pad middle) (some : 0 < middle.size) {bytes : ℕ}
+    (given : IsPassed regions word follows (frees middle.system) (parts middle.system) middle bytes after) {is_cut_off : Bool}
+    (is : is_cut_off ≡ is_cut (parts old.system) (unit old.system) pad (state_of word old))
     (kept : IsReindexed regions word (λ index. index) old middle) where
   same : IsFixed zeros frees parts unit old.system middle.system
   same = fixed old.system middle.system (cut_off (parts old.system) (unit old.system) pad (state_of word old)) cut.followed

@@ -247,8 +247,9 @@ module _ {A : Type 0} {regions : A → List Grant} {word : A → ℕ → ℕ} {f
 
 module _ (index_stays : IndexStays) {A : Type 0} {regions : A → List Grant} {word : A → ℕ → ℕ} {follows : A → List Event → A → Type 0}
     {old new : Dlmalloc A} (sound : IsSound regions word old) {before : ℕ} {told : SegmentRecord} {c : IsChained word old before told} {leaves : Bool}
-    (visited : IsVisited regions word follows true leaves old before told c new) (words : (k : ℕ) → IsWordOf (regions new.system) k →
-    (IsInRecord (state_of word old) k → ⊥) → word new.system k ≡ word old.system k) (bins : new.bins ≡ old.bins) where
+    (visited : IsVisited regions word follows true leaves old before told c new)
+    (words : (k : ℕ) → IsWordOf (regions new.system) k → (IsInRecord (state_of word old) k → ⊥) → word new.system k ≡ word old.system k)
+    (bins : new.bins ≡ old.bins) where
   -- it stays, and is in no bin
   abbrev pub loose_still : FreeMoves (state_of word old) (state_of word new) [] [] → IsBinnedBut (told.base ∷ []) regions word old → IsBinnedBut (told.base ∷ []) regions word new
   loose_still moves = binned_moved index_stays sound visited.left.sound (λ k was is boundary tag tag'. words k is tag) bins (told.base ∷ []) (told.base ∷ []) [] [] moves (record {

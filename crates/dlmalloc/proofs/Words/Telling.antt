@@ -44,10 +44,8 @@ has_its segment k low high =
 
 -- Each segment is a run still, and the words that tell the extents stay. The bins do not matter.
 module _ {A : Type 0} {regions : A → List Grant} {word : A → ℕ → ℕ} {heap : Dlmalloc A} (sound : IsSound regions word heap) (system : A) (bins : Bins)
-    (stay : AllByRecursion (λ (segment : Segment). IsRun (regions heap.system) segment.base segment.size segment.flags →
-    IsRun (regions system) segment.base segment.size segment.flags) (segments_of word heap))
-    (same : (one : Extent) → extent_at one.at (extents_in (state_of word heap)) ≡ Some one → (k : ℕ) → IsTelling k one →
-    IsWordOf (regions heap.system) k → IsTrue (list_any (has_byte_in k) (segments_of word heap)) → word system k ≡ word heap.system k) where
+    (stay : AllByRecursion (λ (segment : Segment). IsRun (regions heap.system) segment.base segment.size segment.flags → IsRun (regions system) segment.base segment.size segment.flags) (segments_of word heap))
+    (same : (one : Extent) → extent_at one.at (extents_in (state_of word heap)) ≡ Some one → (k : ℕ) → IsTelling k one → IsWordOf (regions heap.system) k → IsTrue (list_any (has_byte_in k) (segments_of word heap)) → word system k ≡ word heap.system k) where
   abbrev words : ℕ → ℕ
   words = word heap.system
 
