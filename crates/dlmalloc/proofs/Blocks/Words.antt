@@ -54,8 +54,8 @@ module _ {A : Type 0} {regions : A → List Grant} {word : A → ℕ → ℕ} {h
   same_binned stays n less system same elsewhere = still_binned sound system (same_regions regions word heap sound system same) (only_block n less (word system) elsewhere) stays
 
 -- a block that was handed out is one of a sound heap
-pub served_block : {A : Type 0} (regions : A → List Grant) (word : A → ℕ → ℕ) (zeros : A → Bool) (follows : A → List Event → A →
-    Type 0) (old : Dlmalloc A) (size align address : ℕ) (new : Dlmalloc A) → IsServedAt regions word zeros follows old size align address new →
+pub served_block : {A : Type 0} (regions : A → List Grant) (word : A → ℕ → ℕ) (zeros : A → Bool) (follows : A → List Event → A → Type 0)
+    (old : Dlmalloc A) (size align address : ℕ) (new : Dlmalloc A) → IsServedAt regions word zeros follows old size align address new →
     IsSound regions word new × IsBlock (state_of word new) address size
 served_block regions word zeros follows old size align address new (inl (few, served)) = (served.sound, served.block)
 served_block regions word zeros follows old size align address new (inr (many, served)) = (served.sound, served.block)

@@ -95,8 +95,8 @@ not_in_free {regions} {word} {heap} sound {block} there used k low high f =
         cc
 
 -- a block keeps its words, if it is one of the new heap, and its words were in no free extent
-kept_in_tags : {A : Type 0} {regions : A → List Grant} {word : A → ℕ → ℕ} (granted : List Grant) (before : HeapState) (old : ℕ →
-    ℕ) {new : Dlmalloc A} → IsSound regions word new → OnlyOwnOrTagsChange granted before (state_of word new) old (word new.system) →
+kept_in_tags : {A : Type 0} {regions : A → List Grant} {word : A → ℕ → ℕ} (granted : List Grant) (before : HeapState)
+    (old : ℕ → ℕ) {new : Dlmalloc A} → IsSound regions word new → OnlyOwnOrTagsChange granted before (state_of word new) old (word new.system) →
     (block : Extent) → extent_at block.at (extents_in (state_of word new)) ≡ Some block → block.kind ≡ Used →
     (k : ℕ) → block.at + 16 ≤ k → k < block.at + block.size + 8 → IsWordOf granted k → (IsInFree before k → ⊥) → word new.system k ≡ old k
 kept_in_tags {regions} {word} granted before old {new} sound same block there used k low high is was =

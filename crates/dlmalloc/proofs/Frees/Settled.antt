@@ -149,8 +149,8 @@ module _ {A : Type 0} (regions : A → List Grant) (word : A → ℕ → ℕ) (f
   }
 
 -- where the chunk became part of the top
-pub settled_top : {A : Type 0} {regions : A → List Grant} {word : A → ℕ → ℕ} (follows : A → List Event → A → Type 0) (follows_none : (x : A) →
-    follows x [] x) (frees parts : Bool) (unit : ℕ) {old : Dlmalloc A} (sound : IsSound regions word old) (at : ℕ) {from : ℕ}
+pub settled_top : {A : Type 0} {regions : A → List Grant} {word : A → ℕ → ℕ} (follows : A → List Event → A → Type 0)
+    (follows_none : (x : A) → follows x [] x) (frees parts : Bool) (unit : ℕ) {old : Dlmalloc A} (sound : IsSound regions word old) (at : ℕ) {from : ℕ}
     (around : IsFreeAround (state_of word old) at from) (is : from ≡ old.top) (new : Dlmalloc A) →
     (old.trim_check < old.top_size → (answer : Bool) × IsTrimmed regions word follows frees parts unit old 0 answer new) →
     (old.top_size ≤ old.trim_check → new ≡ old) → IsSettled regions word follows frees parts unit old at new

@@ -158,8 +158,8 @@ module _ {A : Type 0} (zeros frees parts : A → Bool) (unit : A → ℕ) where
       subst (λ b. Holds b (parts old) (unit old)) same.frees_same
       (subst (λ b. Holds (frees new) b (unit old)) same.parts_same (subst (λ n. Holds (frees new) (parts new) n) same.unit_same holds))
 
-  pub rules_found : (follows : A → List Event → A → Type 0) → ((x y : A) (events : List Event) → follows x events y →
-      IsFixed zeros frees parts unit x y) → (regions : A → List Grant) (old : A) (heap : HeapState) (n : ℕ) (new : A) (heap' : HeapState) →
-      IsFound follows regions old heap n new heap' → IsFixed zeros frees parts unit old new
+  pub rules_found : (follows : A → List Event → A → Type 0) →
+      ((x y : A) (events : List Event) → follows x events y → IsFixed zeros frees parts unit x y) → (regions : A → List Grant) (old : A)
+      (heap : HeapState) (n : ℕ) (new : A) (heap' : HeapState) → IsFound follows regions old heap n new heap' → IsFixed zeros frees parts unit old new
   rules_found follows fixed regions old heap n new heap' (inl here) = fixed old new [] here.1
   rules_found follows fixed regions old heap n new heap' (inr there) = fixed old new (Granted (round_up (n + 96) heap.granularity) there.0 ∷ []) there.4

@@ -20,8 +20,8 @@ both_none words before from (extent ∷ next ∷ extents) to at others out h =
     let test : (extent.at == at) ≡ false = nat_isnt (grind arith) in
     rw test (ap (λ es. extent ∷ es) rest)
 
-both_here : (words : ℕ → ℕ) (before : Kind) (from : ℕ) (first : List Extent) (one next : Extent) (last : List Extent) (others : Extent → Extent →
-    List Extent) → Tiles words before from first one.at →
+both_here : (words : ℕ → ℕ) (before : Kind) (from : ℕ) (first : List Extent) (one next : Extent) (last : List Extent)
+    (others : Extent → Extent → List Extent) → Tiles words before from first one.at →
     replaced_both one.at others (first ++ (one ∷ next ∷ last)) ≡ first ++ (others one next ++ last)
 both_here words before from [] one next last others h = (let here = nat_same one.at in rw here refl)
 both_here words before from (extent ∷ []) one next last others h =

@@ -85,9 +85,9 @@ no_link n other k long (inl below) = inl below
 no_link n other k long (inr behind) = elim (dec_lt n 64) [ yes small ↦ inr (inr (omega arith, omega arith)) | no large ↦ inr (inl (omega arith)) ]
 
 -- links are stored in free chunks alone
-pub only_free : {regions : List Grant} {words : ℕ → ℕ} (heap : HeapState) {index : ℕ → List ℕ} {size : ℕ} (chunk : ℕ) (old new : ℕ →
-    ℕ) → AreChunks regions words index → ((at n : ℕ) → IsIn at (index n) → IsFreeAt heap at n) → IsFreeAt heap chunk size → 32 ≤ size →
-    OnlyLinksChange regions index size chunk old new → OnlyFreeChange regions heap old new
+pub only_free : {regions : List Grant} {words : ℕ → ℕ} (heap : HeapState) {index : ℕ → List ℕ} {size : ℕ} (chunk : ℕ)
+    (old new : ℕ → ℕ) → AreChunks regions words index → ((at n : ℕ) → IsIn at (index n) → IsFreeAt heap at n) → IsFreeAt heap chunk size →
+    32 ≤ size → OnlyLinksChange regions index size chunk old new → OnlyFreeChange regions heap old new
 only_free heap {size} chunk old new chunks held free long links k granted out =
     links k granted (no_link size chunk k long (out chunk size free)) (λ n other is. no_link n other k (chunks.each n other is).long (out other n (held other n is)))
 
