@@ -1,5 +1,6 @@
 ghost use Rattle.std.specs.Prelude.{◌≡◌, ◌%◌, ◌^◌};
 
+use crate::checks::same;
 use bitflags::Flags;
 use paging_core::{NotGiantPageSize, Page, PageRange, Size2MiB, Size4KiB, VirtAddr};
 use std::alloc::{AllocError, Global};
@@ -25,12 +26,12 @@ fn interrupts_are_switched_by_their_flag(rt: HostRuntime) {
     assert!(rt; !interrupts::are_enabled(&cpu));
     interrupts::enable(&mut cpu);
     assert!(rt; interrupts::are_enabled(&cpu));
-    assert_eq!(rt; cpu.rflags, 2 | RFlags::INTERRUPT_FLAG.bits());
+    same(&rt, cpu.rflags, 2 | RFlags::INTERRUPT_FLAG.bits());
     let seen = interrupts::without_interrupts(&mut cpu, |cpu| cpu.rflags);
-    assert_eq!(rt; seen, 2);
-    assert_eq!(rt; cpu.rflags, 0x202);
+    same(&rt, seen, 2);
+    same(&rt, cpu.rflags, 0x202);
     interrupts::disable(&mut cpu);
-    assert_eq!(rt; cpu.rflags, 2);
+    same(&rt, cpu.rflags, 2);
 }
 
 #[test]
@@ -42,13 +43,13 @@ fn access_prevention_is_switched_by_its_flag(rt: HostRuntime) {
     let smap = Smap::new_unchecked();
     assert!(rt; smap.is_enabled(&cpu));
     smap.disable(&mut cpu);
-    assert_eq!(rt; cpu.rflags, 2 | RFlags::ALIGNMENT_CHECK.bits());
+    same(&rt, cpu.rflags, 2 | RFlags::ALIGNMENT_CHECK.bits());
     assert!(rt; !smap.is_enabled(&cpu));
     smap.enable(&mut cpu);
-    assert_eq!(rt; cpu.rflags, 2);
+    same(&rt, cpu.rflags, 2);
     let seen = smap.without_smap(&mut cpu, |cpu| cpu.rflags);
-    assert_eq!(rt; seen, 0x4_0002);
-    assert_eq!(rt; cpu.rflags, 2);
+    same(&rt, seen, 0x4_0002);
+    same(&rt, cpu.rflags, 2);
 }
 
 #[test]
@@ -65,36 +66,37 @@ fn tables_are_where_they_were_loaded(rt: HostRuntime) {
     lgdt(&mut cpu, &gdt);
     lidt(&mut cpu, &idt);
     load_tss(&mut cpu, SegmentSelector(0x30));
-    assert_eq!(rt; sgdt(&cpu).to_bytes(), gdt.to_bytes());
-    assert_eq!(rt; sidt(&cpu).to_bytes(), idt.to_bytes());
-    assert_eq!(rt; cpu.tr, 0x30);
+    same(&rt, sgdt(&cpu).to_bytes(), gdt.to_bytes());
+    same(&rt, sidt(&cpu).to_bytes(), idt.to_bytes());
+    same(&rt, cpu.tr, 0x30);
 }
 
 #[test]
 fn a_port_makes_accesses_of_its_width(rt: HostRuntime) -> Result<(), Fail> {
     let mut ports = MemoryPorts::new(0x1_2345);
-    assert_eq!(rt; ports.last(), None);
+    same(&rt, ports.last(), None);
     let mut port: Port<u16> = Port::new(0x60);
-    assert_eq!(rt; port.read(&mut ports), 0x2345);
+    same(&rt, port.read(&mut ports), 0x2345);
     let read = PortAccessed {
         port: 0x60,
         width: 16,
         write: false,
         value: 0x2345,
     };
-    assert_eq!(rt; ports.last(), Some(read));
+    same(&rt, ports.last(), Some(read));
     port.write(&mut ports, 7);
     let written = PortAccessed {
         write: true,
         value: 7,
         ..read
     };
-    assert_eq!(rt; ports.last(), Some(written));
+    same(&rt, ports.last(), Some(written));
     assert!(rt; port == port.clone()?);
     assert!(rt; port != Port::new(0x61));
-    assert_eq!(rt;
+    same(
+        &rt,
         format!(in rt.alloc(); "{port:?}")?.as_str(),
-        "PortGeneric { port: 96, access: ReadWrite }"
+        "PortGeneric { port: 96, access: ReadWrite }",
     );
     Ok(())
 }
@@ -111,11 +113,11 @@ fn first_read<T: PortRead>(value: u32, number: u16) -> T
 #[test]
 fn ports_of_each_width_and_leave(rt: HostRuntime) {
     let mut ports = MemoryPorts::new(0xFEDC_BA98);
-    assert_eq!(rt; first_read::<u8>(0xFEDC_BA98, 0x60), 0x98);
-    assert_eq!(rt; u8::read_from_port(&mut ports, 1), 0x98);
-    assert_eq!(rt; u32::read_from_port(&mut ports, 2), 0xFEDC_BA98);
+    same(&rt, first_read::<u8>(0xFEDC_BA98, 0x60), 0x98);
+    same(&rt, u8::read_from_port(&mut ports, 1), 0x98);
+    same(&rt, u32::read_from_port(&mut ports, 2), 0xFEDC_BA98);
     let mut input: PortReadOnly<u8> = PortReadOnly::new(0x60);
-    assert_eq!(rt; input.read(&mut ports), 0x98);
+    same(&rt, input.read(&mut ports), 0x98);
     let mut output: PortWriteOnly<u32> = PortWriteOnly::new(0xCF8);
     output.write(&mut ports, 0x8000_0000);
     let written = PortAccessed {
@@ -124,13 +126,13 @@ fn ports_of_each_width_and_leave(rt: HostRuntime) {
         write: true,
         value: 0x8000_0000,
     };
-    assert_eq!(rt; ports.last(), Some(written));
+    same(&rt, ports.last(), Some(written));
     u8::write_to_port(&mut ports, 0x20, 0x20);
     u16::write_to_port(&mut ports, 0x1F0, 0xFFFF);
-    assert_eq!(rt; ports.last().map(|access| access.width), Some(16));
-    assert_eq!(rt; ReadOnlyAccess::DEBUG_STR, "ReadOnly");
-    assert_eq!(rt; WriteOnlyAccess::DEBUG_STR, "WriteOnly");
-    assert_eq!(rt; ReadWriteAccess::DEBUG_STR, "ReadWrite");
+    same(&rt, ports.last().map(|access| access.width), Some(16));
+    same(&rt, ReadOnlyAccess::DEBUG_STR, "ReadOnly");
+    same(&rt, WriteOnlyAccess::DEBUG_STR, "WriteOnly");
+    same(&rt, ReadWriteAccess::DEBUG_STR, "ReadWrite");
 }
 
 #[test]
@@ -171,12 +173,12 @@ fn flushes_are_appended_in_order(rt: HostRuntime) -> Result<(), Fail> {
             address: 0,
         },
     ];
-    assert_eq!(rt; list.as_slice(), wanted.as_slice());
-    assert_eq!(rt; list.len(), 6);
-    assert_eq!(rt; list.get(2), Some(&FlushCommand::ReloadCr3));
-    assert_eq!(rt; list.get(6), None);
+    same(&rt, list.as_slice(), wanted.as_slice());
+    same(&rt, list.len(), 6);
+    same(&rt, list.get(2), Some(&FlushCommand::ReloadCr3));
+    same(&rt, list.get(6), None);
     // The frame and the two flags stay.
-    assert_eq!(rt; cpu.cr3, 0x12_3018);
+    same(&rt, cpu.cr3, 0x12_3018);
     Ok(())
 }
 
@@ -397,20 +399,20 @@ fn global_pages_by_count(rt: HostRuntime) -> Result<(), Fail> {
 #[test]
 fn a_flush_without_pages_names_what_else_is_given(rt: HostRuntime) -> Result<(), Fail> {
     let invlpgb = invlpgb(7).expect(&rt, "the processor has the instruction");
-    assert_eq!(rt; invlpgb.invlpgb_count_max(), 7);
-    assert_eq!(rt; invlpgb.nasid(), 4);
+    same(&rt, invlpgb.invlpgb_count_max(), 7);
+    same(&rt, invlpgb.nasid(), 4);
     assert!(rt; invlpgb.tlb_flush_nested());
     let mut list = FlushList::new(rt.alloc());
     let mut flush = invlpgb.build();
     flush.flush(&mut list)?;
     let refused = AsidOutOfRangeError { asid: 4, nasid: 4 };
-    assert_eq!(rt; flush.asid(4).err(), Some(refused));
+    same(&rt, flush.asid(4).err(), Some(refused));
     flush.flush(&mut list)?;
     flush.pcid(Pcid::new(5)?).final_translation_only();
     flush.asid(3)?.include_global();
     let other = AsidOutOfRangeError { asid: 9, nasid: 4 };
-    assert_eq!(rt; flush.asid(9).err(), Some(other));
-    assert_eq!(rt; flush.try_asid(9), Err(other));
+    same(&rt, flush.asid(9).err(), Some(other));
+    same(&rt, flush.try_asid(9), Err(other));
     flush.clone()?.flush(&mut list)?;
     if invlpgb.tlb_flush_nested() {
         let nested = invlpgb.build().include_nested_translations();
@@ -438,11 +440,12 @@ fn a_flush_without_pages_names_what_else_is_given(rt: HostRuntime) -> Result<(),
             edx: 0,
         },
     ];
-    assert_eq!(rt; list.as_slice(), wanted.as_slice());
+    same(&rt, list.as_slice(), wanted.as_slice());
     let text = format!(in rt.alloc(); "{other}")?;
-    assert_eq!(rt;
+    same(
+        &rt,
         text.as_str(),
-        "9 is out of the range of available ASIDS (4)"
+        "9 is out of the range of available ASIDS (4)",
     );
     Ok(())
 }

@@ -2,6 +2,8 @@
 #![tactic(auto)]
 
 #[cfg(test)]
+mod checks;
+#[cfg(test)]
 mod flags;
 #[cfg(test)]
 mod instructions;

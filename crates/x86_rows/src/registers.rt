@@ -1,3 +1,4 @@
+use crate::checks::{same, same_at};
 use bitflags::Flags;
 use paging_core::{Page, PhysAddr, PhysFrame, VirtAddr, VirtAddrNotValid};
 use std::test::Fail;
@@ -31,17 +32,18 @@ fn page(address: u64) -> Page {
 #[test]
 fn a_new_register_file(rt: HostRuntime) {
     let cpu = Cpu::new();
-    assert_eq!(rt; mxcsr::read(&cpu), MxCsr::default());
-    assert_eq!(rt; cpu.rflags, 2);
-    assert_eq!(rt; rflags::read(&cpu), RFlags::empty());
-    assert_eq!(rt; cpu.gdtr.to_bytes(), [0; 10]);
+    same(&rt, mxcsr::read(&cpu), MxCsr::default());
+    same(&rt, cpu.rflags, 2);
+    same(&rt, rflags::read(&cpu), RFlags::empty());
+    same(&rt, cpu.gdtr.to_bytes(), [0; 10]);
     let table = DescriptorTablePointer {
         limit: 0x37,
         base: VirtAddr::new(0xFFFF_8000_1234_5678),
     };
-    assert_eq!(rt;
+    same(
+        &rt,
         table.to_bytes(),
-        [0x37, 0, 0x78, 0x56, 0x34, 0x12, 0, 0x80, 0xFF, 0xFF]
+        [0x37, 0, 0x78, 0x56, 0x34, 0x12, 0, 0x80, 0xFF, 0xFF],
     );
 }
 
@@ -68,7 +70,7 @@ fn writes_of_flags_keep_other_bits(rt: HostRuntime) {
         ("XCr0::read_raw", XCr0::read_raw(&cpu), 0x101),
     ];
     for (name, bits, wanted) in rows {
-        assert_eq!(rt; bits, wanted, "{name}");
+        same_at(&rt, name, bits, wanted);
     }
     Cr0::write(&mut cpu, Cr0Flags::PAGING);
     Cr0::update(&mut cpu, |flags| flags | Cr0Flags::PROTECTED_MODE_ENABLE);
@@ -85,9 +87,10 @@ fn writes_of_flags_keep_other_bits(rt: HostRuntime) {
         next
     });
     XCr0::write(&mut cpu, XCr0Flags::X87 | XCr0Flags::SSE);
-    assert_eq!(rt;
+    same(
+        &rt,
         XCr0::update(&mut cpu, |flags| flags | XCr0Flags::AVX),
-        Ok(())
+        Ok(()),
     );
     let rows = [
         ("cr0", cpu.cr0, 0x8000_0041),
@@ -98,55 +101,60 @@ fn writes_of_flags_keep_other_bits(rt: HostRuntime) {
         ("xcr0", cpu.xcr0, 0x107),
     ];
     for (name, bits, wanted) in rows {
-        assert_eq!(rt; bits, wanted, "{name}");
+        same_at(&rt, name, bits, wanted);
     }
     rflags::write_raw(&mut cpu, 0x246);
-    assert_eq!(rt; rflags::read(&cpu).bits(), 0x244);
+    same(&rt, rflags::read(&cpu).bits(), 0x244);
     mxcsr::write(&mut cpu, MxCsr::FLUSH_TO_ZERO);
     mxcsr::update(&mut cpu, |flags| flags | MxCsr::default());
-    assert_eq!(rt; cpu.mxcsr, 0x9F80);
+    same(&rt, cpu.mxcsr, 0x9F80);
 }
 
 #[test]
 fn addresses_and_priorities(rt: HostRuntime) -> Result<(), Fail> {
     let mut cpu = Cpu::new();
     cpu.cr2 = 0x30_0000;
-    assert_eq!(rt; Cr2::read(&cpu), Ok(VirtAddr::new(0x30_0000)));
+    same(&rt, Cr2::read(&cpu), Ok(VirtAddr::new(0x30_0000)));
     cpu.cr2 = 0x8000_0000_0000;
-    assert_eq!(rt; Cr2::read(&cpu), Err(VirtAddrNotValid(0x8000_0000_0000)));
-    assert_eq!(rt; Cr2::read_raw(&cpu), 0x8000_0000_0000);
+    same(
+        &rt,
+        Cr2::read(&cpu),
+        Err(VirtAddrNotValid(0x8000_0000_0000)),
+    );
+    same(&rt, Cr2::read_raw(&cpu), 0x8000_0000_0000);
     Cr3::write(
         &mut cpu,
         frame(0x12_3000),
         Cr3Flags::PAGE_LEVEL_CACHE_DISABLE,
     );
-    assert_eq!(rt; cpu.cr3, 0x12_3010);
-    assert_eq!(rt;
+    same(&rt, cpu.cr3, 0x12_3010);
+    same(
+        &rt,
         Cr3::read(&cpu),
-        (frame(0x12_3000), Cr3Flags::PAGE_LEVEL_CACHE_DISABLE)
+        (frame(0x12_3000), Cr3Flags::PAGE_LEVEL_CACHE_DISABLE),
     );
     Cr3::update(&mut cpu, |(_, flags)| (frame(0x45_6000), flags));
-    assert_eq!(rt; cpu.cr3, 0x45_6010);
+    same(&rt, cpu.cr3, 0x45_6010);
     Cr3::write_pcid(&mut cpu, frame(0x12_3000), Pcid::new(5)?);
-    assert_eq!(rt; cpu.cr3, 0x12_3005);
-    assert_eq!(rt; Cr3::read_pcid(&cpu), (frame(0x12_3000), Pcid::new(5)?));
+    same(&rt, cpu.cr3, 0x12_3005);
+    same(&rt, Cr3::read_pcid(&cpu), (frame(0x12_3000), Pcid::new(5)?));
     Cr3::update_pcid(&mut cpu, |(_, pcid)| (frame(0x45_6000), pcid));
-    assert_eq!(rt; cpu.cr3, 0x45_6005);
+    same(&rt, cpu.cr3, 0x45_6005);
     Cr3::write_pcid_no_flush(&mut cpu, frame(0x12_3000), Pcid::new(0xFFF)?);
-    assert_eq!(rt; cpu.cr3, 0x8000_0000_0012_3FFF);
+    same(&rt, cpu.cr3, 0x8000_0000_0012_3FFF);
     Cr3::update_pcid_no_flush(&mut cpu, |(_, pcid)| (frame(0x45_6000), pcid));
-    assert_eq!(rt; cpu.cr3, 0x8000_0000_0045_6FFF);
-    assert_eq!(rt; Cr3::read_raw(&cpu), (frame(0x45_6000), 0xFFF));
+    same(&rt, cpu.cr3, 0x8000_0000_0045_6FFF);
+    same(&rt, Cr3::read_raw(&cpu), (frame(0x45_6000), 0xFFF));
     Cr3::write_raw(&mut cpu, frame(0x1000), 0x18);
-    assert_eq!(rt; cpu.cr3, 0x1018);
+    same(&rt, cpu.cr3, 0x1018);
     Cr8::write(&mut cpu, Some(PriorityClass::PriorityClass15));
-    assert_eq!(rt; Cr8::read_raw(&cpu), 15);
+    same(&rt, Cr8::read_raw(&cpu), 15);
     Cr8::update(&mut cpu, |_| Some(PriorityClass::PriorityClass2));
-    assert_eq!(rt; Cr8::read(&cpu), Some(PriorityClass::PriorityClass2));
+    same(&rt, Cr8::read(&cpu), Some(PriorityClass::PriorityClass2));
     Cr8::write(&mut cpu, None);
-    assert_eq!(rt; cpu.cr8, 0);
+    same(&rt, cpu.cr8, 0);
     Cr8::write_raw(&mut cpu, 0x110);
-    assert_eq!(rt; Cr8::read(&cpu), None);
+    same(&rt, Cr8::read(&cpu), None);
     Ok(())
 }
 
@@ -167,10 +175,10 @@ fn debug_registers(rt: HostRuntime) {
         assert_eq!(rt; read, wanted, "{number:?}");
         assert_eq!(rt; field, wanted, "{number:?}");
     }
-    assert_eq!(rt; Dr2::NUM, DebugAddressRegisterNumber::Dr2);
+    same(&rt, Dr2::NUM, DebugAddressRegisterNumber::Dr2);
     cpu.dr6 = 0xFFFF_4FF1;
-    assert_eq!(rt; Dr6::read(&cpu).bits(), 0x1_4001);
-    assert_eq!(rt; Dr6::read_raw(&cpu), 0xFFFF_4FF1);
+    same(&rt, Dr6::read(&cpu).bits(), 0x1_4001);
+    same(&rt, Dr6::read_raw(&cpu), 0xFFFF_4FF1);
 }
 
 #[test]
@@ -189,14 +197,14 @@ fn registers_by_number(rt: HostRuntime) {
         ("ApicBase", ApicBase::MSR, Msr::new(0x1B)),
     ];
     for (name, register, number) in rows {
-        assert_eq!(rt; register.read(&cpu), Some(0), "{name}");
+        same_at(&rt, name, register.read(&cpu), Some(0));
         assert!(rt; number.write(&mut cpu, 0x1234), "{name}");
-        assert_eq!(rt; register.read(&cpu), Some(0x1234), "{name}");
+        same_at(&rt, name, register.read(&cpu), Some(0x1234));
     }
     let unknown = Msr::new(0xC000_0083);
     assert!(rt; !unknown.write(&mut cpu, 1));
-    assert_eq!(rt; unknown.read(&cpu), None);
-    assert_eq!(rt; cpu.apic_base, 0x1234);
+    same(&rt, unknown.read(&cpu), None);
+    same(&rt, cpu.apic_base, 0x1234);
 }
 
 #[test]
@@ -204,55 +212,61 @@ fn model_specific_registers(rt: HostRuntime) {
     let mut cpu = Cpu::new();
     let high = VirtAddr::new(0xFFFF_8000_0000_0000);
     LStar::write(&mut cpu, high);
-    assert_eq!(rt; LStar::read(&cpu), Some(high));
+    same(&rt, LStar::read(&cpu), Some(high));
     KernelGsBase::write(&mut cpu, high);
     GS::write_base(&mut cpu, VirtAddr::new(0x1000));
     GS::swap(&mut cpu);
-    assert_eq!(rt; GS::read_base(&cpu), Some(high));
-    assert_eq!(rt; KernelGsBase::read(&cpu), Some(VirtAddr::new(0x1000)));
-    assert_eq!(rt; GS::BASE.read(&cpu), Some(0xFFFF_8000_0000_0000));
+    same(&rt, GS::read_base(&cpu), Some(high));
+    same(&rt, KernelGsBase::read(&cpu), Some(VirtAddr::new(0x1000)));
+    same(&rt, GS::BASE.read(&cpu), Some(0xFFFF_8000_0000_0000));
     assert!(rt; FS::BASE.write(&mut cpu, 0x8000_0000_0000));
-    assert_eq!(rt; FS::read_base(&cpu), None);
-    assert_eq!(rt; FsBase::read(&cpu), None);
+    same(&rt, FS::read_base(&cpu), None);
+    same(&rt, FsBase::read(&cpu), None);
     SFMask::write(&mut cpu, RFlags::INTERRUPT_FLAG);
     assert!(rt; SFMask::update(&mut cpu, |flags| flags | RFlags::TRAP_FLAG));
-    assert_eq!(rt; cpu.sfmask, 0x300);
+    same(&rt, cpu.sfmask, 0x300);
     cpu.sfmask = 0x302;
-    assert_eq!(rt; SFMask::read(&cpu), None);
+    same(&rt, SFMask::read(&cpu), None);
     assert!(rt; !SFMask::update(&mut cpu, |flags| flags));
     UCet::write(&mut cpu, CetFlags::SS_ENABLE, page(0x7000));
-    assert_eq!(rt; cpu.u_cet, 0x7001);
+    same(&rt, cpu.u_cet, 0x7001);
     assert!(rt;
         UCet::update(
             &mut cpu,
             |(flags, _)| (flags | CetFlags::IBT_ENABLE, page(0x8000))
         )
     );
-    assert_eq!(rt;
+    same(
+        &rt,
         UCet::read(&cpu),
-        Some((CetFlags::SS_ENABLE | CetFlags::IBT_ENABLE, page(0x8000)))
+        Some((CetFlags::SS_ENABLE | CetFlags::IBT_ENABLE, page(0x8000))),
     );
     cpu.s_cet = 0x8000_0000_0001;
-    assert_eq!(rt; SCet::read(&cpu), None);
+    same(&rt, SCet::read(&cpu), None);
     assert!(rt; !SCet::update(&mut cpu, |pair| pair));
-    assert_eq!(rt; cpu.s_cet, 0x8000_0000_0001);
+    same(&rt, cpu.s_cet, 0x8000_0000_0001);
 }
 
 #[test]
 fn the_base_of_the_interrupt_controller(rt: HostRuntime) {
     let mut cpu = Cpu::new();
     cpu.apic_base = 0xFEE0_0900;
-    assert_eq!(rt;
+    same(
+        &rt,
         ApicBase::read(&cpu),
         (
             frame(0xFEE0_0000),
-            ApicBaseFlags::BSP | ApicBaseFlags::LAPIC_ENABLE
-        )
+            ApicBaseFlags::BSP | ApicBaseFlags::LAPIC_ENABLE,
+        ),
     );
     ApicBase::write(&mut cpu, frame(0xFED0_0000), ApicBaseFlags::LAPIC_ENABLE);
-    assert_eq!(rt; cpu.apic_base, 0xFED0_0800);
+    same(&rt, cpu.apic_base, 0xFED0_0800);
     ApicBase::write_raw(&mut cpu, frame(0xFEE0_0000), 0x1);
-    assert_eq!(rt; ApicBase::read_raw(&cpu), (frame(0xFEE0_0000), 0xFEE0_0001));
+    same(
+        &rt,
+        ApicBase::read_raw(&cpu),
+        (frame(0xFEE0_0000), 0xFEE0_0001),
+    );
 }
 
 #[test]
@@ -262,12 +276,13 @@ fn selectors_of_system_calls(rt: HostRuntime) {
         SegmentSelector,
     );
     let written = Star::write(&mut cpu, cs_sysret, ss_sysret, cs_syscall, ss_syscall);
-    assert_eq!(rt; written, Ok(()));
-    assert_eq!(rt; cpu.star, 0x0023_0008_0000_0000);
-    assert_eq!(rt; Star::read_raw(&cpu), (0x23, 0x08));
-    assert_eq!(rt;
+    same(&rt, written, Ok(()));
+    same(&rt, cpu.star, 0x0023_0008_0000_0000);
+    same(&rt, Star::read_raw(&cpu), (0x23, 0x08));
+    same(
+        &rt,
         Star::read(&cpu),
-        Some((cs_sysret, ss_sysret, cs_syscall, ss_syscall))
+        Some((cs_sysret, ss_sysret, cs_syscall, ss_syscall)),
     );
     let rows = [
         (
@@ -310,11 +325,11 @@ fn selectors_of_system_calls(rt: HostRuntime) {
     ];
     for (selectors, error) in rows {
         let [a, b, c, d] = selectors.map(SegmentSelector);
-        assert_eq!(rt; Star::write(&mut cpu, a, b, c, d), Err(error));
-        assert_eq!(rt; cpu.star, 0x0023_0008_0000_0000);
+        same(&rt, Star::write(&mut cpu, a, b, c, d), Err(error));
+        same(&rt, cpu.star, 0x0023_0008_0000_0000);
     }
     Star::write_raw(&mut cpu, 0xFFF0, 0x08);
-    assert_eq!(rt; Star::read(&cpu), None);
+    same(&rt, Star::read(&cpu), None);
 }
 
 #[test]
@@ -334,17 +349,19 @@ fn states_that_go_together(rt: HostRuntime) {
         (0b1111_1111, Ok(())),
     ];
     for (bits, wanted) in rows {
-        assert_eq!(rt;
+        same(
+            &rt,
             XCr0::try_write(&mut cpu, XCr0Flags::from_bits_retain(bits)),
-            wanted
+            wanted,
         );
     }
-    assert_eq!(rt; cpu.xcr0, 0xFF);
-    assert_eq!(rt;
+    same(&rt, cpu.xcr0, 0xFF);
+    same(
+        &rt,
         XCr0::update(&mut cpu, |_| XCr0Flags::X87 | XCr0Flags::AVX),
-        Err(InvalidXCr0::AvxWithoutSse)
+        Err(InvalidXCr0::AvxWithoutSse),
     );
-    assert_eq!(rt; cpu.xcr0, 0xFF);
+    same(&rt, cpu.xcr0, 0xFF);
 }
 
 #[test]
@@ -365,8 +382,8 @@ fn segment_registers(rt: HostRuntime) {
         (GS::get_reg(&cpu), cpu.gs, 0x30),
     ];
     for (read, field, wanted) in rows {
-        assert_eq!(rt; read, SegmentSelector(wanted));
-        assert_eq!(rt; field, wanted);
+        same(&rt, read, SegmentSelector(wanted));
+        same(&rt, field, wanted);
     }
 }
 
@@ -408,7 +425,7 @@ fn error_texts(rt: HostRuntime) -> Result<(), Fail> {
         ),
     ];
     for (text, wanted) in &texts {
-        assert_eq!(rt; text.as_str(), *wanted);
+        same(&rt, text.as_str(), *wanted);
     }
     Ok(())
 }

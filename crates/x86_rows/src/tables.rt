@@ -1,9 +1,11 @@
 //! Worked rows of the layouts, the texts of the errors, and each call once.
 
+use crate::checks::{same, same_at};
 use bitflags::Flags;
 use paging_core::{PageTableFlags, VirtAddr};
 use std::alloc::{AllocError, Global};
 use std::mem::size_of;
+use std::process::Abort;
 use std::test::Fail;
 use x86_flags::{PrivilegeLevel, RFlags, SegmentSelector};
 use x86_registers::Cpu;
@@ -62,7 +64,7 @@ fn segments_of_kernels(rt: HostRuntime) {
         ),
     ];
     for (name, flags, wanted) in rows {
-        assert_eq!(rt; flags.bits(), wanted, "{name}");
+        same_at(&rt, name, flags.bits(), wanted);
     }
     let levels = [
         (Descriptor::kernel_code_segment(), PrivilegeLevel::Ring0),
@@ -71,11 +73,12 @@ fn segments_of_kernels(rt: HostRuntime) {
         (Descriptor::user_data_segment(), PrivilegeLevel::Ring3),
     ];
     for (descriptor, level) in levels {
-        assert_eq!(rt; descriptor.dpl(), level);
+        same(&rt, descriptor.dpl(), level);
     }
-    assert_eq!(rt;
+    same(
+        &rt,
         selector_gives_back(8191, PrivilegeLevel::Ring2),
-        (8191, PrivilegeLevel::Ring2)
+        (8191, PrivilegeLevel::Ring2),
     );
 }
 
@@ -83,32 +86,32 @@ fn segments_of_kernels(rt: HostRuntime) {
 fn a_table_is_filled(rt: HostRuntime) -> Result<(), Fail> {
     let mut gdt = GlobalDescriptorTable::<8>::new();
     let user_code32 = Descriptor::UserSegment(DescriptorFlags::USER_CODE32.bits());
-    assert_eq!(rt; gdt.append(Descriptor::kernel_code_segment()).0, 0x08);
-    assert_eq!(rt; gdt.append(Descriptor::kernel_data_segment()).0, 0x10);
-    assert_eq!(rt; gdt.append(user_code32).0, 0x1b);
-    assert_eq!(rt; gdt.append(Descriptor::user_data_segment()).0, 0x23);
-    assert_eq!(rt; gdt.append(Descriptor::user_code_segment()).0, 0x2b);
-    assert_eq!(rt; gdt.entries().len(), 6);
+    same(&rt, gdt.append(Descriptor::kernel_code_segment()).0, 0x08);
+    same(&rt, gdt.append(Descriptor::kernel_data_segment()).0, 0x10);
+    same(&rt, gdt.append(user_code32).0, 0x1b);
+    same(&rt, gdt.append(Descriptor::user_data_segment()).0, 0x23);
+    same(&rt, gdt.append(Descriptor::user_code_segment()).0, 0x2b);
+    same(&rt, gdt.entries().len(), 6);
     let seventh = gdt.clone()?.try_append(Descriptor::user_data_segment());
-    assert_eq!(rt; seventh, Some(SegmentSelector(0x33)));
+    same(&rt, seventh, Some(SegmentSelector(0x33)));
     let tss = TaskStateSegment::new();
     let segment = Descriptor::tss_segment(VirtAddr::new(0x1000), &tss);
-    assert_eq!(rt; gdt.append(segment).0, 0x30);
-    assert_eq!(rt; gdt.entries().len(), 8);
-    assert_eq!(rt; gdt.limit(), 63);
-    assert_eq!(rt; gdt.try_append(segment), None);
-    assert_eq!(rt; gdt.try_append(user_code32), None);
+    same(&rt, gdt.append(segment).0, 0x30);
+    same(&rt, gdt.entries().len(), 8);
+    same(&rt, gdt.limit(), 63);
+    same(&rt, gdt.try_append(segment), None);
+    same(&rt, gdt.try_append(user_code32), None);
     let mut cpu = Cpu::new();
     gdt.load(&mut cpu, VirtAddr::new(0x5000));
-    assert_eq!(rt; cpu.gdtr.to_bytes(), [63, 0, 0, 0x50, 0, 0, 0, 0, 0, 0]);
+    same(&rt, cpu.gdtr.to_bytes(), [63, 0, 0, 0x50, 0, 0, 0, 0, 0, 0]);
     let raw = [0, 0x00af_9b00_0000_ffff, 0x00cf_9300_0000_ffff];
     let given = GlobalDescriptorTable::<3>::from_raw_entries(&raw);
     let words = given.entries();
-    assert_eq!(rt; words.len(), 3);
-    assert_eq!(rt; words[1].raw(), 0x00af_9b00_0000_ffff);
+    same(&rt, words.len(), 3);
+    same(&rt, words[1].raw(), 0x00af_9b00_0000_ffff);
     given.load_unsafe(&mut cpu, VirtAddr::new(0x6000));
-    assert_eq!(rt; cpu.gdtr.limit, 23);
-    assert_eq!(rt; GlobalDescriptorTable::<8>::default().limit(), 7);
+    same(&rt, cpu.gdtr.limit, 23);
+    same(&rt, GlobalDescriptorTable::<8>::default().limit(), 7);
     Ok(())
 }
 
@@ -116,19 +119,19 @@ fn a_table_is_filled(rt: HostRuntime) -> Result<(), Fail> {
 fn a_task_state_segment(rt: HostRuntime) {
     let mut tss = TaskStateSegment::default();
     let bytes = tss.to_bytes();
-    assert_eq!(rt; bytes.len(), 0x68);
-    assert_eq!(rt; &bytes[102..], [0x68, 0].as_slice());
+    same(&rt, bytes.len(), 0x68);
+    same(&rt, &bytes[102..], [0x68, 0].as_slice());
     match Descriptor::tss_segment(VirtAddr::new(0x1000), &tss) {
         Descriptor::SystemSegment(low, high) => {
-            assert_eq!(rt; low, 0x0000_8900_1000_0067);
-            assert_eq!(rt; high, 0);
+            same(&rt, low, 0x0000_8900_1000_0067);
+            same(&rt, high, 0);
         }
         Descriptor::UserSegment(_) => assert!(rt; false),
     }
     match Descriptor::tss_segment(VirtAddr::new(0xffff_8000_1234_5678), &tss) {
         Descriptor::SystemSegment(low, high) => {
-            assert_eq!(rt; low, 0x1200_8934_5678_0067);
-            assert_eq!(rt; high, 0xffff_8000);
+            same(&rt, low, 0x1200_8934_5678_0067);
+            same(&rt, high, 0xffff_8000);
         }
         Descriptor::UserSegment(_) => assert!(rt; false),
     }
@@ -136,17 +139,20 @@ fn a_task_state_segment(rt: HostRuntime) {
     tss.interrupt_stack_table[6] = VirtAddr::new(0xffff_8000_0000_0001);
     tss.iomap_base = 0x1234;
     let bytes = tss.to_bytes();
-    assert_eq!(rt;
+    same(
+        &rt,
         &bytes[..12],
-        [0, 0, 0, 0, 0x66, 0x55, 0x44, 0x33, 0x22, 0x11, 0, 0].as_slice()
+        [0, 0, 0, 0, 0x66, 0x55, 0x44, 0x33, 0x22, 0x11, 0, 0].as_slice(),
     );
-    assert_eq!(rt;
+    same(
+        &rt,
         &bytes[84..92],
-        [1, 0, 0, 0, 0, 0x80, 0xff, 0xff].as_slice()
+        [1, 0, 0, 0, 0, 0x80, 0xff, 0xff].as_slice(),
     );
-    assert_eq!(rt;
+    same(
+        &rt,
         &bytes[92..],
-        [0, 0, 0, 0, 0, 0, 0, 0, 0, 0, 0x34, 0x12].as_slice()
+        [0, 0, 0, 0, 0, 0, 0, 0, 0, 0, 0x34, 0x12].as_slice(),
     );
 }
 
@@ -157,7 +163,7 @@ fn maps_of_ports(rt: HostRuntime) -> Result<(), Fail> {
     let at = VirtAddr::new(0x1000);
     let map = [0xff, 0, 0x80, 0xff];
     match Descriptor::tss_segment_with_iomap(at, &tss, VirtAddr::new(0x1100), &map) {
-        Ok(Descriptor::SystemSegment(low, _)) => assert_eq!(rt; low, 0x0000_8900_1000_0103),
+        Ok(Descriptor::SystemSegment(low, _)) => same(&rt, low, 0x0000_8900_1000_0103),
         _ => assert!(rt; false),
     }
     let long = [0xff; 8194];
@@ -209,9 +215,9 @@ fn maps_of_ports(rt: HostRuntime) -> Result<(), Fail> {
         let iomap_at = VirtAddr::new_truncate(iomap_at);
         match Descriptor::tss_segment_with_iomap(at, &tss, iomap_at, iomap) {
             Err(error) => {
-                assert_eq!(rt; error, wanted);
+                same(&rt, error, wanted);
                 let shown = format!(in rt.alloc(); "{error}")?;
-                assert_eq!(rt; shown.as_str(), text);
+                same(&rt, shown.as_str(), text);
             }
             Ok(_) => assert!(rt; false, "{text}"),
         }
@@ -224,20 +230,22 @@ fn a_gate_and_its_options(rt: HostRuntime) {
     let mut cpu = Cpu::new();
     cpu.cs = 8;
     let mut entry = Entry::<PageFaultHandlerFunc>::missing();
-    assert_eq!(rt;
+    same(
+        &rt,
         entry.to_bytes(),
-        [0, 0, 0, 0, 0, 0x0e, 0, 0, 0, 0, 0, 0, 0, 0, 0, 0]
+        [0, 0, 0, 0, 0, 0x0e, 0, 0, 0, 0, 0, 0, 0, 0, 0, 0],
     );
     let handler = VirtAddr::new(0xffff_8000_1234_5678);
     entry.set_handler_addr(&cpu, handler);
-    assert_eq!(rt;
+    same(
+        &rt,
         entry.to_bytes(),
         [
-            0x78, 0x56, 0x08, 0x00, 0x00, 0x8e, 0x34, 0x12, 0x00, 0x80, 0xff, 0xff, 0, 0, 0, 0
-        ]
+            0x78, 0x56, 0x08, 0x00, 0x00, 0x8e, 0x34, 0x12, 0x00, 0x80, 0xff, 0xff, 0, 0, 0, 0,
+        ],
     );
-    assert_eq!(rt; entry.handler_addr(), handler);
-    assert_eq!(rt; entry.options().stack_index(), None);
+    same(&rt, entry.handler_addr(), handler);
+    same(&rt, entry.options().stack_index(), None);
     entry
         .set_handler_addr(&cpu, handler)
         .set_code_selector(SegmentSelector(0x33))
@@ -245,46 +253,48 @@ fn a_gate_and_its_options(rt: HostRuntime) {
         .set_stack_index(6)
         .disable_interrupts(false)
         .set_present(false);
-    assert_eq!(rt;
+    same(
+        &rt,
         entry.to_bytes(),
         [
-            0x78, 0x56, 0x33, 0x00, 0x07, 0x6f, 0x34, 0x12, 0x00, 0x80, 0xff, 0xff, 0, 0, 0, 0
-        ]
+            0x78, 0x56, 0x33, 0x00, 0x07, 0x6f, 0x34, 0x12, 0x00, 0x80, 0xff, 0xff, 0, 0, 0, 0,
+        ],
     );
     let options = entry.options();
-    assert_eq!(rt; options.code_selector(), SegmentSelector(0x33));
-    assert_eq!(rt; options.privilege_level(), PrivilegeLevel::Ring3);
-    assert_eq!(rt; options.stack_index(), Some(6));
+    same(&rt, options.code_selector(), SegmentSelector(0x33));
+    same(&rt, options.privilege_level(), PrivilegeLevel::Ring3);
+    same(&rt, options.stack_index(), Some(6));
     assert!(rt; !options.present() && entry == entry);
 }
 
 #[test]
 fn a_table_of_gates(rt: HostRuntime) -> Result<(), Fail> {
-    assert_eq!(rt; size_of::<Entry<HandlerFunc>>(), 16);
-    assert_eq!(rt; size_of::<InterruptDescriptorTable>(), 256 * 16);
+    same(&rt, size_of::<Entry<HandlerFunc>>(), 16);
+    same(&rt, size_of::<InterruptDescriptorTable>(), 256 * 16);
     let mut cpu = Cpu::new();
     let handler = VirtAddr::new(0x4000);
     let mut idt = InterruptDescriptorTable::default();
     for vector in 0..=255u8 {
         let none = matches!(vector, 8 | 10..=15 | 17 | 18 | 21..=27 | 29..=31);
-        assert_eq!(rt; idt.entry(vector).is_none(), none, "{vector}");
-        assert_eq!(rt; idt.entry_mut(vector).is_none(), none, "{vector}");
+        same_at(&rt, vector, idt.entry(vector).is_none(), none);
+        same_at(&rt, vector, idt.entry_mut(vector).is_none(), none);
     }
     idt.double_fault
         .set_handler_addr(&cpu, handler)
         .set_stack_index(0);
-    assert_eq!(rt; idt.double_fault.options().stack_index(), Some(0));
+    same(&rt, idt.double_fault.options().stack_index(), Some(0));
     if let Some(entry) = idt.entry_mut(3) {
         entry.set_handler_addr(&cpu, handler);
     }
     assert!(rt; idt.breakpoint.options().present());
     idt.load(&mut cpu, VirtAddr::new(0x7000));
-    assert_eq!(rt;
+    same(
+        &rt,
         cpu.idtr.to_bytes(),
-        [0xff, 0x0f, 0, 0x70, 0, 0, 0, 0, 0, 0]
+        [0xff, 0x0f, 0, 0x70, 0, 0, 0, 0, 0, 0],
     );
     idt.load_unsafe(&mut cpu, VirtAddr::new(0x8000));
-    assert_eq!(rt; cpu.idtr.limit, 4095);
+    same(&rt, cpu.idtr.limit, 4095);
     Ok(())
 }
 
@@ -301,14 +311,18 @@ fn slices_of_gates(rt: HostRuntime) {
         (65, 64, None),
     ];
     for (lower, upper, wanted) in rows {
-        assert_eq!(rt; idt.slice(lower, upper).map(|part| part.len()), wanted);
-        assert_eq!(rt; idt.slice_mut(lower, upper).map(|part| part.len()), wanted);
+        same(&rt, idt.slice(lower, upper).map(|part| part.len()), wanted);
+        same(
+            &rt,
+            idt.slice_mut(lower, upper).map(|part| part.len()),
+            wanted,
+        );
     }
     for entry in idt.interrupts_mut(32, 64) {
         entry.set_handler_addr(&cpu, VirtAddr::new(0x4000));
     }
-    assert_eq!(rt; present(&idt, 63), Some(true));
-    assert_eq!(rt; present(&idt, 64), Some(false));
+    same(&rt, present(&idt, 63), Some(true));
+    same(&rt, present(&idt, 64), Some(false));
 }
 
 /// The vectors whose gates are present.
@@ -322,35 +336,68 @@ fn present_vectors(alloc: Global, idt: &InterruptDescriptorTable) -> Result<Vec<
     Ok(vectors)
 }
 
-#[test]
-fn writes_through_a_slice_of_gates(rt: HostRuntime) -> Result<(), Fail> {
+/// Sets the handler of the gates of the vectors 40 to 42.
+fn set_interrupts(idt: &mut InterruptDescriptorTable, handler: VirtAddr) {
     let cpu = Cpu::new();
-    let handler = VirtAddr::new(0x4000);
-    let mut idt = InterruptDescriptorTable::new();
-    idt.breakpoint.set_handler_addr(&cpu, handler);
     for entry in idt.interrupts_mut(40, 43) {
         entry.set_handler_addr(&cpu, handler);
     }
-    // A slice that is not there leaves every gate, and so does one that is only looked at.
-    assert!(rt; idt.slice_mut(31, 64).is_none());
-    assert!(rt; idt.slice_mut(32, 257).is_none());
-    assert!(rt; idt.slice_mut(65, 64).is_none());
-    assert!(rt; idt.slice_mut(32, 256).is_some());
-    let kept = present_vectors(rt.alloc(), &idt)?;
-    assert_eq!(rt; kept.as_slice(), [3, 40, 41, 42].as_slice());
-    if let Some(entries) = idt.slice_mut(254, 256) {
-        for entry in entries {
-            entry.set_handler_addr(&cpu, handler);
+}
+
+/// Sets the handler of the gates of a slice, or takes it from them. Answers whether the slice is there.
+fn change_slice(
+    idt: &mut InterruptDescriptorTable,
+    lower: u16,
+    upper: u16,
+    handler: Option<VirtAddr>,
+) -> bool {
+    let cpu = Cpu::new();
+    let Some(entries) = idt.slice_mut(lower, upper) else {
+        return false;
+    };
+    for entry in entries {
+        match handler {
+            Some(handler) => {
+                entry.set_handler_addr(&cpu, handler);
+            }
+            None => *entry = Entry::missing(),
         }
     }
-    if let Some(entries) = idt.slice_mut(41, 42) {
-        for entry in entries {
-            *entry = Entry::missing();
-        }
-    }
-    let left = present_vectors(rt.alloc(), &idt)?;
-    assert_eq!(rt; left.as_slice(), [3, 40, 42, 254, 255].as_slice());
+    true
+}
+
+/// Whether a slice is there. It is only looked at.
+fn has_slice(idt: &mut InterruptDescriptorTable, lower: u16, upper: u16) -> bool {
+    idt.slice_mut(lower, upper).is_some()
+}
+
+/// Sees that the gates of these vectors are present, and no others.
+fn are_present(
+    rt: &impl Abort,
+    alloc: Global,
+    idt: &InterruptDescriptorTable,
+    vectors: &[u8],
+) -> Result<(), Fail> {
+    let found = present_vectors(alloc, idt)?;
+    same(rt, found.as_slice(), vectors);
     Ok(())
+}
+
+#[test]
+fn writes_through_a_slice_of_gates(rt: HostRuntime) -> Result<(), Fail> {
+    let handler = VirtAddr::new(0x4000);
+    let mut idt = InterruptDescriptorTable::new();
+    idt.breakpoint.set_handler_addr(&Cpu::new(), handler);
+    set_interrupts(&mut idt, handler);
+    // A slice that is not there leaves every gate, and so does one that is only looked at.
+    assert!(rt; !has_slice(&mut idt, 31, 64));
+    assert!(rt; !has_slice(&mut idt, 32, 257));
+    assert!(rt; !has_slice(&mut idt, 65, 64));
+    assert!(rt; has_slice(&mut idt, 32, 256));
+    are_present(&rt, rt.alloc(), &idt, &[3, 40, 41, 42])?;
+    assert!(rt; change_slice(&mut idt, 254, 256, Some(handler)));
+    assert!(rt; change_slice(&mut idt, 41, 42, None));
+    are_present(&rt, rt.alloc(), &idt, &[3, 40, 42, 254, 255])
 }
 
 #[test]
@@ -369,8 +416,8 @@ fn gates_of_all_vectors(rt: HostRuntime) {
     for vector in 0..=255u8 {
         let is_set = matches!(vector, 8 | 13 | 14 | 18 | 21 | 30);
         let gate = idt.gate(vector);
-        assert_eq!(rt; gate[0], if is_set { vector } else { 0 });
-        assert_eq!(rt; gate[5], if is_set { 0x8e } else { 0x0e });
+        same(&rt, gate[0], if is_set { vector } else { 0 });
+        same(&rt, gate[5], if is_set { 0x8e } else { 0x0e });
     }
 }
 
@@ -382,7 +429,7 @@ fn a_table_is_copied_and_reset(rt: HostRuntime) -> Result<(), Fail> {
     let copy = idt.clone()?;
     idt.reset();
     for (table, wanted) in [(copy, Some(true)), (idt, Some(false))] {
-        assert_eq!(rt; present(&table, 3), wanted);
+        same(&rt, present(&table, 3), wanted);
     }
     Ok(())
 }
@@ -395,9 +442,9 @@ fn present(idt: &InterruptDescriptorTable, vector: u8) -> Option<bool> {
 fn error_codes(rt: HostRuntime) -> Result<(), Fail> {
     let code = SelectorErrorCode::new(0x1b).ok_or("0x1b")?;
     assert!(rt; code.external() && !code.is_null());
-    assert_eq!(rt; code.descriptor_table(), DescriptorTable::Idt);
-    assert_eq!(rt; code.index(), 3);
-    assert_eq!(rt; SelectorErrorCode::new(0x10000), None);
+    same(&rt, code.descriptor_table(), DescriptorTable::Idt);
+    same(&rt, code.index(), 3);
+    same(&rt, SelectorErrorCode::new(0x10000), None);
     let tables = [
         (0xfff8, DescriptorTable::Gdt),
         (0xfffa, DescriptorTable::Idt),
@@ -406,14 +453,14 @@ fn error_codes(rt: HostRuntime) -> Result<(), Fail> {
     ];
     for (value, table) in tables {
         let code = SelectorErrorCode::new_truncate(0xabcd_0000 + value);
-        assert_eq!(rt; code.descriptor_table(), table);
-        assert_eq!(rt; code.index(), 0x1fff);
+        same(&rt, code.descriptor_table(), table);
+        same(&rt, code.index(), 0x1fff);
         assert!(rt; !code.external());
     }
     assert!(rt; SelectorErrorCode::new_truncate(0x10000).is_null());
-    assert_eq!(rt; PageFaultErrorCode::all().bits(), 0x8000_80ff);
+    same(&rt, PageFaultErrorCode::all().bits(), 0x8000_80ff);
     let write = PageFaultErrorCode::CAUSED_BY_WRITE | PageFaultErrorCode::USER_MODE;
-    assert_eq!(rt; write.bits(), 6);
+    same(&rt, write.bits(), 6);
     Ok(())
 }
 
@@ -447,13 +494,13 @@ const VECTORS: &[(u8, ExceptionVector)] = &[
 #[test]
 fn vectors_by_their_numbers(rt: HostRuntime) {
     for (number, vector) in VECTORS {
-        assert_eq!(rt; number_of_vector(*vector), *number);
-        assert_eq!(rt; ExceptionVector::try_from(*number), Ok(*vector));
+        same(&rt, number_of_vector(*vector), *number);
+        same(&rt, ExceptionVector::try_from(*number), Ok(*vector));
     }
     for number in 0..=255u8 {
         if VECTORS.iter().all(|(known, _)| *known != number) {
             let refused = InvalidExceptionVectorNumber(number);
-            assert_eq!(rt; ExceptionVector::try_from(number), Err(refused));
+            same(&rt, ExceptionVector::try_from(number), Err(refused));
         }
     }
 }
@@ -461,14 +508,14 @@ fn vectors_by_their_numbers(rt: HostRuntime) {
 #[test]
 fn the_text_of_a_number_that_is_no_vector(rt: HostRuntime) -> Result<(), Fail> {
     let text = format!(in rt.alloc(); "{}", InvalidExceptionVectorNumber(9))?;
-    assert_eq!(rt; text.as_str(), "9 is not a valid exception vector");
+    same(&rt, text.as_str(), "9 is not a valid exception vector");
     Ok(())
 }
 
 #[test]
 fn a_frame_is_changed(rt: HostRuntime) {
-    assert_eq!(rt; size_of::<InterruptStackFrame>(), 40);
-    assert_eq!(rt; size_of::<InterruptStackFrameValue>(), 40);
+    same(&rt, size_of::<InterruptStackFrame>(), 40);
+    same(&rt, size_of::<InterruptStackFrameValue>(), 40);
     let mut frame = InterruptStackFrame::new(
         VirtAddr::new(0x1000),
         SegmentSelector(8),
@@ -477,22 +524,30 @@ fn a_frame_is_changed(rt: HostRuntime) {
         SegmentSelector(0x10),
     );
     frame.as_mut().instruction_pointer = VirtAddr::new(0x1002);
-    assert_eq!(rt; frame.value().instruction_pointer, VirtAddr::new(0x1002));
-    assert_eq!(rt; frame.value().stack_segment, SegmentSelector(0x10));
+    same(
+        &rt,
+        frame.value().instruction_pointer,
+        VirtAddr::new(0x1002),
+    );
+    same(&rt, frame.value().stack_segment, SegmentSelector(0x10));
 }
 
 #[test]
 fn encryption_of_a_page(rt: HostRuntime) {
     let encrypted = enable_memory_encryption(MemoryEncryptionConfiguration::EncryptedBit(47));
-    assert_eq!(rt; encrypted.mask, 0x8000_0000_0000);
-    assert_eq!(rt; encrypted.address_mask, 0x000f_7fff_ffff_f000);
+    same(&rt, encrypted.mask, 0x8000_0000_0000);
+    same(&rt, encrypted.address_mask, 0x000f_7fff_ffff_f000);
     let shared = enable_memory_encryption(MemoryEncryptionConfiguration::SharedBit(51));
     let mut flags = PageTableFlags::PRESENT;
     assert!(rt; !encrypted.is_encrypted(&flags) && shared.is_encrypted(&flags));
     encrypted.set_encrypted(&mut flags, true);
     shared.set_encrypted(&mut flags, false);
-    assert_eq!(rt; flags.bits(), 0x0008_8000_0000_0001);
+    same(&rt, flags.bits(), 0x0008_8000_0000_0001);
     assert!(rt; encrypted.is_encrypted(&flags) && !shared.is_encrypted(&flags));
     assert!(rt; !EncryptionBits::none().is_encrypted(&flags));
-    assert_eq!(rt; EncryptionBits::none().address_mask, 0x000f_ffff_ffff_f000);
+    same(
+        &rt,
+        EncryptionBits::none().address_mask,
+        0x000f_ffff_ffff_f000,
+    );
 }
