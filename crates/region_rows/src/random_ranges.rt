@@ -1,6 +1,7 @@
 //! Ranges that come and go as numbers say that look random, beside a plain map of pages.
 ghost use Rattle.std.specs.Prelude.{◌^◌, ◌<◌, ◌≤◌};
 
+use crate::checks::same;
 use heap_model::Rights;
 use mapped_regions::{MapFault, MappedRegions, UnmapFault};
 use std::alloc::Global;
@@ -102,11 +103,12 @@ fn compare(rt: &impl Abort, regions: &MappedRegions, plain: &[u64], frames: u32)
         assert!(rt; found == (owner(plain, page) != 0), "page {page}");
         mapped = mapped.saturating_add(u64::from(found));
     }
-    assert_eq!(rt;
+    same(
+        rt,
         mapped
             .saturating_add(regions.free_frames())
             .saturating_add(regions.tables()),
-        u64::from(frames)
+        u64::from(frames),
     );
 }
 

@@ -4,9 +4,11 @@ ghost use Rattle.std.specs.List.{list_all};
 ghost use Rattle.heap_model.specs.State.{end_of, is_within};
 ghost use Rattle.region_tree.specs.Regions.{AreHeld, IsBoundary};
 
+use crate::checks::same;
 use heap_model::{Region, RegionList, Rights};
 use mapped_regions::{MapFault, MappedRegions, UnmapFault};
 use std::alloc::{AllocError, Global};
+use std::process::Abort;
 use std::test::Fail;
 
 const READ_WRITE: Rights = Rights {
@@ -42,18 +44,31 @@ fn empty(alloc: Global, pages: u64) -> Result<MappedRegions, AllocError>
     MappedRegions::new(alloc, 0x40_0000, pages, 1024)
 }
 
-#[test]
-fn causes_in_their_order(rt: HostRuntime) -> Result<(), Fail> {
-    let alloc = rt.alloc();
-    let mut regions = empty(alloc, 1024)?;
+// Maps pages of the user, and says nothing of them: callers that know less are proved sooner.
+fn map(regions: &mut MappedRegions, start: u64, pages: u64) -> Result<(), MapFault> {
+    regions.map(start, pages, READ_WRITE)
+}
+
+fn unmap(regions: &mut MappedRegions, start: u64, pages: u64) -> Result<(), UnmapFault> {
+    regions.unmap(start, pages)
+}
+
+// The frames that are free, and those that hold tables.
+fn free_and_tables(regions: &MappedRegions) -> (u64, u64) {
+    (regions.free_frames(), regions.tables())
+}
+
+/// Maps and unmaps ranges that are refused, each for the first cause that it has, and some that are not.
+fn answer_in_order(
+    rt: &impl Abort,
+    alloc: Global,
+    regions: &mut MappedRegions,
+) -> Result<(), Fail> {
     let last = 0xffff_ffff_ffff_f000;
-    assert_eq!(rt; grant(&mut regions, 16)?, Some(0x40_0000));
-    assert_eq!(rt; regions.map(last, 1, READ_WRITE), Ok(()));
-    assert_eq!(rt; regions.map(0x4_0000, 4, READ_WRITE), Ok(()));
-    assert_eq!(rt;
-        (regions.free_frames(), regions.tables()),
-        (1024 - 16 - 5 - 8, 8)
-    );
+    same(rt, grant(regions, 16)?, Some(0x40_0000));
+    same(rt, map(regions, last, 1), Ok(()));
+    same(rt, map(regions, 0x4_0000, 4), Ok(()));
+    same(rt, free_and_tables(regions), (1024 - 16 - 5 - 8, 8));
     for (start, pages, answer) in [
         (0x1000, 0, Err(MapFault::BadRange)),
         (0x1001, 1, Err(MapFault::BadRange)),
@@ -68,11 +83,7 @@ fn causes_in_their_order(rt: HostRuntime) -> Result<(), Fail> {
         (0x50_0000, 1024, Err(MapFault::NoFrames)),
         (0x4_4000, 1, Ok(())),
     ] {
-        assert_eq!(rt;
-            regions.map(start, pages, READ_WRITE),
-            answer,
-            "{start:x} {pages}"
-        );
+        assert_eq!(rt; map(regions, start, pages), answer, "{start:x} {pages}");
     }
     for (start, pages, answer) in [
         (0x7000, 0, Err(UnmapFault::BadRange)),
@@ -88,33 +99,37 @@ fn causes_in_their_order(rt: HostRuntime) -> Result<(), Fail> {
         (last, 1, Ok(())),
         (0x4_4000, 1, Ok(())),
     ] {
-        assert_eq!(rt; regions.unmap(start, pages), answer, "{start:x} {pages}");
+        assert_eq!(rt; unmap(regions, start, pages), answer, "{start:x} {pages}");
     }
-    assert_eq!(rt; regions.regions(alloc)?.len(), 1);
-    assert_eq!(rt;
-        (regions.free_frames(), regions.tables()),
-        (1024 - 16 - 8, 8)
-    );
+    same(rt, regions.regions(alloc)?.len(), 1);
+    same(rt, free_and_tables(regions), (1024 - 16 - 8, 8));
+    Ok(())
+}
+
+#[test]
+fn causes_in_their_order(rt: HostRuntime) -> Result<(), Fail> {
+    let mut regions = empty(rt.alloc(), 1024)?;
+    answer_in_order(&rt, rt.alloc(), &mut regions)
+}
+
+/// Grants places to the heap beside a region of the user, and where it was.
+fn grant_beside(rt: &impl Abort, regions: &mut MappedRegions) -> Result<(), Fail> {
+    same(rt, grant(regions, 16)?, Some(0x40_0000));
+    same(rt, map(regions, 0x41_0000, 1), Ok(()));
+    same(rt, grant(regions, 32)?, Some(0x41_1000));
+    same(rt, grant(regions, 16)?, None);
+    same(rt, unmap(regions, 0x41_0000, 1), Ok(()));
+    same(rt, grant(regions, 1)?, Some(0x41_0000));
+    same(rt, grant(regions, 15)?, Some(0x43_1000));
+    same(rt, grant(regions, 1)?, None);
+    same(rt, free_and_tables(regions), (1024 - 64 - 4, 4));
     Ok(())
 }
 
 #[test]
 fn places_beside_regions_of_the_user(rt: HostRuntime) -> Result<(), Fail> {
-    let alloc = rt.alloc();
-    let mut regions = empty(alloc, 64)?;
-    assert_eq!(rt; grant(&mut regions, 16)?, Some(0x40_0000));
-    assert_eq!(rt; regions.map(0x41_0000, 1, READ_WRITE), Ok(()));
-    assert_eq!(rt; grant(&mut regions, 32)?, Some(0x41_1000));
-    assert_eq!(rt; grant(&mut regions, 16)?, None);
-    assert_eq!(rt; regions.unmap(0x41_0000, 1), Ok(()));
-    assert_eq!(rt; grant(&mut regions, 1)?, Some(0x41_0000));
-    assert_eq!(rt; grant(&mut regions, 15)?, Some(0x43_1000));
-    assert_eq!(rt; grant(&mut regions, 1)?, None);
-    assert_eq!(rt;
-        (regions.free_frames(), regions.tables()),
-        (1024 - 64 - 4, 4)
-    );
-    Ok(())
+    let mut regions = empty(rt.alloc(), 64)?;
+    grant_beside(&rt, &mut regions)
 }
 
 /// Whether the region has the first byte of a page.
@@ -186,16 +201,22 @@ fn pages_at(list: &RegionList, index: u64) -> (u64, u64) {
         .map_or((0, 0), |region| (region.start / 4096, region.pages))
 }
 
-#[test]
-fn regions_are_cut_at_their_ends(rt: HostRuntime) -> Result<(), Fail> {
-    let alloc = rt.alloc();
-    let mut regions = empty(alloc, 64)?;
+/// Sees that these regions are listed after a cut from a page on, each by its first page and its pages.
+fn are_listed(rt: &impl Abort, list: &RegionList, page: u32, regions: &[(u64, u64)]) {
+    for (index, want) in regions.iter().enumerate() {
+        let found = pages_at(list, index as u64);
+        assert_eq!(rt; found, *want, "{index} after {page:x}");
+    }
+}
+
+/// Cuts what is left of regions from a page on, in turns.
+fn cut_in_turns(rt: &impl Abort, alloc: Global, regions: &mut MappedRegions) -> Result<(), Fail> {
     // The heap has 0x400 to 0x40f, 0x410 to 0x417 and 0x419 to 0x41c, the user 0x3fe, 0x3ff and 0x418.
-    assert_eq!(rt; regions.map(0x3f_e000, 2, READ_WRITE), Ok(()));
-    assert_eq!(rt; grant(&mut regions, 16)?, Some(0x40_0000));
-    assert_eq!(rt; grant(&mut regions, 8)?, Some(0x41_0000));
-    assert_eq!(rt; regions.map(0x41_8000, 1, READ_WRITE), Ok(()));
-    assert_eq!(rt; grant(&mut regions, 4)?, Some(0x41_9000));
+    same(rt, map(regions, 0x3f_e000, 2), Ok(()));
+    same(rt, grant(regions, 16)?, Some(0x40_0000));
+    same(rt, grant(regions, 8)?, Some(0x41_0000));
+    same(rt, map(regions, 0x41_8000, 1), Ok(()));
+    same(rt, grant(regions, 4)?, Some(0x41_9000));
     for (page, two, cut, free, rest) in [
         (
             0x500,
@@ -234,17 +255,20 @@ fn regions_are_cut_at_their_ends(rt: HostRuntime) -> Result<(), Fail> {
         ),
     ] {
         assert_eq!(rt;
-            cut_from(&mut regions, alloc, page, two)?,
+            cut_from(regions, alloc, page, two)?,
             cut,
             "from {page:x} on"
         );
         let list = regions.regions(alloc)?;
-        for (index, want) in rest.iter().enumerate() {
-            let found = pages_at(&list, index as u64);
-            assert_eq!(rt; found, *want, "{index} after {page:x}");
-        }
-        assert_eq!(rt; (regions.free_frames(), regions.tables()), (free, 5));
+        are_listed(rt, &list, page, &rest);
+        same(rt, free_and_tables(regions), (free, 5));
     }
-    assert_eq!(rt; grant(&mut regions, 24)?, Some(0x40_0000));
+    same(rt, grant(regions, 24)?, Some(0x40_0000));
     Ok(())
+}
+
+#[test]
+fn regions_are_cut_at_their_ends(rt: HostRuntime) -> Result<(), Fail> {
+    let mut regions = empty(rt.alloc(), 64)?;
+    cut_in_turns(&rt, rt.alloc(), &mut regions)
 }

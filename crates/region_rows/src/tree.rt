@@ -1,10 +1,12 @@
 //! Rows whose answers are known, and a tree beside a plain list.
 ghost use Rattle.std.specs.Prelude.{◌≡◌, ◌+◌, ◌*◌, ◌^◌, ◌<◌, ◌≤◌};
 
+use crate::checks::same;
 use heap_model::{Region, RegionList};
 use paging_core::Rights;
 use region_tree::RegionTree;
 use std::alloc::{AllocError, Global};
+use std::process::Abort;
 use std::test::Fail;
 
 /// The number of pages of the address space.
@@ -78,9 +80,8 @@ fn place(tree: &RegionTree, base: u32, pages: u32, n: u64) -> Option<u64> {
     tree.lowest_place(base.into(), pages.into(), n)
 }
 
-#[test]
-fn places_among_regions(rt: HostRuntime) -> Result<(), Fail> {
-    let tree = four_regions(rt.alloc())?;
+/// Looks for places beside the four regions.
+fn look_for_places(rt: &impl Abort, tree: &RegionTree) {
     for (base, pages, n, want) in [
         (1024, 64, 1, Some(1024)),
         (1024, 64, 4, Some(1024)),
@@ -97,15 +98,20 @@ fn places_among_regions(rt: HostRuntime) -> Result<(), Fail> {
         (1081, 19, 1, None),
         (1081, 20, 1, Some(1100)),
     ] {
-        let found = place(&tree, base, pages, n);
+        let found = place(tree, base, pages, n);
         assert_eq!(rt; found, want, "{n} from {base} on");
     }
-    Ok(())
 }
 
 #[test]
-fn regions_that_are_met(rt: HostRuntime) -> Result<(), Fail> {
+fn places_among_regions(rt: HostRuntime) -> Result<(), Fail> {
     let tree = four_regions(rt.alloc())?;
+    look_for_places(&rt, &tree);
+    Ok(())
+}
+
+/// Looks for the lowest of the four regions that pages meet.
+fn look_for_met(rt: &impl Abort, tree: &RegionTree) {
     for (first, pages, any, heap) in [
         (1024u32, 4u32, 0, 0),
         (1024, 5, 1028, 0),
@@ -124,50 +130,67 @@ fn regions_that_are_met(rt: HostRuntime) -> Result<(), Fail> {
         let met = tree.lowest_heap_met(first.into(), pages.into());
         assert_eq!(rt; start_page(met), heap, "{pages} from {first} on");
     }
+}
+
+#[test]
+fn regions_that_are_met(rt: HostRuntime) -> Result<(), Fail> {
+    let tree = four_regions(rt.alloc())?;
+    look_for_met(&rt, &tree);
+    Ok(())
+}
+
+/// Adds and cuts regions at the end of the address space.
+fn change_at_the_end(rt: &impl Abort, alloc: Global, tree: &mut RegionTree) -> Result<(), Fail> {
+    assert!(rt; put(tree, alloc, TOP - 16, 16, false)?);
+    assert!(rt; !put(tree, alloc, TOP - 17, 2, true)?);
+    same(rt, tree.lowest_place(TOP - 32, 32, 16), Some(TOP - 32));
+    same(rt, tree.lowest_place(TOP - 32, 32, 17), None);
+    same(
+        rt,
+        tree.lowest_met(TOP - 1, 1),
+        Some(region(TOP - 16, 16, false)),
+    );
+    tree.cut(TOP - 8, 8);
+    same(rt, tree.lowest_met(TOP - 8, 8), None);
+    same(rt, tree.lowest_place(TOP - 20, 20, 8), Some(TOP - 8));
+    same(
+        rt,
+        listed(tree, alloc)?.get(0).copied(),
+        Some(region(TOP - 16, 8, false)),
+    );
     Ok(())
 }
 
 // A region that ends with the address space ends at 2^64.
 #[test]
 fn the_last_pages(rt: HostRuntime) -> Result<(), Fail> {
-    let alloc = rt.alloc();
     let mut tree = RegionTree::new(1024);
-    assert!(rt; put(&mut tree, alloc, TOP - 16, 16, false)?);
-    assert!(rt; !put(&mut tree, alloc, TOP - 17, 2, true)?);
-    assert_eq!(rt; tree.lowest_place(TOP - 32, 32, 16), Some(TOP - 32));
-    assert_eq!(rt; tree.lowest_place(TOP - 32, 32, 17), None);
-    assert_eq!(rt;
-        tree.lowest_met(TOP - 1, 1),
-        Some(region(TOP - 16, 16, false))
+    change_at_the_end(&rt, rt.alloc(), &mut tree)
+}
+
+/// Removes and cuts some of the four regions.
+fn change_four(rt: &impl Abort, alloc: Global, tree: &mut RegionTree) -> Result<(), Fail> {
+    // No region of this length is there, and then one is.
+    tree.remove(&region(1042, 2, false));
+    same(rt, tree.count(), 4);
+    tree.remove(&region(1042, 1, false));
+    same(rt, tree.count(), 3);
+    // From the middle of one region to the end of the next.
+    tree.cut(1029, 11);
+    same(
+        rt,
+        listed(tree, alloc)?.get(0).copied(),
+        Some(region(1028, 1, false)),
     );
-    tree.cut(TOP - 8, 8);
-    assert_eq!(rt; tree.lowest_met(TOP - 8, 8), None);
-    assert_eq!(rt; tree.lowest_place(TOP - 20, 20, 8), Some(TOP - 8));
-    assert_eq!(rt;
-        listed(&tree, alloc)?.get(0).copied(),
-        Some(region(TOP - 16, 8, false))
-    );
+    same(rt, tree.count(), 2);
+    same(rt, tree.lowest_place(1024, 56, 40), Some(1029));
     Ok(())
 }
 
 #[test]
 fn changes_of_one_region(rt: HostRuntime) -> Result<(), Fail> {
-    let alloc = rt.alloc();
-    let mut tree = four_regions(alloc)?;
-    // No region of this length is there, and then one is.
-    tree.remove(&region(1042, 2, false));
-    assert_eq!(rt; tree.count(), 4);
-    tree.remove(&region(1042, 1, false));
-    assert_eq!(rt; tree.count(), 3);
-    // From the middle of one region to the end of the next.
-    tree.cut(1029, 11);
-    assert_eq!(rt;
-        listed(&tree, alloc)?.get(0).copied(),
-        Some(region(1028, 1, false))
-    );
-    assert_eq!(rt; tree.count(), 2);
-    assert_eq!(rt; tree.lowest_place(1024, 56, 40), Some(1029));
-    Ok(())
+    let mut tree = four_regions(rt.alloc())?;
+    change_four(&rt, rt.alloc(), &mut tree)
 }
 
 /// Pages that a region has, in a plain list.
@@ -239,52 +262,87 @@ fn without_pages(
     Ok(list)
 }
 
-#[test]
-fn a_tree_beside_a_plain_list(rt: HostRuntime) -> Result<(), Fail> {
-    let alloc = rt.alloc();
-    let mut tree = RegionTree::new(1024);
-    let mut spans = Vec::new(alloc);
+/// Changes both as a draw says, unless the tree has a region in the way. Answers the draw's first page.
+fn change_both(
+    rt: &impl Abort,
+    alloc: Global,
+    tree: &mut RegionTree,
+    spans: &mut Vec<Span>,
+    turn: u32,
+    draw: u32,
+) -> Result<u32, Fail> {
+    let first = 1024 + (draw >> 16) % 64;
+    let pages = 1 + (draw >> 22) % 8;
+    let heap = (draw >> 13) % 2 == 0;
+    if (draw >> 28) < 12 {
+        let free = plain_met(spans, first.into(), pages.into(), false) == 0;
+        let added = put(tree, alloc, first.into(), pages.into(), heap)?;
+        assert_eq!(rt; added, free, "turn {turn}");
+        if added {
+            *spans = with_span(alloc, spans, Span { first, pages, heap })?;
+        }
+    } else {
+        tree.cut(first.into(), pages.into());
+        *spans = without_pages(alloc, spans, first, pages)?;
+    }
+    Ok(first)
+}
+
+/// Sees that the tree answers as the plain list does.
+fn compare(
+    rt: &impl Abort,
+    alloc: Global,
+    tree: &RegionTree,
+    spans: &[Span],
+    turn: u32,
+    first: u32,
+) -> Result<(), Fail> {
+    for n in 1..6 {
+        let place = tree.lowest_place(1024, 72, n);
+        assert_eq!(rt;
+            place,
+            plain_place(spans, 1024, 72, n),
+            "turn {turn}, {n} pages"
+        );
+    }
+    let met = tree.lowest_heap_met(first.into(), 20);
+    assert_eq!(rt;
+        start_page(met),
+        plain_met(spans, first.into(), 20, true),
+        "turn {turn}"
+    );
+    let list = listed(tree, alloc)?;
+    assert_eq!(rt; list.len(), spans.len() as u64, "turn {turn}");
+    for (i, span) in spans.iter().enumerate() {
+        let want = region(span.first.into(), span.pages.into(), span.heap);
+        assert_eq!(rt;
+            list.get(i as u64).copied(),
+            Some(want),
+            "turn {turn}, region {i}"
+        );
+    }
+    Ok(())
+}
+
+/// Changes both in turns, and compares them after each.
+fn change_in_turns(
+    rt: &impl Abort,
+    alloc: Global,
+    tree: &mut RegionTree,
+    spans: &mut Vec<Span>,
+) -> Result<(), Fail> {
     let mut draw = 1u32;
     for turn in 0..300 {
         draw = draw.wrapping_mul(1_664_525).wrapping_add(1_013_904_223);
-        let first = 1024 + (draw >> 16) % 64;
-        let pages = 1 + (draw >> 22) % 8;
-        let heap = (draw >> 13) % 2 == 0;
-        if (draw >> 28) < 12 {
-            let free = plain_met(&spans, first.into(), pages.into(), false) == 0;
-            let added = put(&mut tree, alloc, first.into(), pages.into(), heap)?;
-            assert_eq!(rt; added, free, "turn {turn}");
-            if added {
-                spans = with_span(alloc, &spans, Span { first, pages, heap })?;
-            }
-        } else {
-            tree.cut(first.into(), pages.into());
-            spans = without_pages(alloc, &spans, first, pages)?;
-        }
-        for n in 1..6 {
-            let place = tree.lowest_place(1024, 72, n);
-            assert_eq!(rt;
-                place,
-                plain_place(&spans, 1024, 72, n),
-                "turn {turn}, {n} pages"
-            );
-        }
-        let met = tree.lowest_heap_met(first.into(), 20);
-        assert_eq!(rt;
-            start_page(met),
-            plain_met(&spans, first.into(), 20, true),
-            "turn {turn}"
-        );
-        let list = listed(&tree, alloc)?;
-        assert_eq!(rt; list.len(), spans.len() as u64, "turn {turn}");
-        for (i, span) in spans.iter().enumerate() {
-            let want = region(span.first.into(), span.pages.into(), span.heap);
-            assert_eq!(rt;
-                list.get(i as u64).copied(),
-                Some(want),
-                "turn {turn}, region {i}"
-            );
-        }
+        let first = change_both(rt, alloc, tree, spans, turn, draw)?;
+        compare(rt, alloc, tree, spans, turn, first)?;
     }
     Ok(())
+}
+
+#[test]
+fn a_tree_beside_a_plain_list(rt: HostRuntime) -> Result<(), Fail> {
+    let mut tree = RegionTree::new(1024);
+    let mut spans = Vec::new(rt.alloc());
+    change_in_turns(&rt, rt.alloc(), &mut tree, &mut spans)
 }
