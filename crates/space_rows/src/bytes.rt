@@ -1,4 +1,5 @@
 //! Bytes in and out of a space.
+use crate::checks::same;
 use crate::pages::{DATA, READ};
 use address_space::{Space, SpaceFault};
 use bitflags::Flags;
@@ -24,7 +25,7 @@ pub(crate) fn denied(at: u64, code: u64) -> SpaceFault {
 /// Looks that the supervisor reads these bytes.
 pub(crate) fn expect_bytes<R: Abort>(rt: &R, space: &Space, at: u64, expected: &[u8]) {
     match space.load(at, expected.len() as u64, false) {
-        Ok(bytes) => assert_eq!(rt; bytes.as_slice(), expected),
+        Ok(bytes) => same(rt, bytes.as_slice(), expected),
         Err(fault) => panic!(rt; "{fault}"),
     }
 }
@@ -39,7 +40,7 @@ pub(crate) fn expect_no_byte<R: Abort>(
 ) {
     match space.load(at, 1, user) {
         Ok(_) => panic!(rt; "the byte at {at} is read"),
-        Err(fault) => assert_eq!(rt; fault, expected),
+        Err(fault) => same(rt, fault, expected),
     }
 }
 
@@ -47,16 +48,16 @@ pub(crate) fn expect_no_byte<R: Abort>(
 #[test]
 fn bytes_are_kept(rt: HostRuntime) -> Result<(), Fail> {
     let mut space = Space::new(rt.alloc(), 16)?;
-    assert_eq!(rt; space.map_at(0x1000, 2, DATA), Ok(()));
-    assert_eq!(rt; space.store(0x1ffe, &[1, 2, 3, 4], false), Ok(()));
-    assert_eq!(rt; space.protect(0x2000, 1, READ), Ok(()));
+    same(&rt, space.map_at(0x1000, 2, DATA), Ok(()));
+    same(&rt, space.store(0x1ffe, &[1, 2, 3, 4], false), Ok(()));
+    same(&rt, space.protect(0x2000, 1, READ), Ok(()));
     let fault = Err(denied(0x2000, 3));
-    assert_eq!(rt; space.store(0x1fff, &[9, 9], false), fault);
+    same(&rt, space.store(0x1fff, &[9, 9], false), fault);
     expect_bytes(&rt, &space, 0x1ffe, &[1, 2, 3, 4]);
-    assert_eq!(rt; space.free_frames(), 10);
-    assert_eq!(rt; space.unmap(0x2000, 3), Ok(1));
+    same(&rt, space.free_frames(), 10);
+    same(&rt, space.unmap(0x2000, 3), Ok(1));
     expect_no_byte(&rt, &space, 0x2000, false, denied(0x2000, 0));
-    assert_eq!(rt; space.free_frames(), 11);
+    same(&rt, space.free_frames(), 11);
     Ok(())
 }
 
@@ -64,8 +65,8 @@ fn bytes_are_kept(rt: HostRuntime) -> Result<(), Fail> {
 #[test]
 fn stores_are_refused(rt: HostRuntime) -> Result<(), Fail> {
     let mut space = Space::new(rt.alloc(), 8)?;
-    assert_eq!(rt; space.map_at(0x1000, 2, DATA), Ok(()));
-    assert_eq!(rt; space.protect(0x1000, 1, SHARED), Ok(()));
+    same(&rt, space.map_at(0x1000, 2, DATA), Ok(()));
+    same(&rt, space.protect(0x1000, 1, SHARED), Ok(()));
     let bad = SpaceFault::BadRange;
     for (at, user, fault) in [
         (0x1fff, true, denied(0x1fff, 7)),
@@ -77,17 +78,17 @@ fn stores_are_refused(rt: HostRuntime) -> Result<(), Fail> {
         (0x7fff_ffff_ffff, false, bad),
         (0xffff_ffff_ffff_ffff, false, bad),
     ] {
-        assert_eq!(rt; space.store(at, &[1, 2], user), Err(fault));
+        same(&rt, space.store(at, &[1, 2], user), Err(fault));
     }
-    assert_eq!(rt; space.store(1 << 47, &[], false), Ok(()));
-    assert_eq!(rt; space.free_frames(), 2);
+    same(&rt, space.store(1 << 47, &[], false), Ok(()));
+    same(&rt, space.free_frames(), 2);
     Ok(())
 }
 
 #[test]
 fn loads_are_refused(rt: HostRuntime) -> Result<(), Fail> {
     let mut space = Space::new(rt.alloc(), 8)?;
-    assert_eq!(rt; space.map_at(0x1000, 1, DATA), Ok(()));
+    same(&rt, space.map_at(0x1000, 1, DATA), Ok(()));
     for (at, user, fault) in [
         (0x1fff, true, denied(0x1fff, 5)),
         (0x2000, true, denied(0x2000, 4)),

@@ -1,6 +1,7 @@
 //! Copies of pages.
 use crate::bytes::{denied, expect_bytes, expect_no_byte};
-use crate::pages::{DATA, READ, area};
+use crate::checks::same;
+use crate::pages::{DATA, READ, area, expect_areas};
 use address_space::{Space, SpaceFault};
 use paging_core::{Page, VirtAddr, walk};
 use std::test::Fail;
@@ -10,37 +11,35 @@ use std::test::Fail;
 fn pages_are_copied(rt: HostRuntime) -> Result<(), Fail> {
     let alloc = rt.alloc();
     let mut space = Space::new(alloc, 16)?;
-    assert_eq!(rt; space.map_at(0x1000, 2, DATA), Ok(()));
-    assert_eq!(rt; space.store(0x1ffe, &[1, 2, 3, 4], false), Ok(()));
-    assert_eq!(rt; space.protect(0x2000, 1, READ), Ok(()));
-    assert_eq!(rt; space.duplicate(0x1000, 2, 0x5000), Ok(()));
+    same(&rt, space.map_at(0x1000, 2, DATA), Ok(()));
+    same(&rt, space.store(0x1ffe, &[1, 2, 3, 4], false), Ok(()));
+    same(&rt, space.protect(0x2000, 1, READ), Ok(()));
+    same(&rt, space.duplicate(0x1000, 2, 0x5000), Ok(()));
     expect_bytes(&rt, &space, 0x5ffe, &[1, 2, 3, 4]);
-    assert_eq!(rt; space.free_frames(), 8);
+    same(&rt, space.free_frames(), 8);
     for (address, write) in [(0x5000, Some(true)), (0x6000, Some(false)), (0x7000, None)] {
         let page = Page::containing_address(VirtAddr::new_truncate(address));
         let place = walk(space.frames(), space.root(), page);
-        assert_eq!(rt; place.map(|place| place.write), write);
+        same(&rt, place.map(|place| place.write), write);
     }
-    assert_eq!(rt; space.place(0x1000, 0x8000, 2, DATA), Ok(0x3000));
+    same(&rt, space.place(0x1000, 0x8000, 2, DATA), Ok(0x3000));
     let full = Err(SpaceFault::NoRoom);
-    assert_eq!(rt; space.place(0x1000, 0x8000, 2, DATA), full);
-    assert_eq!(rt; space.unmap(0x2000, 3), Ok(3));
+    same(&rt, space.place(0x1000, 0x8000, 2, DATA), full);
+    same(&rt, space.unmap(0x2000, 3), Ok(3));
     expect_no_byte(&rt, &space, 0x2000, false, denied(0x2000, 0));
-    let areas = space.areas(alloc)?;
     let parts = [
         area(0x1000, 1, DATA),
         area(0x5000, 1, DATA),
         area(0x6000, 1, READ),
     ];
-    assert_eq!(rt; areas.as_slice(), parts.as_slice());
-    assert_eq!(rt; space.free_frames(), 9);
-    Ok(())
+    same(&rt, space.free_frames(), 9);
+    expect_areas(&rt, alloc, &space, &parts)
 }
 
 #[test]
 fn copies_are_refused(rt: HostRuntime) -> Result<(), Fail> {
     let mut space = Space::new(rt.alloc(), 8)?;
-    assert_eq!(rt; space.map_at(0x1000, 2, DATA), Ok(()));
+    same(&rt, space.map_at(0x1000, 2, DATA), Ok(()));
     for (from, pages, to, fault) in [
         (0x1000, 0, 0x5000, SpaceFault::BadRange),
         (0x1001, 1, 0x5000, SpaceFault::BadRange),
@@ -49,8 +48,8 @@ fn copies_are_refused(rt: HostRuntime) -> Result<(), Fail> {
         (0x1000, 2, 0x2000, SpaceFault::Overlap),
         (0x1000, 2, 0x4000_0000, SpaceFault::NoFrames),
     ] {
-        assert_eq!(rt; space.duplicate(from, pages, to), Err(fault));
+        same(&rt, space.duplicate(from, pages, to), Err(fault));
     }
-    assert_eq!(rt; space.free_frames(), 2);
+    same(&rt, space.free_frames(), 2);
     Ok(())
 }

@@ -1,6 +1,7 @@
 //! Pages of both canonical halves.
 use crate::bytes::{denied, expect_bytes, expect_no_byte};
-use crate::pages::{DATA, READ, area};
+use crate::checks::same;
+use crate::pages::{DATA, READ, area, expect_areas};
 use address_space::{Space, SpaceFault};
 use std::test::Fail;
 
@@ -21,16 +22,16 @@ fn ranges_stay_in_a_half(rt: HostRuntime) -> Result<(), Fail> {
         (LAST, 2),
         (HIGH, 1 << 36),
     ] {
-        assert_eq!(rt; space.map_at(start, pages, DATA), Err(bad));
-        assert_eq!(rt; space.protect(start, pages, DATA), Err(bad));
-        assert_eq!(rt; space.unmap(start, pages), Err(bad));
-        assert_eq!(rt; space.duplicate(start, pages, 0x1000), Err(bad));
-        assert_eq!(rt; space.duplicate(0x1000, pages, start), Err(bad));
+        same(&rt, space.map_at(start, pages, DATA), Err(bad));
+        same(&rt, space.protect(start, pages, DATA), Err(bad));
+        same(&rt, space.unmap(start, pages), Err(bad));
+        same(&rt, space.duplicate(start, pages, 0x1000), Err(bad));
+        same(&rt, space.duplicate(0x1000, pages, start), Err(bad));
     }
-    assert_eq!(rt; space.place(LOW, HIGH, 1, DATA), Err(bad));
-    assert_eq!(rt; space.store(LOW + 4095, &[1, 2], false), Err(bad));
-    assert_eq!(rt; space.store(LAST + 4095, &[1, 2], false), Err(bad));
-    assert_eq!(rt; space.free_frames(), 7);
+    same(&rt, space.place(LOW, HIGH, 1, DATA), Err(bad));
+    same(&rt, space.store(LOW + 4095, &[1, 2], false), Err(bad));
+    same(&rt, space.store(LAST + 4095, &[1, 2], false), Err(bad));
+    same(&rt, space.free_frames(), 7);
     Ok(())
 }
 
@@ -44,23 +45,26 @@ fn pages_lie_in_both_halves(rt: HostRuntime) -> Result<(), Fail> {
         (HIGH, 2, DATA, 22),
         (LAST, 1, READ, 18),
     ] {
-        assert_eq!(rt; space.map_at(start, pages, rights), Ok(()));
-        assert_eq!(rt; space.free_frames(), free);
+        same(&rt, space.map_at(start, pages, rights), Ok(()));
+        same(&rt, space.free_frames(), free);
     }
-    assert_eq!(rt; space.store(HIGH + 0xffe, &[1, 2, 3, 4], false), Ok(()));
+    same(&rt, space.store(HIGH + 0xffe, &[1, 2, 3, 4], false), Ok(()));
     expect_bytes(&rt, &space, HIGH + 0xffd, &[0, 1, 2, 3, 4, 0]);
     let fault = Err(denied(LAST + 4095, 3));
-    assert_eq!(rt; space.store(LAST + 4095, &[9], false), fault);
+    same(&rt, space.store(LAST + 4095, &[9], false), fault);
     expect_bytes(&rt, &space, LAST + 4095, &[0]);
     expect_no_byte(&rt, &space, LAST - 1, false, denied(LAST - 1, 0));
     let below = LAST - 0x2000;
-    assert_eq!(rt; space.place(below, LAST, 2, DATA), Ok(below));
-    assert_eq!(rt; space.place(below, LAST, 1, DATA), Err(SpaceFault::NoRoom));
-    assert_eq!(rt; space.duplicate(HIGH, 2, 0x1000), Ok(()));
+    same(&rt, space.place(below, LAST, 2, DATA), Ok(below));
+    same(
+        &rt,
+        space.place(below, LAST, 1, DATA),
+        Err(SpaceFault::NoRoom),
+    );
+    same(&rt, space.duplicate(HIGH, 2, 0x1000), Ok(()));
     expect_bytes(&rt, &space, 0x1ffd, &[0, 1, 2, 3, 4, 0]);
-    assert_eq!(rt; space.protect(HIGH, 1, READ), Ok(()));
-    assert_eq!(rt; space.unmap(LAST - 0x1000, 2), Ok(2));
-    let areas = space.areas(alloc)?;
+    same(&rt, space.protect(HIGH, 1, READ), Ok(()));
+    same(&rt, space.unmap(LAST - 0x1000, 2), Ok(2));
     let parts = [
         area(0x1000, 2, DATA),
         area(LOW, 1, DATA),
@@ -68,7 +72,6 @@ fn pages_lie_in_both_halves(rt: HostRuntime) -> Result<(), Fail> {
         area(HIGH + 0x1000, 1, DATA),
         area(below, 1, DATA),
     ];
-    assert_eq!(rt; areas.as_slice(), parts.as_slice());
-    assert_eq!(rt; space.free_frames(), 13);
-    Ok(())
+    same(&rt, space.free_frames(), 13);
+    expect_areas(&rt, alloc, &space, &parts)
 }

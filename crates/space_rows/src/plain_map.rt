@@ -1,6 +1,7 @@
 //! A space beside a plain map of pages, over many calls.
 ghost use Rattle.std.specs.Prelude.{◌<◌};
 
+use crate::checks::same;
 use address_space::{Area, Space, SpaceFault};
 use bitflags::Flags;
 use paging_core::Rights;
@@ -114,10 +115,10 @@ fn hole(plain: &Plain, pages: Pages) -> Option<SpaceFault> {
 fn map_both<R: Abort>(rt: &R, space: &mut Space, plain: &mut Plain, pages: Pages, rights: Rights) {
     let answer = space.map_at(pages.start(), pages.count, rights);
     if mapped(plain, pages) > 0 {
-        assert_eq!(rt; answer, Err(SpaceFault::Overlap));
+        same(rt, answer, Err(SpaceFault::Overlap));
         return;
     }
-    assert_eq!(rt; answer, Ok(()));
+    same(rt, answer, Ok(()));
     for step in 0..pages.count {
         plain.set_rights(pages.page(step), Some(rights));
         plain.clear(pages.page(step));
@@ -126,7 +127,7 @@ fn map_both<R: Abort>(rt: &R, space: &mut Space, plain: &mut Plain, pages: Pages
 
 fn unmap_both<R: Abort>(rt: &R, space: &mut Space, plain: &mut Plain, pages: Pages) {
     let answer = space.unmap(pages.start(), pages.count);
-    assert_eq!(rt; answer, Ok(mapped(plain, pages)));
+    same(rt, answer, Ok(mapped(plain, pages)));
     for step in 0..pages.count {
         plain.set_rights(pages.page(step), None);
     }
@@ -141,10 +142,10 @@ fn protect_both<R: Abort>(
 ) {
     let answer = space.protect(pages.start(), pages.count, rights);
     if let Some(fault) = hole(plain, pages) {
-        assert_eq!(rt; answer, Err(fault));
+        same(rt, answer, Err(fault));
         return;
     }
-    assert_eq!(rt; answer, Ok(()));
+    same(rt, answer, Ok(()));
     for step in 0..pages.count {
         plain.set_rights(pages.page(step), Some(rights));
     }
@@ -173,10 +174,10 @@ fn place_both<R: Abort>(
 ) {
     let answer = space.place(pages.start(), PAGES * 4096, pages.count, rights);
     let Some(place) = lowest_place(plain, pages) else {
-        assert_eq!(rt; answer, Err(SpaceFault::NoRoom));
+        same(rt, answer, Err(SpaceFault::NoRoom));
         return;
     };
-    assert_eq!(rt; answer, Ok(place.start()));
+    same(rt, answer, Ok(place.start()));
     for step in 0..place.count {
         plain.set_rights(place.page(step), Some(rights));
         plain.clear(place.page(step));
@@ -192,14 +193,14 @@ fn duplicate_both<R: Abort>(
 ) {
     let answer = space.duplicate(source.start(), source.count, target.start());
     if let Some(fault) = hole(plain, source) {
-        assert_eq!(rt; answer, Err(fault));
+        same(rt, answer, Err(fault));
         return;
     }
     if mapped(plain, target) > 0 {
-        assert_eq!(rt; answer, Err(SpaceFault::Overlap));
+        same(rt, answer, Err(SpaceFault::Overlap));
         return;
     }
-    assert_eq!(rt; answer, Ok(()));
+    same(rt, answer, Ok(()));
     for step in 0..source.count {
         plain.set_rights(target.page(step), plain.rights_of(source.page(step)));
         plain.copy(source.page(step), target.page(step));
@@ -280,10 +281,10 @@ fn store_both<R: Abort>(
 ) {
     let answer = space.store(access.at, bytes, access.user);
     if let Some(fault) = refusal(plain, access) {
-        assert_eq!(rt; answer, Err(fault));
+        same(rt, answer, Err(fault));
         return;
     }
-    assert_eq!(rt; answer, Ok(()));
+    same(rt, answer, Ok(()));
     for (step, byte) in bytes.iter().enumerate() {
         plain.set_byte(access.at.wrapping_add(step as u64), *byte);
     }
@@ -292,13 +293,13 @@ fn store_both<R: Abort>(
 fn load_both<R: Abort>(rt: &R, space: &Space, plain: &Plain, access: Access) {
     match space.load(access.at, access.count, access.user) {
         Ok(bytes) => {
-            assert_eq!(rt; refusal(plain, access), None);
-            assert_eq!(rt; bytes.len(), access.count);
+            same(rt, refusal(plain, access), None);
+            same(rt, bytes.len(), access.count);
             for (step, byte) in bytes.as_slice().iter().enumerate() {
-                assert_eq!(rt; plain.byte(access.at.wrapping_add(step as u64)), *byte);
+                same(rt, plain.byte(access.at.wrapping_add(step as u64)), *byte);
             }
         }
-        Err(fault) => assert_eq!(rt; refusal(plain, access), Some(fault)),
+        Err(fault) => same(rt, refusal(plain, access), Some(fault)),
     }
 }
 
@@ -370,23 +371,38 @@ fn turn<R: Abort>(
     Ok(())
 }
 
-#[test]
-fn calls_do_what_a_plain_map_does(rt: HostRuntime) -> Result<(), Fail> {
-    let alloc = rt.alloc();
-    let mut space = Space::new(alloc, 64)?;
-    let mut plain = Plain::new(alloc)?;
+/// Looks that both have the same areas, and that all frames are counted.
+fn compare(rt: &impl Abort, alloc: Global, space: &Space, plain: &Plain) -> Result<(), Fail> {
     let all = Pages {
         first: 0,
         count: PAGES,
     };
-    assert_eq!(rt; space.map_at(0, 1, drawn_rights(&mut 1)), Ok(()));
-    assert_eq!(rt; space.unmap(0, 1), Ok(1));
+    same(
+        rt,
+        space.free_frames().wrapping_add(mapped(plain, all)),
+        FREE,
+    );
+    let areas = space.areas(alloc)?;
+    let wanted = plain_areas(plain, alloc)?;
+    same(rt, areas.as_slice(), wanted.as_slice());
+    Ok(())
+}
+
+/// Makes many calls on both, and compares them after each.
+fn turns(rt: &impl Abort, alloc: Global, space: &mut Space, plain: &mut Plain) -> Result<(), Fail> {
+    same(rt, space.map_at(0, 1, drawn_rights(&mut 1)), Ok(()));
+    same(rt, space.unmap(0, 1), Ok(1));
     let mut state = 7;
     for _ in 0..3000 {
-        turn(&rt, alloc, &mut space, &mut plain, &mut state)?;
-        assert_eq!(rt; space.free_frames().wrapping_add(mapped(&plain, all)), FREE);
-        let areas = space.areas(alloc)?;
-        assert_eq!(rt; areas.as_slice(), plain_areas(&plain, alloc)?.as_slice());
+        turn(rt, alloc, space, plain, &mut state)?;
+        compare(rt, alloc, space, plain)?;
     }
     Ok(())
+}
+
+#[test]
+fn calls_do_what_a_plain_map_does(rt: HostRuntime) -> Result<(), Fail> {
+    let mut space = Space::new(rt.alloc(), 64)?;
+    let mut plain = Plain::new(rt.alloc())?;
+    turns(&rt, rt.alloc(), &mut space, &mut plain)
 }

@@ -1,6 +1,7 @@
 //! Want of memory. A run in which one allocation fails shows that the call changes nothing, and that it is served when
 //! it is made again; in a run with ample memory each call is served at once.
 use crate::bytes::expect_bytes;
+use crate::checks::same;
 use crate::pages::{DATA, READ, area};
 use address_space::{Space, SpaceFault};
 use std::process::Abort;
@@ -14,7 +15,7 @@ fn wants_memory<R: Abort>(
     after: u64,
 ) -> bool {
     if answer == Err(SpaceFault::OutOfMemory) {
-        assert_eq!(rt; after, before);
+        same(rt, after, before);
         return true;
     }
     assert!(rt; answer.is_ok());
@@ -57,7 +58,7 @@ fn a_call_that_wants_memory_is_made_again(rt: HostRuntime) -> Result<(), Fail> {
         Ok(areas) => areas,
         Err(_) => space.areas(alloc)?,
     };
-    assert_eq!(rt; areas.as_slice(), parts.as_slice());
-    assert_eq!(rt; space.free_frames(), 19);
+    same(&rt, areas.as_slice(), parts.as_slice());
+    same(&rt, space.free_frames(), 19);
     Ok(())
 }
