@@ -59,6 +59,3 @@ pub use public_list::PublicList;
 
 /// Bytes, as a list.
 pub type Bytes = PublicList<u8>;
-
-#[cfg(test)]
-mod tests;

@@ -1,6 +1,6 @@
 use lib.Count.{ones}
 use Rattle.std.proofs.Common.{refl}
-use Rattle.object_pool.proofs.tests.pool_over.Goals as goal
+use Rattle.pool_rows.proofs.pool.pool_over.Goals as goal
 
 -- 4096 is a power of two
 pub new-requires : goal.new-requires

@@ -1,8 +1,9 @@
 ghost use Rattle.std.specs.Prelude.{◌≡◌, ◌<◌, ◌≤◌, IfOk, OnOk, length};
 
-use crate::{GrantFault, Key, Pool, PoolFault};
+use crate::checks::same;
 use dlmalloc::Dlmalloc;
 use heap_memory::{FlatStep, FlatSystem};
+use object_pool::{GrantFault, Key, Pool, PoolFault};
 use std::alloc::{AllocError, Global};
 use std::process::Abort;
 use std::test::Fail;
@@ -53,7 +54,7 @@ fn expect_object<R: Abort>(
 ) -> Result<(), AllocError> {
     match pool.get(key)? {
         Some(found) => match object {
-            Some(bytes) => assert_eq!(rt; found.as_slice(), bytes),
+            Some(bytes) => same(rt, found.as_slice(), bytes),
             None => panic!(rt; "an object where there is none"),
         },
         None => assert!(rt; object.is_none()),
@@ -68,26 +69,44 @@ fn key(index: u32, generation: u32) -> Key
     Key { index, generation }
 }
 
-#[test]
-fn a_slot_is_used_again(rt: HostRuntime) -> Result<(), Fail> {
-    let mut pool = pool_of(rt.alloc(), 65536, 65536, 24)?;
+/// Sees that a key has an object of these bytes.
+fn expect_bytes<R: Abort>(
+    rt: &R,
+    pool: &Pool<FlatSystem>,
+    key: Key,
+    bytes: &[u8],
+) -> Result<(), AllocError> {
+    expect_object(rt, pool, key, Some(bytes))
+}
+
+/// Inserts, removes and sets objects of 24 bytes.
+fn use_slots_again<R: Abort>(rt: &R, pool: &mut Pool<FlatSystem>) -> Result<(), AllocError>
+    requires { pool.old.size ≡ 24 }
+{
     let (a, b, c) = ([1u8; 24], [2u8; 24], [3u8; 24]);
-    assert_eq!(rt; pool.insert(&a), Ok(key(0, 0)));
-    assert_eq!(rt; pool.insert(&b), Ok(key(1, 0)));
+    same(rt, pool.insert(&a), Ok(key(0, 0)));
+    same(rt, pool.insert(&b), Ok(key(1, 0)));
     assert!(rt; pool.remove(key(0, 0)));
-    assert_eq!(rt; pool.insert(&c), Ok(key(0, 1)));
-    expect_object(&rt, &pool, key(0, 0), None)?;
-    expect_object(&rt, &pool, key(0, 1), Some(&c))?;
-    expect_object(&rt, &pool, key(1, 0), Some(&b))?;
+    same(rt, pool.insert(&c), Ok(key(0, 1)));
+    expect_object(rt, pool, key(0, 0), None)?;
+    expect_bytes(rt, pool, key(0, 1), &c)?;
+    expect_bytes(rt, pool, key(1, 0), &b)?;
     assert!(rt; !pool.set(key(0, 0), &a));
     assert!(rt; !pool.remove(key(0, 0)));
     assert!(rt; pool.set(key(1, 0), &a));
-    expect_object(&rt, &pool, key(1, 0), Some(&a))?;
-    expect_object(&rt, &pool, key(0, 1), Some(&c))?;
-    assert_eq!(rt; pool.len(), 2);
-    assert_eq!(rt; pool.slabs(), 1);
-    assert_eq!(rt; pool.heap().granularity(), 65536);
-    assert_eq!(rt; pool.finish().granularity(), 65536);
+    expect_bytes(rt, pool, key(1, 0), &a)?;
+    expect_bytes(rt, pool, key(0, 1), &c)?;
+    same(rt, pool.len(), 2);
+    same(rt, pool.slabs(), 1);
+    same(rt, pool.heap().granularity(), 65536);
+    Ok(())
+}
+
+#[test]
+fn a_slot_is_used_again(rt: HostRuntime) -> Result<(), Fail> {
+    let mut pool = pool_of(rt.alloc(), 65536, 65536, 24)?;
+    use_slots_again(&rt, &mut pool)?;
+    same(&rt, pool.finish().granularity(), 65536);
     Ok(())
 }
 
@@ -97,7 +116,7 @@ fn insert_all<R: Abort>(rt: &R, pool: &mut Pool<FlatSystem>, count: u32, object:
     ensures { pool.new.size ≡ pool.old.size }
 {
     for index in 0..count {
-        assert_eq!(rt; pool.insert(object), Ok(key(index, 0)));
+        same(rt, pool.insert(object), Ok(key(index, 0)));
     }
 }
 
@@ -106,19 +125,21 @@ fn a_heap_without_room_is_told(rt: HostRuntime) -> Result<(), Fail> {
     let mut pool = pool_of(rt.alloc(), 4096, 4096, 24)?;
     let object = [7u8; 24];
     insert_all(&rt, &mut pool, 128, &object);
-    assert_eq!(rt;
+    same(
+        &rt,
         pool.insert(&object),
-        Err(PoolFault::Heap(GrantFault::NoSpace))
+        Err(PoolFault::Heap(GrantFault::NoSpace)),
     );
-    assert_eq!(rt; pool.slabs(), 2);
+    same(&rt, pool.slabs(), 2);
     assert!(rt; pool.remove(key(77, 0)));
-    assert_eq!(rt; pool.insert(&object), Ok(key(77, 1)));
-    assert_eq!(rt;
+    same(&rt, pool.insert(&object), Ok(key(77, 1)));
+    same(
+        &rt,
         pool.insert(&object),
-        Err(PoolFault::Heap(GrantFault::NoSpace))
+        Err(PoolFault::Heap(GrantFault::NoSpace)),
     );
-    assert_eq!(rt; pool.len(), 128);
-    assert_eq!(rt; pool.slabs(), 2);
+    same(&rt, pool.len(), 128);
+    same(&rt, pool.slabs(), 2);
     Ok(())
 }
 
@@ -126,9 +147,9 @@ fn a_heap_without_room_is_told(rt: HostRuntime) -> Result<(), Fail> {
 fn expect_keys<R: Abort>(rt: &R, pool: &Pool<FlatSystem>, keys: &[Key]) {
     let mut found = pool.keys();
     for key in keys {
-        assert_eq!(rt; found.next(), Some(*key));
+        same(rt, found.next(), Some(*key));
     }
-    assert_eq!(rt; found.next(), None);
+    same(rt, found.next(), None);
 }
 
 /// Sees that no call knows these keys, and that none of them removes an object.
@@ -146,22 +167,23 @@ fn expect_unknown<R: Abort>(
         expect_object(rt, pool, *key, None)?;
         assert!(rt; !pool.set(*key, object));
         assert!(rt; !pool.remove(*key));
-        assert_eq!(rt; pool.len(), many);
+        same(rt, pool.len(), many);
     }
     Ok(())
 }
 
-#[test]
-fn keys_without_an_object_are_refused(rt: HostRuntime) -> Result<(), Fail> {
-    let mut pool = pool_of(rt.alloc(), 65536, 65536, 24)?;
+/// Makes keys of all kinds that have no object of 24 bytes, and sees that no call knows them.
+fn refuse_keys<R: Abort>(rt: &R, pool: &mut Pool<FlatSystem>) -> Result<(), AllocError>
+    requires { pool.old.size ≡ 24 }
+{
     let (a, b) = ([1u8; 24], [2u8; 24]);
-    expect_keys(&rt, &pool, &[]);
-    insert_all(&rt, &mut pool, 4, &a);
-    expect_keys(&rt, &pool, &[key(0, 0), key(1, 0), key(2, 0), key(3, 0)]);
+    expect_keys(rt, pool, &[]);
+    insert_all(rt, pool, 4, &a);
+    expect_keys(rt, pool, &[key(0, 0), key(1, 0), key(2, 0), key(3, 0)]);
     assert!(rt; pool.remove(key(0, 0)));
     assert!(rt; pool.remove(key(3, 0)));
     assert!(rt; pool.remove(key(1, 0)));
-    assert_eq!(rt; pool.insert(&b), Ok(key(1, 1)));
+    same(rt, pool.insert(&b), Ok(key(1, 1)));
     let unknown = [
         key(0, 0), // removed; its slot is free
         key(1, 0), // removed; its slot has another object
@@ -175,10 +197,17 @@ fn keys_without_an_object_are_refused(rt: HostRuntime) -> Result<(), Fail> {
         key(1, u32::MAX),
         key(u32::MAX, u32::MAX),
     ];
-    expect_unknown(&rt, &mut pool, &unknown, &a)?;
-    expect_keys(&rt, &pool, &[key(1, 1), key(2, 0)]);
-    expect_object(&rt, &pool, key(1, 1), Some(&b))?;
-    expect_object(&rt, &pool, key(2, 0), Some(&a))?;
+    expect_unknown(rt, pool, &unknown, &a)?;
+    expect_keys(rt, pool, &[key(1, 1), key(2, 0)]);
+    expect_object(rt, pool, key(1, 1), Some(&b))?;
+    expect_object(rt, pool, key(2, 0), Some(&a))?;
+    Ok(())
+}
+
+#[test]
+fn keys_without_an_object_are_refused(rt: HostRuntime) -> Result<(), Fail> {
+    let mut pool = pool_of(rt.alloc(), 65536, 65536, 24)?;
+    refuse_keys(&rt, &mut pool)?;
     Ok(())
 }
 
@@ -198,13 +227,13 @@ fn denying(alloc: Global, fault: GrantFault) -> Result<Vec<FlatStep>, AllocError
 fn expect_fault<R: Abort>(rt: &R, alloc: Global, fault: GrantFault) -> Result<(), AllocError> {
     let mut pool = pool_over(alloc, denying(alloc, fault)?, 65536, 24)?;
     let object = [9u8; 24];
-    assert_eq!(rt; pool.insert(&object), Err(PoolFault::Heap(fault)));
-    assert_eq!(rt; pool.len(), 0);
-    assert_eq!(rt; pool.slabs(), 0);
+    same(rt, pool.insert(&object), Err(PoolFault::Heap(fault)));
+    same(rt, pool.len(), 0);
+    same(rt, pool.slabs(), 0);
     expect_keys(rt, &pool, &[]);
-    assert_eq!(rt; pool.insert(&object), Ok(key(0, 0)));
+    same(rt, pool.insert(&object), Ok(key(0, 0)));
     expect_object(rt, &pool, key(0, 0), Some(&object))?;
-    assert_eq!(rt; pool.slabs(), 1);
+    same(rt, pool.slabs(), 1);
     Ok(())
 }
 
@@ -282,7 +311,7 @@ fn turn<R: Abort>(
         assert!(rt; !pool.set(key, &object));
         assert!(rt; !pool.remove(key));
     }
-    assert_eq!(rt; pool.len(), plain.live.len() as u64);
+    same(rt, pool.len(), plain.live.len() as u64);
     Ok(())
 }
 
@@ -326,7 +355,7 @@ fn keys_are_those<R: Abort>(rt: &R, pool: &Pool<FlatSystem>, plain: &Plain) {
         least = key.index.saturating_add(1);
         count = count.saturating_add(1);
     }
-    assert_eq!(rt; count, plain.live.len());
+    same(rt, count, plain.live.len());
 }
 
 #[test]
@@ -351,7 +380,7 @@ fn faults_have_texts(rt: HostRuntime) -> Result<(), Fail> {
         (PoolFault::OutOfMemory, "out of memory"),
     ];
     for (fault, text) in table.iter() {
-        assert_eq!(rt; format!(in rt.alloc(); "{fault}")?.as_str(), *text);
+        same(&rt, format!(in rt.alloc(); "{fault}")?.as_str(), *text);
     }
     Ok(())
 }
