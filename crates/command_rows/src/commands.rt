@@ -1,6 +1,9 @@
 // The words of the program: configurations, and commands that are refused.
+use crate::checks::{expect_row, same};
 use heap_program::{MemorySink, MemorySource, SureSink, heap_main, status_text};
 use program_runs::{Row, outcome, strings};
+use std::alloc::Global;
+use std::process::Abort;
 use std::test::Fail;
 
 /// What a command prints for an input. Each run ends with status 0.
@@ -115,14 +118,7 @@ const COMMANDS: [Command; 12] = [
 #[test]
 fn commands_have_configurations(rt: HostRuntime) -> Result<(), Fail> {
     for command in &COMMANDS {
-        let (ended, sink) = outcome(rt.alloc(), command.words, command.row.input.as_bytes())?;
-        assert_eq!(rt; ended.status, 0);
-        assert_eq!(rt;
-            sink.written(),
-            command.row.output.as_bytes(),
-            "for {}",
-            command.row.input
-        );
+        expect_row(&rt, rt.alloc(), command.words, &command.row)?;
     }
     Ok(())
 }
@@ -180,18 +176,23 @@ const REFUSED: [(&'static [&'static str], u8); 28] = [
     (&["gen", "1", "1", "0x400000", "1", "16", "0", "0"], 4),
 ];
 
+/// Looks that the words end with a status, over a source and a sink whose first calls fail, and that nothing comes of them.
+fn expect_refusal(rt: &impl Abort, alloc: Global, words: &[&str], status: u8) -> Result<(), Fail> {
+    let words = strings(alloc, words)?;
+    let input = b"malloc 24\n".to_vec(alloc)?;
+    let mut source = MemorySource::new(input, 4096, vec![in alloc; 0; 1]?);
+    let mut sink = MemorySink::new(alloc, 4096, vec![in alloc; 0; 1]?);
+    let ended = heap_main(alloc, &words, &mut source, &mut sink);
+    same(rt, ended.status, status);
+    assert!(rt; ended.machine.is_none());
+    assert!(rt; sink.written().is_empty());
+    Ok(())
+}
+
 #[test]
 fn refused_words_touch_nothing(rt: HostRuntime) -> Result<(), Fail> {
     for (words, status) in REFUSED {
-        let words = strings(rt.alloc(), words)?;
-        // The first read fails, and so does the first write.
-        let input = b"malloc 24\n".to_vec(rt.alloc())?;
-        let mut source = MemorySource::new(input, 4096, vec![in rt.alloc(); 0; 1]?);
-        let mut sink = MemorySink::new(rt.alloc(), 4096, vec![in rt.alloc(); 0; 1]?);
-        let ended = heap_main(rt.alloc(), &words, &mut source, &mut sink);
-        assert_eq!(rt; ended.status, status);
-        assert!(rt; ended.machine.is_none());
-        assert!(rt; sink.written().is_empty());
+        expect_refusal(&rt, rt.alloc(), words, status)?;
     }
     Ok(())
 }
@@ -228,20 +229,26 @@ const DRAWN: [(&'static [&'static str], &'static str); 3] = [
     ),
 ];
 
+/// Looks that the words print this, over a source whose first read fails.
+fn expect_drawing(
+    rt: &impl Abort,
+    alloc: Global,
+    words: &[&str],
+    output: &str,
+) -> Result<(), Fail> {
+    let mut source = MemorySource::new(Vec::new(alloc), 4096, vec![in alloc; 0; 1]?);
+    let mut sink = SureSink::new(alloc);
+    let ended = heap_main(alloc, &strings(alloc, words)?, &mut source, &mut sink);
+    same(rt, ended.status, 0);
+    same(rt, sink.written(), output.as_bytes());
+    assert!(rt; ended.answers.is_some());
+    Ok(())
+}
+
 #[test]
 fn drawings_are_printed(rt: HostRuntime) -> Result<(), Fail> {
     for (words, output) in DRAWN {
-        let mut source = MemorySource::new(Vec::new(rt.alloc()), 4096, vec![in rt.alloc(); 0; 1]?);
-        let mut sink = SureSink::new(rt.alloc());
-        let ended = heap_main(
-            rt.alloc(),
-            &strings(rt.alloc(), words)?,
-            &mut source,
-            &mut sink,
-        );
-        assert_eq!(rt; ended.status, 0);
-        assert_eq!(rt; sink.written(), output.as_bytes());
-        assert!(rt; ended.answers.is_some());
+        expect_drawing(&rt, rt.alloc(), words, output)?;
     }
     Ok(())
 }
@@ -250,9 +257,8 @@ fn drawings_are_printed(rt: HostRuntime) -> Result<(), Fail> {
 fn the_same_seed_draws_the_same(rt: HostRuntime) -> Result<(), Fail> {
     let (first, sink) = outcome(rt.alloc(), &["gen", "7", "1000"], b"")?;
     let (second, other) = outcome(rt.alloc(), &["gen", "7", "1000"], b"")?;
-    assert_eq!(rt; first.status, 0);
-    assert_eq!(rt; second.status, 0);
-    assert_eq!(rt; sink.written(), other.written());
+    same(&rt, (first.status, second.status), (0, 0));
+    same(&rt, sink.written(), other.written());
     assert!(rt; sink.written().starts_with(b"calls 1000 blocks ".as_slice()));
     Ok(())
 }

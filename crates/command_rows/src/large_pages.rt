@@ -1,6 +1,7 @@
 //! Slots of 2 MiB that one entry maps, as large pages: when they come, how they leave, and how they are cut.
+use crate::checks::expect_row;
 use crate::commands::Command;
-use program_runs::{Row, outcome};
+use program_runs::Row;
 use std::test::Fail;
 
 /// A window of 4 MiB, and frames in which there are three free runs for large pages.
@@ -131,14 +132,7 @@ const RUNS: [Command; 15] = [
 #[test]
 fn large_pages_come_and_go(rt: HostRuntime) -> Result<(), Fail> {
     for run in &RUNS {
-        let (ended, sink) = outcome(rt.alloc(), run.words, run.row.input.as_bytes())?;
-        assert_eq!(rt;
-            sink.written(),
-            run.row.output.as_bytes(),
-            "for {}",
-            run.row.input
-        );
-        assert_eq!(rt; ended.status, 0);
+        expect_row(&rt, rt.alloc(), run.words, &run.row)?;
     }
     Ok(())
 }

@@ -1,5 +1,6 @@
 //! Probes of the heap's pages and of pages that are not mapped.
-use program_runs::{Row, outcome};
+use crate::checks::expect_row;
+use program_runs::Row;
 use std::test::Fail;
 
 const ROWS: [Row; 4] = [
@@ -29,9 +30,7 @@ const ROWS: [Row; 4] = [
 #[test]
 fn probes_are_answered(rt: HostRuntime) -> Result<(), Fail> {
     for row in &ROWS {
-        let (ended, sink) = outcome(rt.alloc(), &["run"], row.input.as_bytes())?;
-        assert_eq!(rt; sink.written(), row.output.as_bytes(), "for {}", row.input);
-        assert_eq!(rt; ended.status, 0);
+        expect_row(&rt, rt.alloc(), &["run"], row)?;
     }
     Ok(())
 }

@@ -1,5 +1,6 @@
 //! Requests at alignments, for cleared bytes, and for other sizes.
-use program_runs::{Row, outcome};
+use crate::checks::expect_row;
+use program_runs::Row;
 use std::test::Fail;
 
 const ROWS: [Row; 11] = [
@@ -63,9 +64,7 @@ const ROWS: [Row; 11] = [
 #[test]
 fn requests_are_served(rt: HostRuntime) -> Result<(), Fail> {
     for row in &ROWS {
-        let (ended, sink) = outcome(rt.alloc(), &["run"], row.input.as_bytes())?;
-        assert_eq!(rt; sink.written(), row.output.as_bytes(), "for {}", row.input);
-        assert_eq!(rt; ended.status, 0);
+        expect_row(&rt, rt.alloc(), &["run"], row)?;
     }
     Ok(())
 }

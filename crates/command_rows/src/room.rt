@@ -1,6 +1,7 @@
 //! Requests that the heap serves though the system could not, those that it refuses for want of room, and what refusals leave.
+use crate::checks::expect_row;
 use crate::commands::Command;
-use program_runs::{Row, outcome};
+use program_runs::Row;
 use std::test::Fail;
 
 /// A window of 24 pages, which are granted one by one.
@@ -44,14 +45,7 @@ const RUNS: [Command; 4] = [
 #[test]
 fn room_is_used_before_it_is_wanting(rt: HostRuntime) -> Result<(), Fail> {
     for run in &RUNS {
-        let (ended, sink) = outcome(rt.alloc(), run.words, run.row.input.as_bytes())?;
-        assert_eq!(rt;
-            sink.written(),
-            run.row.output.as_bytes(),
-            "for {}",
-            run.row.input
-        );
-        assert_eq!(rt; ended.status, 0);
+        expect_row(&rt, rt.alloc(), run.words, &run.row)?;
     }
     Ok(())
 }

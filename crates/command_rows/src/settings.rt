@@ -1,6 +1,7 @@
 //! Memory that goes back, the settings of the heap, and a heap that begins anew.
+use crate::checks::expect_row;
 use crate::commands::Command;
-use program_runs::{Row, outcome};
+use program_runs::Row;
 use std::test::Fail;
 
 /// Pages are granted one by one.
@@ -124,14 +125,7 @@ const RUNS: [Command; 14] = [
 #[test]
 fn memory_goes_back_and_settings_hold(rt: HostRuntime) -> Result<(), Fail> {
     for run in &RUNS {
-        let (ended, sink) = outcome(rt.alloc(), run.words, run.row.input.as_bytes())?;
-        assert_eq!(rt;
-            sink.written(),
-            run.row.output.as_bytes(),
-            "for {}",
-            run.row.input
-        );
-        assert_eq!(rt; ended.status, 0);
+        expect_row(&rt, rt.alloc(), run.words, &run.row)?;
     }
     Ok(())
 }
