@@ -4,6 +4,7 @@ ghost use Rattle.paging_core.specs.Pool.{FreeBelow};
 ghost use Rattle.paging_core.specs.Tree.{IsTree};
 ghost use Rattle.paging_core.specs.Walk.{reach, walk_of};
 
+use crate::checks::same;
 use paging_core::*;
 use std::alloc::Global;
 use std::process::Abort;
@@ -90,11 +91,11 @@ fn walk_over(rt: &impl Abort, alloc: Global, count: u32) -> Result<(), Fail>
         (0x100_0000, None),
     ];
     for (address, to) in walks {
-        assert_eq!(rt; found(rt, &frames, root, address), to);
+        same(rt, found(rt, &frames, root, address), to);
     }
     // A slot with a large page counts as one that misses its table.
-    assert_eq!(rt; missing_tables(&frames, root, 0x800, 512), 1);
-    assert_eq!(rt; missing_tables(&frames, root, 0xe00, 512), 0);
+    same(rt, missing_tables(&frames, root, 0x800, 512), 1);
+    same(rt, missing_tables(&frames, root, 0xe00, 512), 0);
     Ok(())
 }
 
@@ -110,7 +111,7 @@ fn walk_past(rt: &impl Abort, alloc: Global, count: u32) -> Result<(), Fail>
     let mut frames = Frames::new(alloc, count)?;
     let root = PhysFrame::containing_address(PhysAddr::new(0));
     write_entries(&mut frames);
-    assert_eq!(rt; found(rt, &frames, root, 0x80_0000), None);
+    same(rt, found(rt, &frames, root, 0x80_0000), None);
     Ok(())
 }
 
@@ -131,12 +132,12 @@ fn change_slots(rt: &impl Abort, frames: &mut Frames, pool: &mut FramePool, root
     let free = pool.free_count();
     assert!(rt; 514 <= free);
     let slot = Page::<Size2MiB>::containing_address(VirtAddr::new(0x80_0000));
-    assert_eq!(rt; missing_tables(frames, root, 0x800, 512), 3);
+    same(rt, missing_tables(frames, root, 0x800, 512), 3);
     assert!(rt; map_slot(frames, pool, root, slot, DATA));
     let left = pool.free_count();
     assert!(rt; left <= free);
-    assert_eq!(rt; free - left, 514);
-    assert_eq!(rt; missing_tables(frames, root, 0x800, 512), 1);
+    same(rt, free - left, 514);
+    same(rt, missing_tables(frames, root, 0x800, 512), 1);
     let walks = [
         (0x7f_f000, None),
         (0x80_0000, Some((512, true, false, false))),
@@ -144,7 +145,7 @@ fn change_slots(rt: &impl Abort, frames: &mut Frames, pool: &mut FramePool, root
         (0xa0_0000, None),
     ];
     for (address, to) in walks {
-        assert_eq!(rt; found(rt, frames, root, address), to);
+        same(rt, found(rt, frames, root, address), to);
     }
     store_word(frames, root, VirtAddr::new(0x80_2008), 77);
     cut_large(frames, pool, root, slot, 3);
@@ -155,15 +156,15 @@ fn change_slots(rt: &impl Abort, frames: &mut Frames, pool: &mut FramePool, root
         (0x9f_ffff, None),
     ];
     for (address, to) in walks {
-        assert_eq!(rt; found(rt, frames, root, address), to);
+        same(rt, found(rt, frames, root, address), to);
     }
     let left = pool.free_count();
     assert!(rt; left <= free);
-    assert_eq!(rt; free - left, 6);
-    assert_eq!(rt; missing_tables(frames, root, 0x800, 512), 0);
+    same(rt, free - left, 6);
+    same(rt, missing_tables(frames, root, 0x800, 512), 0);
     assert!(rt; 1024 <= frames.count());
     let third = PhysFrame::containing_address(PhysAddr::new(0x20_2000));
-    assert_eq!(rt; frames.word(third, 1), 77);
+    same(rt, frames.word(third, 1), 77);
 }
 
 /// Maps the slot at 8 MiB and unmaps it.
@@ -177,9 +178,9 @@ fn unmap_slot(rt: &impl Abort, frames: &mut Frames, pool: &mut FramePool, root: 
     assert!(rt; 514 <= pool.free_count());
     let slot = Page::<Size2MiB>::containing_address(VirtAddr::new(0x80_0000));
     if map_slot(frames, pool, root, slot, DATA) {
-        assert_eq!(rt; unmap_large(frames, root, slot).number(), 1);
+        same(rt, unmap_large(frames, root, slot).number(), 1);
     }
-    assert_eq!(rt; found(rt, frames, root, 0x80_0000), None);
+    same(rt, found(rt, frames, root, 0x80_0000), None);
 }
 
 fn with_memory(rt: &impl Abort, alloc: Global, count: u32, cut: bool) -> Result<(), Fail> {

@@ -1,13 +1,14 @@
 //! The calls with memory at hand, over one level and over three.
 
+use crate::checks::same;
 use number_set::NumberSet;
 use std::test::Fail;
 
 #[test]
 fn finds_the_lowest_over_three_levels(rt: HostRuntime) -> Result<(), Fail> {
     let mut set = NumberSet::new(rt.alloc(), 5000)?;
-    assert_eq!(rt; set.bound(), 5000);
-    assert_eq!(rt; set.lowest(), None);
+    same(&rt, set.bound(), 5000);
+    same(&rt, set.lowest(), None);
     // A number goes in, and then the lowest and the count are these.
     for (number, lowest, len) in [
         (4999, 4999, 1),
@@ -20,8 +21,8 @@ fn finds_the_lowest_over_three_levels(rt: HostRuntime) -> Result<(), Fail> {
         if number < set.bound() {
             set.insert(number);
         }
-        assert_eq!(rt; set.lowest(), Some(lowest));
-        assert_eq!(rt; set.len(), len);
+        same(&rt, set.lowest(), Some(lowest));
+        same(&rt, set.len(), len);
     }
     // A number goes out, and then the lowest and the count are these.
     for (number, lowest, len) in [
@@ -35,8 +36,8 @@ fn finds_the_lowest_over_three_levels(rt: HostRuntime) -> Result<(), Fail> {
         if number < set.bound() {
             set.remove(number);
         }
-        assert_eq!(rt; set.lowest(), lowest);
-        assert_eq!(rt; set.len(), len);
+        same(&rt, set.lowest(), lowest);
+        same(&rt, set.len(), len);
     }
     assert!(rt; set.is_empty());
     Ok(())
@@ -46,9 +47,9 @@ fn finds_the_lowest_over_three_levels(rt: HostRuntime) -> Result<(), Fail> {
 fn gives_a_full_set_in_order(rt: HostRuntime) -> Result<(), Fail> {
     for bound in [0, 1, 63, 64, 65, 4096, 4097] {
         let mut set = NumberSet::full(rt.alloc(), bound)?;
-        assert_eq!(rt; set.len(), bound);
+        same(&rt, set.len(), bound);
         for number in 0..bound {
-            assert_eq!(rt; set.lowest(), Some(number));
+            same(&rt, set.lowest(), Some(number));
             if number < set.bound() {
                 assert!(rt; set.contains(number));
                 set.remove(number);

@@ -4,6 +4,7 @@ ghost use Rattle.paging_core.specs.Pool.{FreeBelow};
 ghost use Rattle.paging_core.specs.Tree.{IsTree};
 ghost use Rattle.paging_core.specs.Walk.{walk_of};
 
+use crate::checks::same;
 use paging_core::*;
 use std::alloc::Global;
 use std::process::Abort;
@@ -24,17 +25,19 @@ const CODE: Rights = Rights {
 #[test]
 fn errors_have_texts(rt: HostRuntime) -> Result<(), Fail> {
     let text = format!(in rt.alloc(); "{}", VirtAddrNotValid(0x8000_0000_0000))?;
-    assert_eq!(rt;
+    same(
+        &rt,
         text.as_str(),
-        "0x800000000000 is no canonical virtual address"
+        "0x800000000000 is no canonical virtual address",
     );
     let text = format!(in rt.alloc(); "{}", PhysAddrNotValid(1 << 52))?;
-    assert_eq!(rt;
+    same(
+        &rt,
         text.as_str(),
-        "0x10000000000000 is no physical address of 52 bits"
+        "0x10000000000000 is no physical address of 52 bits",
     );
     let text = format!(in rt.alloc(); "{AddressNotAligned}")?;
-    assert_eq!(rt; text.as_str(), "the given address was not aligned");
+    same(&rt, text.as_str(), "the given address was not aligned");
     Ok(())
 }
 
@@ -51,13 +54,13 @@ fn map_sixteen(rt: &impl Abort, frames: &mut Frames, pool: &mut FramePool, root:
     assert!(rt; missing + 16 <= free);
     let first = Page::containing_address(VirtAddr::new(0x400000));
     map_range(frames, pool, root, first, 16, DATA);
-    assert_eq!(rt; free - pool.free_count(), 19);
+    same(rt, free - pool.free_count(), 19);
     for (address, frame) in [(0x400000, 1), (0x401000, 5), (0x40f000, 19)] {
         let Ok(address) = VirtAddr::try_new(address) else {
             panic!(rt; "{address} is canonical");
         };
         let found = walk(frames, root, Page::containing_address(address));
-        assert_eq!(rt; found.map(|mapped| mapped.frame.number()), Some(frame));
+        same(rt, found.map(|mapped| mapped.frame.number()), Some(frame));
     }
 }
 
@@ -68,9 +71,9 @@ fn build(rt: &impl Abort, alloc: Global, count: u32) -> Result<(), Fail> {
     let Some(root) = make_root(&mut frames, &mut pool) else {
         return Err(Fail::from("no root"));
     };
-    assert_eq!(rt; missing_tables(&frames, root, 0x400, 1024), 4);
+    same(rt, missing_tables(&frames, root, 0x400, 1024), 4);
     map_sixteen(rt, &mut frames, &mut pool, root);
-    assert_eq!(rt; pool.free_count(), 1004);
+    same(rt, pool.free_count(), 1004);
     Ok(())
 }
 
@@ -101,12 +104,12 @@ fn change_three(rt: &impl Abort, frames: &mut Frames, pool: &mut FramePool, root
             mapped.user,
             mapped.fetch,
         ));
-        assert_eq!(rt; rights, Some((frame, false, true, true)));
+        same(rt, rights, Some((frame, false, true, true)));
     }
     unmap_range(frames, pool, root, first, 3);
-    assert_eq!(rt; walk(frames, root, first), None);
-    assert_eq!(rt; missing_tables(frames, root, 0x400, 3), 0);
-    assert_eq!(rt; free - pool.free_count(), 3);
+    same(rt, walk(frames, root, first), None);
+    same(rt, missing_tables(frames, root, 0x400, 3), 0);
+    same(rt, free - pool.free_count(), 3);
 }
 
 #[test]
@@ -134,9 +137,9 @@ fn frames_come_back(rt: HostRuntime) -> Result<(), Fail> {
     let Some(frame) = pool.allocate_frame() else {
         return Err(Fail::from("no frame"));
     };
-    assert_eq!(rt; pool.free_count(), 3);
+    same(&rt, pool.free_count(), 3);
     give_back(&mut pool, frame);
-    assert_eq!(rt; pool.free_count(), 4);
+    same(&rt, pool.free_count(), 4);
     Ok(())
 }
 
@@ -158,26 +161,31 @@ fn address_of<S: PageSize>(page: Option<Page<S>>) -> Option<u64> {
 /// Steps forward to a page, and back from it.
 fn steps_on<S: PageSize>(rt: &impl Abort, start: u64, count: usize, end: u64) {
     let (first, last) = (page_at::<S>(rt, start), page_at::<S>(rt, end));
-    assert_eq!(rt; address_of(Page::forward_checked(first, count)), Some(end));
-    assert_eq!(rt;
-        address_of(Page::backward_checked(last, count)),
-        Some(start)
+    same(
+        rt,
+        address_of(Page::forward_checked(first, count)),
+        Some(end),
     );
-    assert_eq!(rt; Page::steps_between(&first, &last), (count, Some(count)));
-    assert_eq!(rt; Page::range(first, last).len(), count as u64);
+    same(
+        rt,
+        address_of(Page::backward_checked(last, count)),
+        Some(start),
+    );
+    same(rt, Page::steps_between(&first, &last), (count, Some(count)));
+    same(rt, Page::range(first, last).len(), count as u64);
     if count != 0 {
-        assert_eq!(rt; Page::steps_between(&last, &first), (0, None));
+        same(rt, Page::steps_between(&last, &first), (0, None));
     }
 }
 
 fn ends_at<S: PageSize>(rt: &impl Abort, start: u64, steps: usize) {
     let page = page_at::<S>(rt, start);
-    assert_eq!(rt; address_of(Page::forward_checked(page, steps)), None);
+    same(rt, address_of(Page::forward_checked(page, steps)), None);
 }
 
 fn begins_at<S: PageSize>(rt: &impl Abort, start: u64, steps: usize) {
     let page = page_at::<S>(rt, start);
-    assert_eq!(rt; address_of(Page::backward_checked(page, steps)), None);
+    same(rt, address_of(Page::backward_checked(page, steps)), None);
 }
 
 #[test]
@@ -235,7 +243,11 @@ fn has_pages<S: PageSize>(rt: &impl Abort, start: u64, end: u64, count: u64) {
     let range = Page::range(start, end);
     assert_eq!(rt; (range.len(), range.is_empty()), (count, count == 0));
     let inclusive = Page::range_inclusive(start, end);
-    assert_eq!(rt; (inclusive.len(), inclusive.is_empty()), (count + 1, false));
+    same(
+        rt,
+        (inclusive.len(), inclusive.is_empty()),
+        (count + 1, false),
+    );
 }
 
 #[test]
@@ -250,9 +262,9 @@ fn ranges_have_lengths(rt: HostRuntime) -> Result<(), Fail> {
         page_at(&rt, 0xffff_8000_0000_0000),
     );
     let back = Page::range(high, low);
-    assert_eq!(rt; (back.len(), back.is_empty()), (0, true));
+    same(&rt, (back.len(), back.is_empty()), (0, true));
     let back = Page::range_inclusive(high, low);
-    assert_eq!(rt; (back.len(), back.is_empty()), (0, true));
+    same(&rt, (back.len(), back.is_empty()), (0, true));
     Ok(())
 }
 
@@ -261,67 +273,79 @@ fn ranges_of_frames_have_lengths(rt: HostRuntime) -> Result<(), Fail> {
     let start = PhysFrame::<Size4KiB>::containing_address(PhysAddr::new(0xdead_beaf));
     let end = PhysFrame::containing_address(PhysAddr::new(0xdeb0_deaf));
     let range = PhysFrameRange { start, end };
-    assert_eq!(rt; (range.len(), range.is_empty()), (50, false));
+    same(&rt, (range.len(), range.is_empty()), (50, false));
     let inclusive = PhysFrameRangeInclusive { start, end };
-    assert_eq!(rt; (inclusive.len(), inclusive.is_empty()), (51, false));
+    same(&rt, (inclusive.len(), inclusive.is_empty()), (51, false));
     let back = PhysFrameRange {
         start: end,
         end: start,
     };
-    assert_eq!(rt; (back.len(), back.is_empty()), (0, true));
+    same(&rt, (back.len(), back.is_empty()), (0, true));
     let back = PhysFrameRangeInclusive {
         start: end,
         end: start,
     };
-    assert_eq!(rt; (back.len(), back.is_empty()), (0, true));
+    same(&rt, (back.len(), back.is_empty()), (0, true));
     Ok(())
 }
 
 #[test]
 fn pages_of_each_size_have_indices(rt: HostRuntime) -> Result<(), Fail> {
     let page = page_at::<Size4KiB>(&rt, 0xffff_ff80_80c0_4000);
-    assert_eq!(rt;
+    same(
+        &rt,
         (page.p4_index().value(), page.p3_index().value()),
-        (511, 2)
+        (511, 2),
     );
-    assert_eq!(rt; (page.p2_index().value(), page.p1_index().value()), (6, 4));
+    same(
+        &rt,
+        (page.p2_index().value(), page.p1_index().value()),
+        (6, 4),
+    );
     let page = page_at::<Size2MiB>(&rt, 0xffff_ff80_80c0_0000);
-    assert_eq!(rt;
+    same(
+        &rt,
         (page.p4_index().value(), page.p3_index().value()),
-        (511, 2)
+        (511, 2),
     );
-    assert_eq!(rt; page.p2_index().value(), 6);
+    same(&rt, page.p2_index().value(), 6);
     let page = page_at::<Size1GiB>(&rt, 0xffff_ff80_8000_0000);
-    assert_eq!(rt;
+    same(
+        &rt,
         (page.p4_index().value(), page.p3_index().value()),
-        (511, 2)
+        (511, 2),
     );
     Ok(())
 }
 
 #[test]
 fn addresses_are_aligned(rt: HostRuntime) -> Result<(), Fail> {
-    assert_eq!(rt; align_up(u64::MAX, 1), u64::MAX);
-    assert_eq!(rt; align_up(1233, 2), 1234);
-    assert_eq!(rt; align_up(0xffff_ffff_ffff_fffe, 2), 0xffff_ffff_ffff_fffe);
-    assert_eq!(rt; align_up(0, 0x8000_0000_0000_0000), 0);
-    assert_eq!(rt; align_up(0x1001, 0x1000), 0x2000);
-    assert_eq!(rt; align_down(0x1fff, 0x1000), 0x1000);
+    same(&rt, align_up(u64::MAX, 1), u64::MAX);
+    same(&rt, align_up(1233, 2), 1234);
+    same(
+        &rt,
+        align_up(0xffff_ffff_ffff_fffe, 2),
+        0xffff_ffff_ffff_fffe,
+    );
+    same(&rt, align_up(0, 0x8000_0000_0000_0000), 0);
+    same(&rt, align_up(0x1001, 0x1000), 0x2000);
+    same(&rt, align_down(0x1fff, 0x1000), 0x1000);
     Ok(())
 }
 
 #[test]
 fn fields_are_read_and_replaced(rt: HostRuntime) -> Result<(), Fail> {
-    assert_eq!(rt; get_bits(0x000f_ffff_ffff_f000, 12, 52), 0xff_ffff_ffff);
-    assert_eq!(rt; get_bits(0xffff_8000_0000_0000, 47, 64), 0x1_ffff);
-    assert_eq!(rt; get_bits(u64::MAX, 0, 64), u64::MAX);
-    assert_eq!(rt; get_bits(0x8000_0000_0000_0000, 63, 64), 1);
-    assert_eq!(rt; set_bits(u64::MAX, 12, 52, 0), 0xfff0_0000_0000_0fff);
-    assert_eq!(rt;
+    same(&rt, get_bits(0x000f_ffff_ffff_f000, 12, 52), 0xff_ffff_ffff);
+    same(&rt, get_bits(0xffff_8000_0000_0000, 47, 64), 0x1_ffff);
+    same(&rt, get_bits(u64::MAX, 0, 64), u64::MAX);
+    same(&rt, get_bits(0x8000_0000_0000_0000, 63, 64), 1);
+    same(&rt, set_bits(u64::MAX, 12, 52, 0), 0xfff0_0000_0000_0fff);
+    same(
+        &rt,
         set_bits(0x8000_0000_0000_0003, 12, 52, 0xdeadb),
-        0x8000_0000_dead_b003
+        0x8000_0000_dead_b003,
     );
-    assert_eq!(rt; set_bits(0, 0, 64, u64::MAX), u64::MAX);
+    same(&rt, set_bits(0, 0, 64, u64::MAX), u64::MAX);
     Ok(())
 }
 
@@ -340,16 +364,16 @@ fn take_frame(pool: &mut FramePool) -> Option<u64> {
 #[test]
 fn runs_are_taken_from_the_lowest_on(rt: HostRuntime) -> Result<(), Fail> {
     let mut pool = FramePool::new(rt.alloc(), 2047)?;
-    assert_eq!(rt; take_run(&mut pool), Some(0));
-    assert_eq!(rt; take_frame(&mut pool), Some(512));
-    assert_eq!(rt; take_run(&mut pool), Some(2));
+    same(&rt, take_run(&mut pool), Some(0));
+    same(&rt, take_frame(&mut pool), Some(512));
+    same(&rt, take_run(&mut pool), Some(2));
     // Run 1 lacks a frame, and run 3 has 511.
-    assert_eq!(rt; take_run(&mut pool), None);
-    assert_eq!(rt; pool.free_count(), 2047 - 512 - 1 - 512);
+    same(&rt, take_run(&mut pool), None);
+    same(&rt, pool.free_count(), 2047 - 512 - 1 - 512);
     for number in 513..1024 {
-        assert_eq!(rt; take_frame(&mut pool), Some(number));
+        same(&rt, take_frame(&mut pool), Some(number));
     }
-    assert_eq!(rt; take_frame(&mut pool), Some(1536));
+    same(&rt, take_frame(&mut pool), Some(1536));
     Ok(())
 }
 
@@ -362,9 +386,9 @@ fn a_run_comes_back(rt: HostRuntime) -> Result<(), Fail> {
     assert_eq!(rt; run.start_address().as_u64(), 0);
     assert_eq!(rt; pool.free_count(), 512);
     FrameDeallocator::<Size2MiB>::deallocate_frame(&mut pool, run);
-    assert_eq!(rt; pool.free_count(), 1024);
-    assert_eq!(rt; take_run(&mut pool), Some(0));
-    assert_eq!(rt; take_run(&mut pool), Some(1));
-    assert_eq!(rt; take_run(&mut pool), None);
+    same(&rt, pool.free_count(), 1024);
+    same(&rt, take_run(&mut pool), Some(0));
+    same(&rt, take_run(&mut pool), Some(1));
+    same(&rt, take_run(&mut pool), None);
     Ok(())
 }

@@ -4,6 +4,7 @@ ghost use Rattle.paging_core.specs.Pool.{is_free, FreeBelow};
 ghost use Rattle.paging_core.specs.Tree.{IsTree};
 ghost use Rattle.paging_core.specs.Walk.{reach, walk_of};
 
+use crate::checks::same;
 use page_ranges::*;
 use paging_core::*;
 use std::alloc::Global;
@@ -74,20 +75,21 @@ fn map_row(
     let free = pool.free_count();
     assert!(rt; row.pages + missing_tables(frames, root, row.page, row.pages) <= free);
     let stop = map_pages(frames, pool, root, first, row.pages, DATA);
-    assert_eq!(rt; stop, row.stop);
+    same(rt, stop, row.stop);
     let left = pool.free_count();
     assert!(rt; left <= free);
-    assert_eq!(rt; free - left, row.taken);
-    assert_eq!(rt;
+    same(rt, free - left, row.taken);
+    same(
+        rt,
         missing_tables(frames, root, row.page, row.pages),
-        row.missing
+        row.missing,
     );
     for (address, frame) in row.walks {
         let to = match frame {
             Some(frame) => Some((frame, true, false, false)),
             None => None,
         };
-        assert_eq!(rt; found(rt, frames, root, address), to);
+        same(rt, found(rt, frames, root, address), to);
     }
 }
 
@@ -223,20 +225,21 @@ fn leave_row(
     assert!(rt; row.pages + missing_tables(frames, root, row.page, row.pages) <= pool.free_count());
     map_pages(frames, pool, root, first, row.pages, DATA);
     take_all(pool);
-    assert_eq!(rt; pool.free_count(), 0);
+    same(rt, pool.free_count(), 0);
     let from = first.after(row.from - row.page);
     unmap_pages(frames, pool, root, from, row.page + row.pages - row.from);
-    assert_eq!(rt; pool.free_count(), row.given);
-    assert_eq!(rt;
+    same(rt, pool.free_count(), row.given);
+    same(
+        rt,
         missing_tables(frames, root, row.page, row.pages),
-        row.missing
+        row.missing,
     );
     for (address, frame) in row.walks {
         let to = match frame {
             Some(frame) => Some((frame, true, false, false)),
             None => None,
         };
-        assert_eq!(rt; found(rt, frames, root, address), to);
+        same(rt, found(rt, frames, root, address), to);
     }
 }
 

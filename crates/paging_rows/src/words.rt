@@ -3,6 +3,7 @@ ghost use Rattle.std.specs.Prelude.{◌≡◌, ◌+◌, ◌<◌, ◌≤◌, IsTr
 ghost use Rattle.paging_core.specs.Memory.{frame_count};
 ghost use Rattle.paging_core.specs.Walk.{walk_of};
 
+use crate::checks::same;
 use crate::large_pages::write;
 use paging_core::*;
 use std::alloc::Global;
@@ -94,8 +95,8 @@ fn words_are_written_to_a_page_and_read(rt: HostRuntime) -> Result<(), Fail> {
             assert!(rt; store(&mut frames, page, index, &[7, 8]));
             let mut words = [0; 4];
             assert!(rt; load(&frames, page, index - 1, &mut words));
-            assert_eq!(rt; words, [1, 7, 8, 4]);
-            assert_eq!(rt; word(&rt, &frames, frame, index), 7);
+            same(&rt, words, [1, 7, 8, 4]);
+            same(&rt, word(&rt, &frames, frame, index), 7);
         }
     }
     Ok(())
@@ -109,7 +110,7 @@ fn words_of_a_page_that_is_not_mapped_are_refused(rt: HostRuntime) -> Result<(),
         let mut words = [5];
         assert!(rt; !store(&mut frames, page, 0, &[7]));
         assert!(rt; !load(&frames, page, 0, &mut words));
-        assert_eq!(rt; words, [5]);
+        same(&rt, words, [5]);
     }
     assert!(rt; !store(&mut frames, page_at(0), 511, &[7, 8]));
     assert!(rt; !load(&frames, page_at(0), 511, &mut [0; 2]));
@@ -130,7 +131,7 @@ fn a_page_is_copied_whole(rt: HostRuntime) -> Result<(), Fail> {
             (frame, 511, 3),
             (frame + 1, 0, 9),
         ] {
-            assert_eq!(rt; word(&rt, &frames, number, index), wanted);
+            same(&rt, word(&rt, &frames, number, index), wanted);
         }
     }
     Ok(())
