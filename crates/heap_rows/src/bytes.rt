@@ -1,9 +1,11 @@
 //! Bytes that are written and read at each place of a word, also where a page ends; cleared blocks, and copied ones.
 ghost use Rattle.std.specs.Prelude.{◌≤◌};
 
+use crate::checks::machine_of;
 use crate::tests::DEFAULT;
 use kernel_heap::{Bytes, Call, Config, Machine, Reply};
 use std::alloc::{AllocError, Global};
+use std::process::Abort;
 use std::test::Fail;
 
 /// Puts bytes into a block.
@@ -64,12 +66,8 @@ fn keeps_neighbours(
     Ok(has(machine, 0, offset, &some)? && has(machine, 0, offset - 16, &around)?)
 }
 
-#[test]
-fn bytes_are_put_at_each_place(rt: HostRuntime) -> Result<(), Fail> {
-    let alloc = rt.alloc();
-    let Ok(mut machine) = Machine::new(alloc, &DEFAULT) else {
-        panic!(rt; "no machine");
-    };
+/// Puts bytes at each place of two words of a block, and looks that they are there.
+fn put_at_each_place(rt: &impl Abort, alloc: Global, machine: &mut Machine) -> Result<(), Fail> {
     machine.step(&Call::Malloc {
         size: 8000,
         align: 16,
@@ -78,7 +76,7 @@ fn bytes_are_put_at_each_place(rt: HostRuntime) -> Result<(), Fail> {
     for (first, behind) in [(1024, 1032), (4072, 4080)] {
         for offset in first..behind {
             for count in 0..18 {
-                let kept = keeps_neighbours(alloc, &mut machine, offset, count)?;
+                let kept = keeps_neighbours(alloc, machine, offset, count)?;
                 assert!(rt; kept, "{count} bytes at {offset}");
             }
         }
@@ -86,71 +84,83 @@ fn bytes_are_put_at_each_place(rt: HostRuntime) -> Result<(), Fail> {
     Ok(())
 }
 
+#[test]
+fn bytes_are_put_at_each_place(rt: HostRuntime) -> Result<(), Fail> {
+    let mut machine = machine_of(&rt, rt.alloc(), &DEFAULT);
+    put_at_each_place(&rt, rt.alloc(), &mut machine)
+}
+
 /// Sizes of blocks: less than a word, some words, up to the end of a page and over it, and many pages.
 const SIZES: [u64; 8] = [1, 24, 4072, 4080, 4088, 8200, 20000, 60000];
 
+/// Fills a block, frees it, and looks that a cleared one of its size has no byte of it.
+fn clear(rt: &impl Abort, alloc: Global, machine: &mut Machine, size: u64) -> Result<(), Fail> {
+    machine.step(&Call::Malloc { size, align: 16 })?;
+    write(machine, 0, 0, vec![in alloc; 0xff; size as usize]?)?;
+    machine.step(&Call::Free { block: 0 })?;
+    machine.step(&Call::Calloc { size, align: 16 })?;
+    let zeros = vec![in alloc; 0; size as usize]?;
+    assert!(rt; has(machine, 1, 0, &zeros)?, "{size} bytes");
+    Ok(())
+}
+
 #[test]
 fn blocks_are_cleared(rt: HostRuntime) -> Result<(), Fail> {
-    let alloc = rt.alloc();
     for size in SIZES {
-        let Ok(mut machine) = Machine::new(alloc, &DEFAULT) else {
-            panic!(rt; "no machine");
-        };
-        machine.step(&Call::Malloc { size, align: 16 })?;
-        write(&mut machine, 0, 0, vec![in alloc; 0xff; size as usize]?)?;
-        machine.step(&Call::Free { block: 0 })?;
-        machine.step(&Call::Calloc { size, align: 16 })?;
-        let zeros = vec![in alloc; 0; size as usize]?;
-        assert!(rt; has(&mut machine, 1, 0, &zeros)?, "{size} bytes");
+        let mut machine = machine_of(&rt, rt.alloc(), &DEFAULT);
+        clear(&rt, rt.alloc(), &mut machine, size)?;
     }
+    Ok(())
+}
+
+/// Looks that a block that moves to have another size keeps its bytes.
+fn copy(rt: &impl Abort, alloc: Global, machine: &mut Machine, size: u64) -> Result<(), Fail> {
+    machine.step(&Call::Malloc { size, align: 16 })?;
+    // The block behind it keeps it from growing where it is.
+    machine.step(&Call::Malloc { size: 8, align: 16 })?;
+    write(machine, 0, 0, numbered(alloc, size)?)?;
+    machine.step(&Call::Realloc {
+        block: 0,
+        size: 70000,
+    })?;
+    let kept = numbered(alloc, size)?;
+    assert!(rt; has(machine, 0, 0, &kept)?, "{size} bytes");
     Ok(())
 }
 
 #[test]
 fn blocks_are_copied(rt: HostRuntime) -> Result<(), Fail> {
-    let alloc = rt.alloc();
     for size in SIZES {
-        let Ok(mut machine) = Machine::new(alloc, &DEFAULT) else {
-            panic!(rt; "no machine");
-        };
-        machine.step(&Call::Malloc { size, align: 16 })?;
-        // The block behind it keeps it from growing where it is.
-        machine.step(&Call::Malloc { size: 8, align: 16 })?;
-        write(&mut machine, 0, 0, numbered(alloc, size)?)?;
-        machine.step(&Call::Realloc {
-            block: 0,
-            size: 70000,
-        })?;
-        assert!(rt;
-            has(&mut machine, 0, 0, &numbered(alloc, size)?)?,
-            "{size} bytes"
-        );
+        let mut machine = machine_of(&rt, rt.alloc(), &DEFAULT);
+        copy(&rt, rt.alloc(), &mut machine, size)?;
     }
     Ok(())
 }
 
-#[test]
-fn slots_that_share_a_place(rt: HostRuntime) -> Result<(), Fail> {
-    let alloc = rt.alloc();
-    let config = Config {
-        pages: 9000,
-        frames: 9100,
-        ..DEFAULT
-    };
-    let Ok(mut machine) = Machine::new(alloc, &config) else {
-        panic!(rt; "no machine");
-    };
+/// Puts bytes into two slots of a block, and looks that each is read where it was put.
+fn use_two_slots(rt: &impl Abort, alloc: Global, machine: &mut Machine) -> Result<(), Fail> {
     machine.step(&Call::Malloc {
         size: 0x200_0010,
         align: 16,
     })?;
     // The slots of these bytes have numbers that are 16 apart. One is a large page, the other has a table.
     for (offset, byte) in [(0, 1), (0x200_0000, 2)] {
-        write(&mut machine, 0, offset, vec![in alloc; byte; 1]?)?;
+        write(machine, 0, offset, vec![in alloc; byte; 1]?)?;
     }
     for (offset, byte) in [(0, 1), (0x200_0000, 2), (0, 1)] {
         let kept = vec![in alloc; byte; 1]?;
-        assert!(rt; has(&mut machine, 0, offset, &kept)?, "at {offset}");
+        assert!(rt; has(machine, 0, offset, &kept)?, "at {offset}");
     }
     Ok(())
+}
+
+#[test]
+fn slots_that_share_a_place(rt: HostRuntime) -> Result<(), Fail> {
+    let config = Config {
+        pages: 9000,
+        frames: 9100,
+        ..DEFAULT
+    };
+    let mut machine = machine_of(&rt, rt.alloc(), &config);
+    use_two_slots(&rt, rt.alloc(), &mut machine)
 }

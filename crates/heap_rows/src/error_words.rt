@@ -1,3 +1,4 @@
+use crate::checks::same;
 use dlmalloc::MallocError;
 use heap_memory::GrantFault;
 use kernel_heap::RunError;
@@ -26,14 +27,14 @@ const MALLOC_ERRORS: [(MallocError, &'static str); 4] = [
 fn errors_have_their_words(rt: HostRuntime) -> Result<(), Fail> {
     for (error, words) in RUN_ERRORS {
         let text = format!(in rt.alloc(); "{error}")?;
-        assert_eq!(rt; text.as_str(), words);
+        same(&rt, text.as_str(), words);
     }
     for (error, words) in MALLOC_ERRORS {
         let text = format!(in rt.alloc(); "{error}")?;
-        assert_eq!(rt; text.as_str(), words);
+        same(&rt, text.as_str(), words);
         if let MallocError::System(fault) = error {
             let text = format!(in rt.alloc(); "{fault}")?;
-            assert_eq!(rt; text.as_str(), words);
+            same(&rt, text.as_str(), words);
         }
     }
     Ok(())

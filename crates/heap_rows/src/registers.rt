@@ -1,7 +1,10 @@
 //! The registers of the machine: what a fault leaves in CR2, and which root table CR3 names.
+use crate::checks::{machine_of, same};
 use crate::tests::DEFAULT;
 use heap_program::{parse_call, text_of};
 use kernel_heap::Machine;
+use std::alloc::Global;
+use std::process::Abort;
 use std::test::Fail;
 use x86_registers::FlagRegister;
 use x86_registers::control::{Cr0, Cr2, Cr3, Cr4, Efer};
@@ -74,38 +77,44 @@ const LINES: [Line; 11] = [
     },
 ];
 
+/// Looks for the answer to a line, and for the registers after it.
+fn expect_line(
+    rt: &impl Abort,
+    alloc: Global,
+    machine: &mut Machine,
+    row: &Line,
+) -> Result<(), Fail> {
+    let Some(call) = parse_call(alloc, row.line.as_bytes())? else {
+        panic!(rt; "no call");
+    };
+    let answer = machine.step(&call)?;
+    let text = text_of(alloc, &answer)?;
+    assert_eq!(rt; text.as_slice(), row.answer.as_bytes(), "for {}", row.line);
+    assert_eq!(rt; Cr2::read_raw(machine.cpu()), row.cr2, "for {}", row.line);
+    let (root, _) = Cr3::read(machine.cpu());
+    assert_eq!(rt; root, machine.system().root(), "for {}", row.line);
+    Ok(())
+}
+
 #[test]
 fn faults_leave_their_address(rt: HostRuntime) -> Result<(), Fail> {
-    let alloc = rt.alloc();
-    let Ok(mut machine) = Machine::new(alloc, &DEFAULT) else {
-        panic!(rt; "no machine");
-    };
+    let mut machine = machine_of(&rt, rt.alloc(), &DEFAULT);
     for row in &LINES {
-        let Some(call) = parse_call(alloc, row.line.as_bytes())? else {
-            panic!(rt; "no call");
-        };
-        let answer = machine.step(&call)?;
-        let text = text_of(alloc, &answer)?;
-        assert_eq!(rt; text.as_slice(), row.answer.as_bytes(), "for {}", row.line);
-        assert_eq!(rt; Cr2::read_raw(machine.cpu()), row.cr2, "for {}", row.line);
-        let (root, _) = Cr3::read(machine.cpu());
-        assert_eq!(rt; root, machine.system().root(), "for {}", row.line);
+        expect_line(&rt, rt.alloc(), &mut machine, row)?;
     }
     Ok(())
 }
 
 #[test]
 fn paging_is_on(rt: HostRuntime) -> Result<(), Fail> {
-    let Ok(machine) = Machine::new(rt.alloc(), &DEFAULT) else {
-        panic!(rt; "no machine");
-    };
+    let machine = machine_of(&rt, rt.alloc(), &DEFAULT);
     let cpu = machine.cpu();
-    assert_eq!(rt; Cr0::read_raw(cpu), 0x8001_0001);
-    assert_eq!(rt; Cr4::read_raw(cpu), 0x20);
-    assert_eq!(rt; Efer::read_raw(cpu), 0xD00);
-    assert_eq!(rt; Cr3::read_raw(cpu), (machine.system().root(), 0));
-    assert_eq!(rt; Cr2::read_raw(cpu), 0);
-    assert_eq!(rt; cpu.rflags, 2);
-    assert_eq!(rt; cpu.mxcsr, 0x1F80);
+    same(&rt, Cr0::read_raw(cpu), 0x8001_0001);
+    same(&rt, Cr4::read_raw(cpu), 0x20);
+    same(&rt, Efer::read_raw(cpu), 0xD00);
+    same(&rt, Cr3::read_raw(cpu), (machine.system().root(), 0));
+    same(&rt, Cr2::read_raw(cpu), 0);
+    same(&rt, cpu.rflags, 2);
+    same(&rt, cpu.mxcsr, 0x1F80);
     Ok(())
 }

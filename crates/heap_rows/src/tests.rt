@@ -1,10 +1,12 @@
+use crate::checks::{expect_output, same};
 use heap_program::{Ended, end_text, parse_call, text_of};
 use kernel_heap::{
     Answer, AnswerList, Call, CallList, Config, Extent, ExtentList, Kind, Machine, Refusal, Reply,
-    RunError, run_calls,
+    Run, RunError, run_calls,
 };
 use program_runs::{Row, outcome};
 use std::alloc::{AllocError, Global};
+use std::process::Abort;
 use std::test::Fail;
 
 pub(crate) const ROWS: [Row; 21] = [
@@ -113,9 +115,7 @@ pub(crate) const ROWS: [Row; 21] = [
 #[test]
 fn rows_are_printed(rt: HostRuntime) -> Result<(), Fail> {
     for row in &ROWS {
-        let (ended, sink) = outcome(rt.alloc(), &["run"], row.input.as_bytes())?;
-        assert_eq!(rt; sink.written(), row.output.as_bytes(), "for {}", row.input);
-        assert_eq!(rt; ended.status, 0);
+        expect_output(&rt, rt.alloc(), row.input.as_bytes(), row.output.as_bytes())?;
     }
     Ok(())
 }
@@ -147,9 +147,7 @@ fn a_line_of_8193_bytes_is_bad(rt: HostRuntime) -> Result<(), Fail> {
         let mut input = line.before.as_bytes().to_vec(rt.alloc())?;
         input.extend_from_slice(&vec![in rt.alloc(); b'a'; 8193]?)?;
         input.extend_from_slice(line.behind.as_bytes())?;
-        let (ended, sink) = outcome(rt.alloc(), &["run"], &input)?;
-        assert_eq!(rt; sink.written(), line.output.as_bytes());
-        assert_eq!(rt; ended.status, 0);
+        expect_output(&rt, rt.alloc(), &input, line.output.as_bytes())?;
     }
     Ok(())
 }
@@ -165,39 +163,51 @@ fn the_longest_line_is_a_call(rt: HostRuntime) -> Result<(), Fail> {
         input.push(b'\n')?;
     }
     input.extend_from_slice(b"read 0 4089 2\n".as_slice())?;
-    let (ended, sink) = outcome(rt.alloc(), &["run"], &input)?;
-    assert_eq!(rt;
-        sink.written(),
-        b"block 0 0x400010\nheap 0x400000+16\ndone\nbad line\nbytes 5555\nregion 0x400000+16 heap\nframes 1004 tables 4\n".as_slice()
-    );
-    assert_eq!(rt; ended.status, 0);
+    let output =
+        b"block 0 0x400010\nheap 0x400000+16\ndone\nbad line\nbytes 5555\nregion 0x400000+16 heap\nframes 1004 tables 4\n";
+    expect_output(&rt, rt.alloc(), &input, output.as_slice())
+}
+
+/// Looks for the text of an answer.
+fn expect_text(rt: &impl Abort, alloc: Global, reply: Reply, wanted: &[u8]) -> Result<(), Fail> {
+    let answer = Answer {
+        reply,
+        regions: None,
+        large: None,
+    };
+    let text = text_of(alloc, &answer)?;
+    same(rt, text.as_slice(), wanted);
+    Ok(())
+}
+
+/// Looks for the text at the end of a machine.
+fn expect_end(
+    rt: &impl Abort,
+    alloc: Global,
+    machine: &Machine,
+    wanted: &[u8],
+) -> Result<(), Fail> {
+    let text = end_text(alloc, machine)?;
+    same(rt, text.as_slice(), wanted);
     Ok(())
 }
 
 #[test]
 fn texts_are_made_alone(rt: HostRuntime) -> Result<(), Fail> {
-    let Some(Call::Malloc { size, align }) = parse_call(rt.alloc(), b"malloc 0x18")? else {
+    let alloc = rt.alloc();
+    let Some(Call::Malloc { size, align }) = parse_call(alloc, b"malloc 0x18")? else {
         panic!(rt; "no call");
     };
-    assert_eq!(rt; (size, align), (24, 16));
-    let answer = Answer {
-        reply: Reply::Refused(Refusal::NoFrames),
-        regions: None,
-        large: None,
-    };
-    let text = text_of(rt.alloc(), &answer)?;
-    assert_eq!(rt; text.as_slice(), b"refused no-frames\n".as_slice());
-    let (ended, _sink) = outcome(rt.alloc(), &["run"], b"malloc 24\n")?;
+    same(&rt, (size, align), (24, 16));
+    let refused = Reply::Refused(Refusal::NoFrames);
+    expect_text(&rt, alloc, refused, b"refused no-frames\n".as_slice())?;
+    let (ended, _sink) = outcome(alloc, &["run"], b"malloc 24\n")?;
     let Ended { machine, .. } = ended;
     let Some(machine) = machine else {
         panic!(rt; "no machine");
     };
-    let text = end_text(rt.alloc(), &machine)?;
-    assert_eq!(rt;
-        text.as_slice(),
-        b"region 0x400000+16 heap\nframes 1004 tables 4\n".as_slice()
-    );
-    Ok(())
+    let end = b"region 0x400000+16 heap\nframes 1004 tables 4\n";
+    expect_end(&rt, alloc, &machine, end.as_slice())
 }
 
 #[test]
@@ -205,7 +215,7 @@ fn calls_without_sizes_are_parsed(rt: HostRuntime) -> Result<(), Fail> {
     let Some(Call::Free { block }) = parse_call(rt.alloc(), b"free 0x10")? else {
         panic!(rt; "no free");
     };
-    assert_eq!(rt; block, 16);
+    same(&rt, block, 16);
     let Some(Call::Extents) = parse_call(rt.alloc(), b"extents")? else {
         panic!(rt; "no extents");
     };
@@ -252,17 +262,9 @@ fn each_kind_of_extent_is_printed(rt: HostRuntime) -> Result<(), Fail> {
     for extent in EXTENTS {
         extents.push(extent)?;
     }
-    let answer = Answer {
-        reply: Reply::Extents(extents),
-        regions: None,
-        large: None,
-    };
-    let text = text_of(rt.alloc(), &answer)?;
-    assert_eq!(rt;
-        text.as_slice(),
-        b"extents used:0x400000+112 free:0x400070+3904 record:0x400fb0+80 victim:0x401f50+176 top:0x403390+3104 foot:0x403fb0+80\n".as_slice()
-    );
-    Ok(())
+    let text =
+        b"extents used:0x400000+112 free:0x400070+3904 record:0x400fb0+80 victim:0x401f50+176 top:0x403390+3104 foot:0x403fb0+80\n".as_slice();
+    expect_text(&rt, rt.alloc(), Reply::Extents(extents), text)
 }
 
 /// The configuration of the command `run`.
@@ -330,6 +332,13 @@ fn texts(alloc: Global, answers: &AnswerList) -> Result<Vec<u8>, AllocError> {
     Ok(texts)
 }
 
+/// Looks for the texts of a run's answers, and for that at its end.
+fn expect_run(rt: &impl Abort, alloc: Global, run: &Run, row: &CallsRow) -> Result<(), Fail> {
+    let texts = texts(alloc, &run.answers)?;
+    same(rt, texts.as_slice(), row.answers.as_bytes());
+    expect_end(rt, alloc, &run.machine, row.end.as_bytes())
+}
+
 #[test]
 fn calls_are_run_as_values(rt: HostRuntime) -> Result<(), Fail> {
     for row in &CALLS {
@@ -341,10 +350,7 @@ fn calls_are_run_as_values(rt: HostRuntime) -> Result<(), Fail> {
         let Ok(run) = run_calls(rt.alloc(), &config, &calls) else {
             panic!(rt; "no run");
         };
-        let texts = texts(rt.alloc(), &run.answers)?;
-        assert_eq!(rt; texts.as_slice(), row.answers.as_bytes());
-        let end = end_text(rt.alloc(), &run.machine)?;
-        assert_eq!(rt; end.as_slice(), row.end.as_bytes());
+        expect_run(&rt, rt.alloc(), &run, row)?;
     }
     Ok(())
 }
@@ -380,9 +386,9 @@ fn bad_configurations_are_refused(rt: HostRuntime) -> Result<(), Fail> {
         };
         let calls = requests(rt.alloc(), &[1])?;
         let found = Machine::new(rt.alloc(), &config).err();
-        assert_eq!(rt; found, Some(error));
+        same(&rt, found, Some(error));
         let found = run_calls(rt.alloc(), &config, &calls).err();
-        assert_eq!(rt; found, Some(error));
+        same(&rt, found, Some(error));
     }
     Ok(())
 }

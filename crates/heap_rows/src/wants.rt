@@ -1,8 +1,10 @@
 // What runs out: frames, input and output.
+use crate::checks::same;
 use crate::tests::ROWS;
 use heap_program::{MemorySink, MemorySource, heap_main};
 use program_runs::{outcome, strings};
 use std::alloc::{AllocError, Global};
+use std::process::Abort;
 use std::test::Fail;
 
 /// A request, a map behind the place of its grant, and a greater request, over a window of 64 pages.
@@ -58,28 +60,33 @@ const FRAMES: [Frames; 5] = [
     },
 ];
 
+/// Looks for what is printed over so many frames.
+fn expect_over(rt: &impl Abort, alloc: Global, row: &Frames, frames: u32) -> Result<(), Fail> {
+    let number = format!(in alloc; "{frames}")?;
+    let output = format!(in alloc;
+        "{}frames {} tables {}\n",
+        row.output,
+        frames.saturating_sub(row.taken),
+        row.tables
+    )?;
+    let words = ["run", "0x400000", "64", "65536", number.as_str(), "4095"];
+    let (ended, sink) = outcome(alloc, &words, CALLS.as_bytes())?;
+    assert_eq!(rt; sink.written(), output.as_bytes(), "over {} frames", frames);
+    same(rt, ended.status, 0);
+    Ok(())
+}
+
 #[test]
 fn calls_over_each_number_of_frames(rt: HostRuntime) -> Result<(), Fail> {
-    let alloc = rt.alloc();
     let mut next = 1;
     for row in &FRAMES {
-        assert_eq!(rt; row.least, next);
+        same(&rt, row.least, next);
         for frames in row.least..=row.most {
-            let number = format!(in alloc; "{frames}")?;
-            let words = ["run", "0x400000", "64", "65536", number.as_str(), "4095"];
-            let (ended, sink) = outcome(alloc, &words, CALLS.as_bytes())?;
-            let output = format!(in alloc;
-                "{}frames {} tables {}\n",
-                row.output,
-                frames.saturating_sub(row.taken),
-                row.tables
-            )?;
-            assert_eq!(rt; sink.written(), output.as_bytes(), "over {} frames", frames);
-            assert_eq!(rt; ended.status, 0);
+            expect_over(&rt, rt.alloc(), row, frames)?;
             next = frames.saturating_add(1);
         }
     }
-    assert_eq!(rt; next, 61);
+    same(&rt, next, 61);
     Ok(())
 }
 
@@ -112,37 +119,49 @@ const READS: u64 = 5;
 /// The writes and flushes of the run.
 const WRITES: u64 = 22;
 
+/// Looks that the run ends with status 6, and has written the beginning of its output, where a read fails.
+fn expect_failing_read(rt: &impl Abort, alloc: Global, number: u64) -> Result<(), Fail> {
+    let (status, sink) = in_pieces(alloc, only(alloc, number)?, Vec::new(alloc))?;
+    assert_eq!(rt; status, 6, "read {}", number);
+    let output = ROWS[1].output.as_bytes();
+    assert!(rt; output.starts_with(sink.written()), "read {}", number);
+    same(rt, sink.flushed(), sink.written().len());
+    Ok(())
+}
+
 #[test]
 fn each_read_fails_once(rt: HostRuntime) -> Result<(), Fail> {
     let alloc = rt.alloc();
-    let output = ROWS[1].output.as_bytes();
     for number in 0..READS {
-        let (status, sink) = in_pieces(alloc, only(alloc, number)?, Vec::new(alloc))?;
-        assert_eq!(rt; status, 6, "read {}", number);
-        assert!(rt; output.starts_with(sink.written()), "read {}", number);
-        assert_eq!(rt; sink.flushed(), sink.written().len());
+        expect_failing_read(&rt, alloc, number)?;
     }
     let (status, sink) = in_pieces(alloc, only(alloc, READS)?, Vec::new(alloc))?;
-    assert_eq!(rt; status, 0);
-    assert_eq!(rt; sink.written(), output);
+    same(&rt, status, 0);
+    same(&rt, sink.written(), ROWS[1].output.as_bytes());
+    Ok(())
+}
+
+/// Looks that the run ends with status 7, and has written the beginning of its output, where a write or a flush fails.
+fn expect_failing_write(rt: &impl Abort, alloc: Global, number: u64) -> Result<(), Fail> {
+    let (status, sink) = in_pieces(alloc, Vec::new(alloc), only(alloc, number)?)?;
+    assert_eq!(rt; status, 7, "write or flush {}", number);
+    let output = ROWS[1].output.as_bytes();
+    assert!(rt;
+        output.starts_with(sink.written()),
+        "write or flush {}",
+        number
+    );
     Ok(())
 }
 
 #[test]
 fn each_write_and_flush_fails_once(rt: HostRuntime) -> Result<(), Fail> {
     let alloc = rt.alloc();
-    let output = ROWS[1].output.as_bytes();
     for number in 0..WRITES {
-        let (status, sink) = in_pieces(alloc, Vec::new(alloc), only(alloc, number)?)?;
-        assert_eq!(rt; status, 7, "write or flush {}", number);
-        assert!(rt;
-            output.starts_with(sink.written()),
-            "write or flush {}",
-            number
-        );
+        expect_failing_write(&rt, alloc, number)?;
     }
     let (status, sink) = in_pieces(alloc, Vec::new(alloc), only(alloc, WRITES)?)?;
-    assert_eq!(rt; status, 0);
-    assert_eq!(rt; sink.written(), output);
+    same(&rt, status, 0);
+    same(&rt, sink.written(), ROWS[1].output.as_bytes());
     Ok(())
 }
