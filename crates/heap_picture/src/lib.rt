@@ -20,6 +20,3 @@ mod shape;
 
 pub use laws::each_is_drawn_once;
 pub use picture::{Picture, picture_main};
-
-#[cfg(test)]
-mod tests;

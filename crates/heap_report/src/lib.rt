@@ -20,6 +20,3 @@ pub use replay::Replay;
 pub use report::{Figures, report_main};
 pub use reported::Reported;
 pub use tell::{Tell, tell_main};
-
-#[cfg(test)]
-mod tests;

@@ -1,9 +1,13 @@
+//! What is drawn.
 ghost use Rattle.std.specs.Prelude.{◌<◌, IfSome, length};
 
-use crate::picture_main;
+use crate::checks::same;
+use heap_picture::picture_main;
 use heap_program::{MemorySink, MemorySource, SureSink, SureSource, push_extent};
 use heap_report::Reported;
+use kernel_heap::Extent;
 use std::alloc::{AllocError, Global};
+use std::process::Abort;
 use std::test::Fail;
 
 fn outcome(alloc: Global, input: &[u8]) -> Result<(Reported, SureSink), AllocError> {
@@ -43,28 +47,36 @@ fn two_hundred_calls(alloc: Global) -> Result<String, AllocError> {
     Ok(calls)
 }
 
-#[test]
-fn each_extent_is_drawn_once_in_order(rt: HostRuntime) -> Result<(), Fail> {
-    let calls = two_hundred_calls(rt.alloc())?;
-    let (reported, sink) = outcome(rt.alloc(), calls.as_bytes())?;
-    assert_eq!(rt; reported.status, 0);
-    let Some(extents) = &reported.extents else {
-        panic!(rt; "no extents");
+/// Looks that the extent is drawn once, behind a place in the text. Answers where.
+fn expect_drawn(
+    rt: &impl Abort,
+    alloc: Global,
+    text: &[u8],
+    last: usize,
+    extent: Extent,
+) -> Result<usize, Fail> {
+    let mut title = String::new(alloc);
+    title.push_str("<title>")?;
+    push_extent(&mut title, extent)?;
+    title.push_str("</title>")?;
+    let Some(at) = find(text, last, title.as_bytes()) else {
+        panic!(rt; "an extent is not drawn in its place");
     };
-    assert!(rt; extents.len() > 60);
-    let text = sink.written();
+    same(rt, find(text, 0, title.as_bytes()), Some(at));
+    same(rt, find(text, at + 1, title.as_bytes()), None);
+    Ok(at)
+}
+
+/// Looks that each of the extents is drawn once, in their order, and how many shapes there are.
+fn expect_all_drawn(
+    rt: &impl Abort,
+    alloc: Global,
+    text: &[u8],
+    extents: &[Extent],
+) -> Result<(), Fail> {
     let mut last = 0;
-    for extent in extents.as_slice() {
-        let mut title = String::new(rt.alloc());
-        title.push_str("<title>")?;
-        push_extent(&mut title, *extent)?;
-        title.push_str("</title>")?;
-        let Some(at) = find(text, last, title.as_bytes()) else {
-            panic!(rt; "an extent is not drawn in its place");
-        };
-        assert_eq!(rt; find(text, 0, title.as_bytes()), Some(at));
-        assert_eq!(rt; find(text, at + 1, title.as_bytes()), None);
-        last = at;
+    for extent in extents {
+        last = expect_drawn(rt, alloc, text, last, *extent)?;
     }
     // So many shapes there are, with those of the one region and of the document.
     let mut titles = 0usize;
@@ -73,14 +85,26 @@ fn each_extent_is_drawn_once_in_order(rt: HostRuntime) -> Result<(), Fail> {
             titles = titles.wrapping_add(1);
         }
     }
-    assert_eq!(rt; titles, extents.as_slice().len().wrapping_add(2));
+    same(rt, titles, extents.len().wrapping_add(2));
     Ok(())
+}
+
+#[test]
+fn each_extent_is_drawn_once_in_order(rt: HostRuntime) -> Result<(), Fail> {
+    let calls = two_hundred_calls(rt.alloc())?;
+    let (reported, sink) = outcome(rt.alloc(), calls.as_bytes())?;
+    same(&rt, reported.status, 0);
+    let Some(extents) = &reported.extents else {
+        panic!(rt; "no extents");
+    };
+    assert!(rt; extents.len() > 60);
+    expect_all_drawn(&rt, rt.alloc(), sink.written(), extents.as_slice())
 }
 
 #[test]
 fn an_empty_heap_has_a_picture(rt: HostRuntime) -> Result<(), Fail> {
     let (reported, sink) = outcome(rt.alloc(), b"".as_slice())?;
-    assert_eq!(rt; reported.status, 0);
+    same(&rt, reported.status, 0);
     assert!(rt; sink.written().starts_with(b"<svg xmlns=".as_slice()));
     assert!(rt;
         sink.written().ends_with(
@@ -96,7 +120,7 @@ fn regions_and_large_pages_are_marked(rt: HostRuntime) -> Result<(), Fail> {
         rt.alloc(),
         b"malloc 2500000\nmap 0x700000 2 r-ux\n".as_slice(),
     )?;
-    assert_eq!(rt; reported.status, 0);
+    same(&rt, reported.status, 0);
     for part in [
         "<rect class=\"h\" x=\"0\" y=\"0\" width=\"159744\" height=\"16\"><title>0x400000+624 heap</title></rect>\n",
         "<rect class=\"l\" x=\"0\" y=\"18\" width=\"131072\" height=\"6\"><title>large 0x400000</title></rect>\n",
@@ -120,24 +144,36 @@ fn neighbours_in_one_column_are_drawn_as_one(rt: HostRuntime) -> Result<(), Fail
     }
     calls.push_str("malloc 3000000\nfree 1\nfree 3\n")?;
     let (reported, sink) = outcome(rt.alloc(), calls.as_bytes())?;
-    assert_eq!(rt; reported.status, 0);
+    same(&rt, reported.status, 0);
     let part = b"<title>12 extents:0x400000+384, used 320</title>".as_slice();
     assert!(rt; find(sink.written(), 0, part).is_some());
+    Ok(())
+}
+
+/// Looks how a run ends of which a read or a write fails.
+fn expect_end(
+    rt: &impl Abort,
+    alloc: Global,
+    failing_read: u64,
+    failing_write: u64,
+    status: u8,
+) -> Result<(), Fail> {
+    let input = b"malloc 24\n".to_vec(alloc)?;
+    let mut source = MemorySource::new(input, 4096, vec![in alloc; failing_read]?);
+    let mut sink = MemorySink::new(alloc, 4096, vec![in alloc; failing_write]?);
+    let reported = picture_main(alloc, &[], &mut source, &mut sink);
+    same(rt, reported.status, status);
+    same(rt, reported.extents.is_some(), status == 0);
+    if status != 0 {
+        same(rt, sink.written().len(), 0);
+    }
     Ok(())
 }
 
 #[test]
 fn a_failing_source_or_sink_ends_the_run(rt: HostRuntime) -> Result<(), Fail> {
     for (failing_read, failing_write, status) in [(0, 99, 6), (99, 1, 7), (99, 99, 0)] {
-        let input = b"malloc 24\n".to_vec(rt.alloc())?;
-        let mut source = MemorySource::new(input, 4096, vec![in rt.alloc(); failing_read]?);
-        let mut sink = MemorySink::new(rt.alloc(), 4096, vec![in rt.alloc(); failing_write]?);
-        let reported = picture_main(rt.alloc(), &[], &mut source, &mut sink);
-        assert_eq!(rt; reported.status, status);
-        assert_eq!(rt; reported.extents.is_some(), status == 0);
-        if status != 0 {
-            assert_eq!(rt; sink.written().len(), 0);
-        }
+        expect_end(&rt, rt.alloc(), failing_read, failing_write, status)?;
     }
     Ok(())
 }

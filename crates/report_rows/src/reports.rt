@@ -1,7 +1,10 @@
-use crate::{Reported, report_main};
+//! What is reported.
+use crate::checks::same;
 use heap_program::{MemorySink, MemorySource, SureSink, SureSource};
+use heap_report::{Reported, report_main};
 use kernel_heap::{Extent, Kind, Reply};
 use std::alloc::{AllocError, Global};
+use std::process::Abort;
 use std::test::Fail;
 
 fn strings(alloc: Global, words: &[&str]) -> Result<Vec<String>, AllocError> {
@@ -76,12 +79,17 @@ const ROWS: [Row; 9] = [
     },
 ];
 
+fn expect_row(rt: &impl Abort, alloc: Global, row: &Row) -> Result<(), Fail> {
+    let (reported, sink) = outcome(alloc, &[], row.input.as_bytes())?;
+    assert_eq!(rt; sink.written(), row.output.as_bytes(), "for {}", row.input);
+    same(rt, reported.status, 0);
+    Ok(())
+}
+
 #[test]
 fn rows_are_reported(rt: HostRuntime) -> Result<(), Fail> {
     for row in &ROWS {
-        let (reported, sink) = outcome(rt.alloc(), &[], row.input.as_bytes())?;
-        assert_eq!(rt; sink.written(), row.output.as_bytes(), "for {}", row.input);
-        assert_eq!(rt; reported.status, 0);
+        expect_row(&rt, rt.alloc(), row)?;
     }
     Ok(())
 }
@@ -96,22 +104,22 @@ fn what_is_handed_out_belongs_together(rt: HostRuntime) -> Result<(), Fail> {
     ) else {
         panic!(rt; "something is missing");
     };
-    assert_eq!(rt; machine.system().free_frames(), 1004);
-    assert_eq!(rt; answers.len(), 3);
+    same(&rt, machine.system().free_frames(), 1004);
+    same(&rt, answers.len(), 3);
     let Some(last) = answers.get(2) else {
         panic!(rt; "no last answer");
     };
     let Reply::Extents(listed) = &last.reply else {
         panic!(rt; "no extents");
     };
-    assert_eq!(rt; listed.as_slice(), extents.as_slice());
+    same(&rt, listed.as_slice(), extents.as_slice());
     let first = Extent {
         at: 0x40_0000,
         size: 32,
         kind: Kind::Used,
     };
     assert_eq!(rt; extents.get(0), Some(&first));
-    assert_eq!(rt; extents.len(), 3);
+    same(&rt, extents.len(), 3);
     Ok(())
 }
 
@@ -218,22 +226,35 @@ fn numbers(alloc: Global, number: Option<u64>) -> Result<Vec<u64>, AllocError> {
     Ok(numbers)
 }
 
+/// Looks how a command ends, and what is handed out and written then.
+fn expect_ending(
+    rt: &impl Abort,
+    alloc: Global,
+    ending: &Ending,
+    written: &[u8],
+) -> Result<(), Fail> {
+    let input = b"malloc 24\n".to_vec(alloc)?;
+    let mut source = MemorySource::new(input, 7, numbers(alloc, ending.failing_read)?);
+    let mut sink = MemorySink::new(alloc, 7, numbers(alloc, ending.failing_write)?);
+    let words = strings(alloc, ending.words)?;
+    let reported = report_main(alloc, &words, &mut source, &mut sink);
+    let ends_well = ending.status == 0;
+    same(rt, reported.status, ending.status);
+    same(rt, reported.machine.is_some(), ends_well);
+    same(rt, reported.answers.is_some(), ends_well);
+    same(rt, reported.extents.is_some(), ends_well);
+    same(rt, sink.written(), written);
+    if ends_well {
+        same(rt, sink.flushed(), TEXT.len());
+    }
+    Ok(())
+}
+
 #[test]
 fn failing_reads_and_writes_end_the_run(rt: HostRuntime) -> Result<(), Fail> {
     for ending in &ENDINGS {
-        let input = b"malloc 24\n".to_vec(rt.alloc())?;
-        let mut source = MemorySource::new(input, 7, numbers(rt.alloc(), ending.failing_read)?);
-        let mut sink = MemorySink::new(rt.alloc(), 7, numbers(rt.alloc(), ending.failing_write)?);
-        let words = strings(rt.alloc(), ending.words)?;
-        let reported = report_main(rt.alloc(), &words, &mut source, &mut sink);
-        assert_eq!(rt; reported.status, ending.status);
-        assert_eq!(rt; reported.machine.is_some(), ending.status == 0);
-        assert_eq!(rt; reported.answers.is_some(), ending.status == 0);
-        assert_eq!(rt; reported.extents.is_some(), ending.status == 0);
-        assert_eq!(rt; sink.written(), &TEXT.as_bytes()[..ending.written]);
-        if ending.status == 0 {
-            assert_eq!(rt; sink.flushed(), TEXT.len());
-        }
+        let written = &TEXT.as_bytes()[..ending.written];
+        expect_ending(&rt, rt.alloc(), ending, written)?;
     }
     Ok(())
 }
