@@ -25,8 +25,3 @@ pub use cached_system::CachedSystem;
 pub use entry::{TlbEntry, Translated};
 pub use probed::Probed;
 pub use tlb::Tlb;
-
-#[cfg(test)]
-mod random_tests;
-#[cfg(test)]
-mod tests;

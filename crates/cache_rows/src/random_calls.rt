@@ -1,11 +1,11 @@
 ghost use Rattle.std.specs.Prelude.{◌-◌, ◌^◌, ◌<◌};
 
-use crate::access::answer;
-use crate::{CachedFault, CachedSystem, Probed};
-use kernel_heap::{Access, PagedSystem, Rights};
+use crate::checks::same;
+use kernel_heap::{Access, PagedSystem, Rights, fault_code, is_granted};
 use paging_core::{Page, VirtAddr, walk};
 use std::process::Abort;
 use std::test::Fail;
+use tlb_cache::{CachedFault, CachedSystem, Probed};
 
 /// Numbers that follow from one another.
 #[derive(Drop)]
@@ -71,8 +71,19 @@ fn plain_probe(system: &PagedSystem, at: u64, access: Access, user: bool) -> Pro
         return Probed::NotCanonical;
     };
     let page = Page::containing_address(address);
-    let found = walk(system.frames(), system.root(), page);
-    answer(system, &found, at, access, user)
+    let Some(mapped) = walk(system.frames(), system.root(), page) else {
+        return Probed::Fault(fault_code(false, access, user));
+    };
+    let rights = Rights {
+        write: mapped.write,
+        user: mapped.user,
+        fetch: mapped.fetch,
+    };
+    if !is_granted(Some(rights), access, user) {
+        return Probed::Fault(fault_code(true, access, user));
+    }
+    let word = system.frames().word(mapped.frame, (at % 4096 / 8) as u16);
+    Probed::Byte((word >> 8 * (at % 8) & 0xff) as u8)
 }
 
 /// Sees that a map, an unmap or a probe answers alike with a cache and without.
@@ -87,20 +98,21 @@ fn expect_alike<R: Abort>(
     match numbers.below(10) {
         0 | 1 => {
             let rights = numbers.rights();
-            assert_eq!(rt;
+            same(
+                rt,
                 cached.map(start, pages, rights),
-                plain.map(start, pages, rights)
+                plain.map(start, pages, rights),
             );
         }
         2 => {
             let answer = plain.unmap(start, pages).map_err(CachedFault::Unmap).err();
-            assert_eq!(rt; cached.unmap(start, pages).err(), answer);
+            same(rt, cached.unmap(start, pages).err(), answer);
         }
         _ => {
             let at = start + numbers.below(0x1000);
             let (access, user) = (numbers.access(), numbers.below(2) == 0);
             let answer = plain_probe(plain, at, access, user);
-            assert_eq!(rt; cached.probe(at, access, user), answer);
+            same(rt, cached.probe(at, access, user), answer);
         }
     }
 }

@@ -1,12 +1,13 @@
 ghost use Rattle.std.specs.Prelude.{◌<◌};
 
-use crate::{CachedFault, CachedSystem, Probed, Tlb};
+use crate::checks::same;
 use bitflags::Flags;
 use kernel_heap::{Access, PageFaultErrorCode, PagedSystem, Rights, UnmapFault};
 use paging_core::{Page, VirtAddr};
 use std::alloc::{AllocError, Global};
 use std::process::Abort;
 use std::test::Fail;
+use tlb_cache::{CachedFault, CachedSystem, Probed, Tlb};
 use x86_instructions::tlb::FlushCommand;
 
 const READ: Rights = Rights {
@@ -43,7 +44,7 @@ fn look(tlb: &mut Tlb, system: &PagedSystem, address: u64) -> bool {
 
 /// Sees that these pages have entries, and no others.
 fn expect_pages<R: Abort>(rt: &R, tlb: &Tlb, pages: &[u64]) {
-    assert_eq!(rt; tlb.len(), pages.len() as u64);
+    same(rt, tlb.len(), pages.len() as u64);
     for address in pages {
         assert!(rt; tlb.contains(page(*address)), "{:x}", *address);
     }
@@ -52,19 +53,25 @@ fn expect_pages<R: Abort>(rt: &R, tlb: &Tlb, pages: &[u64]) {
 #[test]
 fn the_oldest_leaves_first(rt: HostRuntime) -> Result<(), Fail> {
     let mut cached = cached(rt.alloc(), 64, 2)?;
-    assert_eq!(rt; cached.map(0x1_0000, 3, READ), Ok(()));
+    same(&rt, cached.map(0x1_0000, 3, READ), Ok(()));
     for address in [0x1_0000, 0x1_1000, 0x1_2000] {
-        assert_eq!(rt; cached.probe(address, Access::Read, false), Probed::Byte(0));
+        same(
+            &rt,
+            cached.probe(address, Access::Read, false),
+            Probed::Byte(0),
+        );
     }
     expect_pages(&rt, cached.tlb(), &[0x1_1000, 0x1_2000]);
     // A hit leaves the order, so that its entry is the next to leave.
-    assert_eq!(rt;
+    same(
+        &rt,
         cached.probe(0x1_1000, Access::Read, false),
-        Probed::Byte(0)
+        Probed::Byte(0),
     );
-    assert_eq!(rt;
+    same(
+        &rt,
         cached.probe(0x1_0000, Access::Read, false),
-        Probed::Byte(0)
+        Probed::Byte(0),
     );
     expect_pages(&rt, cached.tlb(), &[0x1_2000, 0x1_0000]);
     match cached.unmap(0x1_0000, 3) {
@@ -74,21 +81,21 @@ fn the_oldest_leaves_first(rt: HostRuntime) -> Result<(), Fail> {
                 ecx: 3,
                 edx: 0,
             };
-            assert_eq!(rt; list.as_slice(), [flush].as_slice());
+            same(&rt, list.as_slice(), [flush].as_slice());
         }
         Err(_) => panic!(&rt; "the region is there"),
     }
-    assert_eq!(rt; cached.tlb().len(), 0);
+    same(&rt, cached.tlb().len(), 0);
     let fault = Probed::Fault(PageFaultErrorCode::from_bits_retain(0));
-    assert_eq!(rt; cached.probe(0x1_1000, Access::Read, false), fault);
-    assert_eq!(rt; cached.tlb().len(), 0);
+    same(&rt, cached.probe(0x1_1000, Access::Read, false), fault);
+    same(&rt, cached.tlb().len(), 0);
     Ok(())
 }
 
 #[test]
 fn commands_cover_their_pages(rt: HostRuntime) -> Result<(), Fail> {
     let mut system = system(rt.alloc(), 64)?;
-    assert_eq!(rt; system.map(0x5000, 3, READ), Ok(()));
+    same(&rt, system.map(0x5000, 3, READ), Ok(()));
     let mut tlb = Tlb::new(rt.alloc(), 8)?;
     for address in [0x5000, 0x6000, 0x7000] {
         assert!(rt; !look(&mut tlb, &system, address));
@@ -142,7 +149,7 @@ fn expect_left<R: Abort>(rt: &R, system: &PagedSystem, tlb: &mut Tlb, rows: &[Ro
 #[test]
 fn each_kind_of_command(rt: HostRuntime) -> Result<(), Fail> {
     let mut system = system(rt.alloc(), 64)?;
-    assert_eq!(rt; system.map(0x5000, 3, READ), Ok(()));
+    same(&rt, system.map(0x5000, 3, READ), Ok(()));
     let mut tlb = Tlb::new(rt.alloc(), 8)?;
     let all = [0x5000, 0x6000, 0x7000];
     let rows = [
@@ -212,9 +219,13 @@ fn each_kind_of_command(rt: HostRuntime) -> Result<(), Fail> {
 #[test]
 fn pages_of_a_large_page_have_entries_of_their_own(rt: HostRuntime) -> Result<(), Fail> {
     let mut cached = cached(rt.alloc(), 1200, 4)?;
-    assert_eq!(rt; cached.map(0x20_0000, 512, READ), Ok(()));
+    same(&rt, cached.map(0x20_0000, 512, READ), Ok(()));
     for address in [0x20_0000, 0x20_1000, 0x3f_f000] {
-        assert_eq!(rt; cached.probe(address, Access::Read, false), Probed::Byte(0));
+        same(
+            &rt,
+            cached.probe(address, Access::Read, false),
+            Probed::Byte(0),
+        );
     }
     expect_pages(&rt, cached.tlb(), &[0x20_0000, 0x20_1000, 0x3f_f000]);
     Ok(())
@@ -224,23 +235,35 @@ fn pages_of_a_large_page_have_entries_of_their_own(rt: HostRuntime) -> Result<()
 fn the_last_page_is_flushed_with_all_others(rt: HostRuntime) -> Result<(), Fail> {
     let mut cached = cached(rt.alloc(), 64, 4)?;
     let last = 0xffff_ffff_ffff_f000;
-    assert_eq!(rt; cached.map(last, 1, READ), Ok(()));
-    assert_eq!(rt; cached.map(0x1000, 1, READ), Ok(()));
-    assert_eq!(rt; cached.probe(last, Access::Read, false), Probed::Byte(0));
-    assert_eq!(rt; cached.probe(0x1000, Access::Read, false), Probed::Byte(0));
+    same(&rt, cached.map(last, 1, READ), Ok(()));
+    same(&rt, cached.map(0x1000, 1, READ), Ok(()));
+    same(
+        &rt,
+        cached.probe(last, Access::Read, false),
+        Probed::Byte(0),
+    );
+    same(
+        &rt,
+        cached.probe(0x1000, Access::Read, false),
+        Probed::Byte(0),
+    );
     match cached.unmap(last, 1) {
-        Ok(list) => assert_eq!(rt; list.as_slice(), [invlpgb(0, 0)].as_slice()),
+        Ok(list) => same(&rt, list.as_slice(), [invlpgb(0, 0)].as_slice()),
         Err(_) => panic!(&rt; "the region is there"),
     }
-    assert_eq!(rt; cached.tlb().len(), 0);
+    same(&rt, cached.tlb().len(), 0);
     Ok(())
 }
 
 #[test]
 fn refusals_leave_the_entries(rt: HostRuntime) -> Result<(), Fail> {
     let mut cached = cached(rt.alloc(), 64, 4)?;
-    assert_eq!(rt; cached.map(0x1000, 2, READ), Ok(()));
-    assert_eq!(rt; cached.probe(0x1000, Access::Read, false), Probed::Byte(0));
+    same(&rt, cached.map(0x1000, 2, READ), Ok(()));
+    same(
+        &rt,
+        cached.probe(0x1000, Access::Read, false),
+        Probed::Byte(0),
+    );
     for (start, pages, fault) in [
         (0x1000, 1, UnmapFault::UnknownRegion),
         (0x1000, 1 << 40, UnmapFault::BadRange),
@@ -249,17 +272,19 @@ fn refusals_leave_the_entries(rt: HostRuntime) -> Result<(), Fail> {
         (0x8000_0000_0000, 2, UnmapFault::BadRange),
         (0x7fff_ffff_f000, 2, UnmapFault::BadRange),
     ] {
-        assert_eq!(rt;
+        same(
+            &rt,
             cached.unmap(start, pages).err(),
-            Some(CachedFault::Unmap(fault))
+            Some(CachedFault::Unmap(fault)),
         );
     }
-    assert_eq!(rt;
+    same(
+        &rt,
         cached.probe(0x8000_0000_0000, Access::Read, false),
-        Probed::NotCanonical
+        Probed::NotCanonical,
     );
     let write = Probed::Fault(PageFaultErrorCode::from_bits_retain(3));
-    assert_eq!(rt; cached.probe(0x1000, Access::Write, false), write);
+    same(&rt, cached.probe(0x1000, Access::Write, false), write);
     expect_pages(&rt, cached.tlb(), &[0x1000]);
     Ok(())
 }
