@@ -1,6 +1,6 @@
 // Calls of several arenas, by ascending address: each is of the first arena that has to do with it, or of all.
-ghost use Rattle.std.specs.Prelude.{◌≡◌, ℕ, ◌+◌, ◌%◌, ◌<◌, ◌≤◌, true, [], ◌∷◌, Some, None, IfOk, IfErr, IfSome, IfNone, OnErr, IsTrue, false, length, insert, take, drop};
-ghost use Rattle.std.specs.List.{AllByRecursion, AllZip, list_all, list_any};
+ghost use Rattle.std.specs.Prelude.{◌≡◌, ◌+◌, ◌%◌, ◌<◌, ◌≤◌, false, [], ◌∷◌, Some, IfOk, IfErr, IfSome, IfNone, OnErr, IsTrue, length, insert};
+ghost use Rattle.std.specs.List.{AllByRecursion, AllZip, list_any};
 ghost use Rattle.heap_memory.specs.Events.{Granted};
 ghost use Rattle.heap_memory.specs.Regions.{IsWordOf, IsApart, IsGoodGrant, with_grant};
 ghost use Rattle.heap_memory.specs.Runs.{without};
@@ -85,8 +85,7 @@ pub(crate) fn take_back_among<'a>(arenas: &mut [Arena<'a>], low: u64, high: u64)
     }
 }
 
-/// The place among them of an arena that has the addresses from `low` on and below `high`; None where one of them has
-/// an address of these.
+/// The place among them of a further arena; None where it overlaps one of them.
 pub(crate) fn gap_among<'a>(arenas: &[Arena<'a>], arena: &Arena<'a>) -> Option<usize>
     requires { IsTrue (are_in_order arenas.now) }
     ensures within { IfSome result (λ place. place ≤ length arenas.now) }

@@ -1,5 +1,5 @@
 // A system over words that the caller gives.
-ghost use Rattle.std.specs.Prelude.{◌≡◌, ◌≢◌, ℕ, ◌+◌, ◌-◌, ◌*◌, ◌/◌, ◌%◌, ◌^◌, ◌<◌, ◌≤◌, ◌⊎◌, ◌==◌, if◌then◌else◌, true, false, [], IsTrue, length, slice_set};
+ghost use Rattle.std.specs.Prelude.{◌≡◌, ◌≢◌, ◌+◌, ◌-◌, ◌*◌, ◌/◌, ◌%◌, ◌^◌, ◌<◌, ◌≤◌, ◌⊎◌, ◌==◌, if◌then◌else◌, true, false, [], IsTrue, length, slice_set};
 ghost use Rattle.heap_memory.specs.Regions.{are_whole, are_ordered};
 ghost use Rattle.heap_arena.specs.Grants.{grants, are_between};
 
@@ -37,7 +37,6 @@ pub struct Arena<'a> {
 }
 
 impl<'a> Arena<'a> {
-    ghost use Rattle.heap_memory.specs.Runs.{without};
     ghost use Rattle.heap_arena.specs.Arena.{regions_of, end_of, has_room, IsAbove, AreInside, IsTakenBack};
 
     /// A system over these words, the first of them at the address `base`, of which none is granted yet. The table has a

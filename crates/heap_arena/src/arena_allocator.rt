@@ -1,5 +1,5 @@
 // What an arena grants and takes back.
-ghost use Rattle.std.specs.Prelude.{◌≡◌, ◌≢◌, ℕ, ◌+◌, ◌*◌, ◌%◌, ◌<◌, ◌≤◌, ◌==◌, max, true, false, if◌then◌else◌, [], ◌∷◌, IfOk, IfErr, OnErr, IsTrue, length, refl};
+ghost use Rattle.std.specs.Prelude.{◌≡◌, ◌≢◌, ℕ, ◌+◌, ◌%◌, ◌<◌, ◌≤◌, ◌==◌, max, true, false, if◌then◌else◌, [], ◌∷◌, IfOk, IfErr, OnErr, IsTrue, refl};
 ghost use Rattle.std.specs.Int.{is_power_of_two};
 ghost use Rattle.std.specs.List.{AllByRecursion};
 ghost use Rattle.heap_memory.specs.Events.{Granted, Refused, Released};

@@ -36,8 +36,8 @@ impl<'a, const N: usize> Arenas<'a, N> {
         self.arenas.len()
     }
 
-    /// Takes a further arena, of which nothing is granted yet. What it was asked for comes back with the reason where
-    /// it is not taken, and nothing changes then.
+    /// Takes a further arena, of which nothing is granted yet. An arena that is not taken comes back with the reason, and
+    /// nothing changes then.
     pub fn add(&mut self, arena: Arena<'a>) -> Result<(), (AddFault, Arena<'a>)>
         ensures ok { OnOk result (IsAdded self.old.arenas.items arena.entry self.new.arenas.items) }
         ensures err { IfErr result (λ refusal. IsNotAdded self.old.arenas.items N arena.entry refusal.0) }
