@@ -12,8 +12,6 @@ mod node;
 mod replacing;
 mod rotation;
 mod shortening;
-#[cfg(test)]
-mod tests;
 mod tree;
 
 pub use entry::Entry;
