@@ -108,6 +108,13 @@ impl<A: Allocator> Dlmalloc<A> {
         self.countdown
     }
 
+    /// How long the top may be, in bytes, before a free gives some of it back (own).
+    pub fn trim_check(&self) -> u64
+        ensures { result ≡ (state_of A.word self.now).trim_check }
+    {
+        self.trim_check
+    }
+
     /// Sets the granularity: the system is asked for multiples of it. True exactly for a power of two of at least 16;
     /// any other number changes nothing.
     pub fn set_granularity(&mut self, granularity: u64) -> bool
