@@ -1,6 +1,5 @@
 pub mod Frame
 pub mod Stays
-pub mod Beside
 pub mod Bits
 pub mod OneIndex
 pub mod Lists

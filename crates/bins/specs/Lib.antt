@@ -6,4 +6,3 @@ pub mod Stores
 pub mod Below
 pub mod Fits
 pub mod Laws
-pub mod Plain

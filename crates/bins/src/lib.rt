@@ -25,6 +25,3 @@ mod trie;
 mod words;
 
 pub use bins::Bins;
-
-#[cfg(test)]
-mod tests;

@@ -31,24 +31,3 @@ mod walk;
 pub use dlmalloc_chunks::{Extent, ExtentList, Kind};
 pub use heap::{Dlmalloc, is_granularity};
 pub use malloc_error::MallocError;
-
-#[cfg(test)]
-mod denial_tests;
-#[cfg(test)]
-mod flag_tests;
-#[cfg(test)]
-mod grant_tests;
-#[cfg(test)]
-mod keeping_tests;
-#[cfg(test)]
-mod order_tests;
-#[cfg(test)]
-mod release_tests;
-#[cfg(test)]
-mod resize_tests;
-#[cfg(test)]
-mod scripted;
-#[cfg(test)]
-mod tests;
-#[cfg(test)]
-mod trim_tests;

@@ -13,6 +13,3 @@ mod sizes;
 
 pub use extent::{Extent, ExtentList, Kind};
 pub use sizes::{compute_tree_index, max_request, request2size, small_index};
-
-#[cfg(test)]
-mod tests;

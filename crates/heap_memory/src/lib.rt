@@ -20,6 +20,3 @@ pub use flat_system::FlatSystem;
 pub use grant::{Grant, GrantFault};
 pub use links::Links;
 pub use memory::Memory;
-
-#[cfg(test)]
-mod tests;

@@ -1,6 +1,0 @@
-use Rattle.dlmalloc.proofs.Names.{ones, refl}
-use Rattle.dlmalloc.proofs.tests.wide_heap.Goals as goal
-
-pub new-requires : goal.new-requires
-unfolding ones
-new-requires c = refl
