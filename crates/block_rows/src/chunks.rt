@@ -1,6 +1,7 @@
 ghost use Rattle.std.specs.Prelude.{◌≡◌, ℕ, ◌+◌, ◌<◌, ◌≤◌, IsTrue};
 ghost use Rattle.heap_memory.specs.Regions.{is_granted};
 
+use crate::checks::same;
 use dlmalloc_chunks::{chunk, compute_tree_index, max_request, request2size, small_index};
 use heap_memory::{Allocator, FlatStep, FlatSystem, Links, Memory};
 use std::marker::Brand;
@@ -32,11 +33,11 @@ fn requests_have_sizes(rt: HostRuntime) -> Result<(), Fail> {
         assert!(rt; request < 18446744073709551584);
         assert_eq!(rt; request2size(request), size, "{request}");
     }
-    assert_eq!(rt; max_request(16), 18446744073709551481);
-    assert_eq!(rt; max_request(32), 18446744073709551481);
-    assert_eq!(rt; max_request(4096), 18446744073709547417);
-    assert_eq!(rt; max_request(65536), 18446744073709485977);
-    assert_eq!(rt; max_request(0x8000000000000000), 9223372036854775705);
+    same(&rt, max_request(16), 18446744073709551481);
+    same(&rt, max_request(32), 18446744073709551481);
+    same(&rt, max_request(4096), 18446744073709547417);
+    same(&rt, max_request(65536), 18446744073709485977);
+    same(&rt, max_request(0x8000000000000000), 9223372036854775705);
     Ok(())
 }
 
@@ -93,18 +94,18 @@ fn use_a_chunk<L: Ledger, R: Abort>(rt: &R, memory: &mut FlatSystem, blank: Blan
 {
     let mut steps = Steps::<L>::new(blank);
     chunk::set_inuse_and_pinuse(memory, 0x10000, 64, &mut steps);
-    assert_eq!(rt; (memory.load(0x10008), memory.load(0x10048)), (67, 1));
-    assert_eq!(rt; chunk::size(memory, 0x10000, &mut steps), 64);
+    same(rt, (memory.load(0x10008), memory.load(0x10048)), (67, 1));
+    same(rt, chunk::size(memory, 0x10000, &mut steps), 64);
     assert!(rt;
         chunk::cinuse(memory, 0x10000, &mut steps) && chunk::pinuse(memory, 0x10000, &mut steps)
     );
     chunk::clear_pinuse(memory, 0x10000, &mut steps);
-    assert_eq!(rt; memory.load(0x10008), 66);
+    same(rt, memory.load(0x10008), 66);
     chunk::set_inuse(memory, 0x10000, 32, &mut steps);
-    assert_eq!(rt; (memory.load(0x10008), memory.load(0x10028)), (34, 1));
+    same(rt, (memory.load(0x10008), memory.load(0x10028)), (34, 1));
     chunk::set_size_and_pinuse_of_inuse_chunk(memory, 0x10000, 64, &mut steps);
     assert!(rt; chunk::inuse(memory, 0x10000, &mut steps));
-    assert_eq!(rt; chunk::next(memory, 0x10000, &mut steps), 0x10040);
+    same(rt, chunk::next(memory, 0x10000, &mut steps), 0x10040);
 }
 
 /// Makes a free chunk at the start of the memory.
@@ -118,19 +119,20 @@ fn free_a_chunk<L: Ledger, R: Abort>(rt: &R, memory: &mut FlatSystem, blank: Bla
     let mut steps = Steps::<L>::new(blank);
     memory.store(0x10048, 51);
     chunk::set_free_with_pinuse(memory, 0x10000, 64, 0x10040, &mut steps);
-    assert_eq!(rt;
+    same(
+        rt,
         (
             memory.load(0x10008),
             memory.load(0x10040),
-            memory.load(0x10048)
+            memory.load(0x10048),
         ),
-        (65, 64, 50)
+        (65, 64, 50),
     );
     assert!(rt; !chunk::inuse(memory, 0x10000, &mut steps));
     chunk::set_size_and_pinuse_of_free_chunk(memory, 0x10000, 96, &mut steps);
-    assert_eq!(rt; (memory.load(0x10008), memory.load(0x10060)), (97, 96));
+    same(rt, (memory.load(0x10008), memory.load(0x10060)), (97, 96));
     chunk::set_foot(memory, 0x10000, 128, &mut steps);
-    assert_eq!(rt; chunk::prev(memory, 0x10080, &mut steps), 0x10000);
+    same(rt, chunk::prev(memory, 0x10080, &mut steps), 0x10000);
 }
 
 #[test]

@@ -3,6 +3,7 @@ ghost use Rattle.std.specs.List.{list_all};
 ghost use Rattle.heap_memory.specs.Regions.{is_granted};
 ghost use Rattle.block_rows.specs.Plain.{is_apart, HasPlace, AreBeside};
 
+use crate::checks::same;
 use bins::Bins;
 use heap_memory::{Allocator, FlatStep, FlatSystem, Links, Memory};
 use std::alloc::{AllocError, Global};
@@ -174,16 +175,16 @@ fn worked_answers<L: Ledger, R: Abort>(
 {
     insert(bins, memory, list, 32, BASE, steps)?;
     insert(bins, memory, list, 32, BASE + 0x40, steps)?;
-    assert_eq!(rt; bins.least_fit(memory, 32, steps), Some(BASE + 0x40));
+    same(rt, bins.least_fit(memory, 32, steps), Some(BASE + 0x40));
     insert(bins, memory, list, 272, BASE + 0x100, steps)?;
     insert(bins, memory, list, 272, BASE + 0x320, steps)?;
-    assert_eq!(rt; bins.least_fit(memory, 272, steps), Some(BASE + 0x100));
+    same(rt, bins.least_fit(memory, 272, steps), Some(BASE + 0x100));
     insert(bins, memory, list, 1008, BASE + 0x1000, steps)?;
     insert(bins, memory, list, 608, BASE + 0x1410, steps)?;
-    assert_eq!(rt; bins.least_fit(memory, 512, steps), Some(BASE + 0x1410));
+    same(rt, bins.least_fit(memory, 512, steps), Some(BASE + 0x1410));
     assert_eq!(rt; list.len(), 6);
     unlink(bins, memory, list, 1, steps);
-    assert_eq!(rt; bins.least_fit(memory, 32, steps), Some(BASE));
+    same(rt, bins.least_fit(memory, 32, steps), Some(BASE));
     Ok(())
 }
 
@@ -275,13 +276,17 @@ fn run<L: Ledger, R: Abort>(
             break;
         }
         unlink(&mut bins, memory, &mut list, 0, &mut steps);
-        assert_eq!(rt; bins.least_fit(memory, 0, &mut steps), least_in(&list, 0));
+        same(
+            rt,
+            bins.least_fit(memory, 0, &mut steps),
+            least_in(&list, 0),
+        );
     }
     insert(&mut bins, memory, &mut list, BYTES, BASE, &mut steps)?;
-    assert_eq!(rt; bins.least_fit(memory, 0, &mut steps), Some(BASE));
-    assert_eq!(rt; bins.least_fit(memory, BYTES, &mut steps), Some(BASE));
-    assert_eq!(rt; bins.least_fit(memory, BYTES + 1, &mut steps), None);
-    assert_eq!(rt; bins.least_fit(memory, u64::MAX, &mut steps), None);
+    same(rt, bins.least_fit(memory, 0, &mut steps), Some(BASE));
+    same(rt, bins.least_fit(memory, BYTES, &mut steps), Some(BASE));
+    same(rt, bins.least_fit(memory, BYTES + 1, &mut steps), None);
+    same(rt, bins.least_fit(memory, u64::MAX, &mut steps), None);
     Ok(())
 }
 

@@ -2,6 +2,7 @@ ghost use Rattle.std.specs.Prelude.{◌≡◌, ℕ, ◌+◌, ◌*◌, ◌<◌, �
 ghost use Rattle.heap_memory.specs.Regions.{IsWordOf};
 ghost use Rattle.heap_memory.specs.Words.{AreWordsOf};
 
+use crate::checks::same;
 use heap_memory::{Allocator, FlatStep, FlatSystem, Grant, GrantFault, Links, Memory};
 use std::alloc::{AllocError, Global};
 use std::marker::Brand;
@@ -300,22 +301,23 @@ fn words_and_bytes_are_kept(rt: HostRuntime) -> Result<(), Fail> {
     script.push(give(0x410000, 65536, 0))?;
     let mut system = FlatSystem::new(rt.alloc(), script, true, false, 65536)?;
     assert!(rt; system.allocates_zeros());
-    assert_eq!(rt; system.page_size(), 65536);
+    same(&rt, system.page_size(), 65536);
     let grant = system.alloc(65536)?;
     assert_eq!(rt; (grant.base, grant.size, grant.flags), (0x400000, 65536, 0));
-    assert_eq!(rt; system.load(0x400000), 0);
-    assert_eq!(rt;
+    same(&rt, system.load(0x400000), 0);
+    same(
+        &rt,
         counted::<Brand>(&mut system, 0x40fff8, 0x1122_3344_5566_7788, Blank::new(1)),
-        0x1122_3344_5566_7788
+        0x1122_3344_5566_7788,
     );
-    assert_eq!(rt; system.load_byte(0x40fff9), 0x77);
+    same(&rt, system.load_byte(0x40fff9), 0x77);
     system.store_byte(0x40ffff, 0xaa);
-    assert_eq!(rt; system.load(0x40fff8), 0xaa22_3344_5566_7788);
-    assert_eq!(rt; system.load(0x40fff0), 0);
+    same(&rt, system.load(0x40fff8), 0xaa22_3344_5566_7788);
+    same(&rt, system.load(0x40fff0), 0);
 
     // No store took a step of the script.
     assert_eq!(rt; system.alloc(65536), granted(0x410000, 65536));
-    assert_eq!(rt; system.load(0x40fff8), 0xaa22_3344_5566_7788);
+    same(&rt, system.load(0x40fff8), 0xaa22_3344_5566_7788);
     Ok(())
 }
 
@@ -353,15 +355,15 @@ fn runs_of_words_are_filled_and_copied(rt: HostRuntime) -> Result<(), Fail> {
     fill::<Brand>(&mut system, 0x400010, 3, 0xaa, Blank::new(1));
     system.store(0x400018, 0xbb);
     copy::<Brand>(&mut system, 0x400010, 0x400100, 3, Blank::new(1));
-    assert_eq!(rt; system.load(0x400008), 0);
-    assert_eq!(rt; system.load(0x400010), 0xaa);
-    assert_eq!(rt; system.load(0x400018), 0xbb);
-    assert_eq!(rt; system.load(0x400020), 0xaa);
-    assert_eq!(rt; system.load(0x400028), 0);
-    assert_eq!(rt; system.load(0x4000f8), 0);
-    assert_eq!(rt; system.load(0x400100), 0xaa);
-    assert_eq!(rt; system.load(0x400108), 0xbb);
-    assert_eq!(rt; system.load(0x400110), 0xaa);
-    assert_eq!(rt; system.load(0x400118), 0);
+    same(&rt, system.load(0x400008), 0);
+    same(&rt, system.load(0x400010), 0xaa);
+    same(&rt, system.load(0x400018), 0xbb);
+    same(&rt, system.load(0x400020), 0xaa);
+    same(&rt, system.load(0x400028), 0);
+    same(&rt, system.load(0x4000f8), 0);
+    same(&rt, system.load(0x400100), 0xaa);
+    same(&rt, system.load(0x400108), 0xbb);
+    same(&rt, system.load(0x400110), 0xaa);
+    same(&rt, system.load(0x400118), 0);
     Ok(())
 }
