@@ -33,12 +33,3 @@ pub use probing::{fault_code, is_granted};
 pub use run_error::RunError;
 pub use runs::{Run, run_calls};
 pub use twin_system::TwinSystem;
-
-#[cfg(test)]
-mod release_tests;
-#[cfg(test)]
-mod tests;
-#[cfg(test)]
-mod twin_rows;
-#[cfg(test)]
-mod twin_tests;

@@ -1,5 +1,5 @@
 // A paged system with flat words beside it.
-ghost use Rattle.std.specs.Prelude.{◌≡◌, ◌≢◌, ℕ, ◌+◌, ◌*◌, ◌%◌, ◌<◌, ◌≤◌, ◌⊎◌, [], ◌∷◌, true, refl, IsTrue, IfOk, IfErr, OnErr};
+ghost use Rattle.std.specs.Prelude.{◌≡◌, ◌≢◌, ℕ, ◌+◌, ◌*◌, ◌%◌, ◌<◌, ◌≤◌, ◌⊎◌, [], ◌∷◌, true, refl, IsTrue, IfSome, IfOk, IfErr, OnErr};
 ghost use Rattle.std.specs.List.{AllByRecursion};
 ghost use Rattle.std.specs.Int.{is_power_of_two};
 ghost use Rattle.kernel_heap.specs.Config.{IsGoodWindow};
@@ -64,8 +64,9 @@ impl TwinSystem {
     {}
 
     /// The flat word at an address, if there is one.
-    #[cfg(test)]
-    pub(crate) fn flat_word(&self, at: u64) -> Option<u64> {
+    pub fn flat_word(&self, at: u64) -> Option<u64>
+        ensures { IfSome result (λ word. word ≡ flat_word self.now.flat at) }
+    {
         self.flat.get(at)
     }
 

@@ -1,0 +1,116 @@
+//! Pages with flat words beside them, alone and under a heap.
+ghost use Rattle.std.specs.Prelude.{◌≡◌, ◌%◌, ◌<◌, IfOk};
+ghost use Rattle.kernel_heap.specs.Layout.{IsNew};
+ghost use Rattle.kernel_heap.specs.TwinSystem.{paged_of};
+
+use crate::checks::same;
+use crate::twin_rows::word_of_both;
+use dlmalloc::Dlmalloc;
+use heap_memory::{Allocator, GrantFault, Memory};
+use kernel_heap::TwinSystem;
+use std::alloc::{AllocError, Global};
+use std::marker::Brand;
+use std::process::Abort;
+use std::sync::ledger::{Blank, Ledger};
+use std::test::Fail;
+use step_count::Steps;
+
+/// A twin over a window of 16 pages from 0x400000 on, and 1024 frames.
+fn twin(alloc: Global) -> Result<TwinSystem, AllocError>
+    ensures { IfOk result (λ system. IsNew (paged_of system) 4194304 16 1024) }
+{
+    TwinSystem::new(alloc, 0x40_0000, 16, 1024)
+}
+
+/// Stores words and bytes in a grant of all pages, and loads them.
+fn expect_words(rt: &impl Abort, system: &mut TwinSystem) -> Result<(), Fail>
+    requires { IsNew (paged_of system.old) 4194304 16 1024 }
+{
+    assert!(rt; system.allocates_zeros());
+    assert!(rt; system.can_release_part(0));
+    same(rt, system.page_size(), 4096);
+    let grant = system.alloc(65536)?;
+    assert_eq!(rt;
+        (grant.base, grant.size, grant.flags),
+        (0x40_0000, 65536, 0)
+    );
+    same(rt, system.load(0x40_0000), 0);
+    system.store(0x40_fff8, 0x1122_3344_5566_7788);
+    same(rt, system.load(0x40_fff8), 0x1122_3344_5566_7788);
+    same(rt, system.load_byte(0x40_fff9), 0x77);
+    system.store_byte(0x40_ffff, 0xaa);
+    same(rt, system.load(0x40_fff8), 0xaa22_3344_5566_7788);
+    same(rt, system.load(0x40_fff0), 0);
+    // The refusal leaves the words, so they can be loaded.
+    assert_eq!(rt; system.alloc(4096), Err(GrantFault::NoSpace));
+    same(rt, system.load(0x40_fff8), 0xaa22_3344_5566_7788);
+    Ok(())
+}
+
+#[test]
+fn words_stand_in_both(rt: HostRuntime) -> Result<(), Fail> {
+    let mut system = twin(rt.alloc())?;
+    expect_words(&rt, &mut system)
+}
+
+/// Gives a grant back, all but its first bytes: whether it was taken, and what stands at its end, which is granted again
+/// where it was.
+fn given_back(rt: &impl Abort, system: &mut TwinSystem, left: u64) -> Result<(bool, u64), Fail>
+    requires new { IsNew (paged_of system.old) 4194304 16 1024 }
+    requires less { left < 65536 }
+    requires whole { left % 16 ≡ 0 }
+{
+    let grant = system.alloc(65536)?;
+    assert_eq!(rt; (grant.base, grant.size), (0x40_0000, 65536));
+    system.store(0x40_fff8, 7);
+    let taken = if left == 0 {
+        system.free(0x40_0000, 65536)
+    } else {
+        system.free_part(0x40_0000, 65536, left)
+    };
+    if taken {
+        let again = system.alloc(65536 - left)?;
+        same(
+            rt,
+            (again.base, again.size),
+            (0x40_0000 + left, 65536 - left),
+        );
+    }
+    Ok((taken, word_of_both(rt, system, 0x40_fff8, "given back")))
+}
+
+#[test]
+fn grants_are_cleared_in_both(rt: HostRuntime) -> Result<(), Fail> {
+    for (left, taken, word) in [
+        (0, true, 0),
+        (4096, true, 0),
+        (4112, false, 7),
+        (16, false, 7),
+    ] {
+        let mut system = twin(rt.alloc())?;
+        same(&rt, given_back(&rt, &mut system, left)?, (taken, word));
+    }
+    Ok(())
+}
+
+/// The address of the first block of 24 bytes of a heap over pages with flat words.
+fn first_block<L: Ledger>(alloc: Global, blank: Blank) -> Result<Option<u64>, AllocError>
+    requires name { blank.name ≡ L.name }
+    requires parts { blank.parts ≡ L.parts }
+    requires some { 0 < blank.parts }
+{
+    let system = TwinSystem::new(alloc, 0x40_0000, 1024, 1024)?;
+    let mut heap = Dlmalloc::new_with_allocator(system);
+    let mut steps = Steps::<L>::new(blank);
+    Ok(heap.c_malloc(24, &mut steps).ok())
+}
+
+#[test]
+fn a_heap_stands_on_both(rt: HostRuntime) -> Result<(), Fail> {
+    same(
+        &rt,
+        first_block::<Brand>(rt.alloc(), Blank::new(1))?,
+        Some(0x40_0010),
+    );
+    Ok(())
+}
