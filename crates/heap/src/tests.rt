@@ -3,8 +3,9 @@ use crate::pages::{Page, text_of};
 use crate::served::program;
 use heap_program::{MemorySink, MemorySource, ReaderSource, WriterSink};
 use std::alloc::{AllocError, Global};
+use std::fmt::Debug;
 use std::io::{self, Error, ErrorKind, Read, Write};
-use std::process::ExitCode;
+use std::process::{Abort, ExitCode};
 use std::test::Fail;
 
 /// A call of the program: its words, and what is to come of it.
@@ -130,25 +131,40 @@ impl Call {
     }
 }
 
+/// Ends the test, and shows both values and the words, where they differ. A test with an `assert_eq!` for each comparison
+/// takes several times as long to be proved.
+fn same<T: PartialEq + Debug + Drop>(rt: &impl Abort, found: T, wanted: T, words: &[&str]) {
+    assert_eq!(rt; found, wanted, "{:?}", words);
+}
+
+/// Sees that the program ends so over no input.
+fn expect_row(rt: &impl Abort, alloc: Global, row: &Row) -> Result<(), Fail> {
+    let arguments = arguments(alloc, row.words)?;
+    let mut call = Call::new(alloc, "", &[], &[])?;
+    let status = call.run(alloc, Ok(arguments));
+    same(rt, status, ExitCode::from(row.status), row.words);
+    same(rt, call.sink.written(), row.output.as_bytes(), row.words);
+    same(rt, call.errors.written(), row.errors.as_bytes(), row.words);
+    Ok(())
+}
+
 #[test]
 fn words_have_their_statuses(rt: HostRuntime) -> Result<(), Fail> {
     for row in &ROWS {
-        let mut call = Call::new(rt.alloc(), "", &[], &[])?;
-        let status = call.run(rt.alloc(), Ok(arguments(rt.alloc(), row.words)?));
-        assert_eq!(rt; status, ExitCode::from(row.status), "{:?}", row.words);
-        assert_eq!(rt;
-            call.sink.written(),
-            row.output.as_bytes(),
-            "{:?}",
-            row.words
-        );
-        assert_eq!(rt;
-            call.errors.written(),
-            row.errors.as_bytes(),
-            "{:?}",
-            row.words
-        );
+        expect_row(&rt, rt.alloc(), row)?;
     }
+    Ok(())
+}
+
+/// Sees that these words show a page, and that no input is read.
+fn expect_page(rt: &impl Abort, alloc: Global, words: &[&str], page: Page) -> Result<(), Fail> {
+    let arguments = arguments(alloc, words)?;
+    let mut call = Call::new(alloc, "malloc 24\n", &[0], &[])?;
+    let status = call.run(alloc, Ok(arguments));
+    same(rt, status, ExitCode::from(0), words);
+    same(rt, call.sink.written(), text_of(page).as_bytes(), words);
+    same(rt, call.sink.flushed(), call.sink.written().len(), words);
+    same(rt, call.errors.written(), b"".as_slice(), words);
     Ok(())
 }
 
@@ -159,53 +175,81 @@ fn pages_are_shown(rt: HostRuntime) -> Result<(), Fail> {
         (["--help", "lines"].as_slice(), Page::Lines),
         (["--version"].as_slice(), Page::Version),
     ] {
-        let mut call = Call::new(rt.alloc(), "malloc 24\n", &[0], &[])?;
-        let status = call.run(rt.alloc(), Ok(arguments(rt.alloc(), words)?));
-        assert_eq!(rt; status, ExitCode::from(0));
-        assert_eq!(rt; call.sink.written(), text_of(page).as_bytes());
-        assert_eq!(rt; call.sink.flushed(), call.sink.written().len());
-        assert_eq!(rt; call.errors.written(), b"".as_slice());
+        expect_page(&rt, rt.alloc(), words, page)?;
     }
+    Ok(())
+}
+
+/// A call of the program of which some reads and some writes fail, and what is to come of it.
+struct FaultRow {
+    words: &'static [&'static str],
+    reads: &'static [u64],
+    writes: &'static [u64],
+    status: u8,
+    errors: &'static str,
+}
+
+const FAULTS: [FaultRow; 4] = [
+    FaultRow {
+        words: &["run"],
+        reads: &[0],
+        writes: &[],
+        status: 6,
+        errors: "read fault\n",
+    },
+    FaultRow {
+        words: &["run"],
+        reads: &[],
+        writes: &[0],
+        status: 7,
+        errors: "write fault\n",
+    },
+    FaultRow {
+        words: &["--help"],
+        reads: &[],
+        writes: &[0],
+        status: 7,
+        errors: "write fault\n",
+    },
+    FaultRow {
+        words: &["--help"],
+        reads: &[],
+        writes: &[1],
+        status: 7,
+        errors: "write fault\n",
+    },
+];
+
+/// Sees that the program ends so where reads or writes fail.
+fn expect_fault(rt: &impl Abort, alloc: Global, row: &FaultRow) -> Result<(), Fail> {
+    let arguments = arguments(alloc, row.words)?;
+    let mut call = Call::new(alloc, "malloc 24\n", row.reads, row.writes)?;
+    let status = call.run(alloc, Ok(arguments));
+    same(rt, status, ExitCode::from(row.status), row.words);
+    same(rt, call.errors.written(), row.errors.as_bytes(), row.words);
     Ok(())
 }
 
 #[test]
 fn faults_have_their_statuses(rt: HostRuntime) -> Result<(), Fail> {
-    for (words, reads, writes, status, errors) in [
-        (
-            ["run"].as_slice(),
-            [0].as_slice(),
-            [].as_slice(),
-            6,
-            "read fault\n",
-        ),
-        (
-            ["run"].as_slice(),
-            [].as_slice(),
-            [0].as_slice(),
-            7,
-            "write fault\n",
-        ),
-        (
-            ["--help"].as_slice(),
-            [].as_slice(),
-            [0].as_slice(),
-            7,
-            "write fault\n",
-        ),
-        (
-            ["--help"].as_slice(),
-            [].as_slice(),
-            [1].as_slice(),
-            7,
-            "write fault\n",
-        ),
-    ] {
-        let mut call = Call::new(rt.alloc(), "malloc 24\n", reads, writes)?;
-        let ended = call.run(rt.alloc(), Ok(arguments(rt.alloc(), words)?));
-        assert_eq!(rt; ended, ExitCode::from(status));
-        assert_eq!(rt; call.errors.written(), errors.as_bytes());
+    for row in &FAULTS {
+        expect_fault(&rt, rt.alloc(), row)?;
     }
+    Ok(())
+}
+
+/// Sees that the program ends so where its arguments cannot be read.
+fn expect_unread(
+    rt: &impl Abort,
+    alloc: Global,
+    kind: ErrorKind,
+    status: u8,
+    errors: &str,
+) -> Result<(), Fail> {
+    let mut call = Call::new(alloc, "", &[], &[])?;
+    let ended = call.run(alloc, Err(Error::from(kind)));
+    same(rt, ended, ExitCode::from(status), &[]);
+    same(rt, call.errors.written(), errors.as_bytes(), &[]);
     Ok(())
 }
 
@@ -215,10 +259,7 @@ fn unread_arguments_have_their_statuses(rt: HostRuntime) -> Result<(), Fail> {
         (ErrorKind::OutOfMemory, 5, "out of memory\n"),
         (ErrorKind::InvalidData, 1, "usage\n"),
     ] {
-        let mut call = Call::new(rt.alloc(), "", &[], &[])?;
-        let ended = call.run(rt.alloc(), Err(Error::from(kind)));
-        assert_eq!(rt; ended, ExitCode::from(status));
-        assert_eq!(rt; call.errors.written(), errors.as_bytes());
+        expect_unread(&rt, rt.alloc(), kind, status, errors)?;
     }
     Ok(())
 }
@@ -226,10 +267,12 @@ fn unread_arguments_have_their_statuses(rt: HostRuntime) -> Result<(), Fail> {
 /// A text that cannot be told changes no status.
 #[test]
 fn untold_statuses_stay(rt: HostRuntime) -> Result<(), Fail> {
+    let arguments = arguments(rt.alloc(), &[])?;
+    let failing = [0].to_vec(rt.alloc())?;
     let mut call = Call::new(rt.alloc(), "", &[], &[])?;
-    call.errors = MemorySink::new(rt.alloc(), 4096, [0].to_vec(rt.alloc())?);
-    let status = call.run(rt.alloc(), Ok(arguments(rt.alloc(), &[])?));
-    assert_eq!(rt; status, ExitCode::from(1));
+    call.errors = MemorySink::new(rt.alloc(), 4096, failing);
+    let status = call.run(rt.alloc(), Ok(arguments));
+    same(&rt, status, ExitCode::from(1), &[]);
     Ok(())
 }
 
@@ -285,6 +328,8 @@ impl Write for InterruptedWriter {
 
 #[test]
 fn interrupted_calls_are_tried_again(rt: HostRuntime) -> Result<(), Fail> {
+    let words = ["run"];
+    let arguments = arguments(rt.alloc(), &words)?;
     let mut writer = InterruptedWriter {
         bytes: Vec::new(rt.alloc()),
         interrupts: false,
@@ -295,7 +340,6 @@ fn interrupted_calls_are_tried_again(rt: HostRuntime) -> Result<(), Fail> {
     });
     let mut sink = WriterSink::new(&mut writer);
     let mut errors = MemorySink::new(rt.alloc(), 4096, Vec::new(rt.alloc()));
-    let arguments = arguments(rt.alloc(), &["run"])?;
     let status = program(
         rt.alloc(),
         Ok(arguments),
@@ -303,11 +347,13 @@ fn interrupted_calls_are_tried_again(rt: HostRuntime) -> Result<(), Fail> {
         &mut sink,
         &mut errors,
     );
-    assert_eq!(rt; status, ExitCode::from(0));
-    assert_eq!(rt; errors.written(), b"".as_slice());
-    assert_eq!(rt;
+    same(&rt, status, ExitCode::from(0), &words);
+    same(&rt, errors.written(), b"".as_slice(), &words);
+    same(
+        &rt,
         writer.bytes.as_slice(),
-        b"block 0 0x400010\nheap 0x400000+16\nregion 0x400000+16 heap\nframes 1004 tables 4\n".as_slice()
+        b"block 0 0x400010\nheap 0x400000+16\nregion 0x400000+16 heap\nframes 1004 tables 4\n".as_slice(),
+        &words,
     );
     Ok(())
 }
