@@ -5,6 +5,11 @@ pub(crate) fn run(rt: &HostRuntime) -> anyhow::Result<()> {
     let mut memory = [0u64; 4096];
     let mut heap = CheckedHeap::over(&mut memory, 0x10000);
     heap.set_granularity(0x4000);
+    serve(rt, &mut heap)
+}
+
+// Has a heap serve requests, and prints where the blocks are.
+fn serve(rt: &HostRuntime, heap: &mut CheckedHeap<'_>) -> anyhow::Result<()> {
     let squares = heap.malloc(100, 16)?;
     let name = heap.malloc(40, 16)?;
     let page = heap.calloc(4096, 4096)?;

@@ -30,6 +30,11 @@ const CALLS: [Call; 5] = [
 
 pub(crate) fn run(rt: &HostRuntime) -> anyhow::Result<()> {
     let mut machine = Machine::new(rt.alloc(), &CONFIG)?;
+    serve(rt, &mut machine)
+}
+
+// Serves the calls, and prints what comes of each.
+fn serve(rt: &HostRuntime, machine: &mut Machine) -> anyhow::Result<()> {
     for call in &CALLS {
         match machine.step(call)?.reply {
             Reply::Block { number, address } => println!(rt; "block {number} at {address:#x}")?,

@@ -15,8 +15,12 @@ const READ: Rights = Rights {
 };
 
 pub(crate) fn run(rt: &HostRuntime) -> anyhow::Result<()> {
-    let alloc = rt.alloc();
-    let mut space = Space::new(alloc, 16)?;
+    let mut space = Space::new(rt.alloc(), 16)?;
+    change(rt, &mut space)
+}
+
+// Changes the pages of a space, and prints what comes of it.
+fn change(rt: &HostRuntime, space: &mut Space) -> anyhow::Result<()> {
     space.map_at(0x1000, 2, DATA)?;
     let start = space.place(0x1000, 0x8000, 2, DATA)?;
     println!(rt;
@@ -30,7 +34,7 @@ pub(crate) fn run(rt: &HostRuntime) -> anyhow::Result<()> {
     }
     let bytes = space.load(0x2ffe, 4, true)?;
     println!(rt; "bytes {:?}", bytes.as_slice())?;
-    for area in space.areas(alloc)?.as_slice() {
+    for area in space.areas(rt.alloc())?.as_slice() {
         println!(rt;
             "{:#x}, {} pages, {:?}",
             area.start, area.pages, area.rights
