@@ -1,6 +1,6 @@
 use lib.Count.{ones}
 use Rattle.std.proofs.Common.{refl}
-use Rattle.block_rows.proofs.calls.wide_heap.Goals as goal
+use Rattle.block_rows.proofs.call_rows.wide_heap.Goals as goal
 
 pub new-requires : goal.new-requires
 unfolding ones
