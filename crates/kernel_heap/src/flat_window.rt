@@ -1,5 +1,5 @@
 // Words from an address on, one after the other.
-ghost use Rattle.std.specs.Prelude.{◌≡◌, ◌≢◌, ℕ, ◌+◌, ◌-◌, ◌*◌, ◌%◌, ◌^◌, ◌<◌, ◌≤◌, ◌⊎◌, IfSome, OnOk};
+ghost use Rattle.std.specs.Prelude.{◌≡◌, ◌≢◌, ℕ, ◌+◌, ◌-◌, ◌*◌, ◌%◌, ◌^◌, ◌<◌, ◌≤◌, ◌⊎◌, IfSome, IfNone, OnOk};
 
 use std::alloc::{AllocError, Global};
 
@@ -35,7 +35,9 @@ impl FlatWindow {
 
     /// The word at an address, if there is one.
     pub fn get(&self, at: u64) -> Option<u64>
-        ensures { IfSome result (λ word. word ≡ flat_word self.now at) }
+        ensures word { IfSome result (λ word. word ≡ flat_word self.now at) }
+        ensures covered { IfSome result (λ word. IsCovered self.now at) }
+        ensures none { IfNone result (IsCovered self.now at → ⊥) }
     {
         let offset = at.checked_sub(self.base)?;
         self.words.get((offset / 8) as usize).copied()

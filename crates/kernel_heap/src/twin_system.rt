@@ -1,5 +1,5 @@
 // A paged system with flat words beside it.
-ghost use Rattle.std.specs.Prelude.{◌≡◌, ◌≢◌, ℕ, ◌+◌, ◌*◌, ◌%◌, ◌<◌, ◌≤◌, ◌⊎◌, [], ◌∷◌, true, refl, IsTrue, IfSome, IfOk, IfErr, OnErr};
+ghost use Rattle.std.specs.Prelude.{◌≡◌, ◌≢◌, ℕ, ◌+◌, ◌*◌, ◌%◌, ◌<◌, ◌≤◌, ◌⊎◌, [], ◌∷◌, true, refl, IsTrue, IfSome, IfNone, IfOk, IfErr, OnErr};
 ghost use Rattle.std.specs.List.{AllByRecursion};
 ghost use Rattle.std.specs.Int.{is_power_of_two};
 ghost use Rattle.kernel_heap.specs.Config.{IsGoodWindow};
@@ -34,7 +34,7 @@ impl TwinSystem {
     ghost use Rattle.heap_memory.specs.declared.grant.GrantFault.TheVariants.{OutOfMemory};
     ghost use Rattle.heap_model.specs.Request.{pages_in};
     ghost use Rattle.kernel_heap.specs.Layout.{IsNew, IsGrantedFor, LacksPlaceOrFrames};
-    ghost use Rattle.kernel_heap.specs.FlatWindow.{flat_word};
+    ghost use Rattle.kernel_heap.specs.FlatWindow.{IsCovered, flat_word};
     ghost use Rattle.kernel_heap.specs.TwinSystem.{paged_of, IsFlatCleared};
     ghost use Rattle.kernel_heap.specs.Words.{grants_of};
 
@@ -65,7 +65,9 @@ impl TwinSystem {
 
     /// The flat word at an address, if there is one.
     pub fn flat_word(&self, at: u64) -> Option<u64>
-        ensures { IfSome result (λ word. word ≡ flat_word self.now.flat at) }
+        ensures word { IfSome result (λ word. word ≡ flat_word self.now.flat at) }
+        ensures covered { IfSome result (λ word. IsCovered self.now.flat at) }
+        ensures none { IfNone result (IsCovered self.now.flat at → ⊥) }
     {
         self.flat.get(at)
     }
