@@ -29,6 +29,7 @@ fn expect_words(rt: &impl Abort, system: &mut TwinSystem) -> Result<(), Fail>
     assert!(rt; system.allocates_zeros());
     assert!(rt; system.can_release_part(0));
     same(rt, system.page_size(), 4096);
+    same(rt, system.flat_word(0x40_0000), None);
     let grant = system.alloc(65536)?;
     assert_eq!(rt;
         (grant.base, grant.size, grant.flags),
@@ -41,6 +42,10 @@ fn expect_words(rt: &impl Abort, system: &mut TwinSystem) -> Result<(), Fail>
     system.store_byte(0x40_ffff, 0xaa);
     same(rt, system.load(0x40_fff8), 0xaa22_3344_5566_7788);
     same(rt, system.load(0x40_fff0), 0);
+    same(rt, system.flat_word(0x3f_fff8), None);
+    same(rt, system.flat_word(0x40_fff8), Some(0xaa22_3344_5566_7788));
+    same(rt, system.flat_word(0x40_ffff), Some(0xaa22_3344_5566_7788));
+    same(rt, system.flat_word(0x41_0000), None);
     // The refusal leaves the words, so they can be loaded.
     assert_eq!(rt; system.alloc(4096), Err(GrantFault::NoSpace));
     same(rt, system.load(0x40_fff8), 0xaa22_3344_5566_7788);
