@@ -1,12 +1,11 @@
 -- A list of arenas, of which the first has to do with a call, or the others.
-use Rattle.std.specs.Prelude.{◌≡◌, ◌≢◌, ℕ, zero, suc, ◌+◌, ◌*◌, ◌^◌, ◌<◌, ◌≤◌, ◌-◌, ◌/◌, Bool, true, false, ◌&&◌, ◌||◌, not, nat_le, nat_lt, if◌then◌else◌, List, [], ◌∷◌, ◌++◌, Some, Result, Ok, Err, IfOk, IfErr, OnErr, IsTrue, length, map, cond, take, drop, insert, slice_index, slice_index_or, slice_set}
-use Rattle.std.specs.List.{AllByRecursion, AllZip, filter, list_all, list_any, refill}
+use Rattle.std.specs.Prelude.{◌≡◌, ◌≢◌, ℕ, zero, suc, ◌+◌, ◌*◌, ◌^◌, ◌<◌, ◌≤◌, ◌-◌, ◌/◌, Bool, true, false, ◌&&◌, ◌||◌, nat_le, nat_lt, if◌then◌else◌, List, [], ◌∷◌, ◌++◌, Some, Result, Ok, Err, IfOk, IfErr, OnErr, IsTrue, length, take, drop, insert, slice_index, slice_index_or, slice_set}
+use Rattle.std.specs.List.{AllByRecursion, AllZip, list_all, list_any, refill}
 use Rattle.std.proofs.Common.{◌∙◌, ap, sym, subst, refl, inl, inr, arith, append-nil, drop_of_length-le, take_all}
 use Rattle.std.proofs.lemmas.Bool.Decides.{nat_tests}
 use Rattle.heap_memory.specs.declared.grant.Grant.{Grant}
 use Rattle.heap_memory.specs.declared.grant.GrantFault.{GrantFault}
 use Rattle.heap_memory.specs.Regions.{is_granted, with_grant, IsApart, IsWordOf}
-use Rattle.heap_memory.specs.Runs.{begins_in, up_to, without}
 use Rattle.heap_memory.specs.Events.{Refused, Released}
 use Rattle.heap_memory.specs.Words.{IsStored}
 use borrow.Rule.Slice.PartMut.{put_mid}
@@ -39,18 +38,6 @@ with_behind low mid grant [] ys behind front = refl
 with_behind low mid grant (x ∷ xs) ys behind front =
     let not_before : nat_lt grant.base x.base ≡ false = grind (arith, nat_tests) in
     rw not_before (ap (λ (gs : List Grant). x ∷ gs) (with_behind low mid grant xs ys behind (grind (arith, nat_tests))))
-
-pub without_append : (low high : ℕ) (xs ys : List Grant) → without low high (xs ++ ys) ≡ without low high xs ++ without low high ys
-without_append low high [] ys = refl
-without_append low high (x ∷ xs) ys = go (begins_in low high x) (without_append low high xs ys)
-  where
-    kept : List Grant → List Grant
-    kept = filter (λ r. not (begins_in low high r))
-
-    go : (b : Bool) → map (λ r. up_to low r) (kept (xs ++ ys)) ≡ map (λ r. up_to low r) (kept xs) ++ map (λ r. up_to low r) (kept ys) →
-        map (λ r. up_to low r) (cond (not b) (x ∷ kept (xs ++ ys)) (kept (xs ++ ys))) ≡ map (λ r. up_to low r) (cond (not b) (x ∷ kept xs) (kept xs)) ++ map (λ r. up_to low r) (kept ys)
-    go true same = same
-    go false same = ap (λ (gs : List Grant). up_to low x ∷ gs) same
 
 pub apart_append : (from to : ℕ) (xs ys : List Grant) → AllByRecursion (IsApart from to) xs → AllByRecursion (IsApart from to) ys → AllByRecursion (IsApart from to) (xs ++ ys)
 apart_append from to [] ys front rest = rest

@@ -73,7 +73,6 @@ IsAbove arena end = (at : ℕ) → IsTrue (is_granted (regions_of arena) at) →
 abbrev pub AreInside : Arena → Type 0
 AreInside arena = (at : ℕ) → IsTrue (is_granted (regions_of arena) at) → (arena.base ≤ at) × (at < end_of arena)
 
--- A request is denied where the words behind all grants are too few for it, and where the table has no place for two words
--- more.
+-- a request is denied where the words behind all grants are too few for it, and where the table has no place for another grant
 abbrev pub IsDenied : Arena → ℕ → GrantFault → Type 0
-IsDenied arena size fault = (fault ≡ NoSpace) × ((end_of arena < arena.top + size) ⊎ (length arena.table.words.now < 2 * arena.table.count + 2))
+IsDenied arena size fault = (fault ≡ NoSpace) × (has_room arena size ≡ false)

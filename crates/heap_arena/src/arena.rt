@@ -136,6 +136,10 @@ impl<'a> Arena<'a> {
 
 /// An arena of no words, which grants nothing.
 impl<'a> Default for Arena<'a> {
+    ghost use Rattle.heap_arena.specs.Arena.{regions_of};
+
+    ghost is_default = { λ arena. (arena.words.now ≡ []) × (regions_of arena ≡ []) };
+
     fn default() -> Arena<'a> {
         Arena::new(&mut [], &mut [], 4096)
     }

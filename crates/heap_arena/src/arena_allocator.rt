@@ -51,7 +51,6 @@ impl<'a> Allocator for Arena<'a> {
         ensures refused { IfErr result (λ fault. IsDenied self.old size fault) }
         ensures denied { IfErr result (λ fault. fault ≢ GrantFault.OutOfMemory → IsDenied self.old size fault) }
         ensures room { IfOk result (λ grant. has_room self.old size ≡ true) }
-        ensures no_room { OnErr result (has_room self.old size ≡ false) }
     {
         if !self.has_room(size) {
             return Err(GrantFault::NoSpace);

@@ -17,7 +17,7 @@ pub struct Arenas<'a, const N: usize> {
 }
 
 impl<'a, const N: usize> Arenas<'a, N> {
-    ghost use Rattle.std.specs.Prelude.{◌≡◌, ℕ, [], length, OnErr, OnOk, IfErr};
+    ghost use Rattle.std.specs.Prelude.{◌≡◌, ℕ, ◌≤◌, [], length, slice_get, OnErr, OnOk, IfErr, IfSome, IfNone};
     ghost use Rattle.heap_arena.specs.Arenas.{IsAdded, IsNotAdded};
 
     /// No arenas: each request is denied.
@@ -34,6 +34,15 @@ impl<'a, const N: usize> Arenas<'a, N> {
         ensures { result ≡ length self.now.arenas.items }
     {
         self.arenas.len()
+    }
+
+    /// The arena at a place, counted from 0 by ascending address: it tells of its own words. None where there are no more
+    /// arenas than that.
+    pub fn get(&self, place: usize) -> Option<&Arena<'a>>
+        ensures some { IfSome result (λ arena. slice_get self.now.arenas.items place ≡ Some arena.now) }
+        ensures none { IfNone result (length self.now.arenas.items ≤ place) }
+    {
+        self.arenas.as_slice().get(place)
     }
 
     /// Takes a further arena, of which nothing is granted yet. An arena that is not taken comes back with the reason, and

@@ -98,6 +98,43 @@ fn several_arenas_are_one_system(rt: HostRuntime) -> Result<(), Fail> {
     Ok(())
 }
 
+#[test]
+fn each_arena_tells_of_its_own_words(rt: HostRuntime) -> Result<(), Fail> {
+    let mut high_words = [0u64; 16];
+    let mut high_table = [0u64; 2];
+    let mut low_words = [0u64; 8];
+    let mut low_table = [0u64; 2];
+    let mut high = Arena::new(&mut high_words, &mut high_table, 0x20000);
+    assert!(rt; high.alloc(64).is_ok());
+    assert!(rt; high.free(0x20000, 64));
+    let low = Arena::new(&mut low_words, &mut low_table, 0x10000);
+    let mut arenas = Arenas::<'_, 2>::new();
+    assert!(rt; arenas.add(high).is_ok());
+    assert!(rt; arenas.add(low).is_ok());
+    assert_eq!(rt; arenas.alloc(32), granted(0x10000, 32));
+    let rows = [
+        ("the lower", 0, Some((0x10000, 4, 4))),
+        (
+            "the higher, to which a grant came back",
+            1,
+            Some((0x20000, 0, 8)),
+        ),
+        ("no third", 2, None),
+    ];
+    for (rule, place, answer) in rows {
+        assert_eq!(rt; told(arenas.get(place)), answer, "{rule}");
+    }
+    Ok(())
+}
+
+/// Where an arena begins, how many of its words are in use, and how many ever were.
+fn told(arena: Option<&Arena<'_>>) -> Option<(u64, usize, usize)> {
+    match arena {
+        Some(arena) => Some((arena.base(), arena.used(), arena.touched())),
+        None => None,
+    }
+}
+
 /// Why an arena was not taken.
 fn reason(answer: &Result<(), (AddFault, Arena<'_>)>) -> Option<AddFault> {
     match answer {
