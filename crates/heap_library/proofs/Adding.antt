@@ -1,6 +1,5 @@
 -- A heap whose system got more memory: it is as it was.
 use Rattle.std.proofs.Common.{◌≡◌, ℕ, List, Result, Ok, Err, OnOk, OnErr, ap, subst}
-use Rattle.heap_memory.specs.declared.grant.Grant.{Grant}
 use Rattle.heap_memory.specs.Regions.{IsWordOf}
 use Rattle.dlmalloc.specs.Heap.{state_of}
 use Rattle.dlmalloc.specs.Served.{RestsOutside}

@@ -4,3 +4,4 @@ mod Cleared
 mod Counting
 mod MarkLemmas
 mod Marking
+mod MemoryParts

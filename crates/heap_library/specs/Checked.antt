@@ -1,5 +1,5 @@
 -- A heap over an arena, and what its marks say (own).
-use Rattle.std.specs.Prelude.{◌≡◌, ℕ, ◌+◌, ◌-◌, ◌*◌, ◌/◌, ◌^◌, ◌<◌, ◌≤◌, min, Bool, true, false, List, length, drop, replicate}
+use Rattle.std.specs.Prelude.{◌≡◌, ℕ, ◌+◌, ◌-◌, ◌*◌, ◌/◌, ◌^◌, ◌<◌, ◌≤◌, min, Bool, true, false, List, length, take, drop, replicate}
 use Rattle.heap_memory.specs.declared.grant.GrantFault.{GrantFault}
 use Rattle.heap_memory.specs.Events.{Event}
 use Rattle.dlmalloc.specs.State.{HeapState}
@@ -45,11 +45,21 @@ pub record IsMarked (base : ℕ) (marks : List ℕ) (count : ℕ) (heap : Dlmall
 abbrev pub left_beside_marks : ℕ → ℕ
 left_beside_marks count = count - (count + 127) / 128
 
+abbrev pub table_in : ℕ → ℕ
+table_in rest = min rest (2 * ((rest + 4095) / 4096))
+
 abbrev pub table_of : ℕ → ℕ
-table_of count = min (left_beside_marks count) (2 * ((left_beside_marks count + 4095) / 4096))
+table_of count = table_in (left_beside_marks count)
 
 abbrev pub left_for_words : ℕ → ℕ
 left_for_words count = left_beside_marks count - table_of count
+
+-- Where they stand: those for blocks from the first one on, those for the table behind them, and those for the marks at the end.
+abbrev pub words_for_blocks : List ℕ → List ℕ
+words_for_blocks memory = take (left_for_words (length memory)) memory
+
+abbrev pub words_for_table : List ℕ → List ℕ
+words_for_table memory = drop (left_for_words (length memory)) (take (left_beside_marks (length memory)) memory)
 
 -- the words of a memory that are for the marks are 0
 abbrev pub IsCleared : List ℕ → Type 0

@@ -52,7 +52,7 @@ fn mark<'a>(marks: &mut Marks<'a>, heap: &Heap<Arena<'a>>, address: u64)
 }
 
 impl<'a> CheckedHeap<'a> {
-    ghost use Rattle.std.specs.Prelude.{◌≡◌, ◌≢◌, ◌↔◌, ℕ, ◌+◌, ◌-◌, ◌*◌, ◌/◌, ◌%◌, ◌^◌, ◌<◌, ◌≤◌, min, true, false, [], if◌then◌else◌, Some, None, IfOk, IfErr, IfSome, IfNone, IsTrue, length};
+    ghost use Rattle.std.specs.Prelude.{◌≡◌, ◌≢◌, ◌↔◌, ℕ, ◌+◌, ◌-◌, ◌*◌, ◌/◌, ◌%◌, ◌^◌, ◌<◌, ◌≤◌, min, true, false, [], if◌then◌else◌, Some, None, IfOk, IfErr, IfSome, IfNone, IsTrue, length, take, drop};
     ghost use Rattle.std.specs.Int.{IsPowerOfTwo};
     ghost use Rattle.heap_memory.specs.Words.{IsStored};
     ghost use Rattle.dlmalloc.specs.State.{new_heap};
@@ -67,11 +67,12 @@ impl<'a> CheckedHeap<'a> {
     ghost use Rattle.heap_arena.specs.Arena.{regions_of, word_of, IsAbove};
     ghost use Rattle.heap_library.specs.Library.{HasBlock, HasWord, usable, AreZero, IsRequestRefused, IsResizeRefused};
     ghost use Rattle.heap_library.specs.Counted.{HasBlocks, counted};
-    ghost use Rattle.heap_library.specs.Checked.{zeros, follows, refuses, denies, heap_state, table_of, left_for_words, IsCleared};
+    ghost use Rattle.heap_library.specs.Checked.{zeros, follows, refuses, denies, heap_state, table_in, table_of, left_for_words, words_for_blocks, words_for_table, IsCleared};
     ghost use Rattle.heap_library.specs.Marks.{is_marked};
 
     /// An empty heap over words, the first of them at the address `base`. It has a bit of `marks` for each 16 bytes, and
-    /// takes no more words than these are for; in `table` it notes what it was granted, in two words for each grant.
+    /// takes no more words than these are for; in `table` it notes what it was granted, in two words for each grant. Words
+    /// and table are as they were given.
     pub fn new(
         words: &'a mut [u64],
         marks: &'a mut [u64],
@@ -84,15 +85,20 @@ impl<'a> CheckedHeap<'a> {
         ensures state { heap_state result ≡ new_heap }
         ensures regions { regions_of result.system ≡ [] }
         ensures base { result.system.base ≡ base }
+        ensures top { result.system.top ≡ base }
+        ensures peak { result.system.peak ≡ base }
+        ensures words { result.system.words.now ≡ take (min (length words.entry.now) (128 * length marks.entry.now)) words.entry.now }
         ensures len { length result.system.words.now ≡ min (length words.entry.now) (128 * length marks.entry.now) }
-        ensures table { length result.system.table.words.now ≡ length table.entry.now }
+        ensures table { result.system.table.words.now ≡ table.entry.now }
     {
         let marks = Marks::new(marks, base);
         CheckedHeap::with_marks(words, marks, table, base)
     }
 
     /// An empty heap over one memory, the first word of it at the address `base`. Its last words are for the marks, and
-    /// those before them for the table, which has a place for a grant of each 32 KiB.
+    /// those before them for the table, which has a place for a grant of each 32 KiB. All but the marks are as they were
+    /// given.
+    #[tactic(auto, using(crate::proofs::MemoryParts::blocks_of_front, crate::proofs::MemoryParts::table_of_front))]
     pub fn over(memory: &'a mut [u64], base: u64) -> CheckedHeap<'a>
         requires aligned { base % 16 ≡ 0 }
         requires low { 4096 ≤ base }
@@ -100,8 +106,12 @@ impl<'a> CheckedHeap<'a> {
         ensures state { heap_state result ≡ new_heap }
         ensures regions { regions_of result.system ≡ [] }
         ensures base { result.system.base ≡ base }
+        ensures top { result.system.top ≡ base }
+        ensures peak { result.system.peak ≡ base }
+        ensures words { result.system.words.now ≡ words_for_blocks memory.entry.now }
         ensures len { length result.system.words.now ≡ left_for_words (length memory.entry.now) }
-        ensures table { length result.system.table.words.now ≡ table_of (length memory.entry.now) }
+        ensures table { result.system.table.words.now ≡ words_for_table memory.entry.now }
+        ensures table_len { length result.system.table.words.now ≡ table_of (length memory.entry.now) }
     {
         let count = memory.len();
         let (front, marks) = memory.split_at_mut(count - count.div_ceil(128));
@@ -109,7 +119,7 @@ impl<'a> CheckedHeap<'a> {
     }
 
     /// As `over`, where the words for the marks are 0 already: no word is touched.
-    #[tactic(auto, using(crate::proofs::Cleared::clear_rest))]
+    #[tactic(auto, using(crate::proofs::Cleared::clear_rest, crate::proofs::MemoryParts::blocks_of_front, crate::proofs::MemoryParts::table_of_front))]
     pub fn over_cleared(memory: &'a mut [u64], base: u64) -> CheckedHeap<'a>
         requires aligned { base % 16 ≡ 0 }
         requires low { 4096 ≤ base }
@@ -118,8 +128,12 @@ impl<'a> CheckedHeap<'a> {
         ensures state { heap_state result ≡ new_heap }
         ensures regions { regions_of result.system ≡ [] }
         ensures base { result.system.base ≡ base }
+        ensures top { result.system.top ≡ base }
+        ensures peak { result.system.peak ≡ base }
+        ensures words { result.system.words.now ≡ words_for_blocks memory.entry.now }
         ensures len { length result.system.words.now ≡ left_for_words (length memory.entry.now) }
-        ensures table { length result.system.table.words.now ≡ table_of (length memory.entry.now) }
+        ensures table { result.system.table.words.now ≡ words_for_table memory.entry.now }
+        ensures table_len { length result.system.table.words.now ≡ table_of (length memory.entry.now) }
     {
         let count = memory.len();
         let (front, zeros) = memory.split_at_mut(count - count.div_ceil(128));
@@ -127,6 +141,7 @@ impl<'a> CheckedHeap<'a> {
     }
 
     /// An empty heap over words and a table, in this order, and marks of which none is set.
+    #[tactic(auto, using(crate::proofs::MemoryParts::blocks_of_parts, crate::proofs::MemoryParts::table_of_parts))]
     fn over_front(front: &'a mut [u64], marks: Marks<'a>, base: u64) -> CheckedHeap<'a>
         requires aligned { base % 16 ≡ 0 }
         requires low { 4096 ≤ base }
@@ -138,8 +153,12 @@ impl<'a> CheckedHeap<'a> {
         ensures state { heap_state result ≡ new_heap }
         ensures regions { regions_of result.system ≡ [] }
         ensures base { result.system.base ≡ base }
-        ensures len { length result.system.words.now ≡ length front.entry.now - min (length front.entry.now) (2 * ((length front.entry.now + 4095) / 4096)) }
-        ensures table { length result.system.table.words.now ≡ min (length front.entry.now) (2 * ((length front.entry.now + 4095) / 4096)) }
+        ensures top { result.system.top ≡ base }
+        ensures peak { result.system.peak ≡ base }
+        ensures words { result.system.words.now ≡ take (length front.entry.now - table_in (length front.entry.now)) front.entry.now }
+        ensures len { length result.system.words.now ≡ length front.entry.now - table_in (length front.entry.now) }
+        ensures table { result.system.table.words.now ≡ drop (length front.entry.now - table_in (length front.entry.now)) front.entry.now }
+        ensures table_len { length result.system.table.words.now ≡ table_in (length front.entry.now) }
     {
         let rest = front.len();
         let (words, table) = front.split_at_mut(rest - (2 * rest.div_ceil(4096)).min(rest));
@@ -162,8 +181,11 @@ impl<'a> CheckedHeap<'a> {
         ensures state { heap_state result ≡ new_heap }
         ensures regions { regions_of result.system ≡ [] }
         ensures base { result.system.base ≡ base }
+        ensures top { result.system.top ≡ base }
+        ensures peak { result.system.peak ≡ base }
+        ensures words { result.system.words.now ≡ take (min (length words.entry.now) (128 * length marks.entry.words.now)) words.entry.now }
         ensures len { length result.system.words.now ≡ min (length words.entry.now) (128 * length marks.entry.words.now) }
-        ensures table { length result.system.table.words.now ≡ length table.entry.now }
+        ensures table { result.system.table.words.now ≡ table.entry.now }
     {
         let count = words.len().min(marks.len().saturating_mul(128));
         let arena = Arena::new(&mut words[..count], table, base);
@@ -337,6 +359,13 @@ impl<'a> CheckedHeap<'a> {
         ensures above { IsAbove self.now.system (self.now.system.base + 8 * result) }
     {
         self.heap.system().used()
+    }
+
+    /// How many words of the arena from its front were ever in use: those behind them were never touched, by loads neither.
+    pub fn touched(&self) -> usize
+        ensures { self.now.system.base + 8 * result ≡ self.now.system.peak }
+    {
+        self.heap.system().touched()
     }
 
     /// The extents of the heap, by ascending address.

@@ -26,6 +26,8 @@ enum Call {
     Blocks(u64),
     /// Asks how many words are in use.
     Used(usize),
+    /// Asks how many words ever were in use.
+    Touched(usize),
 }
 
 /// Makes a call, and says whether it is answered so.
@@ -43,6 +45,7 @@ fn is_answered(heap: &mut CheckedHeap<'_>, call: Call) -> bool {
         Call::Trim(pad, answer) => heap.trim(pad) == answer,
         Call::Blocks(answer) => heap.blocks() == answer,
         Call::Used(answer) => heap.used() == answer,
+        Call::Touched(answer) => heap.touched() == answer,
     }
 }
 
@@ -56,6 +59,7 @@ fn addresses_are_looked_at(rt: HostRuntime) -> Result<(), Fail> {
     let no_space = HeapError::Refused(MallocError::System(GrantFault::NoSpace));
     let rows = [
         ("no block yet", Call::Free(0x10010, false)),
+        ("no word yet", Call::Touched(0)),
         ("the first", Call::Malloc(100, 8, Ok(0x10010))),
         ("one page", Call::Used(512)),
         (
@@ -91,9 +95,32 @@ fn addresses_are_looked_at(rt: HostRuntime) -> Result<(), Fail> {
         ("the end goes back", Call::Trim(0, true)),
         ("once", Call::Trim(0, false)),
         ("one page again", Call::Used(512)),
+        ("four once", Call::Touched(2048)),
     ];
     for (rule, call) in rows {
         assert!(rt; is_answered(&mut heap, call), "{rule}");
     }
+    Ok(())
+}
+
+#[test]
+fn words_that_no_block_needs_stay(rt: HostRuntime) -> Result<(), Fail> {
+    let mut words = [7u64; 1024];
+    let mut marks = [7u64; 8];
+    let mut table = [7u64; 4];
+    {
+        let mut heap = CheckedHeap::new(&mut words, &mut marks, &mut table, 0x10000);
+        assert!(rt; heap.set_granularity(4096));
+        assert_eq!(rt; heap.malloc(100, 8), Ok(0x10010));
+        assert_eq!(rt; heap.touched(), 512);
+    }
+    assert!(rt; words[512..].iter().all(|word| *word == 7));
+    // A word for blocks, two for the table, and one for the marks.
+    let mut memory = [7, 8, 9, 0];
+    {
+        let heap = CheckedHeap::over_cleared(&mut memory, 0x10000);
+        assert_eq!(rt; heap.touched(), 0);
+    }
+    assert_eq!(rt; memory, [7, 8, 9, 0]);
     Ok(())
 }
