@@ -1,15 +1,20 @@
 -- A heap where C begins it (own).
-use Rattle.std.specs.Prelude.{◌≡◌, ℕ, [], length}
+use Rattle.std.specs.Prelude.{◌≡◌, ℕ, List, [], length}
 use Rattle.dlmalloc.specs.State.{new_heap}
 use Rattle.dlmalloc.specs.declared.heap.Dlmalloc.{Dlmalloc}
 use Rattle.heap_arena.specs.Arena.{regions_of}
 use Rattle.heap_arena.specs.declared.arena.Arena.{Arena}
-use Rattle.heap_library.specs.Checked.{heap_state, left_for_words, table_of}
+use Rattle.heap_library.specs.Checked.{heap_state, left_for_words, table_of, words_for_blocks, words_for_table}
 
--- A heap that has nothing yet, over the first of so many words, which begin at an address.
-pub record IsBegun (count address : ℕ) (heap : Dlmalloc Arena) : Type 0 where
+-- A heap that has nothing yet, over the first words of a memory, which begin at an address. Words and table are as they were
+-- given, and no word was ever in a grant.
+pub record IsBegun (memory : List ℕ) (address : ℕ) (heap : Dlmalloc Arena) : Type 0 where
   pub state : heap_state heap ≡ new_heap
   pub regions : regions_of heap.system ≡ []
   pub base : heap.system.base ≡ address
-  pub len : length heap.system.words.now ≡ left_for_words count
-  pub table : length heap.system.table.words.now ≡ table_of count
+  pub top : heap.system.top ≡ address
+  pub peak : heap.system.peak ≡ address
+  pub words : heap.system.words.now ≡ words_for_blocks memory
+  pub len : length heap.system.words.now ≡ left_for_words (length memory)
+  pub table : heap.system.table.words.now ≡ words_for_table memory
+  pub table_len : length heap.system.table.words.now ≡ table_of (length memory)

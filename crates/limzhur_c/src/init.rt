@@ -29,7 +29,7 @@ fn begin(memory: &'static mut [u64], address: u64) -> CheckedHeap<'static>
     requires low { 4096 ≤ address }
     requires high { address + 8 * length memory.now < 2 ^ 64 }
     requires cleared { IsCleared memory.now }
-    ensures begun { IsBegun (length memory.entry.now) address result }
+    ensures begun { IsBegun memory.entry.now address result }
 {
     CheckedHeap::over_cleared(memory, address)
 }
@@ -56,7 +56,7 @@ pub unsafe extern "C" fn limzhur_init(room: *mut u8, memory: *mut u64, count: us
     requires aligned { address % 16 ≡ 0 }
     requires low { 4096 ≤ address }
     requires high { address + 8 * count < 2 ^ 64 }
-    ensures* heap { ∃ₛ (λ (heap : Dlmalloc Arena). sem 𝓛 (lies_at (heap_row static_lft) full_share room heap) ∗ ⌜ IsBegun count address heap ⌝) }
+    ensures* heap { ∃ₛ (λ (heap : Dlmalloc Arena). sem 𝓛 (lies_at (heap_row static_lft) full_share room heap) ∗ ⌜ IsBegun words address heap ⌝) }
 {
     let heap = begin(words_at(memory, count), address);
     (room as *mut CheckedHeap<'static>).write(heap);

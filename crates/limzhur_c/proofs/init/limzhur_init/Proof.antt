@@ -100,8 +100,8 @@ limzhur_init_spec 𝓤 𝓛 𝓜 𝓡 wired =
     use0 𝓛 (raw (fact 𝓤 Whole)) (fact_i 𝓤 Whole (emp 𝓤) whole) $ join ! $ move ! (1 ∷ 0 ∷ []) $ join ! $ use1 𝓛 (raw (N.pre x)) (id⊢ 𝓤 _) $
     calls_at ! (framed 𝓤 𝓛.H 𝓜 𝓣) N (begin_met 𝓤 𝓛 𝓜 𝓡 (code.calls-limzhur_c::init::begin 𝓡.env wired)) x (and_then ! (get ! refl) (and_then ! (get ! refl) (no_more !))) (λ u.
     use1 𝓛 (later (some (λ (heap : CheckedHeap). (‵ ftrue ⊛ ‵ (R.own_val heap (u ∷ []))) ⊛
-    some (λ (us : Unit {0} × (Unit {0} × Unit {0})). ‵ (lasts h.ended x.0.0 x.0.3 us) ⊛ raw (fact 𝓤 (IsBegun (length r.now) address heap)))))) (id⊢ 𝓤 _) $
-    await ! tt $ pick ! (λ heap. split ! $ split ! $ drop ! $ move ! (1 ∷ []) $ pick ! (λ us'. split ! $ drop ! $ heard ! (IsBegun (length r.now) address heap) (λ begun.
+    some (λ (us : Unit {0} × (Unit {0} × Unit {0})). ‵ (lasts h.ended x.0.0 x.0.3 us) ⊛ raw (fact 𝓤 (IsBegun r.now address heap)))))) (id⊢ 𝓤 _) $
+    await ! tt $ pick ! (λ heap. split ! $ split ! $ drop ! $ move ! (1 ∷ []) $ pick ! (λ us'. split ! $ drop ! $ heard ! (IsBegun r.now address heap) (λ begun.
     peeks ! R (Is R) (shows 𝓛 R) heap (u ∷ []) (λ is'. let typed = (((the_row_laws static_lft).lawful 𝓛).typed heap _ is').0 in lands_as ! refl refl typed $
     -- room.write(..)
     sets ! (of_opd ! (get ! refl)) refl (tt, tt) $ sets ! (of_opd ! (get ! refl)) refl typed $
@@ -109,8 +109,8 @@ limzhur_init_spec 𝓤 𝓛 𝓜 𝓡 wired =
     sets ! (of_opd ! (unit_lit !)) refl (tt, tt) $ returns ! (look_at ! 0 refl) $ free_all ! refl $ move ! (1 ∷ 0 ∷ []) $ keep ! (0 ∷ 1 ∷ []) $
     use2 𝓛 (‵ (part_at R full_share heap b o)) (part_in_at 𝓛 R refl full_share heap b o δ refl u) $
     -- [the heap]
-    let Made : CheckedHeap → SProp 𝓤 = λ k. sep 𝓤 (sem 𝓛 (lies_at R full_share (block_ptr b o) k)) (fact 𝓤 (IsBegun n address k)) in
-    use0 𝓛 (raw (fact 𝓤 (IsBegun n address heap))) (fact_i 𝓤 (IsBegun n address heap) (emp 𝓤) (subst (λ (k : ℕ). IsBegun k address heap) lie.1 begun)) $ move ! (1 ∷ 0 ∷ []) $ join ! $
+    let Made : CheckedHeap → SProp 𝓤 = λ k. sep 𝓤 (sem 𝓛 (lies_at R full_share (block_ptr b o) k)) (fact 𝓤 (IsBegun ws address k)) in
+    use0 𝓛 (raw (fact 𝓤 (IsBegun ws address heap))) (fact_i 𝓤 (IsBegun ws address heap) (emp 𝓤) (subst (λ (xs : List ℕ). IsBegun xs address heap) lie.0 begun)) $ move ! (1 ∷ 0 ∷ []) $ join ! $
     use1 𝓛 (raw (ex 𝓤 Made)) (ex_i 𝓤 Made heap) $
     suffices ! _ (ends_at 𝓛 f.ended stayed c (y (block_ptr b o)) vunit tt (tt, (tt, (tt, (tt, tt)))) (tt, (tt, (tt, (tt, tt))))) $
     feq_i ! _ (vunit ∷ []) _ refl $ nothing ! $ nothing ! $ fjoin ! $ nothing ! $ fjoin ! $ nothing ! $ fjoin ! $ nothing ! $ fjoin ! $ join ! $ nothing ! $ join ! $ join ! $ done !))))))))))))))))))
