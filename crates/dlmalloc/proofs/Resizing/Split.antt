@@ -1,5 +1,5 @@
 -- A chunk in use is split into two.
-use Rattle.dlmalloc.proofs.Names.{◌≡◌, ◌≢◌, ℕ, ◌+◌, ◌-◌, ◌%◌, ◌^◌, ◌<◌, ◌≤◌, inl, inr, true, false, ◌==◌, List, [], ◌∷◌, None, Some, refl, sym, ◌∙◌, ap, subst, arith, nat_tests, Grant, IsStored, AreStored, HasHead, Extent, Kind, Used, Free, Top, Record, pinuse_of, head_of, pinuse_of-head_of, extent_at, is_used, HasChunk, extents_in, exchanged, halves, HasSameOthers, OnlyBoundariesChange, IsMove, IsRunOf, segments_of, state_of, IsSound, Dlmalloc, FreeMoves}
+use Rattle.dlmalloc.proofs.Names.{◌≡◌, ◌≢◌, ℕ, ◌+◌, ◌-◌, ◌%◌, ◌^◌, ◌<◌, ◌≤◌, inl, inr, true, false, ◌==◌, List, [], ◌∷◌, None, Some, refl, sym, ◌∙◌, ap, subst, arith, nat_tests, Grant, Event, IsWordOf, IsStored, AreStored, HasHead, Extent, Kind, Used, Free, Top, Record, pinuse_of, head_of, pinuse_of-head_of, extent_at, is_used, HasChunk, extents_in, exchanged, halves, HasSameOthers, IsMoved, IsMove, IsRunOf, segments_of, state_of, IsSound, Dlmalloc, FreeMoves}
 use Rattle.dlmalloc.proofs.Extents.Lookup.{extent, nat_isnt, nat_same, found_either, the_one}
 use Rattle.dlmalloc.proofs.Cuts.FreeExtent.{stored_over}
 use Rattle.dlmalloc.proofs.Extents.Tiling.{tiles_le, plain_chunk}
@@ -32,13 +32,31 @@ split_used {old} {before} at size n stands whole least room stored =
       kept = λ k word more. stored.elsewhere k word (more.0, (more.1.0, tt));
     }
 
-module _ {A : Type 0} {regions : A → List Grant} {word : A → ℕ → ℕ} {heap : Dlmalloc A} (sound : IsSound regions word heap) {at size : ℕ} (n : ℕ)
-    (there : extent_at at (extents_in (state_of word heap)) ≡ Some (extent at size Used)) (whole : n % 16 ≡ 0) (least : 32 ≤ n) (room : n + 32 ≤ size) where
+-- A chunk in use can be split behind its first n bytes.
+pub record CanSplit {A : Type 0} (word : A → ℕ → ℕ) (heap : Dlmalloc A) (at size n : ℕ) : Type 0 where
+  pub there : extent_at at (extents_in (state_of word heap)) ≡ Some (extent at size Used)
+  pub whole : n % 16 ≡ 0
+  pub least : 32 ≤ n
+  pub room : n + 32 ≤ size
+
+-- What a split leaves: two chunks in use, and all else as it was.
+pub record IsSplit {A : Type 0} (regions : A → List Grant) (word : A → ℕ → ℕ) (follows : A → List Event → A → Type 0)
+    (old : Dlmalloc A) (at size n : ℕ) (new : Dlmalloc A) : Type 0 where
+  pub state : state_of word new ≡ exchanged (state_of word old) at (halves n)
+  pub first : extent_at at (extents_in (state_of word new)) ≡ Some (extent at n Used)
+  pub second : extent_at (at + n) (extents_in (state_of word new)) ≡ Some (extent (at + n) (size - n) Used)
+  pub others : HasSameOthers (state_of word old) (state_of word new) at (at + n)
+  pub words : (k : ℕ) → IsWordOf (regions old.system) k → k ≢ at + 8 → k ≢ at + n + 8 → word new.system k ≡ word old.system k
+  pub free : FreeMoves (state_of word old) (state_of word new) [] []
+  pub moved : IsMoved regions word follows old new
+
+module _ {A : Type 0} {regions : A → List Grant} {word : A → ℕ → ℕ} {heap : Dlmalloc A} (sound : IsSound regions word heap) {at size n : ℕ}
+    (can : CanSplit word heap at size n) where
   abbrev chunk : Extent
   chunk = extent at size Used
 
   abbrev run : IsRunOf (word heap.system) (segments_of word heap) at (at + size) (chunk ∷ [])
-  run = run_of (regions heap.system) (word heap.system) (segments_of word heap) sound.segments there
+  run = run_of (regions heap.system) (word heap.system) (segments_of word heap) sound.segments can.there
 
   high : at + size ≤ run.segment.base + run.segment.size
   high = tiles_le (word heap.system) Used (at + size) run.last (run.segment.base + run.segment.size) run.last_stand
@@ -63,20 +81,17 @@ module _ {A : Type 0} {regions : A → List Grant} {word : A → ℕ → ℕ} {h
   pub rest_whole : (size - n) % 8 ≡ 0
   rest_whole = omega (arith, run.here.1.size.0)
 
-  -- the stores of two calls, as one
-  stores : (middle system : A) (value : ℕ) → regions middle ≡ regions heap.system → AreStored (regions heap.system) (word heap.system)
-      ((at + 8, head_of n (pinuse_of (word heap.system (at + 8))) true) ∷ (at + n + 8, value) ∷ []) (word middle) →
-      IsStored (regions middle) (word middle) (at + n + 8) (head_of (size - n) true true) (word system) → AreStored (regions heap.system) (word heap.system)
-      ((at + 8, head_of n (pinuse_of (word heap.system (at + 8))) true) ∷ (at + n + 8, head_of (size - n) true true) ∷ []) (word system)
-  stores middle system value same first second =
-      stored_over (head_of n (pinuse_of (word heap.system (at + 8))) true) value first_head.granted first
-      (subst (λ rs. IsStored rs (word middle) (at + n + 8) (head_of (size - n) true true) (word system)) same second)
-
-  module _ (middle system : A) (same_middle : regions middle ≡ regions heap.system) (same_system : regions system ≡ regions middle) (value : ℕ)
+  module _ {middle system : A} (same_middle : regions middle ≡ regions heap.system) (same_system : regions system ≡ regions middle) {value : ℕ}
       (first : AreStored (regions heap.system) (word heap.system) ((at + 8, head_of n (pinuse_of (word heap.system (at + 8))) true) ∷ (at + n + 8, value) ∷ []) (word middle))
       (second : IsStored (regions middle) (word middle) (at + n + 8) (head_of (size - n) true true) (word system)) where
     same : regions system ≡ regions heap.system
     same = same_system ∙ same_middle
+
+    -- the stores of two calls, as one
+    stores : AreStored (regions heap.system) (word heap.system) ((at + 8, head_of n (pinuse_of (word heap.system (at + 8))) true)
+        ∷ (at + n + 8, head_of (size - n) true true) ∷ []) (word system)
+    stores = stored_over (head_of n (pinuse_of (word heap.system (at + 8))) true) value first_head.granted first
+        (subst (λ rs. IsStored rs (word middle) (at + n + 8) (head_of (size - n) true true) (word system)) same_middle second)
 
     abbrev after : Dlmalloc A
     after = record heap { system = system }
@@ -90,8 +105,8 @@ module _ {A : Type 0} {regions : A → List Grant} {word : A → ℕ → ℕ} {h
     place_one : (k : ℕ) {one : Extent} → extent_at k (chunk ∷ []) ≡ Some one → at ≡ one.at
     place_one k there = ap (λ e. e.at) (the_one k chunk there)
 
-    abbrev split_step : IsStep regions word heap after (chunk ∷ []) both
-    split_step = step_beside after sound same run (split_used at size n run.here.1 whole least room (stores middle system value same_middle first second)) refl
+    abbrev step : IsStep regions word heap after (chunk ∷ []) both
+    step = step_beside after sound same run (split_used at size n run.here.1 can.whole can.least can.room stores) refl
         (λ k tail found is. absurd (let no : Used ≡ Record = used_one k found ∙ is in cc)) refl
         (record { base = refl; size = refl; flags = refl; top = refl; top_size = refl })
         (λ k tail found is. absurd (let no : Used ≡ Top = used_one k found ∙ is in cc))
@@ -99,42 +114,35 @@ module _ {A : Type 0} {regions : A → List Grant} {word : A → ℕ → ℕ} {h
     apart : (at == at + n) ≡ false
     apart = nat_isnt (inl (omega arith))
 
-    pub split_state : state_of word after ≡ exchanged (state_of word heap) at (halves n)
-    split_state =
-        let segments_are = read sound split_step ∙ sym (replaced_run (regions heap.system) sound.segments sound.apart (halves n) run) in
-        λ i. record { segments = segments_are i; victim = heap.victim; granularity = heap.granularity; rate = heap.rate; countdown = heap.countdown; trim_check = heap.trim_check }
+    neither : (used : Extent) → used.at ≢ at → used.at ≢ at + n → extent_at used.at both ≡ Some used → ⊥
+    neither used other_at other_end here =
+        let first : (at == used.at) ≡ false = differ at used.at (λ e. other_at (sym e)) in
+        let second : (at + n == used.at) ≡ false = differ (at + n) used.at (λ e. other_end (sym e)) in
+        let none : extent_at used.at both ≡ None = rw (first, second) refl in
+        let no : None ≡ Some used = sym none ∙ here in cc
 
-    pub split_first : extent_at at (extents_in (state_of word after)) ≡ Some (extent at n Used)
-    split_first = found_new sound split_step at (extent at n Used) (let here = nat_same at in rw here refl)
-
-    pub split_second : extent_at (at + n) (extents_in (state_of word after)) ≡ Some (extent (at + n) (size - n) Used)
-    split_second = found_new sound split_step (at + n) (extent (at + n) (size - n) Used)
-        (let first = apart in let second = nat_same (at + n) in rw (first, second) refl)
-
-    pub split_others : HasSameOthers (state_of word heap) (state_of word after) at (at + n)
-    split_others = record {
-      kept = λ used is other_at other_end there. found_again sound split_step used.at (λ here. absurd (other_at (sym (place_one used.at here)))) there;
-      only = λ used is other_at other_end there. found_before sound split_step used.at (λ here. absurd (neither used other_at other_end here)) there;
+    pub is_split : {follows : A → List Event → A → Type 0} → follows heap.system [] system → IsSplit regions word follows heap at size n after
+    is_split followed = record {
+      state = (
+          let segments_are = read sound step ∙ sym (replaced_run (regions heap.system) sound.segments sound.apart (halves n) run) in
+          λ i. record { segments = segments_are i; victim = heap.victim; granularity = heap.granularity; rate = heap.rate; countdown = heap.countdown; trim_check = heap.trim_check });
+      first = found_new sound step at (extent at n Used) (let here = nat_same at in rw here refl);
+      second = found_new sound step (at + n) (extent (at + n) (size - n) Used) (let first = apart in let second = nat_same (at + n) in rw (first, second) refl);
+      others = record {
+        kept = λ used is other_at other_end there. found_again sound step used.at (λ here. absurd (other_at (sym (place_one used.at here)))) there;
+        only = λ used is other_at other_end there. found_before sound step used.at (λ here. absurd (neither used other_at other_end here)) there;
+      };
+      words = λ k inside first second. stores.elsewhere k inside (first, (second, tt));
+      free = free_moves sound step [] [] (λ k bytes found. (let no : Used ≡ Free = used_one k found in cc))
+          (λ k bytes found. elim (found_either k (extent at n Used ∷ []) (extent (at + n) (size - n) Used ∷ []) found) [
+            | inl first ↦ (let no : Used ≡ Free = ap (λ e. e.kind) (the_one k (extent at n Used) first) in cc)
+            | inr later ↦ (let no : Used ≡ Free = ap (λ e. e.kind) (the_one k (extent (at + n) (size - n) Used) later.1) in cc)
+          ]) (λ k none. absurd none) (λ k none. absurd none);
+      moved = record {
+        sound = stays_sound sound step same refl refl refl refl sound.no_victim
+            (λ more. found_again sound step heap.victim (λ here. absurd (let no : Used ≡ Free = used_one heap.victim here in cc)) (sound.victim more));
+        words = keeps_words sound step;
+        regions_same = same;
+        followed = followed;
+      };
     }
-      where
-        neither : (used : Extent) → used.at ≢ at → used.at ≢ at + n → extent_at used.at both ≡ Some used → ⊥
-        neither used other_at other_end here =
-            let first : (at == used.at) ≡ false = differ at used.at (λ e. other_at (sym e)) in
-            let second : (at + n == used.at) ≡ false = differ (at + n) used.at (λ e. other_end (sym e)) in
-            let none : extent_at used.at both ≡ None = rw (first, second) refl in
-            let no : None ≡ Some used = sym none ∙ here in cc
-
-    pub split_sound : IsSound regions word after
-    split_sound = stays_sound sound split_step same refl refl refl refl sound.no_victim
-        (λ more. found_again sound split_step heap.victim (λ here. absurd (let no : Used ≡ Free = used_one heap.victim here in cc)) (sound.victim more))
-
-    pub split_words : OnlyBoundariesChange (regions heap.system) (state_of word after) (word heap.system) (word system)
-    split_words = keeps_words sound split_step
-
-    -- no free extent changes
-    pub split_free : FreeMoves (state_of word heap) (state_of word after) [] []
-    split_free = free_moves sound split_step [] [] (λ k bytes found. (let no : Used ≡ Free = used_one k found in cc))
-        (λ k bytes found. elim (found_either k (extent at n Used ∷ []) (extent (at + n) (size - n) Used ∷ []) found) [
-          | inl first ↦ (let no : Used ≡ Free = ap (λ e. e.kind) (the_one k (extent at n Used) first) in cc)
-          | inr later ↦ (let no : Used ≡ Free = ap (λ e. e.kind) (the_one k (extent (at + n) (size - n) Used) later.1) in cc)
-        ]) (λ k none. absurd none) (λ k none. absurd none)

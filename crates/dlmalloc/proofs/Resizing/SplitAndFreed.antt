@@ -1,37 +1,28 @@
 -- A chunk in use is split, and one of the two is freed.
-use Rattle.dlmalloc.proofs.Names.{◌≡◌, ◌≢◌, ℕ, ◌+◌, ◌-◌, ◌≤◌, inl, inr, List, [], Some, refl, sym, ◌∙◌, ap, subst, arith, Grant, Event, IsWordOf, Extent, Used, extent_at, extents_in, HasOneMore, IsBoundary, IsInFree, IsOwn, OnlyOwnChange, freed, exchanged, halves, tail_freed, HasSameOthers, HasOneMoved, KeepsOthers, state_of, IsSound, IsMoved, IsTurned, FreeMoves, Dlmalloc}
+use Rattle.dlmalloc.proofs.Names.{◌≡◌, ◌≢◌, ℕ, ◌+◌, ◌-◌, ◌≤◌, inl, inr, List, Some, refl, sym, ◌∙◌, ap, subst, arith, Grant, Event, IsWordOf, Extent, Used, extent_at, extents_in, HasOneMore, IsBoundary, IsInFree, IsOwn, OnlyOwnChange, freed, exchanged, halves, tail_freed, HasSameOthers, HasOneMoved, KeepsOthers, state_of, IsSound, IsTurned, Dlmalloc}
 use Rattle.dlmalloc.proofs.Extents.Lookup.{extent}
 use Rattle.dlmalloc.proofs.Laws.{used_apart}
 use Rattle.dlmalloc.proofs.Frees.Behind.{next_boundary}
+use Rattle.dlmalloc.proofs.Resizing.Split.{CanSplit, IsSplit}
 use Rattle.dlmalloc.proofs.Blocks.WordsKept.{blocks_law, keeps_on}
 
--- what a split leaves
-pub record IsSplit {A : Type 0} (regions : A → List Grant) (word : A → ℕ → ℕ) (old : Dlmalloc A) (at size n : ℕ) (new : Dlmalloc A) : Type 0 where
-  pub state : state_of word new ≡ exchanged (state_of word old) at (halves n)
-  pub first : extent_at at (extents_in (state_of word new)) ≡ Some (extent at n Used)
-  pub second : extent_at (at + n) (extents_in (state_of word new)) ≡ Some (extent (at + n) (size - n) Used)
-  pub others : HasSameOthers (state_of word old) (state_of word new) at (at + n)
-  pub words : (k : ℕ) → IsWordOf (regions old.system) k → k ≢ at + 8 → k ≢ at + n + 8 → word new.system k ≡ word old.system k
-  pub regions_same : regions new.system ≡ regions old.system
-
 module _ {A : Type 0} {regions : A → List Grant} {word : A → ℕ → ℕ} {follows : A → List Event → A → Type 0} {heap middle new : Dlmalloc A}
-    (sound : IsSound regions word heap) {at size n : ℕ} (there : extent_at at (extents_in (state_of word heap)) ≡ Some (extent at size Used))
-    (least : 32 ≤ n) (room : n + 32 ≤ size) (split : IsSplit regions word heap at size n middle)
-    (frees : FreeMoves (state_of word heap) (state_of word middle) [] []) (moved : IsTurned regions word follows middle new) where
+    (sound : IsSound regions word heap) {at size n : ℕ} (can : CanSplit word heap at size n)
+    (split : IsSplit regions word follows heap at size n middle) (moved : IsTurned regions word follows middle new) where
   -- a word that is granted before is granted after the split
   still : (k : ℕ) → IsWordOf (regions heap.system) k → IsWordOf (regions middle.system) k
-  still k is = subst (λ rs. IsWordOf rs k) (sym split.regions_same) is
+  still k is = subst (λ rs. IsWordOf rs k) (sym split.moved.regions_same) is
 
   -- what is in no free extent is in none after the split
   no_free : (k : ℕ) → (IsInFree (state_of word heap) k → ⊥) → IsInFree (state_of word middle) k → ⊥
-  no_free k was f = was (record { at = f.at; size = f.size; free = (frees.was f.at f.size f.free (λ none. none)).0; low = f.low; high = f.high })
+  no_free k was f = was (record { at = f.at; size = f.size; free = (split.free.was f.at f.size f.free (λ none. none)).0; low = f.low; high = f.high })
 
   -- no other extent in use begins in the chunk
   inside : {used : Extent} → used.at ≢ at → extent_at used.at (extents_in (state_of word heap)) ≡ Some used → used.at ≢ at + n
   inside {used} other found same =
-      elim (used_apart regions word heap sound used (extent at size Used) found there other) [
-        | inl before ↦ (let e : used.at ≡ at + n = same in let l = least in omega arith)
-        | inr behind ↦ (let e : used.at ≡ at + n = same in let r = room in omega arith)
+      elim (used_apart regions word heap sound used (extent at size Used) found can.there other) [
+        | inl before ↦ (let e : used.at ≡ at + n = same in let l = can.least in omega arith)
+        | inr behind ↦ (let e : used.at ≡ at + n = same in let r = can.room in omega arith)
       ]
 
   -- ---- the second was freed
@@ -74,10 +65,10 @@ module _ {A : Type 0} {regions : A → List Grant} {word : A → ℕ → ℕ} {f
       gone = λ used is beside found. less.new used is found;
     }
 
-    pub lead_kept : IsMoved regions word follows heap middle → KeepsOthers (state_of word heap) at (word heap.system) (word new.system)
-    lead_kept split_moved blocks others =
-        keeps_on (blocks_law sound split_moved.sound (λ k inside was own. split_moved.words k inside (λ boundary. own (inl boundary))) blocks
-        (λ used there is. (let o = others used is there in (o.1, then_there used is o.0 o.1)))) (blocks_law split_moved.sound moved.sound moved.words blocks
+    pub lead_kept : KeepsOthers (state_of word heap) at (word heap.system) (word new.system)
+    lead_kept blocks others =
+        keeps_on (blocks_law sound split.moved.sound (λ k inside was own. split.moved.words k inside (λ boundary. own (inl boundary))) blocks
+        (λ used there is. (let o = others used is there in (o.1, then_there used is o.0 o.1)))) (blocks_law split.moved.sound moved.sound moved.words blocks
         (λ used there is. (let o = others used is there in (then_there used is o.0 o.1, less.only used is (then_there used is o.0 o.1) o.0))))
       where
         then_there : (used : Extent) → used.kind ≡ Used → used.at ≢ at → extent_at used.at (extents_in (state_of word heap)) ≡ Some used →

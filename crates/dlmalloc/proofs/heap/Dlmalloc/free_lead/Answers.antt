@@ -1,45 +1,31 @@
-use Rattle.dlmalloc.proofs.Names.{ap}
+use Rattle.dlmalloc.proofs.Names.{[], refl, ◌∙◌, ap, arith}
 use Rattle.dlmalloc.proofs.Bins.Changes.{binned_beside}
-use Rattle.dlmalloc.proofs.Resizing.SplitAndFreed.{IsSplit, lead_state, lead_second, lead_others, lead_kept, lead_words}
+use Rattle.dlmalloc.proofs.Resizing.Split.{CanSplit, IsSplit}
+use Rattle.dlmalloc.proofs.Resizing.SplitAndFreed.{lead_state, lead_second, lead_others, lead_kept, lead_words}
 use Rattle.dlmalloc.proofs.heap.Dlmalloc.free_lead.Goals as goal
-
-pub returns-clause-state : goal.returns-clause-state
-returns-clause-state g c =
-    let e = c.split.ensures in
-    let split : IsSplit g.A.Links.regions g.A.Links.word c.args.self.now c.args.at c.args.size c.args.n c.split.new.self = record { state = e.state; first = e.first; second = e.second; others = e.others; words = e.words; regions_same = e.moved.regions_same } in
-    lead_state c.requires.sound c.requires.chunk c.requires.least c.requires.room split e.free c.dispose_chunk.ensures.moved c.dispose_chunk.ensures.state c.dispose_chunk.ensures.less
-
-pub returns-clause-second : goal.returns-clause-second
-returns-clause-second g c =
-    let e = c.split.ensures in
-    let split : IsSplit g.A.Links.regions g.A.Links.word c.args.self.now c.args.at c.args.size c.args.n c.split.new.self = record { state = e.state; first = e.first; second = e.second; others = e.others; words = e.words; regions_same = e.moved.regions_same } in
-    lead_second c.requires.sound c.requires.chunk c.requires.least c.requires.room split e.free c.dispose_chunk.ensures.moved c.dispose_chunk.ensures.state c.dispose_chunk.ensures.less
-
-pub returns-clause-others : goal.returns-clause-others
-returns-clause-others g c =
-    let e = c.split.ensures in
-    let split : IsSplit g.A.Links.regions g.A.Links.word c.args.self.now c.args.at c.args.size c.args.n c.split.new.self = record { state = e.state; first = e.first; second = e.second; others = e.others; words = e.words; regions_same = e.moved.regions_same } in
-    lead_others c.requires.sound c.requires.chunk c.requires.least c.requires.room split e.free c.dispose_chunk.ensures.moved c.dispose_chunk.ensures.state c.dispose_chunk.ensures.less
-
-pub returns-clause-kept : goal.returns-clause-kept
-returns-clause-kept g c =
-    let e = c.split.ensures in
-    let split : IsSplit g.A.Links.regions g.A.Links.word c.args.self.now c.args.at c.args.size c.args.n c.split.new.self = record { state = e.state; first = e.first; second = e.second; others = e.others; words = e.words; regions_same = e.moved.regions_same } in
-    lead_kept c.requires.sound c.requires.chunk c.requires.least c.requires.room split e.free c.dispose_chunk.ensures.moved c.dispose_chunk.ensures.state
-    c.dispose_chunk.ensures.less e.moved
-
-pub returns-clause-words : goal.returns-clause-words
-returns-clause-words g c =
-    let e = c.split.ensures in
-    let split : IsSplit g.A.Links.regions g.A.Links.word c.args.self.now c.args.at c.args.size c.args.n c.split.new.self = record { state = e.state; first = e.first; second = e.second; others = e.others; words = e.words; regions_same = e.moved.regions_same } in
-    lead_words c.requires.sound c.requires.chunk c.requires.least c.requires.room split e.free c.dispose_chunk.ensures.moved c.dispose_chunk.ensures.state c.dispose_chunk.ensures.less
 
 pub dispose_chunk-requires-clause-linked : goal.dispose_chunk-requires-clause-linked
 dispose_chunk-requires-clause-linked g c =
     let e = c.split.ensures in
     binned_beside c.index_stays.ensures c.requires.sound e.moved e.bins e.free (ap (λ s. s.victim) e.state) c.requires.linked
 
-pub returns-clause-order : goal.returns-clause-order
-returns-clause-order g c = λ b.
-    let e = c.split.ensures in
-    c.dispose_chunk.ensures.order (binned_beside c.index_stays.ensures c.requires.sound e.moved e.bins e.free (ap (λ s. s.victim) e.state) b)
+pub returns : goal.returns
+returns g c =
+    let e = c.split.ensures in let freed = c.dispose_chunk.ensures in let sound = c.requires.sound in
+    let can : CanSplit g.A.Links.word c.args.self.now c.args.at c.args.size c.args.n =
+    record { there = c.requires.chunk; whole = c.requires.whole; least = c.requires.least; room = c.requires.room } in
+    let split : IsSplit g.A.Links.regions g.A.Links.word g.A.Links.follows c.args.self.now c.args.at c.args.size c.args.n c.split.new.self =
+    record { state = e.state; first = e.first; second = e.second; others = e.others; words = e.words; free = e.free; moved = e.moved } in
+    record {
+      state = lead_state sound can split freed.moved freed.state freed.less;
+      second = lead_second sound can split freed.moved freed.state freed.less;
+      others = lead_others sound can split freed.moved freed.state freed.less;
+      kept = lead_kept sound can split freed.moved freed.state freed.less;
+      words = lead_words sound can split freed.moved freed.state freed.less;
+      sound = freed.moved.sound;
+      regions = freed.moved.regions_same ∙ e.moved.regions_same;
+      follows = g.A.Links.follows_on _ _ _ [] [] [] e.moved.followed freed.moved.followed refl;
+      linked = freed.linked;
+      order = λ b. freed.order (binned_beside c.index_stays.ensures sound e.moved e.bins e.free (ap (λ s. s.victim) e.state) b);
+      counted = (let told = e.counted in let more = freed.counted in omega arith);
+    }

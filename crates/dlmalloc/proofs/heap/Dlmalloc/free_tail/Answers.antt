@@ -1,50 +1,40 @@
 use Rattle.dlmalloc.proofs.Names.{[], refl, ◌∙◌, arith, ap}
-use Rattle.dlmalloc.proofs.Resizing.Split.{end_small}
+use Rattle.dlmalloc.proofs.Resizing.Split.{CanSplit, IsSplit, end_small}
 use Rattle.dlmalloc.proofs.Bins.Changes.{binned_beside}
-use Rattle.dlmalloc.proofs.Resizing.SplitAndFreed.{IsSplit, tail_state, tail_first, tail_others, tail_words}
+use Rattle.dlmalloc.proofs.Resizing.SplitAndFreed.{tail_state, tail_first, tail_others, tail_words}
 use Rattle.dlmalloc.proofs.heap.Dlmalloc.free_tail.Goals as goal
+use Rattle.dlmalloc.proofs.heap.Dlmalloc.free_tail.Goals.{Start}
+
+can : (g : _) (c : Start g) → CanSplit g.A.Links.word c.args.self.now c.args.at c.args.size c.args.n
+can g c = record { there = c.requires.chunk; whole = c.requires.whole; least = c.requires.least; room = c.requires.room }
 
 pub overflow_add-at : goal.overflow_add-at
 overflow_add-at g c =
-    let end = end_small c.requires.sound c.args.n c.requires.chunk c.requires.whole c.requires.least c.requires.room in
+    let end = end_small c.requires.sound (can g (goal.at.overflow_add-at g c).Start) in
     let room = c.requires.room in grind arith
-
-pub returns-clause-state : goal.returns-clause-state
-returns-clause-state g c =
-    let e = c.split.ensures in
-    let split : IsSplit g.A.Links.regions g.A.Links.word c.args.self.now c.args.at c.args.size c.args.n c.split.new.self = record { state = e.state; first = e.first; second = e.second; others = e.others; words = e.words; regions_same = e.moved.regions_same } in
-    tail_state c.requires.sound c.requires.chunk c.requires.least c.requires.room split e.free c.dispose_chunk.ensures.moved c.dispose_chunk.ensures.state c.dispose_chunk.ensures.less
-
-pub returns-clause-first : goal.returns-clause-first
-returns-clause-first g c =
-    let e = c.split.ensures in
-    let split : IsSplit g.A.Links.regions g.A.Links.word c.args.self.now c.args.at c.args.size c.args.n c.split.new.self = record { state = e.state; first = e.first; second = e.second; others = e.others; words = e.words; regions_same = e.moved.regions_same } in
-    tail_first c.requires.sound c.requires.chunk c.requires.least c.requires.room split e.free c.dispose_chunk.ensures.moved c.dispose_chunk.ensures.state c.dispose_chunk.ensures.less
-
-pub returns-clause-others : goal.returns-clause-others
-returns-clause-others g c =
-    let e = c.split.ensures in
-    let split : IsSplit g.A.Links.regions g.A.Links.word c.args.self.now c.args.at c.args.size c.args.n c.split.new.self = record { state = e.state; first = e.first; second = e.second; others = e.others; words = e.words; regions_same = e.moved.regions_same } in
-    tail_others c.requires.sound c.requires.chunk c.requires.least c.requires.room split e.free c.dispose_chunk.ensures.moved c.dispose_chunk.ensures.state c.dispose_chunk.ensures.less
-
-pub returns-clause-moved : goal.returns-clause-moved
-returns-clause-moved g c =
-    let e = c.split.ensures in
-    let split : IsSplit g.A.Links.regions g.A.Links.word c.args.self.now c.args.at c.args.size c.args.n c.split.new.self = record { state = e.state; first = e.first; second = e.second; others = e.others; words = e.words; regions_same = e.moved.regions_same } in
-    record {
-      sound = c.dispose_chunk.ensures.moved.sound;
-      words = tail_words c.requires.sound c.requires.chunk c.requires.least c.requires.room split e.free c.dispose_chunk.ensures.moved
-          c.dispose_chunk.ensures.state c.dispose_chunk.ensures.less;
-      regions_same = c.dispose_chunk.ensures.moved.regions_same ∙ e.moved.regions_same;
-      followed = g.A.Links.follows_on c.args.self.now.system c.split.new.self.system c.dispose_chunk.new.self.system [] [] [] e.moved.followed c.dispose_chunk.ensures.moved.followed refl;
-    }
 
 pub dispose_chunk-requires-clause-linked : goal.dispose_chunk-requires-clause-linked
 dispose_chunk-requires-clause-linked g c =
     let e = c.split.ensures in
     binned_beside c.index_stays.ensures c.requires.sound e.moved e.bins e.free (ap (λ s. s.victim) e.state) c.requires.linked
 
-pub returns-clause-order : goal.returns-clause-order
-returns-clause-order g c = λ b.
-    let e = c.split.ensures in
-    c.dispose_chunk.ensures.order (binned_beside c.index_stays.ensures c.requires.sound e.moved e.bins e.free (ap (λ s. s.victim) e.state) b)
+pub returns : goal.returns
+returns g c =
+    let e = c.split.ensures in let freed = c.dispose_chunk.ensures in let sound = c.requires.sound in
+    let can = can g (goal.at.returns g c).Start in
+    let split : IsSplit g.A.Links.regions g.A.Links.word g.A.Links.follows c.args.self.now c.args.at c.args.size c.args.n c.split.new.self =
+    record { state = e.state; first = e.first; second = e.second; others = e.others; words = e.words; free = e.free; moved = e.moved } in
+    record {
+      state = tail_state sound can split freed.moved freed.state freed.less;
+      first = tail_first sound can split freed.moved freed.state freed.less;
+      others = tail_others sound can split freed.moved freed.state freed.less;
+      moved = record {
+        sound = freed.moved.sound;
+        words = tail_words sound can split freed.moved freed.state freed.less;
+        regions_same = freed.moved.regions_same ∙ e.moved.regions_same;
+        followed = g.A.Links.follows_on _ _ _ [] [] [] e.moved.followed freed.moved.followed refl;
+      };
+      linked = freed.linked;
+      order = λ b. freed.order (binned_beside c.index_stays.ensures sound e.moved e.bins e.free (ap (λ s. s.victim) e.state) b);
+      counted = (let told = e.counted in let more = freed.counted in omega arith);
+    }
