@@ -7,6 +7,10 @@ use Rattle.dlmalloc.proofs.Segments.Among.{with_extents}
 use Rattle.dlmalloc.proofs.Moves.OfHeaps.{IsStep, read, found_new, found_again, found_before, keeps_words, stays_sound}
 use Rattle.dlmalloc.proofs.Extents.RunReplaced.{run_of, HasNext, has_next, with_next, run_part, run_word}
 
+-- a heap with another system, top and victim
+abbrev changed : {A : Type 0} → Dlmalloc A → A → ℕ → ℕ → ℕ → ℕ → Dlmalloc A
+changed heap system top top_size victim victim_size = record heap { system = system; top = top; top_size = top_size; victim = victim; victim_size = victim_size }
+
 -- A chunk in use took bytes of the extent behind it, so that it has so many.
 pub record IsEnlarged {A : Type 0} (regions : A → List Grant) (word : A → ℕ → ℕ) (old : Dlmalloc A) (chunk behind : Extent) (n whole : ℕ) (new : Dlmalloc A) : Type 0 where
   pub state : state_of word new ≡ grown_into (state_of word old) chunk behind n
@@ -14,6 +18,18 @@ pub record IsEnlarged {A : Type 0} (regions : A → List Grant) (word : A → �
   pub others : HasSameOthers (state_of word old) (state_of word new) chunk.at chunk.at
   pub sound : IsSound regions word new
   pub words : OnlyBoundariesChange (regions old.system) (state_of word new) (word old.system) (word new.system)
+
+-- Of two lists of extents the second has the chunk with so many bytes, and both have the same others in use.
+pub record IsChunkEnlarged (at whole : ℕ) (less more : List Extent) : Type 0 where
+  pub held : extent_at at more ≡ Some (extent at whole Used)
+  pub kept : (used : Extent) → used.kind ≡ Used → used.at ≢ at → extent_at used.at less ≡ Some used → extent_at used.at more ≡ Some used
+  pub only : (used : Extent) → used.kind ≡ Used → used.at ≢ at → extent_at used.at more ≡ Some used → extent_at used.at less ≡ Some used
+
+-- A heap's victim is one of its extents, and the one that is wanted.
+pub record IsVictimLeft {A : Type 0} (word : A → ℕ → ℕ) (heap : Dlmalloc A) (wanted : ℕ) : Type 0 where
+  pub none : heap.victim_size ≡ 0 → heap.victim ≡ 0
+  pub named : heap.victim_size ≢ 0 → extent_at heap.victim (extents_in (state_of word heap)) ≡ Some (extent heap.victim heap.victim_size Free)
+  pub left : heap.victim ≡ wanted
 
 -- ---- what is found among two
 
@@ -80,27 +96,22 @@ module _ {A : Type 0} {regions : A → List Grant} {word : A → ℕ → ℕ} {h
     }
 
     -- what a step leaves, in which the chunk takes bytes
-    module _ (n whole : ℕ) (system : A) (same : regions system ≡ regions heap.system) (top top_size victim victim_size : ℕ) where
-      abbrev after : Dlmalloc A
-      after = record heap { system = system; top = top; top_size = top_size; victim = victim; victim_size = victim_size }
-
-      pub enlarged : {less more : List Extent} (others : List Extent) (step : IsStep regions word heap after less more) →
-          step.front ++ step.now ∷ step.back ≡ two.front ++ with_extents two.segment (two.first ++ (others ++ two.last)) ∷ two.back →
-          cut n (joined chunk behind) ≡ others → extent_at at more ≡ Some (extent at whole Used) → ((used : Extent) → used.kind ≡ Used →
-          used.at ≢ at → extent_at used.at less ≡ Some used → extent_at used.at more ≡ Some used) → ((used : Extent) → used.kind ≡ Used →
-          used.at ≢ at → extent_at used.at more ≡ Some used → extent_at used.at less ≡ Some used) → (victim_size ≡ 0 → victim ≡ 0) →
-          (victim_size ≢ 0 → extent_at victim (extents_in (state_of word after)) ≡ Some (extent victim victim_size Free)) →
-          victim ≡ (grown_into (state_of word heap) chunk behind n).victim → IsEnlarged regions word heap chunk behind n whole after
-      enlarged others step now parts held kept only none named left = record {
-        state = (
-            let segments_are = read sound step ∙ (now ∙ (ap (λ es. two.front ++ with_extents two.segment (two.first ++ (es ++ two.last)) ∷ two.back) (sym
-            parts) ∙ sym (both_run (regions heap.system) words sound.segments sound.apart chunk behind (λ one behind. cut n (joined one behind)) two))) in
-            λ i. record { segments = segments_are i; victim = left i; granularity = heap.granularity; rate = heap.rate; countdown = heap.countdown; trim_check = heap.trim_check });
-        held = found_new sound step at (extent at whole Used) held;
-        others = record {
-          kept = λ used is other again there. found_again sound step used.at (kept used is other) there;
-          only = λ used is other again there. found_before sound step used.at (only used is other) there;
-        };
-        sound = stays_sound sound step same refl refl refl refl none named;
-        words = keeps_words sound step;
-      }
+    pub enlarged : {n whole : ℕ} {system : A} {top top_size victim victim_size : ℕ} {less more : List Extent} → regions system ≡ regions heap.system →
+        (others : List Extent) (step : IsStep regions word heap (changed heap system top top_size victim victim_size) less more) →
+        step.front ++ step.now ∷ step.back ≡ two.front ++ with_extents two.segment (two.first ++ (others ++ two.last)) ∷ two.back →
+        cut n (joined chunk behind) ≡ others → IsChunkEnlarged at whole less more →
+        IsVictimLeft word (changed heap system top top_size victim victim_size) (grown_into (state_of word heap) chunk behind n).victim →
+        IsEnlarged regions word heap chunk behind n whole (changed heap system top top_size victim victim_size)
+    enlarged {n} {whole} same others step now parts chunks left = record {
+      state = (
+          let segments_are = read sound step ∙ (now ∙ (ap (λ es. two.front ++ with_extents two.segment (two.first ++ (es ++ two.last)) ∷ two.back) (sym
+          parts) ∙ sym (both_run (regions heap.system) words sound.segments sound.apart chunk behind (λ one behind. cut n (joined one behind)) two))) in
+          λ i. record { segments = segments_are i; victim = left.left i; granularity = heap.granularity; rate = heap.rate; countdown = heap.countdown; trim_check = heap.trim_check });
+      held = found_new sound step at (extent at whole Used) chunks.held;
+      others = record {
+        kept = λ used is other again there. found_again sound step used.at (chunks.kept used is other) there;
+        only = λ used is other again there. found_before sound step used.at (chunks.only used is other) there;
+      };
+      sound = stays_sound sound step same refl refl refl refl left.none left.named;
+      words = keeps_words sound step;
+    }

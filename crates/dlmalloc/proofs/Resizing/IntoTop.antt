@@ -12,9 +12,16 @@ use Rattle.dlmalloc.proofs.Segments.HeadTold.{head_is}
 use Rattle.dlmalloc.proofs.Extents.Top.{is_top}
 use Rattle.dlmalloc.proofs.Frees.WhatCallsWant.{next_top}
 
-module _ {A : Type 0} {regions : A → List Grant} {word : A → ℕ → ℕ} {heap : Dlmalloc A} (sound : IsSound regions word heap) {at size : ℕ} (n : ℕ)
-    (there : extent_at at (extents_in (state_of word heap)) ≡ Some (extent at size Used)) (touch : at + size ≡ heap.top) (whole : n % 16 ≡ 0)
-    (more : size < n) (room : n < size + heap.top_size) where
+-- A chunk in use stands before the top, which can give it bytes up to n and keep a rest.
+pub record CanTakeTop {A : Type 0} (word : A → ℕ → ℕ) (heap : Dlmalloc A) (at size n : ℕ) : Type 0 where
+  pub there : extent_at at (extents_in (state_of word heap)) ≡ Some (extent at size Used)
+  pub touch : at + size ≡ heap.top
+  pub whole : n % 16 ≡ 0
+  pub more : size < n
+  pub room : n < size + heap.top_size
+
+module _ {A : Type 0} {regions : A → List Grant} {word : A → ℕ → ℕ} {heap : Dlmalloc A} (sound : IsSound regions word heap) {at size n : ℕ}
+    (can : CanTakeTop word heap at size n) where
   abbrev words : ℕ → ℕ
   words = word heap.system
 
@@ -24,11 +31,11 @@ module _ {A : Type 0} {regions : A → List Grant} {word : A → ℕ → ℕ} {h
   abbrev top : Extent
   top = extent (at + size) heap.top_size Top
 
-  next_is : (next sound there).next ≡ top
-  next_is = next_top sound there touch ∙ ap (λ a. extent a heap.top_size Top) (sym touch)
+  next_is : (next sound can.there).next ≡ top
+  next_is = next_top sound can.there can.touch ∙ ap (λ a. extent a heap.top_size Top) (sym can.touch)
 
   abbrev both : IsRunOf words (segments_of word heap) at (at + size + heap.top_size) (chunk ∷ top ∷ [])
-  both = two sound there next_is
+  both = two sound can.there next_is
 
   least : 32 ≤ n
   least = omega (arith, both.here.1.size.1)
@@ -37,10 +44,10 @@ module _ {A : Type 0} {regions : A → List Grant} {word : A → ℕ → ℕ} {h
   rest_room = omega (arith, both.here.1.size.0, both.here.2.1.size.0)
 
   pub top_first_head : HasHead (regions heap.system) at
-  top_first_head = head_there sound there next_is at (omega arith) (omega (arith, high sound there next_is, rest_room)) (omega (arith, both.here.1.whole))
+  top_first_head = head_there sound can.there next_is at (omega arith) (omega (arith, high sound can.there next_is, rest_room)) (omega (arith, both.here.1.whole))
 
   pub top_rest_head : HasHead (regions heap.system) (at + n)
-  top_rest_head = head_there sound there next_is (at + n) (omega arith) (omega (arith, high sound there next_is, rest_room)) (omega (arith, both.here.1.whole))
+  top_rest_head = head_there sound can.there next_is (at + n) (omega arith) (omega (arith, high sound can.there next_is, rest_room)) (omega (arith, both.here.1.whole))
 
   head_segment : both.front ≡ []
   head_segment = (is_top sound both.front both.segment both.back both.is {at = (at + size)} {size = heap.top_size} (ap (extent_at (at + size)) both.extents
@@ -49,8 +56,8 @@ module _ {A : Type 0} {regions : A → List Grant} {word : A → ℕ → ℕ} {h
       let is : (at + size == at + size) ≡ true = nat_same (at + size) in
       rw (isnt, is) refl)))).0
 
-  module _ (middle system : A) (same_middle : regions middle ≡ regions heap.system) (same_system : regions system ≡ regions middle)
-      (value : ℕ) {rest : ℕ} (rest_is : rest ≡ size + heap.top_size - n)
+  module _ {middle system : A} (same_middle : regions middle ≡ regions heap.system) (same_system : regions system ≡ regions middle)
+      {value rest : ℕ} (rest_is : rest ≡ size + heap.top_size - n)
       (stored_first : AreStored (regions heap.system) words ((at + 8, head_of n (pinuse_of (words (at + 8))) true) ∷ (at + n + 8, value) ∷ []) (word middle))
       (stored_rest : IsStored (regions middle) (word middle) (at + n + 8) (rest + 1) (word system)) where
     stored : AreStored (regions heap.system) words ((at + 8, head_of n (pinuse_of (words (at + 8))) true) ∷ (at + n + 8, rest + 1) ∷ []) (word system)
@@ -73,7 +80,7 @@ module _ {A : Type 0} {regions : A → List Grant} {word : A → ℕ → ℕ} {h
     move =
         subst (λ r. IsMove (regions heap.system) words (word system) (last_kind Used both.first) at (at + size + heap.top_size) (at + size + heap.top_size)
         (chunk ∷ top ∷ []) (extent at n Used ∷ extent (at + n) r Top ∷ [])) (sym rest_is)
-        (grown_top (regions heap.system) (word system) both.here.1 n both.here.2.1 whole least rest_room (subst (λ r. AreStored (regions heap.system) words
+        (grown_top (regions heap.system) (word system) both.here.1 n both.here.2.1 can.whole least rest_room (subst (λ r. AreStored (regions heap.system) words
         ((at + 8, head_of n (pinuse_of (words (at + 8))) true) ∷ (at + n + 8, r + 1) ∷ []) (word system)) rest_is stored))
 
     abbrev step : IsStep regions word heap after (chunk ∷ top ∷ []) parts
@@ -84,11 +91,17 @@ module _ {A : Type 0} {regions : A → List Grant} {word : A → ℕ → ℕ} {h
 
     -- the top keeps the rest
     pub into_top : IsEnlarged regions word heap chunk top n n after
-    into_top = enlarged sound there next_is n n system (same_system ∙ same_middle) (at + n) rest heap.victim heap.victim_size parts step refl
-        (λ i. extent at n Used ∷ extent (at + n) (sym rest_is i) Top ∷ []) (let here = nat_same at in rw here refl)
-        (λ used is other found. absurd (no_other chunk top (λ is. cc) is other found))
-        (λ used is other found. absurd (no_other (extent at n Used) (extent (at + n) rest Top) (λ is. cc) is other found)) sound.no_victim (λ some.
-        found_again sound step heap.victim (λ found. absurd (no_kind chunk top Free (λ is. cc) (λ is. cc) heap.victim found refl)) (sound.victim some)) refl
+    into_top = enlarged sound can.there next_is (same_system ∙ same_middle) parts step refl (λ i. extent at n Used ∷ extent (at + n) (sym rest_is i) Top ∷ [])
+        (record {
+          held = let here = nat_same at in rw here refl;
+          kept = λ used is other found. absurd (no_other chunk top (λ is. cc) is other found);
+          only = λ used is other found. absurd (no_other (extent at n Used) (extent (at + n) rest Top) (λ is. cc) is other found);
+        })
+        (record {
+          none = sound.no_victim;
+          named = λ some. found_again sound step heap.victim (λ found. absurd (no_kind chunk top Free (λ is. cc) (λ is. cc) heap.victim found refl)) (sound.victim some);
+          left = refl;
+        })
 
     -- no free extent but the top changes
     pub into_top_free : FreeMoves (state_of word heap) (state_of word after) [] []
