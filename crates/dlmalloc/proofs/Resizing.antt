@@ -1,4 +1,5 @@
 -- A block gets another size, where it stands or elsewhere.
+pub mod TwoExtents
 pub mod Split
 pub mod SplitAndFreed
 pub mod EnlargedWords

@@ -8,7 +8,7 @@ use Rattle.dlmalloc.proofs.Moves.OfHeaps.{IsStep, read, found_new, found_again, 
 use Rattle.dlmalloc.proofs.Extents.RunReplaced.{run_of, HasNext, has_next, with_next, run_part, run_word}
 
 -- a heap with another system, top and victim
-abbrev changed : {A : Type 0} → Dlmalloc A → A → ℕ → ℕ → ℕ → ℕ → Dlmalloc A
+abbrev pub changed : {A : Type 0} → Dlmalloc A → A → ℕ → ℕ → ℕ → ℕ → Dlmalloc A
 changed heap system top top_size victim victim_size = record heap { system = system; top = top; top_size = top_size; victim = victim; victim_size = victim_size }
 
 -- A chunk in use took bytes of the extent behind it, so that it has so many.
@@ -30,31 +30,6 @@ pub record IsVictimLeft {A : Type 0} (word : A → ℕ → ℕ) (heap : Dlmalloc
   pub none : heap.victim_size ≡ 0 → heap.victim ≡ 0
   pub named : heap.victim_size ≢ 0 → extent_at heap.victim (extents_in (state_of word heap)) ≡ Some (extent heap.victim heap.victim_size Free)
   pub left : heap.victim ≡ wanted
-
--- ---- what is found among two
-
-pub in_two : (first second : Extent) (k : ℕ) {one : Extent} → extent_at k (first ∷ second ∷ []) ≡ Some one → (first ≡ one) ⊎ (second ≡ one)
-in_two first second k found =
-    elim (found_either k (first ∷ []) (second ∷ []) found) [
-      | inl here ↦ inl (the_one k first here)
-      | inr behind ↦ inr (the_one k second behind.1)
-    ]
-
--- none of them is of a kind that they have not
-pub no_kind : (first second : Extent) (kind : Kind) → first.kind ≢ kind → second.kind ≢ kind → (k : ℕ) {one : Extent} → extent_at k (first ∷ second ∷ []) ≡ Some one → one.kind ≢ kind
-no_kind first second kind no_first no_second k found is =
-    elim (in_two first second k found) [
-      | inl here ↦ no_first (ap (λ e. e.kind) here ∙ is)
-      | inr behind ↦ no_second (ap (λ e. e.kind) behind ∙ is)
-    ]
-
--- and but for the first none is in use, where the second is not
-pub no_other : (first second : Extent) → second.kind ≢ Used → {used : Extent} → used.kind ≡ Used → used.at ≢ first.at → extent_at used.at (first ∷ second ∷ []) ≡ Some used → ⊥
-no_other first second free {used} is other found =
-    elim (in_two first second used.at found) [
-      | inl here ↦ other (ap (λ e. e.at) (sym here))
-      | inr behind ↦ free (ap (λ e. e.kind) behind ∙ is)
-    ]
 
 -- ---- the two
 

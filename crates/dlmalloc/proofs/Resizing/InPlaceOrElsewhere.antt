@@ -2,7 +2,7 @@
 use Rattle.dlmalloc.proofs.Names.{◌≡◌, ◌≢◌, ℕ, ◌+◌, ◌-◌, ◌*◌, ◌/◌, ◌%◌, ◌<◌, ◌≤◌, ◌⊎◌, inl, inr, min, Bool, true, false, not, ◌==◌, if◌then◌else◌, List, [], ◌∷◌, Option, Some, IsTrue, refl, sym, ◌∙◌, ap, subst, arith, unwrap_or, option_map, IfSome, Grant, Event, is_granted, AreWordsOf, IsBeside, AreCopied, padded, limit, Extent, Used, extent_at, HeapState, extents_in, size_where, IsBlock, HasOneMore, KeepsBlocks, in_place, HasSameOthers, IndexStays, IsBinned, state_of, IsSound, IsTurned, IsFreed, IsServedAt, words_in, IsSameHeap, IsInPlace, KeepsOrder, Dlmalloc}
 use Rattle.dlmalloc.specs.Moved.{others_at}
 use Rattle.dlmalloc.proofs.Extents.Lookup.{extent, the_extent, found, nat_is, nat_same}
-use Rattle.dlmalloc.proofs.Resizing.Split.{differ}
+use Rattle.dlmalloc.proofs.Resizing.TwoExtents.{differ}
 use Rattle.dlmalloc.proofs.Blocks.WordsKept.{not_in_free, kept_in, blocks_law}
 use Rattle.dlmalloc.proofs.Laws.{used_inside, used_apart}
 use Rattle.dlmalloc.proofs.Blocks.Chunks.{blocks_apart}

@@ -1,10 +1,11 @@
 -- A chunk in use takes bytes of the top behind it.
 use Rattle.dlmalloc.proofs.Names.{◌≡◌, ℕ, ◌+◌, ◌-◌, ◌%◌, ◌<◌, ◌≤◌, inl, inr, true, false, ◌==◌, List, [], ◌∷◌, ◌++◌, Some, refl, sym, ◌∙◌, ap, subst, arith, Grant, IsStored, AreStored, HasHead, Extent, Used, Free, Top, Record, pinuse_of, head_of, extent_at, last_kind, extents_in, IsMove, IsRunOf, segments_of, state_of, IsSound, Dlmalloc, FreeMoves}
-use Rattle.dlmalloc.proofs.Extents.Lookup.{extent, nat_isnt, nat_same, found_later}
+use Rattle.dlmalloc.proofs.Extents.Lookup.{extent, found_here, found_later}
 use Rattle.dlmalloc.proofs.Extents.OneMoreUsed.{none_outside}
 use Rattle.dlmalloc.proofs.Cuts.FreeExtent.{stored_over}
 use Rattle.dlmalloc.proofs.Resizing.EnlargedWords.{grown_top}
-use Rattle.dlmalloc.proofs.Resizing.Enlarged.{IsEnlarged, no_kind, no_other, next, two, high, head_there, enlarged}
+use Rattle.dlmalloc.proofs.Resizing.TwoExtents.{no_kind, no_other, found_second}
+use Rattle.dlmalloc.proofs.Resizing.Enlarged.{IsEnlarged, next, two, high, head_there, enlarged}
 use Rattle.dlmalloc.proofs.Moves.OfFreeExtents.{free_moves}
 use Rattle.dlmalloc.proofs.Moves.OfHeaps.{IsStep, found_again}
 use Rattle.dlmalloc.proofs.Extents.RunReplaced.{step_top}
@@ -52,9 +53,7 @@ module _ {A : Type 0} {regions : A → List Grant} {word : A → ℕ → ℕ} {h
   head_segment : both.front ≡ []
   head_segment = (is_top sound both.front both.segment both.back both.is {at = (at + size)} {size = heap.top_size} (ap (extent_at (at + size)) both.extents
       ∙ (found_later (at + size) both.first (chunk ∷ top ∷ both.last) (none_outside words Used both.segment.base both.first at (at + size)
-      (inr (omega arith)) both.first_stand) ∙ (let isnt : (at == at + size) ≡ false = nat_isnt (inl (omega (arith, both.here.1.size.1))) in
-      let is : (at + size == at + size) ≡ true = nat_same (at + size) in
-      rw (isnt, is) refl)))).0
+      (inr (omega arith)) both.first_stand) ∙ found_second at size top both.last (omega (arith, both.here.1.size.1))))).0
 
   module _ {middle system : A} (same_middle : regions middle ≡ regions heap.system) (same_system : regions system ≡ regions middle)
       {value rest : ℕ} (rest_is : rest ≡ size + heap.top_size - n)
@@ -72,9 +71,8 @@ module _ {A : Type 0} {regions : A → List Grant} {word : A → ℕ → ℕ} {h
 
     where_top : extent_at (at + n) (both.first ++ (parts ++ both.last)) ≡ Some (extent (at + n) rest Top)
     where_top =
-        let isnt : (at == at + n) ≡ false = nat_isnt (inl (omega (arith, least))) in
-        let is : (at + n == at + n) ≡ true = nat_same (at + n) in
-        found_later (at + n) both.first (parts ++ both.last) (none_outside words Used both.segment.base both.first at (at + n) (inr (omega arith)) both.first_stand) ∙ rw (isnt, is) refl
+        found_later (at + n) both.first (parts ++ both.last) (none_outside words Used both.segment.base both.first at (at + n) (inr (omega arith)) both.first_stand)
+        ∙ found_second at n (extent (at + n) rest Top) both.last (omega (arith, least))
 
     move : IsMove (regions heap.system) words (word system) (last_kind Used both.first) at (at + size + heap.top_size) (at + size + heap.top_size) (chunk ∷ top ∷ []) parts
     move =
@@ -93,7 +91,7 @@ module _ {A : Type 0} {regions : A → List Grant} {word : A → ℕ → ℕ} {h
     pub into_top : IsEnlarged regions word heap chunk top n n after
     into_top = enlarged sound can.there next_is (same_system ∙ same_middle) parts step refl (λ i. extent at n Used ∷ extent (at + n) (sym rest_is i) Top ∷ [])
         (record {
-          held = let here = nat_same at in rw here refl;
+          held = found_here (extent at n Used) (extent (at + n) rest Top ∷ []);
           kept = λ used is other found. absurd (no_other chunk top (λ is. cc) is other found);
           only = λ used is other found. absurd (no_other (extent at n Used) (extent (at + n) rest Top) (λ is. cc) is other found);
         })

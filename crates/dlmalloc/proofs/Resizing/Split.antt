@@ -1,15 +1,13 @@
 -- A chunk in use is split into two.
 use Rattle.dlmalloc.proofs.Names.{◌≡◌, ◌≢◌, ℕ, ◌+◌, ◌-◌, ◌%◌, ◌^◌, ◌<◌, ◌≤◌, inl, inr, true, false, ◌==◌, List, [], ◌∷◌, None, Some, refl, sym, ◌∙◌, ap, subst, arith, nat_tests, Grant, Event, IsWordOf, IsStored, AreStored, HasHead, Extent, Kind, Used, Free, Top, Record, pinuse_of, head_of, pinuse_of-head_of, extent_at, is_used, HasChunk, extents_in, exchanged, halves, HasSameOthers, IsMoved, IsMove, IsRunOf, segments_of, state_of, IsSound, Dlmalloc, FreeMoves}
-use Rattle.dlmalloc.proofs.Extents.Lookup.{extent, nat_isnt, nat_same, found_either, the_one}
+use Rattle.dlmalloc.proofs.Extents.Lookup.{extent, found_here, the_one}
 use Rattle.dlmalloc.proofs.Cuts.FreeExtent.{stored_over}
 use Rattle.dlmalloc.proofs.Extents.Tiling.{tiles_le, plain_chunk}
 use Rattle.dlmalloc.proofs.Moves.OfFreeExtents.{free_moves}
 use Rattle.dlmalloc.proofs.Moves.OfHeaps.{IsStep, read, found_new, found_again, found_before, keeps_words, stays_sound}
 use Rattle.dlmalloc.proofs.Extents.RunReplaced.{run_of, step_beside, run_part, run_word}
 use Rattle.dlmalloc.proofs.Cuts.StateAfter.{replaced_run}
-
-pub differ : (m n : ℕ) → m ≢ n → (m == n) ≡ false
-differ m n other = (let e = other in grind (arith, nat_tests))
+use Rattle.dlmalloc.proofs.Resizing.TwoExtents.{in_two, no_kind, found_second}
 
 -- the move: the two heads are stored
 pub split_used : {regions : List Grant} {old new : ℕ → ℕ} {before : Kind} (at size n : ℕ) → HasChunk old before (extent at size Used) → n % 16 ≡ 0 → 32 ≤ n → n + 32 ≤ size →
@@ -111,33 +109,27 @@ module _ {A : Type 0} {regions : A → List Grant} {word : A → ℕ → ℕ} {h
         (record { base = refl; size = refl; flags = refl; top = refl; top_size = refl })
         (λ k tail found is. absurd (let no : Used ≡ Top = used_one k found ∙ is in cc))
 
-    apart : (at == at + n) ≡ false
-    apart = nat_isnt (inl (omega arith))
-
     neither : (used : Extent) → used.at ≢ at → used.at ≢ at + n → extent_at used.at both ≡ Some used → ⊥
     neither used other_at other_end here =
-        let first : (at == used.at) ≡ false = differ at used.at (λ e. other_at (sym e)) in
-        let second : (at + n == used.at) ≡ false = differ (at + n) used.at (λ e. other_end (sym e)) in
-        let none : extent_at used.at both ≡ None = rw (first, second) refl in
-        let no : None ≡ Some used = sym none ∙ here in cc
+        elim (in_two (extent at n Used) (extent (at + n) (size - n) Used) used.at here) [
+          | inl first ↦ other_at (sym (ap (λ e. e.at) first))
+          | inr second ↦ other_end (sym (ap (λ e. e.at) second))
+        ]
 
     pub is_split : {follows : A → List Event → A → Type 0} → follows heap.system [] system → IsSplit regions word follows heap at size n after
     is_split followed = record {
       state = (
           let segments_are = read sound step ∙ sym (replaced_run (regions heap.system) sound.segments sound.apart (halves n) run) in
           λ i. record { segments = segments_are i; victim = heap.victim; granularity = heap.granularity; rate = heap.rate; countdown = heap.countdown; trim_check = heap.trim_check });
-      first = found_new sound step at (extent at n Used) (let here = nat_same at in rw here refl);
-      second = found_new sound step (at + n) (extent (at + n) (size - n) Used) (let first = apart in let second = nat_same (at + n) in rw (first, second) refl);
+      first = found_new sound step at (extent at n Used) (found_here (extent at n Used) (extent (at + n) (size - n) Used ∷ []));
+      second = found_new sound step (at + n) (extent (at + n) (size - n) Used) (found_second at n (extent (at + n) (size - n) Used) [] (omega arith));
       others = record {
         kept = λ used is other_at other_end there. found_again sound step used.at (λ here. absurd (other_at (sym (place_one used.at here)))) there;
         only = λ used is other_at other_end there. found_before sound step used.at (λ here. absurd (neither used other_at other_end here)) there;
       };
       words = λ k inside first second. stores.elsewhere k inside (first, (second, tt));
       free = free_moves sound step [] [] (λ k bytes found. (let no : Used ≡ Free = used_one k found in cc))
-          (λ k bytes found. elim (found_either k (extent at n Used ∷ []) (extent (at + n) (size - n) Used ∷ []) found) [
-            | inl first ↦ (let no : Used ≡ Free = ap (λ e. e.kind) (the_one k (extent at n Used) first) in cc)
-            | inr later ↦ (let no : Used ≡ Free = ap (λ e. e.kind) (the_one k (extent (at + n) (size - n) Used) later.1) in cc)
-          ]) (λ k none. absurd none) (λ k none. absurd none);
+          (λ k bytes found. no_kind (extent at n Used) (extent (at + n) (size - n) Used) Free (λ is. cc) (λ is. cc) k found refl) (λ k none. absurd none) (λ k none. absurd none);
       moved = record {
         sound = stays_sound sound step same refl refl refl refl sound.no_victim
             (λ more. found_again sound step heap.victim (λ here. absurd (let no : Used ≡ Free = used_one heap.victim here in cc)) (sound.victim more));
