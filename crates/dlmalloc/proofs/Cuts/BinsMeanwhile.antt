@@ -5,6 +5,7 @@ use Rattle.dlmalloc.proofs.Cuts.Chosen.{free_low}
 use Rattle.dlmalloc.proofs.Bins.Held.{AreAccounted}
 use Rattle.dlmalloc.proofs.Bins.Changes.{binned_moved}
 use Rattle.dlmalloc.proofs.Bins.Order.{order_same}
+use Rattle.dlmalloc.proofs.Resizing.IntoFree.{IsPartJoined}
 
 -- The chunk at an address gave way, and left `more` free, or nothing.
 module _ {A : Type 0} {regions : A → List Grant} {word : A → ℕ → ℕ} {old : Dlmalloc A} (new : Dlmalloc A)
@@ -205,12 +206,10 @@ module _ (stays : IndexStays) {A : Type 0} {regions : A → List Grant} {word : 
 -- ---- a chunk takes the free one behind it, or bytes of it
 
 module _ (stays : IndexStays) {A : Type 0} {regions : A → List Grant} {word : A → ℕ → ℕ} {follows : A → List Event → A → Type 0}
-    {old new : Dlmalloc A} (sound : IsSound regions word old) (at size free n : ℕ) (moved : IsMoved regions word follows old new)
-    (state : state_of word new ≡ grown_into (state_of word old) (extent at size Used) (extent (at + size) free Free) n)
-    (moves : FreeMoves (state_of word old) (state_of word new) ((at + size) ∷ []) (if nat_le (n + 32) (size + free) then (at + n) ∷ [] else []))
-    (bins : new.bins ≡ old.bins) where
+    {old new : Dlmalloc A} (sound : IsSound regions word old) {at size free n : ℕ}
+    (joined : IsPartJoined regions word follows old at size free n new) (bins : new.bins ≡ old.bins) where
   victim_grown : new.victim ≡ (grown_into (state_of word old) (extent at size Used) (extent (at + size) free Free) n).victim
-  victim_grown = ap (λ s. s.victim) state
+  victim_grown = ap (λ s. s.victim) joined.state
 
   -- of the victim
   pub into_victim : at + size ≡ old.victim → (b : IsBinned regions word old) → (after : IsBinned regions word new) × ((k : ℕ) → after.index k ≡ b.index k)
@@ -220,23 +219,23 @@ module _ (stays : IndexStays) {A : Type 0} {regions : A → List Grant} {word : 
       mine = (let e = is in grind (arith, nat_tests))
 
       go : (t : Bool) → nat_le (n + 32) (size + free) ≡ t → (after : IsBinned regions word new) × ((k : ℕ) → after.index k ≡ b.index k)
-      go true test = (victim_rest stays sound moved bins (at + size) (at + n) (moves_rest (at + n) n (size + free) moves (grind (arith, nat_tests))) is (victim_grown ∙ rw (mine, test) refl) b, λ k. refl)
-      go false test = (victim_gone stays sound moved bins (at + size) (at + n) (moves_whole (at + n) n (size + free) moves (grind (arith, nat_tests))) is (victim_grown ∙ rw (mine, test) refl) b, λ k. refl)
+      go true test = (victim_rest stays sound joined.moved bins (at + size) (at + n) (moves_rest (at + n) n (size + free) joined.free (grind (arith, nat_tests))) is (victim_grown ∙ rw (mine, test) refl) b, λ k. refl)
+      go false test = (victim_gone stays sound joined.moved bins (at + size) (at + n) (moves_whole (at + n) n (size + free) joined.free (grind (arith, nat_tests))) is (victim_grown ∙ rw (mine, test) refl) b, λ k. refl)
 
   module _ (other : at + size ≢ old.victim) where
     pub same_victim : new.victim ≡ old.victim
     same_victim = (let test : (at + size == old.victim) ≡ false = (let o = other in grind (arith, nat_tests)) in victim_grown ∙ rw test refl)
 
     abbrev pub into_whole : IsBinnedBut ((at + size) ∷ []) regions word old → size + free < n + 32 → IsBinned regions word new
-    into_whole loose little = binned_gone stays sound moved bins (at + size) (at + n) (moves_whole (at + n) n (size + free) moves little) same_victim loose
+    into_whole loose little = binned_gone stays sound joined.moved bins (at + size) (at + n) (moves_whole (at + n) n (size + free) joined.free little) same_victim loose
 
     abbrev pub into_part : IsBinnedBut ((at + size) ∷ []) regions word old → n + 32 ≤ size + free → IsBinnedBut ((at + n) ∷ []) regions word new
-    into_part loose room = binned_rest stays sound moved bins (at + size) (at + n) (moves_rest (at + n) n (size + free) moves room) same_victim loose
+    into_part loose room = binned_rest stays sound joined.moved bins (at + size) (at + n) (moves_rest (at + n) n (size + free) joined.free room) same_victim loose
 
     pub part_other : n + 32 ≤ size + free → 0 < n → at + n ≢ new.victim
-    part_other room some = rest_no_victim stays sound moved bins (at + size) (at + n) (moves_rest (at + n) n (size + free) moves room) other same_victim (omega arith)
+    part_other room some = rest_no_victim stays sound joined.moved bins (at + size) (at + n) (moves_rest (at + n) n (size + free) joined.free room) other same_victim (omega arith)
 
     -- what came was no free chunk
     pub part_came : n + 32 ≤ size + free → size < n → {m : ℕ} → IsFreeAt (state_of word old) (at + n) m → ⊥
-    part_came room more {m} is_free = ((moves_rest (at + n) n (size + free) moves room).stays (at + n) m is_free
+    part_came room more {m} is_free = ((moves_rest (at + n) n (size + free) joined.free room).stays (at + n) m is_free
         (λ is. elim is [ inl same ↦ (let e = same in omega arith) | inr none ↦ none ])).1 (inl refl)
