@@ -7,16 +7,24 @@ use Rattle.dlmalloc.proofs.Segments.Among.{located, of_located}
 use Rattle.dlmalloc.proofs.Blocks.WordsKept.{blocks_law}
 use Rattle.dlmalloc.proofs.Laws.{used_inside, used_apart}
 
+module _ {A : Type 0} {regions : A → List Grant} {word : A → ℕ → ℕ} {heap : Dlmalloc A} (sound : IsSound regions word heap) {ptr size : ℕ}
+    (block : IsBlock (state_of word heap) ptr size) where
+  pub block_place : block.extent.at ≡ ptr - 16
+  block_place = (found (ptr - 16) block.extent (extents_in (state_of word heap)) block.there).place
+
+  pub block_there : extent_at block.extent.at (extents_in (state_of word heap)) ≡ Some block.extent
+  block_there = ap (λ a. extent_at a (extents_in (state_of word heap))) block_place ∙ block.there
+
+  pub block_inside : IsInside (regions heap.system) block.extent
+  block_inside = used_inside regions word heap sound block.extent block.used block_there
+
 module _ {A : Type 0} (regions : A → List Grant) (word : A → ℕ → ℕ) (heap : Dlmalloc A) (sound : IsSound regions word heap) (ptr size : ℕ)
     (block : IsBlock (state_of word heap) ptr size) where
   place : block.extent.at ≡ ptr - 16
-  place = (found (ptr - 16) block.extent (extents_in (state_of word heap)) block.there).place
-
-  there : extent_at block.extent.at (extents_in (state_of word heap)) ≡ Some block.extent
-  there = ap (λ a. extent_at a (extents_in (state_of word heap))) place ∙ block.there
+  place = block_place sound block
 
   inside : IsInside (regions heap.system) block.extent
-  inside = used_inside regions word heap sound block.extent block.used there
+  inside = block_inside sound block
 
   pub block_placed : IsPlaced (regions heap.system) ptr size
   block_placed = record {
@@ -35,7 +43,7 @@ module _ {A : Type 0} (regions : A → List Grant) (word : A → ℕ → ℕ) (h
   -- its head tells the chunk's size
   pub block_chunk : (told : ℕ) → told ≡ size_of (word heap.system (ptr - 16 + 8)) → extent_at (ptr - 16) (extents_in (state_of word heap)) ≡ Some (extent (ptr - 16) told Used)
   block_chunk told is =
-      let l = located block.extent.at (segments_of word heap) there in
+      let l = located block.extent.at (segments_of word heap) (block_there sound block) in
       let p = of_located (IsSegment (regions heap.system) (word heap.system)) l sound.segments in
       let s = standing (word heap.system) Used l.segment.base l.segment.extents (l.segment.base + l.segment.size) p.extents p.tail l.there block.used in
       let sizes : told ≡ block.extent.size = is ∙ (ap (λ a. size_of (word heap.system (a + 8))) (sym place)
@@ -61,11 +69,10 @@ freed_block {word} {new} ptr sound state less moved order = record {
 -- two blocks are apart, and from each other's head
 pub blocks_apart : {A : Type 0} {regions : A → List Grant} {word : A → ℕ → ℕ} {heap : Dlmalloc A} → IsSound regions word heap → BlocksAreApart (state_of word heap)
 blocks_apart {regions} {word} {heap} sound a m b n one two differ =
-    let at_a = place regions word heap sound a m one in let at_b = place regions word heap sound b n two in
-    let long_a = (inside regions word heap sound a m one).long in
-    let long_b = (inside regions word heap sound b n two).long in
+    let at_a = block_place sound one in let at_b = block_place sound two in
+    let long_a = (block_inside sound one).long in let long_b = (block_inside sound two).long in
     let holds_a = one.holds in let holds_b = two.holds in let low_a = one.low in let low_b = two.low in
-    elim (used_apart regions word heap sound one.extent two.extent (there regions word heap sound a m one) (there regions word heap sound b n two) (λ same. differ (omega arith))) [
+    elim (used_apart regions word heap sound one.extent two.extent (block_there sound one) (block_there sound two) (λ same. differ (omega arith))) [
       | inl before ↦ inl (omega arith)
       | inr behind ↦ inr (omega arith)
     ]

@@ -1,7 +1,7 @@
 -- What holds of each block that gets another size, and of each that is cleared.
 use Rattle.dlmalloc.proofs.Names.{◌≡◌, ℕ, ◌+◌, ◌-◌, ◌/◌, ◌%◌, IsTrue, ◌<◌, ◌≤◌, inl, inr, max, Bool, true, false, nat_le, List, [], ◌++◌, Option, None, Some, refl, sym, ◌∙◌, ap, subst, arith, IsPowerOfTwo, Grant, Event, is_granted, IsWordOf, IsBeside, padded, limit, Extent, Used, extent_at, HeapState, extents_in, replaced, cut, in_segments, freed_in, IsBlock, IsInside, HasOneMore, halves, tail_freed, joined, has_room, replaced_both, grown_into, in_place, HasOneMoved, state_of, IsSound, spans, IsHandedOut, words_in, IsSameHeap, IsInPlace, IsElsewhere, IsResized, IsGivenSize, Dlmalloc}
-use Rattle.dlmalloc.proofs.Extents.Lookup.{found}
-use Rattle.dlmalloc.proofs.Laws.{used_inside, used_apart}
+use Rattle.dlmalloc.proofs.Blocks.Chunks.{block_place, block_there, block_inside}
+use Rattle.dlmalloc.proofs.Blocks.Words.{written_kept}
 use Rattle.dlmalloc.proofs.Segments.RegionsMore.{with_other}
 use Rattle.dlmalloc.proofs.Grants.StillGranted.{still_granted}
 use Rattle.dlmalloc.proofs.Blocks.HandedOut.{spans_changed, asked_low, handed_low, handed_high}
@@ -41,16 +41,13 @@ spans_resized heap {new} at n is = first (extent_at at (extents_in heap)) refl
 
 -- ---- the block
 
-module _ {A : Type 0} (regions : A → List Grant) (word : A → ℕ → ℕ) (heap : Dlmalloc A) (sound : IsSound regions word heap) (address size : ℕ)
+module _ {A : Type 0} {regions : A → List Grant} {word : A → ℕ → ℕ} {heap : Dlmalloc A} (sound : IsSound regions word heap) {address size : ℕ}
     (block : IsBlock (state_of word heap) address size) where
-  place : block.extent.at ≡ address - 16
-  place = (found (address - 16) block.extent (extents_in (state_of word heap)) block.there).place
-
-  pub there : extent_at block.extent.at (extents_in (state_of word heap)) ≡ Some block.extent
-  there = ap (λ a. extent_at a (extents_in (state_of word heap))) place ∙ block.there
-
   inside : IsInside (regions heap.system) block.extent
-  inside = used_inside regions word heap sound block.extent block.used there
+  inside = block_inside sound block
+
+  place : block.extent.at ≡ address - 16
+  place = block_place sound block
 
   -- a block lies in granted bytes, at a multiple of 16
   pub whole : address % 16 ≡ 0
@@ -79,8 +76,8 @@ module _ {A : Type 0} {regions : A → List Grant} {word : A → ℕ → ℕ} (z
     low = subst (λ a. 16 ≤ a) (sym same) block.low;
     block = there_now;
     multiple = λ is. ap (λ a. a % align) same ∙ is;
-    aligned = whole regions word new out.moved.sound address size there_now;
-    granted = bytes_granted regions word new out.moved.sound address size there_now;
+    aligned = whole out.moved.sound there_now;
+    granted = bytes_granted out.moved.sound there_now;
     moved = subst (λ a. HasOneMoved (state_of word old) (state_of word new) (from - 16) (a - 16)) (sym same) (record {
       kept = λ used is other there. out.others.kept used is other other there;
       only = λ used is other there. out.others.only used is other other there;
@@ -112,12 +109,6 @@ module _ {A : Type 0} {regions : A → List Grant} {word : A → ℕ → ℕ} (z
     unfilled : (k : ℕ) {one : Extent} → extent_at k (extents_in (state_of word out.filled)) ≡ Some one → extent_at k (extents_in (state_of word out.middle)) ≡ Some one
     unfilled k is = ap (λ s. extent_at k (extents_in s)) (sym out.same.state) ∙ is
 
-    there_before : extent_at block.extent.at (extents_in (state_of word old)) ≡ Some block.extent
-    there_before = there regions word old sound from n block
-
-    place_before : block.extent.at ≡ from - 16
-    place_before = (found (from - 16) block.extent (extents_in (state_of word old)) block.there).place
-
     pub given_elsewhere : IsGivenSize regions word follows frees parts unit old from held align size address new
     given_elsewhere = record {
       middle = out.filled;
@@ -127,7 +118,7 @@ module _ {A : Type 0} {regions : A → List Grant} {word : A → ℕ → ℕ} (z
       ];
       between = out.same.sound;
       still = still_granted sound power block out;
-      here = λ same. absurd (handed.more.new block.extent block.used there_before (omega (arith, place_before)));
+      here = λ same. absurd (handed.more.new block.extent block.used (block_there sound block) (omega (arith, block_place sound block)));
       elsewhere = λ differs. out.freed;
       granularity = out.freed.granularity ∙ (ap (λ h. h.granularity) out.same.state ∙ handed.granularity);
       small = handed.small;
@@ -135,7 +126,7 @@ module _ {A : Type 0} {regions : A → List Grant} {word : A → ℕ → ℕ} (z
       block = out.block;
       multiple = λ is. handed.multiple;
       aligned = handed.aligned;
-      granted = bytes_granted regions word new out.freed.sound address size out.block;
+      granted = bytes_granted out.freed.sound out.block;
       moved = record {
         kept = λ used is other there. out.freed.less.only used is (filled used.at (handed.more.kept used is there)) other;
         only = λ used is other there. handed.more.only used is (unfilled used.at (out.freed.less.kept used is there)) other;
@@ -173,32 +164,6 @@ handed_written {regions} {word} on {old} middle {new} {size} {address} handed sa
   aligned = handed.aligned;
   granted = λ k low high. ap (λ rs. is_granted rs k) same.regions_same ∙ handed.granted k low high;
   more = subst (λ s. HasOneMore (state_of word old) s (address - 16)) (sym same.state) handed.more;
-  kept = record {
-    words = λ other there used k low high m.
-        let inside = used_inside regions word middle handed.sound other used (handed.more.kept other used there) in
-        elsewhere k (record { granted = inside.granted k (omega arith) (omega arith); aligned = m }) (beside other used there k (omega arith) high)
-        ∙ handed.kept.words other there used k low high m;
-    heads = λ other there used.
-        let inside = used_inside regions word middle handed.sound other used (handed.more.kept other used there) in
-        ap (λ w. w / 2) (elsewhere (other.at + 8) (record { granted = inside.granted (other.at + 8) (omega arith) (omega arith); aligned = omega arith })
-        (beside other used there (other.at + 8) (omega arith) (omega arith))) ∙ handed.kept.heads other there used;
-  };
+  kept = written_kept handed size (omega arith) elsewhere;
   sound = same.sound;
 }
-  where
-    cut_there : extent_at handed.block.extent.at (extents_in (state_of word middle)) ≡ Some handed.block.extent
-    cut_there = there regions word middle handed.sound address size handed.block
-
-    cut_place : handed.block.extent.at ≡ address - 16
-    cut_place = (found (address - 16) handed.block.extent (extents_in (state_of word middle)) handed.block.there).place
-
-    beside : (other : Extent) → other.kind ≡ Used → extent_at other.at (extents_in (state_of word old)) ≡ Some other →
-        (k : ℕ) → other.at + 8 ≤ k → k < other.at + other.size + 8 → IsBeside address (words_in size) k
-    beside other used there k low high =
-        let holds = handed.block.holds in
-        let size_whole = (used_inside regions word middle handed.sound handed.block.extent handed.block.used cut_there).size_whole in
-        elim (used_apart regions word middle handed.sound other handed.block.extent (handed.more.kept other used there) cut_there
-        (λ same. handed.more.new other used there (same ∙ cut_place))) [
-          | inl before ↦ inl (omega (arith, cut_place))
-          | inr behind ↦ inr (omega (arith, cut_place))
-        ]

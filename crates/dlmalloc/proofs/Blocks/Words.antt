@@ -1,19 +1,16 @@
 -- The words of a block.
-use Rattle.dlmalloc.proofs.Names.{◌≡◌, ℕ, ◌+◌, ◌-◌, ◌*◌, ◌≤◌, inl, inr, Bool, List, [], Some, ◌∙◌, ap, arith, Grant, Event, IsWordOf, AreWordsOf, IsBeside, extent_at, extents_in, IsBlock, IsInside, IndexStays, IsBinned, state_of, IsSound, OnlyBlocksChange, IsServedAt, words_in, IsSameHeap, Dlmalloc}
-use Rattle.dlmalloc.proofs.Extents.Lookup.{found}
-use Rattle.dlmalloc.proofs.Laws.{used_inside, same_regions}
+use Rattle.dlmalloc.proofs.Names.{◌≡◌, ℕ, ◌+◌, ◌-◌, ◌*◌, ◌/◌, ◌%◌, ◌<◌, ◌≤◌, inl, inr, List, [], Some, ◌∙◌, ap, arith, Grant, Event, IsWordOf, AreWordsOf, IsBeside, Extent, Used, extent_at, extents_in, IsBlock, IsInside, KeepsBlocks, IndexStays, IsBinned, state_of, IsSound, OnlyBlocksChange, IsHandedOut, words_in, IsSameHeap, Dlmalloc}
+use Rattle.dlmalloc.proofs.Laws.{used_inside, used_apart, same_regions}
+use Rattle.dlmalloc.proofs.Blocks.Chunks.{block_place, block_there, block_inside}
 use Rattle.dlmalloc.proofs.Blocks.WordsOutside.{still_sound, still_state, still_binned}
 
 module _ {A : Type 0} {regions : A → List Grant} {word : A → ℕ → ℕ} {heap : Dlmalloc A} (sound : IsSound regions word heap) {address size : ℕ}
     (block : IsBlock (state_of word heap) address size) where
   place : block.extent.at ≡ address - 16
-  place = (found (address - 16) block.extent (extents_in (state_of word heap)) block.there).place
-
-  there : extent_at block.extent.at (extents_in (state_of word heap)) ≡ Some block.extent
-  there = ap (λ a. extent_at a (extents_in (state_of word heap))) place ∙ block.there
+  place = block_place sound block
 
   inside : IsInside (regions heap.system) block.extent
-  inside = used_inside regions word heap sound block.extent block.used there
+  inside = block_inside sound block
 
   fits : (n : ℕ) → n ≤ size → 8 * words_in n + 8 ≤ block.extent.size
   fits n less = omega (arith, inside.size_whole)
@@ -30,7 +27,7 @@ module _ {A : Type 0} {regions : A → List Grant} {word : A → ℕ → ℕ} {h
   pub only_block : (n : ℕ) → n ≤ size → (new : ℕ → ℕ) → ((other : ℕ) → IsWordOf (regions heap.system) other → IsBeside address
       (words_in n) other → new other ≡ word heap.system other) → OnlyBlocksChange (regions heap.system) (state_of word heap) (word heap.system) new
   only_block n less new elsewhere k is within apart =
-      elsewhere k is (elim (apart block.extent block.used there) [
+      elsewhere k is (elim (apart block.extent block.used (block_there sound block)) [
         | inl before ↦ inl (omega (arith, place))
         | inr behind ↦ inr (omega (arith, place, fits n less))
       ])
@@ -53,9 +50,28 @@ module _ {A : Type 0} {regions : A → List Grant} {word : A → ℕ → ℕ} {h
       IsBinned regions word heap → IsBinned regions word (record heap { system = system })
   same_binned stays n less system same elsewhere = still_binned sound system (same_regions regions word heap sound system same) (only_block n less (word system) elsewhere) stays
 
--- a block that was handed out is one of a sound heap
-pub served_block : {A : Type 0} (regions : A → List Grant) (word : A → ℕ → ℕ) (zeros : A → Bool) (follows : A → List Event → A → Type 0)
-    (old : Dlmalloc A) (size align address : ℕ) (new : Dlmalloc A) → IsServedAt regions word zeros follows old size align address new →
-    IsSound regions word new × IsBlock (state_of word new) address size
-served_block regions word zeros follows old size align address new (inl (few, served)) = (served.sound, served.block)
-served_block regions word zeros follows old size align address new (inr (many, served)) = (served.sound, served.block)
+-- where of a block that was handed out its first words alone are written, those before it keep their words
+pub written_kept : {A : Type 0} {regions : A → List Grant} {word : A → ℕ → ℕ} {follows : A → List Event → A → Type 0} {old middle : Dlmalloc A}
+    {size align address : ℕ} → IsHandedOut regions word follows old size align address middle → (n : ℕ) → n ≤ size → {new : ℕ → ℕ} →
+    ((k : ℕ) → IsWordOf (regions middle.system) k → IsBeside address (words_in n) k → new k ≡ word middle.system k) →
+    KeepsBlocks (extents_in (state_of word old)) (word old.system) new
+written_kept {regions} {word} {old} {middle} {address} handed n less {new} elsewhere = record {
+  words = λ other there used k low high m. stays other there used k (omega arith) high m ∙ handed.kept.words other there used k low high m;
+  heads = λ other there used.
+      let whole = (inside other there used).whole in let long = (inside other there used).long in
+      ap (λ w. w / 2) (stays other there used (other.at + 8) (omega arith) (omega arith) (omega arith)) ∙ handed.kept.heads other there used;
+}
+  where
+    inside : (other : Extent) → extent_at other.at (extents_in (state_of word old)) ≡ Some other → other.kind ≡ Used → IsInside (regions middle.system) other
+    inside other there used = used_inside regions word middle handed.sound other used (handed.more.kept other used there)
+
+    stays : (other : Extent) → extent_at other.at (extents_in (state_of word old)) ≡ Some other → other.kind ≡ Used →
+        (k : ℕ) → other.at + 8 ≤ k → k < other.at + other.size + 8 → k % 8 ≡ 0 → new k ≡ word middle.system k
+    stays other there used k low high m =
+        let granted = (inside other there used).granted k (omega arith) (omega arith) in
+        let place = block_place handed.sound handed.block in let room = fits handed.sound handed.block n less in
+        elsewhere k (record { granted = granted; aligned = m }) (elim (used_apart regions word middle handed.sound other handed.block.extent
+        (handed.more.kept other used there) (block_there handed.sound handed.block) (λ same. handed.more.new other used there (same ∙ place))) [
+          | inl before ↦ inl (omega arith)
+          | inr behind ↦ inr (omega arith)
+        ])

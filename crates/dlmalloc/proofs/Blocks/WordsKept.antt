@@ -163,3 +163,12 @@ keeps_on one other = record {
   words = λ block there used k low high m. other.words block there used k low high m ∙ one.words block there used k low high m;
   heads = λ block there used. other.heads block there used ∙ one.heads block there used;
 }
+
+-- blocks among others that keep their words keep them
+pub keeps_among : {blocks few : List Extent} {old new : ℕ → ℕ} →
+    ((block : Extent) → block.kind ≡ Used → extent_at block.at few ≡ Some block → extent_at block.at blocks ≡ Some block) →
+    KeepsBlocks blocks old new → KeepsBlocks few old new
+keeps_among among kept = record {
+  words = λ block there used. kept.words block (among block used there) used;
+  heads = λ block there used. kept.heads block (among block used there) used;
+}

@@ -5,7 +5,7 @@ use Rattle.dlmalloc.specs.Order.{KeepsOrderThrough}
 use Rattle.dlmalloc.proofs.Extents.Lookup.{extent, found, the_extent}
 use Rattle.dlmalloc.proofs.Laws.{used_inside}
 use Rattle.dlmalloc.proofs.Blocks.WordsKept.{keeps_on}
-use Rattle.dlmalloc.proofs.Blocks.Chunks.{block_placed, block_chunk}
+use Rattle.dlmalloc.proofs.Blocks.Chunks.{block_place, block_inside, block_placed, block_chunk}
 use Rattle.dlmalloc.proofs.Requests.AlignedPlace.{IsAlignedPlace, is_place}
 use Rattle.dlmalloc.proofs.Requests.LeadAndTail.{more_on}
 
@@ -52,10 +52,10 @@ pub record HasAlignedPlace (align at size n place : ℕ) : Type 0 where
 module _ {A : Type 0} {regions : A → List Grant} {word : A → ℕ → ℕ} {heap : Dlmalloc A} (sound : IsSound regions word heap) {ptr : ℕ}
     (n align : ℕ) (block : IsBlock (state_of word heap) ptr (n + align + 24)) where
   place : block.extent.at ≡ ptr - 16
-  place = (found (ptr - 16) block.extent (extents_in (state_of word heap)) block.there).place
+  place = block_place sound block
 
   inside : IsInside (regions heap.system) block.extent
-  inside = used_inside regions word heap sound block.extent block.used (ap (λ a. extent_at a (extents_in (state_of word heap))) place ∙ block.there)
+  inside = block_inside sound block
 
   pub chunk_whole : (ptr - 16) % 16 ≡ 0
   chunk_whole = subst (λ a. a % 16 ≡ 0) place inside.whole

@@ -1,60 +1,53 @@
-use Rattle.dlmalloc.proofs.Names.{refl, sym, subst, arith, AreWordsOf}
+use Rattle.dlmalloc.proofs.Names.{refl, sym, subst, arith, AreWordsOf, IsSameHeap, words_in}
 use Rattle.heap_memory.specs.Words.{AreFilled}
-use Rattle.dlmalloc.proofs.Blocks.Words.{block_words, same_heap, same_binned, served_block}
+use Rattle.dlmalloc.proofs.Blocks.Words.{block_words, same_heap, same_binned}
 use Rattle.dlmalloc.proofs.Blocks.GivenSize.{handed_written}
 use Rattle.dlmalloc.proofs.heap.Dlmalloc.calloc.Goals as goal
+use Rattle.dlmalloc.proofs.heap.Dlmalloc.calloc.Goals.{After-fill_counted}
 
 pub fill_counted-requires : goal.fill_counted-requires
 fill_counted-requires g c =
-    let middle = c.malloc.new.self in
-    let served = served_block g.A.Links.regions g.A.Links.word g.A.Allocator.zeros g.A.Links.follows c.args.self.now c.args.size c.args.align c.in-Ok.address
-    c.malloc.new.self c.in-Ok.ensures.served in
-    subst (λ n. AreWordsOf (g.A.Links.regions middle.system) c.in-Ok.address n) (sym c.words_in.ensures)
-    (block_words served.0 served.1 c.args.size (omega arith))
+    let handed = c.in-Ok.ensures.handed in
+    subst (λ n. AreWordsOf (g.A.Links.regions c.malloc.new.self.system) c.in-Ok.address n) (sym c.words_in.ensures)
+    (block_words handed.sound handed.block c.args.size (omega arith))
+
+cleared : (g : _) (c : After-fill_counted g) → AreFilled (g.A.Links.regions c.malloc.new.self.system) (g.A.Links.word c.malloc.new.self.system)
+    c.in-Ok.address (words_in c.args.size) 0 (g.A.Links.word c.fill_counted.new.self)
+cleared g c = subst (λ n. AreFilled (g.A.Links.regions c.malloc.new.self.system) (g.A.Links.word c.malloc.new.self.system) c.in-Ok.address n 0
+    (g.A.Links.word c.fill_counted.new.self)) c.words_in.ensures c.fill_counted.ensures.filled
+
+same : (g : _) (c : After-fill_counted g) →
+    IsSameHeap g.A.Links.regions g.A.Links.word g.A.Links.follows c.malloc.new.self (record c.malloc.new.self { system = c.fill_counted.new.self })
+same g c =
+    let handed = c.in-Ok.ensures.handed in let filled = c.fill_counted.ensures in
+    same_heap handed.sound handed.block g.A.Links.follows c.args.size (omega arith) c.fill_counted.new.self filled.regions filled.follows (cleared g c).elsewhere
 
 pub returns-in-Ok-clause-served : goal.returns-in-Ok-clause-served
 returns-in-Ok-clause-served g c =
-    let middle = c.malloc.new.self in let system = c.fill_counted.new.self in
-    let served = served_block g.A.Links.regions g.A.Links.word g.A.Allocator.zeros g.A.Links.follows c.args.self.now c.args.size c.args.align c.in-Ok.address
-    c.malloc.new.self c.in-Ok.ensures.served in
-    let filled = c.fill_counted.ensures in
-    let cleared = subst (λ n. AreFilled (g.A.Links.regions middle.system) (g.A.Links.word middle.system) c.in-Ok.address n 0 (g.A.Links.word system)) c.words_in.ensures filled.filled in
+    let now = (goal.at.returns-in-Ok-clause-served g c).After-fill_counted in let handed = c.in-Ok.ensures.handed in
     record {
-      middle = middle;
+      middle = c.malloc.new.self;
       served = c.in-Ok.ensures.served;
-      handed = c.in-Ok.ensures.handed;
-      cleared = cleared;
-      same = same_heap served.0 served.1 g.A.Links.follows c.args.size (omega arith) system filled.regions filled.follows cleared.elsewhere;
-      index = λ b. (same_binned served.0 served.1 c.index_stays.ensures c.args.size (omega arith) system filled.regions cleared.elsewhere b, λ n. refl);
+      handed = handed;
+      cleared = cleared g now;
+      same = same g now;
+      index = λ b. (same_binned handed.sound handed.block c.index_stays.ensures c.args.size (omega arith) c.fill_counted.new.self
+          c.fill_counted.ensures.regions (cleared g now).elsewhere b, λ n. refl);
     }
 
 pub returns-in-Ok-clause-sound : goal.returns-in-Ok-clause-sound
-returns-in-Ok-clause-sound g c =
-    let middle = c.malloc.new.self in let system = c.fill_counted.new.self in
-    let served = served_block g.A.Links.regions g.A.Links.word g.A.Allocator.zeros g.A.Links.follows c.args.self.now c.args.size c.args.align c.in-Ok.address
-    c.malloc.new.self c.in-Ok.ensures.served in
-    let filled = c.fill_counted.ensures in
-    let cleared = subst (λ n. AreFilled (g.A.Links.regions middle.system) (g.A.Links.word middle.system) c.in-Ok.address n 0 (g.A.Links.word system)) c.words_in.ensures filled.filled in
-    (same_heap served.0 served.1 g.A.Links.follows c.args.size (omega arith) system filled.regions filled.follows cleared.elsewhere).sound
+returns-in-Ok-clause-sound g c = (same g (goal.at.returns-in-Ok-clause-sound g c).After-fill_counted).sound
 
 pub returns-in-Ok-clause-handed : goal.returns-in-Ok-clause-handed
 returns-in-Ok-clause-handed g c =
-    let middle = c.malloc.new.self in let system = c.fill_counted.new.self in
-    let served = served_block g.A.Links.regions g.A.Links.word g.A.Allocator.zeros g.A.Links.follows c.args.self.now c.args.size c.args.align c.in-Ok.address
-    c.malloc.new.self c.in-Ok.ensures.served in
-    let filled = c.fill_counted.ensures in
-    let cleared = subst (λ n. AreFilled (g.A.Links.regions middle.system) (g.A.Links.word middle.system) c.in-Ok.address n 0 (g.A.Links.word system)) c.words_in.ensures filled.filled in
-    handed_written g.A.Links.follows_on middle c.in-Ok.ensures.handed
-    (same_heap served.0 served.1 g.A.Links.follows c.args.size (omega arith) system filled.regions filled.follows cleared.elsewhere) cleared.elsewhere
+    let now = (goal.at.returns-in-Ok-clause-handed g c).After-fill_counted in
+    handed_written g.A.Links.follows_on c.malloc.new.self c.in-Ok.ensures.handed (same g now) (cleared g now).elsewhere
 
 pub returns-in-Ok-clause-linked : goal.returns-in-Ok-clause-linked
 returns-in-Ok-clause-linked g c =
-    let middle = c.malloc.new.self in let system = c.fill_counted.new.self in
-    let served = served_block g.A.Links.regions g.A.Links.word g.A.Allocator.zeros g.A.Links.follows c.args.self.now c.args.size c.args.align c.in-Ok.address
-    c.malloc.new.self c.in-Ok.ensures.served in
-    let filled = c.fill_counted.ensures in
-    let cleared = subst (λ n. AreFilled (g.A.Links.regions middle.system) (g.A.Links.word middle.system) c.in-Ok.address n 0 (g.A.Links.word system)) c.words_in.ensures filled.filled in
-    same_binned served.0 served.1 c.index_stays.ensures c.args.size (omega arith) system filled.regions cleared.elsewhere c.malloc.ensures.linked
+    let now = (goal.at.returns-in-Ok-clause-linked g c).After-fill_counted in let handed = c.in-Ok.ensures.handed in
+    same_binned handed.sound handed.block c.index_stays.ensures c.args.size (omega arith) c.fill_counted.new.self
+    c.fill_counted.ensures.regions (cleared g now).elsewhere c.malloc.ensures.linked
 
 pub returns-in-Ok-clause-counted : goal.returns-in-Ok-clause-counted
 returns-in-Ok-clause-counted g c = λ some.
