@@ -1,5 +1,5 @@
 -- A free, whole: its chunk is given back, and then what a free does further is done.
-use Rattle.dlmalloc.proofs.Names.{◌≡◌, ℕ, ◌+◌, ◌-◌, ◌^◌, ◌⊎◌, Bool, true, false, if◌then◌else◌, List, [], ◌∷◌, ◌++◌, IsTrue, inl, inr, refl, sym, ◌∙◌, ap, subst, arith, nat_le, nat_lt, Grant, Event, Granted, IsWordOf, is_granted, granted_before, IsFixed, round_up, HeapState, Segment, IsInRecord, IsOwn, freed_in, IsFreeAround, handed_out, taken_back, regions_without, passed, is_counted, counted, left_by_count, cut_of, cut_top, is_cut, after_cut, given_up, is_trimmed, gives_back, trimmed, without_end, regions_cut, regions_trimmed, is_above_check, IsSettled, IsFreed, IsDisposed, IsFound, segments_of, state_of, IsSound, HoldsBinned, Dlmalloc}
+use Rattle.dlmalloc.proofs.Names.{◌≡◌, ℕ, ◌+◌, ◌-◌, ◌^◌, ◌⊎◌, Bool, true, false, if◌then◌else◌, List, [], ◌∷◌, ◌++◌, IsTrue, inl, inr, refl, sym, ◌∙◌, ap, subst, arith, nat_le, nat_lt, Grant, Event, Granted, IsWordOf, is_granted, granted_before, IsFixed, round_up, HeapState, Segment, IsInRecord, IsOwn, freed_in, IsFreeAround, handed_out, taken_back, regions_without, passed, is_counted, counted, left_by_count, cut_of, cut_top, is_cut, after_cut, given_up, is_trimmed, gives_back, trimmed, without_end, regions_cut, regions_trimmed, is_above_check, IsSettled, IsFreed, IsDisposed, IsHandedOut, segments_of, state_of, IsSound, HoldsBinned, Dlmalloc}
 use Rattle.dlmalloc.specs.Trimmed.{top_bytes}
 use Rattle.dlmalloc.specs.AfterFree.{after_free, free_releases, regions_after, IsBehindUsed}
 use Rattle.dlmalloc.specs.AfterFree.{index_after}
@@ -158,8 +158,10 @@ module _ {A : Type 0} (zeros frees parts : A → Bool) (unit : A → ℕ) where
       subst (λ b. Holds b (parts old) (unit old)) same.frees_same
       (subst (λ b. Holds (frees new) b (unit old)) same.parts_same (subst (λ n. Holds (frees new) (parts new) n) same.unit_same holds))
 
-  pub rules_found : (follows : A → List Event → A → Type 0) →
-      ((x y : A) (events : List Event) → follows x events y → IsFixed zeros frees parts unit x y) → (regions : A → List Grant) (old : A)
-      (heap : HeapState) (n : ℕ) (new : A) (heap' : HeapState) → IsFound follows regions old heap n new heap' → IsFixed zeros frees parts unit old new
-  rules_found follows fixed regions old heap n new heap' (inl here) = fixed old new [] here.1
-  rules_found follows fixed regions old heap n new heap' (inr there) = fixed old new (Granted (round_up (n + 96) heap.granularity) there.0 ∷ []) there.4
+  pub rules_found : {regions : A → List Grant} {word : A → ℕ → ℕ} {follows : A → List Event → A → Type 0} {old new : Dlmalloc A} {size align address : ℕ} →
+      ((x y : A) (events : List Event) → follows x events y → IsFixed zeros frees parts unit x y) →
+      IsHandedOut regions word follows old size align address new → IsFixed zeros frees parts unit old.system new.system
+  rules_found fixed handed = elim handed.found [
+    | inl here ↦ fixed _ _ _ here.1
+    | inr there ↦ fixed _ _ _ there.4
+  ]

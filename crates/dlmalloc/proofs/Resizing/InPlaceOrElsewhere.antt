@@ -1,12 +1,12 @@
 -- A block gets another size: where it stands, or elsewhere with its words.
-use Rattle.dlmalloc.proofs.Names.{◌≡◌, ◌≢◌, ℕ, ◌+◌, ◌-◌, ◌*◌, ◌/◌, ◌%◌, ◌<◌, ◌≤◌, ◌⊎◌, inl, inr, min, Bool, true, false, not, ◌==◌, if◌then◌else◌, List, [], ◌∷◌, Option, Some, IsTrue, refl, sym, ◌∙◌, ap, subst, arith, unwrap_or, option_map, IfSome, Grant, Event, is_granted, AreWordsOf, IsBeside, AreCopied, padded, limit, Extent, Used, extent_at, HeapState, extents_in, size_where, IsBlock, HasOneMore, KeepsBlocks, in_place, HasSameOthers, IndexStays, IsBinned, state_of, IsSound, IsTurned, IsFreed, IsServedAt, words_in, IsSameHeap, IsInPlace, KeepsOrder, Dlmalloc}
+use Rattle.dlmalloc.proofs.Names.{◌≡◌, ◌≢◌, ℕ, ◌+◌, ◌-◌, ◌*◌, ◌/◌, ◌%◌, ◌<◌, ◌≤◌, ◌⊎◌, inl, inr, min, Bool, true, false, not, ◌==◌, if◌then◌else◌, List, [], ◌∷◌, Option, Some, IsTrue, refl, sym, ◌∙◌, ap, subst, arith, unwrap_or, option_map, IfSome, Grant, Event, is_granted, AreWordsOf, IsBeside, AreCopied, padded, limit, Extent, Used, extent_at, HeapState, extents_in, size_where, IsBlock, HasOneMore, KeepsBlocks, in_place, HasSameOthers, IndexStays, IsBinned, state_of, IsSound, IsTurned, IsFreed, IsHandedOut, words_in, IsSameHeap, IsInPlace, KeepsOrder, Dlmalloc}
 use Rattle.dlmalloc.specs.Moved.{others_at}
 use Rattle.dlmalloc.proofs.Extents.Lookup.{extent, the_extent, found, nat_is, nat_same}
 use Rattle.dlmalloc.proofs.Resizing.TwoExtents.{differ}
-use Rattle.dlmalloc.proofs.Blocks.WordsKept.{not_in_free, kept_in, blocks_law}
-use Rattle.dlmalloc.proofs.Laws.{used_inside, used_apart}
-use Rattle.dlmalloc.proofs.Blocks.Chunks.{blocks_apart}
-use Rattle.dlmalloc.proofs.Blocks.Words.{block_words, same_heap, served_block, same_binned}
+use Rattle.dlmalloc.proofs.Blocks.WordsKept.{not_in_free, kept_in, blocks_law, keeps_on, keeps_among}
+use Rattle.dlmalloc.proofs.Laws.{used_inside}
+use Rattle.dlmalloc.proofs.Blocks.Chunks.{block_place, block_there, block_inside, blocks_apart}
+use Rattle.dlmalloc.proofs.Blocks.Words.{block_words, same_heap, same_binned, written_kept}
 
 place_found : (k : ℕ) (extents : List Extent) {one : Extent} → extent_at k extents ≡ Some one → one.at ≡ k
 place_found k extents {one} there = (found k one extents there).place
@@ -63,34 +63,30 @@ other_there at (first ∷ extents) k {one} there = go (first.at == at) (first.at
 
 -- ---- where it stands
 
-pub stays_there : {A : Type 0} {regions : A → List Grant} {word : A → ℕ → ℕ} {follows : A → List Event → A → Type 0}
-    (old new : Dlmalloc A) {ptr n : ℕ} (held size whole : ℕ) → IsSound regions word old → (block : IsBlock (state_of word old) ptr n) →
-    held + 8 ≤ block.extent.size → size < limit old.granularity → size + 8 ≤ padded size → padded size ≤ size + 32 → padded size ≤ whole →
-    whole < padded size + 32 → in_place (state_of word old) (ptr - 16) (padded size) ≡ Some (state_of word new) → extent_at (ptr - 16)
-    (extents_in (state_of word new)) ≡ Some (extent (ptr - 16) whole Used) → HasSameOthers (state_of word old) (state_of word new) (ptr - 16) (ptr - 16) →
-    IsTurned regions word follows old new → KeepsOrder regions word old new → IsInPlace regions word follows old ptr held size new
-stays_there {regions} {word} old new {ptr} held size whole sound block kept_bytes small holds near fits little state there others moved order = record {
+pub stays_there : {A : Type 0} {regions : A → List Grant} {word : A → ℕ → ℕ} {follows : A → List Event → A → Type 0} {old new : Dlmalloc A}
+    {ptr n held size m : ℕ} → IsSound regions word old → (block : IsBlock (state_of word old) ptr n) → held + 8 ≤ block.extent.size →
+    size < limit old.granularity → m ≡ padded size → size + 8 ≤ m → m ≤ size + 32 → in_place (state_of word old) (ptr - 16) m ≡ Some (state_of word new) →
+    (whole : ℕ) × (extent_at (ptr - 16) (extents_in (state_of word new)) ≡ Some (extent (ptr - 16) whole Used)) × (m ≤ whole) × (whole < m + 32) →
+    HasSameOthers (state_of word old) (state_of word new) (ptr - 16) (ptr - 16) → IsTurned regions word follows old new →
+    KeepsOrder regions word old new → IsInPlace regions word follows old ptr held size new
+stays_there {regions} {word} {old} {new} {ptr} sound block kept_bytes small padded holds near state (whole, there, fits, little) others moved order = record {
   order = order;
   small = small;
-  state = state;
-  block = record { extent = chunk; there = there; low = block.low; used = refl; holds = omega arith; little = omega arith };
+  state = subst (λ m. in_place (state_of word old) (ptr - 16) m ≡ Some (state_of word new)) padded state;
+  block = record { extent = extent (ptr - 16) whole Used; there = there; low = block.low; used = refl; holds = omega arith; little = omega arith };
   others = others;
   contents = λ k less m.
+      let chunk = extent (ptr - 16) whole Used in let low = block.low in
       let inside = used_inside regions word new moved.sound chunk refl there in
-      let low = block.low in
       kept_in regions word old moved.sound moved.words chunk there refl (ptr + k) (omega arith) (omega arith) (record {
         granted = subst (λ rs. IsTrue (is_granted rs (ptr + k))) moved.regions_same (inside.granted (ptr + k) (omega arith) (omega arith));
         aligned = omega arith;
-      }) (let place = (found (ptr - 16) block.extent (extents_in (state_of word old)) block.there).place in
-      not_in_free sound (ap (λ a. extent_at a (extents_in (state_of word old))) place ∙ block.there) block.used (ptr + k) (omega arith) (omega arith));
+      }) (let place = block_place sound block in not_in_free sound (block_there sound block) block.used (ptr + k) (omega arith) (omega arith));
   kept = blocks_law sound moved.sound moved.words (others_at (ptr - 16) (extents_in (state_of word old))) (λ other there used.
       let is = other_there (ptr - 16) (extents_in (state_of word old)) other.at there in
       (is.1, others.kept other used is.0 is.0 is.1));
   moved = moved;
 }
-  where
-    chunk : Extent
-    chunk = extent (ptr - 16) whole Used
 
 -- ---- elsewhere
 
@@ -99,30 +95,21 @@ pub held_there : {heap : HeapState} {ptr n : ℕ} (held : ℕ) (block : IsBlock 
     held + 8 ≤ size_where (λ extent. extent.at == ptr - 16) (extents_in heap) → held + 8 ≤ block.extent.size
 held_there {heap} {ptr} held block fits = omega (arith, size_at heap (ptr - 16) block.extent block.there)
 
-module _ {A : Type 0} {regions : A → List Grant} {word : A → ℕ → ℕ} (zeros : A → Bool)
-    (follows : A → List Event → A → Type 0) {old : Dlmalloc A} {ptr : ℕ} (held align size address : ℕ) {n : ℕ} (sound : IsSound regions word old)
-    (block : IsBlock (state_of word old) ptr n) (fits : held + 8 ≤ size_where (λ extent. extent.at == ptr - 16) (extents_in (state_of word old)))
-    (middle : Dlmalloc A) (served : IsServedAt regions word zeros follows old size align address middle) where
-  more : HasOneMore (state_of word old) (state_of word middle) (address - 16)
-  more = elim served [ inl few ↦ few.1.more | inr many ↦ many.1.more ]
-
-  first_kept : KeepsBlocks (extents_in (state_of word old)) (word old.system) (word middle.system)
-  first_kept = elim served [ inl few ↦ few.1.kept | inr many ↦ many.1.kept ]
-
-  pub new_block : IsSound regions word middle × IsBlock (state_of word middle) address size
-  new_block = served_block regions word zeros follows old size align address middle served
-
+module _ {A : Type 0} {regions : A → List Grant} {word : A → ℕ → ℕ} {follows : A → List Event → A → Type 0} {old middle : Dlmalloc A}
+    {ptr size align address n : ℕ} (held : ℕ) (sound : IsSound regions word old) (block : IsBlock (state_of word old) ptr n)
+    (fits : held + 8 ≤ size_where (λ extent. extent.at == ptr - 16) (extents_in (state_of word old)))
+    (handed : IsHandedOut regions word follows old size align address middle) {count : ℕ} (count_is : count ≡ words_in (min held size)) where
   place : block.extent.at ≡ ptr - 16
-  place = (found (ptr - 16) block.extent (extents_in (state_of word old)) block.there).place
+  place = block_place sound block
 
   there : extent_at block.extent.at (extents_in (state_of word old)) ≡ Some block.extent
-  there = ap (λ a. extent_at a (extents_in (state_of word old))) place ∙ block.there
+  there = block_there sound block
 
   -- the old one is there still
   still : IsBlock (state_of word middle) ptr (block.extent.size - 8)
   still = widest (state_of word middle) ptr n (record {
     extent = block.extent;
-    there = ap (λ a. extent_at a (extents_in (state_of word middle))) (sym place) ∙ more.kept block.extent block.used there;
+    there = ap (λ a. extent_at a (extents_in (state_of word middle))) (sym place) ∙ handed.more.kept block.extent block.used there;
     low = block.low;
     used = block.used;
     holds = block.holds;
@@ -135,30 +122,34 @@ module _ {A : Type 0} {regions : A → List Grant} {word : A → ℕ → ℕ} (z
   pub few_to : min held size ≤ size
   few_to = omega arith
 
-  pub from_words : AreWordsOf (regions middle.system) ptr (words_in (min held size))
-  from_words = block_words new_block.0 still (min held size) few_from
+  pub from_words : AreWordsOf (regions middle.system) ptr count
+  from_words = subst (AreWordsOf (regions middle.system) ptr) (sym count_is) (block_words handed.sound still (min held size) few_from)
 
-  pub to_words : AreWordsOf (regions middle.system) address (words_in (min held size))
-  to_words = block_words new_block.0 new_block.1 (min held size) few_to
+  pub to_words : AreWordsOf (regions middle.system) address count
+  to_words = subst (AreWordsOf (regions middle.system) address) (sym count_is) (block_words handed.sound handed.block (min held size) few_to)
 
-  pub words_apart : (ptr + 8 * words_in (min held size) ≤ address) ⊎ (address + 8 * words_in (min held size) ≤ ptr)
+  pub words_apart : (ptr + 8 * count ≤ address) ⊎ (address + 8 * count ≤ ptr)
   words_apart =
-      let low = block.low in let new_low = new_block.1.low in let few = few_from in
-      elim (blocks_apart new_block.0 ptr (block.extent.size - 8) address size still new_block.1 (λ same. more.new block.extent block.used there (omega (arith, place)))) [
+      let low = block.low in let new_low = handed.low in let few = few_from in let is = count_is in
+      elim (blocks_apart handed.sound ptr (block.extent.size - 8) address size still handed.block
+      (λ same. handed.more.new block.extent block.used there (omega (arith, place)))) [
         | inl before ↦ inl (omega arith)
         | inr behind ↦ inr (omega arith)
       ]
 
-  module _ (system : A) (same : regions system ≡ regions middle.system) (followed : follows middle.system [] system)
-      (copied : AreCopied (regions middle.system) (word middle.system) ptr address (words_in (min held size)) (word system)) where
+  module _ {system : A} (same : regions system ≡ regions middle.system) (followed : follows middle.system [] system)
+      (written : AreCopied (regions middle.system) (word middle.system) ptr address count (word system)) where
     abbrev filled : Dlmalloc A
     filled = record middle { system = system }
 
+    pub copied : AreCopied (regions middle.system) (word middle.system) ptr address (words_in (min held size)) (word system)
+    copied = subst (λ n. AreCopied (regions middle.system) (word middle.system) ptr address n (word system)) count_is written
+
     pub copied_heap : IsSameHeap regions word follows middle filled
-    copied_heap = same_heap new_block.0 new_block.1 follows (min held size) few_to system same followed copied.elsewhere
+    copied_heap = same_heap handed.sound handed.block follows (min held size) few_to system same followed copied.elsewhere
 
     abbrev pub copied_binned : IndexStays → IsBinned regions word middle → IsBinned regions word filled
-    copied_binned stays = same_binned new_block.0 new_block.1 stays (min held size) few_to system same copied.elsewhere
+    copied_binned stays = same_binned handed.sound handed.block stays (min held size) few_to system same copied.elsewhere
 
     pub copied_block : IsBlock (state_of word filled) ptr (block.extent.size - 8)
     copied_block = subst (λ s. IsBlock s ptr (block.extent.size - 8)) (sym copied_heap.state) still
@@ -167,13 +158,13 @@ module _ {A : Type 0} {regions : A → List Grant} {word : A → ℕ → ℕ} (z
 
     module _ {frees parts : Bool} {unit : ℕ} {new : Dlmalloc A} (freed : IsFreed regions word follows frees parts unit filled ptr new) where
       abbrev cut : Extent
-      cut = new_block.1.extent
+      cut = handed.block.extent
 
       cut_place : cut.at ≡ address - 16
-      cut_place = place_found (address - 16) (extents_in (state_of word middle)) new_block.1.there
+      cut_place = block_place handed.sound handed.block
 
       cut_there : extent_at cut.at (extents_in (state_of word middle)) ≡ Some cut
-      cut_there = ap (λ a. extent_at a (extents_in (state_of word middle))) cut_place ∙ new_block.1.there
+      cut_there = block_there handed.sound handed.block
 
       -- what is in use then, elsewhere, is in use in the end
       ends : {used : Extent} → used.kind ≡ Used → extent_at used.at (extents_in (state_of word middle)) ≡ Some used → used.at ≢ ptr - 16 →
@@ -181,53 +172,30 @@ module _ {A : Type 0} {regions : A → List Grant} {word : A → ℕ → ℕ} (z
       ends {used} is found other = freed.less.only used is (ap (λ s. extent_at used.at (extents_in s)) copied_heap.state ∙ found) other
 
       cut_new : extent_at cut.at (extents_in (state_of word new)) ≡ Some cut
-      cut_new = ends new_block.1.used cut_there (λ same. more.new block.extent block.used there (place ∙ (sym same ∙ cut_place)))
+      cut_new = ends handed.block.used cut_there (λ same. handed.more.new block.extent block.used there (place ∙ (sym same ∙ cut_place)))
 
       pub moved_block : IsBlock (state_of word new) address size
       moved_block = record {
         extent = cut;
         there = ap (λ a. extent_at a (extents_in (state_of word new))) (sym cut_place) ∙ cut_new;
-        low = new_block.1.low;
-        used = new_block.1.used;
-        holds = new_block.1.holds;
-        little = new_block.1.little;
+        low = handed.low;
+        used = handed.block.used;
+        holds = handed.block.holds;
+        little = handed.block.little;
       }
 
       -- it has the bytes
       pub moved_contents : (k : ℕ) → k < min held size → k % 8 ≡ 0 → word new.system (address + k) ≡ word old.system (ptr + k)
       moved_contents k less m =
-          let low = block.low in let new_low = new_block.1.low in let holds = new_block.1.holds in let few = few_from in let old_holds = block.holds in
-          let whole = (used_inside regions word middle new_block.0 cut new_block.1.used cut_there).whole in
-          let old_whole = (used_inside regions word old sound block.extent block.used there).whole in
-          freed.kept.words cut cut_new new_block.1.used (address + k) (omega (arith, cut_place)) (omega (arith, cut_place)) (omega (arith, cut_place))
+          let low = block.low in let new_low = handed.low in let holds = handed.block.holds in let few = few_from in let old_holds = block.holds in
+          let whole = (block_inside handed.sound handed.block).whole in let old_whole = (block_inside sound block).whole in
+          freed.kept.words cut cut_new handed.block.used (address + k) (omega (arith, cut_place)) (omega (arith, cut_place)) (omega (arith, cut_place))
           ∙ (copied.here k (omega arith) m
-          ∙ first_kept.words block.extent there block.used (ptr + k) (omega (arith, place)) (omega (arith, place)) (omega (arith, place)))
+          ∙ handed.kept.words block.extent there block.used (ptr + k) (omega (arith, place)) (omega (arith, place)) (omega (arith, place)))
 
       -- every other block keeps its words
       pub moved_kept : KeepsBlocks (others_at (ptr - 16) (extents_in (state_of word old))) (word old.system) (word new.system)
-      moved_kept = record {
-        words = λ other found used k low high m.
-            let is = other_there (ptr - 16) (extents_in (state_of word old)) other.at found in
-            let then_there = more.kept other used is.1 in
-            let inside = used_inside regions word middle new_block.0 other used then_there in
-            freed.kept.words other (ends used then_there is.0) used k low high m
-            ∙ (copied.elsewhere k (record { granted = inside.granted k (omega arith) (omega arith); aligned = m })
-            (beside other used is.1 k (omega arith) high) ∙ first_kept.words other is.1 used k low high m);
-        heads = λ other found used.
-            let is = other_there (ptr - 16) (extents_in (state_of word old)) other.at found in
-            let then_there = more.kept other used is.1 in
-            let inside = used_inside regions word middle new_block.0 other used then_there in
-            freed.kept.heads other (ends used then_there is.0) used ∙ (ap (λ w. w / 2)
-            (copied.elsewhere (other.at + 8) (record { granted = inside.granted (other.at + 8) (omega arith) (omega arith); aligned = omega arith })
-            (beside other used is.1 (other.at + 8) (omega arith) (omega arith))) ∙ first_kept.heads other is.1 used);
-      }
-        where
-          beside : (other : Extent) → other.kind ≡ Used → extent_at other.at (extents_in (state_of word old)) ≡ Some other →
-              (k : ℕ) → other.at + 8 ≤ k → k < other.at + other.size + 8 → IsBeside address (words_in (min held size)) k
-          beside other used found k low high =
-              let new_low = new_block.1.low in let holds = new_block.1.holds in
-              let size_whole = (used_inside regions word middle new_block.0 cut new_block.1.used cut_there).size_whole in
-              elim (used_apart regions word middle new_block.0 other cut (more.kept other used found) cut_there (λ same. more.new other used found (same ∙ cut_place))) [
-                | inl before ↦ inl (omega (arith, cut_place))
-                | inr behind ↦ inr (omega (arith, cut_place))
-              ]
+      moved_kept =
+          let other = λ (used : Extent). other_there (ptr - 16) (extents_in (state_of word old)) used.at {one = used} in
+          keeps_on (keeps_among (λ used is found. (other used found).1) (written_kept handed (min held size) few_to copied.elsewhere))
+          (keeps_among (λ used is found. ends is (handed.more.kept used is (other used found).1) (other used found).0) freed.kept)

@@ -8,16 +8,13 @@ resize_chunk-requires-clause-chunk g c =
 
 pub returns-then-resize_chunk-clause-resized : goal.returns-then-resize_chunk-clause-resized
 returns-then-resize_chunk-clause-resized g c =
-    let old = c.args.self.now in let new = c.resize_chunk.new.self in let request = c.request2size.ensures in
-    let done = c.resize_chunk.ensures in let held = done.held c.if-resize_chunk.true in
-    let small : c.args.size < limit old.granularity = (let less = c.if-size-max_request.false in let is = c.max_request.ensures.is in omega arith) in
+    let request = c.request2size.ensures in let done = c.resize_chunk.ensures in let yes = c.if-resize_chunk.true in
+    let small : c.args.size < limit c.args.self.now.granularity = (let less = c.if-size-max_request.false in let is = c.max_request.ensures.is in omega arith) in
     inl (
       c.requires.least,
       refl,
-      stays_there old new c.args.held c.args.size held.0 c.requires.sound c.requires.block.1 (held_there c.args.held c.requires.block.1 c.requires.held) small
-          (subst (λ n. c.args.size + 8 ≤ n) request.is request.holds) (subst (λ n. n ≤ c.args.size + 32) request.is request.near) (subst (λ n.
-          n ≤ held.0) request.is held.2) (subst (λ n. held.0 < n + 32) request.is held.3) (subst (λ n. in_place (state_of g.A.Links.word old) (c.args.ptr
-          - 16) n ≡ Some (state_of g.A.Links.word new)) request.is (done.resized c.if-resize_chunk.true)) held.1 done.others done.moved done.order,
+      stays_there c.requires.sound c.requires.block.1 (held_there c.args.held c.requires.block.1 c.requires.held) small request.is request.holds request.near
+          (done.resized yes) (done.held yes) done.others done.moved done.order,
     )
 
 pub returns-then-size-max_request-clause-refused : goal.returns-then-size-max_request-clause-refused
