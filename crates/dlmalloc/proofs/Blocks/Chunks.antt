@@ -18,6 +18,21 @@ module _ {A : Type 0} {regions : A → List Grant} {word : A → ℕ → ℕ} {h
   pub block_inside : IsInside (regions heap.system) block.extent
   block_inside = used_inside regions word heap sound block.extent block.used block_there
 
+-- a block was freed
+pub freed_block : {A : Type 0} {regions : A → List Grant} {word : A → ℕ → ℕ} {follows : A → List Event → A → Type 0} {old new : Dlmalloc A}
+    (ptr : ℕ) → IsSound regions word old → state_of word new ≡ freed (state_of word old) (ptr - 16) → HasOneMore (state_of word new)
+    (state_of word old) (ptr - 16) → IsTurned regions word follows old new → KeepsOrder regions word old new → IsDisposed regions word follows old ptr new
+freed_block {word} {new} ptr sound state less moved order = record {
+  state = state;
+  less = less;
+  kept = blocks_law sound moved.sound moved.words (extents_in (state_of word new)) (λ block there used. (less.kept block used there, there));
+  words = moved.words;
+  sound = moved.sound;
+  regions_same = moved.regions_same;
+  followed = moved.followed;
+  order = order;
+}
+
 module _ {A : Type 0} (regions : A → List Grant) (word : A → ℕ → ℕ) (heap : Dlmalloc A) (sound : IsSound regions word heap) (ptr size : ℕ)
     (block : IsBlock (state_of word heap) ptr size) where
   place : block.extent.at ≡ ptr - 16
@@ -50,21 +65,6 @@ module _ {A : Type 0} (regions : A → List Grant) (word : A → ℕ → ℕ) (h
       ∙ (ap size_of s.head ∙ size_of-head_of block.extent.size s.before true (omega arith))) in
       block.there ∙ (λ i. Some (same_extent {at = block.extent.at} {at' = ptr - 16} {size = block.extent.size} {size' = told} {kind = block.extent.kind}
       {kind' = Used} place (sym sizes) block.used i))
-
--- a block was freed
-pub freed_block : {A : Type 0} {regions : A → List Grant} {word : A → ℕ → ℕ} {follows : A → List Event → A → Type 0} {old new : Dlmalloc A}
-    (ptr : ℕ) → IsSound regions word old → state_of word new ≡ freed (state_of word old) (ptr - 16) → HasOneMore (state_of word new)
-    (state_of word old) (ptr - 16) → IsTurned regions word follows old new → KeepsOrder regions word old new → IsDisposed regions word follows old ptr new
-freed_block {word} {new} ptr sound state less moved order = record {
-  state = state;
-  less = less;
-  kept = blocks_law sound moved.sound moved.words (extents_in (state_of word new)) (λ block there used. (less.kept block used there, there));
-  words = moved.words;
-  sound = moved.sound;
-  regions_same = moved.regions_same;
-  followed = moved.followed;
-  order = order;
-}
 
 -- two blocks are apart, and from each other's head
 pub blocks_apart : {A : Type 0} {regions : A → List Grant} {word : A → ℕ → ℕ} {heap : Dlmalloc A} → IsSound regions word heap → BlocksAreApart (state_of word heap)

@@ -1,5 +1,5 @@
 -- What holds of each block that gets another size, and of each that is cleared.
-use Rattle.dlmalloc.proofs.Names.{◌≡◌, ℕ, ◌+◌, ◌-◌, ◌/◌, ◌%◌, IsTrue, ◌<◌, ◌≤◌, inl, inr, max, Bool, true, false, nat_le, List, [], ◌++◌, Option, None, Some, refl, sym, ◌∙◌, ap, subst, arith, IsPowerOfTwo, Grant, Event, is_granted, IsWordOf, IsBeside, padded, limit, Extent, Used, extent_at, HeapState, extents_in, replaced, cut, in_segments, freed_in, IsBlock, IsInside, HasOneMore, halves, tail_freed, joined, has_room, replaced_both, grown_into, in_place, HasOneMoved, state_of, IsSound, spans, IsHandedOut, words_in, IsSameHeap, IsInPlace, IsElsewhere, IsResized, IsGivenSize, Dlmalloc}
+use Rattle.dlmalloc.proofs.Names.{◌≡◌, ℕ, ◌+◌, ◌-◌, ◌%◌, IsTrue, ◌<◌, ◌≤◌, inl, inr, max, Bool, true, false, nat_le, List, [], ◌++◌, Option, None, Some, refl, sym, ◌∙◌, ap, subst, arith, IsPowerOfTwo, Grant, Event, is_granted, IsWordOf, IsBeside, padded, limit, Extent, extent_at, HeapState, extents_in, replaced, cut, in_segments, freed_in, IsBlock, IsInside, HasOneMore, halves, tail_freed, joined, has_room, replaced_both, grown_into, in_place, HasOneMoved, state_of, IsSound, spans, IsHandedOut, words_in, IsSameHeap, IsInPlace, IsElsewhere, IsResized, IsGivenSize, Dlmalloc}
 use Rattle.dlmalloc.proofs.Blocks.Chunks.{block_place, block_there, block_inside}
 use Rattle.dlmalloc.proofs.Blocks.Words.{written_kept}
 use Rattle.dlmalloc.proofs.Segments.RegionsMore.{with_other}
@@ -56,45 +56,71 @@ module _ {A : Type 0} {regions : A → List Grant} {word : A → ℕ → ℕ} {h
   pub bytes_granted : (k : ℕ) → address ≤ k → k < address + max size 1 → IsTrue (is_granted (regions heap.system) k)
   bytes_granted k low high = inside.granted k (omega (arith, place)) (omega (arith, place, inside.long))
 
+-- ---- a block that is cleared
+
+-- A block is handed out still, where no word but its own is written.
+pub handed_written : {A : Type 0} {regions : A → List Grant} {word : A → ℕ → ℕ} {follows : A → List Event → A → Type 0} →
+    ((x y z : A) (a b c : List Event) → follows x a y → follows y b z → a ++ b ≡ c → follows x c z) → {old : Dlmalloc A}
+    (middle : Dlmalloc A) {new : Dlmalloc A} {size align address : ℕ} → IsHandedOut regions word follows old size align address middle →
+    IsSameHeap regions word follows middle new → ((k : ℕ) → IsWordOf (regions middle.system) k → IsBeside address (words_in size) k →
+    word new.system k ≡ word middle.system k) → IsHandedOut regions word follows old size align address new
+handed_written {regions} {word} on {old} middle {new} {size} {address} handed same elsewhere = record {
+  found = elim handed.found [
+    | inl here ↦ inl (ap spans same.state ∙ here.0, on old.system middle.system new.system [] [] [] here.1 same.followed refl, same.regions_same ∙ here.2)
+    | inr there ↦ inr (there.0, there.1, there.2, ap spans same.state ∙ there.3, on old.system middle.system new.system _ [] _ there.4 same.followed refl, same.regions_same ∙ there.5)
+  ];
+  granularity = ap (λ h. h.granularity) same.state ∙ handed.granularity;
+  small = handed.small;
+  low = handed.low;
+  block = subst (λ s. IsBlock s address size) (sym same.state) handed.block;
+  multiple = handed.multiple;
+  aligned = handed.aligned;
+  granted = λ k low high. ap (λ rs. is_granted rs k) same.regions_same ∙ handed.granted k low high;
+  more = subst (λ s. HasOneMore (state_of word old) s (address - 16)) (sym same.state) handed.more;
+  kept = written_kept handed size (omega arith) elsewhere;
+  sound = same.sound;
+}
+
 -- ---- a block with another size
 
-module _ {A : Type 0} {regions : A → List Grant} {word : A → ℕ → ℕ} (zeros : A → Bool) (follows : A → List Event → A → Type 0)
-    (on : (x y z : A) (a b c : List Event) → follows x a y → follows y b z → a ++ b ≡ c → follows x c z) (frees parts : Bool)
-    (unit : ℕ) {old : Dlmalloc A} (new : Dlmalloc A) {from : ℕ} (held align size address : ℕ) {n : ℕ} (sound : IsSound regions word old)
+given_here : {A : Type 0} {regions : A → List Grant} {word : A → ℕ → ℕ} {follows : A → List Event → A → Type 0} {frees parts : Bool} {unit : ℕ}
+    {old new : Dlmalloc A} {from held align size address n : ℕ} → IsBlock (state_of word old) from n → align ≤ 16 → address ≡ from →
+    IsInPlace regions word follows old from held size new → IsGivenSize regions word follows frees parts unit old from held align size address new
+given_here {word} {old} {new} {from} {align} {size} {address} block few same out = record {
+  middle = new;
+  found = inl (still.0, out.moved.followed, out.moved.regions_same);
+  between = out.moved.sound;
+  still = λ grant with_it. absurd (with_other grant (sym with_it ∙ out.moved.regions_same));
+  here = λ is. (refl, out.moved.followed);
+  elsewhere = λ differs. absurd (differs same);
+  granularity = still.1;
+  small = subst (λ n. n < limit old.granularity) (asked_low size align few) out.small;
+  low = subst (λ a. 16 ≤ a) (sym same) block.low;
+  block = there_now;
+  multiple = λ is. ap (λ a. a % align) same ∙ is;
+  aligned = whole out.moved.sound there_now;
+  granted = bytes_granted out.moved.sound there_now;
+  moved = subst (λ a. HasOneMoved (state_of word old) (state_of word new) (from - 16) (a - 16)) (sym same) (record {
+    kept = λ used is other there. out.others.kept used is other other there;
+    only = λ used is other there. out.others.only used is other other there;
+    apart = λ used is other there. other;
+    gone = λ used is other there. other;
+  });
+  kept = out.kept;
+  contents = λ k less m. ap (λ a. word new.system (a + k)) same ∙ out.contents k less m;
+  sound = out.moved.sound;
+}
+  where
+    there_now : IsBlock (state_of word new) address size
+    there_now = subst (λ a. IsBlock (state_of word new) a size) (sym same) out.block
+
+    still : (spans (state_of word new) ≡ spans (state_of word old)) × (new.granularity ≡ old.granularity)
+    still = spans_resized (state_of word old) (from - 16) (padded size) out.state
+
+module _ {A : Type 0} {regions : A → List Grant} {word : A → ℕ → ℕ} {zeros : A → Bool} {follows : A → List Event → A → Type 0}
+    (on : (x y z : A) (a b c : List Event) → follows x a y → follows y b z → a ++ b ≡ c → follows x c z) {frees parts : Bool}
+    {unit : ℕ} {old new : Dlmalloc A} {from held align size address n : ℕ} (sound : IsSound regions word old)
     (power : IsPowerOfTwo align) (block : IsBlock (state_of word old) from n) where
-  given_here : align ≤ 16 → address ≡ from → IsInPlace regions word follows old from held size new →
-      IsGivenSize regions word follows frees parts unit old from held align size address new
-  given_here few same out = record {
-    middle = new;
-    found = inl (still.0, out.moved.followed, out.moved.regions_same);
-    between = out.moved.sound;
-    still = λ grant with_it. absurd (with_other grant (sym with_it ∙ out.moved.regions_same));
-    here = λ is. (refl, out.moved.followed);
-    elsewhere = λ differs. absurd (differs same);
-    granularity = still.1;
-    small = subst (λ n. n < limit old.granularity) (asked_low size align few) out.small;
-    low = subst (λ a. 16 ≤ a) (sym same) block.low;
-    block = there_now;
-    multiple = λ is. ap (λ a. a % align) same ∙ is;
-    aligned = whole out.moved.sound there_now;
-    granted = bytes_granted out.moved.sound there_now;
-    moved = subst (λ a. HasOneMoved (state_of word old) (state_of word new) (from - 16) (a - 16)) (sym same) (record {
-      kept = λ used is other there. out.others.kept used is other other there;
-      only = λ used is other there. out.others.only used is other other there;
-      apart = λ used is other there. other;
-      gone = λ used is other there. other;
-    });
-    kept = out.kept;
-    contents = λ k less m. ap (λ a. word new.system (a + k)) same ∙ out.contents k less m;
-    sound = out.moved.sound;
-  }
-    where
-      there_now : IsBlock (state_of word new) address size
-      there_now = subst (λ a. IsBlock (state_of word new) a size) (sym same) out.block
-
-      still : (spans (state_of word new) ≡ spans (state_of word old)) × (new.granularity ≡ old.granularity)
-      still = spans_resized (state_of word old) (from - 16) (padded size) out.state
-
   module _ (out : IsElsewhere regions word zeros follows frees parts unit old from held align size address new) where
     handed : IsHandedOut regions word follows old size align address out.middle
     handed = elim out.served [
@@ -140,30 +166,5 @@ module _ {A : Type 0} {regions : A → List Grant} {word : A → ℕ → ℕ} (z
 
   pub given_size : IsResized regions word zeros follows frees parts unit old from held align size address new →
       IsGivenSize regions word follows frees parts unit old from held align size address new
-  given_size (inl here) = given_here here.0 here.1 here.2
+  given_size (inl here) = given_here block here.0 here.1 here.2
   given_size (inr there) = given_elsewhere there.1
-
--- ---- a block that is cleared
-
--- A block is handed out still, where no word but its own is written.
-pub handed_written : {A : Type 0} {regions : A → List Grant} {word : A → ℕ → ℕ} {follows : A → List Event → A → Type 0} →
-    ((x y z : A) (a b c : List Event) → follows x a y → follows y b z → a ++ b ≡ c → follows x c z) → {old : Dlmalloc A}
-    (middle : Dlmalloc A) {new : Dlmalloc A} {size align address : ℕ} → IsHandedOut regions word follows old size align address middle →
-    IsSameHeap regions word follows middle new → ((k : ℕ) → IsWordOf (regions middle.system) k → IsBeside address (words_in size) k →
-    word new.system k ≡ word middle.system k) → IsHandedOut regions word follows old size align address new
-handed_written {regions} {word} on {old} middle {new} {size} {address} handed same elsewhere = record {
-  found = elim handed.found [
-    | inl here ↦ inl (ap spans same.state ∙ here.0, on old.system middle.system new.system [] [] [] here.1 same.followed refl, same.regions_same ∙ here.2)
-    | inr there ↦ inr (there.0, there.1, there.2, ap spans same.state ∙ there.3, on old.system middle.system new.system _ [] _ there.4 same.followed refl, same.regions_same ∙ there.5)
-  ];
-  granularity = ap (λ h. h.granularity) same.state ∙ handed.granularity;
-  small = handed.small;
-  low = handed.low;
-  block = subst (λ s. IsBlock s address size) (sym same.state) handed.block;
-  multiple = handed.multiple;
-  aligned = handed.aligned;
-  granted = λ k low high. ap (λ rs. is_granted rs k) same.regions_same ∙ handed.granted k low high;
-  more = subst (λ s. HasOneMore (state_of word old) s (address - 16)) (sym same.state) handed.more;
-  kept = written_kept handed size (omega arith) elsewhere;
-  sound = same.sound;
-}

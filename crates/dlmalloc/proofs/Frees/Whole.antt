@@ -1,5 +1,5 @@
 -- A free, whole: its chunk is given back, and then what a free does further is done.
-use Rattle.dlmalloc.proofs.Names.{◌≡◌, ℕ, ◌+◌, ◌-◌, ◌^◌, ◌⊎◌, Bool, true, false, if◌then◌else◌, List, [], ◌∷◌, ◌++◌, IsTrue, inl, inr, refl, sym, ◌∙◌, ap, subst, arith, nat_le, nat_lt, Grant, Event, Granted, IsWordOf, is_granted, granted_before, IsFixed, round_up, HeapState, Segment, IsInRecord, IsOwn, freed_in, IsFreeAround, handed_out, taken_back, regions_without, passed, is_counted, counted, left_by_count, cut_of, cut_top, is_cut, after_cut, given_up, is_trimmed, gives_back, trimmed, without_end, regions_cut, regions_trimmed, is_above_check, IsSettled, IsFreed, IsDisposed, IsHandedOut, segments_of, state_of, IsSound, HoldsBinned, Dlmalloc}
+use Rattle.dlmalloc.proofs.Names.{◌≡◌, ℕ, ◌+◌, ◌-◌, ◌^◌, ◌⊎◌, Bool, true, false, if◌then◌else◌, List, [], ◌∷◌, ◌++◌, IsTrue, inl, inr, refl, sym, ◌∙◌, ap, subst, arith, nat_le, nat_lt, Grant, Event, IsWordOf, is_granted, granted_before, IsFixed, HeapState, Segment, IsInRecord, IsOwn, freed_in, IsFreeAround, handed_out, taken_back, regions_without, passed, is_counted, counted, left_by_count, cut_of, cut_top, is_cut, after_cut, given_up, is_trimmed, gives_back, trimmed, without_end, regions_cut, regions_trimmed, is_above_check, IsSettled, IsFreed, IsDisposed, IsHandedOut, segments_of, state_of, IsSound, HoldsBinned, Dlmalloc}
 use Rattle.dlmalloc.specs.Trimmed.{top_bytes}
 use Rattle.dlmalloc.specs.AfterFree.{after_free, free_releases, regions_after, IsBehindUsed}
 use Rattle.dlmalloc.specs.AfterFree.{index_after}

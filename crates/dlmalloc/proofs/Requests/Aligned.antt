@@ -2,8 +2,7 @@
 use Rattle.dlmalloc.proofs.Names.{◌≡◌, ℕ, ◌+◌, ◌-◌, ◌*◌, ◌/◌, ◌%◌, ◌^◌, ◌<◌, ◌≤◌, ◌⊎◌, Bool, true, false, ◌==◌, nat_lt, if◌then◌else◌, List, [], Some, refl, sym, ◌∙◌, ap, subst, arith, IsPowerOfTwo, nat_tests, Grant, Event, IsWordOf, padded, enlarged, limit, Used, size_of, extent_at, extents_in, IsBlock, IsInside, HasOneMore, aligned_place, lead_freed, aligned, HasOneMoved, KeepsOthers, state_of, IsSound, IsServed, IsServedAligned, Dlmalloc}
 use Rattle.dlmalloc.specs.Requested.{IsPassedOver}
 use Rattle.dlmalloc.specs.Order.{KeepsOrderThrough}
-use Rattle.dlmalloc.proofs.Extents.Lookup.{extent, found, the_extent}
-use Rattle.dlmalloc.proofs.Laws.{used_inside}
+use Rattle.dlmalloc.proofs.Extents.Lookup.{extent, the_extent}
 use Rattle.dlmalloc.proofs.Blocks.WordsKept.{keeps_on}
 use Rattle.dlmalloc.proofs.Blocks.Chunks.{block_place, block_inside, block_placed, block_chunk}
 use Rattle.dlmalloc.proofs.Requests.AlignedPlace.{IsAlignedPlace, is_place}

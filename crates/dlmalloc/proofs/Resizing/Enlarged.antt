@@ -1,6 +1,6 @@
 -- A chunk in use, and the extent behind it, of which it takes bytes.
-use Rattle.dlmalloc.proofs.Names.{◌≡◌, ◌≢◌, ℕ, ◌+◌, ◌%◌, ◌^◌, ◌<◌, ◌≤◌, ◌⊎◌, inl, inr, List, [], ◌∷◌, ◌++◌, Some, refl, sym, ◌∙◌, ap, subst, arith, Grant, HasHead, Extent, Kind, Used, Free, extent_at, extents_in, OnlyBoundariesChange, cut, joined, grown_into, HasSameOthers, IsRunOf, segments_of, state_of, IsSound, Dlmalloc}
-use Rattle.dlmalloc.proofs.Extents.Lookup.{extent, found_either, the_one}
+use Rattle.dlmalloc.proofs.Names.{◌≡◌, ◌≢◌, ℕ, ◌+◌, ◌%◌, ◌^◌, ◌<◌, ◌≤◌, List, [], ◌∷◌, ◌++◌, Some, refl, sym, ◌∙◌, ap, subst, arith, Grant, HasHead, Extent, Kind, Used, Free, extent_at, extents_in, OnlyBoundariesChange, cut, joined, grown_into, HasSameOthers, IsRunOf, segments_of, state_of, IsSound, Dlmalloc}
+use Rattle.dlmalloc.proofs.Extents.Lookup.{extent}
 use Rattle.dlmalloc.proofs.Extents.Tiling.{tiles_le}
 use Rattle.dlmalloc.proofs.Resizing.EnlargedWords.{both_run}
 use Rattle.dlmalloc.proofs.Segments.Among.{with_extents}

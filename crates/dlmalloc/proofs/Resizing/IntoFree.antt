@@ -1,5 +1,5 @@
 -- A chunk in use takes bytes of a free chunk behind it, or all of them.
-use Rattle.dlmalloc.proofs.Names.{◌≡◌, ◌≢◌, ℕ, ◌+◌, ◌-◌, ◌%◌, ◌^◌, ◌<◌, ◌≤◌, inl, inr, Bool, true, false, ◌==◌, nat_le, if◌then◌else◌, List, [], ◌∷◌, ◌++◌, None, Some, refl, sym, ◌∙◌, ap, subst, arith, nat_tests, Grant, Event, AreStored, HasHead, HasFoot, Extent, Kind, Used, Free, Top, Record, pinuse_of, head_of, with_pinuse, extent_at, Tiles, last_kind, extents_in, HasSameOthers, IsMoved, IsMove, IsRunOf, grown_into, segments_of, state_of, IsSound, Dlmalloc, IsFreeAt, FreeMoves}
+use Rattle.dlmalloc.proofs.Names.{◌≡◌, ◌≢◌, ℕ, ◌+◌, ◌-◌, ◌%◌, ◌^◌, ◌<◌, ◌≤◌, inl, inr, Bool, true, false, ◌==◌, nat_le, if◌then◌else◌, List, [], ◌∷◌, ◌++◌, None, Some, refl, sym, ◌∙◌, ap, subst, arith, nat_tests, Grant, Event, AreStored, HasHead, HasFoot, Extent, Used, Free, Top, Record, pinuse_of, head_of, with_pinuse, extent_at, Tiles, last_kind, extents_in, HasSameOthers, IsMoved, IsMove, IsRunOf, grown_into, segments_of, state_of, IsSound, Dlmalloc, IsFreeAt, FreeMoves}
 use Rattle.dlmalloc.proofs.Extents.Lookup.{extent, the_extent, nat_isnt, found_here, found_either, the_one}
 use Rattle.dlmalloc.proofs.Extents.Tiling.{sized, tiles_le}
 use Rattle.dlmalloc.proofs.Resizing.TwoExtents.{differ, no_kind, no_other, only_second, found_second, second_there}

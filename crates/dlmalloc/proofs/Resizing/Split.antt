@@ -1,5 +1,5 @@
 -- A chunk in use is split into two.
-use Rattle.dlmalloc.proofs.Names.{◌≡◌, ◌≢◌, ℕ, ◌+◌, ◌-◌, ◌%◌, ◌^◌, ◌<◌, ◌≤◌, inl, inr, true, false, ◌==◌, List, [], ◌∷◌, None, Some, refl, sym, ◌∙◌, ap, subst, arith, nat_tests, Grant, Event, IsWordOf, IsStored, AreStored, HasHead, Extent, Kind, Used, Free, Top, Record, pinuse_of, head_of, pinuse_of-head_of, extent_at, is_used, HasChunk, extents_in, exchanged, halves, HasSameOthers, IsMoved, IsMove, IsRunOf, segments_of, state_of, IsSound, Dlmalloc, FreeMoves}
+use Rattle.dlmalloc.proofs.Names.{◌≡◌, ◌≢◌, ℕ, ◌+◌, ◌-◌, ◌%◌, ◌^◌, ◌<◌, ◌≤◌, inl, inr, true, List, [], ◌∷◌, Some, refl, sym, ◌∙◌, ap, subst, arith, Grant, Event, IsWordOf, IsStored, AreStored, HasHead, Extent, Kind, Used, Free, Top, Record, pinuse_of, head_of, pinuse_of-head_of, extent_at, is_used, HasChunk, extents_in, exchanged, halves, HasSameOthers, IsMoved, IsMove, IsRunOf, segments_of, state_of, IsSound, Dlmalloc, FreeMoves}
 use Rattle.dlmalloc.proofs.Extents.Lookup.{extent, found_here, the_one}
 use Rattle.dlmalloc.proofs.Cuts.FreeExtent.{stored_over}
 use Rattle.dlmalloc.proofs.Extents.Tiling.{tiles_le, plain_chunk}

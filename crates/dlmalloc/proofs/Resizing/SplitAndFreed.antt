@@ -1,5 +1,5 @@
 -- A chunk in use is split, and one of the two is freed.
-use Rattle.dlmalloc.proofs.Names.{◌≡◌, ◌≢◌, ℕ, ◌+◌, ◌-◌, ◌≤◌, inl, inr, List, Some, refl, sym, ◌∙◌, ap, subst, arith, Grant, Event, IsWordOf, Extent, Used, extent_at, extents_in, HasOneMore, IsBoundary, IsInFree, IsOwn, OnlyOwnChange, freed, exchanged, halves, tail_freed, HasSameOthers, HasOneMoved, KeepsOthers, state_of, IsSound, IsTurned, Dlmalloc}
+use Rattle.dlmalloc.proofs.Names.{◌≡◌, ◌≢◌, ℕ, ◌+◌, ◌-◌, inl, inr, List, Some, refl, sym, ◌∙◌, ap, subst, arith, Grant, Event, IsWordOf, Extent, Used, extent_at, extents_in, HasOneMore, IsBoundary, IsInFree, IsOwn, OnlyOwnChange, freed, exchanged, halves, tail_freed, HasSameOthers, HasOneMoved, KeepsOthers, state_of, IsSound, IsTurned, Dlmalloc}
 use Rattle.dlmalloc.proofs.Extents.Lookup.{extent}
 use Rattle.dlmalloc.proofs.Laws.{used_apart}
 use Rattle.dlmalloc.proofs.Frees.Behind.{next_boundary}

@@ -1,69 +1,56 @@
-use Rattle.dlmalloc.proofs.Names.{◌≢◌, ◌+◌, ◌*◌, ◌-◌, ◌≤◌, min, ◌==◌, Some, IfOk, IfSome, refl, sym, ◌∙◌, ap, subst, arith, IfOk-weaker, Used, extents_in, size_where, state_of, IsResized, IsGivenSize, IsMemberServed, words_in, pass_steps}
+use Rattle.dlmalloc.proofs.Names.{◌≡◌, ℕ, ◌-◌, ◌≤◌, ◌==◌, Some, refl, sym, ◌∙◌, ap, arith, Used, extents_in, size_where, IsBlock, state_of}
 use Rattle.dlmalloc.proofs.Extents.Lookup.{extent}
 use Rattle.dlmalloc.proofs.Blocks.Chunks.{block_chunk, block_head}
 use Rattle.dlmalloc.proofs.Resizing.InPlaceOrElsewhere.{size_at, block_told}
 use Rattle.dlmalloc.proofs.Blocks.GivenSize.{given_size}
 use Rattle.dlmalloc.proofs.Bins.Members.{on_both, member_low}
-use Rattle.dlmalloc.proofs.Blocks.HandedOut.{handed_low}
+use Rattle.dlmalloc.proofs.Blocks.HandedOut.{on_ok, handed_low}
 use Rattle.dlmalloc.proofs.heap.Dlmalloc.c_realloc.Goals as goal
+use Rattle.dlmalloc.proofs.heap.Dlmalloc.c_realloc.Goals.{In-Some, After-size-size}
+
+block : (g : _) (c : In-Some g) → (size : ℕ) × IsBlock (state_of g.A.Links.word c.args.self.now) c.in-Some.address size
+block g c = block_told (state_of g.A.Links.word c.args.self.now) c.in-Some.is c.requires.block
+
+-- the size that was read is the chunk's
+size_read : (g : _) (c : After-size-size g) →
+    size_where (λ extent. extent.at == c.in-Some.address - 16) (extents_in (state_of g.A.Links.word c.args.self.now)) ≡ c.size-size.result
+size_read g c =
+    let there = block_told (state_of g.A.Links.word c.args.self.now) c.in-Some.is c.requires.block in let address = c.in-Some.address in
+    size_at (state_of g.A.Links.word c.args.self.now) (address - 16) (extent (address - 16) c.size-size.result Used) (block_chunk g.A.Links.regions
+    g.A.Links.word c.args.self.now c.requires.sound address there.0 there.1 c.size-size.result c.size-size.ensures.value)
+
+long : (g : _) (c : After-size-size g) → 8 ≤ c.size-size.result
+long g c =
+    let there = block_told (state_of g.A.Links.word c.args.self.now) c.in-Some.is c.requires.block in
+    let least = size_at (state_of g.A.Links.word c.args.self.now) (c.in-Some.address - 16) there.1.extent there.1.there in
+    let holds = there.1.holds in let read = size_read g c in
+    omega arith
 
 pub size-size-requires : goal.size-size-requires
 size-size-requires g c =
-    let block = block_told (state_of g.A.Links.word c.args.self.now) c.in-Some.is c.requires.block in
+    let block = block g (goal.at.size-size-requires g c).In-Some in
     record { head = block_head g.A.Links.regions g.A.Links.word c.args.self.now c.requires.sound c.in-Some.address block.0 block.1 }
 
 pub overflow_sub-size : goal.overflow_sub-size
-overflow_sub-size g c =
-    let block = block_told (state_of g.A.Links.word c.args.self.now) c.in-Some.is c.requires.block in
-    let state = state_of g.A.Links.word c.args.self.now in let address = c.in-Some.address in
-    let told = block_chunk g.A.Links.regions g.A.Links.word c.args.self.now c.requires.sound address block.0 block.1 c.size-size.result c.size-size.ensures.value in
-    let sizes = size_at state (address - 16) (extent (address - 16) c.size-size.result Used) told in
-    let least = size_at state (address - 16) block.1.extent block.1.there in
-    let holds = block.1.holds in
-    omega arith
+overflow_sub-size g c = long g (goal.at.overflow_sub-size g c).After-size-size
 
 pub resize_or_move-requires-clause-align : goal.resize_or_move-requires-clause-align
 resize_or_move-requires-clause-align g c = (4, refl)
 
 pub resize_or_move-requires-clause-held : goal.resize_or_move-requires-clause-held
 resize_or_move-requires-clause-held g c =
-    let block = block_told (state_of g.A.Links.word c.args.self.now) c.in-Some.is c.requires.block in
-    let state = state_of g.A.Links.word c.args.self.now in let address = c.in-Some.address in
-    let told = block_chunk g.A.Links.regions g.A.Links.word c.args.self.now c.requires.sound address block.0 block.1 c.size-size.result c.size-size.ensures.value in
-    let sizes = size_at state (address - 16) (extent (address - 16) c.size-size.result Used) told in
-    let least = size_at state (address - 16) block.1.extent block.1.there in
-    let holds = block.1.holds in
-    omega arith
+    let now = (goal.at.resize_or_move-requires-clause-held g c).After-size-size in
+    let read = size_read g now in let long = long g now in omega arith
 
 pub returns-in-Some-clause-resized : goal.returns-in-Some-clause-resized
 returns-in-Some-clause-resized g c =
-    let block = block_told (state_of g.A.Links.word c.args.self.now) c.in-Some.is c.requires.block in
-    let state = state_of g.A.Links.word c.args.self.now in let address = c.in-Some.address in
-    let told = block_chunk g.A.Links.regions g.A.Links.word c.args.self.now c.requires.sound address block.0 block.1 c.size-size.result c.size-size.ensures.value in
-    let sizes = size_at state (address - 16) (extent (address - 16) c.size-size.result Used) told in
-    let least = size_at state (address - 16) block.1.extent block.1.there in
-    let holds = block.1.holds in let new = c.resize_or_move.new.self in
-    subst (λ ptr. IfOk c.resize_or_move.result (λ at. IfSome ptr (λ from.
-    IsResized g.A.Links.regions g.A.Links.word g.A.Allocator.zeros g.A.Links.follows (g.A.Allocator.frees c.args.self.now.system) (g.A.Allocator.parts c.args.self.now.system) (g.A.Allocator.unit c.args.self.now.system) c.args.self.now from (size_where (λ extent. extent.at == from - 16) (extents_in state) - 8) 16 c.args.new_size at new))) (sym c.in-Some.is)
-    (subst (λ held. IfOk c.resize_or_move.result (λ at. IsResized g.A.Links.regions g.A.Links.word g.A.Allocator.zeros g.A.Links.follows (g.A.Allocator.frees c.args.self.now.system) (g.A.Allocator.parts c.args.self.now.system) (g.A.Allocator.unit c.args.self.now.system) c.args.self.now address (held - 8) 16 c.args.new_size at new)) (sym sizes) c.resize_or_move.ensures.resized)
+    rw (c.in-Some.is, size_read g (goal.at.returns-in-Some-clause-resized g c).After-size-size) c.resize_or_move.ensures.resized
 
 pub returns-in-Some-clause-given : goal.returns-in-Some-clause-given
 returns-in-Some-clause-given g c =
-    let block = block_told (state_of g.A.Links.word c.args.self.now) c.in-Some.is c.requires.block in
-    let old = c.args.self.now in let new = c.resize_or_move.new.self in let state = state_of g.A.Links.word old in
-    let address = c.in-Some.address in
-    let told = block_chunk g.A.Links.regions g.A.Links.word old c.requires.sound address block.0 block.1 c.size-size.result c.size-size.ensures.value in
-    let sizes = size_at state (address - 16) (extent (address - 16) c.size-size.result Used) told in
-    subst (λ ptr. IfOk c.resize_or_move.result (λ at. IfSome ptr (λ from. IsGivenSize g.A.Links.regions g.A.Links.word g.A.Links.follows
-    (g.A.Allocator.frees old.system) (g.A.Allocator.parts old.system) (g.A.Allocator.unit old.system) old from (size_where (λ extent. extent.at == from - 16)
-    (extents_in state) - 8) 16 c.args.new_size at new))) (sym c.in-Some.is) (subst (λ held. IfOk c.resize_or_move.result (λ at. IsGivenSize g.A.Links.regions
-    g.A.Links.word g.A.Links.follows (g.A.Allocator.frees old.system) (g.A.Allocator.parts old.system) (g.A.Allocator.unit old.system) old address
-    (held - 8) 16 c.args.new_size at new)) (sym sizes) (IfOk-weaker c.resize_or_move.result (λ at. IsResized g.A.Links.regions g.A.Links.word
-    g.A.Allocator.zeros g.A.Links.follows (g.A.Allocator.frees old.system) (g.A.Allocator.parts old.system) (g.A.Allocator.unit old.system) old address
-    (c.size-size.result - 8) 16 c.args.new_size at new) (λ at. IsGivenSize g.A.Links.regions g.A.Links.word g.A.Links.follows (g.A.Allocator.frees old.system)
-    (g.A.Allocator.parts old.system) (g.A.Allocator.unit old.system) old address (c.size-size.result - 8) 16 c.args.new_size at new) (λ at resized. given_size
-    g.A.Allocator.zeros g.A.Links.follows g.A.Links.follows_on (g.A.Allocator.frees old.system) (g.A.Allocator.parts old.system) (g.A.Allocator.unit old.system)
-    new (c.size-size.result - 8) 16 c.args.new_size at c.requires.sound (4, refl) block.1 resized) c.resize_or_move.ensures.resized))
+    let at = goal.at.returns-in-Some-clause-given g c in
+    rw (c.in-Some.is, size_read g at.After-size-size) (on_ok c.resize_or_move.result (λ address resized.
+    given_size g.A.Links.follows_on c.requires.sound (4, refl) (block g at.In-Some).1 resized) c.resize_or_move.ensures.resized)
 
 pub returns-in-None-clause-member : goal.returns-in-None-clause-member
 returns-in-None-clause-member g c =
@@ -75,18 +62,9 @@ returns-in-None-clause-member g c =
 
 pub returns-in-Some-clause-member : goal.returns-in-Some-clause-member
 returns-in-Some-clause-member g c =
-    IfOk-weaker c.resize_or_move.result (λ address. address ≢ c.in-Some.address → IsMemberServed g.A.Links.regions g.A.Links.word c.args.self.now
-    c.args.new_size 16 address) (λ address. c.args.ptr ≢ Some address → IsMemberServed g.A.Links.regions g.A.Links.word c.args.self.now c.args.new_size 16
-    address) (λ address member other. member (λ same. other (c.in-Some.is ∙ ap Some (sym same)))) c.resize_or_move.ensures.member
+    on_ok c.resize_or_move.result (λ address member other. member (λ same. other (c.in-Some.is ∙ ap Some (sym same)))) c.resize_or_move.ensures.member
 
 pub returns-in-Some-clause-counted : goal.returns-in-Some-clause-counted
 returns-in-Some-clause-counted g c = λ some.
-    let block = block_told (state_of g.A.Links.word c.args.self.now) c.in-Some.is c.requires.block in
-    let state = state_of g.A.Links.word c.args.self.now in let address = c.in-Some.address in
-    let told = block_chunk g.A.Links.regions g.A.Links.word c.args.self.now c.requires.sound address block.0 block.1 c.size-size.result c.size-size.ensures.value in
-    let sizes = size_at state (address - 16) (extent (address - 16) c.size-size.result Used) told in
-    let read = c.size-size.ensures.counted in
-    let moved = subst (λ held. c.resize_or_move.new.steps ≤ c.size-size.new.steps + 9216 + 2 * words_in (min (held - 8) c.args.new_size) + pass_steps state)
-    (sym sizes) (c.resize_or_move.ensures.counted some) in
-    subst (λ ptr. IfSome ptr (λ from. c.resize_or_move.new.steps ≤ c.args.steps.now + 10240 + 2 * words_in
-    (min (size_where (λ extent. extent.at == from - 16) (extents_in state) - 8) c.args.new_size) + pass_steps state)) (sym c.in-Some.is) (omega arith)
+    let read = c.size-size.ensures.counted in let moved = c.resize_or_move.ensures.counted some in
+    rw (c.in-Some.is, size_read g (goal.at.returns-in-Some-clause-counted g c).After-size-size) (omega arith)

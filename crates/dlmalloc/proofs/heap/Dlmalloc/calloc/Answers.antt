@@ -31,8 +31,11 @@ returns-in-Ok-clause-served g c =
       handed = handed;
       cleared = cleared g now;
       same = same g now;
-      index = λ b. (same_binned handed.sound handed.block c.index_stays.ensures c.args.size (omega arith) c.fill_counted.new.self
-          c.fill_counted.ensures.regions (cleared g now).elsewhere b, λ n. refl);
+      index = λ b. (
+        same_binned handed.sound handed.block c.index_stays.ensures c.args.size (omega arith) c.fill_counted.new.self
+            c.fill_counted.ensures.regions (cleared g now).elsewhere b,
+        λ n. refl,
+      );
     }
 
 pub returns-in-Ok-clause-sound : goal.returns-in-Ok-clause-sound

@@ -1,5 +1,6 @@
-use Rattle.dlmalloc.proofs.Names.{◌≡◌, ◌≢◌, ◌+◌, ◌-◌, ◌<◌, ◌≤◌, inl, Some, None, true, refl, sym, ap, subst, arith, rules, nat_le, nat_tests, limit, in_place, state_of, IfOk-weaker, IsMemberServed, padded, chosen, asked, pass_steps}
+use Rattle.dlmalloc.proofs.Names.{◌≡◌, ◌≢◌, ◌-◌, ◌<◌, inl, None, true, refl, sym, ap, subst, arith, rules, nat_le, nat_tests, limit, in_place, state_of, IsMemberServed, padded, chosen, asked, pass_steps}
 use Rattle.dlmalloc.proofs.Resizing.InPlaceOrElsewhere.{chunk_there, held_there, stays_there}
+use Rattle.dlmalloc.proofs.Blocks.HandedOut.{on_ok}
 use Rattle.dlmalloc.proofs.heap.Dlmalloc.resize_or_move.Goals as goal
 
 pub resize_chunk-requires-clause-chunk : goal.resize_chunk-requires-clause-chunk
@@ -28,11 +29,9 @@ returns-then-size-max_request-clause-refused g c =
 
 pub returns-clause-member : goal.returns-clause-member
 returns-clause-member g c =
-    let old = c.args.self.now in
-    let same : c.resize_chunk.new.self ≡ old = c.resize_chunk.ensures.same c.if-resize_chunk.false in
-    IfOk-weaker c.move_block.result (λ address. IsMemberServed g.A.Links.regions g.A.Links.word c.resize_chunk.new.self c.args.size c.args.align address)
-    (λ address. address ≢ c.args.ptr → IsMemberServed g.A.Links.regions g.A.Links.word old c.args.size c.args.align address) (λ address member other.
-    subst (λ heap. IsMemberServed g.A.Links.regions g.A.Links.word heap c.args.size c.args.align address) same member) c.move_block.ensures.member
+    on_ok c.move_block.result (λ address member other.
+    subst (λ heap. IsMemberServed g.A.Links.regions g.A.Links.word heap c.args.size c.args.align address) (c.resize_chunk.ensures.same c.if-resize_chunk.false)
+    member) c.move_block.ensures.member
 
 pub returns-clause-counted : goal.returns-clause-counted
 returns-clause-counted g c = λ some.
