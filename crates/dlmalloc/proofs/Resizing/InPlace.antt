@@ -33,14 +33,6 @@ module _ (heap : HeapState) {at size : ℕ} (n : ℕ) (there : extent_at at (ext
         let less : nat_le n size ≡ false = grind (arith, nat_tests) in
         rw (there, less, behind, room) refl
 
-pub not_free : (free : Bool) → not free ≡ true → free ≡ false
-not_free true is = absurd (cc)
-not_free false is = refl
-
-pub is_free_told : (free : Bool) → not free ≡ false → free ≡ true
-is_free_told true is = refl
-is_free_told false is = absurd (cc)
-
 -- ---- what stands behind a chunk in use
 
 module _ {A : Type 0} {regions : A → List Grant} {word : A → ℕ → ℕ} {heap : Dlmalloc A} (sound : IsSound regions word heap) {at size : ℕ}

@@ -1,10 +1,13 @@
-use Rattle.dlmalloc.proofs.Names.{◌≡◌, ◌+◌, true, false, nat_le, nat_lt, Some, refl, sym, ◌∙◌, ap, arith, nat_tests, state_of}
+use Rattle.dlmalloc.proofs.Names.{◌≡◌, ◌+◌, true, false, nat_le, nat_lt, Some, refl, sym, ◌∙◌, ap, arith, nat_tests, Free, extent_at, extents_in, state_of}
+use Rattle.dlmalloc.proofs.Extents.Lookup.{extent}
+use Rattle.std.proofs.lemmas.Bool.{not-false, not-true}
 use Rattle.dlmalloc.proofs.Cuts.OneStepOrTwo.{as_turned}
 use Rattle.dlmalloc.proofs.Bins.Changes.{binned_beside}
 use Rattle.dlmalloc.proofs.Frees.WhatCallsWant.{head_there, behind_there, behind_small}
-use Rattle.dlmalloc.proofs.Resizing.InPlace.{shrinks, stays, grows, has_no_room, not_free, is_free_told, chunk_told, top_behind, free_behind, used_behind}
+use Rattle.dlmalloc.proofs.Resizing.InPlace.{shrinks, stays, grows, has_no_room, chunk_told, top_behind, free_behind, used_behind}
 use Rattle.dlmalloc.proofs.Bins.Order.{order_same}
 use Rattle.dlmalloc.proofs.heap.Dlmalloc.resize_chunk.Goals as goal
+use Rattle.dlmalloc.proofs.heap.Dlmalloc.resize_chunk.Goals.{After-size-free}
 
 pub size-size-requires : goal.size-size-requires
 size-size-requires g c = record { head = head_there c.requires.sound c.requires.chunk.1 }
@@ -60,7 +63,13 @@ inuse-requires g c =
 pub returns-then-inuse-clause-none : goal.returns-then-inuse-clause-none
 returns-then-inuse-clause-none g c =
     let there = chunk_told c.requires.sound c.requires.chunk.1 c.size-size.ensures.value in
-    λ no. used_behind c.requires.sound there c.if-next-self.false c.args.n c.if-n-size.false (not_free _ (sym c.inuse.ensures.value ∙ c.if-inuse.true))
+    λ no. used_behind c.requires.sound there c.if-next-self.false c.args.n c.if-n-size.false (not-true _ (sym c.inuse.ensures.value ∙ c.if-inuse.true))
+
+-- the chunk behind is free, and has the size that was read
+free_chunk : (g : _) (c : After-size-free g) → extent_at (c.args.at + c.size-size.result) (extents_in (state_of g.A.Links.word c.args.self.now))
+    ≡ Some (extent (c.args.at + c.size-size.result) c.size-free.result Free)
+free_chunk g c = free_behind c.requires.sound (chunk_told c.requires.sound c.requires.chunk.1 c.size-size.ensures.value) c.if-next-self.false
+    (not-false _ (sym c.inuse.ensures.value ∙ c.if-inuse.false)) c.size-free.ensures.value
 
 pub size-free-requires : goal.size-free-requires
 size-free-requires g c =
@@ -72,24 +81,22 @@ returns-then-free-more-clause-none g c =
     let there = chunk_told c.requires.sound c.requires.chunk.1 c.size-size.ensures.value in
     let more = c.if-n-size.false in let little = c.if-free-more.true in
     let room : nat_le c.args.n (c.size-size.result + c.size-free.result) ≡ false = grind (arith, nat_tests) in
-    λ no. has_no_room (state_of g.A.Links.word c.args.self.now) c.args.n there more
-    (free_behind c.requires.sound there c.if-next-self.false (is_free_told _ (sym c.inuse.ensures.value ∙ c.if-inuse.false)) c.size-free.ensures.value) room
+    let free = free_chunk g (goal.at.returns-then-free-more-clause-none g c).After-size-free in
+    λ no. has_no_room (state_of g.A.Links.word c.args.self.now) c.args.n there more free room
 
 pub grow_into_free-requires-clause-chunk : goal.grow_into_free-requires-clause-chunk
 grow_into_free-requires-clause-chunk g c = chunk_told c.requires.sound c.requires.chunk.1 c.size-size.ensures.value
 
 pub grow_into_free-requires-clause-next : goal.grow_into_free-requires-clause-next
-grow_into_free-requires-clause-next g c =
-    let there = chunk_told c.requires.sound c.requires.chunk.1 c.size-size.ensures.value in
-    free_behind c.requires.sound there c.if-next-self.false (is_free_told _ (sym c.inuse.ensures.value ∙ c.if-inuse.false)) c.size-free.ensures.value
+grow_into_free-requires-clause-next g c = free_chunk g (goal.at.grow_into_free-requires-clause-next g c).After-size-free
 
 pub returns-clause-resized : goal.returns-clause-resized
 returns-clause-resized g c =
     let there = chunk_told c.requires.sound c.requires.chunk.1 c.size-size.ensures.value in
     let more = c.if-n-size.false in let much = c.if-free-more.false in
     let room : nat_le c.args.n (c.size-size.result + c.size-free.result) ≡ true = grind (arith, nat_tests) in
-    λ yes. grows (state_of g.A.Links.word c.args.self.now) c.args.n there more (free_behind c.requires.sound there c.if-next-self.false
-    (is_free_told _ (sym c.inuse.ensures.value ∙ c.if-inuse.false)) c.size-free.ensures.value) room ∙ ap Some (sym c.grow_into_free.ensures.state)
+    let free = free_chunk g (goal.at.returns-clause-resized g c).After-size-free in
+    λ yes. grows (state_of g.A.Links.word c.args.self.now) c.args.n there more free room ∙ ap Some (sym c.grow_into_free.ensures.state)
 
 pub returns-else-size-n-ge-LEAST_CHUNK-clause-moved : goal.returns-else-size-n-ge-LEAST_CHUNK-clause-moved
 returns-else-size-n-ge-LEAST_CHUNK-clause-moved g c =
