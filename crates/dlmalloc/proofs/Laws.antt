@@ -52,10 +52,10 @@ module _ {A : Type 0} (regions : A → List Grant) (word : A → ℕ → ℕ) (h
       go (segment ∷ segments) = (ap (regions_in segment) same, go segments)
 
   -- a refusal leaves all as it was
-  pub as_it_was : IndexStays → (follows : A → List Event → A → Type 0) (refuses : A → A → Type 0) (events : List Event) (system : A) →
+  pub as_it_was : IndexStays → {follows : A → List Event → A → Type 0} {refuses : A → A → Type 0} {events : List Event} {system : A} →
       regions system ≡ regions heap.system → ((k : ℕ) → IsWordOf (regions heap.system) k → word system k ≡ word heap.system k) →
       follows heap.system events system → refuses heap.system system → IsAsItWas regions word follows refuses events heap (record heap { system = system })
-  as_it_was stays follows refuses events system same words followed denied = record {
+  as_it_was stays {system} same words followed denied = record {
     followed = followed;
     refused = denied;
     state = still_state sound system (same_regions system same) (λ k inside there apart. words k inside);

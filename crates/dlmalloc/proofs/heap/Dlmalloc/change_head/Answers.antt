@@ -18,36 +18,20 @@ leave_top-record-requires g c =
       };
     }
 
-pub put_record-requires-clause-aligned : goal.put_record-requires-clause-aligned
-put_record-requires-clause-aligned g c =
-    let b = bounds_of c.requires.sound c.requires.there c.leave_top-record.ensures.place in
-    omega arith
-
-pub put_record-requires-clause-end_aligned : goal.put_record-requires-clause-end_aligned
-put_record-requires-clause-end_aligned g c =
-    let whole = end_whole c.requires.sound c.requires.there in
-    let same = ends_same c.args.self.now c.leave_top-record.ensures.fields in
-    omega arith
-
-pub put_record-requires-clause-room : goal.put_record-requires-clause-room
-put_record-requires-clause-room g c =
-    let b = bounds_of c.requires.sound c.requires.there c.leave_top-record.ensures.place in
-    let same = ends_same c.args.self.now c.leave_top-record.ensures.fields in
-    omega arith
-
-pub put_record-requires-clause-high : goal.put_record-requires-clause-high
-put_record-requires-clause-high g c =
-    let small = head_small c.requires.sound c.requires.there in
-    let same = ends_same c.args.self.now c.leave_top-record.ensures.fields in
-    omega arith
-
-pub put_record-requires-clause-granted : goal.put_record-requires-clause-granted
-put_record-requires-clause-granted g c = λ k low high m.
-    let heap = c.args.self.now in
-    let b = bounds_of c.requires.sound c.requires.there c.leave_top-record.ensures.place in
-    let top = top_low c.requires.sound c.requires.there in
+pub put_record-requires : goal.put_record-requires
+put_record-requires g c =
+    let heap = c.args.self.now in let sound = c.requires.sound in let there = c.requires.there in
+    let b = bounds_of sound there c.leave_top-record.ensures.place in let whole = end_whole sound there in
+    let small = head_small sound there in let top = top_low sound there in
     let same = ends_same heap c.leave_top-record.ensures.fields in
-    subst (λ rs. IsWordOf rs k) (sym c.leave_top-record.ensures.regions) (head_word c.requires.sound c.requires.there k (omega arith) (omega arith) m)
+    record {
+      aligned = omega arith;
+      end_aligned = omega arith;
+      room = omega arith;
+      high = omega arith;
+      granted = λ k low high m.
+          subst (λ rs. IsWordOf rs k) (sym c.leave_top-record.ensures.regions) (head_word sound there k (omega arith) (omega arith) m);
+    }
 
 pub overflow_add-end : goal.overflow_add-end
 overflow_add-end g c =
@@ -61,23 +45,17 @@ overflow_add-self g c =
     let small = head_small c.requires.sound c.requires.there in let room = b.1 in
     grind arith
 
-pub make_head-requires-clause-high : goal.make_head-requires-clause-high
-make_head-requires-clause-high g c = c.requires.fresh.high
-
-pub make_head-requires-clause-long : goal.make_head-requires-clause-long
-make_head-requires-clause-long g c = let long = c.requires.fresh.long in omega arith
-
-pub make_head-requires-clause-top : goal.make_head-requires-clause-top
-make_head-requires-clause-top g c =
-    let f = c.requires.fresh in
-    subst (λ rs. IsWordOf rs (c.args.grant.now.base + 8)) (sym (c.put_record.ensures.regions ∙ c.leave_top-record.ensures.regions))
-    (record { granted = f.run.covered (c.args.grant.now.base + 8) (omega arith) (omega arith); aligned = omega arith })
-
-pub make_head-requires-clause-foot : goal.make_head-requires-clause-foot
-make_head-requires-clause-foot g c =
-    let f = c.requires.fresh in let grant = c.args.grant.now in
-    subst (λ rs. IsWordOf rs (grant.base + grant.size - 72)) (sym (c.put_record.ensures.regions ∙ c.leave_top-record.ensures.regions))
-    (record { granted = f.run.covered (grant.base + grant.size - 72) (omega arith) (omega arith); aligned = omega arith })
+pub make_head-requires : goal.make_head-requires
+make_head-requires g c =
+    let f = c.requires.fresh in let grant = c.args.grant.now in let long = f.long in
+    let same = sym (c.put_record.ensures.regions ∙ c.leave_top-record.ensures.regions) in
+    record {
+      high = f.high;
+      long = omega arith;
+      top = subst (λ rs. IsWordOf rs (grant.base + 8)) same (record { granted = f.run.covered (grant.base + 8) (omega arith) (omega arith); aligned = omega arith });
+      foot = subst (λ rs. IsWordOf rs (grant.base + grant.size - 72)) same
+          (record { granted = f.run.covered (grant.base + grant.size - 72) (omega arith) (omega arith); aligned = omega arith });
+    }
 
 pub returns : goal.returns
 returns g c =

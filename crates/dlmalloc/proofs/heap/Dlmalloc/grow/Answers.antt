@@ -1,4 +1,4 @@
-use Rattle.dlmalloc.proofs.Names.{◌≡◌, ℕ, ◌+◌, ◌≤◌, ◌∙◌, true, false, List, [], ◌∷◌, refl, ap, subst, arith, unwrap_or, Event, Granted, round_up, is_put_before, granted, HasSameUsed, state_of, IsCutOut, IsInFree}
+use Rattle.dlmalloc.proofs.Names.{◌≡◌, ℕ, ◌+◌, ◌≤◌, ◌∙◌, true, false, List, [], ◌∷◌, refl, ap, subst, arith, unwrap_or, Event, Granted, round_up, is_put_before, granted, HasSameUsed, segments_of, state_of, IsSound, IsFresh, IsBinned, IsCutOut, IsInFree}
 use Rattle.heap_memory.specs.Events.{Refused}
 use Rattle.heap_memory.specs.declared.grant.GrantFault.{GrantFault}
 use Rattle.dlmalloc.proofs.Segments.RegionsMore.{word_kept, word_new}
@@ -8,6 +8,7 @@ use Rattle.dlmalloc.proofs.Laws.{as_it_was, as_binned}
 use Rattle.dlmalloc.proofs.Requests.Plain.{if_err}
 use Rattle.dlmalloc.proofs.Bins.Order.{order_same}
 use Rattle.dlmalloc.proofs.heap.Dlmalloc.grow.Goals as goal
+use Rattle.dlmalloc.proofs.heap.Dlmalloc.grow.Goals.{In_ok-grant}
 
 pub returns-in_err-grant-clause-err : goal.returns-in_err-grant-clause-err
 returns-in_err-grant-clause-err g c =
@@ -15,40 +16,55 @@ returns-in_err-grant-clause-err g c =
     let events : ℕ → GrantFault → List Event = λ bytes fault. Refused bytes fault ∷ [] in
     let followed = subst (λ bytes. g.A.Links.follows heap.system (events bytes c.in_err-grant.field-0.0) c.alloc.new.self) c.asked-asked.ensures.asked denied.err_follows in
     if_err c.from_residual.result _ c.from_residual.ensures.1
-    (as_it_was g.A.Links.regions g.A.Links.word heap c.requires.sound c.index_stays.ensures g.A.Links.follows g.A.Allocator.refuses
-    (events (round_up (c.args.n + 96) heap.granularity) c.in_err-grant.field-0.0) c.alloc.new.self denied.err denied.words followed denied.err_refuses)
+    (as_it_was g.A.Links.regions g.A.Links.word heap c.requires.sound c.index_stays.ensures denied.err denied.words followed denied.err_refuses)
 
-pub segment_behind-requires-clause-sound : goal.segment_behind-requires-clause-sound
-segment_behind-requires-clause-sound g c = granted_sound c.requires.sound c.alloc.new.self (let e = c.asked-asked.ensures.enough in
-    let l = c.requires.least in omega arith) c.in_ok-grant.ensures.good c.in_ok-grant.ensures.apart c.in_ok-grant.ensures.regions c.in_ok-grant.ensures.words
+-- ---- the heap is as it was, with a fresh grant beside it
 
-pub segment_behind-requires-clause-high : goal.segment_behind-requires-clause-high
-segment_behind-requires-clause-high g c = c.in_ok-grant.ensures.good.high
+long : (g : _) (c : In_ok-grant g) → 128 ≤ c.asked-asked.result
+long g c = let enough = c.asked-asked.ensures.enough in let least = c.requires.least in omega arith
 
-pub put_before-requires-clause-sound : goal.put_before-requires-clause-sound
-put_before-requires-clause-sound g c = granted_sound c.requires.sound c.alloc.new.self (let e = c.asked-asked.ensures.enough in
-    let l = c.requires.least in omega arith) c.in_ok-grant.ensures.good c.in_ok-grant.ensures.apart c.in_ok-grant.ensures.regions c.in_ok-grant.ensures.words
+sound : (g : _) (c : In_ok-grant g) → IsSound g.A.Links.regions g.A.Links.word (record c.args.self.now { system = c.alloc.new.self })
+sound g c =
+    let given = c.in_ok-grant.ensures in
+    granted_sound c.requires.sound c.alloc.new.self (long g c) given.good given.apart given.regions given.words
 
-pub put_before-requires-clause-fresh : goal.put_before-requires-clause-fresh
-put_before-requires-clause-fresh g c = fresh_grant c.requires.sound c.alloc.new.self (let e = c.asked-asked.ensures.enough in
-    let l = c.requires.least in omega arith) c.in_ok-grant.ensures.good c.in_ok-grant.ensures.apart c.in_ok-grant.ensures.regions c.in_ok-grant.ensures.words
+same : (g : _) (c : In_ok-grant g) → state_of g.A.Links.word (record c.args.self.now { system = c.alloc.new.self }) ≡ state_of g.A.Links.word c.args.self.now
+same g c =
+    let given = c.in_ok-grant.ensures in
+    granted_same c.requires.sound c.alloc.new.self (long g c) given.good given.apart given.regions given.words
 
-pub put_before-requires-clause-behind : goal.put_before-requires-clause-behind
-put_before-requires-clause-behind g c = c.in-Some.ensures.found
+abbrev binned : (g : _) (c : In_ok-grant g) → IsBinned g.A.Links.regions g.A.Links.word c.args.self.now →
+    IsBinned g.A.Links.regions g.A.Links.word (record c.args.self.now { system = c.alloc.new.self })
+binned g c =
+    let given = c.in_ok-grant.ensures in
+    granted_binned c.requires.sound c.alloc.new.self (long g c) given.good given.apart given.regions given.words c.index_stays.ensures
 
-pub put_before-requires-clause-room : goal.put_before-requires-clause-room
-put_before-requires-clause-room g c = let e = c.asked-asked.ensures.enough in let long = c.in_ok-grant.ensures.good.long in omega arith
+fresh : (g : _) (c : In_ok-grant g) →
+    IsFresh (g.A.Links.regions c.alloc.new.self) (segments_of g.A.Links.word (record c.args.self.now { system = c.alloc.new.self })) c.in_ok-grant.grant
+fresh g c =
+    let given = c.in_ok-grant.ensures in
+    fresh_grant c.requires.sound c.alloc.new.self (long g c) given.good given.apart given.regions given.words
 
-pub join-requires-clause-sound : goal.join-requires-clause-sound
-join-requires-clause-sound g c = granted_sound c.requires.sound c.alloc.new.self (let e = c.asked-asked.ensures.enough in
-    let l = c.requires.least in omega arith) c.in_ok-grant.ensures.good c.in_ok-grant.ensures.apart c.in_ok-grant.ensures.regions c.in_ok-grant.ensures.words
+pub segment_behind-requires : goal.segment_behind-requires
+segment_behind-requires g c = record { sound = sound g (goal.at.segment_behind-requires g c).In_ok-grant; high = c.in_ok-grant.ensures.good.high }
 
-pub join-requires-clause-fresh : goal.join-requires-clause-fresh
-join-requires-clause-fresh g c = fresh_grant c.requires.sound c.alloc.new.self (let e = c.asked-asked.ensures.enough in let l = c.requires.least in omega arith)
-    c.in_ok-grant.ensures.good c.in_ok-grant.ensures.apart c.in_ok-grant.ensures.regions c.in_ok-grant.ensures.words
+pub put_before-requires : goal.put_before-requires
+put_before-requires g c =
+    let now = (goal.at.put_before-requires g c).In_ok-grant in
+    record {
+      sound = sound g now;
+      linked = binned g now c.requires.linked;
+      fresh = fresh g now;
+      behind = c.in-Some.ensures.found;
+      whole = c.requires.whole;
+      least = c.requires.least;
+      room = (let e = c.asked-asked.ensures.enough in let long = c.in_ok-grant.ensures.good.long in omega arith);
+    }
 
-pub join-requires-clause-apart : goal.join-requires-clause-apart
-join-requires-clause-apart g c = c.in-None.ensures.none refl
+pub join-requires : goal.join-requires
+join-requires g c =
+    let now = (goal.at.join-requires g c).In_ok-grant in
+    record { sound = sound g now; linked = binned g now c.requires.linked; fresh = fresh g now; apart = c.in-None.ensures.none refl }
 
 pub returns-in-Some-clause-cut : goal.returns-in-Some-clause-cut
 returns-in-Some-clause-cut g c = λ at is.
@@ -56,7 +72,7 @@ returns-in-Some-clause-cut g c = λ at is.
     let grant = c.in_ok-grant.grant in let given = c.in_ok-grant.ensures in let asked = c.asked-asked.result in
     let enough = c.asked-asked.ensures.enough in let least = c.requires.least in let long = given.good.long in
     let middle = c.alloc.new.self in let new = c.put_before.new.self in let put = c.put_before.ensures.put in
-    let same = granted_same c.requires.sound middle (omega arith) given.good given.apart given.regions given.words in
+    let same = same g (goal.at.returns-in-Some-clause-cut g c).In_ok-grant in
     let followed = g.A.Links.follows_on heap.system middle new.system (Granted asked grant ∷ []) [] (Granted asked grant ∷ []) given.follows put.followed refl in
     let at_is : grant.base ≡ at = ap (λ o. unwrap_or o grant.base) is in
     subst (λ a. IsCutOut regions word g.A.Allocator.zeros g.A.Links.follows heap c.args.n a new) at_is
@@ -71,7 +87,7 @@ returns-in-None-clause-top g c = λ is.
     let enough : c.args.n + 96 ≤ asked = c.asked-asked.ensures.enough in
     let least = c.requires.least in let middle = c.alloc.new.self in let new = c.join.new.self in
     let joined = c.join.ensures.joined in let long = given.good.long in let room = joined.room in
-    let same = granted_same c.requires.sound middle (omega arith) given.good given.apart given.regions given.words in
+    let same = same g (goal.at.returns-in-None-clause-top g c).In_ok-grant in
     let followed = g.A.Links.follows_on heap.system middle new.system (Granted asked grant ∷ []) [] (Granted asked grant ∷ []) given.follows joined.followed refl in
     record {
       grant = grant;
@@ -96,19 +112,13 @@ returns-in_err-grant-clause-linked g c =
     let denied = c.in_err-grant.ensures in
     as_binned g.A.Links.regions g.A.Links.word c.args.self.now c.requires.sound c.index_stays.ensures c.alloc.new.self denied.err denied.words c.requires.linked
 
-pub put_before-requires-clause-linked : goal.put_before-requires-clause-linked
-put_before-requires-clause-linked g c = granted_binned c.requires.sound c.alloc.new.self (let e = c.asked-asked.ensures.enough in let l = c.requires.least in omega arith) c.in_ok-grant.ensures.good c.in_ok-grant.ensures.apart c.in_ok-grant.ensures.regions c.in_ok-grant.ensures.words c.index_stays.ensures c.requires.linked
-
-pub join-requires-clause-linked : goal.join-requires-clause-linked
-join-requires-clause-linked g c = granted_binned c.requires.sound c.alloc.new.self (let e = c.asked-asked.ensures.enough in let l = c.requires.least in omega arith) c.in_ok-grant.ensures.good c.in_ok-grant.ensures.apart c.in_ok-grant.ensures.regions c.in_ok-grant.ensures.words c.index_stays.ensures c.requires.linked
-
 pub returns-in_err-grant-clause-order : goal.returns-in_err-grant-clause-order
 returns-in_err-grant-clause-order g c = λ b.
     let denied = c.in_err-grant.ensures in
     (as_binned g.A.Links.regions g.A.Links.word c.args.self.now c.requires.sound c.index_stays.ensures c.alloc.new.self denied.err denied.words b, order_same b.index)
 
 pub returns-in-Some-clause-order : goal.returns-in-Some-clause-order
-returns-in-Some-clause-order g c = λ b. c.put_before.ensures.order (granted_binned c.requires.sound c.alloc.new.self (let e = c.asked-asked.ensures.enough in let l = c.requires.least in omega arith) c.in_ok-grant.ensures.good c.in_ok-grant.ensures.apart c.in_ok-grant.ensures.regions c.in_ok-grant.ensures.words c.index_stays.ensures b)
+returns-in-Some-clause-order g c = λ b. c.put_before.ensures.order (binned g (goal.at.returns-in-Some-clause-order g c).In_ok-grant b)
 
 pub returns-in-None-clause-order : goal.returns-in-None-clause-order
-returns-in-None-clause-order g c = λ b. c.join.ensures.order (granted_binned c.requires.sound c.alloc.new.self (let e = c.asked-asked.ensures.enough in let l = c.requires.least in omega arith) c.in_ok-grant.ensures.good c.in_ok-grant.ensures.apart c.in_ok-grant.ensures.regions c.in_ok-grant.ensures.words c.index_stays.ensures b)
+returns-in-None-clause-order g c = λ b. c.join.ensures.order (binned g (goal.at.returns-in-None-clause-order g c).In_ok-grant b)
