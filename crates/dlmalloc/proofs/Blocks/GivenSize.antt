@@ -1,43 +1,35 @@
 -- What holds of each block that gets another size, and of each that is cleared.
-use Rattle.dlmalloc.proofs.Names.{◌≡◌, ℕ, ◌+◌, ◌-◌, ◌%◌, IsTrue, ◌<◌, ◌≤◌, inl, inr, max, Bool, true, false, nat_le, List, [], ◌++◌, Option, None, Some, refl, sym, ◌∙◌, ap, subst, arith, IsPowerOfTwo, Grant, Event, is_granted, IsWordOf, IsBeside, padded, limit, Extent, extent_at, HeapState, extents_in, replaced, cut, in_segments, freed_in, IsBlock, IsInside, HasOneMore, halves, tail_freed, joined, has_room, replaced_both, grown_into, in_place, HasOneMoved, state_of, IsSound, spans, IsHandedOut, words_in, IsSameHeap, IsInPlace, IsElsewhere, IsResized, IsGivenSize, Dlmalloc}
+use Rattle.dlmalloc.proofs.Names.{IfSome, asked, ◌≡◌, ℕ, ◌+◌, ◌-◌, ◌%◌, IsTrue, ◌<◌, ◌≤◌, inl, inr, max, Bool, true, false, nat_le, List, [], ◌++◌, Option, None, Some, refl, sym, ◌∙◌, ap, subst, arith, IsPowerOfTwo, Grant, Event, is_granted, IsWordOf, IsBeside, padded, limit, Extent, extent_at, HeapState, extents_in, replaced, cut, in_segments, freed_in, IsBlock, IsInside, HasOneMore, halves, tail_freed, joined, has_room, replaced_both, grown_into, in_place, HasOneMoved, state_of, IsSound, spans, IsHandedOut, words_in, IsSameHeap, IsInPlace, IsElsewhere, IsResized, IsGivenSize, Dlmalloc}
 use Rattle.dlmalloc.proofs.Blocks.Chunks.{block_place, block_there, block_inside}
 use Rattle.dlmalloc.proofs.Blocks.Words.{written_kept}
 use Rattle.dlmalloc.proofs.Segments.RegionsMore.{with_other}
 use Rattle.dlmalloc.proofs.Grants.StillGranted.{still_granted}
-use Rattle.dlmalloc.proofs.Blocks.HandedOut.{spans_changed, asked_low, handed_low, handed_high}
+use Rattle.dlmalloc.proofs.Blocks.HandedOut.{HasSameSpans, spans_changed, halves_freed, found_on, asked_low, handed_low, handed_high}
 
 -- ---- resizing in place leaves the segments where they are
 
-spans_resized : (heap : HeapState) {new : HeapState} (at n : ℕ) → in_place heap at n ≡ Some new → (spans new ≡ spans heap) × (new.granularity ≡ heap.granularity)
-spans_resized heap {new} at n is = first (extent_at at (extents_in heap)) refl
+spans_resized : (heap : HeapState) {new : HeapState} (at n : ℕ) → in_place heap at n ≡ Some new → HasSameSpans heap new
+spans_resized heap at n is = subst (λ o. IfSome o (HasSameSpans heap)) is (first (extent_at at (extents_in heap)) refl)
   where
-    told : (state : HeapState) → in_place heap at n ≡ Some state → (spans state ≡ spans heap) × (state.granularity ≡ heap.granularity) →
-        (spans new ≡ spans heap) × (new.granularity ≡ heap.granularity)
-    told state that h = let one : state ≡ new = (let both : Some state ≡ Some new = sym that ∙ is in cc) in subst (λ s. (spans s ≡ spans heap) × (s.granularity ≡ heap.granularity)) one h
-
-    behind : (one : Extent) → extent_at at (extents_in heap) ≡ Some one → nat_le n one.size ≡ false →
-        (o : Option Extent) → extent_at (one.at + one.size) (extents_in heap) ≡ o → (spans new ≡ spans heap) × (new.granularity ≡ heap.granularity)
-    behind one there more None none = absurd (let gone : in_place heap at n ≡ None = rw (there, more, none) refl in let both : None ≡ Some new = sym gone ∙ is in cc)
-    behind one there more (Some next) after = room (has_room n (joined one next)) refl
-      where
-        room : (b : Bool) → has_room n (joined one next) ≡ b → (spans new ≡ spans heap) × (new.granularity ≡ heap.granularity)
-        room true has = told (grown_into heap one next n) (rw (there, more, after, has) refl)
-            (spans_changed (replaced_both one.at (λ one behind. cut n (joined one behind))) heap.segments, refl)
-        room false none = absurd (let gone : in_place heap at n ≡ None = rw (there, more, after, none) refl in let both : None ≡ Some new = sym gone ∙ is in cc)
-
-    rest : (one : Extent) → extent_at at (extents_in heap) ≡ Some one → nat_le n one.size ≡ true → (b : Bool) → nat_le (n + 32) one.size ≡ b →
-        (spans new ≡ spans heap) × (new.granularity ≡ heap.granularity)
-    rest one there fits true much = told (tail_freed heap one.at n) (rw (there, fits, much) refl)
-        (spans_changed (freed_in (one.at + n)) (in_segments (replaced one.at (halves n)) heap.segments) ∙ spans_changed (replaced one.at (halves n)) heap.segments, refl)
-    rest one there fits false few = told heap (rw (there, fits, few) refl) (refl, refl)
-
-    first : (o : Option Extent) → extent_at at (extents_in heap) ≡ o → (spans new ≡ spans heap) × (new.granularity ≡ heap.granularity)
-    first None none = absurd (let gone : in_place heap at n ≡ None = rw none refl in let both : None ≡ Some new = sym gone ∙ is in cc)
+    first : (o : Option Extent) → extent_at at (extents_in heap) ≡ o → IfSome (in_place heap at n) (HasSameSpans heap)
+    first None none = rw none tt
     first (Some one) there = fit (nat_le n one.size) refl
       where
-        fit : (b : Bool) → nat_le n one.size ≡ b → (spans new ≡ spans heap) × (new.granularity ≡ heap.granularity)
-        fit true fits = rest one there fits (nat_le (n + 32) one.size) refl
-        fit false more = behind one there more (extent_at (one.at + one.size) (extents_in heap)) refl
+        behind : nat_le n one.size ≡ false → (o : Option Extent) → extent_at (one.at + one.size) (extents_in heap) ≡ o → IfSome (in_place heap at n) (HasSameSpans heap)
+        behind more None none = rw (there, more, none) tt
+        behind more (Some next) after = room (has_room n (joined one next)) refl
+          where
+            room : (b : Bool) → has_room n (joined one next) ≡ b → IfSome (in_place heap at n) (HasSameSpans heap)
+            room true has = rw (there, more, after, has) (spans_changed (replaced_both one.at (λ one behind. cut n (joined one behind))) heap.segments, refl)
+            room false none = rw (there, more, after, none) tt
+
+        rest : nat_le n one.size ≡ true → (b : Bool) → nat_le (n + 32) one.size ≡ b → IfSome (in_place heap at n) (HasSameSpans heap)
+        rest fits true much = rw (there, fits, much) (halves_freed heap one.at n (one.at + n))
+        rest fits false few = rw (there, fits, few) (refl, refl)
+
+        fit : (b : Bool) → nat_le n one.size ≡ b → IfSome (in_place heap at n) (HasSameSpans heap)
+        fit true fits = rest fits (nat_le (n + 32) one.size) refl
+        fit false more = behind more (extent_at (one.at + one.size) (extents_in heap)) refl
 
 -- ---- the block
 
@@ -64,11 +56,8 @@ pub handed_written : {A : Type 0} {regions : A → List Grant} {word : A → ℕ
     (middle : Dlmalloc A) {new : Dlmalloc A} {size align address : ℕ} → IsHandedOut regions word follows old size align address middle →
     IsSameHeap regions word follows middle new → ((k : ℕ) → IsWordOf (regions middle.system) k → IsBeside address (words_in size) k →
     word new.system k ≡ word middle.system k) → IsHandedOut regions word follows old size align address new
-handed_written {regions} {word} on {old} middle {new} {size} {address} handed same elsewhere = record {
-  found = elim handed.found [
-    | inl here ↦ inl (ap spans same.state ∙ here.0, on old.system middle.system new.system [] [] [] here.1 same.followed refl, same.regions_same ∙ here.2)
-    | inr there ↦ inr (there.0, there.1, there.2, ap spans same.state ∙ there.3, on old.system middle.system new.system _ [] _ there.4 same.followed refl, same.regions_same ∙ there.5)
-  ];
+handed_written {regions} {word} on {old} middle {new} {size} {align} {address} handed same elsewhere = record {
+  found = found_on regions word old middle new (padded (asked size align)) on handed.found (ap spans same.state) same.followed same.regions_same;
   granularity = ap (λ h. h.granularity) same.state ∙ handed.granularity;
   small = handed.small;
   low = handed.low;
@@ -114,7 +103,7 @@ given_here {word} {old} {new} {from} {align} {size} {address} block few same out
     there_now : IsBlock (state_of word new) address size
     there_now = subst (λ a. IsBlock (state_of word new) a size) (sym same) out.block
 
-    still : (spans (state_of word new) ≡ spans (state_of word old)) × (new.granularity ≡ old.granularity)
+    still : HasSameSpans (state_of word old) (state_of word new)
     still = spans_resized (state_of word old) (from - 16) (padded size) out.state
 
 module _ {A : Type 0} {regions : A → List Grant} {word : A → ℕ → ℕ} {zeros : A → Bool} {follows : A → List Event → A → Type 0}
@@ -138,10 +127,7 @@ module _ {A : Type 0} {regions : A → List Grant} {word : A → ℕ → ℕ} {z
     pub given_elsewhere : IsGivenSize regions word follows frees parts unit old from held align size address new
     given_elsewhere = record {
       middle = out.filled;
-      found = elim handed.found [
-        | inl here ↦ inl (ap spans out.same.state ∙ here.0, on old.system out.middle.system out.filled.system [] [] [] here.1 out.same.followed refl, out.same.regions_same ∙ here.2)
-        | inr there ↦ inr (there.0, there.1, there.2, ap spans out.same.state ∙ there.3, on old.system out.middle.system out.filled.system _ [] _ there.4 out.same.followed refl, out.same.regions_same ∙ there.5)
-      ];
+      found = found_on regions word old out.middle out.filled (padded (asked size align)) on handed.found (ap spans out.same.state) out.same.followed out.same.regions_same;
       between = out.same.sound;
       still = still_granted sound power block out;
       here = λ same. absurd (handed.more.new block.extent block.used (block_there sound block) (omega (arith, block_place sound block)));

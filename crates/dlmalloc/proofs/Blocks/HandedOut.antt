@@ -13,52 +13,40 @@ pub spans_changed : (change : List Extent → List Extent) (segments : List Segm
 spans_changed change [] = refl
 spans_changed change (segment ∷ segments) = ap (λ l. (record segment { extents = [] }) ∷ l) (spans_changed change segments)
 
-spans_lead : (heap : HeapState) (at place : ℕ) → spans (lead_freed heap at place) ≡ spans heap
-spans_lead heap at place = go (place == at)
-  where
-    go : (b : Bool) → spans (if b then heap else freed (exchanged heap at (halves (place - at))) at) ≡ spans heap
-    go true = refl
-    go false = spans_changed (freed_in at) (in_segments (replaced at (halves (place - at))) heap.segments) ∙ spans_changed (replaced at (halves (place - at))) heap.segments
+-- Segments stay where they are, and regions are asked for in the same multiples.
+abbrev pub HasSameSpans : HeapState → HeapState → Type 0
+HasSameSpans old new = (spans new ≡ spans old) × (new.granularity ≡ old.granularity)
 
-spans_tail : (heap : HeapState) (at n : ℕ) → spans (tail_cut heap at n) ≡ spans heap
-spans_tail heap at n = go (nat_lt (n + 32) (size_where (λ extent. extent.at == at) (extents_in heap)))
-  where
-    go : (b : Bool) → spans (if b then tail_freed heap at n else heap) ≡ spans heap
-    go true = spans_changed (freed_in (at + n)) (in_segments (replaced at (halves n)) heap.segments) ∙ spans_changed (replaced at (halves n)) heap.segments
-    go false = refl
+pub halves_freed : (heap : HeapState) (at n from : ℕ) → HasSameSpans heap (freed (exchanged heap at (halves n)) from)
+halves_freed heap at n from = (spans_changed (freed_in from) (in_segments (replaced at (halves n)) heap.segments) ∙ spans_changed (replaced at (halves n)) heap.segments, refl)
+
+either_kept : (b : Bool) (heap one other : HeapState) → HasSameSpans heap one → HasSameSpans heap other → HasSameSpans heap (if b then one else other)
+either_kept true heap one other first second = first
+either_kept false heap one other first second = second
+
+aligned_kept : (heap : HeapState) (at align n : ℕ) → HasSameSpans heap (aligned heap at align n)
+aligned_kept heap at align n =
+    let place = aligned_place at align in let led = lead_freed heap at place in
+    let lead = either_kept (place == at) heap heap (freed (exchanged heap at (halves (place - at))) at) (refl, refl) (halves_freed heap at (place - at) at) in
+    let tail = either_kept (nat_lt (n + 32) (size_where (λ extent. extent.at == place) (extents_in led))) led (tail_freed led place n) led
+    (halves_freed led place n (place + n)) (refl, refl) in
+    (tail.0 ∙ lead.0, tail.1 ∙ lead.1)
 
 pub spans_aligned : (heap : HeapState) (at align n : ℕ) → spans (aligned heap at align n) ≡ spans heap
-spans_aligned heap at align n = spans_tail (lead_freed heap at (aligned_place at align)) (aligned_place at align) n ∙ spans_lead heap at (aligned_place at align)
+spans_aligned heap at align n = (aligned_kept heap at align n).0
 
 -- ---- and regions are asked for in the same multiples
 
-granularity_granted : (segments : List Segment) (victim granularity rate countdown trim_check : ℕ) (grant : Grant) (n : ℕ) →
-    (granted grant n (record { segments = segments; victim = victim; granularity = granularity; rate = rate; countdown = countdown; trim_check = trim_check })).granularity ≡ granularity
-granularity_granted [] victim granularity rate countdown trim_check grant n = refl
-granularity_granted (head ∷ rest) victim granularity rate countdown trim_check grant n = go (is_behind grant head) refl (list_any (is_before grant) (head ∷ rest)) refl
+granularity_granted : (heap : HeapState) (segments : List Segment) (grant : Grant) (n : ℕ) →
+    (granted grant n (record heap { segments = segments })).granularity ≡ heap.granularity
+granularity_granted heap [] grant n = refl
+granularity_granted heap (head ∷ rest) grant n = go (is_behind grant head) refl (list_any (is_before grant) (head ∷ rest)) refl
   where
     go : (b : Bool) → is_behind grant head ≡ b → (c : Bool) → list_any (is_before grant) (head ∷ rest) ≡ c →
-        (granted grant n (record { segments = head ∷ rest; victim = victim; granularity = granularity; rate = rate; countdown = countdown; trim_check = trim_check })).granularity ≡ granularity
+        (granted grant n (record heap { segments = head ∷ rest })).granularity ≡ heap.granularity
     go true behind c before = rw behind refl
     go false behind true before = rw (behind, before) refl
     go false behind false before = rw (behind, before) refl
-
-granularity_lead : (heap : HeapState) (at place : ℕ) → (lead_freed heap at place).granularity ≡ heap.granularity
-granularity_lead heap at place = go (place == at)
-  where
-    go : (b : Bool) → (if b then heap else freed (exchanged heap at (halves (place - at))) at).granularity ≡ heap.granularity
-    go true = refl
-    go false = refl
-
-granularity_tail : (heap : HeapState) (at n : ℕ) → (tail_cut heap at n).granularity ≡ heap.granularity
-granularity_tail heap at n = go (nat_lt (n + 32) (size_where (λ extent. extent.at == at) (extents_in heap)))
-  where
-    go : (b : Bool) → (if b then tail_freed heap at n else heap).granularity ≡ heap.granularity
-    go true = refl
-    go false = refl
-
-granularity_aligned : (heap : HeapState) (at align n : ℕ) → (aligned heap at align n).granularity ≡ heap.granularity
-granularity_aligned heap at align n = granularity_tail (lead_freed heap at (aligned_place at align)) (aligned_place at align) n ∙ granularity_lead heap at (aligned_place at align)
 
 -- ---- a multiple of 16 is one of each lower power of two
 
@@ -87,6 +75,17 @@ asked_low size align few = let test : nat_le align 16 ≡ true = grind (arith, n
 pub asked_high : (size align : ℕ) → 16 < align → enlarged size align ≡ asked size align
 asked_high size align many = let test : nat_le align 16 ≡ false = grind (arith, nat_tests) in rw test refl
 
+-- A chunk that was found was found still, where segments and regions stay and nothing more is asked of the system.
+pub found_on : {A : Type 0} (regions : A → List Grant) (word : A → ℕ → ℕ) {follows : A → List Event → A → Type 0} (old middle new : Dlmalloc A) (n : ℕ) →
+    ((x y z : A) (a b c : List Event) → follows x a y → follows y b z → a ++ b ≡ c → follows x c z) →
+    IsFound follows regions old.system (state_of word old) n middle.system (state_of word middle) → spans (state_of word new) ≡ spans (state_of word middle) →
+    follows middle.system [] new.system → regions new.system ≡ regions middle.system →
+    IsFound follows regions old.system (state_of word old) n new.system (state_of word new)
+found_on regions word old middle new n on found stay followed same = elim found [
+  | inl here ↦ inl (stay ∙ here.0, on _ _ _ [] [] [] here.1 followed refl, same ∙ here.2)
+  | inr there ↦ inr (there.0, there.1, there.2, stay ∙ there.3, on _ _ _ _ [] _ there.4 followed refl, same ∙ there.5)
+]
+
 module _ {A : Type 0} (regions : A → List Grant) (word : A → ℕ → ℕ) (zeros : A → Bool) (follows : A → List Event → A → Type 0) (old new : Dlmalloc A) (size align address : ℕ) where
   -- where a region was granted, they are those that it makes
   pub spans_new : {n at : ℕ} {grant : Grant} {new : HeapState} → IsTakenFromGrant (state_of word old) n at grant new → spans new ≡ spans (granted grant n (state_of word old))
@@ -100,7 +99,7 @@ module _ {A : Type 0} (regions : A → List Grant) (word : A → ℕ → ℕ) (z
   granularity_new {n} grant {new} is = go (is_put_before grant (state_of word old).segments) refl
     where
       granted_same : (granted grant n (state_of word old)).granularity ≡ old.granularity
-      granted_same = let h = state_of word old in granularity_granted h.segments h.victim h.granularity h.rate h.countdown h.trim_check grant n
+      granted_same = granularity_granted (state_of word old) (state_of word old).segments grant n
 
       go : (b : Bool) → is_put_before grant (state_of word old).segments ≡ b → new.granularity ≡ old.granularity
       go true before = ap (λ h. h.granularity) (is.of_grant before).1 ∙ granted_same
@@ -137,8 +136,9 @@ module _ {A : Type 0} (regions : A → List Grant) (word : A → ℕ → ℕ) (z
   pub handed_high : 16 < align → ((x y z : A) (a b c : List Event) → follows x a y → follows y b z → a ++ b ≡ c → follows x c z) →
       IsServedAligned regions word zeros follows old size align address new → IsHandedOut regions word follows old size align address new
   handed_high many on out = record {
-    found = subst (λ n. IsFound follows regions old.system (state_of word old) (padded n) new.system (state_of word new)) (asked_high size align many) found;
-    granularity = ap (λ h. h.granularity) out.state ∙ (granularity_aligned (state_of word out.middle) (out.greater - 16) align (padded size) ∙ granularity_served out.served);
+    found = subst (λ n. IsFound follows regions old.system (state_of word old) (padded n) new.system (state_of word new)) (asked_high size align many)
+        (found_on regions word old out.middle new (padded (enlarged size align)) on (found_served out.served) (ap spans out.state ∙ stay.0) out.followed out.regions_same);
+    granularity = ap (λ h. h.granularity) out.state ∙ (stay.1 ∙ granularity_served out.served);
     small = subst (λ n. n < limit old.granularity) (asked_high size align many) out.served.small;
     low = out.low;
     block = out.block;
@@ -150,11 +150,5 @@ module _ {A : Type 0} (regions : A → List Grant) (word : A → ℕ → ℕ) (z
     sound = out.sound;
   }
     where
-      stay : spans (state_of word new) ≡ spans (state_of word out.middle)
-      stay = ap spans out.state ∙ spans_aligned (state_of word out.middle) (out.greater - 16) align (padded size)
-
-      found : IsFound follows regions old.system (state_of word old) (padded (enlarged size align)) new.system (state_of word new)
-      found = elim (found_served out.served) [
-        | inl here ↦ inl (stay ∙ here.0, on old.system out.middle.system new.system [] [] [] here.1 out.followed refl, out.regions_same ∙ here.2)
-        | inr there ↦ inr (there.0, there.1, there.2, stay ∙ there.3, on old.system out.middle.system new.system _ [] _ there.4 out.followed refl, out.regions_same ∙ there.5)
-      ]
+      stay : HasSameSpans (state_of word out.middle) (aligned (state_of word out.middle) (out.greater - 16) align (padded size))
+      stay = aligned_kept (state_of word out.middle) (out.greater - 16) align (padded size)
