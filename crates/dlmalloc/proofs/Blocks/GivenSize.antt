@@ -113,8 +113,8 @@ module _ {A : Type 0} {regions : A → List Grant} {word : A → ℕ → ℕ} {z
   module _ (out : IsElsewhere regions word zeros follows frees parts unit old from held align size address new) where
     handed : IsHandedOut regions word follows old size align address out.middle
     handed = elim out.served [
-      | inl few ↦ handed_low regions word zeros follows old out.middle size align address power few.0 few.1
-      | inr many ↦ handed_high regions word zeros follows old out.middle size align address many.0 on many.1
+      | inl few ↦ handed_low power few.0 few.1
+      | inr many ↦ handed_high many.0 on many.1
     ]
 
     -- what is in use as the block is handed out is what is in use as its words are filled

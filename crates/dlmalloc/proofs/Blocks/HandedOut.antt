@@ -86,42 +86,35 @@ found_on regions word old middle new n on found stay followed same = elim found 
   | inr there ↦ inr (there.0, there.1, there.2, stay ∙ there.3, on _ _ _ _ [] _ there.4 followed refl, same ∙ there.5)
 ]
 
-module _ {A : Type 0} (regions : A → List Grant) (word : A → ℕ → ℕ) (zeros : A → Bool) (follows : A → List Event → A → Type 0) (old new : Dlmalloc A) (size align address : ℕ) where
-  -- where a region was granted, they are those that it makes
-  pub spans_new : {n at : ℕ} {grant : Grant} {new : HeapState} → IsTakenFromGrant (state_of word old) n at grant new → spans new ≡ spans (granted grant n (state_of word old))
-  spans_new {n} {grant} {new} is = go (is_put_before grant (state_of word old).segments) refl
-    where
-      go : (b : Bool) → is_put_before grant (state_of word old).segments ≡ b → spans new ≡ spans (granted grant n (state_of word old))
-      go true before = ap spans (is.of_grant before).1
-      go false apart = let top = is.of_top apart in ap spans top.state ∙ spans_changed (replaced top.top.at (cut n)) (granted grant n (state_of word old)).segments
+-- where a region was granted, they are those that it makes
+pub spans_new : {old new : HeapState} {n at : ℕ} {grant : Grant} → IsTakenFromGrant old n at grant new → HasSameSpans (granted grant n old) new
+spans_new {old} {new} {n} {grant} is = go (is_put_before grant old.segments) refl
+  where
+    go : (b : Bool) → is_put_before grant old.segments ≡ b → HasSameSpans (granted grant n old) new
+    go true before = let made = (is.of_grant before).1 in (ap spans made, ap (λ h. h.granularity) made)
+    go false apart =
+        let top = is.of_top apart in
+        (ap spans top.state ∙ spans_changed (replaced top.top.at (cut n)) (granted grant n old).segments, ap (λ h. h.granularity) top.state)
 
-  granularity_new : {n at : ℕ} (grant : Grant) {new : HeapState} → IsTakenFromGrant (state_of word old) n at grant new → new.granularity ≡ old.granularity
-  granularity_new {n} grant {new} is = go (is_put_before grant (state_of word old).segments) refl
-    where
-      granted_same : (granted grant n (state_of word old)).granularity ≡ old.granularity
-      granted_same = granularity_granted (state_of word old) (state_of word old).segments grant n
-
-      go : (b : Bool) → is_put_before grant (state_of word old).segments ≡ b → new.granularity ≡ old.granularity
-      go true before = ap (λ h. h.granularity) (is.of_grant before).1 ∙ granted_same
-      go false apart = ap (λ h. h.granularity) (is.of_top apart).state ∙ granted_same
-
-  found_served : {n : ℕ} {at : ℕ} {middle : Dlmalloc A} → IsServed regions word zeros follows old n at middle →
-      IsFound follows regions old.system (state_of word old) (padded n) middle.system (state_of word middle)
-  found_served {n} served = elim served.cut [
-    | inl here ↦ inl (ap spans here.0.state ∙ spans_changed (replaced here.0.extent.at (cut (padded n))) (state_of word old).segments, here.1, here.2)
-    | inr there ↦ inr (there.0, there.1.none_chosen, there.1.full, spans_new there.1, there.2, there.3)
+module _ {A : Type 0} {regions : A → List Grant} {word : A → ℕ → ℕ} {zeros : A → Bool} {follows : A → List Event → A → Type 0} {old : Dlmalloc A} where
+  -- the chunk that serves a request was found
+  served_kept : {n at : ℕ} {middle : Dlmalloc A} → IsServed regions word zeros follows old n at middle →
+      IsFound follows regions old.system (state_of word old) (padded n) middle.system (state_of word middle) × (middle.granularity ≡ old.granularity)
+  served_kept {n} served = elim served.cut [
+    | inl here ↦ (
+      inl (ap spans here.0.state ∙ spans_changed (replaced here.0.extent.at (cut (padded n))) (state_of word old).segments, here.1, here.2),
+      ap (λ h. h.granularity) here.0.state,
+    )
+    | inr there ↦ (
+      inr (there.0, there.1.none_chosen, there.1.full, (spans_new there.1).0, there.2, there.3),
+      (spans_new there.1).1 ∙ granularity_granted (state_of word old) (state_of word old).segments there.0 (padded n),
+    )
   ]
 
-  granularity_served : {n : ℕ} {at : ℕ} {middle : Dlmalloc A} → IsServed regions word zeros follows old n at middle → middle.granularity ≡ old.granularity
-  granularity_served served = elim served.cut [
-    | inl here ↦ ap (λ h. h.granularity) here.0.state
-    | inr there ↦ granularity_new there.0 there.1
-  ]
-
-  pub handed_low : IsPowerOfTwo align → align ≤ 16 → IsServed regions word zeros follows old size address new → IsHandedOut regions word follows old size align address new
-  handed_low power few served = record {
-    found = subst (λ n. IsFound follows regions old.system (state_of word old) (padded n) new.system (state_of word new)) (asked_low size align few) (found_served served);
-    granularity = granularity_served served;
+  pub handed_low : {new : Dlmalloc A} {size align address : ℕ} → IsPowerOfTwo align → align ≤ 16 → IsServed regions word zeros follows old size address new → IsHandedOut regions word follows old size align address new
+  handed_low {new} {size} {align} {address} power few served = record {
+    found = subst (λ n. IsFound follows regions old.system (state_of word old) (padded n) new.system (state_of word new)) (asked_low size align few) (served_kept served).0;
+    granularity = (served_kept served).1;
     small = subst (λ n. n < limit old.granularity) (asked_low size align few) served.small;
     low = served.low;
     block = served.block;
@@ -133,12 +126,12 @@ module _ {A : Type 0} (regions : A → List Grant) (word : A → ℕ → ℕ) (z
     sound = served.sound;
   }
 
-  pub handed_high : 16 < align → ((x y z : A) (a b c : List Event) → follows x a y → follows y b z → a ++ b ≡ c → follows x c z) →
+  pub handed_high : {new : Dlmalloc A} {size align address : ℕ} → 16 < align → ((x y z : A) (a b c : List Event) → follows x a y → follows y b z → a ++ b ≡ c → follows x c z) →
       IsServedAligned regions word zeros follows old size align address new → IsHandedOut regions word follows old size align address new
-  handed_high many on out = record {
+  handed_high {new} {size} {align} many on out = record {
     found = subst (λ n. IsFound follows regions old.system (state_of word old) (padded n) new.system (state_of word new)) (asked_high size align many)
-        (found_on regions word old out.middle new (padded (enlarged size align)) on (found_served out.served) (ap spans out.state ∙ stay.0) out.followed out.regions_same);
-    granularity = ap (λ h. h.granularity) out.state ∙ (stay.1 ∙ granularity_served out.served);
+        (found_on regions word old out.middle new (padded (enlarged size align)) on (served_kept out.served).0 (ap spans out.state ∙ stay.0) out.followed out.regions_same);
+    granularity = ap (λ h. h.granularity) out.state ∙ (stay.1 ∙ (served_kept out.served).1);
     small = subst (λ n. n < limit old.granularity) (asked_high size align many) out.served.small;
     low = out.low;
     block = out.block;

@@ -1,5 +1,5 @@
 -- That blocks keep their words follows from the clause on words, where both heaps are sound.
-use Rattle.dlmalloc.proofs.Names.{◌≡◌, ℕ, ◌+◌, ◌/◌, ◌%◌, ◌<◌, ◌≤◌, ◌⊎◌, inl, inr, Bool, true, false, ◌==◌, if◌then◌else◌, List, [], ◌∷◌, Some, IsTrue, sym, ◌∙◌, ap, subst, arith, unwrap_or, AllByRecursion, Grant, IsWordOf, is_granted, Extent, Kind, Used, Free, Victim, Top, Record, Foot, is_used, Segment, HeapState, extents_in, is_free_below_top, IsInFree, OnlyOwnChange, OnlyOwnOrTagsChange, KeepsBlocks, IsSpared, AllSpare, IsSegment, AreSegments, IsApartFrom, AreApart, segments_of, state_of, IsSound, Dlmalloc}
+use Rattle.dlmalloc.proofs.Names.{◌≡◌, ℕ, ◌+◌, ◌/◌, ◌%◌, ◌<◌, ◌≤◌, ◌⊎◌, inl, inr, Bool, true, false, ◌==◌, if◌then◌else◌, List, [], ◌∷◌, Some, IsTrue, sym, ◌∙◌, ap, subst, arith, unwrap_or, AllByRecursion, Grant, IsWordOf, is_granted, Extent, Kind, Used, Free, Victim, Top, Record, Foot, is_used, Segment, HeapState, extents_in, is_free_below_top, IsInFree, OnlyOwnChange, OnlyOwnOrTagsChange, KeepsBlocks, IsSpared, AllSpare, IsSegment, AreSegments, IsApartFrom, AreApart, segments_of, state_of, IsSound, IsTurned, Event, Dlmalloc}
 use Rattle.dlmalloc_chunks.specs.Tiling.{extent_at}
 use Rattle.dlmalloc.proofs.Extents.Lookup.{found_either}
 use Rattle.dlmalloc.proofs.Words.Spared.{spared_before, spared_behind, spared_append, inner_spared}
@@ -97,9 +97,9 @@ not_in_free {regions} {word} {heap} sound {block} there used k low high f =
 -- a block keeps its words, if it is one of the new heap, and its words were in no free extent
 kept_in_tags : {A : Type 0} {regions : A → List Grant} {word : A → ℕ → ℕ} (granted : List Grant) (before : HeapState)
     (old : ℕ → ℕ) {new : Dlmalloc A} → IsSound regions word new → OnlyOwnOrTagsChange granted before (state_of word new) old (word new.system) →
-    (block : Extent) → extent_at block.at (extents_in (state_of word new)) ≡ Some block → block.kind ≡ Used →
+    {block : Extent} → extent_at block.at (extents_in (state_of word new)) ≡ Some block → block.kind ≡ Used →
     (k : ℕ) → block.at + 16 ≤ k → k < block.at + block.size + 8 → IsWordOf granted k → (IsInFree before k → ⊥) → word new.system k ≡ old k
-kept_in_tags {regions} {word} granted before old {new} sound same block there used k low high is was =
+kept_in_tags {regions} {word} granted before old {new} sound same there used k low high is was =
     let spared = all_spared (regions new.system) (word new.system) (segments_of word new) sound.segments sound.apart there used k low high in
     same k is was (λ own. elim own [
       | inl boundary ↦ no_boundary k boundary.extent.kind boundary.extent.at boundary.extent.size
@@ -108,11 +108,11 @@ kept_in_tags {regions} {word} granted before old {new} sound same block there us
     ]) (λ recorded. no_record (regions new.system) (word new.system) (segments_of word new) sound.segments sound.apart there used recorded.there recorded.is k
     (omega arith) high is.aligned recorded.low recorded.high)
 
-pub kept_in : {A : Type 0} (regions : A → List Grant) (word : A → ℕ → ℕ) (old : Dlmalloc A) {new : Dlmalloc A} → IsSound regions word new →
-    OnlyOwnChange (regions old.system) (state_of word old) (state_of word new) (word old.system) (word new.system) →
-    (block : Extent) → extent_at block.at (extents_in (state_of word new)) ≡ Some block → block.kind ≡ Used → (k : ℕ) → block.at + 16 ≤ k →
-    k < block.at + block.size + 8 → IsWordOf (regions old.system) k → (IsInFree (state_of word old) k → ⊥) → word new.system k ≡ word old.system k
-kept_in regions word old sound same = kept_in_tags (regions old.system) (state_of word old) (word old.system) sound (λ k inside was own recorded. same k inside was own)
+pub kept_in : {A : Type 0} {regions : A → List Grant} {word : A → ℕ → ℕ} {follows : A → List Event → A → Type 0} {old new : Dlmalloc A} →
+    IsTurned regions word follows old new → {block : Extent} → extent_at block.at (extents_in (state_of word new)) ≡ Some block → block.kind ≡ Used →
+    (k : ℕ) → block.at + 16 ≤ k → k < block.at + block.size + 8 → IsWordOf (regions old.system) k → (IsInFree (state_of word old) k → ⊥) →
+    word new.system k ≡ word old.system k
+kept_in {regions} {word} {old} moved = kept_in_tags (regions old.system) (state_of word old) (word old.system) moved.sound (λ k inside was own recorded. moved.words k inside was own)
 
 -- blocks of two sound heaps keep their words, where of some granted words own ones and those of tags alone change
 module _ {A : Type 0} {regions : A → List Grant} {word : A → ℕ → ℕ} {old new : Dlmalloc A} (sound : IsSound regions word old)
@@ -122,7 +122,7 @@ module _ {A : Type 0} {regions : A → List Grant} {word : A → ℕ → ℕ} {o
   blocks_kept : ((block : Extent) → extent_at block.at blocks ≡ Some block → block.kind ≡ Used → (k : ℕ) → block.at + 16 ≤ k →
       k < block.at + block.size + 8 → IsTrue (is_granted granted k)) → KeepsBlocks blocks (word old.system) (word new.system)
   blocks_kept inside = record {
-    words = λ block there used k low high m. kept_in_tags granted (state_of word old) (word old.system) sound' same block (both block there used).1 used k low
+    words = λ block there used k low high m. kept_in_tags granted (state_of word old) (word old.system) sound' same (both block there used).1 used k low
         high (record { granted = inside block there used k low high; aligned = m }) (not_in_free sound (both block there used).0 used k (omega arith) high);
     heads = λ block there used.
         let b = both block there used in let l = located block.at (segments_of word old) b.0 in

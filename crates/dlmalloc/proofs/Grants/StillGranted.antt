@@ -42,7 +42,7 @@ module _ {A : Type 0} {regions : A → List Grant} {word : A → ℕ → ℕ} {z
       end = first_end sound grant behind.0
 
       first : HasSameFirst (segments_of word out.filled) (granted grant bytes (state_of word old)).segments
-      first = first_spans (state_of word out.filled) (granted grant bytes (state_of word old)) (stays ∙ spans_new regions word zeros follows old new size align address taken)
+      first = first_spans (state_of word out.filled) (granted grant bytes (state_of word old)) (stays ∙ (spans_new taken).0)
 
       longer : (out.filled.base ≡ old.base) × (out.filled.size ≡ old.size + grant.size)
       longer =

@@ -45,21 +45,7 @@ module _ (front less more back : List Extent) (apart : AreDistinct (front ++ (mo
     ]
   ]
 
--- so the free extents of two heaps are, whose extents differ so
-pub free_changes : (old new : HeapState) (front less more back : List Extent) → extents_in old ≡ front ++ (less ++ back) → extents_in new ≡ front
-    ++ (more ++ back) → AreDistinct (extents_in old) → AreDistinct (extents_in new) → (gone come : List ℕ) → ((k size : ℕ) → extent_at k less
-    ≡ Some (extent k size Free) → IsIn k gone) → ((k size : ℕ) → extent_at k more ≡ Some (extent k size Free) → IsIn k come) → ((k : ℕ) →
-    IsIn k gone → IsIn k come ⊎ IsThere k less) → ((k : ℕ) → IsIn k come → IsIn k gone ⊎ IsThere k more) → FreeMoves old new gone come
-free_changes old new front less more back was is apart apart' gone come in_less in_more gone_there come_there = record {
-  stays = λ k size free out.
-      let found = free_stays front less more back (subst AreDistinct is apart') gone come in_less come_there (ap (extent_at k) (sym was) ∙ free) out in
-      (ap (extent_at k) is ∙ found.0, found.1);
-  was = λ k size free out.
-      let found = free_stays front more less back (subst AreDistinct was apart) come gone in_more gone_there (ap (extent_at k) (sym is) ∙ free) out in
-      (ap (extent_at k) was ∙ found.0, found.1);
-}
-
--- and those before and after a step
+-- so the free extents before and after a step are
 module _ {A : Type 0} {regions : A → List Grant} {word : A → ℕ → ℕ} {heap new : Dlmalloc A}
     (sound : IsSound regions word heap) {less more : List Extent} (step : IsStep regions word heap new less more) (gone come : List ℕ)
     (in_less : (k size : ℕ) → extent_at k less ≡ Some (extent k size Free) → IsIn k gone)
@@ -67,5 +53,13 @@ module _ {A : Type 0} {regions : A → List Grant} {word : A → ℕ → ℕ} {h
     (gone_there : (k : ℕ) → IsIn k gone → IsIn k come ⊎ IsThere k less)
     (come_there : (k : ℕ) → IsIn k come → IsIn k gone ⊎ IsThere k more) where
   pub free_moves : FreeMoves (state_of word heap) (state_of word new) gone come
-  free_moves = free_changes (state_of word heap) (state_of word new) (before sound step) less more (behind sound step) (all_old sound step) (all_new sound step)
-      (distinct_old sound step) (distinct_new sound step) gone come in_less in_more gone_there come_there
+  free_moves = record {
+    stays = λ k size free out.
+        let found = free_stays (before sound step) less more (behind sound step) (subst AreDistinct (all_new sound step) (distinct_new sound step)) gone come
+        in_less come_there (ap (extent_at k) (sym (all_old sound step)) ∙ free) out in
+        (ap (extent_at k) (all_new sound step) ∙ found.0, found.1);
+    was = λ k size free out.
+        let found = free_stays (before sound step) more less (behind sound step) (subst AreDistinct (all_old sound step) (distinct_old sound step)) come gone
+        in_more gone_there (ap (extent_at k) (sym (all_new sound step)) ∙ free) out in
+        (ap (extent_at k) (all_old sound step) ∙ found.0, found.1);
+  }

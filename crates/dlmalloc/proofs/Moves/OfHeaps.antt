@@ -152,19 +152,6 @@ module _ {A : Type 0} {regions : A → List Grant} {word : A → ℕ → ℕ} {h
       distinct_front [] other d = tt
       distinct_front (extent ∷ one) other d = (none_first extent.at one other d.0, distinct_front one other d.1)
 
-  -- it is sound, where the victim is one of its extents
-  pub keeps_sound : IsGranularity new.granularity → 0 < new.size → (new.victim_size ≡ 0 → new.victim ≡ 0) → (new.victim_size ≢ 0 →
-      extent_at new.victim (extents_in (state_of word new)) ≡ Some (extent new.victim new.victim_size Free)) → IsSound regions word new
-  keeps_sound granularity some none named = record {
-    granularity = granularity;
-    segments = segments_now;
-    apart = apart_now;
-    told = subst (AreTold (word new.system) new) (sym read) step.told;
-    none = λ gone. absurd (omega arith);
-    no_victim = none;
-    victim = named;
-  }
-
   -- ---- extents in use
 
   pub has_more : (one : Extent) → HasMore less more one → HasOneMore (state_of word heap) (state_of word new) one.at
@@ -192,5 +179,12 @@ module _ {A : Type 0} {regions : A → List Grant} {word : A → ℕ → ℕ} {h
   pub stays_sound : regions new.system ≡ regions heap.system → new.granularity ≡ heap.granularity → new.base ≡ heap.base →
       new.size ≡ heap.size → new.flags ≡ heap.flags → (new.victim_size ≡ 0 → new.victim ≡ 0) → (new.victim_size ≢ 0 →
       extent_at new.victim (extents_in (state_of word new)) ≡ Some (extent new.victim new.victim_size Free)) → IsSound regions word new
-  stays_sound same granularity base size flags none named =
-      keeps_sound (subst IsGranularity (sym granularity) sound.granularity) (subst (λ n. 0 < n) (sym size) some_there) none named
+  stays_sound same granularity base size flags none named = record {
+    granularity = subst IsGranularity (sym granularity) sound.granularity;
+    segments = segments_now;
+    apart = apart_now;
+    told = subst (AreTold (word new.system) new) (sym read) step.told;
+    none = λ gone. absurd (let some = some_there in omega arith);
+    no_victim = none;
+    victim = named;
+  }

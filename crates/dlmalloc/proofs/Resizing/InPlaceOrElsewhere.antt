@@ -78,7 +78,7 @@ stays_there {regions} {word} {old} {new} {ptr} sound block kept_bytes small padd
   contents = λ k less m.
       let chunk = extent (ptr - 16) whole Used in let low = block.low in
       let inside = used_inside regions word new moved.sound chunk refl there in
-      kept_in regions word old moved.sound moved.words chunk there refl (ptr + k) (omega arith) (omega arith) (record {
+      kept_in moved {block = chunk} there refl (ptr + k) (omega arith) (omega arith) (record {
         granted = subst (λ rs. IsTrue (is_granted rs (ptr + k))) moved.regions_same (inside.granted (ptr + k) (omega arith) (omega arith));
         aligned = omega arith;
       }) (let place = block_place sound block in not_in_free sound (block_there sound block) block.used (ptr + k) (omega arith) (omega arith));

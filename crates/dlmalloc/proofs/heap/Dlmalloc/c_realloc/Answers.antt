@@ -55,8 +55,7 @@ returns-in-Some-clause-given g c =
 pub returns-in-None-clause-member : goal.returns-in-None-clause-member
 returns-in-None-clause-member g c =
     on_both c.c_malloc.result (λ address served member other.
-    let handed = handed_low g.A.Links.regions g.A.Links.word g.A.Allocator.zeros g.A.Links.follows c.args.self.now c.c_malloc.new.self c.args.new_size 16
-    address (4, refl) (omega arith) served in
+    let handed = handed_low {align = 16} (4, refl) (omega arith) served in
     member_low g.A.Links.regions g.A.Links.word c.args.self.now c.args.new_size 16 address (omega arith) handed.low handed.multiple member)
     c.c_malloc.ensures.served c.c_malloc.ensures.member
 
