@@ -57,6 +57,3 @@ returns-in-Ok-clause-counted g c = λ some.
     let cut = c.malloc.ensures.counted some in let words = c.fill_counted.ensures.counted in
     let count = c.words_in.ensures in
     omega arith
-
-pub returns-in-Err-clause-counted : goal.returns-in-Err-clause-counted
-returns-in-Err-clause-counted g c = λ some. let cut = c.malloc.ensures.counted some in omega arith

@@ -25,18 +25,3 @@ returns-in-None-2-clause-top g c is = top_chosen c.requires.sound c.requires.the
 
 pub returns-in-None-3-clause-none : goal.returns-in-None-3-clause-none
 returns-in-None-3-clause-none g c is = none_chosen c.requires.sound c.requires.there c.args.n c.in-None.ensures.least (omega arith) (omega arith)
-
-pub returns-in-Some-clause-member : goal.returns-in-Some-clause-member
-returns-in-Some-clause-member g c place is =
-    of_place (λ place. place.at ≢ c.args.self.now.victim → IsMember g.A.Links.regions g.A.Links.word c.args.self.now c.args.n place.at) c.in-Some.place
-    place is (λ other. c.in-Some.ensures.member)
-
-pub returns-in-Some-2-clause-member : goal.returns-in-Some-2-clause-member
-returns-in-Some-2-clause-member g c place is =
-    of_place (λ place. place.at ≢ c.args.self.now.victim → IsMember g.A.Links.regions g.A.Links.word c.args.self.now c.args.n place.at)
-    (record { at = c.args.self.now.victim; size = c.args.self.now.victim_size }) place is (λ other. absurd (other refl))
-
-pub returns-in-None-clause-member : goal.returns-in-None-clause-member
-returns-in-None-clause-member g c place is =
-    of_place (λ place. place.at ≢ c.args.self.now.victim → IsMember g.A.Links.regions g.A.Links.word c.args.self.now c.args.n place.at)
-    (record { at = c.args.self.now.victim; size = c.args.self.now.victim_size }) place is (λ other. absurd (other refl))

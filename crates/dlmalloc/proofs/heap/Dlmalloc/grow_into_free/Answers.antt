@@ -30,9 +30,6 @@ overflow_add-at-2 g c =
 pub unbin-requires-clause-binned : goal.unbin-requires-clause-binned
 unbin-requires-clause-binned g c = ([], c.requires.linked, λ none. none)
 
-pub join_part-requires-clause-sound : goal.join_part-requires-clause-sound
-join_part-requires-clause-sound g c = c.unbin.ensures.same.sound
-
 pub join_part-requires-clause-chunk : goal.join_part-requires-clause-chunk
 join_part-requires-clause-chunk g c = ap (λ s. extent_at c.args.at (extents_in s)) c.unbin.ensures.same.state ∙ c.requires.chunk
 
@@ -84,12 +81,6 @@ returns-then-rest-lt-LEAST_CHUNK g c =
       order_less b.index left.0.index (lessened_as c.args.free (c.args.at + c.args.size) b.index left.0.index left.1),
     ) in
     record { state = state g now; held = e.held; others = others g now; moved = moved g now; linked = (order c.requires.linked).0; order = order; counted = omega arith }
-
-pub bin-requires-clause-sound : goal.bin-requires-clause-sound
-bin-requires-clause-sound g c = c.join_part.ensures.moved.sound
-
-pub bin-requires-clause-free : goal.bin-requires-clause-free
-bin-requires-clause-free g c = c.join_part.ensures.rest (let many = c.if-rest-lt-LEAST_CHUNK.false in let room = c.requires.room in omega arith)
 
 pub bin-requires-clause-other : goal.bin-requires-clause-other
 bin-requires-clause-other g c =

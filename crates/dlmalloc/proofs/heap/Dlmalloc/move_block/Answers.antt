@@ -57,6 +57,3 @@ returns-in-Ok-clause-counted g c = λ some.
     let cut = c.malloc.ensures.counted some in let words = c.copy_counted.ensures.counted in
     let freed = c.free_and_settle.ensures.counted in
     omega arith
-
-pub returns-in-Err-clause-counted : goal.returns-in-Err-clause-counted
-returns-in-Err-clause-counted g c = λ some. let cut = c.malloc.ensures.counted some in omega arith

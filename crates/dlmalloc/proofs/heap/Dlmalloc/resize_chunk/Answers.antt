@@ -98,10 +98,6 @@ returns-clause-resized g c =
     let free = free_chunk g (goal.at.returns-clause-resized g c).After-size-free in
     λ yes. grows (state_of g.A.Links.word c.args.self.now) c.args.n there more free room ∙ ap Some (sym c.grow_into_free.ensures.state)
 
-pub returns-else-size-n-ge-LEAST_CHUNK-clause-moved : goal.returns-else-size-n-ge-LEAST_CHUNK-clause-moved
-returns-else-size-n-ge-LEAST_CHUNK-clause-moved g c =
-    record { sound = c.requires.sound; words = λ k inside was own. refl; regions_same = refl; followed = g.A.Links.follows_none c.args.self.now.system }
-
 pub returns-then-inuse-clause-moved : goal.returns-then-inuse-clause-moved
 returns-then-inuse-clause-moved g c = record { sound = c.requires.sound; words = λ k inside was own. refl; regions_same = refl; followed = g.A.Links.follows_none c.args.self.now.system }
 

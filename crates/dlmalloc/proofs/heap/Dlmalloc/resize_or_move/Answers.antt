@@ -41,7 +41,3 @@ returns-clause-counted g c = λ some.
     let segments = ap (λ heap. pass_steps (state_of g.A.Links.word heap)) same in
     let moved = c.move_block.ensures.counted (subst (λ heap. chosen (state_of g.A.Links.word heap) (padded (asked c.args.size c.args.align)) ≢ None) (sym same) some) in
     omega arith
-
-pub returns-clause-in_place_counted : goal.returns-clause-in_place_counted
-returns-clause-in_place_counted g c = λ some. absurd (some (subst (λ n. in_place (state_of g.A.Links.word c.args.self.now) (c.args.ptr - 16) n ≡ None)
-    c.request2size.ensures.is (c.resize_chunk.ensures.none c.if-resize_chunk.false)))
