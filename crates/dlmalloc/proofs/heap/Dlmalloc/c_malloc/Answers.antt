@@ -11,9 +11,6 @@ cut-requires-clause-small g c =
     let less : c.args.size < limit c.args.self.now.granularity = (let not = c.if-size-max_request.false in let is = c.max_request.ensures.is in omega arith) in
     request_small c.args.self.now.granularity c.args.size granularity.0 granularity.1 less e.whole e.near e.is
 
-pub overflow_add-result : goal.overflow_add-result
-overflow_add-result g c = let small = c.in-Ok.ensures.cut.small in omega arith
-
 pub returns-in-Ok-clause-served : goal.returns-in-Ok-clause-served
 returns-in-Ok-clause-served g c =
     let e = c.request2size.ensures in

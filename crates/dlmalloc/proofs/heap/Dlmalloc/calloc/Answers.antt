@@ -51,9 +51,3 @@ returns-in-Ok-clause-linked g c =
     let now = (goal.at.returns-in-Ok-clause-linked g c).After-fill_counted in let handed = c.in-Ok.ensures.handed in
     same_binned handed.sound handed.block c.index_stays.ensures c.args.size (omega arith) c.fill_counted.new.self
     c.fill_counted.ensures.regions (cleared g now).elsewhere c.malloc.ensures.linked
-
-pub returns-in-Ok-clause-counted : goal.returns-in-Ok-clause-counted
-returns-in-Ok-clause-counted g c = λ some.
-    let cut = c.malloc.ensures.counted some in let words = c.fill_counted.ensures.counted in
-    let count = c.words_in.ensures in
-    omega arith

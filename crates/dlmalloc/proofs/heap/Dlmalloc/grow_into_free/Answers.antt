@@ -27,15 +27,6 @@ overflow_add-at-2 g c =
     let s = free_end_small c.requires.sound (can g (goal.at.overflow_add-at-2 g c).Start) in
     let room = c.requires.room in grind arith
 
-pub unbin-requires-clause-binned : goal.unbin-requires-clause-binned
-unbin-requires-clause-binned g c = ([], c.requires.linked, λ none. none)
-
-pub join_part-requires-clause-chunk : goal.join_part-requires-clause-chunk
-join_part-requires-clause-chunk g c = ap (λ s. extent_at c.args.at (extents_in s)) c.unbin.ensures.same.state ∙ c.requires.chunk
-
-pub join_part-requires-clause-next : goal.join_part-requires-clause-next
-join_part-requires-clause-next g c = ap (λ s. extent_at (c.args.at + c.args.size) (extents_in s)) c.unbin.ensures.same.state ∙ c.requires.next
-
 -- ---- what the two calls leave
 
 joined : (g : _) (c : After-join_part g) → IsPartJoined g.A.Links.regions g.A.Links.word g.A.Links.follows c.unbin.new.self

@@ -24,10 +24,6 @@ returns-then-not-free-clause-free g c =
     (sym (c.free.ensures.same c.if-not-free.true)) (subst (λ now. FreeMoves (state_of g.A.Links.word heap) (state_of g.A.Links.word now) [] [])
     (sym c.forget.ensures) (free_kept c.requires.sound c.requires.chained))
 
-pub returns-then-not-free-clause-words : goal.returns-then-not-free-clause-words
-returns-then-not-free-clause-words g c = λ k inside out.
-    ap (λ system. g.A.Links.word system k) (c.free.ensures.same c.if-not-free.true) ∙ ap (λ now. g.A.Links.word now.system k) c.forget.ensures
-
 pub set_next-requires-clause-high : goal.set_next-requires-clause-high
 set_next-requires-clause-high g c = link_small c.requires.sound c.requires.chained
 
@@ -35,9 +31,6 @@ pub set_next-requires-clause-word : goal.set_next-requires-clause-word
 set_next-requires-clause-word g c =
     link_granted c.requires.sound c.requires.chained (c.free.ensures.regions c.if-not-free.false
     ∙ ap (λ heap. without c.args.told.now.base (c.args.told.now.base + c.args.told.now.size) (g.A.Links.regions heap.system)) c.forget.ensures)
-
-pub returns-clause-answer : goal.returns-clause-answer
-returns-clause-answer g c = sym c.if-not-free.false ∙ (c.free.ensures.answer ∙ ap (λ now. g.A.Allocator.frees now.system) c.forget.ensures)
 
 -- ---- the segment was taken
 
