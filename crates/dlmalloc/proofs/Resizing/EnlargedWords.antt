@@ -1,5 +1,5 @@
 -- A chunk in use takes bytes of the free extent behind it: the moves, over plain words.
-use Rattle.dlmalloc.proofs.Names.{◌≡◌, ℕ, ◌+◌, ◌-◌, ◌%◌, ◌<◌, ◌≤◌, ◌⊎◌, inl, inr, true, false, ◌==◌, List, [], ◌∷◌, ◌++◌, refl, sym, ◌∙◌, ap, subst, arith, Grant, IsWordOf, AreStored, Extent, Kind, Used, Free, Top, pinuse_of, head_of, with_pinuse, pinuse_of-head_of, with_pinuse-head_of, is_used, told_size, HasChunk, Tiles, Segment, IsMove, IsRunOf, replaced_both, in_segments, AreSegments, IsApartFrom, AreApart}
+use Rattle.dlmalloc.proofs.Names.{◌≡◌, ℕ, ◌+◌, ◌-◌, ◌%◌, ◌<◌, ◌≤◌, ◌⊎◌, inl, inr, true, false, ◌==◌, List, [], ◌∷◌, ◌++◌, refl, sym, ◌∙◌, ap, subst, arith, Grant, IsWordOf, AreStored, Extent, Kind, Used, Free, Top, pinuse_of, head_of, with_pinuse, pinuse_of-head_of, with_pinuse-head_of, is_used, told_size, HasChunk, AllSpare, Tiles, Segment, IsMove, IsRunOf, replaced_both, in_segments, AreSegments, IsApartFrom, AreApart}
 use Rattle.dlmalloc.proofs.Extents.Lookup.{extent, nat_isnt, nat_same}
 use Rattle.dlmalloc.proofs.Extents.Tiling.{sized, tiles_le, free_chunk, plain_chunk}
 use Rattle.dlmalloc.proofs.Cuts.FreeExtent.{rehung, may_stand, behind_free, told_whole, no_head}
@@ -70,47 +70,37 @@ module _ (regions : List Grant) {old : ℕ → ℕ} (new : ℕ → ℕ) {before 
   longer : (n : ℕ) → n % 16 ≡ 0 → 32 ≤ n → new (at + 8) ≡ head_of n (pinuse_of (old (at + 8))) true → HasChunk new before (extent at n Used)
   longer n whole least head = plain_chunk stands.whole (whole, least) stands.kind (head ∙ ap (λ b. head_of n b true) told) (λ free. cc) (λ is. cc)
 
-  -- the top keeps a rest
-  pub grown_top : {top : ℕ} (n : ℕ) → HasChunk old Used (extent (at + size) top Top) → n % 16 ≡ 0 → 32 ≤ n → n + 16 ≤ size + top →
-      AreStored regions old ((at + 8, head_of n (pinuse_of (old (at + 8))) true) ∷ (at + n + 8, size + top - n + 1) ∷ []) new →
-      IsMove regions old new before at (at + size + top) (at + size + top) (extent at size Used ∷ extent (at + size) top Top ∷ [])
-      (extent at n Used ∷ extent (at + n) (size + top - n) Top ∷ [])
-  grown_top n behind whole least room stored =
-      let place = stands.whole in let units = stands.size.0 in let units_top = behind.size.0 in
-      record {
-        less_stand = (refl, stands, (refl, behind, refl));
-        more_stand = (
-          refl,
-          longer n whole least (stored.here.0 ((λ is. omega arith), tt)),
-          (
-            refl,
-            plain_chunk (omega arith) (omega arith, omega arith) refl (stored.here.1.0 tt ∙ omega arith) (λ free. cc) (λ is. cc),
-            omega arith,
-          ),
-        );
-        kept = λ k word more. stored.elsewhere k word (more.0, (more.1.0, tt));
-      }
+  -- the extent behind it keeps a rest
+  grown_part : {n length rest : ℕ} {kind : Kind} → HasChunk old Used (extent (at + size) length kind) → n % 16 ≡ 0 → 32 ≤ n → n ≤ size + length →
+      new (at + 8) ≡ head_of n (pinuse_of (old (at + 8))) true → rest ≡ size + length - n → HasChunk new Used (extent (at + n) rest kind) →
+      ((k : ℕ) → IsWordOf regions k → AllSpare (extent at n Used ∷ extent (at + n) rest kind ∷ []) k → new k ≡ old k) →
+      IsMove regions old new before at (at + size + length) (at + size + length) (extent at size Used ∷ extent (at + size) length kind ∷ [])
+      (extent at n Used ∷ extent (at + n) rest kind ∷ [])
+  grown_part {n} behind whole least room head is rest kept = record {
+    less_stand = (refl, stands, (refl, behind, refl));
+    more_stand = (refl, longer n whole least head, (refl, rest, omega arith));
+    kept = kept;
+  }
 
-  -- a free one keeps a rest
+  pub grown_top : {top rest : ℕ} (n : ℕ) → HasChunk old Used (extent (at + size) top Top) → n % 16 ≡ 0 → 32 ≤ n → n + 16 ≤ size + top → rest ≡ size + top - n →
+      AreStored regions old ((at + 8, head_of n (pinuse_of (old (at + 8))) true) ∷ (at + n + 8, rest + 1) ∷ []) new →
+      IsMove regions old new before at (at + size + top) (at + size + top) (extent at size Used ∷ extent (at + size) top Top ∷ [])
+      (extent at n Used ∷ extent (at + n) rest Top ∷ [])
+  grown_top n behind whole least room is stored =
+      let place = stands.whole in let units = stands.size.0 in let units_top = behind.size.0 in
+      grown_part behind whole least (omega arith) (stored.here.0 ((λ is. omega arith), tt)) is
+      (plain_chunk (omega arith) (omega arith, omega arith) refl (stored.here.1.0 tt ∙ omega arith) (λ free. cc) (λ is. cc))
+      (λ k word more. stored.elsewhere k word (more.0, (more.1.0, tt)))
+
   pub grown_split : {free : ℕ} (n : ℕ) → HasChunk old Used (extent (at + size) free Free) → n % 16 ≡ 0 → 32 ≤ n → n + 32 ≤ size + free →
       AreStored regions old ((at + 8, head_of n (pinuse_of (old (at + 8))) true) ∷ (at + n + 8, head_of (size + free - n) true false)
       ∷ (at + n + (size + free - n), size + free - n) ∷ []) new → IsMove regions old new before at (at + size + free) (at + size + free)
       (extent at size Used ∷ extent (at + size) free Free ∷ []) (extent at n Used ∷ extent (at + n) (size + free - n) Free ∷ [])
   grown_split n behind whole least room stored =
       let place = stands.whole in let units = stands.size.0 in let units_free = behind.size.0 in
-      record {
-        less_stand = (refl, stands, (refl, behind, refl));
-        more_stand = (
-          refl,
-          longer n whole least (stored.here.0 ((λ is. omega arith), ((λ is. omega arith), tt))),
-          (
-            refl,
-            free_chunk (omega arith) (omega arith, omega arith) refl (stored.here.1.0 ((λ is. omega arith), tt)) (stored.here.1.1.0 tt),
-            omega arith,
-          ),
-        );
-        kept = λ k word more. stored.elsewhere k word (more.0, (more.1.0.0, (more.1.0.1, tt)));
-      }
+      grown_part behind whole least (omega arith) (stored.here.0 ((λ is. omega arith), ((λ is. omega arith), tt))) refl
+      (free_chunk (omega arith) (omega arith, omega arith) refl (stored.here.1.0 ((λ is. omega arith), tt)) (stored.here.1.1.0 tt))
+      (λ k word more. stored.elsewhere k word (more.0, (more.1.0.0, (more.1.0.1, tt))))
 
   -- nothing of it stays free, and what is behind it is told
   pub grown_whole : (free : ℕ) (next : Extent) → HasChunk old Used (extent (at + size) free Free) → HasChunk old Free next →

@@ -1,7 +1,7 @@
 -- A block gets another size: where it stands, or elsewhere with its words.
 use Rattle.dlmalloc.proofs.Names.{◌≡◌, ◌≢◌, ℕ, ◌+◌, ◌-◌, ◌*◌, ◌%◌, ◌<◌, ◌≤◌, ◌⊎◌, inl, inr, min, Bool, true, false, not, ◌==◌, if◌then◌else◌, List, [], ◌∷◌, Option, Some, IsTrue, refl, sym, ◌∙◌, ap, subst, arith, unwrap_or, option_map, IfSome, Grant, Event, is_granted, AreWordsOf, AreCopied, padded, limit, Extent, Used, extent_at, HeapState, extents_in, size_where, IsBlock, KeepsBlocks, in_place, HasSameOthers, IndexStays, IsBinned, state_of, IsSound, IsTurned, IsFreed, IsHandedOut, words_in, IsSameHeap, IsInPlace, KeepsOrder, Dlmalloc}
 use Rattle.dlmalloc.specs.Moved.{others_at}
-use Rattle.dlmalloc.proofs.Extents.Lookup.{extent, the_extent, found, nat_is, nat_same}
+use Rattle.dlmalloc.proofs.Extents.Lookup.{extent, the_one, found, found_either, found_more, found_later, nat_is, nat_same}
 use Rattle.dlmalloc.proofs.Resizing.TwoExtents.{differ}
 use Rattle.dlmalloc.proofs.Blocks.WordsKept.{not_in_free, kept_in, blocks_law, keeps_on, keeps_among}
 use Rattle.dlmalloc.proofs.Laws.{used_inside}
@@ -10,17 +10,6 @@ use Rattle.dlmalloc.proofs.Blocks.Words.{block_words, same_heap, same_binned, wr
 
 place_found : (k : ℕ) (extents : List Extent) {one : Extent} → extent_at k extents ≡ Some one → one.at ≡ k
 place_found k extents {one} there = (found k one extents there).place
-
--- a block is one of as many bytes as its chunk has room for
-pub widest : (heap : HeapState) (ptr n : ℕ) (block : IsBlock heap ptr n) → IsBlock heap ptr (block.extent.size - 8)
-widest heap ptr n block = let holds = block.holds in record {
-  extent = block.extent;
-  there = block.there;
-  low = block.low;
-  used = block.used;
-  holds = omega arith;
-  little = omega arith;
-}
 
 -- the size that is found at an address
 pub size_at : (heap : HeapState) (at : ℕ) (one : Extent) → extent_at at (extents_in heap) ≡ Some one → size_where (λ extent. extent.at == at) (extents_in heap) ≡ one.size
@@ -37,35 +26,27 @@ block_told heap is block = subst (λ o. IfSome o (λ at. (size : ℕ) × IsBlock
 -- what is found among the others is found, and elsewhere
 pub other_there : (at : ℕ) (extents : List Extent) (k : ℕ) {one : Extent} → extent_at k (others_at at extents) ≡ Some one → (one.at ≢ at) × (extent_at k extents ≡ Some one)
 other_there at [] k there = absurd (cc)
-other_there at (first ∷ extents) k {one} there = go (first.at == at) (first.at == k) refl refl (λ later. other_there at extents k later)
+other_there at (first ∷ extents) k {one} there = go (first.at == at) refl (λ later. other_there at extents k later)
   where
-    go : (here is : Bool) → (first.at == at) ≡ here → (first.at == k) ≡ is → (extent_at k (others_at at extents) ≡ Some one →
-        (one.at ≢ at) × (extent_at k extents ≡ Some one)) → (one.at ≢ at) × (extent_at k (first ∷ extents) ≡ Some one)
-    go true is at_first at_k rest =
-        let later = rest (subst (λ b. extent_at k (if not b then first ∷ others_at at extents else others_at at extents) ≡ Some one) at_first there) in
+    go : (here : Bool) → (first.at == at) ≡ here → (extent_at k (others_at at extents) ≡ Some one → (one.at ≢ at) × (extent_at k extents ≡ Some one)) →
+        (one.at ≢ at) × (extent_at k (first ∷ extents) ≡ Some one)
+    go true at_first rest =
+        let later = rest (rw at_first at there) in
         let apart : (first.at == k) ≡ false = differ first.at k (λ same. later.0 (place_found k extents later.1 ∙ (sym same ∙ nat_is at_first))) in
         (later.0, rw apart later.1)
-    go false true at_first at_k rest =
-        let with_first : extent_at k (first ∷ others_at at extents) ≡ Some
-        one = subst (λ b. extent_at k (if not b then first ∷ others_at at extents else others_at at extents) ≡ Some one) at_first there in
-        let same : Some first ≡ Some one = subst (λ b. (if b then Some first else extent_at k (others_at at extents)) ≡ Some one) at_k with_first in (
-          (λ place. (
-              let is : first.at ≡ at = ap (λ e. e.at) (the_extent same) ∙ place in
-              let yes : (first.at == at) ≡ true = rw is (nat_same at) in
-              let no : true ≡ false = sym yes ∙ at_first in cc)),
-          rw at_k same,
-        )
-    go false false at_first at_k rest =
-        let with_first : extent_at k (first ∷ others_at at extents) ≡ Some
-        one = subst (λ b. extent_at k (if not b then first ∷ others_at at extents else others_at at extents) ≡ Some one) at_first there in
-        let later = rest (subst (λ b. (if b then Some first else extent_at k (others_at at extents)) ≡ Some one) at_k with_first) in
-        (later.0, rw at_k later.1)
+    go false at_first rest = elim (found_either k (first ∷ []) (others_at at extents) (rw at_first at there)) [
+      | inl here ↦ (
+        λ place. (let is = ap (λ e. e.at) (the_one k first here) ∙ place in let yes : (first.at == at) ≡ true = rw is (nat_same at) in let no : true ≡ false = sym yes ∙ at_first in cc),
+        found_more k (first ∷ []) extents here,
+      )
+      | inr later ↦ (let found = rest later.1 in (found.0, found_later k (first ∷ []) extents later.0 ∙ found.1))
+    ]
 
 -- ---- where it stands
 
 pub stays_there : {A : Type 0} {regions : A → List Grant} {word : A → ℕ → ℕ} {follows : A → List Event → A → Type 0} {old new : Dlmalloc A}
-    {ptr n held size m : ℕ} → IsSound regions word old → (block : IsBlock (state_of word old) ptr n) → held + 8 ≤ block.extent.size →
-    size < limit old.granularity → m ≡ padded size → size + 8 ≤ m → m ≤ size + 32 → in_place (state_of word old) (ptr - 16) m ≡ Some (state_of word new) →
+    {ptr n held size m : ℕ} → IsSound regions word old → (block : IsBlock (state_of word old) ptr n) →
+    held + 8 ≤ size_where (λ extent. extent.at == ptr - 16) (extents_in (state_of word old)) → size < limit old.granularity → m ≡ padded size → size + 8 ≤ m → m ≤ size + 32 → in_place (state_of word old) (ptr - 16) m ≡ Some (state_of word new) →
     (whole : ℕ) × (extent_at (ptr - 16) (extents_in (state_of word new)) ≡ Some (extent (ptr - 16) whole Used)) × (m ≤ whole) × (whole < m + 32) →
     HasSameOthers (state_of word old) (state_of word new) (ptr - 16) (ptr - 16) → IsTurned regions word follows old new →
     KeepsOrder regions word old new → IsInPlace regions word follows old ptr held size new
@@ -76,7 +57,7 @@ stays_there {regions} {word} {old} {new} {ptr} sound block kept_bytes small padd
   block = record { extent = extent (ptr - 16) whole Used; there = there; low = block.low; used = refl; holds = omega arith; little = omega arith };
   others = others;
   contents = λ k less m.
-      let chunk = extent (ptr - 16) whole Used in let low = block.low in
+      let chunk = extent (ptr - 16) whole Used in let low = block.low in let size = size_at (state_of word old) (ptr - 16) block.extent block.there in
       let inside = used_inside regions word new moved.sound chunk refl there in
       kept_in moved {block = chunk} there refl (ptr + k) (omega arith) (omega arith) (record {
         granted = subst (λ rs. IsTrue (is_granted rs (ptr + k))) moved.regions_same (inside.granted (ptr + k) (omega arith) (omega arith));
@@ -90,11 +71,6 @@ stays_there {regions} {word} {old} {new} {ptr} sound block kept_bytes small padd
 
 -- ---- elsewhere
 
--- what is held of a block is in its chunk
-pub held_there : {heap : HeapState} {ptr n : ℕ} (held : ℕ) (block : IsBlock heap ptr n) →
-    held + 8 ≤ size_where (λ extent. extent.at == ptr - 16) (extents_in heap) → held + 8 ≤ block.extent.size
-held_there {heap} {ptr} held block fits = omega (arith, size_at heap (ptr - 16) block.extent block.there)
-
 module _ {A : Type 0} {regions : A → List Grant} {word : A → ℕ → ℕ} {follows : A → List Event → A → Type 0} {old middle : Dlmalloc A}
     {ptr size align address n : ℕ} (held : ℕ) (sound : IsSound regions word old) (block : IsBlock (state_of word old) ptr n)
     (fits : held + 8 ≤ size_where (λ extent. extent.at == ptr - 16) (extents_in (state_of word old)))
@@ -107,14 +83,14 @@ module _ {A : Type 0} {regions : A → List Grant} {word : A → ℕ → ℕ} {f
 
   -- the old one is there still
   still : IsBlock (state_of word middle) ptr (block.extent.size - 8)
-  still = widest (state_of word middle) ptr n (record {
+  still = let holds = block.holds in record {
     extent = block.extent;
     there = ap (λ a. extent_at a (extents_in (state_of word middle))) (sym place) ∙ handed.more.kept block.extent block.used there;
     low = block.low;
     used = block.used;
-    holds = block.holds;
-    little = block.little;
-  })
+    holds = omega arith;
+    little = omega arith;
+  }
 
   few_from : min held size ≤ block.extent.size - 8
   few_from = omega (arith, size_at (state_of word old) (ptr - 16) block.extent block.there)

@@ -75,11 +75,7 @@ module _ {A : Type 0} {regions : A → List Grant} {word : A → ℕ → ℕ} {h
         ∙ found_second at n (extent (at + n) rest Top) both.last (omega (arith, least))
 
     move : IsMove (regions heap.system) words (word system) (last_kind Used both.first) at (at + size + heap.top_size) (at + size + heap.top_size) (chunk ∷ top ∷ []) parts
-    move =
-        subst (λ r. IsMove (regions heap.system) words (word system) (last_kind Used both.first) at (at + size + heap.top_size) (at + size + heap.top_size)
-        (chunk ∷ top ∷ []) (extent at n Used ∷ extent (at + n) r Top ∷ [])) (sym rest_is)
-        (grown_top (regions heap.system) (word system) both.here.1 n both.here.2.1 can.whole least rest_room (subst (λ r. AreStored (regions heap.system) words
-        ((at + 8, head_of n (pinuse_of (words (at + 8))) true) ∷ (at + n + 8, r + 1) ∷ []) (word system)) rest_is stored))
+    move = grown_top (regions heap.system) (word system) both.here.1 n both.here.2.1 can.whole least rest_room rest_is stored
 
     abbrev step : IsStep regions word heap after (chunk ∷ top ∷ []) parts
     step =

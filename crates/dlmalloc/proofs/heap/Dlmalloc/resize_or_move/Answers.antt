@@ -1,5 +1,5 @@
 use Rattle.dlmalloc.proofs.Names.{◌≡◌, ◌≢◌, ◌-◌, ◌<◌, inl, None, true, refl, sym, ap, subst, arith, rules, nat_le, nat_tests, limit, in_place, state_of, IsMemberServed, padded, chosen, asked, pass_steps}
-use Rattle.dlmalloc.proofs.Resizing.InPlaceOrElsewhere.{chunk_there, held_there, stays_there}
+use Rattle.dlmalloc.proofs.Resizing.InPlaceOrElsewhere.{chunk_there, stays_there}
 use Rattle.dlmalloc.proofs.Blocks.HandedOut.{on_ok}
 use Rattle.dlmalloc.proofs.heap.Dlmalloc.resize_or_move.Goals as goal
 
@@ -14,7 +14,7 @@ returns-then-resize_chunk-clause-resized g c =
     inl (
       c.requires.least,
       refl,
-      stays_there c.requires.sound c.requires.block.1 (held_there c.args.held c.requires.block.1 c.requires.held) small request.is request.holds request.near
+      stays_there c.requires.sound c.requires.block.1 c.requires.held small request.is request.holds request.near
           (done.resized yes) (done.held yes) done.others done.moved done.order,
     )
 
