@@ -114,6 +114,22 @@ pub kept_in : {A : Type 0} {regions : A → List Grant} {word : A → ℕ → �
     word new.system k ≡ word old.system k
 kept_in {regions} {word} {old} moved = kept_in_tags (regions old.system) (state_of word old) (word old.system) moved.sound (λ k inside was own recorded. moved.words k inside was own)
 
+-- blocks that keep their words twice keep them
+pub keeps_on : {blocks : List Extent} {first second third : ℕ → ℕ} → KeepsBlocks blocks first second → KeepsBlocks blocks second third → KeepsBlocks blocks first third
+keeps_on one other = record {
+  words = λ block there used k low high m. other.words block there used k low high m ∙ one.words block there used k low high m;
+  heads = λ block there used. other.heads block there used ∙ one.heads block there used;
+}
+
+-- blocks among others that keep their words keep them
+pub kept_among : {blocks few : List Extent} {old new : ℕ → ℕ} →
+    ((block : Extent) → block.kind ≡ Used → extent_at block.at few ≡ Some block → extent_at block.at blocks ≡ Some block) →
+    KeepsBlocks blocks old new → KeepsBlocks few old new
+kept_among among kept = record {
+  words = λ block there used. kept.words block (among block used there) used;
+  heads = λ block there used. kept.heads block (among block used there) used;
+}
+
 -- blocks of two sound heaps keep their words, where of some granted words own ones and those of tags alone change
 module _ {A : Type 0} {regions : A → List Grant} {word : A → ℕ → ℕ} {old new : Dlmalloc A} (sound : IsSound regions word old)
     (sound' : IsSound regions word new) (granted : List Grant)
@@ -156,19 +172,3 @@ pub blocks_law : {A : Type 0} {regions : A → List Grant} {word : A → ℕ →
     ((block : Extent) → extent_at block.at blocks ≡ Some block → block.kind ≡ Used → (extent_at block.at (extents_in (state_of word old)) ≡ Some
     block) × (extent_at block.at (extents_in (state_of word new)) ≡ Some block)) → KeepsBlocks blocks (word old.system) (word new.system)
 blocks_law sound sound' same blocks both = blocks_law_tags sound sound' (λ k inside was own recorded. same k inside was own) blocks both
-
--- blocks that keep their words twice keep them
-pub keeps_on : {blocks : List Extent} {first second third : ℕ → ℕ} → KeepsBlocks blocks first second → KeepsBlocks blocks second third → KeepsBlocks blocks first third
-keeps_on one other = record {
-  words = λ block there used k low high m. other.words block there used k low high m ∙ one.words block there used k low high m;
-  heads = λ block there used. other.heads block there used ∙ one.heads block there used;
-}
-
--- blocks among others that keep their words keep them
-pub keeps_among : {blocks few : List Extent} {old new : ℕ → ℕ} →
-    ((block : Extent) → block.kind ≡ Used → extent_at block.at few ≡ Some block → extent_at block.at blocks ≡ Some block) →
-    KeepsBlocks blocks old new → KeepsBlocks few old new
-keeps_among among kept = record {
-  words = λ block there used. kept.words block (among block used there) used;
-  heads = λ block there used. kept.heads block (among block used there) used;
-}

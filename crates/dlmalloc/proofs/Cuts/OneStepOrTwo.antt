@@ -10,12 +10,13 @@ use Rattle.dlmalloc.proofs.Segments.RegionsMore.{word_kept, word_fresh, none_fre
 use Rattle.dlmalloc.proofs.Requests.Plain.{taken_block}
 use Rattle.dlmalloc.proofs.Extents.Top.{top_among}
 
-module _ {A : Type 0} {regions : A → List Grant} {word : A → ℕ → ℕ} (zeros : A → Bool)
-    (follows : A → List Event → A → Type 0) {old : Dlmalloc A} (sound : IsSound regions word old) (n : ℕ) where
-  -- a move with no change of bins is one with them
-  pub as_turned : {new : Dlmalloc A} → IsMoved regions word follows old new → IsTurned regions word follows old new
-  as_turned moved = record { sound = moved.sound; words = λ k inside was own. moved.words k inside (λ boundary. own (inl boundary)); regions_same = moved.regions_same; followed = moved.followed }
+-- a move with no change of bins is one with them
+pub as_turned : {A : Type 0} {regions : A → List Grant} {word : A → ℕ → ℕ} {follows : A → List Event → A → Type 0} {old new : Dlmalloc A} →
+    IsMoved regions word follows old new → IsTurned regions word follows old new
+as_turned moved = record { sound = moved.sound; words = λ k inside was own. moved.words k inside (λ boundary. own (inl boundary)); regions_same = moved.regions_same; followed = moved.followed }
 
+module _ {A : Type 0} {regions : A → List Grant} {word : A → ℕ → ℕ} {zeros : A → Bool}
+    {follows : A → List Event → A → Type 0} {old : Dlmalloc A} (sound : IsSound regions word old) (n : ℕ) where
   -- an extent of the heap was chosen, and cut
   pub cut_here : {new : Dlmalloc A} {chunk : Extent} → IsChosen (state_of word old) n chunk → n ≤ chunk.size → chunk.at + 16 < 2 ^ 64 →
       state_of word new ≡ taken (state_of word old) chunk n → HasOneMore (state_of word old) (state_of word new) chunk.at →

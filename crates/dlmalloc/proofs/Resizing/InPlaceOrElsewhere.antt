@@ -3,7 +3,7 @@ use Rattle.dlmalloc.proofs.Names.{◌≡◌, ◌≢◌, ℕ, ◌+◌, ◌-◌, �
 use Rattle.dlmalloc.specs.Moved.{others_at}
 use Rattle.dlmalloc.proofs.Extents.Lookup.{extent, the_one, found, found_either, found_more, found_later, nat_is, nat_same}
 use Rattle.dlmalloc.proofs.Resizing.TwoExtents.{differ}
-use Rattle.dlmalloc.proofs.Blocks.WordsKept.{not_in_free, kept_in, blocks_law, keeps_on, keeps_among}
+use Rattle.dlmalloc.proofs.Blocks.WordsKept.{not_in_free, kept_in, blocks_law, keeps_on, kept_among}
 use Rattle.dlmalloc.proofs.Laws.{used_inside}
 use Rattle.dlmalloc.proofs.Blocks.Chunks.{block_place, block_there, block_inside, blocks_apart}
 use Rattle.dlmalloc.proofs.Blocks.Words.{block_words, same_heap, same_binned, written_kept}
@@ -173,5 +173,5 @@ module _ {A : Type 0} {regions : A → List Grant} {word : A → ℕ → ℕ} {f
       pub moved_kept : KeepsBlocks (others_at (ptr - 16) (extents_in (state_of word old))) (word old.system) (word new.system)
       moved_kept =
           let other = λ (used : Extent). other_there (ptr - 16) (extents_in (state_of word old)) used.at {one = used} in
-          keeps_on (keeps_among (λ used is found. (other used found).1) (written_kept handed (min held size) few_to copied.elsewhere))
-          (keeps_among (λ used is found. ends is (handed.more.kept used is (other used found).1) (other used found).0) freed.kept)
+          keeps_on (kept_among (λ used is found. (other used found).1) (written_kept handed (min held size) few_to copied.elsewhere))
+          (kept_among (λ used is found. ends is (handed.more.kept used is (other used found).1) (other used found).0) freed.kept)

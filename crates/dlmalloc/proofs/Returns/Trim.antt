@@ -6,18 +6,10 @@ use Rattle.dlmalloc.specs.Trimmed.{cut_off}
 use Rattle.dlmalloc.proofs.Extents.Lookup.{extent, found_more}
 use Rattle.dlmalloc.proofs.Segments.Among.{extents_all}
 use Rattle.dlmalloc.proofs.Extents.Top.{foot_there}
-use Rattle.dlmalloc.proofs.Blocks.WordsKept.{keeps_on}
+use Rattle.dlmalloc.proofs.Blocks.WordsKept.{keeps_on, kept_among}
 use Rattle.dlmalloc.proofs.Cuts.Chosen.{top_size_is}
 use Rattle.dlmalloc.proofs.Segments.HeadTop.{no_segments}
 use Rattle.dlmalloc.proofs.Returns.Segments.{still_granted}
-
--- extents that are among others keep their words with them
-kept_among : (fewer : List Extent) {more : List Extent} {old new : ℕ → ℕ} → ((block : Extent) → block.kind ≡ Used →
-    extent_at block.at fewer ≡ Some block → extent_at block.at more ≡ Some block) → KeepsBlocks more old new → KeepsBlocks fewer old new
-kept_among fewer among kept = record {
-  words = λ block there used k low high m. kept.words block (among block used there) used k low high m;
-  heads = λ block there used. kept.heads block (among block used there) used;
-}
 
 -- ---- the head segment stays
 
@@ -160,7 +152,7 @@ module _ {A : Type 0} {regions : A → List Grant} {word : A → ℕ → ℕ} {f
         still = λ used is there. pass.used.still used is (cut.stays.used.still used is there);
         before = λ used is there. cut.stays.used.before used is (pass.used.before used is there);
       };
-      kept = keeps_on cut.stays.kept (kept_among (extents_in (state_of word old)) (λ block is there. cut.stays.used.still block is there) pass.kept);
+      kept = keeps_on cut.stays.kept (kept_among (λ block is there. cut.stays.used.still block is there) pass.kept);
       words = λ k inside was own recorded. pass.words k inside
           (λ f. was (record { at = f.at; size = f.size; free = (cut.stays.free.was f.at f.size f.free (λ none. none)).0; low = f.low; high = f.high })) (λ r.
           recorded (record { extent = r.extent; there = cut.stays.records r.extent r.is r.there; is = r.is; low = r.low; high = r.high })) ∙ cut.stays.words k

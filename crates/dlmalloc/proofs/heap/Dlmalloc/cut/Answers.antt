@@ -12,7 +12,7 @@ pub returns-in-Some-Chunk-clause-cut : goal.returns-in-Some-Chunk-clause-cut
 returns-in-Some-Chunk-clause-cut g c =
     let place = c.in-Some-Chunk.place in let is = ap Some c.in-Some-Chunk.field-0-is in
     let chosen = c.in-Some-Chunk.ensures.chunk place is in
-    cut_here g.A.Allocator.zeros g.A.Links.follows c.requires.sound c.args.n chosen (c.in-Some-Chunk.ensures.fits place is)
+    cut_here c.requires.sound c.args.n chosen (c.in-Some-Chunk.ensures.fits place is)
     (free_below c.requires.sound chosen.there) c.take.ensures.state c.take.ensures.more c.take.ensures.moved
 
 pub returns-in-Some-Top-clause-cut : goal.returns-in-Some-Top-clause-cut
@@ -21,8 +21,8 @@ returns-in-Some-Top-clause-cut g c =
     let chosen = c.in-Some-Top.ensures.top is in let fits = c.in-Some-Top.ensures.top_fits is in
     subst (λ k. IsCutOut g.A.Links.regions g.A.Links.word g.A.Allocator.zeros g.A.Links.follows heap c.args.n k c.take_top.new.self)
     (sym c.take_top.ensures.chunk)
-    (cut_here g.A.Allocator.zeros g.A.Links.follows c.requires.sound c.args.n chosen (omega arith) (free_below c.requires.sound chosen.there)
-    c.take_top.ensures.state c.take_top.ensures.more (as_turned g.A.Allocator.zeros g.A.Links.follows c.requires.sound c.args.n c.take_top.ensures.moved))
+    (cut_here c.requires.sound c.args.n chosen (omega arith) (free_below c.requires.sound chosen.there)
+    c.take_top.ensures.state c.take_top.ensures.more (as_turned c.take_top.ensures.moved))
 
 pub cut_new-requires-clause-none : goal.cut_new-requires-clause-none
 cut_new-requires-clause-none g c = elim c.if-self-gt0.branch [

@@ -8,12 +8,11 @@ use Rattle.dlmalloc.proofs.heap.Dlmalloc.cut_new.Goals as goal
 pub returns-in-None-clause-cut : goal.returns-in-None-clause-cut
 returns-in-None-clause-cut g c =
     let heap = c.args.self.now in let middle = c.grow.new.self in let new = c.take_top.new.self in
-    let grown = c.in_ok-chunk.ensures.top c.in-None.is in
+    let grown = c.in_ok-chunk.ensures.top c.in-None.is in let e = c.take_top.ensures in
     let events = Granted (round_up (c.args.n + 96) heap.granularity) grown.grant ∷ [] in
     subst (λ k. IsCutOut g.A.Links.regions g.A.Links.word g.A.Allocator.zeros g.A.Links.follows heap c.args.n k new) (sym c.take_top.ensures.chunk)
-    (cut_new g.A.Allocator.zeros g.A.Links.follows c.requires.sound c.args.n grown c.take_top.ensures.state c.take_top.ensures.more c.take_top.ensures.moved
-    c.take_top.ensures.head c.take_top.ensures.foot c.take_top.ensures.others c.requires.none (top_below grown.sound grown.there)
-    (g.A.Links.follows_on heap.system middle.system new.system events [] events grown.followed c.take_top.ensures.moved.followed refl))
+    (cut_new c.requires.sound c.args.n grown e.state e.more e.moved e.head e.foot e.others c.requires.none (top_below grown.sound grown.there)
+    (g.A.Links.follows_on heap.system middle.system new.system events [] events grown.followed e.moved.followed refl))
 
 pub returns-in-Some-clause-cut : goal.returns-in-Some-clause-cut
 returns-in-Some-clause-cut g c = c.in_ok-chunk.ensures.cut c.in-Some.chunk c.in-Some.is

@@ -106,7 +106,7 @@ returns-then-free-more-clause-moved g c =
     record { sound = c.requires.sound; words = λ k inside was own. refl; regions_same = refl; followed = g.A.Links.follows_none c.args.self.now.system }
 
 pub returns-then-next-self-clause-moved : goal.returns-then-next-self-clause-moved
-returns-then-next-self-clause-moved g c = as_turned g.A.Allocator.zeros g.A.Links.follows c.requires.sound c.args.n c.grow_into_top.ensures.moved
+returns-then-next-self-clause-moved g c = as_turned c.grow_into_top.ensures.moved
 
 pub returns-then-next-self-clause-linked : goal.returns-then-next-self-clause-linked
 returns-then-next-self-clause-linked g c =

@@ -10,7 +10,7 @@ returns-then-at-self g c =
     record {
       state = e.state;
       more = e.more;
-      moved = as_turned g.A.Allocator.zeros g.A.Links.follows c.requires.sound c.args.n e.moved;
+      moved = as_turned e.moved;
       linked = (order c.requires.linked).0;
       order = order;
       counted = omega arith;
