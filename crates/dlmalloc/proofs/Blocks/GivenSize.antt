@@ -1,5 +1,5 @@
 -- What holds of each block that gets another size, and of each that is cleared.
-use Rattle.dlmalloc.proofs.Names.{IfSome, asked, ◌≡◌, ℕ, ◌+◌, ◌-◌, ◌%◌, IsTrue, ◌<◌, ◌≤◌, inl, inr, max, Bool, true, false, nat_le, List, [], ◌++◌, Option, None, Some, refl, sym, ◌∙◌, ap, subst, arith, IsPowerOfTwo, Grant, Event, is_granted, IsWordOf, IsBeside, padded, limit, Extent, extent_at, HeapState, extents_in, replaced, cut, in_segments, freed_in, IsBlock, IsInside, HasOneMore, halves, tail_freed, joined, has_room, replaced_both, grown_into, in_place, HasOneMoved, state_of, IsSound, spans, IsHandedOut, words_in, IsSameHeap, IsInPlace, IsElsewhere, IsResized, IsGivenSize, Dlmalloc}
+use Rattle.dlmalloc.proofs.Names.{IfSome, asked, ◌≡◌, ℕ, ◌+◌, ◌-◌, ◌%◌, IsTrue, ◌<◌, ◌≤◌, inl, inr, max, Bool, true, false, nat_le, List, ◌++◌, Option, None, Some, refl, sym, ◌∙◌, ap, subst, arith, IsPowerOfTwo, Grant, Event, is_granted, IsWordOf, IsBeside, padded, limit, Extent, extent_at, HeapState, extents_in, cut, IsBlock, IsInside, HasOneMore, joined, has_room, replaced_both, in_place, HasOneMoved, state_of, IsSound, spans, IsHandedOut, words_in, IsSameHeap, IsInPlace, IsElsewhere, IsResized, IsGivenSize, Dlmalloc}
 use Rattle.dlmalloc.proofs.Blocks.Chunks.{block_place, block_there, block_inside}
 use Rattle.dlmalloc.proofs.Blocks.Words.{written_kept}
 use Rattle.dlmalloc.proofs.Segments.RegionsMore.{with_other}

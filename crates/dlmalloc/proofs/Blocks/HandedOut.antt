@@ -1,5 +1,5 @@
 -- What holds of each block that is handed out.
-use Rattle.dlmalloc.proofs.Names.{◌≡◌, ℕ, ◌+◌, ◌-◌, ◌%◌, ◌^◌, ◌<◌, ◌≤◌, inl, inr, Bool, true, false, ◌==◌, nat_le, nat_lt, if◌then◌else◌, List, [], ◌∷◌, ◌++◌, map, Result, Ok, Err, IfOk, zero, suc, refl, sym, ◌∙◌, ap, subst, arith, pow_mono, list_any, IsPowerOfTwo, dec_lt, nat_tests, Grant, Event, padded, enlarged, limit, Extent, HeapState, Segment, extents_in, size_where, is_behind, is_before, is_put_before, granted, replaced, cut, in_segments, freed, freed_in, exchanged, halves, tail_freed, aligned_place, lead_freed, tail_cut, aligned, state_of, IsTakenFromGrant, IsServed, asked, spans, IsFound, IsHandedOut, IsServedAligned, Dlmalloc}
+use Rattle.dlmalloc.proofs.Names.{◌≡◌, ℕ, ◌+◌, ◌-◌, ◌%◌, ◌^◌, ◌<◌, ◌≤◌, inl, inr, Bool, true, false, ◌==◌, nat_le, nat_lt, if◌then◌else◌, List, [], ◌∷◌, ◌++◌, map, Result, Ok, Err, IfOk, zero, suc, refl, sym, ◌∙◌, ap, subst, arith, pow_mono, list_any, IsPowerOfTwo, dec_lt, nat_tests, Grant, Event, padded, enlarged, limit, Extent, HeapState, Segment, extents_in, size_where, is_behind, is_before, is_put_before, granted, replaced, cut, in_segments, freed, freed_in, exchanged, halves, tail_freed, aligned_place, lead_freed, aligned, state_of, IsTakenFromGrant, IsServed, asked, spans, IsFound, IsHandedOut, IsServedAligned, Dlmalloc}
 
 -- what follows from the answer of a call, where it is one
 pub on_ok : {T E : Type 0} (r : Result T E) {P Q : T → Type 0} → ((x : T) → P x → Q x) → IfOk r P → IfOk r Q

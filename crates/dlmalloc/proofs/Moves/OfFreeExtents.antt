@@ -1,5 +1,5 @@
 -- What a move does to the free extents of a heap.
-use Rattle.dlmalloc.proofs.Names.{◌≡◌, ℕ, ◌⊎◌, inl, inr, Bool, true, false, ◌==◌, if◌then◌else◌, List, [], ◌∷◌, ◌++◌, Some, None, refl, sym, ◌∙◌, ap, subst, Grant, Extent, Free, IsIn, extent_at, HeapState, extents_in, state_of, IsSound, FreeMoves, Dlmalloc}
+use Rattle.dlmalloc.proofs.Names.{◌≡◌, ℕ, ◌⊎◌, inl, inr, Bool, true, false, ◌==◌, if◌then◌else◌, List, [], ◌∷◌, ◌++◌, Some, None, refl, sym, ◌∙◌, ap, subst, Grant, Extent, Free, IsIn, extent_at, state_of, IsSound, FreeMoves, Dlmalloc}
 use Rattle.dlmalloc.proofs.Extents.Lookup.{extent, nat_is, found_either, found_more}
 use Rattle.dlmalloc.proofs.Extents.OneMoreUsed.{AreDistinct, distinct_second}
 use Rattle.dlmalloc.proofs.Segments.Among.{distinct_later}

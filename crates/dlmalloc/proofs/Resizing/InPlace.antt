@@ -1,5 +1,5 @@
 -- Where a chunk in use gets another size where it stands.
-use Rattle.dlmalloc.proofs.Names.{◌≡◌, ◌≢◌, ℕ, ◌+◌, ◌<◌, ◌≤◌, Bool, true, false, not, nat_le, List, ◌∷◌, None, Some, refl, sym, ◌∙◌, ap, subst, arith, nat_tests, Grant, Extent, Kind, Used, Free, Victim, Top, Record, Foot, size_of, free_of, head_of, size_of-head_of, pinuse_of-head_of, cinuse_of-head_of, extent_at, is_used, told_size, MayStand, Tiles, HeapState, extents_in, in_place, tail_freed, joined, has_room, grown_into, state_of, IsSound, Dlmalloc}
+use Rattle.dlmalloc.proofs.Names.{◌≡◌, ◌≢◌, ℕ, ◌+◌, ◌<◌, ◌≤◌, true, false, not, nat_le, List, ◌∷◌, None, Some, refl, sym, ◌∙◌, ap, subst, arith, nat_tests, Grant, Extent, Kind, Used, Free, Victim, Top, Record, Foot, size_of, free_of, head_of, size_of-head_of, pinuse_of-head_of, cinuse_of-head_of, extent_at, is_used, told_size, MayStand, Tiles, HeapState, extents_in, in_place, tail_freed, joined, has_room, grown_into, state_of, IsSound, Dlmalloc}
 use Rattle.dlmalloc.proofs.Extents.Lookup.{extent}
 use Rattle.dlmalloc.proofs.Cuts.FreeExtent.{told_whole}
 use Rattle.dlmalloc.proofs.Extents.RunReplaced.{behind}

@@ -1,5 +1,5 @@
 -- A block gets another size: where it stands, or elsewhere with its words.
-use Rattle.dlmalloc.proofs.Names.{◌≡◌, ◌≢◌, ℕ, ◌+◌, ◌-◌, ◌*◌, ◌%◌, ◌<◌, ◌≤◌, ◌⊎◌, inl, inr, min, Bool, true, false, not, ◌==◌, if◌then◌else◌, List, [], ◌∷◌, Option, Some, IsTrue, refl, sym, ◌∙◌, ap, subst, arith, unwrap_or, option_map, IfSome, Grant, Event, is_granted, AreWordsOf, AreCopied, padded, limit, Extent, Used, extent_at, HeapState, extents_in, size_where, IsBlock, KeepsBlocks, in_place, HasSameOthers, IndexStays, IsBinned, state_of, IsSound, IsTurned, IsFreed, IsHandedOut, words_in, IsSameHeap, IsInPlace, KeepsOrder, Dlmalloc}
+use Rattle.dlmalloc.proofs.Names.{◌≡◌, ◌≢◌, ℕ, ◌+◌, ◌-◌, ◌*◌, ◌%◌, ◌<◌, ◌≤◌, ◌⊎◌, inl, inr, min, Bool, true, false, ◌==◌, List, [], ◌∷◌, Option, Some, IsTrue, refl, sym, ◌∙◌, ap, subst, arith, unwrap_or, option_map, IfSome, Grant, Event, is_granted, AreWordsOf, AreCopied, padded, limit, Extent, Used, extent_at, HeapState, extents_in, size_where, IsBlock, KeepsBlocks, in_place, HasSameOthers, IndexStays, IsBinned, state_of, IsSound, IsTurned, IsFreed, IsHandedOut, words_in, IsSameHeap, IsInPlace, KeepsOrder, Dlmalloc}
 use Rattle.dlmalloc.specs.Moved.{others_at}
 use Rattle.dlmalloc.proofs.Extents.Lookup.{extent, the_one, found, found_either, found_more, found_later, nat_is, nat_same}
 use Rattle.dlmalloc.proofs.Resizing.TwoExtents.{differ}

@@ -1,4 +1,4 @@
-use Rattle.dlmalloc.proofs.Names.{◌≢◌, ◌∙◌, arith, refl, sym, Free, state_of, IsChosen, IsMember}
+use Rattle.dlmalloc.proofs.Names.{◌∙◌, arith, sym, Free, state_of, IsChosen}
 use Rattle.dlmalloc.proofs.Cuts.Chosen.{of_place, bins_chosen, victim_first, victim_alone, top_chosen, none_chosen}
 use Rattle.dlmalloc.proofs.heap.Dlmalloc.choose.Goals as goal
 

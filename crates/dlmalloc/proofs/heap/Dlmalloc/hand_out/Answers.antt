@@ -1,4 +1,4 @@
-use Rattle.dlmalloc.proofs.Names.{◌≡◌, ◌≢◌, ℕ, ◌+◌, true, false, ◌==◌, if◌then◌else◌, List, [], ◌∷◌, refl, sym, ◌∙◌, ap, subst, Grant, Released, IsWordOf, without, is_own, is_unused, FreeMoves, state_of, IsVisited, Dlmalloc}
+use Rattle.dlmalloc.proofs.Names.{◌≡◌, ◌≢◌, ℕ, ◌+◌, true, false, ◌==◌, if◌then◌else◌, [], ◌∷◌, refl, sym, ◌∙◌, ap, subst, Released, IsWordOf, without, is_own, is_unused, FreeMoves, state_of, IsVisited, Dlmalloc}
 use Rattle.heap_memory.specs.Runs.{IsRun}
 use Rattle.dlmalloc.proofs.Returns.SegmentLeaves.{link_small, link_granted, left_words, left_heap, left_free, leaves}
 use Rattle.dlmalloc.proofs.Returns.SegmentVisited.{last_test, run_told, stays_handed, free_kept}

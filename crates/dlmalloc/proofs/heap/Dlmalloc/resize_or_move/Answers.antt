@@ -1,4 +1,4 @@
-use Rattle.dlmalloc.proofs.Names.{◌≡◌, ◌≢◌, ◌-◌, ◌<◌, inl, None, true, refl, sym, ap, subst, arith, rules, nat_le, nat_tests, limit, in_place, state_of, IsMemberServed, padded, chosen, asked, pass_steps}
+use Rattle.dlmalloc.proofs.Names.{◌≡◌, ◌≢◌, ◌<◌, inl, None, true, refl, sym, ap, subst, arith, rules, nat_le, nat_tests, limit, state_of, IsMemberServed, padded, chosen, asked, pass_steps}
 use Rattle.dlmalloc.proofs.Resizing.InPlaceOrElsewhere.{chunk_there, stays_there}
 use Rattle.dlmalloc.proofs.Blocks.HandedOut.{on_ok}
 use Rattle.dlmalloc.proofs.heap.Dlmalloc.resize_or_move.Goals as goal
