@@ -1,8 +1,9 @@
 use Rattle.dlmalloc.proofs.Names.{◌+◌, ◌-◌, ◌≡◌, ◌∙◌, inr, sym, ap, subst, IsWordOf, IsOwn, lead_freed, tail_cut, state_of, HoldsBinned}
 use Rattle.dlmalloc.proofs.Blocks.Chunks.{block_chunk, block_head}
 use Rattle.dlmalloc.proofs.Requests.LeadAndTail.{moved_on, kept_on}
-use Rattle.dlmalloc.proofs.Requests.Aligned.{chunk_whole, chunk_small, place_here}
+use Rattle.dlmalloc.proofs.Requests.Aligned.{HasAlignedPlace, chunk_whole, chunk_small, place_here}
 use Rattle.dlmalloc.proofs.heap.Dlmalloc.align_block.Goals as goal
+use Rattle.dlmalloc.proofs.heap.Dlmalloc.align_block.Goals.{After-aligned_place-place}
 
 pub size-size-requires : goal.size-size-requires
 size-size-requires g c = record { head = block_head g.A.Links.regions g.A.Links.word c.args.self.now c.requires.sound c.args.ptr (c.args.n + c.args.align + 24) c.requires.block }
@@ -13,37 +14,35 @@ aligned_place-place-requires-clause-small g c = chunk_small c.requires.sound c.a
 pub aligned_place-place-requires-clause-whole : goal.aligned_place-place-requires-clause-whole
 aligned_place-place-requires-clause-whole g c = chunk_whole c.requires.sound c.args.n c.args.align c.requires.block
 
-pub free_before-requires-clause-chunk : goal.free_before-requires-clause-chunk
-free_before-requires-clause-chunk g c = block_chunk g.A.Links.regions g.A.Links.word c.args.self.now c.requires.sound c.args.ptr
-    (c.args.n + c.args.align + 24) c.requires.block c.size-size.result c.size-size.ensures.value
+-- where the aligned place lies in the chunk
+placed : (g : _) (c : After-aligned_place-place g) → HasAlignedPlace c.args.align (c.args.ptr - 16) c.size-size.result c.args.n c.aligned_place-place.result
+placed g c = place_here c.requires.sound c.args.n c.args.align c.requires.block c.requires.align.0 c.requires.align.1 c.requires.least
+    c.size-size.ensures.value c.aligned_place-place.ensures.place
 
-pub free_before-requires-clause-lead : goal.free_before-requires-clause-lead
-free_before-requires-clause-lead g c = (place_here c.requires.sound c.args.n c.args.align c.requires.block c.requires.align.0 c.requires.align.1
-    c.requires.least c.size-size.ensures.value c.aligned_place-place.ensures.place).lead
-
-pub free_before-requires-clause-whole : goal.free_before-requires-clause-whole
-free_before-requires-clause-whole g c = (place_here c.requires.sound c.args.n c.args.align c.requires.block c.requires.align.0 c.requires.align.1
-    c.requires.least c.size-size.ensures.value c.aligned_place-place.ensures.place).whole
-
-pub free_before-requires-clause-room : goal.free_before-requires-clause-room
-free_before-requires-clause-room g c = (place_here c.requires.sound c.args.n c.args.align c.requires.block c.requires.align.0 c.requires.align.1
-    c.requires.least c.size-size.ensures.value c.aligned_place-place.ensures.place).room
+pub free_before-requires : goal.free_before-requires
+free_before-requires g c =
+    let p = placed g (goal.at.free_before-requires g c).After-aligned_place-place in
+    record {
+      sound = c.requires.sound;
+      linked = c.requires.linked;
+      chunk = block_chunk g.A.Links.regions g.A.Links.word c.args.self.now c.requires.sound c.args.ptr (c.args.n + c.args.align + 24) c.requires.block
+          c.size-size.result c.size-size.ensures.value;
+      lead = p.lead;
+      whole = p.whole;
+      room = p.room;
+    }
 
 pub overflow_sub-size : goal.overflow_sub-size
-overflow_sub-size g c = (place_here c.requires.sound c.args.n c.args.align c.requires.block c.requires.align.0 c.requires.align.1 c.requires.least
-    c.size-size.ensures.value c.aligned_place-place.ensures.place).first
+overflow_sub-size g c = (placed g (goal.at.overflow_sub-size g c).After-aligned_place-place).first
 
 pub free_behind-requires-clause-room : goal.free_behind-requires-clause-room
-free_behind-requires-clause-room g c = (place_here c.requires.sound c.args.n c.args.align c.requires.block c.requires.align.0 c.requires.align.1
-    c.requires.least c.size-size.ensures.value c.aligned_place-place.ensures.place).rest
+free_behind-requires-clause-room g c = (placed g (goal.at.free_behind-requires-clause-room g c).After-aligned_place-place).rest
 
 pub returns-clause-multiple : goal.returns-clause-multiple
-returns-clause-multiple g c = (place_here c.requires.sound c.args.n c.args.align c.requires.block c.requires.align.0 c.requires.align.1 c.requires.least
-    c.size-size.ensures.value c.aligned_place-place.ensures.place).multiple
+returns-clause-multiple g c = (placed g (goal.at.returns-clause-multiple g c).After-aligned_place-place).multiple
 
 pub returns-clause-small : goal.returns-clause-small
-returns-clause-small g c = (place_here c.requires.sound c.args.n c.args.align c.requires.block c.requires.align.0 c.requires.align.1 c.requires.least
-    c.size-size.ensures.value c.aligned_place-place.ensures.place).small
+returns-clause-small g c = (placed g (goal.at.returns-clause-small g c).After-aligned_place-place).small
 
 pub returns-clause-state : goal.returns-clause-state
 returns-clause-state g c =
