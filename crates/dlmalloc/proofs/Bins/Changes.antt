@@ -63,10 +63,6 @@ module _ {A : Type 0} {regions : A → List Grant} {word : A → ℕ → ℕ} {h
       holds = subst (λ s. HoldsBut loose s (with_chunk size at b.index)) (sym same) (binned_one loose (state_of word heap) b.index at size b.holds free other apart);
     }
 
-    pub links_insert : (new : ℕ → ℕ) → OnlyLinksChange (regions heap.system) b.index size at (word heap.system) new →
-        OnlyFreeChange (regions heap.system) (state_of word heap) (word heap.system) new
-    links_insert new links = only_free (state_of word heap) at (word heap.system) new b.linked.chunks b.holds.free free (is_chunk sound free).long links
-
   module _ {loose : List ℕ} (b : IsBinnedBut loose regions word heap) where
     -- it is in its bin
     pub is_binned : at ≢ heap.victim → (IsIn at loose → ⊥) → IsIn at (b.index size)
@@ -82,9 +78,13 @@ module _ {A : Type 0} {regions : A → List Grant} {word : A → ℕ → ℕ} {h
       holds = subst (λ s. HoldsBut (at ∷ loose) s (without_chunk size at b.index)) (sym same) (unbinned_one loose (state_of word heap) b.index at size b.holds b.linked.chunks.once free);
     }
 
-    pub links_unlink : (new : ℕ → ℕ) → OnlyLinksChange (regions heap.system) b.index size at (word heap.system) new →
-        OnlyFreeChange (regions heap.system) (state_of word heap) (word heap.system) new
-    links_unlink new links = only_free (state_of word heap) at (word heap.system) new b.linked.chunks b.holds.free free (is_chunk sound free).long links
+    -- where its links are stored, or those to it, chunks went into bins or left them
+    pub relinked : {follows : A → List Event → A → Type 0} (system : A) (bins : Bins) → regions system ≡ regions heap.system →
+        OnlyLinksChange (regions heap.system) b.index size at (word heap.system) (word system) → follows heap.system [] system →
+        IsRebinned regions word follows heap (record heap { system = system; bins = bins })
+    relinked {follows} system bins same links followed =
+        let only = only_free (state_of word heap) at (word heap.system) (word system) b.linked.chunks b.holds.free free (is_chunk sound free).long links in
+        rebinned follows sound system bins same only followed
 
     -- the victim is in none
     abbrev pub victim_loose : at ≡ heap.victim → IsBinnedBut (at ∷ loose) regions word heap
@@ -114,9 +114,9 @@ not_rebinned follows sound followed = record { sound = sound; state = refl; fiel
 
 abbrev pub binned_moved : IndexStays → {A : Type 0} {regions : A → List Grant} {word : A → ℕ → ℕ} {old new : Dlmalloc A} →
     IsSound regions word old → IsSound regions word new → OthersStay regions word old new → new.bins ≡ old.bins →
-    (loose loose' less more : List ℕ) → FreeMoves (state_of word old) (state_of word new) less more →
+    {loose loose' less more : List ℕ} → FreeMoves (state_of word old) (state_of word new) less more →
     AreAccounted (state_of word old) (state_of word new) loose loose' less more → IsBinnedBut loose regions word old → IsBinnedBut loose' regions word new
-binned_moved stays {regions} {word} {old} {new} sound sound' others same loose loose' less more moves are b = record {
+binned_moved stays {regions} {word} {old} {new} sound sound' others same moves are b = record {
   index = b.index;
   linked = subst (λ bins. IsLinked (regions new.system) (word new.system) bins b.index) (sym same)
       (stays (regions old.system) (regions new.system) (word old.system) (word new.system) old.bins b.index b.linked
@@ -128,7 +128,7 @@ binned_moved stays {regions} {word} {old} {new} sound sound' others same loose l
 abbrev pub binned_same : IndexStays → {A : Type 0} {regions : A → List Grant} {word : A → ℕ → ℕ} {old new : Dlmalloc A} →
     IsSound regions word old → IsSound regions word new → OthersStay regions word old new → new.bins ≡ old.bins →
     FreeMoves (state_of word old) (state_of word new) [] [] → new.victim ≡ old.victim → IsBinned regions word old → IsBinned regions word new
-binned_same stays sound sound' others same moves victim b = binned_moved stays sound sound' others same [] [] [] [] moves (record {
+binned_same stays sound sound' others same moves victim b = binned_moved stays sound sound' others same {loose = []} {loose' = []} moves (record {
   gone = λ k none n free other. none;
   come = λ k none n free other. none;
   still = λ k out which n free other. elim which [ inl is ↦ absurd (other (is ∙ sym victim)) | inr none ↦ none ];

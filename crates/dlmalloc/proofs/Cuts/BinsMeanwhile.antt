@@ -70,26 +70,26 @@ none_free_at_zero sound free = (let low = free_low sound free in omega arith)
 module _ (stays : IndexStays) {A : Type 0} {regions : A → List Grant} {word : A → ℕ → ℕ} {follows : A → List Event → A → Type 0}
     {old new : Dlmalloc A} (sound : IsSound regions word old) (moved : IsMoved regions word follows old new) (bins : new.bins ≡ old.bins)
     (at rest : ℕ) where
-  abbrev on : (loose loose' less more : List ℕ) → FreeMoves (state_of word old) (state_of word new) less more →
+  abbrev on : {loose loose' less more : List ℕ} → FreeMoves (state_of word old) (state_of word new) less more →
       AreAccounted (state_of word old) (state_of word new) loose loose' less more → IsBinnedBut loose regions word old → IsBinnedBut loose' regions word new
   on = binned_moved stays sound moved.sound (λ k was is boundary tag tag'. moved.words k was boundary) bins
 
   -- the rest is the victim
   abbrev pub victim_rest : FreeMoves (state_of word old) (state_of word new) (at ∷ []) (rest ∷ []) → at ≡ old.victim → new.victim ≡ rest →
       IsBinned regions word old → IsBinned regions word new
-  victim_rest moves was now = on [] [] (at ∷ []) (rest ∷ []) moves
+  victim_rest moves was now = on moves
       (victim_cut new sound moves was (inl (inl now)) (λ k there. elim there [ inl same ↦ same ∙ sym now | inr none ↦ absurd none ]))
 
   abbrev pub victim_gone : FreeMoves (state_of word old) (state_of word new) (at ∷ []) [] → at ≡ old.victim → new.victim ≡ 0 → IsBinned regions word old → IsBinned regions word new
-  victim_gone moves was now = on [] [] (at ∷ []) [] moves (victim_cut new sound moves was (inr now) (λ k none. absurd none))
+  victim_gone moves was now = on moves (victim_cut new sound moves was (inr now) (λ k none. absurd none))
 
   -- the victim stays
   abbrev pub binned_gone : FreeMoves (state_of word old) (state_of word new) (at ∷ []) [] → new.victim ≡ old.victim → IsBinnedBut (at ∷ []) regions word old → IsBinned regions word new
-  binned_gone moves same = on (at ∷ []) [] (at ∷ []) [] moves (victim_stays new sound moves same)
+  binned_gone moves same = on moves (victim_stays new sound moves same)
 
   abbrev pub binned_rest : FreeMoves (state_of word old) (state_of word new) (at ∷ []) (rest ∷ []) → new.victim ≡ old.victim →
       IsBinnedBut (at ∷ []) regions word old → IsBinnedBut (rest ∷ []) regions word new
-  binned_rest moves same = on (at ∷ []) (rest ∷ []) (at ∷ []) (rest ∷ []) moves (victim_stays new sound moves same)
+  binned_rest moves same = on moves (victim_stays new sound moves same)
 
   pub rest_no_victim : FreeMoves (state_of word old) (state_of word new) (at ∷ []) (rest ∷ []) → at ≢ old.victim → new.victim ≡ old.victim → 0 < rest → rest ≢ new.victim
   rest_no_victim moves other same some is = go (old.victim_size == 0) refl
@@ -102,7 +102,7 @@ module _ (stays : IndexStays) {A : Type 0} {regions : A → List Grant} {word : 
   -- the rest became the victim
   abbrev pub small_rest : FreeMoves (state_of word old) (state_of word new) (at ∷ []) (rest ∷ []) → new.victim ≡ rest →
       IsBinnedBut (at ∷ []) regions word old → IsBinnedBut (old.victim ∷ []) regions word new
-  small_rest moves now = on (at ∷ []) (old.victim ∷ []) (at ∷ []) (rest ∷ []) moves (rest_victim new sound moves refl now)
+  small_rest moves now = on moves (rest_victim new sound moves refl now)
 
   pub old_victim_other : FreeMoves (state_of word old) (state_of word new) (at ∷ []) (rest ∷ []) → at ≢ old.victim → new.victim ≡ rest → old.victim_size ≢ 0 → old.victim ≢ new.victim
   old_victim_other moves other now some same = rest_other new sound moves rest (inl refl) (sound.victim some) other (sym now ∙ sym same)

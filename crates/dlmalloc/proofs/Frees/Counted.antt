@@ -1,33 +1,16 @@
 -- Whether a freed chunk counts, as the free extent tells it that it became part of.
-use Rattle.dlmalloc.proofs.Names.{◌≡◌, ◌≢◌, ℕ, ◌+◌, ◌-◌, ◌<◌, ◌≤◌, ◌⊎◌, inl, inr, Bool, true, false, not, ◌&&◌, ◌==◌, if◌then◌else◌, List, [], ◌∷◌, Option, Some, None, refl, sym, ◌∙◌, ap, subst, arith, find, nat_le, nat_tests, Grant, Event, Extent, Kind, Used, Free, Victim, Top, Record, Foot, HasHead, size_of, is_free, MayStand, extent_at, extents_in, is_free_below_top, has, KeepsBlocks, handed_out, taken_back, releases, regions_without, passed, is_counted, left_by_count, IsFreeAround, IsPassed, IsCounted, after_pass, IsSegment, segments_of, state_of, IsSound, Dlmalloc}
+use Rattle.dlmalloc.proofs.Names.{◌≡◌, ◌≢◌, ℕ, ◌+◌, ◌-◌, ◌<◌, ◌⊎◌, inl, inr, Bool, true, false, not, ◌&&◌, ◌==◌, if◌then◌else◌, List, [], Some, refl, sym, ◌∙◌, ap, subst, arith, find, nat_le, nat_tests, Grant, Event, Extent, Kind, Used, Free, Victim, Top, Record, Foot, HasHead, size_of, is_free, MayStand, extent_at, extents_in, is_free_below_top, has, KeepsBlocks, handed_out, taken_back, releases, regions_without, passed, is_counted, left_by_count, IsFreeAround, IsPassed, IsCounted, after_pass, IsSegment, segments_of, state_of, IsSound, Dlmalloc}
 use Rattle.dlmalloc.specs.Released.{is_large_binned}
 use Rattle.dlmalloc.proofs.Bins.Changes.{same_bins}
-use Rattle.dlmalloc.proofs.Extents.Lookup.{extent, nat_same, the_extent, found_here}
-use Rattle.dlmalloc.proofs.Extents.OneMoreUsed.{AreDistinct}
+use Rattle.dlmalloc.proofs.Extents.Lookup.{extent, nat_same, the_extent}
+use Rattle.dlmalloc.proofs.Frees.FoundByTest.{none_has}
 use Rattle.dlmalloc.proofs.Extents.FromWords.{told}
-use Rattle.dlmalloc.proofs.Segments.Among.{extents_all, all_distinct, distinct_later, Located, located, of_located, IsIn, in_part}
+use Rattle.dlmalloc.proofs.Segments.Among.{extents_all, Located, located, of_located, IsIn, in_part}
 use Rattle.dlmalloc.proofs.Extents.Tiling.{sized}
-use Rattle.dlmalloc.proofs.Extents.Disjoint.{beside}
 use Rattle.dlmalloc.proofs.Extents.Top.{is_top, top_among}
 use Rattle.dlmalloc.proofs.Segments.HeadTop.{some_segment}
 use Rattle.dlmalloc.proofs.Extents.Victim.{has_in}
 use Rattle.dlmalloc.proofs.Returns.ReleasePass.{countdown_sound}
-
--- what is found by a byte is found where it begins
-record IsFoundBy (at : ℕ) (extents : List Extent) (one : Extent) : Type 0 where
-  pub there : extent_at one.at extents ≡ Some one
-  pub has_it : has at one ≡ true
-
-found_by : (at : ℕ) (extents : List Extent) (one : Extent) → AreDistinct extents → find (has at) extents ≡ Some one → IsFoundBy at extents one
-found_by at [] one distinct there = absurd (cc)
-found_by at (first ∷ extents) one distinct there = go (has at first) refl there (found_by at extents one distinct.1)
-  where
-    go : (b : Bool) → has at first ≡ b → (if b then Some first else find (has at) extents) ≡ Some one →
-        (find (has at) extents ≡ Some one → IsFoundBy at extents one) → IsFoundBy at (first ∷ extents) one
-    go true test same later =
-        let is : first ≡ one = the_extent same in
-        record { there = subst (λ e. extent_at e.at (first ∷ extents) ≡ Some e) is (found_here first extents); has_it = subst (λ e. has at e ≡ true) is test }
-    go false test found later = (let l = later found in record { there = distinct_later (first ∷ []) extents one.at distinct l.there; has_it = l.has_it })
 
 module _ {A : Type 0} {regions : A → List Grant} {word : A → ℕ → ℕ} {heap : Dlmalloc A} (sound : IsSound regions word heap) {at from : ℕ}
     (around : IsFreeAround (state_of word heap) at from) where
@@ -81,24 +64,8 @@ module _ {A : Type 0} {regions : A → List Grant} {word : A → ℕ → ℕ} {h
 
   -- no extent that is not the top has a byte of it
   none_plain : one.kind ≡ Top → is_counted (state_of word heap) at ≡ false
-  none_plain is = go (find (has at) (extents_all (segments_of word heap))) refl
-    where
-      go : (found : Option Extent) → find (has at) (extents_all (segments_of word heap)) ≡ found → is_counted (state_of word heap) at ≡ false
-      go None same = ap (is_large_binned (state_of word heap)) same
-      go (Some other) same =
-          let f = found_by at (extents_all (segments_of word heap)) other
-          (all_distinct (regions heap.system) (word heap.system) (segments_of word heap) sound.segments sound.apart) same in
-          absurd (elim (beside (regions heap.system) (word heap.system) (segments_of word heap) sound.segments sound.apart there f.there (differ other f)) [
-            | inl before ↦ (let low : other.at ≤ at = (let h = f.has_it in grind (arith, nat_tests)) in omega (arith, place))
-            | inr behind ↦ (let high : at < other.at + other.size = (let h = f.has_it in grind (arith, nat_tests)) in omega (arith, place))
-          ])
-        where
-          differ : (other : Extent) → IsFoundBy at (extents_all (segments_of word heap)) other → one.at ≢ other.at
-          differ other f same =
-              let both : Some one ≡ Some other = sym there ∙ (ap (λ a. extent_at a (extents_all (segments_of word heap))) same ∙ f.there) in
-              let kind : is_free_below_top other.kind ≡ false = ap (λ e. is_free_below_top e.kind) (sym (the_extent both)) ∙ ap is_free_below_top is in
-              let h = f.has_it in
-              grind (arith, nat_tests)
+  none_plain is = ap (is_large_binned (state_of word heap))
+      (none_has sound there (ap is_free_below_top is) at (omega (arith, place)) (omega (arith, place)))
 
   -- so its head tells whether it counts
   counted_told : {b : Bool} → b ≡ (not (from == heap.top) && (not (from == heap.victim) && nat_le 256 (size_of (word heap.system (from + 8))))) → b ≡ is_counted (state_of word heap) at

@@ -1,37 +1,40 @@
 -- The free extents beside one that is freed.
-use Rattle.dlmalloc.proofs.Names.{◌≡◌, ◌≢◌, ℕ, ◌+◌, ◌-◌, ◌%◌, ◌≤◌, ◌⊎◌, inl, inr, Bool, true, false, ◌==◌, if◌then◌else◌, List, [], ◌∷◌, ◌++◌, Some, None, IsTrue, refl, sym, ◌∙◌, ap, subst, arith, append_assoc, unwrap_or, append-nil, Grant, Extent, Kind, Used, Free, Victim, Top, Record, Foot, size_of, pinuse_of, free_of, head_of, size_of-head_of, pinuse_of-head_of, cinuse_of-head_of, is_free, ends_segment, is_used, Segment, is_free_below_top, MayStand, told_size, HasChunk, Tiles, last_kind, IsRunOf, used_of, AreSegments, IsChunkKind}
+use Rattle.dlmalloc.proofs.Names.{◌≡◌, ◌≢◌, ℕ, ◌+◌, ◌-◌, ◌%◌, ◌≤◌, ◌⊎◌, inl, inr, true, false, ◌==◌, if◌then◌else◌, List, [], ◌∷◌, ◌++◌, Some, IsTrue, refl, sym, ◌∙◌, ap, subst, arith, append_assoc, append-nil, Grant, Extent, Kind, Used, Free, Victim, Top, Record, Foot, size_of, pinuse_of, free_of, head_of, size_of-head_of, pinuse_of-head_of, cinuse_of-head_of, is_free, ends_segment, is_used, Segment, is_free_below_top, MayStand, told_size, HasChunk, Tiles, last_kind, IsRunOf, used_of, AreSegments, IsChunkKind}
 use Rattle.dlmalloc_chunks.specs.Tiling.{extent_at}
-use Rattle.dlmalloc.proofs.Extents.Lookup.{extent, end_of, nat_is, found_here}
+use Rattle.dlmalloc.proofs.Extents.Lookup.{extent, end_of, found, found_here, the_one}
 use Rattle.dlmalloc.proofs.Extents.Tiling.{tiles_le, tiles_append, tiles_split}
 use Rattle.dlmalloc.proofs.Moves.OfLists.{last_append}
 use Rattle.dlmalloc.proofs.Cuts.FreeExtent.{told_whole, behind_free}
 use Rattle.dlmalloc.proofs.Extents.RunReplaced.{HasNext, has_next, with_next, behind}
 use Rattle.dlmalloc.proofs.Frees.StateAfter.{IsBeside, joint_kind}
 
-abbrev pub AllFree : List Extent → Type 0
-AllFree extents = (k : ℕ) (one : Extent) → extent_at k extents ≡ Some one → one.kind ≡ Free
+-- where the free chunks beside a chunk begin and end, as words tell it
+abbrev pub IsFrom : (ℕ → ℕ) → ℕ → ℕ → Type 0
+IsFrom words at from = from ≡ (if pinuse_of (words (at + 8)) then at else at - words at)
 
-none_free : AllFree []
-none_free k one there = absurd (cc)
+abbrev pub IsTo : (ℕ → ℕ) → ℕ → ℕ → ℕ → Type 0
+IsTo words top at to = to ≡ (if at == top then at else if free_of (words (at + 8)) then at + size_of (words (at + 8)) else at)
 
-one_free : (extent : Extent) → extent.kind ≡ Free → AllFree (extent ∷ [])
-one_free extent free k one there = go (extent.at == k) there
-  where
-    go : (b : Bool) → (if b then Some extent else None) ≡ Some one → one.kind ≡ Free
-    go true is = ap (λ o. (unwrap_or o extent).kind) (sym is) ∙ free
-    go false is = absurd (cc)
+-- all of them are of one kind
+abbrev pub AllAre : Kind → List Extent → Type 0
+AllAre kind extents = (k : ℕ) (one : Extent) → extent_at k extents ≡ Some one → one.kind ≡ kind
+
+none_are : (kind : Kind) → AllAre kind []
+none_are kind k one there = absurd (cc)
+
+pub one_is : (extent : Extent) {kind : Kind} → extent.kind ≡ kind → AllAre kind (extent ∷ [])
+one_is extent is k one there = ap (λ e. e.kind) (sym (the_one k extent there)) ∙ is
 
 -- ---- what is found among them
+
+pub found_place : (k : ℕ) (one : Extent) {other : Extent} → extent_at k (one ∷ []) ≡ Some other → one.at ≡ k
+found_place k one there = (found k one (one ∷ []) (there ∙ ap Some (sym (the_one k one there)))).place
 
 -- one that is joined begins where they do
 pub beside_place : (words : ℕ → ℕ) (before : Kind) (from : ℕ) (extents : List Extent) (to : ℕ) → IsBeside extents →
     Tiles words before from extents to → (k : ℕ) {one : Extent} → extent_at k extents ≡ Some one → k ≡ from
 beside_place words before from [] to beside h k there = absurd (cc)
-beside_place words before from (extent ∷ []) to beside h k {one} there = go (extent.at == k) refl there
-  where
-    go : (b : Bool) → (extent.at == k) ≡ b → (if b then Some extent else None) ≡ Some one → k ≡ from
-    go true test is = sym (nat_is test) ∙ h.0
-    go false test is = absurd (cc)
+beside_place words before from (extent ∷ []) to beside h k there = sym (found_place k extent there) ∙ h.0
 beside_place words before from (extent ∷ next ∷ extents) to beside h k there = absurd beside
 
 -- where extents begin, one does
@@ -50,7 +53,7 @@ pub record Left (words : ℕ → ℕ) (base : ℕ) (extents : List Extent) (at f
   pub used : last_kind Used front ≡ Used
   pub front_stand : Tiles words Used base front from
   pub lefts_stand : Tiles words Used from lefts at
-  pub free : AllFree lefts
+  pub free : AllAre Free lefts
   pub none : used_of lefts ≡ []
 
 pub record LastOf (extents : List Extent) : Type 0 where
@@ -73,7 +76,7 @@ left_of words base extents at h (inl used) =
       used = used;
       front_stand = h;
       lefts_stand = refl;
-      free = none_free;
+      free = none_are Free;
       none = refl;
     })
 left_of words base [] at h (inr free) = absurd (cc)
@@ -96,9 +99,18 @@ left_of words base (first ∷ more) at h (inr free) =
       used = used;
       front_stand = s.first;
       lefts_stand = subst (λ k. Tiles words k s.middle (l.last ∷ []) at) used s.second;
-      free = one_free l.last kind;
+      free = one_is l.last kind;
       none = (let unused = ap is_used kind in rw unused refl);
     })
+
+-- so they are before an extent in use of a run
+pub left_at : {words : ℕ → ℕ} {segments : List Segment} {at size to : ℕ} {rest : List Extent} (r : IsRunOf words segments at to (extent at size Used ∷ rest))
+    {from : ℕ} → IsFrom words at from → Left words r.segment.base r.first at from
+left_at {words} {at = at} {size = size} r from_is =
+    let whole : size % 8 ≡ 0 = (let w = r.here.1.size.0 in omega arith) in
+    let told : pinuse_of (words (at + 8)) ≡ is_used (last_kind Used r.first) = ap pinuse_of r.here.1.head ∙ pinuse_of-head_of size (is_used (last_kind Used r.first)) true whole in
+    subst (λ f. Left words r.segment.base r.first at f) (ap (λ b. if b then at else at - words at) (sym told) ∙ sym from_is)
+    (left_of words r.segment.base r.first at r.first_stand r.here.1.kind)
 
 -- ---- a run in two lists
 
@@ -122,25 +134,26 @@ module _ (words : ℕ → ℕ) (segments : List Segment) where
     some = (let s = r.some in let low = tiles_le words Used from l.lefts at l.lefts_stand in omega arith);
   }
 
--- an extent in use with what stands behind it
-pub record Right (words : ℕ → ℕ) (segments : List Segment) (at size to : ℕ) : Type 0 where
+-- an extent in use with what is free behind it, which ends at an address, and with the extent there
+pub record Right (words : ℕ → ℕ) (segments : List Segment) (at size to : ℕ) (kind : Kind) : Type 0 where
   pub rights : List Extent
   pub next : Extent
   pub run : IsRunOf words segments at (to + next.size) (extent at size Used ∷ (rights ++ next ∷ []))
   pub place : next.at ≡ to
-  pub kind : (next.kind ≡ Used) ⊎ (next.kind ≡ Record)
+  pub stays : is_free next.kind ≡ false
   pub beside : IsBeside rights
-  pub joint : joint_kind rights ≡ Free
-  pub free : AllFree rights
+  pub joint : joint_kind rights ≡ kind
+  pub joins : (kind ≡ Free) ⊎ (kind ≡ Top)
+  pub are : AllAre kind rights
   pub none : used_of rights ≡ []
-  pub before : Kind
-  pub stands : HasChunk words before next
+  pub stands : HasChunk words (last_kind Used rights) next
   pub reach : at + size ≤ to
-  pub told : to ≢ at + size → pinuse_of (words (to + 8)) ≡ false
 
-used_ends : (kind : Kind) → (kind ≡ Used) ⊎ (kind ≡ Record) → is_used kind ≡ true
-used_ends kind (inl is) = ap is_used is
-used_ends kind (inr is) = ap is_used is
+-- where that is a free chunk or nothing
+pub record RightChunk (words : ℕ → ℕ) (segments : List Segment) (at size to : ℕ) : Type 0 where
+  pub right : Right words segments at size to Free
+  pub kind : (right.next.kind ≡ Used) ⊎ (right.next.kind ≡ Record)
+  pub told : to ≢ at + size → pinuse_of (words (to + 8)) ≡ false
 
 module _ (regions : List Grant) {words : ℕ → ℕ} {segments : List Segment} (parts : AreSegments regions words segments) {at size : ℕ}
     (r : IsRunOf words segments at (at + size) (extent at size Used ∷ [])) where
@@ -150,30 +163,33 @@ module _ (regions : List Grant) {words : ℕ → ℕ} {segments : List Segment} 
   stand : Tiles words Used (at + size) (next_one.next ∷ next_one.rest) (r.segment.base + r.segment.size)
   stand = behind regions parts r next_one
 
-  right_used : (next_one.next.kind ≡ Used) ⊎ (next_one.next.kind ≡ Record) → Right words segments at size (end_of words (at + size))
+  right_used : (next_one.next.kind ≡ Used) ⊎ (next_one.next.kind ≡ Record) → RightChunk words segments at size (end_of words (at + size))
   right_used kind =
       let whole = told_whole next_one.next.kind next_one.next.size stand.1.size in
       let told_size = told_size next_one.next.kind next_one.next.size in
       let head : words (at + size + 8) ≡ head_of told_size true true =
-      ap (λ a. words (a + 8)) (sym stand.0) ∙ (stand.1.head ∙ ap (λ u. head_of told_size true u) (used_ends next_one.next.kind kind)) in
+      ap (λ a. words (a + 8)) (sym stand.0) ∙ (stand.1.head ∙ ap (λ u. head_of told_size true u) (elim kind [ inl is ↦ ap is_used is | inr is ↦ ap is_used is ])) in
       let told : free_of (words (at + size + 8)) ≡ false = ap free_of head ∙ rw (pinuse_of-head_of told_size true true whole, cinuse_of-head_of told_size true true whole) refl in
-      subst (λ t. Right words segments at size t) (ap (λ b. if b then at + size + size_of (words (at + size + 8)) else at + size) (sym told)) (record {
-        rights = [];
-        next = next_one.next;
-        run = with_next regions parts r next_one;
-        place = stand.0;
+      subst (λ t. RightChunk words segments at size t) (ap (λ b. if b then at + size + size_of (words (at + size + 8)) else at + size) (sym told)) (record {
+        right = record {
+          rights = [];
+          next = next_one.next;
+          run = with_next regions parts r next_one;
+          place = stand.0;
+          stays = elim kind [ inl is ↦ ap is_free is | inr is ↦ ap is_free is ];
+          beside = tt;
+          joint = refl;
+          joins = inl refl;
+          are = none_are Free;
+          none = refl;
+          stands = stand.1;
+          reach = omega arith;
+        };
         kind = kind;
-        beside = tt;
-        joint = refl;
-        free = none_free;
-        none = refl;
-        before = Used;
-        stands = stand.1;
-        reach = omega arith;
         told = λ more. absurd (more refl);
       })
 
-  right_free : next_one.next.kind ≡ Free → Right words segments at size (end_of words (at + size))
+  right_free : next_one.next.kind ≡ Free → RightChunk words segments at size (end_of words (at + size))
   right_free free =
       let q = next_one.next in let run = with_next regions parts r next_one in
       let n = has_next regions parts run (ap ends_segment free) in let b = behind regions parts run n in
@@ -188,19 +204,22 @@ module _ (regions : List Grant) {words : ℕ → ℕ} {segments : List Segment} 
       let unused : is_used q.kind ≡ false = ap is_used free in
       let ends : at + size + q.size ≡ end_of words (at + size) = ap (λ n. at + size + n) (sym bytes)
       ∙ ap (λ b. if b then at + size + size_of (words (at + size + 8)) else at + size) (sym told) in
-      subst (λ t. Right words segments at size t) ends (record {
-        rights = q ∷ [];
-        next = n.next;
-        run = with_next regions parts run n;
-        place = b.0;
+      subst (λ t. RightChunk words segments at size t) ends (record {
+        right = record {
+          rights = q ∷ [];
+          next = n.next;
+          run = with_next regions parts run n;
+          place = b.0;
+          stays = elim kind [ inl is ↦ ap is_free is | inr is ↦ ap is_free is ];
+          beside = ap is_free free;
+          joint = free;
+          joins = inl refl;
+          are = one_is q free;
+          none = (rw unused refl);
+          stands = b.1;
+          reach = omega arith;
+        };
         kind = kind;
-        beside = ap is_free free;
-        joint = free;
-        free = one_free q free;
-        none = (rw unused refl);
-        before = q.kind;
-        stands = b.1;
-        reach = omega arith;
         told = λ more.
             let t = told_size n.next.kind n.next.size in
             let head_next : words (at + size + q.size + 8) ≡ head_of t false (is_used n.next.kind) =
@@ -209,10 +228,10 @@ module _ (regions : List Grant) {words : ℕ → ℕ} {segments : List Segment} 
       })
 
   -- no top stands behind it
-  pub right_of : next_one.next.kind ≢ Top → Right words segments at size (end_of words (at + size))
+  pub right_of : next_one.next.kind ≢ Top → RightChunk words segments at size (end_of words (at + size))
   right_of no_top = go next_one.next.kind refl stand.1.kind
     where
-      go : (kind : Kind) → next_one.next.kind ≡ kind → MayStand Used kind → Right words segments at size (end_of words (at + size))
+      go : (kind : Kind) → next_one.next.kind ≡ kind → MayStand Used kind → RightChunk words segments at size (end_of words (at + size))
       go Used is may = right_used (inl is)
       go Free is may = right_free is
       go Victim is may = absurd may

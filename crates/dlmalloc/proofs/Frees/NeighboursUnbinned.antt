@@ -1,26 +1,18 @@
 -- The free chunks beside one in use, which leave their bins before it joins them.
-use Rattle.dlmalloc.proofs.Names.{◌≡◌, ◌≢◌, ℕ, ◌+◌, ◌-◌, ◌<◌, ◌≤◌, ◌⊎◌, inl, inr, Bool, true, false, ◌==◌, if◌then◌else◌, List, [], ◌∷◌, ◌++◌, Some, refl, sym, ◌∙◌, ap, subst, arith, dec_lt, nat_tests, Grant, IsWordOf, Extent, Kind, Used, Free, Top, Record, pinuse_of, free_of, size_of, IsIn, extent_at, Tiles, Segment, extents_in, segments_of, state_of, AreTold, IsSound, IsFreeAt, FreeMoves, IsVictimAfter, OnlyFreeChange, Dlmalloc}
+use Rattle.dlmalloc.proofs.Names.{◌≡◌, ◌≢◌, ℕ, ◌+◌, ◌-◌, ◌<◌, ◌≤◌, ◌⊎◌, inl, inr, Bool, true, false, ◌==◌, if◌then◌else◌, List, [], ◌∷◌, ◌++◌, Some, refl, sym, ◌∙◌, ap, subst, arith, dec_lt, nat_tests, Grant, IsWordOf, Extent, Kind, Used, Free, Top, is_free, IsIn, extent_at, Tiles, extents_in, segments_of, state_of, IsSound, IsFreeAt, FreeMoves, IsVictimAfter, OnlyFreeChange, Dlmalloc}
 use Rattle.dlmalloc.proofs.Extents.Lookup.{extent, nat_is, nat_isnt, found_here, found_later, found_more, the_extent, end_of, the_one}
 use Rattle.dlmalloc.proofs.Extents.Tiling.{tiles_split}
 use Rattle.dlmalloc.proofs.Extents.OneMoreUsed.{none_outside}
-use Rattle.dlmalloc.proofs.Segments.Among.{extents_all, among_all}
+use Rattle.dlmalloc.proofs.Segments.Among.{among_all}
 use Rattle.dlmalloc.proofs.Frees.StateAfter.{IsBeside}
-use Rattle.dlmalloc.proofs.Frees.FreeBeside.{AllFree, Right, first_there}
+use Rattle.dlmalloc.proofs.Frees.FreeBeside.{IsFrom, IsTo, AllAre, Right, first_there}
 use Rattle.dlmalloc.proofs.Extents.Top.{top_among}
 use Rattle.dlmalloc.proofs.Cuts.Chosen.{free_low}
 use Rattle.dlmalloc.proofs.Bins.Held.{AreAccounted}
 use Rattle.dlmalloc.proofs.Words.OfLinks.{stands, same_or_beside}
-use Rattle.dlmalloc.proofs.Frees.OfChunk.{run_one, right}
-use Rattle.dlmalloc.proofs.Frees.WhatCallsWant.{left_one, no_top, ends_at, from_at}
-
--- a heap with an extent has a segment
-pub some_size : {A : Type 0} {regions : A → List Grant} {word : A → ℕ → ℕ} {heap : Dlmalloc A} → IsSound regions word heap →
-    (k : ℕ) {one : Extent} → extent_at k (extents_in (state_of word heap)) ≡ Some one → 0 < heap.size
-some_size {word} {heap} sound k {one} there = go (segments_of word heap) sound.told there
-  where
-    go : (segments : List Segment) → AreTold (word heap.system) heap segments → extent_at k (extents_all segments) ≡ Some one → 0 < heap.size
-    go [] told found = absurd (cc)
-    go (segment ∷ segments) told found = told.0
+use Rattle.dlmalloc.proofs.Frees.Behind.{run_one}
+use Rattle.dlmalloc.proofs.Frees.OfChunk.{right}
+use Rattle.dlmalloc.proofs.Frees.WhatCallsWant.{left_one, from_at}
 
 -- the words that tell a chunk in use and what is beside it stay, where those in free chunks alone change
 pub told_stays : {A : Type 0} {regions : A → List Grant} (word : A → ℕ → ℕ) (heap : Dlmalloc A) → IsSound regions word heap → (at size : ℕ) →
@@ -34,7 +26,7 @@ told_stays word heap sound at size there granted new only k low high inside = on
     out f n free (inr (inr behind)) = inr (omega arith)
 
 -- the one extent that is joined, where there is one
-whole_beside : (words : ℕ → ℕ) (before : Kind) (from : ℕ) (extents : List Extent) (to : ℕ) → IsBeside extents → AllFree extents →
+whole_beside : (words : ℕ → ℕ) (before : Kind) (from : ℕ) (extents : List Extent) (to : ℕ) → IsBeside extents → AllAre Free extents →
     Tiles words before from extents to → from < to → extent_at from extents ≡ Some (extent from (to - from) Free)
 whole_beside words before from [] to beside free h some = absurd (omega arith)
 whole_beside words before from (one ∷ []) to beside free h some =
@@ -47,7 +39,7 @@ whole_beside words before from (one ∷ next ∷ extents) to beside free h some 
 
 module _ {A : Type 0} {regions : A → List Grant} {word : A → ℕ → ℕ} {heap : Dlmalloc A} (sound : IsSound regions word heap) {at size : ℕ}
     (there : extent_at at (extents_in (state_of word heap)) ≡ Some (extent at size Used)) {from : ℕ}
-    (from_is : from ≡ (if pinuse_of (word heap.system (at + 8)) then at else at - word heap.system at)) where
+    (from_is : IsFrom (word heap.system) at from) where
   abbrev words : ℕ → ℕ
   words = word heap.system
 
@@ -64,11 +56,10 @@ module _ {A : Type 0} {regions : A → List Grant} {word : A → ℕ → ℕ} {h
       let here = whole_beside words Used from left.lefts at left.beside left.free left.lefts_stand some in
       let first : extent_at from one.first ≡ Some (extent from (at - from) Free) =
       ap (extent_at from) left.is ∙ (found_later from left.front left.lefts (none_outside words Used one.segment.base left.front from from (inr (omega arith)) left.front_stand) ∙ here) in
-      among_all (regions heap.system) words sound.segments sound.apart one.front one.segment one.back one.is from
-      (ap (extent_at from) one.extents ∙ found_more from one.first ((extent at size Used ∷ []) ++ one.last) first)
+      let here = ap (extent_at from) one.extents ∙ found_more from one.first ((extent at size Used ∷ []) ++ one.last) first in
+      among_all (regions heap.system) words sound.segments sound.apart one.front one.segment one.back one.is from here
 
-  module _ {to : ℕ}
-      (to_is : to ≡ (if at + size == heap.top then at + size else if free_of (word heap.system (at + size + 8)) then at + size + size_of (word heap.system (at + size + 8)) else at + size)) where
+  module _ {to : ℕ} (to_is : IsTo (word heap.system) heap.top (at + size) to) where
     by_top : {b : Bool} → (at + size == heap.top) ≡ b → to ≡ (if b then at + size else end_of words (at + size))
     by_top {b} is = to_is ∙ ap (λ b. if b then at + size else end_of words (at + size)) is
 
@@ -81,24 +72,25 @@ module _ {A : Type 0} {regions : A → List Grant} {word : A → ℕ → ℕ} {h
         (let no : Free ≡ Top = ap (λ e. e.kind) (the_extent (sym here ∙ top)) in cc)
 
     module _ (goes_on : at + size ≢ heap.top) where
-      abbrev r : Right words (segments_of word heap) at size to
-      r = right sound there (no_top sound there goes_on) from_is (ends_at sound there from_is to_is goes_on)
+      abbrev r : Right words (segments_of word heap) at size to Free
+      r = right sound there from_is to_is goes_on
 
       -- what is found behind the chunk in its run is found in the heap
       behind : (k : ℕ) {one : Extent} → at + size ≤ k → extent_at k (r.rights ++ r.next ∷ []) ≡ Some one → extent_at k (extents_in (state_of word heap)) ≡ Some one
       behind k {one} low found =
           let test : (at == k) ≡ false = nat_isnt (inl (let long = r.run.here.1.size.1 in omega arith)) in
-          among_all (regions heap.system) words sound.segments sound.apart r.run.front r.run.segment r.run.back r.run.is k {one = one}
-          (ap (extent_at k) r.run.extents ∙ (found_later k r.run.first ((extent at size Used ∷ (r.rights ++ r.next ∷ [])) ++ r.run.last)
+          let here : extent_at k r.run.segment.extents ≡ Some one = ap (extent_at k) r.run.extents
+          ∙ (found_later k r.run.first ((extent at size Used ∷ (r.rights ++ r.next ∷ [])) ++ r.run.last)
           (none_outside words Used r.run.segment.base r.run.first at k (inr (omega arith)) r.run.first_stand)
-          ∙ found_more k (extent at size Used ∷ (r.rights ++ r.next ∷ [])) r.run.last {extent = one} (rw test found)))
+          ∙ found_more k (extent at size Used ∷ (r.rights ++ r.next ∷ [])) r.run.last {extent = one} (rw test found)) in
+          among_all (regions heap.system) words sound.segments sound.apart r.run.front r.run.segment r.run.back r.run.is k here
 
       behind_free : at + size < to → IsFreeAt (state_of word heap) (at + size) (to - (at + size))
       behind_free more =
           let s = tiles_split words Used (at + size) r.rights (r.next ∷ []) (to + r.next.size) r.run.here.2 in
           let ends : s.middle ≡ to = sym s.second.0 ∙ r.place in
           behind (at + size) (omega arith) (found_more (at + size) r.rights (r.next ∷ [])
-          (whole_beside words Used (at + size) r.rights to r.beside r.free (subst (λ m. Tiles words Used (at + size) r.rights m) ends s.first) more))
+          (whole_beside words Used (at + size) r.rights to r.beside r.are (subst (λ m. Tiles words Used (at + size) r.rights m) ends s.first) more))
 
       behind_none : to ≤ at + size → (n : ℕ) → IsFreeAt (state_of word heap) (at + size) n → ⊥
       behind_none less n free =
@@ -108,8 +100,8 @@ module _ {A : Type 0} {regions : A → List Grant} {word : A → ℕ → ℕ} {h
           let ends : s.middle ≡ to = sym s.second.0 ∙ r.place in
           let next : extent_at (at + size) (r.next ∷ []) ≡ Some f.0 =
           sym (found_later (at + size) r.rights (r.next ∷ []) (none_outside words Used (at + size) r.rights s.middle (at + size) (inr (omega arith)) s.first)) ∙ f.1 in
-          let kind : r.next.kind ≡ Free = ap (λ e. e.kind) (the_one (at + size) r.next next ∙ same) in
-          elim (r.kind) [ inl used ↦ (let no : Used ≡ Free = sym used ∙ kind in cc) | inr tail ↦ (let no : Record ≡ Free = sym tail ∙ kind in cc) ]
+          let free : is_free r.next.kind ≡ true = ap (λ e. is_free e.kind) (the_one (at + size) r.next next ∙ same) in
+          (let no = sym r.stays ∙ free in cc)
 
     pub right_free : 0 < heap.size → at + size < to → IsFreeAt (state_of word heap) (at + size) (to - (at + size))
     right_free some more = go (at + size == heap.top) refl

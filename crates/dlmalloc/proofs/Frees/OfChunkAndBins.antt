@@ -2,23 +2,21 @@
 use Rattle.dlmalloc.proofs.Names.{◌≡◌, ℕ, ◌+◌, ◌-◌, ◌<◌, ◌≤◌, inl, inr, Bool, true, false, ◌==◌, if◌then◌else◌, List, [], ◌∷◌, Some, sym, ◌∙◌, ap, subst, arith, dec_lt, Grant, IsWordOf, Event, Used, pinuse_of, free_of, size_of, IsIn, IndexStays, extent_at, extents_in, segments_of, state_of, IsSound, IsFreeAt, IsBinnedBut, IsRebinned, IsVictimAfter, FreeMoves, IsMoved, Dlmalloc}
 use Rattle.dlmalloc.proofs.Extents.Lookup.{extent}
 use Rattle.dlmalloc.proofs.Extents.Disjoint.{stands_there}
+use Rattle.dlmalloc.proofs.Frees.FreeBeside.{IsFrom, IsTo}
 use Rattle.dlmalloc.proofs.Frees.WhatCallsWant.{head_there, foot_there, behind_there, from_at}
+use Rattle.dlmalloc.proofs.Segments.HeadTop.{some_segment}
 use Rattle.dlmalloc.proofs.Bins.Held.{one_size}
-use Rattle.dlmalloc.proofs.Frees.NeighboursUnbinned.{some_size, told_stays, left_none, left_free, accounted}
+use Rattle.dlmalloc.proofs.Frees.NeighboursUnbinned.{told_stays, left_none, left_free, accounted}
 use Rattle.dlmalloc.proofs.Bins.Changes.{binned_moved}
 
--- where the free chunks beside a chunk begin and end, as words tell it
-abbrev pub IsFrom : (ℕ → ℕ) → ℕ → ℕ → Type 0
-IsFrom words at from = from ≡ (if pinuse_of (words (at + 8)) then at else at - words at)
-
-abbrev pub IsTo : (ℕ → ℕ) → ℕ → ℕ → ℕ → Type 0
-IsTo words top at to = to ≡ (if at == top then at else if free_of (words (at + 8)) then at + size_of (words (at + 8)) else at)
-
-module _ {A : Type 0} {regions : A → List Grant} {word : A → ℕ → ℕ} (follows : A → List Event → A → Type 0) {heap : Dlmalloc A}
-    (sound : IsSound regions word heap) {at size : ℕ} (there : extent_at at (extents_in (state_of word heap)) ≡ Some (extent at size Used)) (from to : ℕ)
+module _ {A : Type 0} {regions : A → List Grant} {word : A → ℕ → ℕ} {heap : Dlmalloc A}
+    (sound : IsSound regions word heap) {at size : ℕ} (there : extent_at at (extents_in (state_of word heap)) ≡ Some (extent at size Used)) {from to : ℕ}
     (from_is : IsFrom (word heap.system) at from) (to_is : IsTo (word heap.system) heap.top (at + size) to) where
   pub some : 0 < heap.size
-  some = some_size sound at there
+  some = some_segment word heap at there
+
+  used_long : 0 < size
+  used_long = (let s = (stands_there (regions heap.system) (word heap.system) (segments_of word heap) sound.segments there).1.size.1 in omega arith)
 
   -- the two begin at addresses of their own
   pub two : IsIn (at + size) (from ∷ []) → ⊥
@@ -26,9 +24,6 @@ module _ {A : Type 0} {regions : A → List Grant} {word : A → ℕ → ℕ} (f
     | inl same ↦ (let low = from_at sound there from_is in let long = used_long in omega arith)
     | inr none ↦ none
   ]
-    where
-      used_long : 0 < size
-      used_long = (let s = (stands_there (regions heap.system) (word heap.system) (segments_of word heap) sound.segments there).1.size.1 in omega arith)
 
   -- and what they are joined to was no free chunk
   pub joined_other : IsFreeAt (state_of word heap) from (to - from) → ⊥
@@ -40,9 +35,6 @@ module _ {A : Type 0} {regions : A → List Grant} {word : A → ℕ → ℕ} (f
     | no here ↦ left_none sound there from_is (omega arith) (to - from) free
   ]
     where
-      used_long : 0 < size
-      used_long = (let s = (stands_there (regions heap.system) (word heap.system) (segments_of word heap) sound.segments there).1.size.1 in omega arith)
-
       above : (b c : Bool) (more : ℕ) → at + size ≤ (if b then at + size else if c then at + size + more else at + size)
       above true c more = omega arith
       above false true more = omega arith
@@ -52,7 +44,7 @@ module _ {A : Type 0} {regions : A → List Grant} {word : A → ℕ → ℕ} (f
       to_above = subst (λ t. at + size ≤ t) (sym to_is) (above (at + size == heap.top) (free_of (word heap.system (at + size + 8))) (size_of (word heap.system (at + size + 8))))
 
   -- the chunks beside it left their bins
-  module _ {middle : Dlmalloc A} (left : IsRebinned regions word follows heap middle) where
+  module _ {follows : A → List Event → A → Type 0} {middle : Dlmalloc A} (left : IsRebinned regions word follows heap middle) where
     pub still_there : extent_at at (extents_in (state_of word middle)) ≡ Some (extent at size Used)
     still_there = ap (λ s. extent_at at (extents_in s)) left.state ∙ there
 
@@ -83,6 +75,5 @@ module _ {A : Type 0} {regions : A → List Grant} {word : A → ℕ → ℕ} (f
         (moves : FreeMoves (state_of word middle) (state_of word joined) (from ∷ (at + size) ∷ []) (from ∷ []))
         (victim : IsVictimAfter from to middle.victim joined.victim) (bins : joined.bins ≡ middle.bins) where
       abbrev pub joined_loose : IsBinnedBut (from ∷ []) regions word joined
-      joined_loose = binned_moved stays left.sound moved.sound (λ k was is boundary tag tag'. moved.words k was boundary) bins
-          ((at + size) ∷ from ∷ []) (from ∷ []) (from ∷ (at + size) ∷ []) (from ∷ []) moves
-          (accounted left.sound still_there from_still to_still (some_size left.sound at still_there) joined moves victim) loose
+      joined_loose = binned_moved stays left.sound moved.sound (λ k was is boundary tag tag'. moved.words k was boundary) bins moves
+          (accounted left.sound still_there from_still to_still (some_segment word middle at still_there) joined moves victim) loose

@@ -1,43 +1,17 @@
 -- What a free does further, told by the free extent that its chunk became part of.
-use Rattle.dlmalloc.proofs.Names.{◌≡◌, ◌≢◌, ℕ, ◌+◌, ◌<◌, ◌≤◌, inl, inr, Bool, true, false, ◌&&◌, ◌==◌, if◌then◌else◌, List, [], ◌∷◌, Some, None, refl, sym, ◌∙◌, ap, subst, arith, dec_lt, find, nat_le, nat_lt, unwrap_or, option_map, nat_tests, Grant, Event, Extent, Kind, Used, Free, Victim, Top, Record, Foot, extent_at, IsFreeAround, counted, left_by_count, releases, regions_without, IsCounted, after_trim, trimmed, regions_trimmed, IsTrimmed, is_above_check, IsSettled, segments_of, state_of, IsSound, Dlmalloc}
+use Rattle.dlmalloc.proofs.Names.{◌≡◌, ◌≢◌, ℕ, ◌+◌, ◌<◌, ◌≤◌, inl, inr, Bool, true, false, ◌&&◌, ◌==◌, if◌then◌else◌, List, [], Some, refl, sym, ◌∙◌, ap, subst, arith, dec_lt, nat_le, nat_lt, unwrap_or, option_map, nat_tests, Grant, Event, Extent, Kind, Used, Free, Victim, Top, Record, Foot, extent_at, IsFreeAround, counted, left_by_count, releases, regions_without, IsCounted, after_trim, trimmed, regions_trimmed, IsTrimmed, is_above_check, IsSettled, segments_of, state_of, IsSound, Dlmalloc}
 use Rattle.dlmalloc.specs.State.{is_top as is_the_top}
 use Rattle.dlmalloc.specs.Order.{after_count}
 use Rattle.dlmalloc.specs.Trimmed.{trim_releases}
 use Rattle.dlmalloc.specs.AfterFree.{is_top_with}
-use Rattle.dlmalloc.proofs.Extents.Lookup.{extent, nat_is, nat_same, the_extent, found_here}
+use Rattle.dlmalloc.proofs.Extents.Lookup.{extent, nat_is, nat_same, the_extent}
+use Rattle.dlmalloc.proofs.Frees.FoundByTest.{find_only, find_none}
 use Rattle.dlmalloc.proofs.Extents.OneMoreUsed.{AreDistinct}
-use Rattle.dlmalloc.proofs.Segments.Among.{extents_all, all_distinct, distinct_later, located}
+use Rattle.dlmalloc.proofs.Segments.Among.{extents_all, all_distinct, located}
 use Rattle.dlmalloc.proofs.Extents.Disjoint.{beside}
 use Rattle.dlmalloc.proofs.Segments.HeadTop.{some_segment}
 use Rattle.dlmalloc.proofs.Extents.Top.{is_top, top_among}
 use Rattle.dlmalloc.proofs.Frees.Counted.{top_told, counted_none}
-
--- ---- the only one of some sort
-
-find_only : (is : Extent → Bool) (extents : List Extent) {one : Extent} → AreDistinct extents → extent_at one.at extents ≡ Some one → is one
-    ≡ true → ((other : Extent) → extent_at other.at extents ≡ Some other → is other ≡ true → other.at ≡ one.at) → find is extents ≡ Some one
-find_only is [] distinct there holds only = absurd (cc)
-find_only is (first ∷ extents) {one} distinct there holds only =
-    go (is first) refl (first.at == one.at) refl there (λ found. find_only is extents distinct.1 found holds
-    (λ other found' test. only other (distinct_later (first ∷ []) extents other.at distinct found') test))
-  where
-    go : (a : Bool) → is first ≡ a → (b : Bool) → (first.at == one.at) ≡ b → (if b then Some first else extent_at one.at extents) ≡ Some one →
-        (extent_at one.at extents ≡ Some one → find is extents ≡ Some one) → (if a then Some first else find is extents) ≡ Some one
-    go true test true same found rest = found
-    go true test false other found rest = absurd (let place = only first (found_here first extents) test in
-        let no : (first.at == one.at) ≡ true = ap (λ n. n == one.at) place ∙ nat_same one.at in let both = sym no ∙ other in cc)
-    go false test true same found rest = absurd (let both = sym test ∙ (ap is (the_extent found) ∙ holds) in cc)
-    go false test false other found rest = rest found
-
-find_none : (is : Extent → Bool) (extents : List Extent) → AreDistinct extents →
-    ((other : Extent) → extent_at other.at extents ≡ Some other → is other ≡ true → ⊥) → find is extents ≡ None
-find_none is [] distinct none = refl
-find_none is (first ∷ extents) distinct none =
-    go (is first) refl (find_none is extents distinct.1 (λ other found holds. none other (distinct_later (first ∷ []) extents other.at distinct found) holds))
-  where
-    go : (a : Bool) → is first ≡ a → find is extents ≡ None → (if a then Some first else find is extents) ≡ None
-    go true test rest = absurd (none first (found_here first extents) test)
-    go false test rest = rest
 
 -- ---- the top, or none
 

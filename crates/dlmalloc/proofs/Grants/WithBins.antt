@@ -69,7 +69,7 @@ module _ (stays : IndexStays) {A : Type 0} {regions : A → List Grant} {word : 
   abbrev pub top_left : 32 ≤ heap.top_size → IsBinnedBut (heap.top ∷ []) regions word new
   top_left many =
       let test : nat_le 32 heap.top_size ≡ true = grind (arith, nat_tests) in
-      binned_moved stays sound j.sound (λ k was is boundary tag tag'. j.words k was boundary tag') same.bins [] (heap.top ∷ []) [] (heap.top ∷ [])
+      binned_moved stays sound j.sound (λ k was is boundary tag tag'. j.words k was boundary tag') same.bins {loose = []} {loose' = heap.top ∷ []}
       (subst (λ b. FreeMoves (state_of word heap) (state_of word new) [] (if b then heap.top ∷ [] else [])) test moves) (record {
         gone = λ k none n free other. none;
         come = λ k is n free other. is;

@@ -40,13 +40,13 @@ unbin_between-requires-2-clause-sound g c = c.unbin_between.ensures.same.sound
 
 pub unbin_between-requires-2-clause-free : goal.unbin_between-requires-2-clause-free
 unbin_between-requires-2-clause-free g c = λ more.
-    let there = some g.A.Links.follows c.requires.sound c.requires.chunk c.free_begin-from.result c.free_end-to.result c.free_begin-from.ensures.value c.free_end-to.ensures.value in
+    let there = some c.requires.sound c.requires.chunk c.free_begin-from.ensures.value c.free_end-to.ensures.value in
     subst (λ s. IsFreeAt s (c.args.at + c.args.size) (c.free_end-to.result - (c.args.at + c.args.size))) (sym c.unbin_between.ensures.same.state)
     (right_free c.requires.sound c.requires.chunk c.free_begin-from.ensures.value c.free_end-to.ensures.value there more)
 
 pub unbin_between-requires-2-clause-none : goal.unbin_between-requires-2-clause-none
 unbin_between-requires-2-clause-none g c = λ less n free.
-    let there = some g.A.Links.follows c.requires.sound c.requires.chunk c.free_begin-from.result c.free_end-to.result c.free_begin-from.ensures.value c.free_end-to.ensures.value in
+    let there = some c.requires.sound c.requires.chunk c.free_begin-from.ensures.value c.free_end-to.ensures.value in
     right_none c.requires.sound c.requires.chunk c.free_begin-from.ensures.value c.free_end-to.ensures.value there less n
     (subst (λ s. IsFreeAt s (c.args.at + c.args.size) n) c.unbin_between.ensures.same.state free)
 
@@ -54,7 +54,7 @@ pub unbin_between-requires-2-clause-binned : goal.unbin_between-requires-2-claus
 unbin_between-requires-2-clause-binned g c = (
   c.free_begin-from.result ∷ [],
   (c.unbin_between.ensures.loose [] c.requires.linked (λ none. none)).0,
-  two g.A.Links.follows c.requires.sound c.requires.chunk c.free_begin-from.result c.free_end-to.result c.free_begin-from.ensures.value c.free_end-to.ensures.value,
+  two c.requires.sound c.requires.chunk c.free_begin-from.ensures.value c.free_end-to.ensures.value,
 )
 
 -- ---- they are joined to it
@@ -64,17 +64,17 @@ join_free-requires-clause-sound g c = c.unbin_between-2.ensures.same.sound
 
 pub join_free-requires-clause-chunk : goal.join_free-requires-clause-chunk
 join_free-requires-clause-chunk g c =
-    still_there g.A.Links.follows c.requires.sound c.requires.chunk c.free_begin-from.result c.free_end-to.result c.free_begin-from.ensures.value c.free_end-to.ensures.value
+    still_there c.requires.sound c.requires.chunk c.free_begin-from.ensures.value c.free_end-to.ensures.value
     (rebinned_on g.A.Links.regions g.A.Links.word g.A.Links.follows g.A.Links.follows_on c.unbin_between.ensures.same c.unbin_between-2.ensures.same)
 
 pub join_free-requires-clause-from : goal.join_free-requires-clause-from
 join_free-requires-clause-from g c =
-    from_still g.A.Links.follows c.requires.sound c.requires.chunk c.free_begin-from.result c.free_end-to.result c.free_begin-from.ensures.value c.free_end-to.ensures.value
+    from_still c.requires.sound c.requires.chunk c.free_begin-from.ensures.value c.free_end-to.ensures.value
     (rebinned_on g.A.Links.regions g.A.Links.word g.A.Links.follows g.A.Links.follows_on c.unbin_between.ensures.same c.unbin_between-2.ensures.same)
 
 pub join_free-requires-clause-to : goal.join_free-requires-clause-to
 join_free-requires-clause-to g c =
-    to_still g.A.Links.follows c.requires.sound c.requires.chunk c.free_begin-from.result c.free_end-to.result c.free_begin-from.ensures.value c.free_end-to.ensures.value
+    to_still c.requires.sound c.requires.chunk c.free_begin-from.ensures.value c.free_end-to.ensures.value
     (rebinned_on g.A.Links.regions g.A.Links.word g.A.Links.follows g.A.Links.follows_on c.unbin_between.ensures.same c.unbin_between-2.ensures.same)
 
 -- ---- and what they are goes into its bin
@@ -89,10 +89,10 @@ pub bin_joined-requires-clause-loose : goal.bin_joined-requires-clause-loose
 bin_joined-requires-clause-loose g c =
     let first = c.unbin_between.ensures in let second = c.unbin_between-2.ensures in
     let from = c.free_begin-from.result in
-    joined_loose g.A.Links.follows c.requires.sound c.requires.chunk from c.free_end-to.result c.free_begin-from.ensures.value c.free_end-to.ensures.value
+    joined_loose c.requires.sound c.requires.chunk c.free_begin-from.ensures.value c.free_end-to.ensures.value
     (rebinned_on g.A.Links.regions g.A.Links.word g.A.Links.follows g.A.Links.follows_on first.same second.same) c.index_stays.ensures
     (second.loose (from ∷ []) (first.loose [] c.requires.linked (λ none. none)).0
-    (two g.A.Links.follows c.requires.sound c.requires.chunk from c.free_end-to.result c.free_begin-from.ensures.value c.free_end-to.ensures.value)).0
+    (two c.requires.sound c.requires.chunk c.free_begin-from.ensures.value c.free_end-to.ensures.value)).0
     c.join_free.ensures.moved c.join_free.ensures.free c.join_free.ensures.victim c.join_free.ensures.bins
 
 pub returns : goal.returns
@@ -104,12 +104,12 @@ returns g c =
     let end = c.free_end-to.ensures.value in
     let order : KeepsOrder g.A.Links.regions word old new = λ b.
     let one = c.unbin_between.ensures.loose [] b (λ none. none) in
-    let second = c.unbin_between-2.ensures.loose (from ∷ []) one.0 (two g.A.Links.follows c.requires.sound c.requires.chunk from to begin end) in
-    let joined = joined_loose g.A.Links.follows c.requires.sound c.requires.chunk from to begin end left c.index_stays.ensures second.0 e.moved e.free e.victim e.bins in
+    let second = c.unbin_between-2.ensures.loose (from ∷ []) one.0 (two c.requires.sound c.requires.chunk begin end) in
+    let joined = joined_loose c.requires.sound c.requires.chunk begin end left c.index_stays.ensures second.0 e.moved e.free e.victim e.bins in
     let after = c.bin_joined.ensures.binned joined in (
       after.0,
       in_order (to - from) from b.index second.0.index after.0.index (lessened_on b.index one.0.index second.0.index one.1 second.1) after.1
-          (λ is. joined_other g.A.Links.follows c.requires.sound c.requires.chunk from to begin end (b.holds.free from (to - from) is)),
+          (λ is. joined_other c.requires.sound c.requires.chunk begin end (b.holds.free from (to - from) is)),
     ) in
     record {
       state = last.state ∙ (e.state ∙ ap (λ s. freed s c.args.at) left.state);

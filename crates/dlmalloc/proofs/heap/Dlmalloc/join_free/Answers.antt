@@ -1,6 +1,7 @@
-use Rattle.dlmalloc.proofs.Names.{◌-◌, ◌<◌, ◌≤◌, ◌⊎◌, inl, inr, refl, arith, rules, nat_tests}
-use Rattle.dlmalloc.proofs.Frees.WhatCallsWant.{no_top, from_there, goes_on, ends_at, small_top, from_some, top_victim, top_other, around_top}
-use Rattle.dlmalloc.proofs.Frees.OfChunk.{whole_size, room, end_head, end_foot, end_told, as_victim, as_other, around}
+use Rattle.dlmalloc.proofs.Names.{◌<◌, ◌≤◌, ◌⊎◌, inl, inr, refl, arith, rules, nat_tests}
+use Rattle.dlmalloc.proofs.Frees.WhatCallsWant.{from_there, goes_on}
+use Rattle.dlmalloc.proofs.Frees.BeforeTop.{small_top, from_some, top_victim, top_other}
+use Rattle.dlmalloc.proofs.Frees.OfChunk.{whole_size, room, end_head, end_foot, end_told, as_victim, as_other}
 use Rattle.dlmalloc.proofs.heap.Dlmalloc.join_free.Goals.{else-from-self-via-then-from-self+else-self-to, else-from-self-via-else-from-self, else-from-self-2-via-then-from-self-2+else-self-to-2, else-from-self-2-via-else-from-self-2}
 use Rattle.dlmalloc.proofs.heap.Dlmalloc.join_free.Goals as goal
 
@@ -10,37 +11,27 @@ store_counted-requires g c = (from_there c.requires.sound c.requires.chunk c.req
 pub make_free-requires-clause-size : goal.make_free-requires-clause-size
 make_free-requires-clause-size g c =
     let on = goes_on c.requires.sound c.requires.chunk c.requires.from c.requires.to c.if-to-self.false in
-    let none = no_top c.requires.sound c.requires.chunk on in
-    let end = ends_at c.requires.sound c.requires.chunk c.requires.from c.requires.to on in
-    whole_size c.requires.sound c.requires.chunk none c.requires.from end
+    whole_size c.requires.sound c.requires.chunk c.requires.from c.requires.to on
 
 pub make_free-requires-clause-long : goal.make_free-requires-clause-long
 make_free-requires-clause-long g c =
     let on = goes_on c.requires.sound c.requires.chunk c.requires.from c.requires.to c.if-to-self.false in
-    let none = no_top c.requires.sound c.requires.chunk on in
-    let end = ends_at c.requires.sound c.requires.chunk c.requires.from c.requires.to on in
-    let r = room c.requires.sound c.requires.chunk none c.requires.from end in omega arith
+    let r = room c.requires.sound c.requires.chunk c.requires.from c.requires.to on in omega arith
 
 pub make_free-requires-clause-foot : goal.make_free-requires-clause-foot
 make_free-requires-clause-foot g c =
     let on = goes_on c.requires.sound c.requires.chunk c.requires.from c.requires.to c.if-to-self.false in
-    let none = no_top c.requires.sound c.requires.chunk on in
-    let end = ends_at c.requires.sound c.requires.chunk c.requires.from c.requires.to on in
-    end_foot c.requires.sound c.requires.chunk none c.requires.from end
+    end_foot c.requires.sound c.requires.chunk c.requires.from c.requires.to on
 
 pub make_free-requires-clause-next : goal.make_free-requires-clause-next
 make_free-requires-clause-next g c =
     let on = goes_on c.requires.sound c.requires.chunk c.requires.from c.requires.to c.if-to-self.false in
-    let none = no_top c.requires.sound c.requires.chunk on in
-    let end = ends_at c.requires.sound c.requires.chunk c.requires.from c.requires.to on in
-    end_head c.requires.sound c.requires.chunk none c.requires.from end
+    end_head c.requires.sound c.requires.chunk c.requires.from c.requires.to on
 
 pub make_free-requires-clause-told : goal.make_free-requires-clause-told
 make_free-requires-clause-told g c =
     let on = goes_on c.requires.sound c.requires.chunk c.requires.from c.requires.to c.if-to-self.false in
-    let none = no_top c.requires.sound c.requires.chunk on in
-    let end = ends_at c.requires.sound c.requires.chunk c.requires.from c.requires.to on in
-    λ told. end_told c.requires.sound c.requires.chunk none c.requires.from end (grind (arith, nat_tests))
+    λ told. end_told c.requires.sound c.requires.chunk c.requires.from c.requires.to on (grind (arith, nat_tests))
 
 pub make_free-requires-clause-head : goal.make_free-requires-clause-head
 make_free-requires-clause-head g c = from_there c.requires.sound c.requires.chunk c.requires.from
@@ -63,7 +54,7 @@ returns-then-self-to g c =
       state = o.state;
       less = o.less;
       records = o.records;
-      around = around_top c.requires.sound c.requires.chunk c.requires.from c.requires.to c.if-to-self.true _ o.sound refl refl refl;
+      around = o.around;
       free = o.free;
       joined = o.joined;
       victim = inr (c.if-from-self.true, c.if-self-to.true, inl refl);
@@ -82,7 +73,7 @@ returns-else-from-self g c =
       state = o.state;
       less = o.less;
       records = o.records;
-      around = around_top c.requires.sound c.requires.chunk c.requires.from c.requires.to c.if-to-self.true _ o.sound refl refl refl;
+      around = o.around;
       free = o.free;
       joined = o.joined;
       victim = inl refl;
@@ -94,15 +85,13 @@ returns-else-from-self g c =
 pub returns-then-self-to-2 : goal.returns-then-self-to-2
 returns-then-self-to-2 g c =
     let on = goes_on c.requires.sound c.requires.chunk c.requires.from c.requires.to c.if-to-self.false in
-    let none = no_top c.requires.sound c.requires.chunk on in
-    let end = ends_at c.requires.sound c.requires.chunk c.requires.from c.requires.to on in
-    let o = as_victim c.requires.sound c.requires.chunk none c.requires.from end c.make_free.new.memory c.make_free.ensures.regions c.make_free.ensures.stored
+    let o = as_victim c.requires.sound c.requires.chunk c.requires.from c.requires.to on c.make_free.new.memory c.make_free.ensures.regions c.make_free.ensures.stored
     c.if-from-self-2.true c.if-self-to-2.true in
     record {
       state = o.state;
       less = o.less;
       records = o.records;
-      around = around c.requires.sound c.requires.chunk none c.requires.from end c.make_free.new.memory c.make_free.ensures.regions c.make_free.ensures.stored c.args.from (c.args.to - c.args.from);
+      around = o.around;
       free = o.free;
       joined = o.joined;
       victim = inr (c.if-from-self-2.true, c.if-self-to-2.true, inr refl);
@@ -114,16 +103,14 @@ returns-then-self-to-2 g c =
 pub returns-else-from-self-2 : goal.returns-else-from-self-2
 returns-else-from-self-2 g c =
     let on = goes_on c.requires.sound c.requires.chunk c.requires.from c.requires.to c.if-to-self.false in
-    let none = no_top c.requires.sound c.requires.chunk on in
-    let end = ends_at c.requires.sound c.requires.chunk c.requires.from c.requires.to on in
     let out : (c.args.self.now.victim < c.args.from) ⊎ (c.args.to ≤ c.args.self.now.victim) =
     elim c.else-from-self-2.branch [ else-from-self-2-via-then-from-self-2+else-self-to-2 w ↦ inr w.if-self-to-2.false | else-from-self-2-via-else-from-self-2 w ↦ inl w.if-from-self-2.false ] in
-    let o = as_other c.requires.sound c.requires.chunk none c.requires.from end c.make_free.new.memory c.make_free.ensures.regions c.make_free.ensures.stored out in
+    let o = as_other c.requires.sound c.requires.chunk c.requires.from c.requires.to on c.make_free.new.memory c.make_free.ensures.regions c.make_free.ensures.stored out in
     record {
       state = o.state;
       less = o.less;
       records = o.records;
-      around = around c.requires.sound c.requires.chunk none c.requires.from end c.make_free.new.memory c.make_free.ensures.regions c.make_free.ensures.stored c.args.self.now.victim c.args.self.now.victim_size;
+      around = o.around;
       free = o.free;
       joined = o.joined;
       victim = inl refl;

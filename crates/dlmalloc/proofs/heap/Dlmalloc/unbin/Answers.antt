@@ -1,4 +1,4 @@
-use Rattle.dlmalloc.proofs.Bins.Changes.{rebinned, not_rebinned, is_binned, now_loose, links_unlink, victim_loose}
+use Rattle.dlmalloc.proofs.Bins.Changes.{not_rebinned, is_binned, now_loose, relinked, victim_loose}
 use Rattle.dlmalloc.proofs.Bins.Order.{none_left}
 use Rattle.dlmalloc.proofs.Names.{refl}
 use Rattle.dlmalloc.proofs.heap.Dlmalloc.unbin.Goals as goal
@@ -14,18 +14,13 @@ unlink-requires g c =
     let r = c.requires.binned in
     record { linked = (r.1.index, r.1.linked, is_binned c.requires.sound c.requires.free r.1 c.if-at-self.false r.2) }
 
-pub returns-clause-loose : goal.returns-clause-loose
-returns-clause-loose g c = λ loose b apart.
-    let is = is_binned c.requires.sound c.requires.free b c.if-at-self.false apart in
-    let e = c.unlink.ensures in
-    let links = links_unlink c.requires.sound c.requires.free b (g.A.Links.word c.unlink.new.memory) (e.words b.index b.linked is) in
-    let same = rebinned g.A.Links.follows c.requires.sound c.unlink.new.memory c.unlink.new.self e.regions links e.follows in
-    (now_loose c.requires.sound c.requires.free b c.unlink.new.memory (e.linked b.index b.linked is) same.state, λ n. refl)
-
 pub returns-clause-same : goal.returns-clause-same
 returns-clause-same g c =
-    let loose = c.requires.binned.0 in let b = c.requires.binned.1 in
-    let is = is_binned c.requires.sound c.requires.free b c.if-at-self.false c.requires.binned.2 in
-    let e = c.unlink.ensures in
-    let links = links_unlink c.requires.sound c.requires.free b (g.A.Links.word c.unlink.new.memory) (e.words b.index b.linked is) in
-    rebinned g.A.Links.follows c.requires.sound c.unlink.new.memory c.unlink.new.self e.regions links e.follows
+    let b = c.requires.binned.1 in let e = c.unlink.ensures in
+    relinked c.requires.sound c.requires.free b c.unlink.new.memory c.unlink.new.self e.regions
+    (e.words b.index b.linked (is_binned c.requires.sound c.requires.free b c.if-at-self.false c.requires.binned.2)) e.follows
+
+pub returns-clause-loose : goal.returns-clause-loose
+returns-clause-loose g c = λ loose b apart.
+    let linked = c.unlink.ensures.linked b.index b.linked (is_binned c.requires.sound c.requires.free b c.if-at-self.false apart) in
+    (now_loose c.requires.sound c.requires.free b c.unlink.new.memory linked (returns-clause-same g c).state, λ n. refl)

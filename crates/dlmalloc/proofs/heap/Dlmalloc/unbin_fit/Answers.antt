@@ -1,5 +1,5 @@
 use Rattle.bins.specs.Index.{first_or}
-use Rattle.dlmalloc.proofs.Bins.Changes.{rebinned, is_binned, now_loose, links_unlink}
+use Rattle.dlmalloc.proofs.Bins.Changes.{is_binned, now_loose, relinked}
 use Rattle.dlmalloc.proofs.Bins.Held.{one_size}
 use Rattle.dlmalloc.proofs.Names.{◌≡◌, ◌≤◌, refl, subst, state_of}
 use Rattle.dlmalloc.proofs.heap.Dlmalloc.unbin_fit.Goals as goal
@@ -11,18 +11,13 @@ unlink_fit-requires g c =
     let oldest = subst (λ n. 256 ≤ n → c.args.at ≡ first_or 0 (r.1.index n)) size fit.oldest in
     record { linked = (r.1.index, r.1.linked, is_binned c.requires.sound c.requires.free r.1 c.requires.other r.2, oldest) }
 
-pub returns-clause-loose : goal.returns-clause-loose
-returns-clause-loose g c = λ loose b apart.
-    let is = is_binned c.requires.sound c.requires.free b c.requires.other apart in
-    let e = c.unlink_fit.ensures in
-    let links = links_unlink c.requires.sound c.requires.free b (g.A.Links.word c.unlink_fit.new.memory) (e.words b.index b.linked is) in
-    let same = rebinned g.A.Links.follows c.requires.sound c.unlink_fit.new.memory c.unlink_fit.new.self e.regions links e.follows in
-    (now_loose c.requires.sound c.requires.free b c.unlink_fit.new.memory (e.linked b.index b.linked is) same.state, λ n. refl)
-
 pub returns-clause-same : goal.returns-clause-same
 returns-clause-same g c =
-    let loose = c.requires.binned.0 in let b = c.requires.binned.1 in
-    let is = is_binned c.requires.sound c.requires.free b c.requires.other c.requires.binned.2 in
-    let e = c.unlink_fit.ensures in
-    let links = links_unlink c.requires.sound c.requires.free b (g.A.Links.word c.unlink_fit.new.memory) (e.words b.index b.linked is) in
-    rebinned g.A.Links.follows c.requires.sound c.unlink_fit.new.memory c.unlink_fit.new.self e.regions links e.follows
+    let b = c.requires.binned.1 in let e = c.unlink_fit.ensures in
+    relinked c.requires.sound c.requires.free b c.unlink_fit.new.memory c.unlink_fit.new.self e.regions
+    (e.words b.index b.linked (is_binned c.requires.sound c.requires.free b c.requires.other c.requires.binned.2)) e.follows
+
+pub returns-clause-loose : goal.returns-clause-loose
+returns-clause-loose g c = λ loose b apart.
+    let linked = c.unlink_fit.ensures.linked b.index b.linked (is_binned c.requires.sound c.requires.free b c.requires.other apart) in
+    (now_loose c.requires.sound c.requires.free b c.unlink_fit.new.memory linked (returns-clause-same g c).state, λ n. refl)
