@@ -133,8 +133,8 @@ pub record Passing {A : Type 0} (regions : A → List Grant) (word : A → ℕ �
   pub rate_same : new.rate ≡ old.rate
   pub trim_check_same : new.trim_check ≡ old.trim_check
 
-module _ {A : Type 0} {regions : A → List Grant} {word : A → ℕ → ℕ} (follows : A → List Event → A → Type 0)
-    (frees parts : Bool) {old : Dlmalloc A} (sound : IsSound regions word old) where
+module _ {A : Type 0} {regions : A → List Grant} {word : A → ℕ → ℕ} {follows : A → List Event → A → Type 0}
+    {frees parts : Bool} {old : Dlmalloc A} (sound : IsSound regions word old) where
   -- none is at the beginning
   pub begun_passing : 0 < old.size → ((x : A) → follows x [] x) → Passing regions word follows frees parts old 0 old.next 0 0 old
   begun_passing some follows_none = go (segments_of word old) refl sound.told

@@ -57,7 +57,7 @@ module _ {A : Type 0} {regions : A → List Grant} {word : A → ℕ → ℕ} {h
   pub head_given : IsGivenRun (regions heap.system) heap.base (heap.base + heap.size)
   head_given = given_run head_run some
 
-  module _ (less : ℕ) (units : less % 16 ≡ 0) (room : less + 80 < heap.top_size) (all : AllByRecursion IsWhole (regions heap.system)) where
+  module _ (less : ℕ) (units : less % 16 ≡ 0) (room : less + 80 < heap.top_size) where
     pub within : less ≤ heap.size
     within = omega (arith, closes, low)
 
@@ -70,7 +70,7 @@ module _ {A : Type 0} {regions : A → List Grant} {word : A → ℕ → ℕ} {h
 
     -- ---- when they are given back
 
-    module _ (system : A) (gone : regions system ≡ without (heap.base + (heap.size - less)) (heap.base + heap.size) (regions heap.system)) where
+    module _ (all : AllByRecursion IsWhole (regions heap.system)) (system : A) (gone : regions system ≡ without (heap.base + (heap.size - less)) (heap.base + heap.size) (regions heap.system)) where
       rest_run : IsRun (regions system) heap.base (heap.size - less) heap.flags
       rest_run = subst (λ rs. IsRun rs heap.base (heap.size - less) heap.flags) (sym gone) (run_shortened head_run less within all)
 
@@ -226,9 +226,9 @@ module _ {A : Type 0} {regions : A → List Grant} {word : A → ℕ → ℕ} {h
         shortened_kept = blocks_law_still regions word after sound shortened_sound (λ k inside was own recorded. shortened_boundaries k inside
             (λ boundary. own (inl boundary))) (extents_in (state_of word heap)) (λ block there used. (there, shortened_used.still block used there))
 
-        pub is_shortened : (follows : A → List Event → A → Type 0) →
+        pub is_shortened : {follows : A → List Event → A → Type 0} →
             follows heap.system (Released heap.base heap.size (heap.size - less) ∷ []) system → IsShortened regions word follows heap less after
-        is_shortened follows followed = record {
+        is_shortened followed = record {
           state = shortened_state;
           stays = record {
             sound = shortened_sound;

@@ -44,6 +44,12 @@ module _ {A : Type 0} {regions : A → List Grant} {word : A → ℕ → ℕ} {h
 
 -- ---- whether it was cut
 
+-- the bins stay, where all but the top does
+abbrev pub binned_but_top : IndexStays → {A : Type 0} {regions : A → List Grant} {word : A → ℕ → ℕ} {old new : Dlmalloc A} →
+    IsSound regions word old → KeepsAllButTop regions word old new → 0 < new.size → IsBinned regions word old → IsBinned regions word new
+binned_but_top stays sound keeps some = binned_same stays sound keeps.sound (λ k was is boundary tag tag'. (let tags = head_tags keeps.sound some k boundary in
+    keeps.words k is tags.0 tags.1)) keeps.bins_same keeps.free keeps.victim_same
+
 -- a heap keeps what it has
 all_kept : {A : Type 0} {regions : A → List Grant} {word : A → ℕ → ℕ} {heap : Dlmalloc A} → IsSound regions word heap → KeepsAllButTop regions word heap heap
 all_kept sound = record {
@@ -57,13 +63,7 @@ all_kept sound = record {
   words = λ k inside at_top at_foot. refl;
 }
 
--- and its bins
-abbrev pub binned_but_top : IndexStays → {A : Type 0} {regions : A → List Grant} {word : A → ℕ → ℕ} {old new : Dlmalloc A} →
-    IsSound regions word old → KeepsAllButTop regions word old new → 0 < new.size → IsBinned regions word old → IsBinned regions word new
-binned_but_top stays sound keeps some = binned_same stays sound keeps.sound (λ k was is boundary tag tag'. (let tags = head_tags keeps.sound some k boundary in
-    keeps.words k is tags.0 tags.1)) keeps.bins_same keeps.free keeps.victim_same
-
-module _ {A : Type 0} (regions : A → List Grant) (word : A → ℕ → ℕ) (follows : A → List Event → A → Type 0) (parts : Bool) (unit : ℕ) (heap : Dlmalloc A) (pad : ℕ) where
+module _ {A : Type 0} {regions : A → List Grant} {word : A → ℕ → ℕ} {follows : A → List Event → A → Type 0} {parts : Bool} {unit : ℕ} {heap : Dlmalloc A} {pad : ℕ} where
   not_cut : IsSound regions word heap → follows heap.system [] heap.system → is_cut parts unit pad (state_of word heap) ≡ false → IsCutBack regions word follows parts unit heap pad heap
   not_cut sound none isnt = record {
     state = sym (ap (λ b. if b then cut_top (cut_of (state_of word heap) pad) (state_of word heap) else state_of word heap) isnt);
@@ -92,8 +92,8 @@ module _ {A : Type 0} (regions : A → List Grant) (word : A → ℕ → ℕ) (f
       head_event : (less : ℕ) → end_released less (segments_of word heap) ≡ Released heap.base heap.size (heap.size - less) ∷ []
       head_event less = rw there refl
 
-  pub cut_back : IsSound regions word heap → 0 < heap.size → follows heap.system [] heap.system → (new : Dlmalloc A) (answer : Bool) → answer ≡ is_cut
+  pub cut_back : IsSound regions word heap → 0 < heap.size → follows heap.system [] heap.system → {new : Dlmalloc A} {answer : Bool} → answer ≡ is_cut
       parts unit pad (state_of word heap) → (answer ≡ true → IsShortened regions word follows heap (cut_of (state_of word heap) pad) new) →
       (answer ≡ false → new ≡ heap) → IsCutBack regions word follows parts unit heap pad new
-  cut_back sound some none new true is cut same = was_cut some (sym is) new (cut refl)
-  cut_back sound some none new false is cut same = subst (λ h. IsCutBack regions word follows parts unit heap pad h) (sym (same refl)) (not_cut sound none (sym is))
+  cut_back sound some none {new} {answer = true} is cut same = was_cut some (sym is) new (cut refl)
+  cut_back sound some none {new} {answer = false} is cut same = subst (λ h. IsCutBack regions word follows parts unit heap pad h) (sym (same refl)) (not_cut sound none (sym is))

@@ -5,19 +5,16 @@ use Rattle.dlmalloc.proofs.heap.Dlmalloc.cut_top.Goals as goal
 
 pub overflow_sub-size : goal.overflow_sub-size
 overflow_sub-size g c = within c.requires.sound c.requires.there c.args.cut c.requires.whole c.requires.room
-    (whole_each (g.A.Links.regions c.args.self.now.system) (g.A.Links.whole c.args.self.now.system))
 
 pub free_part-requires-clause-run : goal.free_part-requires-clause-run
 free_part-requires-clause-run g c = head_given c.requires.sound c.requires.there
 
 pub free_part-requires-clause-some : goal.free_part-requires-clause-some
 free_part-requires-clause-some g c = rest_some c.requires.sound c.requires.there c.args.cut c.requires.whole c.requires.room
-    (whole_each (g.A.Links.regions c.args.self.now.system) (g.A.Links.whole c.args.self.now.system))
 
 pub free_part-requires-clause-whole : goal.free_part-requires-clause-whole
 free_part-requires-clause-whole g c =
-    let tests = g.A.Links.whole c.args.self.now.system in
-    rest_whole c.requires.sound c.requires.there c.args.cut c.requires.whole c.requires.room (whole_each (g.A.Links.regions c.args.self.now.system) tests) tests
+    rest_whole c.requires.sound c.requires.there c.args.cut c.requires.whole c.requires.room (g.A.Links.whole c.args.self.now.system)
 
 pub close_top-requires-clause-low : goal.close_top-requires-clause-low
 close_top-requires-clause-low g c = top_low c.requires.sound c.requires.there
@@ -48,12 +45,11 @@ returns-clause-cut g c = λ is.
     subst (λ h. IsShortened regions word g.A.Links.follows heap less h) (sym is) (is_shortened c.requires.sound c.requires.there less c.requires.whole
     c.requires.room whole new.system (closed.regions ∙ freed.regions taken) closed.head closed.foot_head
     (λ k inside at_top at_foot. (let was = subst (λ rs. IsWordOf rs k) closed.regions inside in closed.elsewhere k was at_top at_foot ∙ freed.words k was))
-    g.A.Links.follows (g.A.Links.follows_on heap.system middle new.system (Released heap.base heap.size (heap.size - less) ∷ []) []
+    (g.A.Links.follows_on heap.system middle new.system (Released heap.base heap.size (heap.size - less) ∷ []) []
     (Released heap.base heap.size (heap.size - less) ∷ []) (freed.follows taken) closed.follows refl))
 
 pub returns-clause-there : goal.returns-clause-there
 returns-clause-there g c =
     let heap = c.args.self.now in
-    let left : 0 < heap.size - c.args.cut = rest_some c.requires.sound c.requires.there c.args.cut c.requires.whole c.requires.room
-    (whole_each (g.A.Links.regions heap.system) (g.A.Links.whole heap.system)) in
+    let left : 0 < heap.size - c.args.cut = rest_some c.requires.sound c.requires.there c.args.cut c.requires.whole c.requires.room in
     subst (λ h. 0 < h.size) (sym c.close_top.ensures.fields) left
