@@ -1,5 +1,5 @@
 -- What is in no bin while a free chunk is cut.
-use Rattle.dlmalloc.proofs.Names.{◌≡◌, ◌≢◌, ℕ, ◌+◌, ◌<◌, ◌≤◌, ◌⊎◌, inl, inr, Bool, true, false, ◌==◌, nat_le, nat_lt, if◌then◌else◌, List, [], ◌∷◌, refl, sym, ◌∙◌, ap, subst, arith, nat_tests, Grant, Used, Free, Event, IsIn, IndexStays, HeapState, victim_after, taken, grown_into, state_of, IsSound, IsFreeAt, IsBinnedBut, IsBinned, FreeMoves, IsMoved, Dlmalloc, KeepsOrder, AreInOrder}
+use Rattle.dlmalloc.proofs.Names.{◌≡◌, ◌≢◌, ℕ, ◌+◌, ◌<◌, ◌≤◌, ◌⊎◌, inl, inr, Bool, true, false, ◌==◌, ◌&&◌, nat_le, nat_lt, if◌then◌else◌, List, [], ◌∷◌, refl, sym, ◌∙◌, ap, subst, arith, nat_tests, Grant, Used, Free, Event, IsIn, IndexStays, HeapState, victim_after, taken, grown_into, state_of, IsSound, IsFreeAt, IsBinnedBut, IsBinned, FreeMoves, IsMoved, Dlmalloc, KeepsOrder, AreInOrder}
 use Rattle.dlmalloc.proofs.Extents.Lookup.{extent, nat_is}
 use Rattle.dlmalloc.proofs.Cuts.Chosen.{free_low}
 use Rattle.dlmalloc.proofs.Bins.Held.{AreAccounted}
@@ -104,16 +104,6 @@ module _ (stays : IndexStays) {A : Type 0} {regions : A → List Grant} {word : 
       IsBinnedBut (at ∷ []) regions word old → IsBinnedBut (old.victim ∷ []) regions word new
   small_rest moves now = on moves (rest_victim new sound moves refl now)
 
-  pub old_victim_other : FreeMoves (state_of word old) (state_of word new) (at ∷ []) (rest ∷ []) → at ≢ old.victim → new.victim ≡ rest → old.victim_size ≢ 0 → old.victim ≢ new.victim
-  old_victim_other moves other now some same = rest_other new sound moves rest (inl refl) (sound.victim some) other (sym now ∙ sym same)
-
-  pub old_victim_free : {more : List ℕ} → FreeMoves (state_of word old) (state_of word new) (at ∷ []) more → at ≢ old.victim →
-      old.victim_size ≢ 0 → IsFreeAt (state_of word new) old.victim old.victim_size
-  old_victim_free moves other some = victim_free new sound moves (sound.victim some) other
-
-  pub old_victim_none : old.victim_size ≡ 0 → (bytes : ℕ) → IsFreeAt (state_of word new) old.victim bytes → ⊥
-  old_victim_none none bytes free = none_free_at_zero moved.sound (subst (λ a. IsFreeAt (state_of word new) a bytes) (sound.no_victim none) free)
-
 -- ---- the two ways of a cut
 
 -- where a rest stays free, and where none does
@@ -124,84 +114,94 @@ module _ {old new : HeapState} {at : ℕ} (rest n size : ℕ) (moves : FreeMoves
   pub moves_whole : size < n + 32 → FreeMoves old new (at ∷ []) []
   moves_whole little = (let test : nat_le (n + 32) size ≡ false = grind (arith, nat_tests) in subst (λ b. FreeMoves old new (at ∷ []) (if b then rest ∷ [] else [])) test moves)
 
--- the victim after a chunk was taken
-module _ (heap : HeapState) (at size n : ℕ) where
-  pub victim_of_victim : at ≡ heap.victim → victim_after heap n (extent at size Free) ≡ (if nat_le (n + 32) size then at + n else 0)
-  victim_of_victim is = (let test : (at == heap.victim) ≡ true = (let e = is in grind (arith, nat_tests)) in rw test refl)
-
-  pub victim_of_small : at ≢ heap.victim → n + 32 ≤ size → n < 256 → victim_after heap n (extent at size Free) ≡ at + n
-  victim_of_small other room small =
-      let test : (at == heap.victim) ≡ false = (let o = other in grind (arith, nat_tests)) in
-      let rest : nat_le (n + 32) size ≡ true = grind (arith, nat_tests) in
-      let few : nat_lt n 256 ≡ true = grind (arith, nat_tests) in
-      rw (test, rest, few) refl
-
-  pub victim_of_whole : at ≢ heap.victim → size < n + 32 → victim_after heap n (extent at size Free) ≡ heap.victim
-  victim_of_whole other little =
-      let test : (at == heap.victim) ≡ false = (let o = other in grind (arith, nat_tests)) in
-      let rest : nat_le (n + 32) size ≡ false = grind (arith, nat_tests) in
-      rw (test, rest) refl
-
-  pub victim_of_large : at ≢ heap.victim → n + 32 ≤ size → 256 ≤ n → victim_after heap n (extent at size Free) ≡ heap.victim
-  victim_of_large other room many =
-      let test : (at == heap.victim) ≡ false = (let o = other in grind (arith, nat_tests)) in
-      let rest : nat_le (n + 32) size ≡ true = grind (arith, nat_tests) in
-      let few : nat_lt n 256 ≡ false = grind (arith, nat_tests) in
-      rw (test, rest, few) refl
+-- the victim after a chunk was taken, by what is asked of the chunk
+victim_of : (heap : HeapState) (at size n : ℕ) (was rest small : Bool) → (at == heap.victim) ≡ was → nat_le (n + 32) size ≡ rest → nat_lt n 256 ≡ small →
+    victim_after heap n (extent at size Free) ≡ (if was then (if rest then at + n else 0) else if rest && small then at + n else heap.victim)
+victim_of heap at size n was rest small first second third =
+    λ i. if first i then (if second i then at + n else 0) else if second i && third i then at + n else heap.victim
 
 -- ---- a chunk is taken
 
+-- n bytes of a free chunk were taken, and the bins are as before
+pub record IsChunkCut {A : Type 0} (regions : A → List Grant) (word : A → ℕ → ℕ) (follows : A → List Event → A → Type 0) (old : Dlmalloc A) (at size n : ℕ) (new : Dlmalloc A) : Type 0 where
+  pub moved : IsMoved regions word follows old new
+  pub state : state_of word new ≡ taken (state_of word old) (extent at size Free) n
+  pub free : FreeMoves (state_of word old) (state_of word new) (at ∷ []) (if nat_le (n + 32) size then (at + n) ∷ [] else [])
+  pub bins : new.bins ≡ old.bins
+
 module _ (stays : IndexStays) {A : Type 0} {regions : A → List Grant} {word : A → ℕ → ℕ} {follows : A → List Event → A → Type 0}
-    {old new : Dlmalloc A} (sound : IsSound regions word old) {at : ℕ} (size n : ℕ) (moved : IsMoved regions word follows old new)
-    (state : state_of word new ≡ taken (state_of word old) (extent at size Free) n)
-    (moves : FreeMoves (state_of word old) (state_of word new) (at ∷ []) (if nat_le (n + 32) size then (at + n) ∷ [] else []))
-    (bins : new.bins ≡ old.bins) where
-  pub victim_is : new.victim ≡ victim_after (state_of word old) n (extent at size Free)
-  victim_is = ap (λ s. s.victim) state
+    {old new : Dlmalloc A} (sound : IsSound regions word old) {at size n : ℕ} (cut : IsChunkCut regions word follows old at size n new) where
+  pub victim_is : (was rest small : Bool) → (at == old.victim) ≡ was → nat_le (n + 32) size ≡ rest → nat_lt n 256 ≡ small →
+      new.victim ≡ (if was then (if rest then at + n else 0) else if rest && small then at + n else old.victim)
+  victim_is was rest small first second third = ap (λ s. s.victim) cut.state ∙ victim_of (state_of word old) at size n was rest small first second third
 
   -- of the victim
   pub victim_taken : at ≡ old.victim → KeepsOrder regions word old new
   victim_taken is b = go (nat_le (n + 32) size) refl
     where
+      mine : (at == old.victim) ≡ true
+      mine = (let e = is in grind (arith, nat_tests))
+
       go : (t : Bool) → nat_le (n + 32) size ≡ t → (after : IsBinned regions word new) × AreInOrder b.index after.index
       go true test = (
-        victim_rest stays sound moved bins at (at + n) (moves_rest (at + n) n size moves (grind (arith, nat_tests))) is
-            (victim_is ∙ (victim_of_victim (state_of word old) at size n is ∙ rw test refl)) b,
+        victim_rest stays sound cut.moved cut.bins at (at + n) (moves_rest (at + n) n size cut.free (grind (arith, nat_tests))) is
+            (victim_is true true (nat_lt n 256) mine test refl) b,
         order_same b.index,
       )
       go false test = (
-        victim_gone stays sound moved bins at (at + n) (moves_whole (at + n) n size moves (grind (arith, nat_tests))) is
-            (victim_is ∙ (victim_of_victim (state_of word old) at size n is ∙ rw test refl)) b,
+        victim_gone stays sound cut.moved cut.bins at (at + n) (moves_whole (at + n) n size cut.free (grind (arith, nat_tests))) is
+            (victim_is true false (nat_lt n 256) mine test refl) b,
         order_same b.index,
       )
 
+  -- the old victim is free still, unless there was none
+  pub old_victim_free : at ≢ old.victim → old.victim_size ≢ 0 → IsFreeAt (state_of word new) old.victim old.victim_size
+  old_victim_free other some = victim_free new sound cut.free (sound.victim some) other
+
+  pub old_victim_none : old.victim_size ≡ 0 → (bytes : ℕ) → IsFreeAt (state_of word new) old.victim bytes → ⊥
+  old_victim_none none bytes free = none_free_at_zero cut.moved.sound (subst (λ a. IsFreeAt (state_of word new) a bytes) (sound.no_victim none) free)
+
   module _ (other : at ≢ old.victim) where
+    pub apart : (at == old.victim) ≡ false
+    apart = (let o = other in grind (arith, nat_tests))
+
     -- of another, with no rest
     abbrev pub whole_taken : IsBinnedBut (at ∷ []) regions word old → size < n + 32 → IsBinned regions word new
-    whole_taken loose little = binned_gone stays sound moved bins at (at + n) (moves_whole (at + n) n size moves little)
-        (victim_is ∙ victim_of_whole (state_of word old) at size n other little) loose
+    whole_taken loose little =
+        let test : nat_le (n + 32) size ≡ false = grind (arith, nat_tests) in
+        binned_gone stays sound cut.moved cut.bins at (at + n) (moves_whole (at + n) n size cut.free little)
+        (victim_is false false (nat_lt n 256) apart test refl) loose
 
     module _ (room : n + 32 ≤ size) where
       abbrev parts : FreeMoves (state_of word old) (state_of word new) (at ∷ []) ((at + n) ∷ [])
-      parts = moves_rest (at + n) n size moves room
+      parts = moves_rest (at + n) n size cut.free room
+
+      rests : nat_le (n + 32) size ≡ true
+      rests = grind (arith, nat_tests)
+
+      pub small_victim : n < 256 → new.victim ≡ at + n
+      small_victim small = victim_is false true true apart rests (grind (arith, nat_tests))
+
+      pub large_victim : 256 ≤ n → new.victim ≡ old.victim
+      large_victim many = victim_is false true false apart rests (grind (arith, nat_tests))
+
+      -- with a rest that is not the victim
+      pub large_other : 256 ≤ n → at + n ≢ new.victim
+      large_other many = rest_no_victim stays sound cut.moved cut.bins at (at + n) parts other (large_victim many) (omega arith)
+
+      abbrev pub large_taken : 256 ≤ n → IsBinnedBut (at ∷ []) regions word old → IsBinnedBut ((at + n) ∷ []) regions word new
+      large_taken many = binned_rest stays sound cut.moved cut.bins at (at + n) parts (large_victim many)
+
+      -- with a rest that is
+      abbrev pub small_taken : n < 256 → IsBinnedBut (at ∷ []) regions word old → IsBinnedBut (old.victim ∷ []) regions word new
+      small_taken small = small_rest stays sound cut.moved cut.bins at (at + n) parts (small_victim small)
+
+      pub small_other : n < 256 → old.victim_size ≢ 0 → old.victim ≢ new.victim
+      small_other small some same = rest_other new sound parts (at + n) (inl refl) (sound.victim some) other (sym (small_victim small) ∙ sym same)
 
       -- what came was no free chunk
       pub rest_came : (m : ℕ) → IsFreeAt (state_of word old) (at + n) m → 0 < n → ⊥
       rest_came m free some = (parts.stays (at + n) m free (λ is. elim is [ inl same ↦ (let e = same in omega arith) | inr none ↦ none ])).1 (inl refl)
-
-      -- with a rest that is the victim
-      abbrev pub small_taken : n < 256 → IsBinnedBut (at ∷ []) regions word old → IsBinnedBut (old.victim ∷ []) regions word new
-      small_taken small = small_rest stays sound moved bins at (at + n) parts (victim_is ∙ victim_of_small (state_of word old) at size n other room small)
-
-      pub small_other : n < 256 → old.victim_size ≢ 0 → old.victim ≢ new.victim
-      small_other small = old_victim_other stays sound moved bins at (at + n) parts other (victim_is ∙ victim_of_small (state_of word old) at size n other room small)
-
-      -- with a rest that is not
-      abbrev pub large_taken : 256 ≤ n → IsBinnedBut (at ∷ []) regions word old → IsBinnedBut ((at + n) ∷ []) regions word new
-      large_taken many = binned_rest stays sound moved bins at (at + n) parts (victim_is ∙ victim_of_large (state_of word old) at size n other room many)
-
-      pub large_other : 256 ≤ n → at + n ≢ new.victim
-      large_other many = rest_no_victim stays sound moved bins at (at + n) parts other (victim_is ∙ victim_of_large (state_of word old) at size n other room many) (omega arith)
 
 -- ---- a chunk takes the free one behind it, or bytes of it
 

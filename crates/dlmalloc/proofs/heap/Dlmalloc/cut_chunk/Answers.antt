@@ -3,19 +3,15 @@ use Rattle.dlmalloc.proofs.Cuts.FreeChunk.{whole_victim, whole_other, split_vict
 use Rattle.dlmalloc.proofs.heap.Dlmalloc.cut_chunk.Goals.{then-at-self-2-via-then-at-self-2, then-at-self-2-via-else-at-self-2+then-n-lt-LEAST_LARGE}
 use Rattle.dlmalloc.proofs.heap.Dlmalloc.cut_chunk.Goals as goal
 
-pub set_inuse_and_pinuse-requires-clause-size : goal.set_inuse_and_pinuse-requires-clause-size
-set_inuse_and_pinuse-requires-clause-size g c = let w = size_whole c.requires.sound c.args.n c.requires.chunk in omega arith
-
-pub set_inuse_and_pinuse-requires-clause-head : goal.set_inuse_and_pinuse-requires-clause-head
-set_inuse_and_pinuse-requires-clause-head g c =
-    let m = at_whole c.requires.sound c.args.n c.requires.chunk in
-    head_there c.requires.sound c.args.n c.requires.chunk c.args.at (omega arith) (omega arith) (omega arith)
-
-pub set_inuse_and_pinuse-requires-clause-next : goal.set_inuse_and_pinuse-requires-clause-next
-set_inuse_and_pinuse-requires-clause-next g c =
+pub set_inuse_and_pinuse-requires : goal.set_inuse_and_pinuse-requires
+set_inuse_and_pinuse-requires g c =
     let m = at_whole c.requires.sound c.args.n c.requires.chunk in
     let w = size_whole c.requires.sound c.args.n c.requires.chunk in
-    head_there c.requires.sound c.args.n c.requires.chunk (c.args.at + c.args.size) (omega arith) (omega arith) (omega arith)
+    record {
+      size = omega arith;
+      head = head_there c.requires.sound c.args.n c.requires.chunk c.args.at (omega arith) (omega arith) (omega arith);
+      next = head_there c.requires.sound c.args.n c.requires.chunk (c.args.at + c.args.size) (omega arith) (omega arith) (omega arith);
+    }
 
 pub set_size_and_pinuse_of_inuse_chunk-requires-clause-head : goal.set_size_and_pinuse_of_inuse_chunk-requires-clause-head
 set_size_and_pinuse_of_inuse_chunk-requires-clause-head g c =
@@ -32,25 +28,19 @@ overflow_add-self g c =
     let e = end_small c.requires.sound c.args.n c.requires.chunk in
     let f = c.requires.fits in grind arith
 
-pub set_size_and_pinuse_of_free_chunk-requires-clause-size : goal.set_size_and_pinuse_of_free_chunk-requires-clause-size
-set_size_and_pinuse_of_free_chunk-requires-clause-size g c =
-    let w = size_whole c.requires.sound c.args.n c.requires.chunk in
-    let n_whole = c.requires.whole in let fits = c.requires.fits in omega arith
-
-pub set_size_and_pinuse_of_free_chunk-requires-clause-head : goal.set_size_and_pinuse_of_free_chunk-requires-clause-head
-set_size_and_pinuse_of_free_chunk-requires-clause-head g c =
+pub set_size_and_pinuse_of_free_chunk-requires : goal.set_size_and_pinuse_of_free_chunk-requires
+set_size_and_pinuse_of_free_chunk-requires g c =
     let m = at_whole c.requires.sound c.args.n c.requires.chunk in
+    let w = size_whole c.requires.sound c.args.n c.requires.chunk in
     let n_whole = c.requires.whole in let fits = c.requires.fits in
-    subst (λ rs. HasHead rs (c.args.at + c.args.n)) (sym c.set_size_and_pinuse_of_inuse_chunk.ensures.regions)
-    (head_there c.requires.sound c.args.n c.requires.chunk (c.args.at + c.args.n) (omega arith) (omega arith) (omega arith))
-
-pub set_size_and_pinuse_of_free_chunk-requires-clause-foot : goal.set_size_and_pinuse_of_free_chunk-requires-clause-foot
-set_size_and_pinuse_of_free_chunk-requires-clause-foot g c =
-    let m = at_whole c.requires.sound c.args.n c.requires.chunk in
-    let w = size_whole c.requires.sound c.args.n c.requires.chunk in
-    let fits = c.requires.fits in
-    subst (λ rs. HasFoot rs (c.args.at + c.args.n + (c.args.size - c.args.n))) (sym c.set_size_and_pinuse_of_inuse_chunk.ensures.regions)
-    (foot_there c.requires.sound c.args.n c.requires.chunk (c.args.at + c.args.n + (c.args.size - c.args.n)) (omega arith) (omega arith) (omega arith))
+    let same = sym c.set_size_and_pinuse_of_inuse_chunk.ensures.regions in
+    record {
+      size = omega arith;
+      head = subst (λ rs. HasHead rs (c.args.at + c.args.n)) same
+          (head_there c.requires.sound c.args.n c.requires.chunk (c.args.at + c.args.n) (omega arith) (omega arith) (omega arith));
+      foot = subst (λ rs. HasFoot rs (c.args.at + c.args.n + (c.args.size - c.args.n))) same
+          (foot_there c.requires.sound c.args.n c.requires.chunk (c.args.at + c.args.n + (c.args.size - c.args.n)) (omega arith) (omega arith) (omega arith));
+    }
 
 pub returns-then-at-self : goal.returns-then-at-self
 returns-then-at-self g c =

@@ -1,4 +1,4 @@
-use Rattle.dlmalloc.proofs.Names.{◌≡◌, ◌+◌, ◌-◌, ◌<◌, ◌∙◌, [], ◌∷◌, refl, sym, subst, arith, Released, IsWordOf, whole_each, IsShortened, trim_threshold, Dlmalloc}
+use Rattle.dlmalloc.proofs.Names.{◌≡◌, ◌+◌, ◌-◌, ◌<◌, ◌∙◌, [], ◌∷◌, refl, rules, sym, subst, arith, Released, IsWordOf, whole_each, IsShortened, trim_threshold, Dlmalloc}
 use Rattle.dlmalloc.proofs.Segments.HeadTop.{top_low, ends}
 use Rattle.dlmalloc.proofs.Returns.TopShortened.{head_given, within, rest_some, rest_whole, top_still, foot_still, is_shortened}
 use Rattle.dlmalloc.proofs.heap.Dlmalloc.cut_top.Goals as goal
@@ -6,15 +6,13 @@ use Rattle.dlmalloc.proofs.heap.Dlmalloc.cut_top.Goals as goal
 pub overflow_sub-size : goal.overflow_sub-size
 overflow_sub-size g c = within c.requires.sound c.requires.there c.args.cut c.requires.whole c.requires.room
 
-pub free_part-requires-clause-run : goal.free_part-requires-clause-run
-free_part-requires-clause-run g c = head_given c.requires.sound c.requires.there
-
-pub free_part-requires-clause-some : goal.free_part-requires-clause-some
-free_part-requires-clause-some g c = rest_some c.requires.sound c.requires.there c.args.cut c.requires.whole c.requires.room
-
-pub free_part-requires-clause-whole : goal.free_part-requires-clause-whole
-free_part-requires-clause-whole g c =
-    rest_whole c.requires.sound c.requires.there c.args.cut c.requires.whole c.requires.room (g.A.Links.whole c.args.self.now.system)
+pub free_part-requires : goal.free_part-requires
+free_part-requires g c = record {
+  run = head_given c.requires.sound c.requires.there;
+  some = rest_some c.requires.sound c.requires.there c.args.cut c.requires.whole c.requires.room;
+  within = search rules;
+  whole = rest_whole c.requires.sound c.requires.there c.args.cut c.requires.whole c.requires.room (g.A.Links.whole c.args.self.now.system);
+}
 
 pub close_top-requires-clause-low : goal.close_top-requires-clause-low
 close_top-requires-clause-low g c = top_low c.requires.sound c.requires.there

@@ -6,14 +6,12 @@ use Rattle.dlmalloc.proofs.Bins.Order.{lessened_on, in_order}
 use Rattle.dlmalloc.proofs.Moves.WithBins.{rebinned_on, turned}
 use Rattle.dlmalloc.proofs.heap.Dlmalloc.dispose_chunk.Goals as goal
 
-pub free_begin-from-requires-clause-head : goal.free_begin-from-requires-clause-head
-free_begin-from-requires-clause-head g c = head_there c.requires.sound c.requires.chunk
-
-pub free_begin-from-requires-clause-foot : goal.free_begin-from-requires-clause-foot
-free_begin-from-requires-clause-foot g c = foot_there c.requires.sound c.requires.chunk
-
-pub free_begin-from-requires-clause-fits : goal.free_begin-from-requires-clause-fits
-free_begin-from-requires-clause-fits g c = foot_fits c.requires.sound c.requires.chunk refl
+pub free_begin-from-requires : goal.free_begin-from-requires
+free_begin-from-requires g c = record {
+  head = head_there c.requires.sound c.requires.chunk;
+  foot = foot_there c.requires.sound c.requires.chunk;
+  fits = foot_fits c.requires.sound c.requires.chunk refl;
+}
 
 pub overflow_add-at : goal.overflow_add-at
 overflow_add-at g c = let small = behind_small c.requires.sound c.requires.chunk in omega arith
@@ -26,56 +24,38 @@ free_end-to-requires-clause-fits g c = end_below c.requires.sound c.requires.chu
 
 -- ---- the free chunks beside it leave their bins
 
-pub unbin_between-requires-clause-free : goal.unbin_between-requires-clause-free
-unbin_between-requires-clause-free g c = left_free c.requires.sound c.requires.chunk c.free_begin-from.ensures.value
+pub unbin_between-requires : goal.unbin_between-requires
+unbin_between-requires g c = record {
+  sound = c.requires.sound;
+  free = left_free c.requires.sound c.requires.chunk c.free_begin-from.ensures.value;
+  none = left_none c.requires.sound c.requires.chunk c.free_begin-from.ensures.value;
+  binned = ([], c.requires.linked, λ none. none);
+}
 
-pub unbin_between-requires-clause-none : goal.unbin_between-requires-clause-none
-unbin_between-requires-clause-none g c = left_none c.requires.sound c.requires.chunk c.free_begin-from.ensures.value
-
-pub unbin_between-requires-clause-binned : goal.unbin_between-requires-clause-binned
-unbin_between-requires-clause-binned g c = ([], c.requires.linked, λ none. none)
-
-pub unbin_between-requires-2-clause-sound : goal.unbin_between-requires-2-clause-sound
-unbin_between-requires-2-clause-sound g c = c.unbin_between.ensures.same.sound
-
-pub unbin_between-requires-2-clause-free : goal.unbin_between-requires-2-clause-free
-unbin_between-requires-2-clause-free g c = λ more.
-    let there = some c.requires.sound c.requires.chunk c.free_begin-from.ensures.value c.free_end-to.ensures.value in
-    subst (λ s. IsFreeAt s (c.args.at + c.args.size) (c.free_end-to.result - (c.args.at + c.args.size))) (sym c.unbin_between.ensures.same.state)
-    (right_free c.requires.sound c.requires.chunk c.free_begin-from.ensures.value c.free_end-to.ensures.value there more)
-
-pub unbin_between-requires-2-clause-none : goal.unbin_between-requires-2-clause-none
-unbin_between-requires-2-clause-none g c = λ less n free.
-    let there = some c.requires.sound c.requires.chunk c.free_begin-from.ensures.value c.free_end-to.ensures.value in
-    right_none c.requires.sound c.requires.chunk c.free_begin-from.ensures.value c.free_end-to.ensures.value there less n
-    (subst (λ s. IsFreeAt s (c.args.at + c.args.size) n) c.unbin_between.ensures.same.state free)
-
-pub unbin_between-requires-2-clause-binned : goal.unbin_between-requires-2-clause-binned
-unbin_between-requires-2-clause-binned g c = (
-  c.free_begin-from.result ∷ [],
-  (c.unbin_between.ensures.loose [] c.requires.linked (λ none. none)).0,
-  two c.requires.sound c.requires.chunk c.free_begin-from.ensures.value c.free_end-to.ensures.value,
-)
+pub unbin_between-requires-2 : goal.unbin_between-requires-2
+unbin_between-requires-2 g c =
+    let begin = c.free_begin-from.ensures.value in let end = c.free_end-to.ensures.value in
+    let there = some c.requires.sound c.requires.chunk begin end in let state = c.unbin_between.ensures.same.state in
+    record {
+      sound = c.unbin_between.ensures.same.sound;
+      free = λ more. subst (λ s. IsFreeAt s (c.args.at + c.args.size) (c.free_end-to.result - (c.args.at + c.args.size))) (sym state)
+          (right_free c.requires.sound c.requires.chunk begin end there more);
+      none = λ less n free. right_none c.requires.sound c.requires.chunk begin end there less n (subst (λ s. IsFreeAt s (c.args.at + c.args.size) n) state free);
+      binned = (c.free_begin-from.result ∷ [], (c.unbin_between.ensures.loose [] c.requires.linked (λ none. none)).0, two c.requires.sound c.requires.chunk begin end);
+    }
 
 -- ---- they are joined to it
 
-pub join_free-requires-clause-sound : goal.join_free-requires-clause-sound
-join_free-requires-clause-sound g c = c.unbin_between-2.ensures.same.sound
-
-pub join_free-requires-clause-chunk : goal.join_free-requires-clause-chunk
-join_free-requires-clause-chunk g c =
-    still_there c.requires.sound c.requires.chunk c.free_begin-from.ensures.value c.free_end-to.ensures.value
-    (rebinned_on g.A.Links.regions g.A.Links.word g.A.Links.follows g.A.Links.follows_on c.unbin_between.ensures.same c.unbin_between-2.ensures.same)
-
-pub join_free-requires-clause-from : goal.join_free-requires-clause-from
-join_free-requires-clause-from g c =
-    from_still c.requires.sound c.requires.chunk c.free_begin-from.ensures.value c.free_end-to.ensures.value
-    (rebinned_on g.A.Links.regions g.A.Links.word g.A.Links.follows g.A.Links.follows_on c.unbin_between.ensures.same c.unbin_between-2.ensures.same)
-
-pub join_free-requires-clause-to : goal.join_free-requires-clause-to
-join_free-requires-clause-to g c =
-    to_still c.requires.sound c.requires.chunk c.free_begin-from.ensures.value c.free_end-to.ensures.value
-    (rebinned_on g.A.Links.regions g.A.Links.word g.A.Links.follows g.A.Links.follows_on c.unbin_between.ensures.same c.unbin_between-2.ensures.same)
+pub join_free-requires : goal.join_free-requires
+join_free-requires g c =
+    let begin = c.free_begin-from.ensures.value in let end = c.free_end-to.ensures.value in
+    let left = rebinned_on g.A.Links.regions g.A.Links.word g.A.Links.follows g.A.Links.follows_on c.unbin_between.ensures.same c.unbin_between-2.ensures.same in
+    record {
+      sound = left.sound;
+      chunk = still_there c.requires.sound c.requires.chunk begin end left;
+      from = from_still c.requires.sound c.requires.chunk begin end left;
+      to = to_still c.requires.sound c.requires.chunk begin end left;
+    }
 
 -- ---- and what they are goes into its bin
 
@@ -84,16 +64,6 @@ bin_joined-requires-clause-sound g c = c.join_free.ensures.moved.sound
 
 pub bin_joined-requires-clause-joined : goal.bin_joined-requires-clause-joined
 bin_joined-requires-clause-joined g c = c.join_free.ensures.joined
-
-pub bin_joined-requires-clause-loose : goal.bin_joined-requires-clause-loose
-bin_joined-requires-clause-loose g c =
-    let first = c.unbin_between.ensures in let second = c.unbin_between-2.ensures in
-    let from = c.free_begin-from.result in
-    joined_loose c.requires.sound c.requires.chunk c.free_begin-from.ensures.value c.free_end-to.ensures.value
-    (rebinned_on g.A.Links.regions g.A.Links.word g.A.Links.follows g.A.Links.follows_on first.same second.same) c.index_stays.ensures
-    (second.loose (from ∷ []) (first.loose [] c.requires.linked (λ none. none)).0
-    (two c.requires.sound c.requires.chunk c.free_begin-from.ensures.value c.free_end-to.ensures.value)).0
-    c.join_free.ensures.moved c.join_free.ensures.free c.join_free.ensures.victim c.join_free.ensures.bins
 
 pub returns : goal.returns
 returns g c =
@@ -121,3 +91,12 @@ returns g c =
       order = order;
       counted = omega arith;
     }
+
+pub bin_joined-requires-clause-loose : goal.bin_joined-requires-clause-loose
+bin_joined-requires-clause-loose g c =
+    let first = c.unbin_between.ensures in let second = c.unbin_between-2.ensures in let e = c.join_free.ensures in
+    let begin = c.free_begin-from.ensures.value in let end = c.free_end-to.ensures.value in
+    let left = rebinned_on g.A.Links.regions g.A.Links.word g.A.Links.follows g.A.Links.follows_on first.same second.same in
+    let one = first.loose [] c.requires.linked (λ none. none) in
+    let loose = second.loose (c.free_begin-from.result ∷ []) one.0 (two c.requires.sound c.requires.chunk begin end) in
+    joined_loose c.requires.sound c.requires.chunk begin end left c.index_stays.ensures loose.0 e.moved e.free e.victim e.bins

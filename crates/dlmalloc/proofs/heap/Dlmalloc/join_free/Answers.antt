@@ -8,33 +8,18 @@ use Rattle.dlmalloc.proofs.heap.Dlmalloc.join_free.Goals as goal
 pub store_counted-requires : goal.store_counted-requires
 store_counted-requires g c = (from_there c.requires.sound c.requires.chunk c.requires.from).granted
 
-pub make_free-requires-clause-size : goal.make_free-requires-clause-size
-make_free-requires-clause-size g c =
+pub make_free-requires : goal.make_free-requires
+make_free-requires g c =
     let on = goes_on c.requires.sound c.requires.chunk c.requires.from c.requires.to c.if-to-self.false in
-    whole_size c.requires.sound c.requires.chunk c.requires.from c.requires.to on
-
-pub make_free-requires-clause-long : goal.make_free-requires-clause-long
-make_free-requires-clause-long g c =
-    let on = goes_on c.requires.sound c.requires.chunk c.requires.from c.requires.to c.if-to-self.false in
-    let r = room c.requires.sound c.requires.chunk c.requires.from c.requires.to on in omega arith
-
-pub make_free-requires-clause-foot : goal.make_free-requires-clause-foot
-make_free-requires-clause-foot g c =
-    let on = goes_on c.requires.sound c.requires.chunk c.requires.from c.requires.to c.if-to-self.false in
-    end_foot c.requires.sound c.requires.chunk c.requires.from c.requires.to on
-
-pub make_free-requires-clause-next : goal.make_free-requires-clause-next
-make_free-requires-clause-next g c =
-    let on = goes_on c.requires.sound c.requires.chunk c.requires.from c.requires.to c.if-to-self.false in
-    end_head c.requires.sound c.requires.chunk c.requires.from c.requires.to on
-
-pub make_free-requires-clause-told : goal.make_free-requires-clause-told
-make_free-requires-clause-told g c =
-    let on = goes_on c.requires.sound c.requires.chunk c.requires.from c.requires.to c.if-to-self.false in
-    λ told. end_told c.requires.sound c.requires.chunk c.requires.from c.requires.to on (grind (arith, nat_tests))
-
-pub make_free-requires-clause-head : goal.make_free-requires-clause-head
-make_free-requires-clause-head g c = from_there c.requires.sound c.requires.chunk c.requires.from
+    let r = room c.requires.sound c.requires.chunk c.requires.from c.requires.to on in
+    record {
+      size = whole_size c.requires.sound c.requires.chunk c.requires.from c.requires.to on;
+      long = omega arith;
+      head = from_there c.requires.sound c.requires.chunk c.requires.from;
+      foot = end_foot c.requires.sound c.requires.chunk c.requires.from c.requires.to on;
+      next = end_head c.requires.sound c.requires.chunk c.requires.from c.requires.to on;
+      told = λ told. end_told c.requires.sound c.requires.chunk c.requires.from c.requires.to on (grind (arith, nat_tests));
+    }
 
 pub overflow_add-self : goal.overflow_add-self
 overflow_add-self g c = let s = small_top c.requires.sound c.requires.chunk c.requires.from c.requires.to c.if-to-self.true in grind arith

@@ -4,11 +4,8 @@ use Rattle.dlmalloc.proofs.Returns.VisitWithBins.{chained_then, may_still, visit
 use Rattle.dlmalloc.proofs.Returns.PassOrder.{with_same, visit_none, visit_left, visit_kept}
 use Rattle.dlmalloc.proofs.heap.Dlmalloc.release_segment.Goals as goal
 
-pub may_leave-requires-clause-head : goal.may_leave-requires-clause-head
-may_leave-requires-clause-head g c = first_there c.requires.sound c.requires.chained
-
-pub may_leave-requires-clause-long : goal.may_leave-requires-clause-long
-may_leave-requires-clause-long g c = long_told c.requires.sound c.requires.chained
+pub may_leave-requires : goal.may_leave-requires
+may_leave-requires g c = record { head = first_there c.requires.sound c.requires.chained; long = long_told c.requires.sound c.requires.chained }
 
 pub returns-then-not-may_leave-clause-answer : goal.returns-then-not-may_leave-clause-answer
 returns-then-not-may_leave-clause-answer g c = λ chained.
@@ -35,20 +32,17 @@ unbin-requires-clause-free g c =
 pub unbin-requires-clause-binned : goal.unbin-requires-clause-binned
 unbin-requires-clause-binned g c = ([], c.requires.linked, λ none. none)
 
-pub hand_out-requires-clause-sound : goal.hand_out-requires-clause-sound
-hand_out-requires-clause-sound g c = c.unbin.ensures.same.sound
-
-pub hand_out-requires-clause-there : goal.hand_out-requires-clause-there
-hand_out-requires-clause-there g c = subst (λ now. 0 < now.size) (sym c.unbin.ensures.same.fields) c.requires.there
-
-pub hand_out-requires-clause-chained : goal.hand_out-requires-clause-chained
-hand_out-requires-clause-chained g c = chained_then c.requires.sound c.unbin.ensures.same c.requires.chained
-
-pub hand_out-requires-clause-may : goal.hand_out-requires-clause-may
-hand_out-requires-clause-may g c = λ chained.
-    let fixed = g.met.A.Allocator.fixed c.args.self.now.system c.unbin.new.self.system _ c.unbin.ensures.same.followed in
-    ap (λ parts. may_leave parts chained.segment) fixed.parts_same ∙ may_still c.requires.sound c.unbin.ensures.same
-    (g.A.Allocator.parts c.args.self.now.system) (sym c.may_leave.ensures.told ∙ c.if-not-may_leave.false) chained
+pub hand_out-requires : goal.hand_out-requires
+hand_out-requires g c =
+    let same = c.unbin.ensures.same in
+    let fixed = g.met.A.Allocator.fixed c.args.self.now.system c.unbin.new.self.system _ same.followed in
+    record {
+      sound = same.sound;
+      there = subst (λ now. 0 < now.size) (sym same.fields) c.requires.there;
+      chained = chained_then c.requires.sound same c.requires.chained;
+      may = λ chained. ap (λ parts. may_leave parts chained.segment) fixed.parts_same ∙ may_still c.requires.sound same
+          (g.A.Allocator.parts c.args.self.now.system) (sym c.may_leave.ensures.told ∙ c.if-not-may_leave.false) chained;
+    }
 
 pub returns-then-not-may_leave-clause-index : goal.returns-then-not-may_leave-clause-index
 returns-then-not-may_leave-clause-index g c = λ chained b.
@@ -89,35 +83,25 @@ returns-then-hand_out g c =
 
 -- ---- the system kept it
 
-pub bin-requires-clause-sound : goal.bin-requires-clause-sound
-bin-requires-clause-sound g c =
-    (c.hand_out.ensures.visited (chained_then c.requires.sound c.unbin.ensures.same c.requires.chained)).left.sound
-
-pub bin-requires-clause-free : goal.bin-requires-clause-free
-bin-requires-clause-free g c =
+pub bin-requires : goal.bin-requires
+bin-requires g c =
     let heap = c.args.self.now in let middle = c.unbin.new.self in let told = c.args.told.now in
-    let new = c.hand_out.new.self in let chained = c.requires.chained in
+    let new = c.hand_out.new.self in let chained = c.requires.chained in let same = c.unbin.ensures.same in
     let may = sym c.if-not-may_leave.false ∙ (c.may_leave.ensures.told ∙ test_is c.requires.sound chained (g.A.Allocator.parts heap.system)) in
     let first = first_is_free c.requires.sound chained (last_test (is_own chained.segment) (g.A.Allocator.parts heap.system) (is_unused chained.segment) may) in
     let moves = subst (λ left. FreeMoves (state_of g.A.Links.word middle) (state_of g.A.Links.word new) (if left then told.base ∷ [] else []) [])
     c.if-hand_out.false c.hand_out.ensures.free in
-    (moves.stays told.base (told.size - 80) (subst (λ s. IsFreeAt s told.base (told.size - 80)) (sym c.unbin.ensures.same.state) first) (λ none. none)).0
-
-pub bin-requires-clause-other : goal.bin-requires-clause-other
-bin-requires-clause-other g c =
-    let chain = chained_then c.requires.sound c.unbin.ensures.same c.requires.chained in
-    not_victim c.unbin.ensures.same.sound (c.hand_out.ensures.visited chain)
-
-pub bin-requires-clause-loose : goal.bin-requires-clause-loose
-bin-requires-clause-loose g c =
-    let middle = c.unbin.new.self in let told = c.args.told.now in let new = c.hand_out.new.self in
-    let e = c.hand_out.ensures in
-    let chain = chained_then c.requires.sound c.unbin.ensures.same c.requires.chained in (
-      [],
-      loose_still c.index_stays.ensures c.unbin.ensures.same.sound (e.visited chain) e.words e.bins
-          (subst (λ left. FreeMoves (state_of g.A.Links.word middle) (state_of g.A.Links.word new) (if left then told.base ∷ [] else []) [])
-          c.if-hand_out.false e.free) (c.unbin.ensures.loose [] c.requires.linked (λ none. none)).0,
-    )
+    let visited = c.hand_out.ensures.visited (chained_then c.requires.sound same chained) in
+    record {
+      sound = visited.left.sound;
+      free = (moves.stays told.base (told.size - 80) (subst (λ s. IsFreeAt s told.base (told.size - 80)) (sym same.state) first) (λ none. none)).0;
+      other = not_victim same.sound visited;
+      loose = (
+        [],
+        loose_still c.index_stays.ensures same.sound visited c.hand_out.ensures.words c.hand_out.ensures.bins moves
+            (c.unbin.ensures.loose [] c.requires.linked (λ none. none)).0,
+      );
+    }
 
 pub returns : goal.returns
 returns g c =

@@ -7,36 +7,24 @@ use Rattle.dlmalloc.proofs.heap.Dlmalloc.release_unused_segments.Goals as goal
 pub loop-payload-init : goal.loop-payload-init
 loop-payload-init g c = (begun_passing c.requires.sound c.requires.there g.A.Links.follows_none, c.requires.linked, omega arith)
 
-pub record_at-told-requires-clause-high : goal.record_at-told-requires-clause-high
-record_at-told-requires-clause-high g c = read_high c.requires.sound c.loop-payload.invariant.0 c.loop-payload-test.true
+pub record_at-told-requires : goal.record_at-told-requires
+record_at-told-requires g c =
+    let passing = c.loop-payload.invariant.0 in let more = c.loop-payload-test.true in let payload = c.loop-payload.payload in
+    record {
+      high = read_high c.requires.sound passing more;
+      base = read_word c.requires.sound passing more payload (omega arith) (omega arith) refl;
+      size = read_word c.requires.sound passing more (payload + 8) (omega arith) (omega arith) (omega arith);
+      next = read_word c.requires.sound passing more (payload + 16) (omega arith) (omega arith) (omega arith);
+      flags = read_word c.requires.sound passing more (payload + 24) (omega arith) (omega arith) (omega arith);
+    }
 
-pub record_at-told-requires-clause-base : goal.record_at-told-requires-clause-base
-record_at-told-requires-clause-base g c =
-    read_word c.requires.sound c.loop-payload.invariant.0 c.loop-payload-test.true c.loop-payload.payload (omega arith) (omega arith) refl
-
-pub record_at-told-requires-clause-size : goal.record_at-told-requires-clause-size
-record_at-told-requires-clause-size g c =
-    read_word c.requires.sound c.loop-payload.invariant.0 c.loop-payload-test.true (c.loop-payload.payload + 8) (omega arith) (omega arith) (omega arith)
-
-pub record_at-told-requires-clause-next : goal.record_at-told-requires-clause-next
-record_at-told-requires-clause-next g c =
-    read_word c.requires.sound c.loop-payload.invariant.0 c.loop-payload-test.true (c.loop-payload.payload + 16) (omega arith) (omega arith) (omega arith)
-
-pub record_at-told-requires-clause-flags : goal.record_at-told-requires-clause-flags
-record_at-told-requires-clause-flags g c =
-    read_word c.requires.sound c.loop-payload.invariant.0 c.loop-payload-test.true (c.loop-payload.payload + 24) (omega arith) (omega arith) (omega arith)
-
-pub release_segment-requires-clause-sound : goal.release_segment-requires-clause-sound
-release_segment-requires-clause-sound g c = c.loop-payload.invariant.0.left.sound
-
-pub release_segment-requires-clause-linked : goal.release_segment-requires-clause-linked
-release_segment-requires-clause-linked g c = c.loop-payload.invariant.1
-
-pub release_segment-requires-clause-there : goal.release_segment-requires-clause-there
-release_segment-requires-clause-there g c = c.loop-payload.invariant.0.some
-
-pub release_segment-requires-clause-chained : goal.release_segment-requires-clause-chained
-release_segment-requires-clause-chained g c = chained c.requires.sound c.loop-payload.invariant.0 c.loop-payload-test.true c.record_at-told.ensures.told
+pub release_segment-requires : goal.release_segment-requires
+release_segment-requires g c = record {
+  sound = c.loop-payload.invariant.0.left.sound;
+  linked = c.loop-payload.invariant.1;
+  there = c.loop-payload.invariant.0.some;
+  chained = chained c.requires.sound c.loop-payload.invariant.0 c.loop-payload-test.true c.record_at-told.ensures.told;
+}
 
 pub overflow_add-released : goal.overflow_add-released
 overflow_add-released g c = let fits = sum_fits c.requires.sound c.loop-payload.invariant.0 c.loop-payload-test.true c.record_at-told.ensures.told in grind arith

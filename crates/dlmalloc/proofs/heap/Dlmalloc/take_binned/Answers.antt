@@ -1,23 +1,23 @@
-use Rattle.dlmalloc.proofs.Names.{◌+◌, ◌-◌, ◌≡◌, ◌≢◌, [], Some, refl, sym, ◌∙◌, ap, subst, arith, Free, extents_in, extent_at, taken, HasOneMore, state_of, IsFreeAt, KeepsOrder}
+use Rattle.dlmalloc.proofs.Names.{◌+◌, ◌-◌, ◌≡◌, ◌≢◌, [], refl, sym, ◌∙◌, ap, subst, arith, Free, extents_in, extent_at, taken, HasOneMore, state_of, IsFreeAt, KeepsOrder}
 use Rattle.dlmalloc.proofs.Extents.Lookup.{extent}
 use Rattle.dlmalloc.proofs.Cuts.FreeChunk.{end_small}
 use Rattle.dlmalloc.proofs.Moves.WithBins.{turned}
 use Rattle.dlmalloc.proofs.Bins.Changes.{not_rebinned, renamed}
 use Rattle.dlmalloc.proofs.Bins.Order.{lessened_as, added_as, order_less, in_order}
-use Rattle.dlmalloc.proofs.Cuts.BinsMeanwhile.{whole_taken, rest_came, small_taken, small_other, large_taken, large_other, old_victim_free, old_victim_none}
+use Rattle.dlmalloc.proofs.Cuts.BinsMeanwhile.{IsChunkCut, whole_taken, rest_came, small_taken, small_other, large_taken, large_other, old_victim_free, old_victim_none}
 use Rattle.dlmalloc.proofs.heap.Dlmalloc.take_binned.Goals as goal
 
 pub unbin_fit-requires-clause-binned : goal.unbin_fit-requires-clause-binned
 unbin_fit-requires-clause-binned g c = ([], c.requires.linked, λ none. none)
+
+pub unbin_fit-requires-clause-member : goal.unbin_fit-requires-clause-member
+unbin_fit-requires-clause-member g c = (c.args.n, c.requires.member)
 
 pub cut_chunk-requires-clause-sound : goal.cut_chunk-requires-clause-sound
 cut_chunk-requires-clause-sound g c = c.unbin_fit.ensures.same.sound
 
 pub cut_chunk-requires-clause-chunk : goal.cut_chunk-requires-clause-chunk
 cut_chunk-requires-clause-chunk g c = ap (λ s. extent_at c.args.at (extents_in s)) c.unbin_fit.ensures.same.state ∙ c.requires.chunk
-
-pub unbin_fit-requires-clause-member : goal.unbin_fit-requires-clause-member
-unbin_fit-requires-clause-member g c = (c.args.n, c.requires.member)
 
 -- ---- no rest
 
@@ -26,9 +26,12 @@ returns-then-rest-lt-LEAST_CHUNK g c =
     let regions = g.A.Links.regions in let word = g.A.Links.word in let old = c.args.self.now in
     let new = c.cut_chunk.new.self in let one = c.unbin_fit.ensures in let e = c.cut_chunk.ensures in
     let less = c.if-rest-lt-LEAST_CHUNK.true in let fits = c.requires.fits in
+    let cut : IsChunkCut g.A.Links.regions g.A.Links.word g.A.Links.follows c.unbin_fit.new.self c.args.at c.args.size c.args.n c.cut_chunk.new.self =
+    record { moved = e.moved; state = e.state; free = e.free; bins = e.bins } in
     let order : KeepsOrder regions word old new = λ b.
     let left = one.loose [] b (λ none. none) in
-    (whole_taken c.index_stays.ensures one.same.sound c.args.size c.args.n e.moved e.state e.free e.bins (λ is. c.requires.other (is ∙ ap (λ h. h.victim) one.same.fields)) left.0 (omega arith), order_less b.index left.0.index (lessened_as c.args.size c.args.at b.index left.0.index left.1)) in
+    let after = whole_taken c.index_stays.ensures one.same.sound cut (λ is. c.requires.other (is ∙ ap (λ h. h.victim) one.same.fields)) left.0 (omega arith) in
+    (after, order_less b.index left.0.index (lessened_as c.args.size c.args.at b.index left.0.index left.1)) in
     record {
       state = e.state ∙ ap (λ s. taken s (extent c.args.at c.args.size Free) c.args.n) one.same.state;
       more = subst (λ s. HasOneMore s (state_of word new) c.args.at) one.same.state e.more;
@@ -40,57 +43,40 @@ returns-then-rest-lt-LEAST_CHUNK g c =
 
 -- ---- the rest is the victim, and the old one goes into its bin
 
-pub bin_some-requires-clause-sound : goal.bin_some-requires-clause-sound
-bin_some-requires-clause-sound g c = c.cut_chunk.ensures.moved.sound
-
-pub bin_some-requires-clause-free : goal.bin_some-requires-clause-free
-bin_some-requires-clause-free g c = λ some.
-    let same = c.unbin_fit.ensures.same in let e = c.cut_chunk.ensures in let at = ap (λ h. h.victim) same.fields in
-    let size = ap (λ h. h.victim_size) same.fields in
-    subst (λ v. extent_at v (extents_in (state_of g.A.Links.word c.cut_chunk.new.self)) ≡ Some (extent v c.args.self.now.victim_size Free)) at
-    (subst (λ n. extent_at c.unbin_fit.new.self.victim (extents_in (state_of g.A.Links.word c.cut_chunk.new.self)) ≡ Some (extent c.unbin_fit.new.self.victim n Free)) size
-    (old_victim_free c.index_stays.ensures same.sound e.moved e.bins c.args.at (c.args.at + c.args.n) e.free (λ is. c.requires.other (is ∙ at)) (λ none. some (sym size ∙ none))))
-
-pub bin_some-requires-clause-none : goal.bin_some-requires-clause-none
-bin_some-requires-clause-none g c = λ none n free.
-    let same = c.unbin_fit.ensures.same in let e = c.cut_chunk.ensures in let at = ap (λ h. h.victim) same.fields in
-    let size = ap (λ h. h.victim_size) same.fields in
-    old_victim_none c.index_stays.ensures same.sound e.moved e.bins c.args.at (c.args.at + c.args.n) (size ∙ none) n
-    (subst (λ v. extent_at v (extents_in (state_of g.A.Links.word c.cut_chunk.new.self)) ≡ Some (extent v n Free)) (sym at) free)
-
-pub bin_some-requires-clause-other : goal.bin_some-requires-clause-other
-bin_some-requires-clause-other g c = λ some is.
-    let same = c.unbin_fit.ensures.same in let e = c.cut_chunk.ensures in let at = ap (λ h. h.victim) same.fields in
-    let size = ap (λ h. h.victim_size) same.fields in let more = c.if-rest-lt-LEAST_CHUNK.false in
-    let fits = c.requires.fits in
-    small_other c.index_stays.ensures same.sound c.args.size c.args.n e.moved e.state e.free e.bins (λ is. c.requires.other (is ∙ at))
-    (omega arith) c.if-n-lt-LEAST_LARGE.true (λ none. some (sym size ∙ none)) (at ∙ is)
-
-pub bin_some-requires-clause-loose : goal.bin_some-requires-clause-loose
-bin_some-requires-clause-loose g c =
-    let one = c.unbin_fit.ensures in let e = c.cut_chunk.ensures in let at = ap (λ h. h.victim) one.same.fields in
-    let more = c.if-rest-lt-LEAST_CHUNK.false in
-    let fits = c.requires.fits in (
-      [],
-      renamed at (small_taken c.index_stays.ensures one.same.sound c.args.size c.args.n e.moved e.state e.free e.bins (λ is. c.requires.other (is ∙ at))
-          (omega arith) c.if-n-lt-LEAST_LARGE.true (one.loose [] c.requires.linked (λ none. none)).0),
-    )
+pub bin_some-requires : goal.bin_some-requires
+bin_some-requires g c =
+    let one = c.unbin_fit.ensures in let e = c.cut_chunk.ensures in let stays = c.index_stays.ensures in
+    let at = ap (λ h. h.victim) one.same.fields in let size = ap (λ h. h.victim_size) one.same.fields in
+    let more = c.if-rest-lt-LEAST_CHUNK.false in let fits = c.requires.fits in let small = c.if-n-lt-LEAST_LARGE.true in
+    let cut : IsChunkCut g.A.Links.regions g.A.Links.word g.A.Links.follows c.unbin_fit.new.self c.args.at c.args.size c.args.n c.cut_chunk.new.self =
+    record { moved = e.moved; state = e.state; free = e.free; bins = e.bins } in
+    let other : c.args.at ≢ c.unbin_fit.new.self.victim = λ is. c.requires.other (is ∙ at) in
+    let new = state_of g.A.Links.word c.cut_chunk.new.self in
+    record {
+      sound = e.moved.sound;
+      free = λ some. subst (λ v. IsFreeAt new v c.args.self.now.victim_size) at (subst (λ n. IsFreeAt new c.unbin_fit.new.self.victim n) size
+          (old_victim_free stays one.same.sound cut other (λ none. some (sym size ∙ none))));
+      none = λ none n free. old_victim_none stays one.same.sound cut (size ∙ none) n (subst (λ v. IsFreeAt new v n) (sym at) free);
+      other = λ some is. small_other stays one.same.sound cut other (omega arith) small (λ none. some (sym size ∙ none)) (at ∙ is);
+      loose = ([], renamed at (small_taken stays one.same.sound cut other (omega arith) small (one.loose [] c.requires.linked (λ none. none)).0));
+    }
 
 pub returns-then-n-lt-LEAST_LARGE : goal.returns-then-n-lt-LEAST_LARGE
 returns-then-n-lt-LEAST_LARGE g c =
-    let regions = g.A.Links.regions in let word = g.A.Links.word in let cut = c.cut_chunk.new.self in
-    let new = c.bin_some.new.self in let one = c.unbin_fit.ensures in let e = c.cut_chunk.ensures in
+    let regions = g.A.Links.regions in let word = g.A.Links.word in let old = c.args.self.now in
+    let one = c.unbin_fit.ensures in let e = c.cut_chunk.ensures in
     let last = c.bin_some.ensures in let at = ap (λ h. h.victim) one.same.fields in
     let more = c.if-rest-lt-LEAST_CHUNK.false in let fits = c.requires.fits in
-    let order : KeepsOrder regions word c.args.self.now new = λ b.
+    let cut : IsChunkCut g.A.Links.regions g.A.Links.word g.A.Links.follows c.unbin_fit.new.self c.args.at c.args.size c.args.n c.cut_chunk.new.self =
+    record { moved = e.moved; state = e.state; free = e.free; bins = e.bins } in
+    let order : KeepsOrder regions word old c.bin_some.new.self = λ b.
     let left = one.loose [] b (λ none. none) in
-    let loose = renamed at (small_taken c.index_stays.ensures one.same.sound c.args.size c.args.n e.moved e.state e.free e.bins
-    (λ is. c.requires.other (is ∙ at)) (omega arith) c.if-n-lt-LEAST_LARGE.true left.0) in
+    let loose = renamed at (small_taken c.index_stays.ensures one.same.sound cut (λ is. c.requires.other (is ∙ at)) (omega arith) c.if-n-lt-LEAST_LARGE.true left.0) in
     let after = last.binned [] loose (λ none. none) in
-    (after.0, in_order c.args.self.now.victim_size c.args.self.now.victim b.index left.0.index after.0.index (lessened_as c.args.size c.args.at b.index left.0.index left.1) after.1 (λ is. b.holds.no_victim c.args.self.now.victim c.args.self.now.victim_size is refl)) in
+    (after.0, in_order old.victim_size old.victim b.index left.0.index after.0.index (lessened_as c.args.size c.args.at b.index left.0.index left.1) after.1 (λ is. b.holds.no_victim old.victim old.victim_size is refl)) in
     record {
       state = last.same.state ∙ (e.state ∙ ap (λ s. taken s (extent c.args.at c.args.size Free) c.args.n) one.same.state);
-      more = subst (λ s. HasOneMore (state_of word c.args.self.now) s c.args.at) (sym last.same.state) (subst (λ s. HasOneMore s (state_of word cut) c.args.at) one.same.state e.more);
+      more = subst (λ s. HasOneMore (state_of word old) s c.args.at) (sym last.same.state) (subst (λ s. HasOneMore s (state_of word c.cut_chunk.new.self) c.args.at) one.same.state e.more);
       moved = turned regions word g.A.Links.follows g.A.Links.follows_on one.same e.moved last.same;
       linked = (order c.requires.linked).0;
       order = order;
@@ -104,40 +90,33 @@ overflow_add-at g c =
     let e = end_small c.requires.sound c.args.n c.requires.chunk in
     let f = c.requires.fits in grind arith
 
-pub bin-requires-clause-sound : goal.bin-requires-clause-sound
-bin-requires-clause-sound g c = c.cut_chunk.ensures.moved.sound
-
-pub bin-requires-clause-free : goal.bin-requires-clause-free
-bin-requires-clause-free g c = c.cut_chunk.ensures.rest (let more = c.if-rest-lt-LEAST_CHUNK.false in let fits = c.requires.fits in omega arith)
-
-pub bin-requires-clause-other : goal.bin-requires-clause-other
-bin-requires-clause-other g c =
-    let one = c.unbin_fit.ensures in let e = c.cut_chunk.ensures in let more = c.if-rest-lt-LEAST_CHUNK.false in
-    let fits = c.requires.fits in
-    large_other c.index_stays.ensures one.same.sound c.args.size c.args.n e.moved e.state e.free e.bins
-    (λ is. c.requires.other (is ∙ ap (λ h. h.victim) one.same.fields)) (omega arith) c.if-n-lt-LEAST_LARGE.false
-
-pub bin-requires-clause-loose : goal.bin-requires-clause-loose
-bin-requires-clause-loose g c =
-    let one = c.unbin_fit.ensures in let e = c.cut_chunk.ensures in let more = c.if-rest-lt-LEAST_CHUNK.false in
-    let fits = c.requires.fits in (
-      [],
-      large_taken c.index_stays.ensures one.same.sound c.args.size c.args.n e.moved e.state e.free e.bins (λ is. c.requires.other
-          (is ∙ ap (λ h. h.victim) one.same.fields)) (omega arith) c.if-n-lt-LEAST_LARGE.false (one.loose [] c.requires.linked (λ none. none)).0,
-    )
+pub bin-requires : goal.bin-requires
+bin-requires g c =
+    let one = c.unbin_fit.ensures in let e = c.cut_chunk.ensures in let stays = c.index_stays.ensures in
+    let more = c.if-rest-lt-LEAST_CHUNK.false in let fits = c.requires.fits in let many = c.if-n-lt-LEAST_LARGE.false in
+    let cut : IsChunkCut g.A.Links.regions g.A.Links.word g.A.Links.follows c.unbin_fit.new.self c.args.at c.args.size c.args.n c.cut_chunk.new.self =
+    record { moved = e.moved; state = e.state; free = e.free; bins = e.bins } in
+    let other : c.args.at ≢ c.unbin_fit.new.self.victim = λ is. c.requires.other (is ∙ ap (λ h. h.victim) one.same.fields) in
+    record {
+      sound = e.moved.sound;
+      free = e.rest (omega arith);
+      other = large_other stays one.same.sound cut other (omega arith) many;
+      loose = ([], large_taken stays one.same.sound cut other (omega arith) many (one.loose [] c.requires.linked (λ none. none)).0);
+    }
 
 pub returns : goal.returns
 returns g c =
-    let regions = g.A.Links.regions in let word = g.A.Links.word in let middle = c.unbin_fit.new.self in
-    let cut = c.cut_chunk.new.self in let new = c.bin.new.self in let one = c.unbin_fit.ensures in
-    let e = c.cut_chunk.ensures in let last = c.bin.ensures in let more = c.if-rest-lt-LEAST_CHUNK.false in
-    let fits = c.requires.fits in let rest = c.args.at + c.args.n in
-    let other : c.args.at ≢ middle.victim = λ is. c.requires.other (is ∙ ap (λ h. h.victim) one.same.fields) in
-    let order : KeepsOrder regions word c.args.self.now new = λ b.
+    let regions = g.A.Links.regions in let word = g.A.Links.word in let old = c.args.self.now in
+    let one = c.unbin_fit.ensures in let e = c.cut_chunk.ensures in let last = c.bin.ensures in
+    let more = c.if-rest-lt-LEAST_CHUNK.false in let fits = c.requires.fits in let rest = c.args.at + c.args.n in
+    let other : c.args.at ≢ c.unbin_fit.new.self.victim = λ is. c.requires.other (is ∙ ap (λ h. h.victim) one.same.fields) in
+    let cut : IsChunkCut g.A.Links.regions g.A.Links.word g.A.Links.follows c.unbin_fit.new.self c.args.at c.args.size c.args.n c.cut_chunk.new.self =
+    record { moved = e.moved; state = e.state; free = e.free; bins = e.bins } in
+    let order : KeepsOrder regions word old c.bin.new.self = λ b.
     let left = one.loose [] b (λ none. none) in
-    let loose = large_taken c.index_stays.ensures one.same.sound c.args.size c.args.n e.moved e.state e.free e.bins other (omega arith) c.if-n-lt-LEAST_LARGE.false left.0 in
+    let loose = large_taken c.index_stays.ensures one.same.sound cut other (omega arith) c.if-n-lt-LEAST_LARGE.false left.0 in
     let after = last.binned [] loose (λ none. none) in
-    let new_one = rest_came c.index_stays.ensures one.same.sound c.args.size c.args.n e.moved e.state e.free e.bins other (omega arith) in (
+    let new_one = rest_came c.index_stays.ensures one.same.sound cut other (omega arith) in (
       after.0,
       in_order (c.args.size - c.args.n) rest b.index left.0.index after.0.index (lessened_as c.args.size c.args.at b.index left.0.index left.1)
           (added_as (c.args.size - c.args.n) rest left.0.index after.0.index after.1) (λ is. new_one (c.args.size - c.args.n) (subst (λ s. IsFreeAt s rest
@@ -145,7 +124,7 @@ returns g c =
     ) in
     record {
       state = last.same.state ∙ (e.state ∙ ap (λ s. taken s (extent c.args.at c.args.size Free) c.args.n) one.same.state);
-      more = subst (λ s. HasOneMore (state_of word c.args.self.now) s c.args.at) (sym last.same.state) (subst (λ s. HasOneMore s (state_of word cut) c.args.at) one.same.state e.more);
+      more = subst (λ s. HasOneMore (state_of word old) s c.args.at) (sym last.same.state) (subst (λ s. HasOneMore s (state_of word c.cut_chunk.new.self) c.args.at) one.same.state e.more);
       moved = turned regions word g.A.Links.follows g.A.Links.follows_on one.same e.moved last.same;
       linked = (order c.requires.linked).0;
       order = order;
