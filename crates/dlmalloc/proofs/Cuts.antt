@@ -1,4 +1,5 @@
 -- A chunk is cut from a free extent, the victim or the top.
+pub mod ChunkPlace
 pub mod Chosen
 pub mod FreeExtent
 pub mod FreeChunk

@@ -1,12 +1,13 @@
 -- A free chunk of a heap is taken.
-use Rattle.dlmalloc.proofs.Names.{◌≡◌, ◌≢◌, ℕ, ◌+◌, ◌-◌, ◌%◌, ◌^◌, ◌<◌, ◌≤◌, ◌⊎◌, inl, inr, Bool, true, false, ◌==◌, nat_le, nat_lt, if◌then◌else◌, List, [], ◌∷◌, ◌++◌, Some, refl, sym, ◌∙◌, ap, subst, arith, unwrap_or, nat_tests, Grant, IsStored, AreStored, HasHead, HasFoot, Extent, Used, Free, Top, Record, head_of, with_pinuse, extent_at, HasChunk, last_kind, extents_in, cut, victim_after, taken, OnlyBoundariesChange, HasOneMore, IsMove, IsRunOf, HasMore, used_of, segments_of, state_of, IsSound, Dlmalloc, IsIn, IsFreeAt, FreeMoves}
+use Rattle.dlmalloc.proofs.Names.{◌≡◌, ◌≢◌, ℕ, ◌+◌, ◌-◌, ◌%◌, ◌<◌, ◌≤◌, ◌⊎◌, inl, inr, Bool, true, false, ◌==◌, nat_le, nat_lt, if◌then◌else◌, List, [], ◌∷◌, ◌++◌, Some, refl, sym, ◌∙◌, ap, subst, arith, unwrap_or, nat_tests, Grant, IsStored, AreStored, Extent, Used, Free, Top, Record, head_of, with_pinuse, extent_at, HasChunk, last_kind, extents_in, cut, victim_after, taken, OnlyBoundariesChange, HasOneMore, IsMove, IsRunOf, HasMore, used_of, segments_of, state_of, IsSound, Dlmalloc, IsIn, IsFreeAt, FreeMoves}
 use Rattle.dlmalloc.proofs.Extents.Lookup.{extent, nat_same, nat_isnt, found_here, found_either, the_one}
+use Rattle.dlmalloc.proofs.Cuts.ChunkPlace.{head_at}
 use Rattle.dlmalloc.proofs.Cuts.FreeExtent.{stored_then, cut_split, cut_whole, behind_free}
 use Rattle.dlmalloc.proofs.Moves.OfFreeExtents.{free_moves}
-use Rattle.dlmalloc.proofs.Extents.Tiling.{sized, tiles_le}
+use Rattle.dlmalloc.proofs.Extents.Tiling.{tiles_le}
 use Rattle.dlmalloc.proofs.Segments.Among.{with_extents}
 use Rattle.dlmalloc.proofs.Moves.OfHeaps.{IsStep, read, found_new, found_again, keeps_words, stays_sound, has_more}
-use Rattle.dlmalloc.proofs.Extents.RunReplaced.{run_of, step_beside, HasNext, has_next, with_next, behind, run_part, run_word}
+use Rattle.dlmalloc.proofs.Extents.RunReplaced.{run_of, step_beside, HasNext, has_next, with_next, behind, run_word}
 use Rattle.dlmalloc.proofs.Cuts.StateAfter.{replaced_run}
 
 -- n bytes of an extent were taken
@@ -40,21 +41,26 @@ module _ {A : Type 0} {regions : A → List Grant} {word : A → ℕ → ℕ} {h
     abbrev Took : ℕ → ℕ → Type 0
     Took victim victim_size = IsFreeTake regions word heap chunk n (after victim victim_size)
 
+    -- which victim the heap has then
+    record IsLeft (victim victim_size : ℕ) : Type 0 where
+      named : victim_size ≢ 0 → extent_at victim (extents_in (state_of word (after victim victim_size))) ≡ Some (extent victim victim_size Free)
+      none : victim_size ≡ 0 → victim ≡ 0
+      is : victim ≡ victim_after (state_of word heap) n chunk
+
     -- what a step leaves, in which the chunk is cut so
-    take : {less more : List Extent} (new : List Extent) {victim : ℕ} (victim_size : ℕ) (step : IsStep regions word heap (after victim victim_size) less
-        more) → step.front ++ step.now ∷ step.back ≡ run.front ++ with_extents run.segment (run.first ++ (new ++ run.last)) ∷ run.back →
-        cut n chunk ≡ new → (one : Extent) → one.at ≡ at → HasMore less more one → (victim_size ≢ 0 → extent_at victim (extents_in (state_of
-        word (after victim victim_size))) ≡ Some (extent victim victim_size Free)) → (victim_size ≡ 0 → victim ≡ 0) → victim ≡ victim_after
-        (state_of word heap) n chunk → FreeMoves (state_of word heap) (state_of word (after victim victim_size)) (at ∷ []) (if nat_le (n + 32) size then (at
-        + n) ∷ [] else []) → (n + 32 ≤ size → IsFreeAt (state_of word (after victim victim_size)) (at + n) (size - n)) → Took victim victim_size
-    take new {victim} victim_size step now is one place h named none left free rest = record {
+    take : {less more : List Extent} (new : List Extent) {victim victim_size : ℕ} (step : IsStep regions word heap (after victim victim_size) less more) →
+        step.front ++ step.now ∷ step.back ≡ run.front ++ with_extents run.segment (run.first ++ (new ++ run.last)) ∷ run.back → cut n chunk ≡ new →
+        {k : ℕ} → HasMore less more (extent at k Used) → IsLeft victim victim_size → FreeMoves (state_of word heap) (state_of word (after victim victim_size))
+        (at ∷ []) (if nat_le (n + 32) size then (at + n) ∷ [] else []) →
+        (n + 32 ≤ size → IsFreeAt (state_of word (after victim victim_size)) (at + n) (size - n)) → Took victim victim_size
+    take new step now is {k} h left free rest = record {
       take = record {
         state = (
             let segments_are = read sound step ∙ (now ∙ (ap (λ es. run.front ++ with_extents run.segment (run.first ++ (es ++ run.last)) ∷ run.back)
             (sym is) ∙ sym (replaced_run (regions heap.system) sound.segments sound.apart (cut n) run))) in
-            λ i. record { segments = segments_are i; victim = left i; granularity = heap.granularity; rate = heap.rate; countdown = heap.countdown; trim_check = heap.trim_check });
-        more = subst (λ k. HasOneMore (state_of word heap) (state_of word (after victim victim_size)) k) place (has_more sound step one h);
-        sound = stays_sound sound step same refl refl refl refl none named;
+            λ i. record { segments = segments_are i; victim = left.is i; granularity = heap.granularity; rate = heap.rate; countdown = heap.countdown; trim_check = heap.trim_check });
+        more = has_more sound step (extent at k Used) h;
+        sound = stays_sound sound step same refl refl refl refl left.none left.named;
         words = keeps_words sound step;
       };
       free = free;
@@ -80,11 +86,9 @@ module _ {A : Type 0} {regions : A → List Grant} {word : A → ℕ → ℕ} {h
       has_rest : nat_le (n + 32) size ≡ true
       has_rest = grind (arith, nat_tests)
 
-      split : (victim victim_size : ℕ) →
-          (victim_size ≢ 0 → extent_at victim (extents_in (state_of word (after victim victim_size))) ≡ Some (extent victim victim_size Free)) →
-          (victim_size ≡ 0 → victim ≡ 0) → victim ≡ victim_after (state_of word heap) n chunk → Took victim victim_size
-      split victim victim_size named none left = take halves victim_size (split_step victim victim_size) refl (rw has_rest refl) (extent at n Used) refl
-          (record { front = []; back = []; fewer = refl; further = refl }) named none left
+      split : (victim victim_size : ℕ) → IsLeft victim victim_size → Took victim victim_size
+      split victim victim_size left = take halves (split_step victim victim_size) refl (rw has_rest refl)
+          (record { front = []; back = []; fewer = refl; further = refl }) left
           (subst (λ b. FreeMoves (state_of word heap) (state_of word (after victim victim_size)) (at ∷ []) (if b then (at + n) ∷ [] else []))
           (sym has_rest) split_free) (λ more. found_new sound (split_step victim victim_size) (at + n) (extent (at + n) (size - n) Free) rest_there)
         where
@@ -109,11 +113,14 @@ module _ {A : Type 0} {regions : A → List Grant} {word : A → ℕ → ℕ} {h
 
       -- the rest is the victim
       pub split_victim : (at ≡ heap.victim) ⊎ (n < 256) → Took (at + n) (size - n)
-      split_victim why = split (at + n) (size - n) (λ more.
-          let first : (at == at + n) ≡ false = nat_isnt (inl (omega arith)) in
-          let second : (at + n == at + n) ≡ true = nat_same (at + n) in
-          found_new sound (split_step (at + n) (size - n)) (at + n) (extent (at + n) (size - n) Free) (rw (first, second) refl))
-          (λ none. absurd (omega arith)) (left why)
+      split_victim why = split (at + n) (size - n) (record {
+        named = λ more.
+            let first : (at == at + n) ≡ false = nat_isnt (inl (omega arith)) in
+            let second : (at + n == at + n) ≡ true = nat_same (at + n) in
+            found_new sound (split_step (at + n) (size - n)) (at + n) (extent (at + n) (size - n) Free) (rw (first, second) refl);
+        none = λ none. absurd (omega arith);
+        is = left why;
+      })
         where
           left : (at ≡ heap.victim) ⊎ (n < 256) → at + n ≡ victim_after (state_of word heap) n chunk
           left (inl is) = let test : (at == heap.victim) ≡ true = (let e = is in grind (arith, nat_tests)) in rw (test, has_rest) refl
@@ -128,8 +135,12 @@ module _ {A : Type 0} {regions : A → List Grant} {word : A → ℕ → ℕ} {h
       split_other isnt many =
           let test : (at == heap.victim) ≡ false = (let e = isnt in grind (arith, nat_tests)) in
           let large : nat_lt n 256 ≡ false = (let m = many in grind (arith, nat_tests)) in
-          split heap.victim heap.victim_size (λ more. found_again sound (split_step heap.victim heap.victim_size) heap.victim
-          (λ here. absurd (isnt (ap (λ e. e.at) (the_one heap.victim chunk here)))) (sound.victim more)) sound.no_victim (rw (test, has_rest, large) refl)
+          split heap.victim heap.victim_size (record {
+            named = λ more. found_again sound (split_step heap.victim heap.victim_size) heap.victim
+                (λ here. absurd (isnt (ap (λ e. e.at) (the_one heap.victim chunk here)))) (sound.victim more);
+            none = sound.no_victim;
+            is = rw (test, has_rest, large) refl;
+          })
 
     -- ---- nothing stays free
 
@@ -178,12 +189,10 @@ module _ {A : Type 0} {regions : A → List Grant} {word : A → ℕ → ℕ} {h
       no_rest : nat_le (n + 32) size ≡ false
       no_rest = grind (arith, nat_tests)
 
-      whole : (victim victim_size : ℕ) →
-          (victim_size ≢ 0 → extent_at victim (extents_in (state_of word (after victim victim_size))) ≡ Some (extent victim victim_size Free)) →
-          (victim_size ≡ 0 → victim ≡ 0) → victim ≡ victim_after (state_of word heap) n chunk → Took victim victim_size
-      whole victim victim_size named none left = take (extent at size Used ∷ []) victim_size (whole_step victim victim_size) (ap (λ es. run.front
-          ++ with_extents run.segment (run.first ++ (extent at size Used ∷ es)) ∷ run.back) (sym next.is)) (rw no_rest refl) (extent at size Used) refl
-          (record { front = []; back = used_of (next.next ∷ []); fewer = refl; further = refl }) named none left (subst (λ b. FreeMoves (state_of word heap)
+      whole : (victim victim_size : ℕ) → IsLeft victim victim_size → Took victim victim_size
+      whole victim victim_size left = take (extent at size Used ∷ []) (whole_step victim victim_size) (ap (λ es. run.front
+          ++ with_extents run.segment (run.first ++ (extent at size Used ∷ es)) ∷ run.back) (sym next.is)) (rw no_rest refl)
+          (record { front = []; back = used_of (next.next ∷ []); fewer = refl; further = refl }) left (subst (λ b. FreeMoves (state_of word heap)
           (state_of word (after victim victim_size)) (at ∷ []) (if b then (at + n) ∷ [] else [])) (sym no_rest) whole_free) (λ more. absurd (omega arith))
         where
           next_kind : (next.next.kind ≡ Used) ⊎ (next.next.kind ≡ Record)
@@ -215,24 +224,20 @@ module _ {A : Type 0} {regions : A → List Grant} {word : A → ℕ → ℕ} {h
       pub whole_victim : at ≡ heap.victim → Took 0 0
       whole_victim is =
           let test : (at == heap.victim) ≡ true = (let e = is in grind (arith, nat_tests)) in
-          whole 0 0 (λ more. absurd (more refl)) (λ none. refl) (rw (test, no_rest) refl)
+          whole 0 0 (record { named = λ more. absurd (more refl); none = λ none. refl; is = rw (test, no_rest) refl })
 
       -- it was not, and the victim stays
       pub whole_other : at ≢ heap.victim → Took heap.victim heap.victim_size
       whole_other isnt =
           let test : (at == heap.victim) ≡ false = (let e = isnt in grind (arith, nat_tests)) in
-          whole heap.victim heap.victim_size (λ more. found_again sound (whole_step heap.victim heap.victim_size) heap.victim
-          (beside heap.victim isnt (extent heap.victim heap.victim_size Free)) (sound.victim more)) sound.no_victim (rw (test, no_rest) refl)
+          whole heap.victim heap.victim_size (record {
+            named = λ more. found_again sound (whole_step heap.victim heap.victim_size) heap.victim
+                (beside heap.victim isnt (extent heap.victim heap.victim_size Free)) (sound.victim more);
+            none = sound.no_victim;
+            is = rw (test, no_rest) refl;
+          })
 
   -- ---- what the calls on the chunk want
-
-  head_room : at + size + 16 ≤ run.segment.base + run.segment.size
-  head_room =
-      let n = has_next (regions heap.system) sound.segments run refl in
-      let b = behind (regions heap.system) sound.segments run n in
-      let long = (sized n.next.kind n.next.size b.1.size).1 in
-      let high = tiles_le (word heap.system) n.next.kind (at + size + n.next.size) n.rest (run.segment.base + run.segment.size) b.2 in
-      omega arith
 
   pub at_whole : at % 16 ≡ 0
   at_whole = stands.whole
@@ -240,30 +245,11 @@ module _ {A : Type 0} {regions : A → List Grant} {word : A → ℕ → ℕ} {h
   pub size_whole : size % 16 ≡ 0
   size_whole = stands.size.0
 
-  pub end_small : at + size + 16 < 2 ^ 64
-  end_small = omega (arith, head_room, (run_part (regions heap.system) sound.segments run).high)
-
-  pub head_there : (k : ℕ) → at ≤ k → k ≤ at + size → k % 8 ≡ 0 → HasHead (regions heap.system) k
-  head_there k low high m = record {
-    aligned = m;
-    small = omega (arith, end_small);
-    granted = run_word (regions heap.system) sound.segments run (k + 8)
-        (omega (arith, tiles_le (word heap.system) Used run.segment.base run.first at run.first_stand)) (omega (arith, head_room)) (omega arith);
-  }
-
-  pub foot_there : (k : ℕ) → at ≤ k → k ≤ at + size → k % 8 ≡ 0 → HasFoot (regions heap.system) k
-  foot_there k low high m = record {
-    aligned = m;
-    small = omega (arith, end_small);
-    granted = run_word (regions heap.system) sound.segments run k
-        (omega (arith, tiles_le (word heap.system) Used run.segment.base run.first at run.first_stand)) (omega (arith, head_room)) m;
-  }
-
   -- the stores of two calls, as one
   pub stores : (middle system : A) → regions middle ≡ regions heap.system → n ≤ size →
       IsStored (regions heap.system) (word heap.system) (at + 8) (head_of n true true) (word middle) → AreStored (regions middle) (word middle)
       ((at + n + 8, head_of (size - n) true false) ∷ (at + n + (size - n), size - n) ∷ []) (word system) → AreStored (regions heap.system) (word
       heap.system) ((at + 8, head_of n true true) ∷ (at + n + 8, head_of (size - n) true false) ∷ (at + n + (size - n), size - n) ∷ []) (word system)
   stores middle system same fits first second =
-      stored_then (head_there at (omega arith) (omega arith) (omega (arith, at_whole))).granted first (subst (λ rs. AreStored rs (word middle)
+      stored_then (head_at sound there refl at (omega arith) (omega arith) (omega (arith, at_whole))).granted first (subst (λ rs. AreStored rs (word middle)
       ((at + n + 8, head_of (size - n) true false) ∷ (at + n + (size - n), size - n) ∷ []) (word system)) same second)

@@ -70,6 +70,21 @@ behind_free Top h = absurd (cc)
 behind_free Record h = inr refl
 behind_free Foot h = absurd (cc)
 
+-- a chunk gives way to one in use and to its rest
+cut_in_two : {regions : List Grant} {old new : ℕ → ℕ} {before : Kind} {at size : ℕ} {kind : Kind} (n : ℕ) → HasChunk old before (extent at size kind) →
+    before ≡ Used → n % 16 ≡ 0 → 32 ≤ n → n ≤ size → new (at + 8) ≡ head_of n true true → HasChunk new Used (extent (at + n) (size - n) kind) →
+    ((k : ℕ) → IsWordOf regions k → k ≢ at + 8 → IsSpared k kind (at + n) (size - n) → new k ≡ old k) →
+    IsMove regions old new before at (at + size) (at + size) (extent at size kind ∷ []) (extent at n Used ∷ extent (at + n) (size - n) kind ∷ [])
+cut_in_two n stands used whole least fits head rest kept = record {
+  less_stand = (refl, stands, refl);
+  more_stand = (
+    refl,
+    plain_chunk stands.whole (whole, least) (inl used) (head ∙ ap (λ k. head_of n (is_used k) true) (sym used)) (λ free. cc) (λ is. cc),
+    (refl, rest, omega arith),
+  );
+  kept = λ k word more. kept k word more.0 more.1.0;
+}
+
 module _ (regions : List Grant) {old : ℕ → ℕ} (new : ℕ → ℕ) {before : Kind} {at size : ℕ} (stands : HasChunk old before (extent at size Free)) where
   -- a rest stays free
   pub cut_split : (n : ℕ) → n % 16 ≡ 0 → 32 ≤ n → n + 32 ≤ size →
@@ -77,20 +92,9 @@ module _ (regions : List Grant) {old : ℕ → ℕ} (new : ℕ → ℕ) {before 
       IsMove regions old new before at (at + size) (at + size) (extent at size Free ∷ []) (extent at n Used ∷ extent (at + n) (size - n) Free ∷ [])
   cut_split n whole least room stored =
       let place = stands.whole in let units = stands.size.0 in
-      record {
-        less_stand = (refl, stands, refl);
-        more_stand = (
-          refl,
-          plain_chunk place (whole, least) (inl stands.kind) (stored.here.0 ((λ is. omega arith), ((λ is. omega arith), tt))
-              ∙ ap (λ k. head_of n (is_used k) true) (sym stands.kind)) (λ free. cc) (λ is. cc),
-          (
-            refl,
-            free_chunk (omega arith) (omega arith, omega arith) refl (stored.here.1.0 ((λ is. omega arith), tt)) (stored.here.1.1.0 tt),
-            omega arith,
-          ),
-        );
-        kept = λ k word more. stored.elsewhere k word (more.0, (more.1.0.0, (more.1.0.1, tt)));
-      }
+      cut_in_two n stands stands.kind whole least (omega arith) (stored.here.0 ((λ is. omega arith), ((λ is. omega arith), tt)))
+      (free_chunk (omega arith) (omega arith, omega arith) refl (stored.here.1.0 ((λ is. omega arith), tt)) (stored.here.1.1.0 tt))
+      (λ k word first rest. stored.elsewhere k word (first, (rest.0, (rest.1, tt))))
 
   -- nothing stays free
   module _ {next : Extent} (behind : HasChunk old Free next) (touch : next.at ≡ at + size) where
@@ -123,16 +127,6 @@ pub cut_top : {regions : List Grant} {old new : ℕ → ℕ} {before : Kind} {at
     IsMove regions old new before at (at + size) (at + size) (extent at size Top ∷ []) (extent at n Used ∷ extent (at + n) (size - n) Top ∷ [])
 cut_top n stands whole least room stored =
     let place = stands.whole in let units = stands.size.0 in
-    record {
-      less_stand = (refl, stands, refl);
-      more_stand = (
-        refl,
-        plain_chunk place (whole, least) (inl stands.kind) (stored.here.0 ((λ is. omega arith), tt) ∙ ap (λ k. head_of n (is_used k) true) (sym stands.kind)) (λ free. cc) (λ is. cc),
-        (
-          refl,
-          plain_chunk (omega arith) (omega arith, omega arith) refl (stored.here.1.0 tt ∙ omega arith) (λ free. cc) (λ is. cc),
-          omega arith,
-        ),
-      );
-      kept = λ k word more. stored.elsewhere k word (more.0, (more.1.0, tt));
-    }
+    cut_in_two n stands stands.kind whole least (omega arith) (stored.here.0 ((λ is. omega arith), tt))
+    (plain_chunk (omega arith) (omega arith, omega arith) refl (stored.here.1.0 tt ∙ omega arith) (λ free. cc) (λ is. cc))
+    (λ k word first rest. stored.elsewhere k word (first, (rest, tt)))

@@ -1,11 +1,11 @@
 -- The top of a heap is cut.
-use Rattle.dlmalloc.proofs.Names.{◌≡◌, ◌≢◌, ℕ, ◌+◌, ◌-◌, ◌%◌, ◌^◌, ◌<◌, ◌≤◌, inl, inr, true, false, ◌==◌, List, [], ◌∷◌, ◌++◌, Some, refl, sym, ◌∙◌, ap, subst, arith, Grant, IsStored, AreStored, HasHead, Extent, Used, Free, Top, Record, Foot, head_of, extent_at, extents_in, cut, IsBoundary, IsRunOf, segments_of, state_of, IsSound, Dlmalloc, FreeMoves}
+use Rattle.dlmalloc.proofs.Names.{◌≡◌, ◌≢◌, ℕ, ◌+◌, ◌-◌, ◌%◌, ◌<◌, ◌≤◌, inl, inr, true, false, ◌==◌, List, [], ◌∷◌, ◌++◌, Some, refl, sym, ◌∙◌, ap, subst, arith, Grant, IsStored, AreStored, HasHead, Extent, Used, Free, Top, Record, Foot, head_of, extent_at, extents_in, cut, IsBoundary, IsRunOf, segments_of, state_of, IsSound, Dlmalloc, FreeMoves}
 use Rattle.dlmalloc.proofs.Extents.Lookup.{extent, nat_isnt, nat_same, found_later, found_here, found_either, the_one}
-use Rattle.dlmalloc.proofs.Extents.Tiling.{tiles_le}
 use Rattle.dlmalloc.proofs.Extents.OneMoreUsed.{none_outside}
+use Rattle.dlmalloc.proofs.Cuts.ChunkPlace.{head_at}
 use Rattle.dlmalloc.proofs.Cuts.FreeExtent.{cut_top, stored_then}
 use Rattle.dlmalloc.proofs.Moves.OfHeaps.{IsStep, read, found_new, found_again, keeps_words, stays_sound, has_more}
-use Rattle.dlmalloc.proofs.Extents.RunReplaced.{run_of, step_top, run_part, run_word}
+use Rattle.dlmalloc.proofs.Extents.RunReplaced.{run_of, step_top}
 use Rattle.dlmalloc.proofs.Segments.HeadTold.{head_is}
 use Rattle.dlmalloc.proofs.Cuts.StateAfter.{replaced_run}
 use Rattle.dlmalloc.proofs.Moves.OfFreeExtents.{free_moves}
@@ -25,31 +25,14 @@ module _ {A : Type 0} {regions : A → List Grant} {word : A → ℕ → ℕ} {h
       (is_top sound run.front run.segment run.back run.is (ap (extent_at heap.top) run.extents ∙ (found_later heap.top run.first (chunk ∷ run.last)
       (none_outside (word heap.system) Used run.segment.base run.first heap.top heap.top (inr (omega arith)) run.first_stand) ∙ found_here chunk run.last))).0
 
-  high : heap.top + heap.top_size ≤ run.segment.base + run.segment.size
-  high = tiles_le (word heap.system) Top (heap.top + heap.top_size) run.last (run.segment.base + run.segment.size) run.last_stand
-
   room : n + 16 ≤ heap.top_size
   room = omega (arith, run.here.1.size.0)
 
-  pub end_small : heap.top + heap.top_size < 2 ^ 64
-  end_small = omega (arith, high, (run_part (regions heap.system) sound.segments run).high)
-
-  pub top_low : 4096 ≤ heap.top
-  top_low = omega (arith, tiles_le (word heap.system) Used run.segment.base run.first heap.top run.first_stand, (run_part (regions heap.system) sound.segments run).low)
-
-  pub head_there : (k : ℕ) → heap.top ≤ k → k + 16 ≤ heap.top + heap.top_size → k % 8 ≡ 0 → HasHead (regions heap.system) k
-  head_there k above below m = record {
-    aligned = m;
-    small = omega (arith, end_small);
-    granted = run_word (regions heap.system) sound.segments run (k + 8)
-        (omega (arith, tiles_le (word heap.system) Used run.segment.base run.first heap.top run.first_stand)) (omega (arith, high)) (omega arith);
-  }
-
   pub top_head : HasHead (regions heap.system) heap.top
-  top_head = head_there heap.top (omega arith) (omega (arith, room)) (omega (arith, run.here.1.whole))
+  top_head = head_at sound (top_among sound some) refl heap.top (omega arith) (omega (arith, room)) (omega (arith, run.here.1.whole))
 
   pub rest_head : HasHead (regions heap.system) (heap.top + n)
-  rest_head = head_there (heap.top + n) (omega arith) (omega (arith, room)) (omega (arith, run.here.1.whole))
+  rest_head = head_at sound (top_among sound some) refl (heap.top + n) (omega arith) (omega (arith, room)) (omega (arith, run.here.1.whole))
 
   module _ (system : A) (same : regions system ≡ regions heap.system)
       (stored : AreStored (regions heap.system) (word heap.system) ((heap.top + 8, head_of n true true) ∷ (heap.top + n + 8, heap.top_size - n + 1) ∷ []) (word system)) where

@@ -47,9 +47,6 @@ module _ {A : Type 0} {regions : A → List Grant} {word : A → ℕ → ℕ} {h
   pub not_free : {n : ℕ} → IsFreeAt (state_of word heap) at n → ⊥
   not_free free = (let no : Used ≡ Free = ap (λ e. e.kind) (the_extent (sym there ∙ free)) in cc)
 
-  pub left_none : at ≤ from → (n : ℕ) → IsFreeAt (state_of word heap) from n → ⊥
-  left_none low n free = (let same : from ≡ at = (let le = from_at sound there from_is in omega arith) in not_free (subst (λ a. IsFreeAt (state_of word heap) a n) same free))
-
   pub left_free : from < at → IsFreeAt (state_of word heap) from (at - from)
   left_free some =
       let one = run_one sound there in let left = left_one sound there from_is in
@@ -58,6 +55,9 @@ module _ {A : Type 0} {regions : A → List Grant} {word : A → ℕ → ℕ} {h
       ap (extent_at from) left.is ∙ (found_later from left.front left.lefts (none_outside words Used one.segment.base left.front from from (inr (omega arith)) left.front_stand) ∙ here) in
       let here = ap (extent_at from) one.extents ∙ found_more from one.first ((extent at size Used ∷ []) ++ one.last) first in
       among_all (regions heap.system) words sound.segments sound.apart one.front one.segment one.back one.is from here
+
+  pub left_none : at ≤ from → (n : ℕ) → IsFreeAt (state_of word heap) from n → ⊥
+  left_none low n free = (let same : from ≡ at = (let le = from_at sound there from_is in omega arith) in not_free (subst (λ a. IsFreeAt (state_of word heap) a n) same free))
 
   module _ {to : ℕ} (to_is : IsTo (word heap.system) heap.top (at + size) to) where
     by_top : {b : Bool} → (at + size == heap.top) ≡ b → to ≡ (if b then at + size else end_of words (at + size))

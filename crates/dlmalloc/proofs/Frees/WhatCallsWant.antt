@@ -1,12 +1,13 @@
 -- What the calls want when a chunk is freed.
-use Rattle.dlmalloc.proofs.Names.{◌≡◌, ◌≢◌, ℕ, ◌+◌, ◌-◌, ◌%◌, ◌^◌, ◌<◌, ◌≤◌, Bool, true, false, ◌==◌, if◌then◌else◌, List, [], ◌∷◌, Some, refl, sym, ◌∙◌, ap, arith, nat_tests, Grant, IsWordOf, HasHead, HasFoot, Used, size_of, pinuse_of, free_of, extents_in, HasChunk, last_kind, IsRunOf, segments_of, state_of, IsSound, Dlmalloc}
+use Rattle.dlmalloc.proofs.Names.{◌≡◌, ◌≢◌, ℕ, ◌+◌, ◌-◌, ◌%◌, ◌^◌, ◌<◌, ◌≤◌, Bool, true, false, ◌==◌, if◌then◌else◌, List, [], ◌∷◌, Some, refl, sym, ◌∙◌, ap, arith, nat_tests, Grant, HasHead, HasFoot, Used, size_of, pinuse_of, free_of, extents_in, HasChunk, last_kind, IsRunOf, segments_of, state_of, IsSound, Dlmalloc}
 use Rattle.dlmalloc_chunks.specs.Tiling.{extent_at}
 use Rattle.dlmalloc.proofs.Extents.Lookup.{extent, end_of, nat_is}
-use Rattle.dlmalloc.proofs.Extents.Tiling.{sized, tiles_le}
-use Rattle.dlmalloc.proofs.Extents.RunReplaced.{behind, run_part, run_word}
+use Rattle.dlmalloc.proofs.Extents.Tiling.{tiles_le}
+use Rattle.dlmalloc.proofs.Extents.RunReplaced.{run_part, run_word}
 use Rattle.dlmalloc.proofs.Frees.FreeBeside.{IsFrom, IsTo, Left, left_at, with_left}
 pub use Rattle.dlmalloc.proofs.Frees.Behind.{next_top, no_top}
-use Rattle.dlmalloc.proofs.Frees.Behind.{run_one, next}
+use Rattle.dlmalloc.proofs.Frees.Behind.{run_one}
+use Rattle.dlmalloc.proofs.Cuts.ChunkPlace.{room, head_at, foot_at}
 use Rattle.dlmalloc.proofs.Frees.OfRun.{begins_whole}
 use Rattle.dlmalloc.proofs.Frees.OfChunk.{below_top, end_small}
 
@@ -21,37 +22,17 @@ module _ {A : Type 0} {regions : A → List Grant} {word : A → ℕ → ℕ} {h
   stands : HasChunk words (last_kind Used one.first) (extent at size Used)
   stands = one.here.1
 
-  head_room : at + size + 16 ≤ one.segment.base + one.segment.size
-  head_room =
-      let n = next sound there in let stand = behind (regions heap.system) sound.segments one n in
-      let long = (sized n.next.kind n.next.size stand.1.size).1 in
-      let high = tiles_le words n.next.kind (at + size + n.next.size) n.rest (one.segment.base + one.segment.size) stand.2 in
-      omega arith
-
-  low_room : one.segment.base ≤ at
-  low_room = tiles_le words Used one.segment.base one.first at one.first_stand
-
-  high : one.segment.base + one.segment.size < 2 ^ 64
-  high = (run_part (regions heap.system) sound.segments one).high
-
-  granted : (k : ℕ) → one.segment.base ≤ k → k < at + size + 16 → k % 8 ≡ 0 → IsWordOf (regions heap.system) k
-  granted k low below m = run_word (regions heap.system) sound.segments one k low (omega (arith, head_room)) m
-
   pub head_there : HasHead (regions heap.system) at
-  head_there = record { aligned = omega (arith, stands.whole); small = omega (arith, head_room, high); granted = granted (at + 8) (omega (arith, low_room)) (omega arith) (omega (arith, stands.whole)) }
+  head_there = head_at sound there refl at (omega arith) (omega arith) (omega (arith, stands.whole))
 
   pub foot_there : HasFoot (regions heap.system) at
-  foot_there = record { aligned = omega (arith, stands.whole); small = omega (arith, head_room, high); granted = granted at low_room (omega arith) (omega (arith, stands.whole)) }
+  foot_there = foot_at sound there refl at (omega arith) (omega arith) (omega (arith, stands.whole))
 
   pub behind_there : HasHead (regions heap.system) (at + size)
-  behind_there = record {
-    aligned = omega (arith, stands.whole, stands.size.0);
-    small = omega (arith, head_room, high);
-    granted = granted (at + size + 8) (omega (arith, low_room)) (omega arith) (omega (arith, stands.whole, stands.size.0));
-  }
+  behind_there = head_at sound there refl (at + size) (omega arith) (omega arith) (omega (arith, stands.whole, stands.size.0))
 
   pub behind_small : at + size < 2 ^ 64
-  behind_small = omega (arith, head_room, high)
+  behind_small = omega (arith, behind_there.small)
 
   -- a free chunk behind it ends below 2 ^ 64
   pub end_below : at + size ≢ heap.top → free_of (words (at + size + 8)) ≡ true → at + size + size_of (words (at + size + 8)) < 2 ^ 64
@@ -81,7 +62,11 @@ module _ {A : Type 0} {regions : A → List Grant} {word : A → ℕ → ℕ} {h
     from_whole = begins_whole words (last_kind Used left_one.front) from left_one.lefts (extent at size Used) [] (at + size) (with_left words (segments_of word heap) one left_one).here
 
     pub from_there : HasHead (regions heap.system) from
-    from_there = record { aligned = omega (arith, from_whole); small = omega (arith, from_at, behind_small, head_room, high); granted = granted (from + 8) (omega (arith, from_low)) (omega (arith, from_at)) (omega (arith, from_whole)) }
+    from_there = record {
+      aligned = omega (arith, from_whole);
+      small = omega (arith, from_at, head_there.small);
+      granted = run_word (regions heap.system) sound.segments one (from + 8) (omega (arith, from_low)) (omega (arith, from_at, room sound there refl)) (omega (arith, from_whole));
+    }
 
     module _ {to : ℕ} (to_is : IsTo words heap.top (at + size) to) where
       by_top : (b : Bool) → (at + size == heap.top) ≡ b → to ≡ (if b then at + size else end_of words (at + size))

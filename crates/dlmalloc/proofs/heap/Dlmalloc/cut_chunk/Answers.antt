@@ -1,5 +1,6 @@
 use Rattle.dlmalloc.proofs.Names.{rules, refl, ◌+◌, ◌-◌, inl, inr, sym, subst, ◌∙◌, arith, HasHead, HasFoot}
-use Rattle.dlmalloc.proofs.Cuts.FreeChunk.{whole_victim, whole_other, split_victim, split_other, at_whole, size_whole, end_small, head_there, foot_there, stores}
+use Rattle.dlmalloc.proofs.Cuts.FreeChunk.{whole_victim, whole_other, split_victim, split_other, at_whole, size_whole, stores}
+use Rattle.dlmalloc.proofs.Cuts.ChunkPlace.{end_small, head_at, foot_at}
 use Rattle.dlmalloc.proofs.heap.Dlmalloc.cut_chunk.Goals.{then-at-self-2-via-then-at-self-2, then-at-self-2-via-else-at-self-2+then-n-lt-LEAST_LARGE}
 use Rattle.dlmalloc.proofs.heap.Dlmalloc.cut_chunk.Goals as goal
 
@@ -9,23 +10,23 @@ set_inuse_and_pinuse-requires g c =
     let w = size_whole c.requires.sound c.args.n c.requires.chunk in
     record {
       size = omega arith;
-      head = head_there c.requires.sound c.args.n c.requires.chunk c.args.at (omega arith) (omega arith) (omega arith);
-      next = head_there c.requires.sound c.args.n c.requires.chunk (c.args.at + c.args.size) (omega arith) (omega arith) (omega arith);
+      head = head_at c.requires.sound c.requires.chunk refl c.args.at (omega arith) (omega arith) (omega arith);
+      next = head_at c.requires.sound c.requires.chunk refl (c.args.at + c.args.size) (omega arith) (omega arith) (omega arith);
     }
 
 pub set_size_and_pinuse_of_inuse_chunk-requires-clause-head : goal.set_size_and_pinuse_of_inuse_chunk-requires-clause-head
 set_size_and_pinuse_of_inuse_chunk-requires-clause-head g c =
     let m = at_whole c.requires.sound c.args.n c.requires.chunk in
-    head_there c.requires.sound c.args.n c.requires.chunk c.args.at (omega arith) (omega arith) (omega arith)
+    head_at c.requires.sound c.requires.chunk refl c.args.at (omega arith) (omega arith) (omega arith)
 
 pub overflow_add-at : goal.overflow_add-at
 overflow_add-at g c =
-    let e = end_small c.requires.sound c.args.n c.requires.chunk in
+    let e = end_small c.requires.sound c.requires.chunk refl in
     let f = c.requires.fits in grind arith
 
 pub overflow_add-self : goal.overflow_add-self
 overflow_add-self g c =
-    let e = end_small c.requires.sound c.args.n c.requires.chunk in
+    let e = end_small c.requires.sound c.requires.chunk refl in
     let f = c.requires.fits in grind arith
 
 pub set_size_and_pinuse_of_free_chunk-requires : goal.set_size_and_pinuse_of_free_chunk-requires
@@ -37,9 +38,9 @@ set_size_and_pinuse_of_free_chunk-requires g c =
     record {
       size = omega arith;
       head = subst (λ rs. HasHead rs (c.args.at + c.args.n)) same
-          (head_there c.requires.sound c.args.n c.requires.chunk (c.args.at + c.args.n) (omega arith) (omega arith) (omega arith));
+          (head_at c.requires.sound c.requires.chunk refl (c.args.at + c.args.n) (omega arith) (omega arith) (omega arith));
       foot = subst (λ rs. HasFoot rs (c.args.at + c.args.n + (c.args.size - c.args.n))) same
-          (foot_there c.requires.sound c.args.n c.requires.chunk (c.args.at + c.args.n + (c.args.size - c.args.n)) (omega arith) (omega arith) (omega arith));
+          (foot_at c.requires.sound c.requires.chunk refl (c.args.at + c.args.n + (c.args.size - c.args.n)) (omega arith) (omega arith) (omega arith));
     }
 
 pub returns-then-at-self : goal.returns-then-at-self

@@ -1,6 +1,6 @@
-use Rattle.dlmalloc.proofs.Names.{◌+◌, ◌-◌, ◌≡◌, ◌≢◌, [], refl, sym, ◌∙◌, ap, subst, arith, Free, extents_in, extent_at, taken, HasOneMore, state_of, IsFreeAt, KeepsOrder}
+use Rattle.dlmalloc.proofs.Names.{◌+◌, ◌-◌, ◌≢◌, [], refl, sym, ◌∙◌, ap, subst, arith, Free, extents_in, extent_at, taken, HasOneMore, state_of, IsFreeAt, KeepsOrder}
 use Rattle.dlmalloc.proofs.Extents.Lookup.{extent}
-use Rattle.dlmalloc.proofs.Cuts.FreeChunk.{end_small}
+use Rattle.dlmalloc.proofs.Cuts.ChunkPlace.{end_small}
 use Rattle.dlmalloc.proofs.Moves.WithBins.{turned}
 use Rattle.dlmalloc.proofs.Bins.Changes.{not_rebinned, renamed}
 use Rattle.dlmalloc.proofs.Bins.Order.{lessened_as, added_as, order_less, in_order}
@@ -87,7 +87,7 @@ returns-then-n-lt-LEAST_LARGE g c =
 
 pub overflow_add-at : goal.overflow_add-at
 overflow_add-at g c =
-    let e = end_small c.requires.sound c.args.n c.requires.chunk in
+    let e = end_small c.requires.sound c.requires.chunk refl in
     let f = c.requires.fits in grind arith
 
 pub bin-requires : goal.bin-requires
