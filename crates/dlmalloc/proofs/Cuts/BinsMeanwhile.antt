@@ -186,15 +186,15 @@ module _ (stays : IndexStays) {A : Type 0} {regions : A → List Grant} {word : 
       large_victim many = victim_is false true false apart rests (grind (arith, nat_tests))
 
       -- with a rest that is not the victim
-      pub large_other : 256 ≤ n → at + n ≢ new.victim
-      large_other many = rest_no_victim stays sound cut.moved cut.bins at (at + n) parts other (large_victim many) (omega arith)
-
       abbrev pub large_taken : 256 ≤ n → IsBinnedBut (at ∷ []) regions word old → IsBinnedBut ((at + n) ∷ []) regions word new
       large_taken many = binned_rest stays sound cut.moved cut.bins at (at + n) parts (large_victim many)
 
       -- with a rest that is
       abbrev pub small_taken : n < 256 → IsBinnedBut (at ∷ []) regions word old → IsBinnedBut (old.victim ∷ []) regions word new
       small_taken small = small_rest stays sound cut.moved cut.bins at (at + n) parts (small_victim small)
+
+      pub large_other : 256 ≤ n → at + n ≢ new.victim
+      large_other many = rest_no_victim stays sound cut.moved cut.bins at (at + n) parts other (large_victim many) (omega arith)
 
       pub small_other : n < 256 → old.victim_size ≢ 0 → old.victim ≢ new.victim
       small_other small some same = rest_other new sound parts (at + n) (inl refl) (sound.victim some) other (sym (small_victim small) ∙ sym same)

@@ -86,16 +86,6 @@ cut_in_two n stands used whole least fits head rest kept = record {
 }
 
 module _ (regions : List Grant) {old : ℕ → ℕ} (new : ℕ → ℕ) {before : Kind} {at size : ℕ} (stands : HasChunk old before (extent at size Free)) where
-  -- a rest stays free
-  pub cut_split : (n : ℕ) → n % 16 ≡ 0 → 32 ≤ n → n + 32 ≤ size →
-      AreStored regions old ((at + 8, head_of n true true) ∷ (at + n + 8, head_of (size - n) true false) ∷ (at + n + (size - n), size - n) ∷ []) new →
-      IsMove regions old new before at (at + size) (at + size) (extent at size Free ∷ []) (extent at n Used ∷ extent (at + n) (size - n) Free ∷ [])
-  cut_split n whole least room stored =
-      let place = stands.whole in let units = stands.size.0 in
-      cut_in_two n stands stands.kind whole least (omega arith) (stored.here.0 ((λ is. omega arith), ((λ is. omega arith), tt)))
-      (free_chunk (omega arith) (omega arith, omega arith) refl (stored.here.1.0 ((λ is. omega arith), tt)) (stored.here.1.1.0 tt))
-      (λ k word first rest. stored.elsewhere k word (first, (rest.0, (rest.1, tt))))
-
   -- nothing stays free
   module _ {next : Extent} (behind : HasChunk old Free next) (touch : next.at ≡ at + size) where
     pub cut_whole : AreStored regions old ((at + 8, head_of size true true) ∷ (at + size + 8, with_pinuse (old (at + size + 8))) ∷ []) new →
@@ -120,6 +110,16 @@ module _ (regions : List Grant) {old : ℕ → ℕ} (new : ℕ → ℕ) {before 
           );
           kept = λ k word more. stored.elsewhere k word (more.0, (subst (λ a. k ≢ a + 8) touch (no_head k next.kind next.at next.size behind.size more.1.0), tt));
         }
+
+  -- a rest stays free
+  pub cut_split : (n : ℕ) → n % 16 ≡ 0 → 32 ≤ n → n + 32 ≤ size →
+      AreStored regions old ((at + 8, head_of n true true) ∷ (at + n + 8, head_of (size - n) true false) ∷ (at + n + (size - n), size - n) ∷ []) new →
+      IsMove regions old new before at (at + size) (at + size) (extent at size Free ∷ []) (extent at n Used ∷ extent (at + n) (size - n) Free ∷ [])
+  cut_split n whole least room stored =
+      let place = stands.whole in let units = stands.size.0 in
+      cut_in_two n stands stands.kind whole least (omega arith) (stored.here.0 ((λ is. omega arith), ((λ is. omega arith), tt)))
+      (free_chunk (omega arith) (omega arith, omega arith) refl (stored.here.1.0 ((λ is. omega arith), tt)) (stored.here.1.1.0 tt))
+      (λ k word first rest. stored.elsewhere k word (first, (rest.0, (rest.1, tt))))
 
 -- the top is cut
 pub cut_top : {regions : List Grant} {old new : ℕ → ℕ} {before : Kind} {at size : ℕ} (n : ℕ) → HasChunk old before (extent at size Top) →

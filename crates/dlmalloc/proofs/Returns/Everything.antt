@@ -46,32 +46,88 @@ all_keep regions old new kept (segment ∷ segments) parts =
 pub record Destroying {A : Type 0} (regions : A → List Grant) (word : A → ℕ → ℕ) (follows : A → List Event → A → Type 0) (takes : Bool) (old : Dlmalloc A) (payload released : ℕ) (system : A) : Type 0 where
   pub done : List Segment
   pub rest : List Segment
+  pub given : AreGivenBack regions word follows (taken_back takes (filter is_own done)) old.system released system
   pub is : segments_of word old ≡ done ++ rest
   pub some : 0 < length done
   pub parts : AreSegments (regions system) (word system) rest
   pub told : AreRecords (word system) payload rest
-  pub given : AreGivenBack regions word follows (taken_back takes (filter is_own done)) old.system released system
 
-module _ {A : Type 0} (regions : A → List Grant) (word : A → ℕ → ℕ) (follows : A → List Event → A → Type 0)
+-- the segment that is told is one of the heap
+pub record IsTold (told segment : Segment) : Type 0 where
+  pub base : told.base ≡ segment.base
+  pub size : told.size ≡ segment.size
+  pub own : is_own told ≡ is_own segment
+
+-- the head segment is a run
+pub head_is_run : {A : Type 0} {regions : A → List Grant} {word : A → ℕ → ℕ} {heap : Dlmalloc A} → IsSound regions word heap → heap.size ≢ 0 →
+    {told : SegmentRecord} → told ≡ record { base = heap.base; size = heap.size; next = heap.next; flags = heap.flags } →
+    IsWholeRun (regions heap.system) told.base (told.base + told.size)
+head_is_run {regions} {word} {heap} sound some read =
+    subst (λ t. IsWholeRun (regions heap.system) t.base (t.base + t.size)) (sym read) (go (segments_of word heap) sound.segments sound.told)
+  where
+    go : (segments : List Segment) → AreSegments (regions heap.system) (word heap.system) segments → AreTold (word heap.system) heap segments →
+        IsWholeRun (regions heap.system) heap.base (heap.base + heap.size)
+    go [] parts h = absurd (some h)
+    go (segment ∷ segments) parts h =
+        subst (λ base. IsWholeRun (regions heap.system) base (base + heap.size)) (sym h.1) (subst (λ size. IsWholeRun (regions heap.system) segment.base
+        (segment.base + size)) (sym h.2) (whole_run (let long = parts.0.long in omega arith) parts.0.run))
+
+module _ {A : Type 0} {regions : A → List Grant} {word : A → ℕ → ℕ} {follows : A → List Event → A → Type 0} {takes : Bool} {heap : Dlmalloc A}
+    (sound : IsSound regions word heap) where
+  -- the records that are read are those that are left
+  records_left : {payload released : ℕ} {system : A} (d : Destroying regions word follows takes heap payload released system) → records_from (word system) (2 ^ 64) payload ≡ d.rest
+  records_left {payload} {system = system} d = records_read (regions system) (word system) (2 ^ 64) payload d.rest
+      (let all = segments_few word heap in let sum = ap length d.is ∙ length-append d.done d.rest in let some = d.some in omega arith) d.parts d.told
+
+  module _ {payload released : ℕ} {old : A} (d : Destroying regions word follows takes heap payload released old) where
+    -- all are given back
+    pub destroyed : payload ≡ 0 → AreGivenBack regions word follows (taken_back takes (filter is_own (segments_of word heap))) heap.system released old
+    destroyed none = subst (λ segments. AreGivenBack regions word follows (taken_back takes (filter is_own segments)) heap.system released old)
+        (sym (d.is ∙ (ap (λ rest. d.done ++ rest) (none_ahead (word old) d.rest none d.told) ∙ append-nil d.done))) d.given
+
+    module _ (more : payload ≢ 0) where
+      abbrev pub a : Ahead (word old) payload d.rest
+      a = ahead_of (word old) payload d.rest more d.told
+
+      pub parts_are : AreSegments (regions old) (word old) (a.segment ∷ a.others)
+      parts_are = subst (AreSegments (regions old) (word old)) a.is d.parts
+
+      -- what reading the record wants
+      pub read_high : payload + 32 < 2 ^ 64
+      read_high = omega (arith, payload_high parts_are.0 payload a.told.0 a.told.4, parts_are.0.high)
+
+      pub read_word : (k : ℕ) → payload ≤ k → k < payload + 32 → k % 8 ≡ payload % 8 → IsWordOf (regions old) k
+      read_word k low high m = payload_word parts_are.0 payload a.told.0 a.told.4 k low high
+          (omega (arith, payload_whole parts_are.0 payload a.told.0 a.told.4))
+
+      module _ {told : SegmentRecord} (read : told ≡ record_read (word old) payload) where
+        pub is_told : IsTold (told_of told) a.segment
+        is_told = record { base = ap (λ t. t.base) read ∙ a.told.1; size = ap (λ t. t.size) read ∙ a.told.2; own = ap (λ t. t.flags % 2 == 0) read ∙ parity a.told.3 }
+
+        pub is_run : IsWholeRun (regions old) told.base (told.base + told.size)
+        is_run =
+            subst (λ base. IsWholeRun (regions old) base (base + told.size)) (sym is_told.base) (subst (λ size. IsWholeRun (regions old) a.segment.base
+            (a.segment.base + size)) (sym is_told.size) (whole_run (let long = parts_are.0.long in omega arith) parts_are.0.run))
+
+module _ {A : Type 0} {regions : A → List Grant} {word : A → ℕ → ℕ} {follows : A → List Event → A → Type 0}
     (follows_on : (x y z : A) (a b c : List Event) → follows x a y → follows y b z → a ++ b ≡ c → follows x c z) where
   -- what the told segment is, the one in the heap is
-  pub given_told : (takes : Bool) (told segment : Segment) (old new : A) (bytes : ℕ) → told.base ≡ segment.base → told.size ≡ segment.size →
-      is_own told ≡ is_own segment → AreGivenBack regions word follows (taken_back takes (filter is_own (told ∷ []))) old bytes new →
-      AreGivenBack regions word follows (taken_back takes (filter is_own (segment ∷ []))) old bytes new
-  given_told takes told segment old new bytes base size own given =
-      subst (λ b. AreGivenBack regions word follows (taken_back takes (cond b (segment ∷ []) [])) old bytes new) own (go takes (is_own told) given)
+  pub given_told : (takes : Bool) {told segment : Segment} {old new : A} {bytes : ℕ} → IsTold told segment → AreGivenBack regions word follows
+      (taken_back takes (filter is_own (told ∷ []))) old bytes new → AreGivenBack regions word follows (taken_back takes (filter is_own (segment ∷ []))) old bytes new
+  given_told takes {told} {segment} {old} {new} {bytes} is given =
+      subst (λ b. AreGivenBack regions word follows (taken_back takes (cond b (segment ∷ []) [])) old bytes new) is.own (go takes (is_own told) given)
     where
       go : (takes own : Bool) → AreGivenBack regions word follows (taken_back takes (cond own (told ∷ []) [])) old bytes new →
           AreGivenBack regions word follows (taken_back takes (cond own (segment ∷ []) [])) old bytes new
-      go true true given = given_same regions word follows follows_on told segment true old new base size given
+      go true true given = given_same regions word follows follows_on told segment true old new is.base is.size given
       go true false given = given
       go false own given = given
 
   -- those behind it stay
-  pub rest_stay : (takes : Bool) (segment : Segment) (others : List Segment) (old new : A) (bytes : ℕ) → AreSegments (regions old) (word old)
+  pub rest_stay : (takes : Bool) (segment : Segment) (others : List Segment) {old new : A} {bytes : ℕ} → AreSegments (regions old) (word old)
       (segment ∷ others) → AllByRecursion (IsApartFrom segment) others → AreGivenBack regions word follows (taken_back takes
       (filter is_own (segment ∷ []))) old bytes new → AreSegments (regions new) (word new) others × AllByRecursion (KeepsIts (word old) (word new)) others
-  rest_stay takes segment others old new bytes parts apart given = go takes (is_own segment) given
+  rest_stay takes segment others {old} {new} {bytes} parts apart given = go takes (is_own segment) given
     where
       kept : regions new ≡ regions old → ((k : ℕ) → IsWordOf (regions new) k → word new k ≡ word old k) →
           AreSegments (regions new) (word new) others × AllByRecursion (KeepsIts (word old) (word new)) others
@@ -90,27 +146,27 @@ module _ {A : Type 0} (regions : A → List Grant) (word : A → ℕ → ℕ) (f
       go true false given = kept given.regions_are given.words
       go false own given = kept given.regions_are given.words
 
-  module _ (takes : Bool) {heap : Dlmalloc A} (sound : IsSound regions word heap) where
+  module _ {takes : Bool} {heap : Dlmalloc A} (sound : IsSound regions word heap) where
     -- a segment is given back
-    abbrev pub given_next : (done : List Segment) (segment : Segment) (others : List Segment) → segments_of word heap ≡ done ++ segment ∷ others →
-        (released : ℕ) {old : A} → AreSegments (regions old) (word old) (segment ∷ others) → AreGivenBack regions word follows
-        (taken_back takes (filter is_own done)) heap.system released old → (told : Segment) → told.base ≡ segment.base → told.size ≡ segment.size →
-        is_own told ≡ is_own segment → {bytes : ℕ} {new : A} → AreGivenBack regions word follows (taken_back takes (filter is_own (told ∷ []))) old
-        bytes new → (next : ℕ) → AreRecords (word old) next others → Destroying regions word follows takes heap next (released + bytes) new
-    given_next done segment others is released {old} parts before told base size own {bytes} {new} given next records =
-        let here = given_told takes told segment old new bytes base size own given in
+    abbrev given_next : (done : List Segment) (segment : Segment) (others : List Segment) → segments_of word heap ≡ done ++ segment ∷ others →
+        {released : ℕ} {old : A} → AreSegments (regions old) (word old) (segment ∷ others) → AreGivenBack regions word follows
+        (taken_back takes (filter is_own done)) heap.system released old → {told : Segment} → IsTold told segment → {bytes : ℕ} {new : A} →
+        AreGivenBack regions word follows (taken_back takes (filter is_own (told ∷ []))) old bytes new →
+        (next : ℕ) → AreRecords (word old) next others → Destroying regions word follows takes heap next (released + bytes) new
+    given_next done segment others is {released} {old} parts before told {bytes} {new} given next records =
+        let here = given_told takes told given in
         let apart : AllByRecursion (IsApartFrom segment) others = flip segment others (back_apart done segment others (subst AreApart is sound.apart)) in
-        let stay = rest_stay takes segment others old new bytes parts apart here in
+        let stay = rest_stay takes segment others parts apart here in
         record {
           done = done ++ segment ∷ [];
           rest = others;
+          given = subst (λ gone. AreGivenBack regions word follows gone heap.system (released + bytes) new) (sym
+              (ap (taken_back takes) (filter-append is_own done (segment ∷ [])) ∙ taken_append takes (filter is_own done) (filter is_own (segment ∷ []))))
+              (given_on regions word follows follows_on old new before here);
           is = is ∙ sym (append_assoc done (segment ∷ []) others);
           some = omega (arith, length-append done (segment ∷ []));
           parts = stay.0;
           told = records_stay (regions old) (word old) (word new) others parts.1 stay.1 next records;
-          given = subst (λ gone. AreGivenBack regions word follows gone heap.system (released + bytes) new) (sym
-              (ap (taken_back takes) (filter-append is_own done (segment ∷ [])) ∙ taken_append takes (filter is_own done) (filter is_own (segment ∷ []))))
-              (given_on regions word follows follows_on old new before here);
         }
 
     -- the head is
@@ -128,77 +184,28 @@ module _ {A : Type 0} (regions : A → List Grant) (word : A → ℕ → ℕ) (f
             AreTold (word heap.system) heap segments → Destroying regions word follows takes heap told.next bytes new
         go [] is parts h = absurd (some h)
         go (segment ∷ segments) is parts h =
-            subst (λ n. Destroying regions word follows takes heap told.next n new) (omega arith) (given_next [] segment segments is 0 parts (nothing takes)
-            (told_of told) (ap (λ t. t.base) read ∙ h.1) (ap (λ t. t.size) read ∙ h.2) (ap (λ t. t.flags % 2 == 0) read ∙ ap (λ f. f % 2 == 0) h.3)
+            subst (λ n. Destroying regions word follows takes heap told.next n new) (omega arith) (given_next [] segment segments is parts (nothing takes)
+            (record { base = ap (λ t. t.base) read ∙ h.1; size = ap (λ t. t.size) read ∙ h.2; own = ap (λ t. t.flags % 2 == 0) read ∙ ap (λ f. f % 2 == 0) h.3 })
             given told.next (subst (λ p. AreRecords (word heap.system) p segments) (ap (λ t. t.next) (sym read)) h.5))
 
-    -- the head segment is a run
-    pub head_is_run : heap.size ≢ 0 → {told : SegmentRecord} → told ≡ record { base = heap.base; size = heap.size; next = heap.next; flags = heap.flags } → IsWholeRun (regions heap.system) told.base (told.base + told.size)
-    head_is_run some read = subst (λ t. IsWholeRun (regions heap.system) t.base (t.base + t.size)) (sym read) (go (segments_of word heap) sound.segments sound.told)
-      where
-        go : (segments : List Segment) → AreSegments (regions heap.system) (word heap.system) segments → AreTold (word heap.system) heap segments →
-            IsWholeRun (regions heap.system) heap.base (heap.base + heap.size)
-        go [] parts h = absurd (some h)
-        go (segment ∷ segments) parts h =
-            subst (λ base. IsWholeRun (regions heap.system) base (base + heap.size)) (sym h.1) (subst (λ size. IsWholeRun (regions heap.system) segment.base
-            (segment.base + size)) (sym h.2) (whole_run (let long = parts.0.long in omega arith) parts.0.run))
+    -- the next one is
+    module _ {payload released : ℕ} {old : A} (d : Destroying regions word follows takes heap payload released old) (more : payload ≢ 0)
+        {told : SegmentRecord} (read : told ≡ record_read (word old) payload) {bytes : ℕ} {new : A}
+        (given : AreGivenBack regions word follows (taken_back takes (filter is_own (told_of told ∷ []))) old bytes new) where
+      abbrev ahead : Ahead (word old) payload d.rest
+      ahead = a sound d more
 
-    -- the records that are read are those that are left
-    records_left : {payload released : ℕ} (system : A) (d : Destroying regions word follows takes heap payload released system) → records_from (word system) (2 ^ 64) payload ≡ d.rest
-    records_left {payload} system d = records_read (regions system) (word system) (2 ^ 64) payload d.rest
-        (let all = segments_few word heap in let sum = ap length d.is ∙ length-append d.done d.rest in let some = d.some in omega arith) d.parts d.told
+      abbrev pub on_given : Destroying regions word follows takes heap told.next (released + bytes) new
+      on_given = given_next d.done ahead.segment ahead.others (d.is ∙ ap (λ rest. d.done ++ rest) ahead.is) (parts_are sound d more) d.given
+          (is_told sound d more read) given told.next (subst (λ p. AreRecords (word old) p ahead.others) (ap (λ t. t.next) (sym read)) ahead.told.5)
 
-    module _ {payload released : ℕ} {old : A} (d : Destroying regions word follows takes heap payload released old) where
-      -- all are given back
-      pub destroyed : payload ≡ 0 → AreGivenBack regions word follows (taken_back takes (filter is_own (segments_of word heap))) heap.system released old
-      destroyed none = subst (λ segments. AreGivenBack regions word follows (taken_back takes (filter is_own segments)) heap.system released old)
-          (sym (d.is ∙ (ap (λ rest. d.done ++ rest) (none_ahead (word old) d.rest none d.told) ∙ append-nil d.done))) d.given
+      pub sum_fits : released + bytes < 2 ^ 64
+      sum_fits =
+          let all = bytes_few (regions heap.system) (word heap.system) (segments_of word heap) sound.segments sound.apart in
+          let sum = ap bytes_of on_given.is ∙ bytes_append on_given.done on_given.rest in
+          let some = taken_few takes (filter is_own on_given.done) in
+          let own = bytes_filter is_own on_given.done in
+          omega (arith, on_given.given.bytes_are)
 
-      module _ (more : payload ≢ 0) where
-        abbrev pub a : Ahead (word old) payload d.rest
-        a = ahead_of (word old) payload d.rest more d.told
-
-        pub parts_are : AreSegments (regions old) (word old) (a.segment ∷ a.others)
-        parts_are = subst (AreSegments (regions old) (word old)) a.is d.parts
-
-        pub there_is : segments_of word heap ≡ d.done ++ a.segment ∷ a.others
-        there_is = d.is ∙ ap (λ rest. d.done ++ rest) a.is
-
-        -- what reading the record wants
-        pub read_high : payload + 32 < 2 ^ 64
-        read_high = omega (arith, payload_high parts_are.0 payload a.told.0 a.told.4, parts_are.0.high)
-
-        pub read_word : (k : ℕ) → payload ≤ k → k < payload + 32 → k % 8 ≡ payload % 8 → IsWordOf (regions old) k
-        read_word k low high m = payload_word parts_are.0 payload a.told.0 a.told.4 k low high
-            (omega (arith, payload_whole parts_are.0 payload a.told.0 a.told.4))
-
-        module _ {told : SegmentRecord} (read : told ≡ record_read (word old) payload) where
-          pub base_is : told.base ≡ a.segment.base
-          base_is = ap (λ t. t.base) read ∙ a.told.1
-
-          pub size_is : told.size ≡ a.segment.size
-          size_is = ap (λ t. t.size) read ∙ a.told.2
-
-          pub is_run : IsWholeRun (regions old) told.base (told.base + told.size)
-          is_run =
-              subst (λ base. IsWholeRun (regions old) base (base + told.size)) (sym base_is) (subst (λ size. IsWholeRun (regions old) a.segment.base
-              (a.segment.base + size)) (sym size_is) (whole_run (let long = parts_are.0.long in omega arith) parts_are.0.run))
-
-          module _ {bytes : ℕ} {new : A} (given : AreGivenBack regions word follows (taken_back takes (filter is_own (told_of told ∷ []))) old bytes new) where
-            abbrev pub on_given : Destroying regions word follows takes heap told.next (released + bytes) new
-            on_given = given_next d.done a.segment a.others there_is released parts_are d.given (told_of told) base_is size_is (ap (λ t. t.flags % 2 == 0) read
-                ∙ parity a.told.3) given told.next (subst (λ p. AreRecords (word old) p a.others) (ap (λ t. t.next) (sym read)) a.told.5)
-
-            pub sum_fits : released + bytes < 2 ^ 64
-            sum_fits =
-                let all = bytes_few (regions heap.system) (word heap.system) (segments_of word heap) sound.segments sound.apart in
-                let sum = ap bytes_of on_given.is ∙ bytes_append on_given.done on_given.rest in
-                let some = taken_few takes (filter is_own on_given.done) in
-                let own = bytes_filter is_own on_given.done in
-                omega (arith, on_given.given.bytes_are)
-
-            pub fewer_given : length (records_from (word new) (2 ^ 64) told.next) < length (records_from (word old) (2 ^ 64) payload)
-            fewer_given =
-                let now = ap length (records_left new on_given) in let was = ap length (records_left old d) in
-                let all = ap length a.is in
-                omega arith
+      pub fewer_given : length (records_from (word new) (2 ^ 64) told.next) < length (records_from (word old) (2 ^ 64) payload)
+      fewer_given = omega (arith, ap length (records_left sound on_given), ap length (records_left sound d), ap length ahead.is)

@@ -202,8 +202,8 @@ limit_small g least = go (g == 16)
 
 -- ---- both ends of a trim that is made, of a system whose laws are these
 
-module _ {A : Type 0} {regions : A → List Grant} {word : A → ℕ → ℕ} {follows : A → List Event → A → Type 0} (zeros frees parts : A → Bool)
-    (unit : A → ℕ) (fixed : (x y : A) (events : List Event) → follows x events y → IsFixed zeros frees parts unit x y)
+module _ {A : Type 0} {regions : A → List Grant} {word : A → ℕ → ℕ} {follows : A → List Event → A → Type 0} {zeros frees parts : A → Bool}
+    {unit : A → ℕ} (fixed : (x y : A) (events : List Event) → follows x events y → IsFixed zeros frees parts unit x y)
     (follows_on : (x y z : A) (a b c : List Event) → follows x a y → follows y b z → a ++ b ≡ c → follows x c z) {pad : ℕ}
     {old middle after : Dlmalloc A} (some_old : 0 < old.size) (small : pad < limit old.granularity)
     (cut : IsCutBack regions word follows (parts old.system) (unit old.system) old pad middle) (some : 0 < middle.size) {bytes : ℕ}

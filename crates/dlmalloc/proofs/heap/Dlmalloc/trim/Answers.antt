@@ -22,7 +22,7 @@ returns-then-is_cut-clause-trimmed g c =
       | then-is_cut-via-else-is_cut+then-released-gt0 w ↦ (let first = w.if-is_cut.false in let more = w.if-released-gt0.true in
           let test : nat_lt 0 c.release_unused_segments-released.result ≡ true = grind (arith, nat_tests) in rw (first, test) refl)
     ] in
-    trim_gave g.A.Allocator.zeros g.A.Allocator.frees g.A.Allocator.parts g.A.Allocator.unit g.met.A.Allocator.fixed g.A.Links.follows_on some small
+    trim_gave g.met.A.Allocator.fixed g.A.Links.follows_on some small
     c.trim_top-is_cut.ensures.cut c.trim_top-is_cut.ensures.there c.release_unused_segments-released.ensures.passed c.trim_top-is_cut.ensures.answer
     c.trim_top-is_cut.ensures.index given
 
@@ -36,8 +36,7 @@ returns-clause-trimmed g c =
     let test : nat_lt 0 c.release_unused_segments-released.result ≡ false = grind (arith, nat_tests) in
     let given : (c.trim_top-is_cut.result || nat_lt 0 c.release_unused_segments-released.result) ≡ false = rw (first, test) refl in
     subst (λ h. IsTrimmed g.A.Links.regions g.A.Links.word g.A.Links.follows (g.A.Allocator.frees heap.system) (g.A.Allocator.parts heap.system)
-    (g.A.Allocator.unit heap.system) heap c.args.pad false h) (sym c.give_up.ensures) (trim_gave_up g.A.Allocator.zeros g.A.Allocator.frees g.A.Allocator.parts
-    g.A.Allocator.unit g.met.A.Allocator.fixed g.A.Links.follows_on some small c.trim_top-is_cut.ensures.cut c.trim_top-is_cut.ensures.there
+    (g.A.Allocator.unit heap.system) heap c.args.pad false h) (sym c.give_up.ensures) (trim_gave_up g.met.A.Allocator.fixed g.A.Links.follows_on some small c.trim_top-is_cut.ensures.cut c.trim_top-is_cut.ensures.there
     c.release_unused_segments-released.ensures.passed c.trim_top-is_cut.ensures.answer c.trim_top-is_cut.ensures.index given)
 
 pub returns-clause-linked : goal.returns-clause-linked
