@@ -1,19 +1,9 @@
 -- The extents that an index holds.
 use Rattle.dlmalloc.proofs.Names.{◌≡◌, ◌≢◌, ℕ, ◌⊎◌, inl, inr, Bool, true, false, ◌==◌, if◌then◌else◌, List, [], ◌∷◌, ◌++◌, refl, sym, ◌∙◌, ap, subst, arith, nat_tests, IsIn, AreDistinct, removed, with_chunk, without_chunk, HeapState, IsFreeAt, HoldsBut, FreeMoves}
-use Rattle.dlmalloc.proofs.Bins.OneOrder.{in_front}
+use Rattle.dlmalloc.proofs.Bins.OneOrder.{in_front, in_back, in_one}
 use Rattle.dlmalloc.proofs.Extents.Lookup.{nat_is, the_extent}
 
 -- ---- the chunks of an index with one more, and with one less
-
-in_last : (chunk : ℕ) (chunks : List ℕ) → IsIn chunk (chunks ++ chunk ∷ [])
-in_last chunk [] = inl refl
-in_last chunk (first ∷ chunks) = inr (in_last chunk chunks)
-
-in_either : (k chunk : ℕ) (chunks : List ℕ) → IsIn k (chunks ++ chunk ∷ []) → IsIn k chunks ⊎ (k ≡ chunk)
-in_either k chunk [] (inl is) = inr is
-in_either k chunk [] (inr none) = absurd none
-in_either k chunk (first ∷ chunks) (inl is) = inl (inl is)
-in_either k chunk (first ∷ chunks) (inr later) = elim (in_either k chunk chunks later) [ inl is ↦ inl (inr is) | inr is ↦ inr is ]
 
 in_removed : (k chunk : ℕ) (chunks : List ℕ) → IsIn k chunks → k ≢ chunk → IsIn k (removed chunk chunks)
 in_removed k chunk [] is other = absurd is
@@ -52,13 +42,13 @@ module _ (size chunk : ℕ) (index : ℕ → List ℕ) where
       go false = is
 
   with_it : (n : ℕ) → n ≡ size → IsIn chunk (with_chunk size chunk index n)
-  with_it n is = (let test : (n == size) ≡ true = (let e = is in grind (arith, nat_tests)) in rw test (in_last chunk (index n)))
+  with_it n is = (let test : (n == size) ≡ true = (let e = is in grind (arith, nat_tests)) in rw test (in_back chunk (index n) (chunk ∷ []) (inl refl)))
 
   of_with : (k n : ℕ) → IsIn k (with_chunk size chunk index n) → IsIn k (index n) ⊎ ((k ≡ chunk) × (n ≡ size))
   of_with k n is = go (n == size) refl is
     where
       go : (b : Bool) → (n == size) ≡ b → IsIn k (if b then index n ++ chunk ∷ [] else index n) → IsIn k (index n) ⊎ ((k ≡ chunk) × (n ≡ size))
-      go true test there = elim (in_either k chunk (index n) there) [ inl old ↦ inl old | inr new ↦ inr (new, nat_is test) ]
+      go true test there = elim (in_one k (index n) (chunk ∷ []) there) [ inl old ↦ inl old | inr new ↦ elim new [ inl is ↦ inr (is, nat_is test) | inr none ↦ absurd none ] ]
       go false test there = inl there
 
   in_without : (k n : ℕ) → IsIn k (index n) → k ≢ chunk → IsIn k (without_chunk size chunk index n)

@@ -32,11 +32,11 @@ in_front k [] back here = absurd here
 in_front k (first ∷ front) back (inl same) = inl same
 in_front k (first ∷ front) back (inr later) = inr (in_front k front back later)
 
-in_back : (k : ℕ) (front back : List ℕ) → IsIn k back → IsIn k (front ++ back)
+pub in_back : (k : ℕ) (front back : List ℕ) → IsIn k back → IsIn k (front ++ back)
 in_back k [] back here = here
 in_back k (first ∷ front) back here = inr (in_back k front back here)
 
-in_one : (k : ℕ) (front back : List ℕ) → IsIn k (front ++ back) → IsIn k front ⊎ IsIn k back
+pub in_one : (k : ℕ) (front back : List ℕ) → IsIn k (front ++ back) → IsIn k front ⊎ IsIn k back
 in_one k [] back here = inr here
 in_one k (first ∷ front) back (inl same) = inl (inl same)
 in_one k (first ∷ front) back (inr later) = elim (in_one k front back later) [ inl here ↦ inl (inr here) | inr there ↦ inr there ]

@@ -52,18 +52,16 @@ module _ {A : Type 0} {regions : A → List Grant} {word : A → ℕ → ℕ} {h
       let l = located other.at (segments_of word heap) found in
       (is_top sound l.front l.segment l.back l.is (l.there ∙ (λ i. Some (extent other.at other.size (is i))))).1
 
+  -- the one that has the chunk's first byte is the top, where it begins there
+  size : from ≡ heap.top → one.size ≡ heap.top_size
+  size is = ap (λ e. e.size) (the_extent (sym there ∙ (ap (λ a. extent_at a all) (around.place ∙ is) ∙ (top_among sound (some_segment word heap one.at there)))))
+
   pub above_top : from ≡ heap.top → is_above_check (state_of word heap) at ≡ nat_lt heap.trim_check heap.top_size
   above_top is = ap (λ o. nat_lt heap.trim_check (unwrap_or (option_map (λ extent. extent.size) o) 0)) (find_only (is_top_with at) all apart
       (top_among sound (some_segment word heap one.at there)) holds (λ other found test. place_of found (top_with at other test).kind))
     where
-      same : one ≡ extent heap.top heap.top_size Top
-      same = the_extent (sym there ∙ (ap (λ a. extent_at a all) (around.place ∙ is) ∙ (top_among sound (some_segment word heap one.at there))))
-
-      size : one.size ≡ heap.top_size
-      size = ap (λ e. e.size) same
-
       holds : (nat_le heap.top at && nat_lt at (heap.top + heap.top_size)) ≡ true
-      holds = (let low : heap.top ≤ at = omega arith in let high : at < heap.top + heap.top_size = omega (arith, size) in grind (arith, nat_tests))
+      holds = (let low : heap.top ≤ at = omega arith in let high : at < heap.top + heap.top_size = omega (arith, size is) in grind (arith, nat_tests))
 
   pub above_none : from ≢ heap.top → is_above_check (state_of word heap) at ≡ false
   above_none differs = ap (λ o. nat_lt heap.trim_check (unwrap_or (option_map (λ extent. extent.size) o) 0))
@@ -84,9 +82,7 @@ module _ {A : Type 0} {regions : A → List Grant} {word : A → ℕ → ℕ} {h
       go : (b : Bool) → (from == heap.top) ≡ b → (from ≡ heap.top) × (at < heap.top + heap.top_size)
       go true is =
           let place : from ≡ heap.top = nat_is is in
-          let size : one.size ≡ heap.top_size = ap (λ e. e.size)
-          (the_extent (sym there ∙ (ap (λ a. extent_at a all) (around.place ∙ place) ∙ (top_among sound (some_segment word heap one.at there))))) in
-          (place, omega arith)
+          (place, omega (arith, size place))
       go false isnt = absurd (let under = above_none (λ same. (let is : (from == heap.top) ≡ true = ap (λ n. n == heap.top) same ∙ nat_same heap.top in cc)) in cc)
 
 -- ---- so it is settled

@@ -43,36 +43,24 @@ cut_granularity : (less : ℕ) (segments : List Segment) (victim granularity rat
 cut_granularity less [] victim granularity rate countdown trim_check = refl
 cut_granularity less (head ∷ rest) victim granularity rate countdown trim_check = refl
 
+-- of two heaps with one granularity a test takes one
+either : (b : Bool) (one other : HeapState) {granularity : ℕ} → one.granularity ≡ granularity → other.granularity ≡ granularity →
+    (if b then one else other).granularity ≡ granularity
+either true one other is was = is
+either false one other is was = was
+
 granularity_after : (frees parts : Bool) (unit : ℕ) (heap : HeapState) (at : ℕ) → (after_free frees parts unit heap at).granularity ≡ heap.granularity
-granularity_after frees parts unit heap at = above (is_above_check heap at)
-  where
-    cut : (b : Bool) → (if b then cut_top (cut_of heap 0) heap else heap).granularity ≡ heap.granularity
-    cut true = cut_granularity (cut_of heap 0) heap.segments heap.victim heap.granularity heap.rate heap.countdown heap.trim_check
-    cut false = refl
-
-    given : (b : Bool) (left : HeapState) → (if b then record left { trim_check = 2 ^ 64 - 1 } else left).granularity ≡ left.granularity
-    given true left = refl
-    given false left = refl
-
-    gave : (b : Bool) → (if b then passed frees parts (after_cut parts unit 0 heap) else given_up (passed frees parts (after_cut parts unit 0 heap))).granularity ≡ heap.granularity
-    gave true = cut (is_cut parts unit 0 heap)
-    gave false =
-        let left = passed frees parts (after_cut parts unit 0 heap) in
-        given (nat_lt left.trim_check (top_bytes left)) left ∙ cut (is_cut parts unit 0 heap)
-
-    made : (b : Bool) → (if b then (if gives_back frees parts unit 0 heap then passed frees parts (after_cut parts unit 0 heap) else given_up
-        (passed frees parts (after_cut parts unit 0 heap))) else heap).granularity ≡ heap.granularity
-    made true = gave (gives_back frees parts unit 0 heap)
-    made false = refl
-
-    count : (a b : Bool) → (if a then (if b then passed frees parts heap else record heap { countdown = heap.countdown - 1 }) else heap).granularity ≡ heap.granularity
-    count true true = refl
-    count true false = refl
-    count false b = refl
-
-    above : (b : Bool) → (if b then trimmed frees parts unit 0 heap else counted frees parts heap at).granularity ≡ heap.granularity
-    above true = made (is_trimmed 0 heap)
-    above false = count (is_counted heap at) (nat_le heap.countdown 1)
+granularity_after frees parts unit heap at =
+    let left = passed frees parts (after_cut parts unit 0 heap) in
+    let cut : left.granularity ≡ heap.granularity = either (is_cut parts unit 0 heap) (cut_top (cut_of heap 0) heap) heap
+    (cut_granularity (cut_of heap 0) heap.segments heap.victim heap.granularity heap.rate heap.countdown heap.trim_check) refl in
+    let gave = either (gives_back frees parts unit 0 heap) left (given_up left) cut
+    (either (nat_lt left.trim_check (top_bytes left)) (record left { trim_check = 2 ^ 64 - 1 }) left cut cut) in
+    let count = record heap { countdown = heap.countdown - 1 } in
+    either (is_above_check heap at) (trimmed frees parts unit 0 heap) (counted frees parts heap at)
+    (either (is_trimmed 0 heap) (if gives_back frees parts unit 0 heap then left else given_up left) heap gave refl)
+    (either (is_counted heap at) (if nat_le heap.countdown 1 then passed frees parts heap else count) heap
+    (either (nat_le heap.countdown 1) (passed frees parts heap) count refl refl) refl)
 
 -- ---- both steps
 

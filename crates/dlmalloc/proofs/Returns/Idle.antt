@@ -6,7 +6,7 @@ use Rattle.dlmalloc.proofs.Extents.Lookup.{extent, found_here}
 use Rattle.dlmalloc.proofs.Segments.Among.{with_extents}
 use Rattle.dlmalloc.proofs.Extents.Top.{no_record}
 use Rattle.dlmalloc.proofs.Extents.FreeParted.{bare, either}
-use Rattle.dlmalloc.proofs.Returns.Unused.{unused_extents, two_found}
+use Rattle.dlmalloc.proofs.Returns.Unused.{both, unused_extents, two_found}
 
 module _ {regions : List Grant} {words : ℕ → ℕ} {segment : Segment} (part : IsSegment regions words segment) (at : ℕ)
     (there : extent_at at segment.extents ≡ Some (record_of at (segment.base + segment.size))) where
@@ -55,10 +55,6 @@ module _ {regions : List Grant} {words : ℕ → ℕ} {segment : Segment} (part 
           let whole = tiles.2.2 in
           let is : b.one.size + 80 ≡ segment.size = omega arith in
           grind (arith, nat_tests)
-
-  both : (b c : Bool) → IsTrue (b && c) → IsTrue b × IsTrue c
-  both true c h = (refl, h)
-  both false c h = absurd (cc)
 
   and : (b c : Bool) → IsTrue b → IsTrue c → IsTrue (b && c)
   and true c one two = two

@@ -47,19 +47,15 @@ leaving_is false parts head segments = none_filtered segments
 -- the countdown is no part of what makes a heap sound
 pub countdown_sound : {A : Type 0} {regions : A → List Grant} {word : A → ℕ → ℕ} {heap : Dlmalloc A} → IsSound regions word heap →
     (countdown : ℕ) → IsSound regions word (record heap { countdown = countdown })
-countdown_sound {word} {heap} sound countdown = record {
+countdown_sound sound countdown = record {
   granularity = sound.granularity;
   segments = sound.segments;
   apart = sound.apart;
-  told = same_told (segments_of word heap) sound.told;
+  told = sound.told;
   none = sound.none;
   no_victim = sound.no_victim;
   victim = sound.victim;
 }
-  where
-    same_told : (segments : List Segment) → AreTold (word heap.system) heap segments → AreTold (word heap.system) (record heap { countdown = countdown }) segments
-    same_told [] h = h
-    same_told (segment ∷ segments) h = h
 
 -- the bytes of an extent, and the head behind it, are granted
 record IsCovered (regions : List Grant) (block : Extent) : Type 0 where

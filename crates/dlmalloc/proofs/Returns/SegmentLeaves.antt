@@ -11,7 +11,7 @@ use Rattle.dlmalloc.proofs.Grants.SegmentBehind.{told_around}
 use Rattle.dlmalloc.proofs.Words.OfRecords.{payload_whole, payload_low, payload_high, payload_word, recorded_stays}
 use Rattle.dlmalloc.proofs.Returns.Unused.{two_found, unused_extents}
 use Rattle.dlmalloc.proofs.Returns.Segments.{word_stays, run_stays, apart_segments, apart_keeps}
-use Rattle.dlmalloc.proofs.Returns.SegmentVisited.{base_is, size_is, records_behind, Around, around}
+use Rattle.dlmalloc.proofs.Returns.SegmentVisited.{base_is, size_is, forgetful_none, records_behind, Around, around}
 
 -- ---- lists without one
 
@@ -290,10 +290,6 @@ module _ {A : Type 0} {regions : A → List Grant} {word : A → ℕ → ℕ} {h
         | inr tail ↦ (let no : Used ≡ Record = sym used ∙ tail in cc)
       ]
 
-      no_victim : (b : Bool) → (if b then 0 else heap.victim_size) ≡ 0 → (if b then 0 else heap.victim) ≡ 0
-      no_victim true is = refl
-      no_victim false is = sound.no_victim is
-
       victim_there : (b : Bool) → (told.base == heap.victim) ≡ b → (if b then 0 else heap.victim_size) ≢ 0 → extent_at (if b then 0 else heap.victim)
           (extents_in (state_of word left_heap)) ≡ Some (extent (if b then 0 else heap.victim) (if b then 0 else heap.victim_size) Free)
       victim_there true test more = absurd (more refl)
@@ -310,7 +306,7 @@ module _ {A : Type 0} {regions : A → List Grant} {word : A → ℕ → ℕ} {h
         linked = rest.linked;
         victim = λ i. if base_is sound c i == heap.victim then 0 else heap.victim;
         left = record {
-          sound = sound_as sound exchange (no_victim (told.base == heap.victim)) (victim_there (told.base == heap.victim) refl);
+          sound = sound_as sound exchange (forgetful_none sound c (told.base == heap.victim)) (victim_there (told.base == heap.victim) refl);
           used = record {
             still = λ used is there. exchanged_still sound exchange used.at (none_used used.at used is) there;
             before = λ used is there. found_before used.at there;

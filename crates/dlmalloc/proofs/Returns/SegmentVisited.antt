@@ -115,25 +115,21 @@ module _ {A : Type 0} {regions : A → List Grant} {word : A → ℕ → ℕ} {h
   abbrev pub forgetful : Bool → Dlmalloc A
   forgetful b = record heap { victim = if b then 0 else heap.victim; victim_size = if b then 0 else heap.victim_size }
 
+  pub forgetful_none : (b : Bool) → (if b then 0 else heap.victim_size) ≡ 0 → (if b then 0 else heap.victim) ≡ 0
+  forgetful_none true is = refl
+  forgetful_none false is = sound.no_victim is
+
   pub forgetful_sound : (b : Bool) → IsSound regions word (forgetful b)
   forgetful_sound b = record {
     granularity = sound.granularity;
     segments = sound.segments;
     apart = sound.apart;
-    told = same_told (segments_of word heap) sound.told;
+    told = sound.told;
     none = sound.none;
-    no_victim = no_victim b;
+    no_victim = forgetful_none b;
     victim = victim b;
   }
     where
-      same_told : (segments : List Segment) → AreTold words heap segments → AreTold words (forgetful b) segments
-      same_told [] h = h
-      same_told (segment ∷ segments) h = h
-
-      no_victim : (b : Bool) → (if b then 0 else heap.victim_size) ≡ 0 → (if b then 0 else heap.victim) ≡ 0
-      no_victim true is = refl
-      no_victim false is = sound.no_victim is
-
       victim : (b : Bool) → (if b then 0 else heap.victim_size) ≢ 0 → extent_at (if b then 0 else heap.victim)
           (extents_all (segments_of word heap)) ≡ Some (extent (if b then 0 else heap.victim) (if b then 0 else heap.victim_size) Free)
       victim true more = absurd (more refl)

@@ -1,6 +1,7 @@
 -- A trim is a cut of the top, a release pass, and giving up where neither gave bytes back.
 use Rattle.dlmalloc.proofs.Names.{◌≡◌, ℕ, ◌+◌, ◌-◌, ◌^◌, ◌<◌, ◌≤◌, ◌⊎◌, inl, inr, Bool, true, false, not, ◌&&◌, ◌||◌, ◌==◌, if◌then◌else◌, List, [], ◌∷◌, ◌++◌, Some, None, IsTrue, refl, sym, ◌∙◌, ap, subst, arith, length, nat_lt, filter, nat_tests, Grant, Event, IsFixed, IsWordOf, is_granted, limit, Extent, Top, Foot, extent_at, Segment, extents_in, handed_out, staying, may_leave, taken_back, releases, regions_without, bytes_of, passed, IsPassed, after_pass, after_trim, IsReindexed, is_cut, cut_of, cut_top, after_cut, given_up, is_trimmed, gives_back, regions_cut, IsCutBack, IsTrimmed, IsSegment, AreSegments, segments_of, state_of, AreTold, IsSound, Dlmalloc}
 use Rattle.dlmalloc.proofs.Returns.PassOrder.{pass_same}
+use Rattle.dlmalloc.proofs.Returns.PassSteps.{after_cut_keeps}
 use Rattle.dlmalloc.proofs.Bins.Changes.{same_check}
 use Rattle.dlmalloc.specs.Trimmed.{cut_off}
 use Rattle.dlmalloc.proofs.Extents.Lookup.{extent, found_more}
@@ -76,36 +77,6 @@ module _ {A : Type 0} (word : A → ℕ → ℕ) (heap : Dlmalloc A) (pad : ℕ)
         (taken_back frees (handed_out parts (segments_of word heap))) else []) isnt)) none;
   }
 
--- a cut changes the head segment alone, which a pass does not visit
-pass_cut : {A : Type 0} (word : A → ℕ → ℕ) (heap : Dlmalloc A) (frees parts : Bool) (unit pad : ℕ) (index : ℕ → List ℕ) (n : ℕ) →
-    after_pass frees parts (after_cut parts unit pad (state_of word heap)).segments index n ≡ after_pass frees parts (segments_of word heap) index n
-pass_cut word heap frees parts unit pad index n = go (is_cut parts unit pad (state_of word heap))
-  where
-    cut : (less : ℕ) (segments : List Segment) →
-        after_pass frees parts (cut_top less (record { segments = segments; victim = heap.victim; granularity = heap.granularity; rate = heap.rate; countdown = heap.countdown; trim_check = heap.trim_check })).segments index n ≡ after_pass frees parts segments index n
-    cut less [] = refl
-    cut less (head ∷ rest) = refl
-
-    go : (b : Bool) → after_pass frees parts (if b then cut_top (cut_of (state_of word heap) pad) (state_of word heap) else state_of word heap).segments index
-        n ≡ after_pass frees parts (segments_of word heap) index n
-    go true = cut (cut_of (state_of word heap) pad) (segments_of word heap)
-    go false = refl
-
--- nor hands it out
-module _ {A : Type 0} (word : A → ℕ → ℕ) (heap : Dlmalloc A) (parts : Bool) (unit pad : ℕ) where
-  handed_cut : handed_out parts (after_cut parts unit pad (state_of word heap)).segments ≡ handed_out parts (segments_of word heap)
-  handed_cut = go (is_cut parts unit pad (state_of word heap))
-    where
-      cut : (less : ℕ) (segments : List Segment) →
-          handed_out parts (cut_top less (record { segments = segments; victim = heap.victim; granularity = heap.granularity; rate = heap.rate; countdown = heap.countdown; trim_check = heap.trim_check })).segments ≡ handed_out parts segments
-      cut less [] = refl
-      cut less (head ∷ rest) = refl
-
-      go : (b : Bool) → handed_out parts (if b then cut_top (cut_of (state_of word heap) pad)
-          (state_of word heap) else state_of word heap).segments ≡ handed_out parts (segments_of word heap)
-      go true = cut (cut_of (state_of word heap) pad) (segments_of word heap)
-      go false = refl
-
 -- ---- a trim that is made
 
 module _ {A : Type 0} {regions : A → List Grant} {word : A → ℕ → ℕ} {follows : A → List Event → A → Type 0} {frees parts : Bool}
@@ -113,7 +84,8 @@ module _ {A : Type 0} {regions : A → List Grant} {word : A → ℕ → ℕ} {f
     (cut : IsCutBack regions word follows parts unit old pad middle) (some : 0 < middle.size) {bytes : ℕ}
     (pass : IsPassed regions word follows frees parts middle bytes after) where
   handed_same : handed_out parts (segments_of word middle) ≡ handed_out parts (segments_of word old)
-  handed_same = ap (λ s. handed_out parts s.segments) cut.state ∙ handed_cut word old parts unit pad
+  handed_same = ap (λ s. handed_out parts s.segments) cut.state
+      ∙ after_cut_keeps (handed_out parts) (λ one other rest. refl) parts unit pad (state_of word old)
 
   -- whether bytes went back
   pub answer : {cut_answer : Bool} → cut_answer ≡ is_cut parts unit pad (state_of word old) → (cut_answer || nat_lt 0 bytes) ≡ gives_back frees parts unit pad (state_of word old)
@@ -231,7 +203,8 @@ module _ {A : Type 0} {regions : A → List Grant} {word : A → ℕ → ℕ} {f
       let a = pass.index was.0 in (
         a.0,
         λ n. a.1 n ∙ (ap (λ segments. after_pass (frees old.system) (parts old.system) segments was.0.index n) (ap (λ s. s.segments) cut.state)
-            ∙ (pass_cut word old (frees old.system) (parts old.system) (unit old.system) pad was.0.index n
+            ∙ (after_cut_keeps (λ segments. after_pass (frees old.system) (parts old.system) segments was.0.index n) (λ one other rest. refl)
+            (parts old.system) (unit old.system) pad (state_of word old)
             ∙ (pass_same (frees old.system) (parts old.system) (segments_of word old) was.0.index b.index was.1 n ∙ sym (ap (λ t. (if t then after_pass
             (frees old.system) (parts old.system) (segments_of word old) b.index else b.index) n) (is_made word old pad small some_old))))),
       )

@@ -17,6 +17,10 @@ plain_told false = refl
 left_of : (part whole : ℕ) → 96 < whole → (part == whole - 80) ≡ (part + 80 == whole)
 left_of part whole long = grind (arith, nat_tests)
 
+pub both : (b c : Bool) → (b && c) ≡ true → (b ≡ true) × (c ≡ true)
+both true c h = (refl, h)
+both false c h = absurd (cc)
+
 -- what is found of a free extent and a record behind it
 pub two_found : (base size at end : ℕ) (k : ℕ) {one : Extent} → extent_at k (extent base size Free ∷ record_of at end ∷ []) ≡ Some one →
     ((one.kind ≡ Free) × (base ≡ k)) ⊎ (one.kind ≡ Record)
@@ -88,10 +92,6 @@ module _ {regions : List Grant} {words : ℕ → ℕ} {segment : Segment} (part 
       of_kind : (kind : Kind) → IsChunkKind kind → is_free_below_top kind ≡ true → kind ≡ Free
       of_kind kind (inl is) plain = absurd (let no = sym (ap is_free_below_top is) ∙ plain in cc)
       of_kind kind (inr is) plain = is
-
-      both : (b c : Bool) → (b && c) ≡ true → (b ≡ true) × (c ≡ true)
-      both true c h = (refl, h)
-      both false c h = absurd (cc)
 
       go : (chunks : List Extent) → Tiles words Used segment.base chunks at → AreChunks chunks → is_unused (with_extents segment (chunks ++ record_of at
           end ∷ [])) ≡ true → chunks ++ record_of at end ∷ [] ≡ extent segment.base (segment.size - 80) Free ∷ record_of at end ∷ []
