@@ -35,11 +35,7 @@ none_removed chunk (first ∷ chunks) distinct is = go (first == chunk) refl is 
 
 module _ (size chunk : ℕ) (index : ℕ → List ℕ) where
   in_with : (k n : ℕ) → IsIn k (index n) → IsIn k (with_chunk size chunk index n)
-  in_with k n is = go (n == size)
-    where
-      go : (b : Bool) → IsIn k (if b then index n ++ chunk ∷ [] else index n)
-      go true = in_front k (index n) (chunk ∷ []) is
-      go false = is
+  in_with k n is = elim (n == size) as (λ b. IsIn k (if b then index n ++ chunk ∷ [] else index n)) [ true ↦ in_front k (index n) (chunk ∷ []) is | false ↦ is ]
 
   with_it : (n : ℕ) → n ≡ size → IsIn chunk (with_chunk size chunk index n)
   with_it n is = (let test : (n == size) ≡ true = (let e = is in grind (arith, nat_tests)) in rw test (in_back chunk (index n) (chunk ∷ []) (inl refl)))
@@ -52,18 +48,11 @@ module _ (size chunk : ℕ) (index : ℕ → List ℕ) where
       go false test there = inl there
 
   in_without : (k n : ℕ) → IsIn k (index n) → k ≢ chunk → IsIn k (without_chunk size chunk index n)
-  in_without k n is other = go (n == size)
-    where
-      go : (b : Bool) → IsIn k (if b then removed chunk (index n) else index n)
-      go true = in_removed k chunk (index n) is other
-      go false = is
+  in_without k n is other = elim (n == size) as (λ b. IsIn k (if b then removed chunk (index n) else index n)) [ true ↦ in_removed k chunk (index n) is other | false ↦ is ]
 
   of_without : (k n : ℕ) → IsIn k (without_chunk size chunk index n) → IsIn k (index n)
-  of_without k n is = go (n == size) is
-    where
-      go : (b : Bool) → IsIn k (if b then removed chunk (index n) else index n) → IsIn k (index n)
-      go true there = of_removed k chunk (index n) there
-      go false there = there
+  of_without k n = elim (n == size) as (λ b. IsIn k (if b then removed chunk (index n) else index n) → IsIn k (index n))
+      [ true ↦ of_removed k chunk (index n) | false ↦ λ there. there ]
 
   none_without : (n : ℕ) → AreDistinct (index n) → IsIn chunk (without_chunk size chunk index n) → n ≡ size → ⊥
   none_without n distinct is same = go (n == size) refl is

@@ -33,11 +33,8 @@ pub lessened_same : (index : ℕ → List ℕ) → IsLessened index index
 lessened_same index n = part_all (index n)
 
 pub lessened_as : (size chunk : ℕ) (old new : ℕ → List ℕ) → ((n : ℕ) → new n ≡ without_chunk size chunk old n) → IsLessened old new
-lessened_as size chunk old new is n = subst (λ chunks. IsPart chunks (old n)) (sym (is n)) (go (n == size))
-  where
-    go : (b : Bool) → IsPart (if b then removed chunk (old n) else old n) (old n)
-    go true = part_removed chunk (old n)
-    go false = part_all (old n)
+lessened_as size chunk old new is n = subst (λ chunks. IsPart chunks (old n)) (sym (is n)) (elim (n == size) as
+    (λ b. IsPart (if b then removed chunk (old n) else old n) (old n)) [ true ↦ part_removed chunk (old n) | false ↦ part_all (old n) ])
 
 -- without a chunk that is not there
 removed_none : (chunk : ℕ) (chunks : List ℕ) → (IsIn chunk chunks → ⊥) → chunks ≡ removed chunk chunks
@@ -49,11 +46,8 @@ removed_none chunk (first ∷ chunks) none = go (first == chunk) refl (removed_n
     go false test rest = ap (λ more. first ∷ more) rest
 
 pub none_left : (size chunk : ℕ) (index : ℕ → List ℕ) (n : ℕ) → (IsIn chunk (index n) → ⊥) → index n ≡ without_chunk size chunk index n
-none_left size chunk index n none = go (n == size)
-  where
-    go : (b : Bool) → index n ≡ (if b then removed chunk (index n) else index n)
-    go true = removed_none chunk (index n) none
-    go false = refl
+none_left size chunk index n none = elim (n == size) as (λ b. index n ≡ (if b then removed chunk (index n) else index n))
+    [ true ↦ removed_none chunk (index n) none | false ↦ refl ]
 
 pub lessened_on : (first middle last : ℕ → List ℕ) → IsLessened first middle → IsLessened middle last → IsLessened first last
 lessened_on first middle last one two n = part_on (last n) (middle n) (first n) (one n) (two n)

@@ -1,6 +1,7 @@
 -- That blocks keep their words follows from the clause on words, where both heaps are sound.
 use Rattle.dlmalloc.proofs.Names.{◌≡◌, ℕ, ◌+◌, ◌/◌, ◌%◌, ◌<◌, ◌≤◌, ◌⊎◌, inl, inr, Bool, true, false, ◌==◌, if◌then◌else◌, List, [], ◌∷◌, Some, IsTrue, sym, ◌∙◌, ap, subst, arith, unwrap_or, AllByRecursion, Grant, IsWordOf, is_granted, Extent, Kind, Used, Free, Victim, Top, Record, Foot, is_used, Segment, HeapState, extents_in, is_free_below_top, IsInFree, OnlyOwnChange, OnlyOwnOrTagsChange, KeepsBlocks, IsSpared, AllSpare, IsSegment, AreSegments, IsApartFrom, AreApart, segments_of, state_of, IsSound, IsTurned, Event, Dlmalloc}
 use Rattle.dlmalloc_chunks.specs.Tiling.{extent_at}
+use Rattle.dlmalloc.proofs.Names.{IsInRecord}
 use Rattle.dlmalloc.proofs.Extents.Lookup.{found_either}
 use Rattle.dlmalloc.proofs.Words.Spared.{spared_before, spared_behind, spared_append, inner_spared}
 use Rattle.dlmalloc.proofs.Moves.OfLists.{standing, half}
@@ -57,26 +58,25 @@ no_boundary k Record at size h is = elim is [ inl a ↦ h a | inr b ↦ (let p =
 no_boundary k Foot at size h is = elim is [ inl a ↦ h a | inr b ↦ (let p = b.0 in cc) ]
 
 -- a word of a block, or its head, is in no record
-pub no_record : (regions : List Grant) (words : ℕ → ℕ) (segments : List Segment) → AreSegments regions words segments → AreApart segments →
-    {block tail : Extent} → extent_at block.at (extents_all segments) ≡ Some block → block.kind ≡ Used →
-    extent_at tail.at (extents_all segments) ≡ Some tail → tail.kind ≡ Record →
-    (k : ℕ) → block.at ≤ k → k < block.at + block.size + 8 → k % 8 ≡ 0 → tail.at < k → k < tail.at + tail.size → ⊥
-no_record regions words segments parts apart {block} {tail} there used tail_there is k low high m above below =
-    elim (beside regions words segments parts apart there tail_there differ) [
-      | inl before ↦ omega (arith, whole)
-      | inr behind ↦ omega arith
+pub no_record : {A : Type 0} {regions : A → List Grant} {word : A → ℕ → ℕ} {heap : Dlmalloc A} → IsSound regions word heap →
+    {block : Extent} → extent_at block.at (extents_in (state_of word heap)) ≡ Some block → block.kind ≡ Used →
+    (k : ℕ) → block.at ≤ k → k < block.at + block.size + 8 → k % 8 ≡ 0 → IsInRecord (state_of word heap) k → ⊥
+no_record {regions} {word} {heap} sound {block} there used k low high m r =
+    elim (beside (regions heap.system) (word heap.system) (segments_of word heap) sound.segments sound.apart there r.there differ) [
+      | inl before ↦ (let above = r.low in omega (arith, whole))
+      | inr behind ↦ (let below = r.high in omega arith)
     ]
   where
-    differ : block.at ≡ tail.at → ⊥
+    differ : block.at ≡ r.extent.at → ⊥
     differ same =
-        let one : Some block ≡ Some tail = sym there ∙ (ap (λ a. extent_at a (extents_all segments)) same ∙ tail_there) in
-        let no : Used ≡ Record = sym used ∙ (ap (λ o. (unwrap_or o block).kind) one ∙ is) in
+        let one : Some block ≡ Some r.extent = sym there ∙ (ap (λ a. extent_at a (extents_in (state_of word heap))) same ∙ r.there) in
+        let no : Used ≡ Record = sym used ∙ (ap (λ o. (unwrap_or o block).kind) one ∙ r.is) in
         cc
 
-    whole : tail.at % 16 ≡ 0
+    whole : r.extent.at % 16 ≡ 0
     whole =
-        let l = located tail.at segments tail_there in let p = of_located (IsSegment regions words) l parts in
-        (in_part words Used l.segment.base l.segment.extents (l.segment.base + l.segment.size) p.extents l.there).stands.whole
+        let l = located r.extent.at (segments_of word heap) r.there in let p = of_located (IsSegment (regions heap.system) (word heap.system)) l sound.segments in
+        (in_part (word heap.system) Used l.segment.base l.segment.extents (l.segment.base + l.segment.size) p.extents l.there).stands.whole
 
 -- nor in a free extent
 pub not_in_free : {A : Type 0} {regions : A → List Grant} {word : A → ℕ → ℕ} {heap : Dlmalloc A} → IsSound regions word heap →
@@ -105,8 +105,7 @@ kept_in_tags {regions} {word} granted before old {new} sound same there used k l
       | inl boundary ↦ no_boundary k boundary.extent.kind boundary.extent.at boundary.extent.size
           (spared_found (extents_in (state_of word new)) k boundary.extent.at spared boundary.there) boundary.is
       | inr free ↦ not_in_free sound there used k (omega arith) high free
-    ]) (λ recorded. no_record (regions new.system) (word new.system) (segments_of word new) sound.segments sound.apart there used recorded.there recorded.is k
-    (omega arith) high is.aligned recorded.low recorded.high)
+    ]) (no_record sound there used k (omega arith) high is.aligned)
 
 pub kept_in : {A : Type 0} {regions : A → List Grant} {word : A → ℕ → ℕ} {follows : A → List Event → A → Type 0} {old new : Dlmalloc A} →
     IsTurned regions word follows old new → {block : Extent} → extent_at block.at (extents_in (state_of word new)) ≡ Some block → block.kind ≡ Used →

@@ -86,17 +86,12 @@ module _ {A : Type 0} (regions : A → List Grant) (word : A → ℕ → ℕ) (f
       KeepsBlocks (extents_in (state_of word old)) (word old.system) (word new.system)
   blocks_left old new sound left = record {
     words = λ block there used k low high m. left.words k (inside block there used k (omega arith) high m) (not_in_free sound there used k (omega arith) high)
-        (λ r. no_record_is block there used k (omega arith) high m r);
+        (no_record sound there used k (omega arith) high m);
     heads = λ block there used. (let is = stands block there used in
         ap (λ w. w / 2) (left.words (block.at + 8) (inside block there used (block.at + 8) (omega arith) (omega arith) (omega arith)) (not_in_free sound there
-        used (block.at + 8) (omega arith) (omega arith)) (λ r. no_record_is block there used (block.at + 8) (omega arith) (omega arith) (omega arith) r)));
+        used (block.at + 8) (omega arith) (omega arith)) (no_record sound there used (block.at + 8) (omega arith) (omega arith) (omega arith))));
   }
     where
-      no_record_is : (block : Extent) → extent_at block.at (extents_in (state_of word old)) ≡ Some block → block.kind ≡ Used →
-          (k : ℕ) → block.at ≤ k → k < block.at + block.size + 8 → k % 8 ≡ 0 → IsInRecord (state_of word old) k → ⊥
-      no_record_is block there used k low high m r =
-          no_record (regions old.system) (word old.system) (segments_of word old) sound.segments sound.apart there used r.there r.is k low high m r.low r.high
-
       stands : (block : Extent) → extent_at block.at (extents_in (state_of word old)) ≡ Some block → block.kind ≡ Used → IsCovered (regions new.system) block
       stands block there used =
           let l = located block.at (segments_of word new) (left.used.still block used there) in
