@@ -93,12 +93,9 @@ of_sizes heap (first ∷ extents) size is = go (is_binned heap first) refl is (o
 -- ---- in a heap
 
 plain_free : (before kind : Kind) → MayStand before kind → is_free_below_top kind ≡ true → kind ≡ Free
-plain_free before Used may plain = absurd (cc)
 plain_free before Free may plain = refl
 plain_free before Victim may plain = absurd may
-plain_free before Top may plain = absurd (cc)
-plain_free before Record may plain = absurd (cc)
-plain_free before Foot may plain = absurd (cc)
+plain_free before kind may plain = absurd (cc)
 
 and_first : (a b : Bool) → (a && b) ≡ true → a ≡ true
 and_first true b is = refl

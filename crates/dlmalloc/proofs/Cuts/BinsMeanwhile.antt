@@ -60,10 +60,6 @@ module _ {A : Type 0} {regions : A → List Grant} {word : A → ℕ → ℕ} {o
   pub victim_free : {size : ℕ} → IsFreeAt (state_of word old) old.victim size → at ≢ old.victim → IsFreeAt (state_of word new) old.victim size
   victim_free {size} free other = (moves.stays old.victim size free (λ is. elim is [ inl victim ↦ other (sym victim) | inr none ↦ none ])).0
 
--- no free extent begins at address 0
-pub none_free_at_zero : {A : Type 0} {regions : A → List Grant} {word : A → ℕ → ℕ} {heap : Dlmalloc A} → IsSound regions word heap → {n : ℕ} → IsFreeAt (state_of word heap) 0 n → ⊥
-none_free_at_zero sound free = (let low = free_low sound free in omega arith)
-
 -- ---- the bins of a heap in which a chunk gave way
 
 -- The free chunk at an address gave way. A rest at another address stays free, if there is one.
@@ -159,7 +155,7 @@ module _ (stays : IndexStays) {A : Type 0} {regions : A → List Grant} {word : 
   old_victim_free other some = victim_free new sound cut.free (sound.victim some) other
 
   pub old_victim_none : old.victim_size ≡ 0 → (bytes : ℕ) → IsFreeAt (state_of word new) old.victim bytes → ⊥
-  old_victim_none none bytes free = none_free_at_zero cut.moved.sound (subst (λ a. IsFreeAt (state_of word new) a bytes) (sound.no_victim none) free)
+  old_victim_none none bytes free = (let low = free_low cut.moved.sound free in let zero = sound.no_victim none in omega arith)
 
   module _ (other : at ≢ old.victim) where
     pub apart : (at == old.victim) ≡ false

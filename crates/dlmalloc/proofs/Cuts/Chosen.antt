@@ -11,7 +11,7 @@ use Rattle.dlmalloc.proofs.Segments.Among.{extents_all, located, of_located, in_
 use Rattle.dlmalloc.proofs.Extents.Top.{top_among, foot_among}
 use Rattle.dlmalloc.proofs.Extents.Walk.{run_read, top_tail}
 
-and_false : (a : Bool) {b : Bool} → b ≡ false → (a && b) ≡ false
+pub and_false : (a : Bool) {b : Bool} → b ≡ false → (a && b) ≡ false
 and_false true is = is
 and_false false is = refl
 

@@ -40,21 +40,15 @@ rehung words' before' {next} h kind may head same = record {
 
 -- the size that a head tells is whole
 pub told_whole : (kind : Kind) (size : ℕ) → IsSize kind size → told_size kind size % 8 ≡ 0
-told_whole Used size h = let w = h.0 in omega arith
-told_whole Free size h = let w = h.0 in omega arith
-told_whole Victim size h = let w = h.0 in omega arith
-told_whole Top size h = let w = h.0 in omega arith
 told_whole Record size h = refl
 told_whole Foot size h = omega arith
+told_whole kind size h = let w = h.0 in omega arith
 
 -- a word that an extent spares is not its head
 pub no_head : (k : ℕ) (kind : Kind) (at size : ℕ) → IsSize kind size → IsSpared k kind at size → k ≢ at + 8
-no_head k Used at size long h = h
 no_head k Free at size long h = h.0
 no_head k Victim at size long h = h.0
-no_head k Top at size long h = h
-no_head k Record at size long h = h
-no_head k Foot at size long h = h
+no_head k kind at size long h = h
 
 -- it may stand behind one in use, and behind a free one
 pub may_stand : (kind before : Kind) → (kind ≡ Used) ⊎ (kind ≡ Record) → (before ≡ Used) ⊎ (before ≡ Free) → MayStand before kind
@@ -64,11 +58,9 @@ may_stand kind before (inr is) b = subst (MayStand before) (sym is) b
 -- behind a free extent stands one in use or a record, and a free one stands behind one in use
 pub behind_free : (kind : Kind) → MayStand Free kind → (kind ≡ Used) ⊎ (kind ≡ Record)
 behind_free Used h = inl refl
-behind_free Free h = absurd (cc)
-behind_free Victim h = absurd h
-behind_free Top h = absurd (cc)
 behind_free Record h = inr refl
-behind_free Foot h = absurd (cc)
+behind_free Victim h = absurd h
+behind_free kind h = absurd (cc)
 
 -- a chunk gives way to one in use and to its rest
 cut_in_two : {regions : List Grant} {old new : ℕ → ℕ} {before : Kind} {at size : ℕ} {kind : Kind} (n : ℕ) → HasChunk old before (extent at size kind) →

@@ -45,12 +45,10 @@ module _ {A : Type 0} {regions : A → List Grant} {word : A → ℕ → ℕ} {h
 
   -- it is the top, or a free chunk before it
   kinds : (kind : Kind) → one.kind ≡ kind → (one.kind ≡ Top) ⊎ (one.kind ≡ Free)
-  kinds Used is = absurd (let free = around.free in let no : is_free one.kind ≡ false = ap is_free is in cc)
   kinds Free is = inr is
   kinds Victim is = absurd (subst (MayStand is_in.before) is is_in.stands.kind)
   kinds Top is = inl is
-  kinds Record is = absurd (let free = around.free in let no : is_free one.kind ≡ false = ap is_free is in cc)
-  kinds Foot is = absurd (let free = around.free in let no : is_free one.kind ≡ false = ap is_free is in cc)
+  kinds kind is = absurd (let free = around.free in let no : is_free one.kind ≡ false = ap is_free is in cc)
 
   top_place : one.kind ≡ Top → from ≡ heap.top
   top_place is = sym place ∙ (is_top sound l.front l.segment l.back l.is (l.there ∙ (λ i. Some (extent one.at one.size (is i))))).1

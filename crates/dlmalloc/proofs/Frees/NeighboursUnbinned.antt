@@ -150,21 +150,16 @@ module _ {A : Type 0} {regions : A → List Grant} {word : A → ℕ → ℕ} {h
         IsVictimAfter from to heap.victim new.victim →
         AreAccounted (state_of word heap) (state_of word new) ((at + size) ∷ from ∷ []) (from ∷ []) (from ∷ (at + size) ∷ []) (from ∷ [])
     accounted some new moves victim = record {
-      gone = λ k is n free other. turn k is;
+      gone = λ k is n free other. turn from (at + size) k is;
       come = λ k is n free other. is;
-      still = λ k out which n free other. absurd (elim which [ inl was ↦ lost k was out (moves_back k n free out) other | inr loose ↦ out (turn_back k loose) ]);
+      still = λ k out which n free other. absurd (elim which [ inl was ↦ lost k was out (moves_back k n free out) other | inr loose ↦ out (turn (at + size) from k loose) ]);
       from = λ k out which n free other. absurd (elim which [ inl now ↦ gained k n now out free other | inr loose ↦ out loose ]);
     }
       where
-        turn : (k : ℕ) → IsIn k (from ∷ (at + size) ∷ []) → IsIn k ((at + size) ∷ from ∷ [])
-        turn k (inl is) = inr (inl is)
-        turn k (inr (inl is)) = inl is
-        turn k (inr (inr none)) = absurd none
-
-        turn_back : (k : ℕ) → IsIn k ((at + size) ∷ from ∷ []) → IsIn k (from ∷ (at + size) ∷ [])
-        turn_back k (inl is) = inr (inl is)
-        turn_back k (inr (inl is)) = inl is
-        turn_back k (inr (inr none)) = absurd none
+        turn : (a b k : ℕ) → IsIn k (a ∷ b ∷ []) → IsIn k (b ∷ a ∷ [])
+        turn a b k (inl is) = inr (inl is)
+        turn a b k (inr (inl is)) = inl is
+        turn a b k (inr (inr none)) = absurd none
 
         moves_back : (k n : ℕ) → IsFreeAt (state_of word new) k n → (IsIn k (from ∷ (at + size) ∷ []) → ⊥) → IsFreeAt (state_of word heap) k n
         moves_back k n free out = (moves.was k n free (λ came. out (elim came [ inl is ↦ inl is | inr none ↦ absurd none ]))).0

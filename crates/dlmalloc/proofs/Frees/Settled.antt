@@ -25,12 +25,8 @@ top_with : (at : ℕ) (one : Extent) → is_top_with at one ≡ true → IsTopWi
 top_with at one test = go one.kind refl test
   where
     go : (kind : Kind) → one.kind ≡ kind → (is_the_top kind && (nat_le one.at at && nat_lt at (one.at + one.size))) ≡ true → IsTopWith at one
-    go Used is test = absurd (cc)
-    go Free is test = absurd (cc)
-    go Victim is test = absurd (cc)
     go Top is test = record { kind = is; low = grind (arith, nat_tests); high = grind (arith, nat_tests) }
-    go Record is test = absurd (cc)
-    go Foot is test = absurd (cc)
+    go kind is test = absurd (cc)
 
 module _ {A : Type 0} {regions : A → List Grant} {word : A → ℕ → ℕ} {heap : Dlmalloc A} (sound : IsSound regions word heap) {at from : ℕ}
     (around : IsFreeAround (state_of word heap) at from) where

@@ -1,5 +1,6 @@
 -- What freeing an extent makes of the extents of its segment.
 use Rattle.dlmalloc.proofs.Names.{◌≡◌, ℕ, ◌+◌, ◌<◌, ◌≤◌, ◌⊎◌, true, false, ◌==◌, ◌&&◌, List, [], ◌∷◌, ◌++◌, map, refl, ◌∙◌, ap, arith, ⊤, Extent, Kind, Used, Free, Victim, Top, Record, Foot, is_free, before, MayStand, Tiles}
+use Rattle.dlmalloc.proofs.Cuts.Chosen.{and_false}
 use Rattle.dlmalloc.specs.Freed.{merged, set_free}
 use Rattle.dlmalloc.proofs.Extents.Lookup.{nat_isnt}
 use Rattle.dlmalloc.proofs.Extents.Lookup.{extent}
@@ -8,27 +9,10 @@ use Rattle.dlmalloc.proofs.Extents.Tiling.{sized, tiles_le}
 -- ---- no two free extents of a segment touch
 
 touch : (kind next : Kind) → MayStand kind next → (is_free kind && is_free next) ≡ false
-touch Used next h = refl
-touch Free Used h = refl
-touch Free Free h = absurd (cc)
-touch Free Victim h = absurd h
-touch Free Top h = absurd (cc)
-touch Free Record h = refl
-touch Free Foot h = refl
-touch Victim Used h = refl
-touch Victim Free h = absurd (cc)
-touch Victim Victim h = absurd h
-touch Victim Top h = absurd (cc)
-touch Victim Record h = refl
-touch Victim Foot h = refl
-touch Top Used h = refl
-touch Top Free h = absurd (cc)
-touch Top Victim h = absurd h
-touch Top Top h = absurd (cc)
-touch Top Record h = refl
-touch Top Foot h = refl
-touch Record next h = refl
-touch Foot next h = refl
+touch kind Free h = ap (λ k. is_free k && true) h
+touch kind Top h = ap (λ k. is_free k && true) h
+touch kind Victim h = absurd h
+touch kind next h = and_false (is_free kind) refl
 
 -- so they stay as they are
 pub merged_same : (words : ℕ → ℕ) (before : Kind) (from : ℕ) (extents : List Extent) (to : ℕ) → Tiles words before from extents to → merged extents ≡ extents

@@ -4,7 +4,7 @@ use Rattle.dlmalloc.proofs.Extents.Lookup.{extent, found_here}
 use Rattle.dlmalloc.proofs.Segments.Among.{extents_all, all_at, all_front, all_back, front_apart, back_apart, among_all}
 use Rattle.dlmalloc.proofs.Grants.PutBefore.{flip}
 use Rattle.dlmalloc.proofs.Grants.SegmentBehind.{behind_more}
-use Rattle.dlmalloc.proofs.Returns.Unused.{first_head, unused_told, unused_extents}
+use Rattle.dlmalloc.proofs.Returns.Unused.{both, first_head, unused_told, unused_extents}
 use Rattle.dlmalloc.proofs.Returns.Segments.{whole_run}
 use Rattle.dlmalloc.proofs.Returns.Everything.{parity}
 
@@ -15,9 +15,7 @@ never true = refl
 never false = refl
 
 pub last_test : (a b c : Bool) → true ≡ (a && (b && c)) → c ≡ true
-last_test true true c is = sym is
-last_test true false c is = absurd (cc)
-last_test false b c is = absurd (cc)
+last_test a b c is = (both b c (both a (b && c) (sym is)).1).1
 
 -- ---- records
 
