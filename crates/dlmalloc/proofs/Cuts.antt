@@ -1,5 +1,6 @@
 -- A chunk is cut from a free extent, the victim or the top.
 pub mod ChunkPlace
+pub mod FoundByTest
 pub mod Chosen
 pub mod FreeExtent
 pub mod FreeChunk

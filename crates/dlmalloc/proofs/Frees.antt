@@ -4,7 +4,6 @@ pub mod StateAfter
 pub mod FreeBeside
 pub mod Behind
 pub mod OfRun
-pub mod FoundByTest
 pub mod OfChunk
 pub mod OfChunkAndBins
 pub mod BeforeTop

@@ -1,5 +1,5 @@
 -- The chunk that the bins find is the least binned extent of a heap.
-use Rattle.dlmalloc.proofs.Names.{◌≡◌, ◌≢◌, ℕ, ◌^◌, ◌<◌, ◌≤◌, ◌⊎◌, inl, inr, Bool, true, false, not, ◌&&◌, ◌==◌, nat_lt, min, if◌then◌else◌, List, [], ◌∷◌, map, Option, Some, None, refl, sym, ◌∙◌, ap, subst, arith, dec_lt, unwrap_or, option_map, filter, nat_tests, Grant, Extent, Kind, Used, Free, Victim, Top, Record, Foot, IsIn, extent_at, MayStand, HeapState, extents_in, is_free_below_top, is_binned, least_from, least_fit, binned_sizes, IsAmong, segments_of, state_of, IsSound, IsFreeAt, IsBinned, Dlmalloc}
+use Rattle.dlmalloc.proofs.Names.{◌≡◌, ◌≢◌, ℕ, ◌^◌, ◌<◌, ◌≤◌, ◌⊎◌, inl, inr, Bool, true, false, not, ◌&&◌, ◌==◌, nat_lt, min, if◌then◌else◌, List, [], ◌∷◌, map, Option, Some, None, refl, sym, ◌∙◌, ap, subst, arith, dec_lt, unwrap_or, option_map, filter, nat_tests, Grant, Extent, Kind, Free, Victim, IsIn, extent_at, MayStand, HeapState, extents_in, is_free_below_top, is_binned, least_from, least_fit, binned_sizes, IsAmong, segments_of, state_of, IsSound, IsFreeAt, IsBinned, Dlmalloc}
 use Rattle.bins.specs.Index.{IsNone, IsLeastFit}
 use Rattle.dlmalloc.proofs.Extents.Lookup.{extent, the_extent}
 use Rattle.dlmalloc.proofs.Extents.OneMoreUsed.{AreDistinct}

@@ -1,67 +1,19 @@
 -- Which extent of a sound heap is chosen.
-use Rattle.dlmalloc.proofs.Names.{◌≡◌, ◌≢◌, ℕ, ◌+◌, ◌^◌, ◌<◌, ◌≤◌, inl, inr, Bool, true, false, not, ◌&&◌, ◌==◌, nat_le, nat_lt, if◌then◌else◌, List, [], ◌∷◌, ◌++◌, Option, Some, None, IsTrue, refl, sym, ◌∙◌, ap, subst, arith, unwrap_or, option_map, option_or, find, nat_tests, find-append, Grant, Extent, Used, Free, Top, Foot, extent_at, HeapState, Segment, extents_in, is_free_below_top, is_victim, is_binned, size_where, OfBins, TheVictim, TheTop, least_fit, choose, chosen, IsChosen, IsSegment, AreSegments, AreChunks, IsChunkKind, segments_of, state_of, AreTold, IsSound, Dlmalloc}
+use Rattle.dlmalloc.proofs.Names.{◌≡◌, ◌≢◌, ℕ, ◌+◌, ◌^◌, ◌<◌, ◌≤◌, Bool, true, false, not, ◌&&◌, ◌==◌, nat_le, nat_lt, List, Option, Some, None, IsTrue, refl, sym, ◌∙◌, ap, subst, arith, unwrap_or, option_map, find, nat_tests, Grant, Extent, Kind, Used, Free, Top, extent_at, HeapState, extents_in, is_free_below_top, is_victim, is_binned, size_where, OfBins, TheVictim, TheTop, least_fit, choose, chosen, IsChosen, IsSegment, segments_of, state_of, IsSound, Dlmalloc}
 use Rattle.dlmalloc.specs.State.{is_top}
 use Rattle.dlmalloc.specs.Choice.{Choice, goes_first, is_one_of}
 use Rattle.dlmalloc.specs.declared.walk.Place.{Place}
 use Rattle.dlmalloc.specs.declared.walk.Choice.TheVariants.{Chunk}
-use Rattle.dlmalloc.proofs.Extents.Lookup.{extent, nat_same, found_later}
+use Rattle.dlmalloc.proofs.Extents.Lookup.{extent, nat_same}
 use Rattle.dlmalloc.proofs.Extents.Tiling.{sized}
-use Rattle.dlmalloc.proofs.Extents.OneMoreUsed.{none_outside}
-use Rattle.dlmalloc.proofs.Segments.Among.{extents_all, located, of_located, in_part}
-use Rattle.dlmalloc.proofs.Extents.Top.{top_among, foot_among}
-use Rattle.dlmalloc.proofs.Extents.Walk.{run_read, top_tail}
+use Rattle.dlmalloc.proofs.Segments.Among.{all_distinct, located, of_located, in_part}
+use Rattle.dlmalloc.proofs.Extents.Top.{is_top as the_place, top_among, foot_among}
+use Rattle.dlmalloc.proofs.Extents.OneMoreUsed.{AreDistinct}
+use Rattle.dlmalloc.proofs.Cuts.FoundByTest.{find_only, find_none}
 
 pub and_false : (a : Bool) {b : Bool} → b ≡ false → (a && b) ≡ false
 and_false true is = is
 and_false false is = refl
-
--- the first victim is the extent that begins where the victim does, if that is free
-find_victim : (heap : HeapState) (extents : List Extent) {victim : Extent} → extent_at heap.victim extents ≡ Some victim →
-    is_free_below_top victim.kind ≡ true → find (is_victim heap) extents ≡ Some victim
-find_victim heap [] there plain = absurd (cc)
-find_victim heap (first ∷ extents) {victim} there plain = at_first (first.at == heap.victim) refl (λ rest. find_victim heap extents rest plain)
-  where
-    at_first : (b : Bool) → (first.at == heap.victim) ≡ b → (extent_at heap.victim extents ≡ Some victim →
-        find (is_victim heap) extents ≡ Some victim) → find (is_victim heap) (first ∷ extents) ≡ Some victim
-    at_first true test later =
-        let is : Some first ≡ Some victim = subst (λ b. (if b then Some first else extent_at heap.victim extents) ≡ Some victim) test there in
-        let same : first ≡ victim = ap (λ o. unwrap_or o first) is in
-        let free : is_free_below_top first.kind ≡ true = ap (λ e. is_free_below_top e.kind) same ∙ plain in
-        rw (free, test) is
-    at_first false test later =
-        let rest = later (subst (λ b. (if b then Some first else extent_at heap.victim extents) ≡ Some victim) test there) in
-        let isnt : is_victim heap first ≡ false = and_false (is_free_below_top first.kind) test in
-        rw isnt rest
-
--- there is no victim where no extent begins there
-no_victim : (heap : HeapState) (extents : List Extent) → extent_at heap.victim extents ≡ None → find (is_victim heap) extents ≡ None
-no_victim heap [] none = refl
-no_victim heap (first ∷ extents) none = at_first (first.at == heap.victim) refl (λ rest. no_victim heap extents rest)
-  where
-    at_first : (b : Bool) → (first.at == heap.victim) ≡ b → (extent_at heap.victim extents ≡ None → find (is_victim heap) extents ≡ None) → find (is_victim heap) (first ∷ extents) ≡ None
-    at_first true test later =
-        absurd (let is : Some first ≡ None = subst (λ b. (if b then Some first else extent_at heap.victim extents) ≡ None) test none in cc)
-    at_first false test later =
-        let rest = later (subst (λ b. (if b then Some first else extent_at heap.victim extents) ≡ None) test none) in
-        let isnt : is_victim heap first ≡ false = and_false (is_free_below_top first.kind) test in
-        rw isnt rest
-
--- no chunk is the top
-no_top : (chunks : List Extent) → AreChunks chunks → find (λ extent. is_top extent.kind) chunks ≡ None
-no_top [] are = refl
-no_top (chunk ∷ chunks) are = by_kind are.0 (no_top chunks are.1)
-  where
-    by_kind : IsChunkKind chunk.kind → find (λ extent. is_top extent.kind) chunks ≡ None → find (λ extent. is_top extent.kind) (chunk ∷ chunks) ≡ None
-    by_kind (inl is) rest = let other : is_top chunk.kind ≡ false = ap is_top is in rw other rest
-    by_kind (inr is) rest = let other : is_top chunk.kind ≡ false = ap is_top is in rw other rest
-
--- none begins at address 0
-none_at_zero : (regions : List Grant) (words : ℕ → ℕ) (segments : List Segment) → AreSegments regions words segments → extent_at 0 (extents_all segments) ≡ None
-none_at_zero regions words [] parts = refl
-none_at_zero regions words (segment ∷ segments) parts =
-    let low = parts.0.low in
-    found_later 0 segment.extents (extents_all segments) (none_outside words Used segment.base segment.extents (segment.base + segment.size) 0
-    (inl (omega arith)) parts.0.extents) ∙ none_at_zero regions words segments parts.1
 
 -- an extent of a heap begins at 4096 at least, and below 2 ^ 64 - 16
 pub free_low : {A : Type 0} {regions : A → List Grant} {word : A → ℕ → ℕ} {heap : Dlmalloc A} → IsSound regions word heap → {one : Extent} →
@@ -83,6 +35,17 @@ free_below {regions} {word} {heap} sound {one} there =
     let low = is.low in let high = is.high in let end = p.high in
     omega arith
 
+-- a top stands where the field says
+pub top_place : {A : Type 0} {regions : A → List Grant} {word : A → ℕ → ℕ} {heap : Dlmalloc A} → IsSound regions word heap → {one : Extent} →
+    extent_at one.at (extents_in (state_of word heap)) ≡ Some one → one.kind ≡ Top → one.at ≡ heap.top
+top_place {word} {heap} sound {one} there is =
+    let l = located one.at (segments_of word heap) there in
+    (the_place sound l.front l.segment l.back l.is (l.there ∙ (λ i. Some (extent one.at one.size (is i))))).1
+
+of_top : (kind : Kind) → is_top kind ≡ true → kind ≡ Top
+of_top Top test = refl
+of_top kind test = absurd (cc)
+
 pub top_below : {A : Type 0} {regions : A → List Grant} {word : A → ℕ → ℕ} {heap : Dlmalloc A} → IsSound regions word heap → 0 < heap.size → heap.top + 16 < 2 ^ 64
 top_below sound some = free_below sound (top_among sound some)
 
@@ -94,6 +57,12 @@ module _ {A : Type 0} {regions : A → List Grant} {word : A → ℕ → ℕ} {h
   abbrev pub state : HeapState
   state = state_of word heap
 
+  distinct : AreDistinct (extents_in state)
+  distinct = all_distinct (regions heap.system) (word heap.system) (segments_of word heap) sound.segments sound.apart
+
+  at_victim : (one : Extent) → is_victim state one ≡ true → one.at ≡ heap.victim
+  at_victim one test = grind (arith, nat_tests)
+
   -- the size of the victim
   victim_size_is : size_where (is_victim state) (extents_in state) ≡ heap.victim_size
   victim_size_is = by_size (heap.victim_size == 0) refl
@@ -102,11 +71,12 @@ module _ {A : Type 0} {regions : A → List Grant} {word : A → ℕ → ℕ} {h
       by_size true test =
           let zero : heap.victim_size ≡ 0 = grind (arith, nat_tests) in
           let at = sound.no_victim zero in
-          ap (λ o. unwrap_or (option_map (λ extent. extent.size) o) 0) (no_victim state (extents_in state) (ap (λ a. extent_at a (extents_in state)) at
-          ∙ none_at_zero (regions heap.system) (word heap.system) (segments_of word heap) sound.segments)) ∙ sym zero
+          ap (λ o. unwrap_or (option_map (λ extent. extent.size) o) 0) (find_none (is_victim state) (extents_in state) distinct (λ other found test.
+          (let low = free_low sound found in let place = at_victim other test in omega arith))) ∙ sym zero
       by_size false test =
           let some : heap.victim_size ≢ 0 = grind (arith, nat_tests) in
-          ap (λ o. unwrap_or (option_map (λ extent. extent.size) o) 0) (find_victim state (extents_in state) (sound.victim some) refl)
+          ap (λ o. unwrap_or (option_map (λ extent. extent.size) o) 0) (find_only (is_victim state) (extents_in state) distinct (sound.victim some)
+          (nat_same heap.victim) (λ other found test. at_victim other test))
 
   -- the top is one of the extents
   pub top_there : extent_at heap.top (extents_in state) ≡ Some (extent heap.top heap.top_size Top)
@@ -114,18 +84,8 @@ module _ {A : Type 0} {regions : A → List Grant} {word : A → ℕ → ℕ} {h
 
   -- the size of the top
   pub top_size_is : size_where (λ extent. is_top extent.kind) (extents_in state) ≡ heap.top_size
-  top_size_is = go (segments_of word heap) sound.segments sound.told
-    where
-      go : (segments : List Segment) → AreSegments (regions heap.system) (word heap.system) segments → AreTold (word heap.system) heap segments →
-          size_where (λ extent. is_top extent.kind) (extents_all segments) ≡ heap.top_size
-      go [] parts h = absurd (omega arith)
-      go (segment ∷ segments) parts h =
-          let t = top_tail parts.0 h.4 in let chunks = t.run.chunks in
-          let tail = extent heap.top heap.top_size Top ∷ extent (heap.top + heap.top_size) 80 Foot ∷ [] in
-          ap (λ o. unwrap_or (option_map (λ extent. extent.size) o) 0) (find-append (λ extent. is_top extent.kind) segment.extents (extents_all segments)
-          ∙ ap (λ o. option_or o (find (λ extent. is_top extent.kind) (extents_all segments)))
-          (ap (find (λ extent. is_top extent.kind)) (t.is ∙ ap (λ es. es ++ tail) (run_read t.run)) ∙ (find-append
-          (λ extent. is_top extent.kind) chunks tail ∙ ap (λ o. option_or o (find (λ extent. is_top extent.kind) tail)) (no_top chunks t.run.are))))
+  top_size_is = ap (λ o. unwrap_or (option_map (λ extent. extent.size) o) 0) (find_only (λ extent. is_top extent.kind) (extents_in state) distinct
+      top_there refl (λ other found test. top_place sound found (of_top other.kind test)))
 
   module _ (n : ℕ) where
     pub chosen_is : {fit : Option ℕ} → least_fit state n ≡ fit → chosen state n ≡ choose n fit heap.victim_size heap.top_size

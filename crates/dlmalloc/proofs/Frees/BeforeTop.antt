@@ -13,7 +13,7 @@ use Rattle.dlmalloc.proofs.Segments.HeadTop.{some_segment}
 use Rattle.dlmalloc.proofs.Frees.Behind.{run_one, next, in_segment, next_top}
 use Rattle.dlmalloc.proofs.Frees.Joined.{join_top}
 use Rattle.dlmalloc.proofs.Frees.FreeBeside.{IsFrom, IsTo, Left, Right, one_is}
-use Rattle.dlmalloc.proofs.Frees.FoundByTest.{none_has}
+use Rattle.dlmalloc.proofs.Cuts.FoundByTest.{none_has}
 use Rattle.dlmalloc.proofs.Frees.WhatCallsWant.{left_one, from_low, touches}
 use Rattle.dlmalloc.proofs.Frees.OfRun.{IsFree, IsJoined, freed_as}
 use Rattle.dlmalloc.proofs.Frees.OfRun as joined

@@ -1,13 +1,14 @@
 -- Whether a freed chunk counts, as the free extent tells it that it became part of.
-use Rattle.dlmalloc.proofs.Names.{◌≡◌, ◌≢◌, ℕ, ◌+◌, ◌-◌, ◌<◌, ◌⊎◌, inl, inr, Bool, true, false, not, ◌&&◌, ◌==◌, if◌then◌else◌, List, [], Some, refl, sym, ◌∙◌, ap, subst, arith, find, nat_le, nat_tests, Grant, Event, Extent, Kind, Used, Free, Victim, Top, Record, Foot, HasHead, size_of, is_free, MayStand, extent_at, extents_in, is_free_below_top, has, KeepsBlocks, handed_out, taken_back, releases, regions_without, passed, is_counted, left_by_count, IsFreeAround, IsPassed, IsCounted, after_pass, IsSegment, segments_of, state_of, IsSound, Dlmalloc}
+use Rattle.dlmalloc.proofs.Names.{◌≡◌, ◌≢◌, ℕ, ◌+◌, ◌-◌, ◌<◌, ◌⊎◌, inl, inr, Bool, true, false, not, ◌&&◌, ◌==◌, if◌then◌else◌, List, [], Some, refl, sym, ◌∙◌, ap, subst, arith, find, nat_le, nat_tests, Grant, Event, Extent, Kind, Used, Free, Victim, Top, HasHead, size_of, is_free, MayStand, extent_at, extents_in, is_free_below_top, has, KeepsBlocks, handed_out, taken_back, releases, regions_without, passed, is_counted, left_by_count, IsFreeAround, IsPassed, IsCounted, after_pass, IsSegment, segments_of, state_of, IsSound, Dlmalloc}
 use Rattle.dlmalloc.specs.Released.{is_large_binned}
 use Rattle.dlmalloc.proofs.Bins.Changes.{same_bins}
 use Rattle.dlmalloc.proofs.Extents.Lookup.{extent, nat_same, the_extent}
-use Rattle.dlmalloc.proofs.Frees.FoundByTest.{none_has}
+use Rattle.dlmalloc.proofs.Cuts.Chosen.{top_place}
+use Rattle.dlmalloc.proofs.Cuts.FoundByTest.{none_has}
 use Rattle.dlmalloc.proofs.Extents.FromWords.{told}
 use Rattle.dlmalloc.proofs.Segments.Among.{extents_all, Located, located, of_located, IsIn, in_part}
 use Rattle.dlmalloc.proofs.Extents.Tiling.{sized}
-use Rattle.dlmalloc.proofs.Extents.Top.{is_top, top_among}
+use Rattle.dlmalloc.proofs.Extents.Top.{top_among}
 use Rattle.dlmalloc.proofs.Segments.HeadTop.{some_segment}
 use Rattle.dlmalloc.proofs.Extents.Victim.{has_in}
 use Rattle.dlmalloc.proofs.Returns.ReleasePass.{countdown_sound}
@@ -50,8 +51,8 @@ module _ {A : Type 0} {regions : A → List Grant} {word : A → ℕ → ℕ} {h
   kinds Top is = inl is
   kinds kind is = absurd (let free = around.free in let no : is_free one.kind ≡ false = ap is_free is in cc)
 
-  top_place : one.kind ≡ Top → from ≡ heap.top
-  top_place is = sym place ∙ (is_top sound l.front l.segment l.back l.is (l.there ∙ (λ i. Some (extent one.at one.size (is i))))).1
+  at_top : one.kind ≡ Top → from ≡ heap.top
+  at_top is = sym place ∙ top_place sound there is
 
   not_top : one.kind ≡ Free → from ≢ heap.top
   not_top is same =
@@ -68,7 +69,7 @@ module _ {A : Type 0} {regions : A → List Grant} {word : A → ℕ → ℕ} {h
   -- so its head tells whether it counts
   counted_told : {b : Bool} → b ≡ (not (from == heap.top) && (not (from == heap.victim) && nat_le 256 (size_of (word heap.system (from + 8))))) → b ≡ is_counted (state_of word heap) at
   counted_told b_is = b_is ∙ elim (kinds one.kind refl) [
-    | inl is ↦ (let same : (from == heap.top) ≡ true = ap (λ n. n == heap.top) (top_place is) ∙ nat_same heap.top in
+    | inl is ↦ (let same : (from == heap.top) ≡ true = ap (λ n. n == heap.top) (at_top is) ∙ nat_same heap.top in
         ap (λ c. not c && (not (from == heap.victim) && nat_le 256 (size_of (word heap.system (from + 8))))) same ∙ sym (none_plain is))
     | inr is ↦ (let other : (from == heap.top) ≡ false = (let n = not_top is in grind (arith, nat_tests)) in
         let found = has_in (regions heap.system) (word heap.system) (segments_of word heap) sound.segments sound.apart at there is (omega (arith, place)) (omega (arith, place)) in

@@ -1,16 +1,17 @@
 -- What a free does further, told by the free extent that its chunk became part of.
-use Rattle.dlmalloc.proofs.Names.{◌≡◌, ◌≢◌, ℕ, ◌+◌, ◌<◌, ◌≤◌, inl, inr, Bool, true, false, ◌&&◌, ◌==◌, if◌then◌else◌, List, [], Some, refl, sym, ◌∙◌, ap, subst, arith, dec_lt, nat_le, nat_lt, unwrap_or, option_map, nat_tests, Grant, Event, Extent, Kind, Used, Free, Victim, Top, Record, Foot, extent_at, IsFreeAround, counted, left_by_count, releases, regions_without, IsCounted, after_trim, trimmed, regions_trimmed, IsTrimmed, is_above_check, IsSettled, segments_of, state_of, IsSound, Dlmalloc}
+use Rattle.dlmalloc.proofs.Names.{◌≡◌, ◌≢◌, ℕ, ◌+◌, ◌<◌, ◌≤◌, inl, inr, Bool, true, false, ◌&&◌, ◌==◌, if◌then◌else◌, List, [], Some, refl, sym, ◌∙◌, ap, subst, arith, dec_lt, nat_le, nat_lt, unwrap_or, option_map, nat_tests, Grant, Event, Extent, Kind, Top, extent_at, IsFreeAround, counted, left_by_count, releases, regions_without, IsCounted, after_trim, trimmed, regions_trimmed, IsTrimmed, is_above_check, IsSettled, segments_of, state_of, IsSound, Dlmalloc}
 use Rattle.dlmalloc.specs.State.{is_top as is_the_top}
 use Rattle.dlmalloc.specs.Order.{after_count}
 use Rattle.dlmalloc.specs.Trimmed.{trim_releases}
 use Rattle.dlmalloc.specs.AfterFree.{is_top_with}
-use Rattle.dlmalloc.proofs.Extents.Lookup.{extent, nat_is, nat_same, the_extent}
-use Rattle.dlmalloc.proofs.Frees.FoundByTest.{find_only, find_none}
+use Rattle.dlmalloc.proofs.Extents.Lookup.{nat_is, nat_same, the_extent}
+use Rattle.dlmalloc.proofs.Cuts.Chosen.{top_place}
+use Rattle.dlmalloc.proofs.Cuts.FoundByTest.{find_only, find_none}
 use Rattle.dlmalloc.proofs.Extents.OneMoreUsed.{AreDistinct}
-use Rattle.dlmalloc.proofs.Segments.Among.{extents_all, all_distinct, located}
+use Rattle.dlmalloc.proofs.Segments.Among.{extents_all, all_distinct}
 use Rattle.dlmalloc.proofs.Extents.Disjoint.{beside}
 use Rattle.dlmalloc.proofs.Segments.HeadTop.{some_segment}
-use Rattle.dlmalloc.proofs.Extents.Top.{is_top, top_among}
+use Rattle.dlmalloc.proofs.Extents.Top.{top_among}
 use Rattle.dlmalloc.proofs.Frees.Counted.{top_told, counted_none}
 
 -- ---- the top, or none
@@ -42,19 +43,13 @@ module _ {A : Type 0} {regions : A → List Grant} {word : A → ℕ → ℕ} {h
   apart : AreDistinct all
   apart = all_distinct (regions heap.system) (word heap.system) (segments_of word heap) sound.segments sound.apart
 
-  -- a top stands where the field says
-  place_of : {other : Extent} → extent_at other.at all ≡ Some other → other.kind ≡ Top → other.at ≡ heap.top
-  place_of {other} found is =
-      let l = located other.at (segments_of word heap) found in
-      (is_top sound l.front l.segment l.back l.is (l.there ∙ (λ i. Some (extent other.at other.size (is i))))).1
-
   -- the one that has the chunk's first byte is the top, where it begins there
   size : from ≡ heap.top → one.size ≡ heap.top_size
   size is = ap (λ e. e.size) (the_extent (sym there ∙ (ap (λ a. extent_at a all) (around.place ∙ is) ∙ (top_among sound (some_segment word heap one.at there)))))
 
   pub above_top : from ≡ heap.top → is_above_check (state_of word heap) at ≡ nat_lt heap.trim_check heap.top_size
   above_top is = ap (λ o. nat_lt heap.trim_check (unwrap_or (option_map (λ extent. extent.size) o) 0)) (find_only (is_top_with at) all apart
-      (top_among sound (some_segment word heap one.at there)) holds (λ other found test. place_of found (top_with at other test).kind))
+      (top_among sound (some_segment word heap one.at there)) holds (λ other found test. top_place sound found (top_with at other test).kind))
     where
       holds : (nat_le heap.top at && nat_lt at (heap.top + heap.top_size)) ≡ true
       holds = (let low : heap.top ≤ at = omega arith in let high : at < heap.top + heap.top_size = omega (arith, size is) in grind (arith, nat_tests))
@@ -63,7 +58,7 @@ module _ {A : Type 0} {regions : A → List Grant} {word : A → ℕ → ℕ} {h
   above_none differs = ap (λ o. nat_lt heap.trim_check (unwrap_or (option_map (λ extent. extent.size) o) 0))
       (find_none (is_top_with at) all apart (λ other found test. (let t = top_with at other test in let low = t.low in let high = t.high in
       elim (beside (regions heap.system) (word heap.system) (segments_of word heap) sound.segments sound.apart there found
-      (λ same. differs (sym around.place ∙ (same ∙ place_of found t.kind)))) [
+      (λ same. differs (sym around.place ∙ (same ∙ top_place sound found t.kind)))) [
         | inl before ↦ omega arith
         | inr behind ↦ omega arith
       ]))) ∙ never heap.trim_check

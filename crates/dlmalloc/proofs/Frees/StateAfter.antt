@@ -1,5 +1,5 @@
 -- What freeing an extent makes of the extents of its segment.
-use Rattle.dlmalloc.proofs.Names.{◌≡◌, ℕ, ◌+◌, ◌<◌, ◌≤◌, ◌⊎◌, true, false, ◌==◌, ◌&&◌, List, [], ◌∷◌, ◌++◌, map, refl, ◌∙◌, ap, arith, ⊤, Extent, Kind, Used, Free, Victim, Top, Record, Foot, is_free, before, MayStand, Tiles}
+use Rattle.dlmalloc.proofs.Names.{◌≡◌, ℕ, ◌+◌, ◌<◌, ◌≤◌, ◌⊎◌, true, false, ◌==◌, ◌&&◌, List, [], ◌∷◌, ◌++◌, map, refl, ◌∙◌, ap, arith, ⊤, Extent, Kind, Free, Victim, Top, is_free, before, MayStand, Tiles}
 use Rattle.dlmalloc.proofs.Cuts.Chosen.{and_false}
 use Rattle.dlmalloc.specs.Freed.{merged, set_free}
 use Rattle.dlmalloc.proofs.Extents.Lookup.{nat_isnt}

@@ -1,5 +1,5 @@
 -- A trim is a cut of the top, a release pass, and giving up where neither gave bytes back.
-use Rattle.dlmalloc.proofs.Names.{◌≡◌, ℕ, ◌+◌, ◌-◌, ◌^◌, ◌<◌, ◌≤◌, ◌⊎◌, inl, inr, Bool, true, false, not, ◌&&◌, ◌||◌, ◌==◌, if◌then◌else◌, List, [], ◌∷◌, ◌++◌, Some, None, IsTrue, refl, sym, ◌∙◌, ap, subst, arith, length, nat_lt, filter, nat_tests, Grant, Event, IsFixed, IsWordOf, is_granted, limit, Extent, Top, Foot, extent_at, Segment, extents_in, handed_out, staying, may_leave, taken_back, releases, regions_without, bytes_of, passed, IsPassed, after_pass, after_trim, IsReindexed, is_cut, cut_of, cut_top, after_cut, given_up, is_trimmed, gives_back, regions_cut, IsCutBack, IsTrimmed, IsSegment, AreSegments, segments_of, state_of, AreTold, IsSound, Dlmalloc}
+use Rattle.dlmalloc.proofs.Names.{◌≡◌, ℕ, ◌+◌, ◌-◌, ◌^◌, ◌<◌, ◌≤◌, ◌⊎◌, inl, inr, Bool, true, false, not, ◌&&◌, ◌||◌, ◌==◌, if◌then◌else◌, List, [], ◌∷◌, ◌++◌, Some, None, IsTrue, refl, sym, ◌∙◌, ap, subst, arith, length, nat_lt, filter, nat_tests, Grant, Event, IsFixed, IsWordOf, is_granted, limit, Extent, Top, Foot, extent_at, Segment, extents_in, handed_out, staying, may_leave, taken_back, releases, regions_without, bytes_of, passed, IsPassed, after_pass, after_trim, IsReindexed, is_cut, cut_of, cut_top, after_cut, given_up, is_trimmed, gives_back, regions_cut, IsCutBack, IsTrimmed, IsSegment, AreSegments, segments_of, state_of, AreTold, IsSound, Dlmalloc, Used, KeepsBlocks}
 use Rattle.dlmalloc.proofs.Returns.PassOrder.{pass_same}
 use Rattle.dlmalloc.proofs.Returns.PassSteps.{after_cut_keeps}
 use Rattle.dlmalloc.proofs.Bins.Changes.{same_check}
@@ -8,7 +8,7 @@ use Rattle.dlmalloc.proofs.Extents.Lookup.{extent, found_more}
 use Rattle.dlmalloc.proofs.Segments.Among.{extents_all}
 use Rattle.dlmalloc.proofs.Extents.Top.{foot_there}
 use Rattle.dlmalloc.proofs.Blocks.WordsKept.{keeps_on, kept_among}
-use Rattle.dlmalloc.proofs.Cuts.Chosen.{top_size_is}
+use Rattle.dlmalloc.proofs.Cuts.Chosen.{top_size_is, and_false}
 use Rattle.dlmalloc.proofs.Segments.HeadTop.{no_segments}
 use Rattle.dlmalloc.proofs.Returns.Segments.{still_granted}
 
@@ -52,11 +52,7 @@ module _ {A : Type 0} (word : A → ℕ → ℕ) (heap : Dlmalloc A) (pad : ℕ)
 
   pub is_not_made : (limit heap.granularity ≤ pad) ⊎ (heap.size ≡ 0) → is_trimmed pad (state_of word heap) ≡ false
   is_not_made (inl large) = let test : nat_lt pad (limit heap.granularity) ≡ false = grind (arith, nat_tests) in (λ i. test i && nat_lt 0 (length (segments_of word heap)))
-  is_not_made (inr none) = let there : (heap.size == 0) ≡ true = grind (arith, nat_tests) in rw there (none_so (nat_lt pad (limit heap.granularity)))
-    where
-      none_so : (b : Bool) → (b && false) ≡ false
-      none_so true = refl
-      none_so false = refl
+  is_not_made (inr none) = let there : (heap.size == 0) ≡ true = grind (arith, nat_tests) in rw there (and_false (nat_lt pad (limit heap.granularity)) refl)
 
   -- then nothing is done
   pub untouched : {regions : A → List Grant} (follows : A → List Event → A → Type 0) (frees parts : Bool) (unit : ℕ) → IsSound regions word heap →
