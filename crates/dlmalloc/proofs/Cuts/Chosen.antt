@@ -141,37 +141,26 @@ module _ {A : Type 0} {regions : A → List Grant} {word : A → ℕ → ℕ} {h
     none_chosen fit small few = chosen_is fit ∙ (let one : nat_le n heap.victim_size ≡ false = grind (arith, nat_tests) in
         let two : nat_lt n heap.top_size ≡ false = grind (arith, nat_tests) in rw (one, two) refl)
 
--- a binned one is not the victim
-pub bins_no_victim : {heap : HeapState} {n : ℕ} (size : ℕ) {extent : Extent} → IsChosen heap n extent → chosen heap n ≡ Some (OfBins size) → extent.at ≢ heap.victim
-bins_no_victim {heap} size {extent} h is same = go h.choice (the_choice (sym h.is ∙ is)) h.one
+-- one that is chosen of the bins is binned
+of_bins : {heap : HeapState} {n : ℕ} (size : ℕ) {extent : Extent} → IsChosen heap n extent → chosen heap n ≡ Some (OfBins size) →
+    (is_free_below_top extent.kind ≡ true) × ((extent.at == heap.victim) ≡ false)
+of_bins {heap} size {extent} h is = parts (is_free_below_top extent.kind) (extent.at == heap.victim) (extent.size == size)
+    (subst (λ c. IsTrue (is_one_of heap c extent)) (ap (λ o. unwrap_or o h.choice) (sym h.is ∙ is)) h.one)
   where
-    the_choice : {one other : Choice} → Some one ≡ Some other → one ≡ other
-    the_choice {one} {other} e = ap (λ o. unwrap_or o one) e
+    parts : (plain victim sized : Bool) → ((plain && not victim) && sized) ≡ true → (plain ≡ true) × (victim ≡ false)
+    parts true false sized test = (refl, refl)
+    parts true true sized test = absurd (cc)
+    parts false victim sized test = absurd (cc)
 
-    victim_binned : (plain victim sized : Bool) → victim ≡ true → ((plain && not victim) && sized) ≡ true → ⊥
-    victim_binned true true sized is test = (cc)
-    victim_binned false true sized is test = (cc)
-    victim_binned plain false sized is test = (cc)
-
-    go : (choice : Choice) → choice ≡ OfBins size → IsTrue (is_one_of heap choice extent) → ⊥
-    go choice e one =
-        let binned : (is_binned heap extent && extent.size == size) ≡ true = subst (λ c. IsTrue (is_one_of heap c extent)) e one in
-        let test : (extent.at == heap.victim) ≡ true = (let e = same in grind (arith, nat_tests)) in
-        victim_binned (is_free_below_top extent.kind) (extent.at == heap.victim) (extent.size == size) test binned
+-- so it is not the victim
+pub bins_no_victim : {heap : HeapState} {n : ℕ} (size : ℕ) {extent : Extent} → IsChosen heap n extent → chosen heap n ≡ Some (OfBins size) → extent.at ≢ heap.victim
+bins_no_victim {heap} size {extent} h is same =
+    let test : (extent.at == heap.victim) ≡ true = (let e = same in grind (arith, nat_tests)) in
+    let no = sym (of_bins size h is).1 ∙ test in cc
 
 -- and the top is in no bin
 pub top_no_bins : {heap : HeapState} {n : ℕ} (size : ℕ) {extent : Extent} → IsChosen heap n extent → extent.kind ≡ Top → chosen heap n ≡ Some (OfBins size) → ⊥
-top_no_bins {heap} size {extent} h top is = go h.choice (ap (λ o. unwrap_or o h.choice) (sym h.is ∙ is)) h.one
-  where
-    no_plain : (plain victim sized : Bool) → plain ≡ false → ((plain && not victim) && sized) ≡ true → ⊥
-    no_plain true victim sized is test = (cc)
-    no_plain false victim sized is test = (cc)
-
-    go : (choice : Choice) → choice ≡ OfBins size → IsTrue (is_one_of heap choice extent) → ⊥
-    go choice e one =
-        let binned : (is_binned heap extent && extent.size == size) ≡ true = subst (λ c. IsTrue (is_one_of heap c extent)) e one in
-        let plain : is_free_below_top extent.kind ≡ false = ap is_free_below_top top in
-        no_plain (is_free_below_top extent.kind) (extent.at == heap.victim) (extent.size == size) plain binned
+top_no_bins size h top is = (let no = sym (of_bins size h is).0 ∙ ap is_free_below_top top in cc)
 
 -- what holds of a place holds of the one that is returned
 pub of_place : (P : Place → Type 0) (old new : Place) → Some (Chunk old) ≡ Some (Chunk new) → P old → P new

@@ -14,27 +14,26 @@ end_granted : (less : ℕ) (segments : List Segment) (regions : List Grant) (k :
 end_granted less [] regions k granted = granted
 end_granted less (head ∷ rest) regions k granted = granted_before (head.base + (head.size - less)) (head.base + head.size) regions k granted
 
+-- what is granted of the regions that a test takes was granted, where it was of both
+granted_either : (b : Bool) (one other regions : List Grant) (k : ℕ) → (IsTrue (is_granted one k) → IsTrue (is_granted regions k)) →
+    (IsTrue (is_granted other k) → IsTrue (is_granted regions k)) → IsTrue (is_granted (if b then one else other) k) → IsTrue (is_granted regions k)
+granted_either true one other regions k first second granted = first granted
+granted_either false one other regions k first second granted = second granted
+
 trim_granted : (frees parts : Bool) (unit pad : ℕ) (heap : HeapState) (regions : List Grant) (k : ℕ) →
     IsTrue (is_granted (regions_trimmed frees parts unit pad heap regions) k) → IsTrue (is_granted regions k)
-trim_granted frees parts unit pad heap regions k = made (is_trimmed pad heap)
-  where
-    cut : (b : Bool) → IsTrue (is_granted (if b then without_end (cut_of heap pad) heap.segments regions else regions) k) → IsTrue (is_granted regions k)
-    cut true granted = end_granted (cut_of heap pad) heap.segments regions k granted
-    cut false granted = granted
-
-    made : (b : Bool) → IsTrue (is_granted (if b then regions_without (taken_back frees (handed_out parts heap.segments))
-        (regions_cut parts unit pad heap regions) else regions) k) → IsTrue (is_granted regions k)
-    made true granted = cut (is_cut parts unit pad heap) (still_granted (taken_back frees (handed_out parts heap.segments)) (regions_cut parts unit pad heap regions) k granted)
-    made false granted = granted
+trim_granted frees parts unit pad heap regions k =
+    let gone = taken_back frees (handed_out parts heap.segments) in let cut = regions_cut parts unit pad heap regions in
+    granted_either (is_trimmed pad heap) (regions_without gone cut) regions regions k
+    (λ granted. granted_either (is_cut parts unit pad heap) (without_end (cut_of heap pad) heap.segments regions) regions regions k
+    (end_granted (cut_of heap pad) heap.segments regions k) (λ granted. granted) (still_granted gone cut k granted)) (λ granted. granted)
 
 pub after_granted : (frees parts : Bool) (unit : ℕ) (heap : HeapState) (at : ℕ) (regions : List Grant) (k : ℕ) →
     IsTrue (is_granted (regions_after frees parts unit heap at regions) k) → IsTrue (is_granted regions k)
-after_granted frees parts unit heap at regions k = above (is_above_check heap at)
-  where
-    above : (b : Bool) → IsTrue (is_granted (if b then regions_trimmed frees parts unit 0 heap regions else regions_without
-        (left_by_count frees parts heap at) regions) k) → IsTrue (is_granted regions k)
-    above true granted = trim_granted frees parts unit 0 heap regions k granted
-    above false granted = still_granted (left_by_count frees parts heap at) regions k granted
+after_granted frees parts unit heap at regions k =
+    let left = left_by_count frees parts heap at in
+    granted_either (is_above_check heap at) (regions_trimmed frees parts unit 0 heap regions) (regions_without left regions) regions k
+    (trim_granted frees parts unit 0 heap regions k) (still_granted left regions k)
 
 -- ---- no free changes the granularity
 
