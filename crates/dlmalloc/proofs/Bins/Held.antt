@@ -44,11 +44,13 @@ module _ (size chunk : ℕ) (index : ℕ → List ℕ) where
   of_with k n is = go (n == size) refl is
     where
       go : (b : Bool) → (n == size) ≡ b → IsIn k (if b then index n ++ chunk ∷ [] else index n) → IsIn k (index n) ⊎ ((k ≡ chunk) × (n ≡ size))
-      go true test there = elim (in_one k (index n) (chunk ∷ []) there) [ inl old ↦ inl old | inr new ↦ elim new [ inl is ↦ inr (is, nat_is test) | inr none ↦ absurd none ] ]
+      go true test there = elim (in_one k (index n) (chunk ∷ []) there)
+          [ inl old ↦ inl old | inr new ↦ elim new [ inl is ↦ inr (is, nat_is test) | inr none ↦ absurd none ] ]
       go false test there = inl there
 
   in_without : (k n : ℕ) → IsIn k (index n) → k ≢ chunk → IsIn k (without_chunk size chunk index n)
-  in_without k n is other = elim (n == size) as (λ b. IsIn k (if b then removed chunk (index n) else index n)) [ true ↦ in_removed k chunk (index n) is other | false ↦ is ]
+  in_without k n is other = elim (n == size) as (λ b. IsIn k (if b then removed chunk (index n) else index n))
+      [ true ↦ in_removed k chunk (index n) is other | false ↦ is ]
 
   of_without : (k n : ℕ) → IsIn k (without_chunk size chunk index n) → IsIn k (index n)
   of_without k n = elim (n == size) as (λ b. IsIn k (if b then removed chunk (index n) else index n) → IsIn k (index n))

@@ -75,7 +75,8 @@ no_record {regions} {word} {heap} sound {block} there used k low high m r =
 
     whole : r.extent.at % 16 ≡ 0
     whole =
-        let l = located r.extent.at (segments_of word heap) r.there in let p = of_located (IsSegment (regions heap.system) (word heap.system)) l sound.segments in
+        let l = located r.extent.at (segments_of word heap) r.there in
+        let p = of_located (IsSegment (regions heap.system) (word heap.system)) l sound.segments in
         (in_part (word heap.system) Used l.segment.base l.segment.extents (l.segment.base + l.segment.size) p.extents l.there).stands.whole
 
 -- nor in a free extent

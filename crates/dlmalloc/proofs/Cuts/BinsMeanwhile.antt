@@ -119,7 +119,8 @@ victim_of heap at size n was rest small first second third =
 -- ---- a chunk is taken
 
 -- n bytes of a free chunk were taken, and the bins are as before
-pub record IsChunkCut {A : Type 0} (regions : A → List Grant) (word : A → ℕ → ℕ) (follows : A → List Event → A → Type 0) (old : Dlmalloc A) (at size n : ℕ) (new : Dlmalloc A) : Type 0 where
+pub record IsChunkCut {A : Type 0} (regions : A → List Grant) (word : A → ℕ → ℕ) (follows : A → List Event → A → Type 0) (old : Dlmalloc A) (at size n : ℕ)
+    (new : Dlmalloc A) : Type 0 where
   pub moved : IsMoved regions word follows old new
   pub state : state_of word new ≡ taken (state_of word old) (extent at size Free) n
   pub free : FreeMoves (state_of word old) (state_of word new) (at ∷ []) (if nat_le (n + 32) size then (at + n) ∷ [] else [])

@@ -153,7 +153,8 @@ of_bins {heap} size {extent} h is = parts (is_free_below_top extent.kind) (exten
     parts false victim sized test = absurd (cc)
 
 -- so it is not the victim
-pub bins_no_victim : {heap : HeapState} {n : ℕ} (size : ℕ) {extent : Extent} → IsChosen heap n extent → chosen heap n ≡ Some (OfBins size) → extent.at ≢ heap.victim
+pub bins_no_victim : {heap : HeapState} {n : ℕ} (size : ℕ) {extent : Extent} → IsChosen heap n extent → chosen heap n ≡ Some (OfBins size) →
+    extent.at ≢ heap.victim
 bins_no_victim {heap} size {extent} h is same =
     let test : (extent.at == heap.victim) ≡ true = (let e = same in grind (arith, nat_tests)) in
     let no = sym (of_bins size h is).1 ∙ test in cc

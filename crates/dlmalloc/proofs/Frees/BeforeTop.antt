@@ -98,9 +98,11 @@ module _ {A : Type 0} {regions : A → List Grant} {word : A → ℕ → ℕ} {h
   size_is = omega (arith, sum)
 
   none_before : run.front ≡ []
-  none_before = (is_top sound one.front one.segment one.back one.is {at = top.at} {size = top.size} (in_segment sound there ∙ (λ i. Some (extent top.at top.size (kind i))))).0
+  none_before = (is_top sound one.front one.segment one.back one.is {at = top.at} {size = top.size} (in_segment sound there
+      ∙ (λ i. Some (extent top.at top.size (kind i))))).0
 
-  module _ (system : A) (same : regions system ≡ regions heap.system) (stored : IsStored (regions heap.system) words (from + 8) (new_size + 1) (word system)) where
+  module _ (system : A) (same : regions system ≡ regions heap.system)
+      (stored : IsStored (regions heap.system) words (from + 8) (new_size + 1) (word system)) where
     abbrev less : List Extent
     less = joined.less sound right left
 
@@ -119,7 +121,8 @@ module _ {A : Type 0} {regions : A → List Grant} {word : A → ℕ → ℕ} {h
         (omega (arith, joined.from_whole sound right left, joined.to_whole sound right left, reach)) (omega (arith, reach)) foot_stand.0
         (subst (λ k. HasChunk words k foot.next) kind foot_stand.1) (subst (λ k. Tiles words k from less end) left.used run.here)
         (subst (λ n. IsStored (regions heap.system) words (from + 8) (n + 1) (word system)) (sym size_is) stored)
-        (joined.word_there sound right left (at + size + top.size + 8) (omega (arith, reach)) (omega (arith, foot_long)) (omega (arith, joined.to_whole sound right left))))
+        (joined.word_there sound right left (at + size + top.size + 8) (omega (arith, reach)) (omega (arith, foot_long))
+        (omega (arith, joined.to_whole sound right left))))
 
     abbrev after : ℕ → ℕ → Dlmalloc A
     after = joined.after sound right left system from new_size
@@ -129,16 +132,28 @@ module _ {A : Type 0} {regions : A → List Grant} {word : A → ℕ → ℕ} {h
         let head = head_is word heap run.front run.segment run.back none_before run.is sound.told in
         step_top (after victim victim_size) sound same run move (sym (joined.last_less sound right left))
         (joined.stays sound right left {other = Record} (λ is. cc) (λ is. cc) (λ is. cc)) refl none_before
-        (record { some = head.some; base = head.base; size = head.size; flags = head.flags; top = joined.where_joint sound right left ∙ (λ i. Some (extent from (size_is i) Top)) })
+        (record {
+          some = head.some;
+          base = head.base;
+          size = head.size;
+          flags = head.flags;
+          top = joined.where_joint sound right left
+              ∙ (λ i. Some (extent from (size_is i) Top));
+        })
 
     is_joined : IsJoined sound right left system from new_size
     is_joined = record { same = same; step = step; now = λ victim victim_size. refl }
 
-    top_there : (victim victim_size : ℕ) → extent_at from (extents_in (state_of word (after victim victim_size))) ≡ Some (extent from (at + size + top.size - from) Top)
+    top_there : (victim victim_size : ℕ) → extent_at from (extents_in (state_of word (after victim victim_size))) ≡ Some
+        (extent from (at + size + top.size - from) Top)
     top_there victim victim_size = joined.joint_there sound right left is_joined victim victim_size
 
     joint_is : (victim victim_size : ℕ) → IsJoint (state_of word (after victim victim_size)) from from (to - from)
-    joint_is victim victim_size = inl (refl, λ bytes free. (let no : Top ≡ Free = ap (λ e. e.kind) (the_extent (sym (top_there victim victim_size) ∙ free)) in cc))
+    joint_is victim victim_size = inl (
+      refl,
+      λ bytes free. (let no : Top ≡ Free = ap (λ e. e.kind)
+          (the_extent (sym (top_there victim victim_size) ∙ free)) in cc),
+    )
 
     -- the victim went into it
     pub top_victim : from ≤ heap.victim → heap.victim < to → IsFree regions word heap at size from to (after 0 0)

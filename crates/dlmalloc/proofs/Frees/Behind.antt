@@ -36,10 +36,12 @@ module _ {A : Type 0} {regions : A → List Grant} {word : A → ℕ → ℕ} {h
   next_top is = the_top sound run_one.front run_one.segment run_one.back run_one.is in_segment (place ∙ is)
 
   pub no_top : at + size ≢ heap.top → next.next.kind ≢ Top
-  no_top isnt kind = isnt (sym place ∙ (is_top sound run_one.front run_one.segment run_one.back run_one.is (in_segment ∙ (λ i. Some (extent next.next.at next.next.size (kind i))))).1)
+  no_top isnt kind = isnt (sym place ∙ (is_top sound run_one.front run_one.segment run_one.back run_one.is (in_segment
+      ∙ (λ i. Some (extent next.next.at next.next.size (kind i))))).1)
 
   pub next_there : extent_at next.next.at (extents_in (state_of word heap)) ≡ Some next.next
-  next_there = among_all (regions heap.system) (word heap.system) sound.segments sound.apart run_one.front run_one.segment run_one.back run_one.is next.next.at in_segment
+  next_there = among_all (regions heap.system) (word heap.system) sound.segments sound.apart run_one.front run_one.segment run_one.back run_one.is
+      next.next.at in_segment
 
   -- a head does
   pub next_boundary : IsBoundary (state_of word heap) (at + size + 8)

@@ -108,7 +108,8 @@ pub left_at : {words : ℕ → ℕ} {segments : List Segment} {at size to : ℕ}
     {from : ℕ} → IsFrom words at from → Left words r.segment.base r.first at from
 left_at {words} {at = at} {size = size} r from_is =
     let whole : size % 8 ≡ 0 = (let w = r.here.1.size.0 in omega arith) in
-    let told : pinuse_of (words (at + 8)) ≡ is_used (last_kind Used r.first) = ap pinuse_of r.here.1.head ∙ pinuse_of-head_of size (is_used (last_kind Used r.first)) true whole in
+    let told : pinuse_of (words (at + 8)) ≡ is_used (last_kind Used r.first) =
+    ap pinuse_of r.here.1.head ∙ pinuse_of-head_of size (is_used (last_kind Used r.first)) true whole in
     subst (λ f. Left words r.segment.base r.first at f) (ap (λ b. if b then at else at - words at) (sym told) ∙ sym from_is)
     (left_of words r.segment.base r.first at r.first_stand r.here.1.kind)
 
@@ -168,7 +169,8 @@ module _ (regions : List Grant) {words : ℕ → ℕ} {segments : List Segment} 
       let whole = told_whole next_one.next.kind next_one.next.size stand.1.size in
       let told_size = told_size next_one.next.kind next_one.next.size in
       let head : words (at + size + 8) ≡ head_of told_size true true =
-      ap (λ a. words (a + 8)) (sym stand.0) ∙ (stand.1.head ∙ ap (λ u. head_of told_size true u) (elim kind [ inl is ↦ ap is_used is | inr is ↦ ap is_used is ])) in
+      ap (λ a. words (a + 8)) (sym stand.0) ∙ (stand.1.head ∙ ap (λ u. head_of told_size true u)
+      (elim kind [ inl is ↦ ap is_used is | inr is ↦ ap is_used is ])) in
       let told : free_of (words (at + size + 8)) ≡ false = ap free_of head ∙ rw (pinuse_of-head_of told_size true true whole, cinuse_of-head_of told_size true true whole) refl in
       subst (λ t. RightChunk words segments at size t) (ap (λ b. if b then at + size + size_of (words (at + size + 8)) else at + size) (sym told)) (record {
         right = record {

@@ -9,7 +9,8 @@ use Rattle.dlmalloc.proofs.Cuts.FreeExtent.{rehung, told_whole, no_head, may_sta
 
 module _ (regions : List Grant) {old : ℕ → ℕ} (new : ℕ → ℕ) (from : ℕ) (less : List Extent) (place : from % 16 ≡ 0) where
   -- before an extent in use or a record
-  pub join : {segments : List Segment} {at size to : ℕ} (r : RightChunk old segments at size to) → from + 32 ≤ to → Tiles old Used from less (to + r.right.next.size) →
+  pub join : {segments : List Segment} {at size to : ℕ} (r : RightChunk old segments at size to) → from + 32 ≤ to →
+      Tiles old Used from less (to + r.right.next.size) →
       AreStored regions old ((from + (to - from) + 8, without_pinuse (old (from + (to - from) + 8))) ∷ (from + 8, head_of (to - from) true false)
       ∷ (from + (to - from), to - from) ∷ []) new → ((k : ℕ) → to < k → k < to + r.right.next.size → k % 8 ≡ 0 → IsWordOf regions k) →
       IsMove regions old new Used from (to + r.right.next.size) (to + r.right.next.size) less (extent from (to - from) Free ∷ r.right.next ∷ [])
@@ -28,7 +29,8 @@ module _ (regions : List Grant) {old : ℕ → ℕ} (new : ℕ → ℕ) (from : 
             touch ∙ sym sum,
             rehung new Free behind r.kind (may_stand next.kind Free r.kind (inr refl)) (subst (λ a. new (a + 8) ≡ head_of (told_size next.kind next.size) false
                 (is_used next.kind)) (sym touch) (heads ∙ (ap (λ a. without_pinuse (old (a + 8))) (sym touch) ∙ (ap without_pinuse behind.head
-                ∙ without_pinuse-head_of (told_size next.kind next.size) (is_used (last_kind Used r.right.rights)) (is_used next.kind) (told_whole next.kind next.size behind.size)))))
+                ∙ without_pinuse-head_of (told_size next.kind next.size) (is_used (last_kind Used r.right.rights)) (is_used next.kind)
+                (told_whole next.kind next.size behind.size)))))
                 (λ k low high m. stored.elsewhere k (granted k (omega arith) (omega arith) m)
                 ((λ is. omega arith), ((λ is. omega arith), ((λ is. omega arith), tt)))),
             ap (λ a. a + next.size) sum,
@@ -39,7 +41,8 @@ module _ (regions : List Grant) {old : ℕ → ℕ} (new : ℕ → ℕ) (from : 
       }
 
   -- before the foot of the top
-  pub join_top : {to : ℕ} {next : Extent} → (to - from) % 16 ≡ 0 → from + 16 ≤ to → next.at ≡ to → HasChunk old Top next → Tiles old Used from less (to + next.size) →
+  pub join_top : {to : ℕ} {next : Extent} → (to - from) % 16 ≡ 0 → from + 16 ≤ to → next.at ≡ to → HasChunk old Top next →
+      Tiles old Used from less (to + next.size) →
       IsStored regions old (from + 8) (to - from + 1) new → IsWordOf regions (to + 8) →
       IsMove regions old new Used from (to + next.size) (to + next.size) less (extent from (to - from) Top ∷ next ∷ [])
   join_top {to} {next} whole room touch behind less_stand stored word =

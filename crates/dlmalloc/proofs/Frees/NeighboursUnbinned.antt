@@ -57,7 +57,8 @@ module _ {A : Type 0} {regions : A → List Grant} {word : A → ℕ → ℕ} {h
       among_all (regions heap.system) words sound.segments sound.apart one.front one.segment one.back one.is from here
 
   pub left_none : at ≤ from → (n : ℕ) → IsFreeAt (state_of word heap) from n → ⊥
-  left_none low n free = (let same : from ≡ at = (let le = from_at sound there from_is in omega arith) in not_free (subst (λ a. IsFreeAt (state_of word heap) a n) same free))
+  left_none low n free = (let same : from ≡ at = (let le = from_at sound there from_is in omega arith) in
+      not_free (subst (λ a. IsFreeAt (state_of word heap) a n) same free))
 
   module _ {to : ℕ} (to_is : IsTo (word heap.system) heap.top (at + size) to) where
     by_top : {b : Bool} → (at + size == heap.top) ≡ b → to ≡ (if b then at + size else end_of words (at + size))
@@ -152,7 +153,11 @@ module _ {A : Type 0} {regions : A → List Grant} {word : A → ℕ → ℕ} {h
     accounted some new moves victim = record {
       gone = λ k is n free other. turn from (at + size) k is;
       come = λ k is n free other. is;
-      still = λ k out which n free other. absurd (elim which [ inl was ↦ lost k was out (moves_back k n free out) other | inr loose ↦ out (turn (at + size) from k loose) ]);
+      still = λ k out which n free other. absurd (elim which [
+        | inl was ↦ lost k was out (moves_back k n free out) other
+        | inr loose ↦ out
+            (turn (at + size) from k loose)
+      ]);
       from = λ k out which n free other. absurd (elim which [ inl now ↦ gained k n now out free other | inr loose ↦ out loose ]);
     }
       where

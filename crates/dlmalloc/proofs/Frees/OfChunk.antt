@@ -47,7 +47,8 @@ module _ {A : Type 0} {regions : A → List Grant} {word : A → ℕ → ℕ} {h
   -- so it does not end at the top
   pub below_top : to ≢ heap.top
   below_top is =
-      let top = the_top sound run.front run.segment run.back run.is (ap (λ k. extent_at k run.segment.extents) right.place ∙ joined.next_there sound right left) (right.place ∙ is) in
+      let top = the_top sound run.front run.segment run.back run.is (ap (λ k. extent_at k run.segment.extents) right.place
+      ∙ joined.next_there sound right left) (right.place ∙ is) in
       let free : is_free right.next.kind ≡ true = ap (λ e. is_free e.kind) top in
       let no = sym right.stays ∙ free in cc
 
@@ -86,7 +87,8 @@ module _ {A : Type 0} {regions : A → List Grant} {word : A → ℕ → ℕ} {h
   -- ---- the words are stored
 
   module _ (system : A) (same : regions system ≡ regions heap.system)
-      (stored : AreStored (regions heap.system) words ((from + (to - from) + 8, without_pinuse (words (from + (to - from) + 8))) ∷ (from + 8, head_of (to - from) true false) ∷ (from + (to - from), to - from) ∷ []) (word system)) where
+      (stored : AreStored (regions heap.system) words ((from + (to - from) + 8, without_pinuse (words (from + (to - from) + 8))) ∷
+      (from + 8, head_of (to - from) true false) ∷ (from + (to - from), to - from) ∷ []) (word system)) where
     abbrev less : List Extent
     less = joined.less sound right left
 

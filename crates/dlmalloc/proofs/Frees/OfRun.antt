@@ -23,7 +23,8 @@ pub record IsFree {A : Type 0} (regions : A → List Grant) (word : A → ℕ �
   pub less : HasOneMore (state_of word new) (state_of word old) at
   pub sound : IsSound regions word new
   pub words : OnlyBoundariesChange (regions old.system) (state_of word new) (word old.system) (word new.system)
-  pub records : (one : Extent) → one.kind ≡ Record → extent_at one.at (extents_in (state_of word old)) ≡ Some one → extent_at one.at (extents_in (state_of word new)) ≡ Some one
+  pub records : (one : Extent) → one.kind ≡ Record → extent_at one.at (extents_in (state_of word old)) ≡ Some one →
+      extent_at one.at (extents_in (state_of word new)) ≡ Some one
   pub free : FreeMoves (state_of word old) (state_of word new) (from ∷ (at + size) ∷ []) (from ∷ [])
   pub joined : IsJoint (state_of word new) new.top from (to - from)
   pub around : IsFreeAround (state_of word new) at from
@@ -99,7 +100,8 @@ module _ {A : Type 0} {regions : A → List Grant} {word : A → ℕ → ℕ} {h
       | inl here ↦ absurd (used (ap (λ e. e.kind) (the_one k chunk here) ∙ is))
       | inr behind ↦ elim (found_either k right.rights (next ∷ []) behind.1) [
         | inl beside ↦ absurd (joins (sym (right.are k one beside) ∙ is))
-        | inr last ↦ (let place = found_place k next last.1 in let test : (from == k) ≡ false = nat_isnt (inl (omega (arith, right.place, room))) in rw test last.1)
+        | inr last ↦ (let place = found_place k next last.1 in let test : (from == k) ≡ false = nat_isnt (inl (omega (arith, right.place, room))) in
+            rw test last.1)
       ]
     ]
   ]
@@ -109,7 +111,11 @@ module _ {A : Type 0} {regions : A → List Grant} {word : A → ℕ → ℕ} {h
   beyond k out =
       let s = tiles_split words Used (at + size) right.rights (next ∷ []) end right.run.here.2 in
       let place : s.middle ≡ to = sym s.second.0 ∙ right.place in
-      let test : (at == k) ≡ false = nat_isnt (elim out [ inl a ↦ inr (omega (arith, reach)) | inr b ↦ inl (omega (arith, right.reach, right.run.here.1.size.1)) ]) in
+      let test : (at == k) ≡ false = nat_isnt (elim out [
+        | inl a ↦ inr (omega (arith, reach))
+        | inr b ↦ inl
+            (omega (arith, right.reach, right.run.here.1.size.1))
+      ]) in
       let test' : (from == k) ≡ false = nat_isnt (elim out [ inl a ↦ inr a | inr b ↦ inl (omega (arith, room)) ]) in
       found_later k left.lefts (chunk ∷ (right.rights ++ next ∷ [])) (none_outside words Used from left.lefts at k
       (elim out [ inl a ↦ inl a | inr b ↦ inr (omega (arith, right.reach)) ]) left.lefts_stand)
@@ -161,8 +167,11 @@ module _ {A : Type 0} {regions : A → List Grant} {word : A → ℕ → ℕ} {h
   right_there : IsThere (at + size) less
   right_there =
       let f = first_there words Used (at + size) right.rights next end right.run.here.2 in
-      let test : (at == at + size) ≡ false = nat_isnt (inl (let long = right.run.here.1.size.1 in omega arith)) in
-      (f.0, found_later (at + size) left.lefts (chunk ∷ (right.rights ++ next ∷ [])) (none_outside words Used from left.lefts at (at + size) (inr (omega arith)) left.lefts_stand) ∙ rw test f.1)
+      let test : (at == at + size) ≡ false = nat_isnt (inl (let long = right.run.here.1.size.1 in omega arith)) in (
+        f.0,
+        found_later (at + size) left.lefts (chunk ∷ (right.rights ++ next ∷ []))
+            (none_outside words Used from left.lefts at (at + size) (inr (omega arith)) left.lefts_stand) ∙ rw test f.1,
+      )
 
   joint_here : extent_at from more ≡ Some joint
   joint_here = (let test : (from == from) ≡ true = nat_same from in rw test refl)
@@ -181,7 +190,8 @@ module _ {A : Type 0} {regions : A → List Grant} {word : A → ℕ → ℕ} {h
   freed_chunk = extent at size Free
 
   merged_right : (rights : List Extent) → IsBeside rights → Tiles words Used (at + size) (rights ++ next ∷ run.last) run_end →
-      (merged (freed_chunk ∷ (rights ++ next ∷ run.last)) ≡ extent at (next.at - at) (joint_kind rights) ∷ next ∷ run.last) × (is_free (joint_kind rights) ≡ true) × (at + size ≤ next.at)
+      (merged (freed_chunk ∷ (rights ++ next ∷ run.last)) ≡ extent at (next.at - at) (joint_kind rights) ∷ next ∷ run.last) ×
+      (is_free (joint_kind rights) ≡ true) × (at + size ≤ next.at)
   merged_right [] beside h =
       let place = h.0 in (
         ap (before freed_chunk) (merged_same words Used (at + size) (next ∷ run.last) run_end h) ∙ before_next_used freed_chunk next run.last right.stays
@@ -215,7 +225,8 @@ module _ {A : Type 0} {regions : A → List Grant} {word : A → ℕ → ℕ} {h
   marked =
       let one = set_free_none words Used run.segment.base run.first from at (inr reach) run.first_stand in
       let two = set_free_none words Used from left.lefts at at (inr (omega arith)) left.lefts_stand in
-      let three = set_free_none words Used (at + size) (right.rights ++ next ∷ run.last) run_end at (inl (omega (arith, right.run.here.1.size.1))) behind_stand in
+      let three = set_free_none words Used (at + size) (right.rights ++ next ∷ run.last) run_end at (inl (omega (arith, right.run.here.1.size.1)))
+      behind_stand in
       let here : (at == at) ≡ true = nat_same at in
       let free : set_free at chunk ≡ freed_chunk = rw here refl in
       ap (map (set_free at)) (run.extents ∙ ap (λ l. run.first ++ l) (append_assoc left.lefts (chunk ∷ (right.rights ++ next ∷ [])) run.last
@@ -265,7 +276,11 @@ module _ {A : Type 0} {regions : A → List Grant} {word : A → ℕ → ℕ} {h
 
     joined_free : (victim victim_size : ℕ) → FreeMoves (state_of word heap) (state_of word (made victim victim_size)) (from ∷ (at + size) ∷ []) (from ∷ [])
     joined_free victim victim_size = free_moves sound (j.step victim victim_size) (from ∷ (at + size) ∷ []) (from ∷ []) in_less in_more
-        (λ k is. elim is [ inl same ↦ inl (inl same) | inr later ↦ elim later [ inl same ↦ inr (subst (λ a. IsThere a less) (sym same) right_there) | inr none ↦ absurd none ] ])
+        (λ k is. elim is [
+          | inl same ↦ inl (inl same)
+          | inr later ↦ elim later
+              [ inl same ↦ inr (subst (λ a. IsThere a less) (sym same) right_there) | inr none ↦ absurd none ]
+        ])
         (λ k is. elim is [ inl same ↦ inl (inl same) | inr none ↦ absurd none ])
 
     no_record : kind ≡ Record → ⊥
@@ -281,16 +296,26 @@ module _ {A : Type 0} {regions : A → List Grant} {word : A → ℕ → ℕ} {h
     pub freed_as : {victim : ℕ} (victim_size : ℕ) → (victim_size ≢ 0 →
         extent_at victim (extents_in (state_of word (made victim victim_size))) ≡ Some (extent victim victim_size Free)) → (victim_size ≡ 0 →
         victim ≡ 0) → victim ≡ victim_in heap.victim (extents_in (state_of word (made victim victim_size))) →
-        {until : ℕ} → IsJoint (state_of word (made victim victim_size)) top from (until - from) → IsFree regions word heap at size from until (made victim victim_size)
+        {until : ℕ} → IsJoint (state_of word (made victim victim_size)) top from (until - from) →
+        IsFree regions word heap at size from until (made victim victim_size)
     freed_as {victim} victim_size named none found joint =
         let are = segments_are victim victim_size in
-        let whole : victim ≡ victim_in heap.victim (extents_all (in_segments (freed_in at) segments)) = found ∙ ap (λ ss. victim_in heap.victim (extents_all ss)) are in
+        let whole : victim ≡ victim_in heap.victim (extents_all (in_segments (freed_in at) segments)) =
+        found ∙ ap (λ ss. victim_in heap.victim (extents_all ss)) are in
         record {
-          state = λ i. record { segments = are i; victim = whole i; granularity = heap.granularity; rate = heap.rate; countdown = heap.countdown; trim_check = heap.trim_check };
+          state = λ i. record {
+            segments = are i;
+            victim = whole i;
+            granularity = heap.granularity;
+            rate = heap.rate;
+            countdown = heap.countdown;
+            trim_check = heap.trim_check;
+          };
           less = has_less sound (j.step victim victim_size) fewer;
           sound = stays_sound sound (j.step victim victim_size) j.same refl refl refl refl none named;
           words = keeps_words sound (j.step victim victim_size);
-          records = λ one is there. found_again sound (j.step victim victim_size) one.at (λ found. stays {other = Record} (λ is. cc) no_record (λ is. cc) one.at one found is) there;
+          records = λ one is there. found_again sound (j.step victim victim_size) one.at
+              (λ found. stays {other = Record} (λ is. cc) no_record (λ is. cc) one.at one found is) there;
           free = joined_free victim victim_size;
           joined = joint;
           around = record {
@@ -305,10 +330,13 @@ module _ {A : Type 0} {regions : A → List Grant} {word : A → ℕ → ℕ} {h
 
     -- the victim stays
     pub as_other : (heap.victim_size ≢ 0 → (heap.victim < from) ⊎ (to ≤ heap.victim)) → {until : ℕ} →
-        IsJoint (state_of word (made heap.victim heap.victim_size)) top from (until - from) → IsFree regions word heap at size from until (made heap.victim heap.victim_size)
+        IsJoint (state_of word (made heap.victim heap.victim_size)) top from (until - from) →
+        IsFree regions word heap at size from until (made heap.victim heap.victim_size)
     as_other out joint = freed_as heap.victim_size named sound.no_victim (victim_same (regions system) (word system)
         (segments_of word (made heap.victim heap.victim_size)) (segments_now sound (j.step heap.victim heap.victim_size))
         (apart_now sound (j.step heap.victim heap.victim_size)) heap.victim heap.victim_size named sound.no_victim) joint
       where
-        named : heap.victim_size ≢ 0 → extent_at heap.victim (extents_in (state_of word (made heap.victim heap.victim_size))) ≡ Some (extent heap.victim heap.victim_size Free)
-        named some = found_again sound (j.step heap.victim heap.victim_size) heap.victim (λ found. sym (beyond heap.victim (out some)) ∙ found) (sound.victim some)
+        named : heap.victim_size ≢ 0 → extent_at heap.victim (extents_in (state_of word (made heap.victim heap.victim_size))) ≡ Some
+            (extent heap.victim heap.victim_size Free)
+        named some = found_again sound (j.step heap.victim heap.victim_size) heap.victim (λ found. sym (beyond heap.victim (out some)) ∙ found)
+            (sound.victim some)

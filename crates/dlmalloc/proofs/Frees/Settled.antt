@@ -45,7 +45,8 @@ module _ {A : Type 0} {regions : A → List Grant} {word : A → ℕ → ℕ} {h
 
   -- the one that has the chunk's first byte is the top, where it begins there
   size : from ≡ heap.top → one.size ≡ heap.top_size
-  size is = ap (λ e. e.size) (the_extent (sym there ∙ (ap (λ a. extent_at a all) (around.place ∙ is) ∙ (top_among sound (some_segment word heap one.at there)))))
+  size is = ap (λ e. e.size) (the_extent (sym there ∙ (ap (λ a. extent_at a all) (around.place ∙ is)
+      ∙ (top_among sound (some_segment word heap one.at there)))))
 
   pub above_top : from ≡ heap.top → is_above_check (state_of word heap) at ≡ nat_lt heap.trim_check heap.top_size
   above_top is = ap (λ o. nat_lt heap.trim_check (unwrap_or (option_map (λ extent. extent.size) o) 0)) (find_only (is_top_with at) all apart

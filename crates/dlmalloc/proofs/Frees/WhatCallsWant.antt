@@ -59,13 +59,15 @@ module _ {A : Type 0} {regions : A → List Grant} {word : A → ℕ → ℕ} {h
         omega (arith, from_low, (run_part (regions heap.system) sound.segments one).low)
 
     from_whole : from % 16 ≡ 0
-    from_whole = begins_whole words (last_kind Used left_one.front) from left_one.lefts (extent at size Used) [] (at + size) (with_left words (segments_of word heap) one left_one).here
+    from_whole = begins_whole words (last_kind Used left_one.front) from left_one.lefts (extent at size Used) [] (at + size)
+        (with_left words (segments_of word heap) one left_one).here
 
     pub from_there : HasHead (regions heap.system) from
     from_there = record {
       aligned = omega (arith, from_whole);
       small = omega (arith, from_at, head_there.small);
-      granted = run_word (regions heap.system) sound.segments one (from + 8) (omega (arith, from_low)) (omega (arith, from_at, room sound there refl)) (omega (arith, from_whole));
+      granted = run_word (regions heap.system) sound.segments one (from + 8) (omega (arith, from_low)) (omega (arith, from_at, room sound there refl))
+          (omega (arith, from_whole));
     }
 
     module _ {to : ℕ} (to_is : IsTo words heap.top (at + size) to) where

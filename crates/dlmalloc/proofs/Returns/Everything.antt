@@ -75,7 +75,8 @@ head_is_run {regions} {word} {heap} sound some read =
 module _ {A : Type 0} {regions : A → List Grant} {word : A → ℕ → ℕ} {follows : A → List Event → A → Type 0} {takes : Bool} {heap : Dlmalloc A}
     (sound : IsSound regions word heap) where
   -- the records that are read are those that are left
-  records_left : {payload released : ℕ} {system : A} (d : Destroying regions word follows takes heap payload released system) → records_from (word system) (2 ^ 64) payload ≡ d.rest
+  records_left : {payload released : ℕ} {system : A} (d : Destroying regions word follows takes heap payload released system) →
+      records_from (word system) (2 ^ 64) payload ≡ d.rest
   records_left {payload} {system = system} d = records_read (regions system) (word system) (2 ^ 64) payload d.rest
       (let all = segments_few word heap in let sum = ap length d.is ∙ length-append d.done d.rest in let some = d.some in omega arith) d.parts d.told
 
@@ -102,7 +103,11 @@ module _ {A : Type 0} {regions : A → List Grant} {word : A → ℕ → ℕ} {f
 
       module _ {told : SegmentRecord} (read : told ≡ record_read (word old) payload) where
         pub is_told : IsTold (told_of told) a.segment
-        is_told = record { base = ap (λ t. t.base) read ∙ a.told.1; size = ap (λ t. t.size) read ∙ a.told.2; own = ap (λ t. t.flags % 2 == 0) read ∙ parity a.told.3 }
+        is_told = record {
+          base = ap (λ t. t.base) read ∙ a.told.1;
+          size = ap (λ t. t.size) read ∙ a.told.2;
+          own = ap (λ t. t.flags % 2 == 0) read ∙ parity a.told.3;
+        }
 
         pub is_run : IsWholeRun (regions old) told.base (told.base + told.size)
         is_run =
@@ -113,7 +118,8 @@ module _ {A : Type 0} {regions : A → List Grant} {word : A → ℕ → ℕ} {f
     (follows_on : (x y z : A) (a b c : List Event) → follows x a y → follows y b z → a ++ b ≡ c → follows x c z) where
   -- what the told segment is, the one in the heap is
   pub given_told : (takes : Bool) {told segment : Segment} {old new : A} {bytes : ℕ} → IsTold told segment → AreGivenBack regions word follows
-      (taken_back takes (filter is_own (told ∷ []))) old bytes new → AreGivenBack regions word follows (taken_back takes (filter is_own (segment ∷ []))) old bytes new
+      (taken_back takes (filter is_own (told ∷ []))) old bytes new → AreGivenBack regions word follows (taken_back takes (filter is_own (segment ∷ []))) old
+      bytes new
   given_told takes {told} {segment} {old} {new} {bytes} is given =
       subst (λ b. AreGivenBack regions word follows (taken_back takes (cond b (segment ∷ []) [])) old bytes new) is.own (go takes (is_own told) given)
     where
@@ -185,7 +191,11 @@ module _ {A : Type 0} {regions : A → List Grant} {word : A → ℕ → ℕ} {f
         go [] is parts h = absurd (some h)
         go (segment ∷ segments) is parts h =
             subst (λ n. Destroying regions word follows takes heap told.next n new) (omega arith) (given_next [] segment segments is parts (nothing takes)
-            (record { base = ap (λ t. t.base) read ∙ h.1; size = ap (λ t. t.size) read ∙ h.2; own = ap (λ t. t.flags % 2 == 0) read ∙ ap (λ f. f % 2 == 0) h.3 })
+            (record {
+              base = ap (λ t. t.base) read ∙ h.1;
+              size = ap (λ t. t.size) read ∙ h.2;
+              own = ap (λ t. t.flags % 2 == 0) read ∙ ap (λ f. f % 2 == 0) h.3;
+            })
             given told.next (subst (λ p. AreRecords (word heap.system) p segments) (ap (λ t. t.next) (sym read)) h.5))
 
     -- the next one is

@@ -10,7 +10,8 @@ freed_pass old at is = ap pass_steps is ∙ ap (λ n. 512 * n) (length-map old.s
 -- what does not look at the head segment is the same behind a cut of the top
 cut_keeps : {B : Type 0} (of : List Segment → B) → ((one other : Segment) (rest : List Segment) → of (one ∷ rest) ≡ of (other ∷ rest)) →
     (less : ℕ) (segments : List Segment) (victim granularity rate countdown trim_check : ℕ) → of (cut_top less
-    (record { segments = segments; victim = victim; granularity = granularity; rate = rate; countdown = countdown; trim_check = trim_check })).segments ≡ of segments
+    (record { segments = segments; victim = victim; granularity = granularity; rate = rate; countdown = countdown; trim_check = trim_check })).segments ≡ of
+    segments
 cut_keeps of same less [] victim granularity rate countdown trim_check = refl
 cut_keeps of same less (head ∷ rest) victim granularity rate countdown trim_check = same (shortened less head) head rest
 

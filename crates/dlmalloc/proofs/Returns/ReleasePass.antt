@@ -241,7 +241,8 @@ module _ {A : Type 0} {regions : A → List Grant} {word : A → ℕ → ℕ} {f
           victim_is : (a m : Bool) → (if m && ahead.segment.base == (if a then 0 else old.victim) then 0 else (if a then 0 else old.victim))
               ≡ (if a || list_any (λ segment. segment.base == old.victim) (cond m (ahead.segment ∷ []) []) then 0 else old.victim)
           victim_is true m = elim (m && ahead.segment.base == 0) as (λ b. ◌≡◌ {A = ℕ} (if b then 0 else 0) 0) [ true ↦ refl | false ↦ refl ]
-          victim_is false true = elim (ahead.segment.base == old.victim) as (λ b. (if b then 0 else old.victim) ≡ (if b || false then 0 else old.victim)) [ true ↦ refl | false ↦ refl ]
+          victim_is false true = elim (ahead.segment.base == old.victim) as (λ b. (if b then 0 else old.victim) ≡ (if b || false then 0 else old.victim))
+              [ true ↦ refl | false ↦ refl ]
           victim_is false false = refl
 
           bytes_now : (b : Bool) → (if b then released + told.size else released) ≡ bytes_of (leaving frees parts p.done ++ (if b then ahead.segment ∷ [] else []))

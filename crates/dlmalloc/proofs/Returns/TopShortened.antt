@@ -70,7 +70,8 @@ module _ {A : Type 0} {regions : A → List Grant} {word : A → ℕ → ℕ} {h
 
     -- ---- when they are given back
 
-    module _ (all : AllByRecursion IsWhole (regions heap.system)) (system : A) (gone : regions system ≡ without (heap.base + (heap.size - less)) (heap.base + heap.size) (regions heap.system)) where
+    module _ (all : AllByRecursion IsWhole (regions heap.system)) (system : A)
+        (gone : regions system ≡ without (heap.base + (heap.size - less)) (heap.base + heap.size) (regions heap.system)) where
       rest_run : IsRun (regions system) heap.base (heap.size - less) heap.flags
       rest_run = subst (λ rs. IsRun rs heap.base (heap.size - less) heap.flags) (sym gone) (run_shortened head_run less within all)
 

@@ -63,7 +63,8 @@ all_kept sound = record {
   words = λ k inside at_top at_foot. refl;
 }
 
-module _ {A : Type 0} {regions : A → List Grant} {word : A → ℕ → ℕ} {follows : A → List Event → A → Type 0} {parts : Bool} {unit : ℕ} {heap : Dlmalloc A} {pad : ℕ} where
+module _ {A : Type 0} {regions : A → List Grant} {word : A → ℕ → ℕ} {follows : A → List Event → A → Type 0} {parts : Bool} {unit : ℕ} {heap : Dlmalloc A}
+    {pad : ℕ} where
   not_cut : IsSound regions word heap → follows heap.system [] heap.system → is_cut parts unit pad (state_of word heap) ≡ false → IsCutBack regions word follows parts unit heap pad heap
   not_cut sound none isnt = record {
     state = sym (ap (λ b. if b then cut_top (cut_of (state_of word heap) pad) (state_of word heap) else state_of word heap) isnt);
@@ -96,4 +97,5 @@ module _ {A : Type 0} {regions : A → List Grant} {word : A → ℕ → ℕ} {f
       parts unit pad (state_of word heap) → (answer ≡ true → IsShortened regions word follows heap (cut_of (state_of word heap) pad) new) →
       (answer ≡ false → new ≡ heap) → IsCutBack regions word follows parts unit heap pad new
   cut_back sound some none {new} {answer = true} is cut same = was_cut some (sym is) new (cut refl)
-  cut_back sound some none {new} {answer = false} is cut same = subst (λ h. IsCutBack regions word follows parts unit heap pad h) (sym (same refl)) (not_cut sound none (sym is))
+  cut_back sound some none {new} {answer = false} is cut same =
+      subst (λ h. IsCutBack regions word follows parts unit heap pad h) (sym (same refl)) (not_cut sound none (sym is))

@@ -252,18 +252,20 @@ module _ (index_stays : IndexStays) {A : Type 0} {regions : A → List Grant} {w
     (bins : new.bins ≡ old.bins) where
   -- it stays, and is in no bin
   abbrev pub loose_still : FreeMoves (state_of word old) (state_of word new) [] [] → IsBinnedBut (told.base ∷ []) regions word old → IsBinnedBut (told.base ∷ []) regions word new
-  loose_still moves = binned_moved index_stays sound visited.left.sound (λ k was is boundary tag tag'. words k is tag) bins {loose = told.base ∷ []} {loose' = told.base ∷ []} moves (record {
-    gone = λ k none n free other. absurd none;
-    come = λ k none n free other. absurd none;
-    still = λ k out which n free other. elim which [ inl is ↦ inl (was_base sound visited k is other) | inr is ↦ is ];
-    from = λ k out which n free other. elim which [ inl is ↦ absurd (was_victim sound visited k is free other) | inr is ↦ is ];
-  })
+  loose_still moves = binned_moved index_stays sound visited.left.sound (λ k was is boundary tag tag'. words k is tag) bins {loose = told.base ∷ []}
+      {loose' = told.base ∷ []} moves (record {
+        gone = λ k none n free other. absurd none;
+        come = λ k none n free other. absurd none;
+        still = λ k out which n free other. elim which [ inl is ↦ inl (was_base sound visited k is other) | inr is ↦ is ];
+        from = λ k out which n free other. elim which [ inl is ↦ absurd (was_victim sound visited k is free other) | inr is ↦ is ];
+      })
 
   -- it leaves, and the bins have all the others
   abbrev pub binned_without : FreeMoves (state_of word old) (state_of word new) (told.base ∷ []) [] → IsBinnedBut (told.base ∷ []) regions word old → IsBinnedBut [] regions word new
-  binned_without moves = binned_moved index_stays sound visited.left.sound (λ k was is boundary tag tag'. words k is tag) bins {loose = told.base ∷ []} {loose' = []} moves (record {
-    gone = λ k is n free other. is;
-    come = λ k none n free other. none;
-    still = λ k out which n free other. elim which [ inl is ↦ out (inl (was_base sound visited k is other)) | inr is ↦ out is ];
-    from = λ k out which n free other. elim which [ inl is ↦ absurd (was_victim sound visited k is free other) | inr none ↦ absurd none ];
-  })
+  binned_without moves = binned_moved index_stays sound visited.left.sound (λ k was is boundary tag tag'. words k is tag) bins {loose = told.base ∷ []}
+      {loose' = []} moves (record {
+        gone = λ k is n free other. is;
+        come = λ k none n free other. none;
+        still = λ k out which n free other. elim which [ inl is ↦ out (inl (was_base sound visited k is other)) | inr is ↦ out is ];
+        from = λ k out which n free other. elim which [ inl is ↦ absurd (was_victim sound visited k is free other) | inr none ↦ absurd none ];
+      })

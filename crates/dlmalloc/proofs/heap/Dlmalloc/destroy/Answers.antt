@@ -7,7 +7,8 @@ give_back-released-requires g c =
     record { run = head_is_run c.requires.sound c.if-self-eq0.false c.head_record-head.ensures }
 
 pub loop-payload-init : goal.loop-payload-init
-loop-payload-init g c = head_given g.A.Links.follows_on c.requires.sound c.if-self-eq0.false g.A.Links.follows_none c.head_record-head.ensures c.give_back-released.ensures
+loop-payload-init g c = head_given g.A.Links.follows_on c.requires.sound c.if-self-eq0.false g.A.Links.follows_none c.head_record-head.ensures
+    c.give_back-released.ensures
 
 pub record_at-told-requires : goal.record_at-told-requires
 record_at-told-requires g c =

@@ -40,8 +40,14 @@ unbin_between-requires-2 g c =
       sound = c.unbin_between.ensures.same.sound;
       free = λ more. subst (λ s. IsFreeAt s (c.args.at + c.args.size) (c.free_end-to.result - (c.args.at + c.args.size))) (sym state)
           (right_free c.requires.sound c.requires.chunk begin end there more);
-      none = λ less n free. right_none c.requires.sound c.requires.chunk begin end there less n (subst (λ s. IsFreeAt s (c.args.at + c.args.size) n) state free);
-      binned = (c.free_begin-from.result ∷ [], (c.unbin_between.ensures.loose [] c.requires.linked (λ none. none)).0, two c.requires.sound c.requires.chunk begin end);
+      none = λ less n free. right_none c.requires.sound c.requires.chunk begin end there less n
+          (subst (λ s. IsFreeAt s (c.args.at + c.args.size) n) state free);
+      binned = (
+        c.free_begin-from.result ∷ [],
+        (c.unbin_between.ensures.loose [] c.requires.linked (λ none. none)).0,
+        two c.requires.sound c.requires.chunk
+            begin end,
+      );
     }
 
 -- ---- they are joined to it
@@ -49,7 +55,8 @@ unbin_between-requires-2 g c =
 pub join_free-requires : goal.join_free-requires
 join_free-requires g c =
     let begin = c.free_begin-from.ensures.value in let end = c.free_end-to.ensures.value in
-    let left = rebinned_on g.A.Links.regions g.A.Links.word g.A.Links.follows g.A.Links.follows_on c.unbin_between.ensures.same c.unbin_between-2.ensures.same in
+    let left = rebinned_on g.A.Links.regions g.A.Links.word g.A.Links.follows g.A.Links.follows_on c.unbin_between.ensures.same
+    c.unbin_between-2.ensures.same in
     record {
       sound = left.sound;
       chunk = still_there c.requires.sound c.requires.chunk begin end left;

@@ -27,7 +27,8 @@ release_segment-requires g c = record {
 }
 
 pub overflow_add-released : goal.overflow_add-released
-overflow_add-released g c = let fits = sum_fits c.requires.sound c.loop-payload.invariant.0 c.loop-payload-test.true c.record_at-told.ensures.told in grind arith
+overflow_add-released g c = let fits = sum_fits c.requires.sound c.loop-payload.invariant.0 c.loop-payload-test.true c.record_at-told.ensures.told in
+    grind arith
 
 pub overflow_add-visited : goal.overflow_add-visited
 overflow_add-visited g c = let fits = count_fits c.requires.sound c.loop-payload.invariant.0 c.loop-payload-test.true in grind arith
@@ -62,8 +63,10 @@ loop-payload-preserved g c =
     ] in
     let passing : ℕ → ℕ → Type 0 = λ before released. Passing g.A.Links.regions g.A.Links.word g.A.Links.follows (g.A.Allocator.frees old.system)
     (g.A.Allocator.parts old.system) old before c.record_at-told.result.next (c.loop-payload.visited + 1) released c.release_segment.new.self in (
-      subst (λ b. passing b c.if-release_segment.released) before (subst (λ r. passing (if c.release_segment.result then c.loop-payload.before else c.loop-payload.payload) r) released
-          (on_passing c.requires.sound c.loop-payload.invariant.0 c.loop-payload-test.true c.record_at-told.ensures.told g.A.Links.follows_on answer visited index)),
+      subst (λ b. passing b c.if-release_segment.released) before (subst
+          (λ r. passing (if c.release_segment.result then c.loop-payload.before else c.loop-payload.payload) r) released
+          (on_passing c.requires.sound c.loop-payload.invariant.0 c.loop-payload-test.true c.record_at-told.ensures.told g.A.Links.follows_on answer
+          visited index)),
       c.release_segment.ensures.linked,
       (let read = c.record_at-told.ensures.counted in let gone = c.release_segment.ensures.counted in let before = c.loop-payload.invariant.2 in omega arith),
     )
@@ -71,7 +74,8 @@ loop-payload-preserved g c =
 pub returns-clause-passed : goal.returns-clause-passed
 returns-clause-passed g c = subst (λ now. IsPassed g.A.Links.regions g.A.Links.word g.A.Links.follows (g.A.Allocator.frees c.args.self.now.system)
     (g.A.Allocator.parts c.args.self.now.system) c.args.self.now c.loop-payload.released now) (sym c.begin_countdown.ensures)
-    (passed_all c.requires.sound c.loop-payload.invariant.0 c.loop-payload-test.false (max c.loop-payload.visited (countdown_from c.loop-payload.self.rate)) refl)
+    (passed_all c.requires.sound c.loop-payload.invariant.0 c.loop-payload-test.false (max c.loop-payload.visited (countdown_from c.loop-payload.self.rate))
+    refl)
 
 pub returns-clause-linked : goal.returns-clause-linked
 returns-clause-linked g c = subst (λ now. IsBinned g.A.Links.regions g.A.Links.word now) (sym c.begin_countdown.ensures)

@@ -71,12 +71,17 @@ returns-then-n-lt-LEAST_LARGE g c =
     record { moved = e.moved; state = e.state; free = e.free; bins = e.bins } in
     let order : KeepsOrder regions word old c.bin_some.new.self = λ b.
     let left = one.loose [] b (λ none. none) in
-    let loose = renamed at (small_taken c.index_stays.ensures one.same.sound cut (λ is. c.requires.other (is ∙ at)) (omega arith) c.if-n-lt-LEAST_LARGE.true left.0) in
-    let after = last.binned [] loose (λ none. none) in
-    (after.0, in_order old.victim_size old.victim b.index left.0.index after.0.index (lessened_as c.args.size c.args.at b.index left.0.index left.1) after.1 (λ is. b.holds.no_victim old.victim old.victim_size is refl)) in
+    let loose = renamed at (small_taken c.index_stays.ensures one.same.sound cut (λ is. c.requires.other (is ∙ at)) (omega arith) c.if-n-lt-LEAST_LARGE.true
+    left.0) in
+    let after = last.binned [] loose (λ none. none) in (
+      after.0,
+      in_order old.victim_size old.victim b.index left.0.index after.0.index (lessened_as c.args.size c.args.at b.index left.0.index left.1) after.1
+          (λ is. b.holds.no_victim old.victim old.victim_size is refl),
+    ) in
     record {
       state = last.same.state ∙ (e.state ∙ ap (λ s. taken s (extent c.args.at c.args.size Free) c.args.n) one.same.state);
-      more = subst (λ s. HasOneMore (state_of word old) s c.args.at) (sym last.same.state) (subst (λ s. HasOneMore s (state_of word c.cut_chunk.new.self) c.args.at) one.same.state e.more);
+      more = subst (λ s. HasOneMore (state_of word old) s c.args.at) (sym last.same.state)
+          (subst (λ s. HasOneMore s (state_of word c.cut_chunk.new.self) c.args.at) one.same.state e.more);
       moved = turned regions word g.A.Links.follows g.A.Links.follows_on one.same e.moved last.same;
       linked = (order c.requires.linked).0;
       order = order;
@@ -124,7 +129,8 @@ returns g c =
     ) in
     record {
       state = last.same.state ∙ (e.state ∙ ap (λ s. taken s (extent c.args.at c.args.size Free) c.args.n) one.same.state);
-      more = subst (λ s. HasOneMore (state_of word old) s c.args.at) (sym last.same.state) (subst (λ s. HasOneMore s (state_of word c.cut_chunk.new.self) c.args.at) one.same.state e.more);
+      more = subst (λ s. HasOneMore (state_of word old) s c.args.at) (sym last.same.state)
+          (subst (λ s. HasOneMore s (state_of word c.cut_chunk.new.self) c.args.at) one.same.state e.more);
       moved = turned regions word g.A.Links.follows g.A.Links.follows_on one.same e.moved last.same;
       linked = (order c.requires.linked).0;
       order = order;

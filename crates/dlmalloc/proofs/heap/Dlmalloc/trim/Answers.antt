@@ -36,7 +36,8 @@ returns-clause-trimmed g c =
     let test : nat_lt 0 c.release_unused_segments-released.result ≡ false = grind (arith, nat_tests) in
     let given : (c.trim_top-is_cut.result || nat_lt 0 c.release_unused_segments-released.result) ≡ false = rw (first, test) refl in
     subst (λ h. IsTrimmed g.A.Links.regions g.A.Links.word g.A.Links.follows (g.A.Allocator.frees heap.system) (g.A.Allocator.parts heap.system)
-    (g.A.Allocator.unit heap.system) heap c.args.pad false h) (sym c.give_up.ensures) (trim_gave_up g.met.A.Allocator.fixed g.A.Links.follows_on some small c.trim_top-is_cut.ensures.cut c.trim_top-is_cut.ensures.there
+    (g.A.Allocator.unit heap.system) heap c.args.pad false h) (sym c.give_up.ensures)
+    (trim_gave_up g.met.A.Allocator.fixed g.A.Links.follows_on some small c.trim_top-is_cut.ensures.cut c.trim_top-is_cut.ensures.there
     c.release_unused_segments-released.ensures.passed c.trim_top-is_cut.ensures.answer c.trim_top-is_cut.ensures.index given)
 
 pub returns-clause-linked : goal.returns-clause-linked
