@@ -1,5 +1,6 @@
 -- Segments, the records that tell them, and the regions that they lie in.
 pub mod Among
+pub mod WordsKept
 pub mod OneReplaced
 pub mod HeadTold
 pub mod Head

@@ -1,8 +1,8 @@
 -- The segment that a grant is put before is found, and the two ways in which it is told.
 use Rattle.dlmalloc.proofs.Names.{◌≡◌, ◌≢◌, ℕ, ◌+◌, ◌-◌, ◌%◌, ◌^◌, ◌<◌, ◌≤◌, inl, inr, Bool, true, false, ◌&&◌, ◌==◌, List, [], ◌∷◌, ◌++◌, refl, sym, ◌∙◌, ap, subst, arith, append_assoc, ⊤, AllByRecursion, list_any, list_any-append, Grant, IsWordOf, Used, Segment, is_behind, is_before, is_put_before, AreSegments, record_of, AreRecords, payload_behind, IsToldBehind, segments_of, AreTold, IsSound, Dlmalloc}
 use Rattle.dlmalloc.proofs.Segments.HeadTold.{bare_head}
-use Rattle.dlmalloc.proofs.Segments.Among.{IsIn, in_part}
-use Rattle.dlmalloc.proofs.Segments.ToldAnew.{KeepsIts}
+use Rattle.dlmalloc.proofs.Segments.WordsKept.{KeepsIts}
+use Rattle.dlmalloc.proofs.Words.OfRecords.{IsPayloadIn, payload_in, record_stays}
 use Rattle.dlmalloc.proofs.Segments.Walk.{PassedSegments, ahead_segment}
 
 -- the records of some segments are passed, none of which the grant is before
@@ -75,21 +75,18 @@ module _ {A : Type 0} {regions : A → List Grant} {word : A → ℕ → ℕ} {h
     told_rest : AreRecords (word heap.system) payload (segment ∷ ((ahead_segment sound (as_passed p) more).others))
     told_rest = subst (AreRecords (word heap.system) payload) ((ahead_segment sound (as_passed p) more).is) p.told
 
-    at_in : IsIn (word heap.system) segment.base (segment.base + segment.size) (record_of (payload - 16) (segment.base + segment.size))
-    at_in = in_part (word heap.system) Used segment.base segment.extents (segment.base + segment.size) ((ahead_segment sound (as_passed p) more).part).extents told_rest.4
-
-    long : 80 ≤ segment.base + segment.size - (payload - 16)
-    long = elim (at_in.stands.size) [ inl short ↦ omega arith | inr longer ↦ omega arith ]
+    place : IsPayloadIn segment payload
+    place = payload_in ((ahead_segment sound (as_passed p) more).part) payload told_rest.0 told_rest.4
 
     -- the four words of its record
     pub told_word : (k : ℕ) → payload ≤ k → k < payload + 32 → k % 8 ≡ payload % 8 → IsWordOf (regions heap.system) k
     told_word k low high m = record {
-      granted = ((ahead_segment sound (as_passed p) more).part).run.covered k (omega (arith, at_in.low, told_rest.0)) (omega (arith, long, told_rest.0));
-      aligned = omega (arith, at_in.stands.whole, told_rest.0);
+      granted = ((ahead_segment sound (as_passed p) more).part).run.covered k (omega (arith, place.low)) (omega (arith, place.high));
+      aligned = omega (arith, place.whole);
     }
 
     pub told_high : payload + 32 < 2 ^ 64
-    told_high = omega (arith, long, told_rest.0, ((ahead_segment sound (as_passed p) more).part).high)
+    told_high = omega (arith, place.high, ((ahead_segment sound (as_passed p) more).part).high)
 
     -- the test on its words is that on the segment
     test_is : {b : Bool} → (word heap.system payload == grant.base + grant.size &&
@@ -137,27 +134,7 @@ module _ (regions : List Grant) (old new : ℕ → ℕ) (rest now : List Segment
   pub told_around : (front : List Segment) {payload : ℕ} (start : ℕ) → payload ≡ payload_behind old start front → AreSegments regions old front →
       AllByRecursion (KeepsIts old new) front → AreRecords old start (front ++ rest) → AreRecords new payload now → AreRecords new start (front ++ now)
   told_around [] start reached parts same h here = subst (λ p. AreRecords new p now) reached here
-  told_around (other ∷ front) start reached parts same h here = (
-    h.0,
-    at start (omega arith) (omega arith) whole ∙ h.1,
-    at (start + 8) (omega arith) (omega arith) (omega (arith, whole)) ∙ h.2,
-    at (start + 24) (omega arith) (omega arith) (omega (arith, whole)) ∙ h.3,
-    h.4,
-    subst (λ p. AreRecords new p (front ++ now)) (sym (at (start + 16) (omega arith) (omega arith) (omega (arith, whole))))
-        (told_around front (old (start + 16)) reached parts.1 same.1 h.5 here),
-  )
-    where
-      r : IsIn old other.base (other.base + other.size) (record_of (start - 16) (other.base + other.size))
-      r = in_part old Used other.base other.extents (other.base + other.size) parts.0.extents h.4
-
-      some : 16 < start
-      some = h.0
-
-      whole : start % 8 ≡ 0
-      whole = omega (arith, r.stands.whole, some)
-
-      long : 80 ≤ other.base + other.size - (start - 16)
-      long = elim (r.stands.size) [ inl short ↦ omega arith | inr longer ↦ omega arith ]
-
-      at : (k : ℕ) → start ≤ k → k < start + 32 → k % 8 ≡ 0 → new k ≡ old k
-      at k low high m = same.0 k (omega (arith, r.low, some)) (omega (arith, r.high, long, some)) m
+  told_around (other ∷ front) start reached parts same h here =
+      let p = payload_in parts.0 start h.0 h.4 in
+      record_stays old new start other (front ++ rest) (front ++ now) p.whole (λ k low high m. same.0 k (omega arith) (omega arith) m) h
+      (told_around front (old (start + 16)) reached parts.1 same.1 h.5 here)

@@ -72,6 +72,10 @@ pub apart_back : (one other : Segment) → IsApartFrom one other → IsApartFrom
 apart_back one other (inl before) = inr before
 apart_back one other (inr behind) = inl behind
 
+pub flip : (one : Segment) (others : List Segment) → AllByRecursion (λ other. IsApartFrom other one) others → AllByRecursion (IsApartFrom one) others
+flip one [] all = tt
+flip one (other ∷ others) all = (apart_back other one all.0, flip one others all.1)
+
 pub front_apart : (front : List Segment) (segment : Segment) (back : List Segment) → AreApart (front ++ segment ∷ back) → AllByRecursion (λ other. IsApartFrom other segment) front
 front_apart [] segment back apart = tt
 front_apart (first ∷ front) segment back apart = (all_at (IsApartFrom first) front segment back apart.0, front_apart front segment back apart.1)

@@ -1,6 +1,6 @@
 -- Some extents of a heap give way to others, as its segments become others that are told: what stays is found as before.
 use Rattle.dlmalloc.proofs.Names.{◌≡◌, ◌≢◌, ℕ, ◌<◌, ◌⊎◌, inl, inr, Bool, true, false, ◌==◌, if◌then◌else◌, List, [], ◌∷◌, ◌++◌, Some, sym, ◌∙◌, ap, subst, refl, unwrap_or, Grant, Extent, Kind, Used, Free, extent_at, Segment, extents_in, AreSegments, AreApart, IsIn, FreeMoves, HasSameUsed, segments_of, state_of, AreTold, IsSound, IsGranularity, Dlmalloc}
-use Rattle.dlmalloc.proofs.Extents.Lookup.{extent, found_either}
+use Rattle.dlmalloc.proofs.Extents.Lookup.{extent, found_either, found_more}
 use Rattle.dlmalloc.proofs.Extents.OneMoreUsed.{AreDistinct, distinct_second}
 use Rattle.dlmalloc.proofs.Moves.OfFreeExtents.{IsThere, free_stays}
 use Rattle.dlmalloc.proofs.Segments.Among.{extents_all, all_distinct, distinct_later}
@@ -54,6 +54,10 @@ module _ {A : Type 0} {regions : A → List Grant} {word : A → ℕ → ℕ} {h
   -- what is found behind those ahead is found
   pub exchanged_found : (k : ℕ) {one : Extent} → extent_at k (it.first ++ (it.more ++ it.last)) ≡ Some one → extent_at k (extents_in (state_of word new)) ≡ Some one
   exchanged_found k there = ap (extent_at k) extents_now ∙ distinct_later it.ahead (it.first ++ (it.more ++ it.last)) k distinct_all there
+
+  -- what came is found
+  pub exchanged_new : (k : ℕ) {one : Extent} → extent_at k it.more ≡ Some one → extent_at k (extents_in (state_of word new)) ≡ Some one
+  exchanged_new k there = exchanged_found k (distinct_later it.first (it.more ++ it.last) k distinct_rest (found_more k it.more it.last there))
 
   -- what is found still is, but for what gave way
   pub exchanged_still : (k : ℕ) {one : Extent} → (extent_at k it.less ≡ Some one → ⊥) →

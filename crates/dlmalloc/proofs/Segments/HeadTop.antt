@@ -1,10 +1,10 @@
 -- The head segment ends with the top and its foot.
-use Rattle.dlmalloc.proofs.Names.{◌≡◌, ℕ, ◌+◌, ◌-◌, ◌%◌, ◌^◌, ◌<◌, ◌≤◌, inr, true, false, ◌==◌, List, [], ◌∷◌, Some, refl, sym, ◌∙◌, ap, arith, dec_lt, nat_tests, Grant, IsWordOf, Extent, Kind, Used, Top, Foot, head_of, ends_segment, extent_at, is_used, Tiles, last_kind, IsSegment, segments_of, IsSound, Dlmalloc, IsRunOf}
+use Rattle.dlmalloc.proofs.Names.{◌≡◌, ℕ, ◌+◌, ◌-◌, ◌%◌, ◌^◌, ◌<◌, ◌≤◌, inr, true, false, ◌==◌, List, [], ◌∷◌, ◌++◌, Some, None, refl, sym, ◌∙◌, ap, subst, arith, append_assoc, dec_lt, AllByRecursion, nat_tests, Grant, IsWordOf, Extent, Kind, Used, Top, Foot, head_of, ends_segment, extent_at, is_used, Tiles, last_kind, extents_in, IsSegment, AreSegments, IsApartFrom, AreApart, AreRecords, segments_of, state_of, AreTold, IsSound, AreChunks, Dlmalloc, IsRunOf}
 use Rattle.dlmalloc.proofs.Extents.Lookup.{extent, nat_same, found_later}
 use Rattle.dlmalloc.proofs.Extents.Tiling.{sized, tiles_le, plain_chunk}
 use Rattle.dlmalloc.proofs.Moves.OfLists.{last_append}
 use Rattle.dlmalloc.proofs.Extents.OneMoreUsed.{none_outside}
-use Rattle.dlmalloc.proofs.Extents.FromWords.{behind_top}
+use Rattle.dlmalloc.proofs.Extents.FromWords.{are_chunks, behind_top}
 use Rattle.dlmalloc.proofs.Segments.HeadTold.{IsHead, head_is}
 use Rattle.dlmalloc.proofs.Segments.Among.{extents_all}
 use Rattle.dlmalloc.proofs.Extents.RunReplaced.{run_of, run_part}
@@ -22,8 +22,11 @@ some_segment word heap k {one} there = elim (dec_lt 0 heap.size) [
 ]
 
 -- a top and its foot, as their heads tell them
-pub top_stands : (words : ℕ → ℕ) {before : Kind} (at size : ℕ) → before ≡ Used → at % 16 ≡ 0 → size % 16 ≡ 0 → 16 ≤ size → words
-    (at + 8) ≡ size + 1 → words (at + size + 8) ≡ 80 → Tiles words before at (extent at size Top ∷ extent (at + size) 80 Foot ∷ []) (at + size + 80)
+abbrev pub top_of : ℕ → ℕ → List Extent
+top_of at size = extent at size Top ∷ extent (at + size) 80 Foot ∷ []
+
+pub top_stands : (words : ℕ → ℕ) {before : Kind} (at size : ℕ) → before ≡ Used → at % 16 ≡ 0 → size % 16 ≡ 0 → 16 ≤ size →
+    words (at + 8) ≡ size + 1 → words (at + size + 8) ≡ 80 → Tiles words before at (top_of at size) (at + size + 80)
 top_stands words at size used place whole long head foot = (
   refl,
   plain_chunk place (whole, long) used (head ∙ (omega arith ∙ ap (λ k. head_of size (is_used k) false) (sym used))) (λ free. cc) (λ is. cc),
@@ -58,6 +61,39 @@ module _ {A : Type 0} {regions : A → List Grant} {word : A → ℕ → ℕ} {h
 
   pub top_last : (top_run.last ≡ extent (top_run.segment.base + top_run.segment.size - 80) 80 Foot ∷ []) × (heap.top + heap.top_size + 80 ≡ top_run.segment.base + top_run.segment.size)
   top_last = behind_top (word heap.system) (heap.top + heap.top_size) top_run.last (top_run.segment.base + top_run.segment.size) top_run.last_stand tail_behind
+
+  -- it is the first of all, and the others are apart from it
+  pub head_first : segments_of word heap ≡ top_run.segment ∷ top_run.back
+  head_first = top_run.is ∙ ap (λ front. front ++ top_run.segment ∷ top_run.back) top_front
+
+  pub behind_parts : AreSegments (regions heap.system) (word heap.system) top_run.back
+  behind_parts = (subst (AreSegments (regions heap.system) (word heap.system)) head_first sound.segments).1
+
+  pub behind_apart : AllByRecursion (IsApartFrom top_run.segment) top_run.back × AreApart top_run.back
+  behind_apart = subst AreApart head_first sound.apart
+
+  pub behind_told : AreRecords (word heap.system) heap.next top_run.back
+  behind_told = (subst (AreTold (word heap.system) heap) head_first sound.told).5
+
+  -- its extents: chunks, the top, and the foot
+  pub head_chunks : AreChunks top_run.first
+  head_chunks = are_chunks (word heap.system) Used top_run.segment.base top_run.first (extent heap.top heap.top_size Top) top_run.last
+      (top_run.segment.base + top_run.segment.size) (λ is. cc) (subst (λ es. Tiles (word heap.system) Used top_run.segment.base es
+      (top_run.segment.base + top_run.segment.size)) top_run.extents top_part.extents)
+
+  pub head_extents : top_run.segment.extents ≡ top_run.first ++ top_of heap.top heap.top_size
+  head_extents = top_run.extents ∙ ap (λ es. top_run.first ++ extent heap.top heap.top_size Top ∷ es) (top_last.0 ∙ (λ i. extent (foot_at i) 80 Foot ∷ []))
+    where
+      foot_at : top_run.segment.base + top_run.segment.size - 80 ≡ heap.top + heap.top_size
+      foot_at = omega (arith, top_last.1)
+
+  pub extents_all_are : extents_in (state_of word heap) ≡ top_run.first ++ (top_of heap.top heap.top_size ++ extents_all top_run.back)
+  extents_all_are = ap extents_all head_first ∙ (ap (λ es. es ++ extents_all top_run.back) head_extents
+      ∙ append_assoc top_run.first (top_of heap.top heap.top_size) (extents_all top_run.back))
+
+  -- nothing of the chunks is found at the top, nor above it
+  pub none_from_top : (k : ℕ) → heap.top ≤ k → extent_at k top_run.first ≡ None
+  none_from_top k above = none_outside (word heap.system) Used top_run.segment.base top_run.first heap.top k (inr above) top_run.first_stand
 
   pub low_top : top_run.segment.base ≤ heap.top
   low_top = tiles_le (word heap.system) Used top_run.segment.base top_run.first heap.top top_run.first_stand

@@ -1,11 +1,11 @@
 -- One segment of a heap gives way to another, and the regions may grow.
 use Rattle.dlmalloc.proofs.Names.{◌≡◌, ℕ, ◌+◌, ◌-◌, ◌%◌, ◌<◌, ◌≤◌, inl, inr, Bool, true, false, ◌==◌, if◌then◌else◌, List, [], ◌∷◌, ◌++◌, Some, None, IsTrue, refl, sym, ◌∙◌, ap, subst, arith, dec_lt, AllByRecursion, Grant, IsWordOf, Extent, Kind, Used, Free, Victim, Top, Record, Foot, extent_at, last_kind, HeapState, Segment, extents_in, is_free_below_top, IsBoundary, IsSpared, AllSpare, IsRun, IsSegment, AreSegments, IsApartFrom, AreApart, record_of, AreRecords}
-use Rattle.dlmalloc.proofs.Extents.Lookup.{found_here, nat_is}
-use Rattle.dlmalloc.proofs.Extents.Tiling.{tiles_kept}
+use Rattle.dlmalloc.proofs.Extents.Lookup.{found_here}
 use Rattle.dlmalloc.proofs.Words.Spared.{spared_before, spared_behind, inner_spared}
-use Rattle.dlmalloc.proofs.Moves.OfLists.{no_plain}
+use Rattle.dlmalloc.proofs.Words.OfRecords.{payload_in, record_stays}
 use Rattle.dlmalloc.proofs.Extents.OneMoreUsed.{AreDistinct}
-use Rattle.dlmalloc.proofs.Segments.Among.{all_at, apart_back, IsIn, in_part}
+use Rattle.dlmalloc.proofs.Segments.Among.{all_at, apart_back, distinct_later}
+use Rattle.dlmalloc.proofs.Segments.WordsKept.{KeepsIts, segment_kept}
 
 -- All granted words stay but those at boundaries of the new segment; what was apart from the old one is apart from the new one,
 -- and a run still; and if a record told the old one, it tells the new one.
@@ -35,16 +35,12 @@ pub all_spared : (heap : HeapState) (k : ℕ) (extents : List Extent) → AreDis
 all_spared heap k [] distinct there apart = tt
 all_spared heap k (extent ∷ extents) distinct there apart = (
   found_spared heap k extent (there extent (found_here extent extents)) apart extent.kind refl,
-  all_spared heap k extents distinct.1 (λ other found. there other (go other found (extent.at == other.at) refl)) apart,
+  all_spared heap k extents distinct.1 (λ other found. there other (distinct_later (extent ∷ []) extents other.at distinct found)) apart,
 )
-  where
-    go : (other : Extent) → extent_at other.at extents ≡ Some other → (b : Bool) → (extent.at == other.at) ≡ b → (if b then Some extent else extent_at other.at extents) ≡ Some other
-    go other found true same = absurd (let none = subst (λ a. extent_at a extents ≡ None) (nat_is same) distinct.0 in let some = found in cc)
-    go other found false isnt = found
 
 module _ {regions regions' : List Grant} {old new : ℕ → ℕ} {segment segment' : Segment} (changed : IsChanged regions regions' old new segment segment') where
   -- a word of another segment stays
-  beside : {other : Segment} → IsSegment regions old other → IsApartFrom other segment → (k : ℕ) → other.base < k → k < other.base + other.size → k % 8 ≡ 0 → new k ≡ old k
+  beside : {other : Segment} → IsSegment regions old other → IsApartFrom other segment → KeepsIts old new other
   beside {other} part apart k low high whole =
       changed.kept k (record { granted = part.run.covered k (omega arith) high; aligned = whole }) (elim ((changed.others other part apart).1) [
         | inl before ↦ spared_before new Used segment'.base segment'.extents (segment'.base + segment'.size) k changed.now.extents (omega arith)
@@ -52,17 +48,7 @@ module _ {regions regions' : List Grant} {old new : ℕ → ℕ} {segment segmen
       ])
 
   other_kept : {other : Segment} → IsApartFrom other segment → IsSegment regions old other → IsSegment regions' new other
-  other_kept {other} apart part = record {
-    run = (changed.others other part apart).0;
-    low = part.low;
-    high = part.high;
-    long = part.long;
-    extents = tiles_kept old new Used other.base other.extents (other.base + other.size) part.extents (λ k low high m free. beside part apart k low (within k high free) m);
-    tail = part.tail;
-  }
-    where
-      within : (k : ℕ) → k ≤ other.base + other.size → (k ≡ other.base + other.size → IsTrue (is_free_below_top (last_kind Used other.extents))) → k < other.base + other.size
-      within k high free = elim (dec_lt k (other.base + other.size)) [ yes below ↦ below | no beyond ↦ absurd (no_plain (last_kind Used other.extents) part.tail (free (omega arith))) ]
+  other_kept {other} apart part = segment_kept old new part (changed.others other part apart).0 (beside part apart)
 
   behind_kept : (back : List Segment) → AllByRecursion (IsApartFrom segment) back → AreSegments regions old back → AreSegments regions' new back
   behind_kept [] apart parts = tt
@@ -89,38 +75,20 @@ module _ {regions regions' : List Grant} {old new : ℕ → ℕ} {segment segmen
 
   -- ---- the payload of a record stays
 
-  record_told : {other : Segment} → IsSegment regions' new other → ((k : ℕ) → other.base < k → k < other.base + other.size → k % 8 ≡ 0 →
-      AllSpare other.extents k → new k ≡ old k) → (others : List Segment) (payload : ℕ) → 16 < payload → old payload ≡ other.base →
-      old (payload + 8) ≡ other.size → old (payload + 24) ≡ other.flags → extent_at (payload - 16) other.extents ≡ Some
-      (record_of (payload - 16) (other.base + other.size)) → AreRecords new (old (payload + 16)) others → AreRecords new payload (other ∷ others)
-  record_told {other} part same others payload some base size flags there rest = (
-    some,
-    at payload (omega arith) (omega arith) whole ∙ base,
-    at (payload + 8) (omega arith) (omega arith) (omega (arith, whole)) ∙ size,
-    at (payload + 24) (omega arith) (omega arith) (omega (arith, whole)) ∙ flags,
-    there,
-    subst (λ p. AreRecords new p others) (sym (at (payload + 16) (omega arith) (omega arith) (omega (arith, whole)))) rest,
-  )
-    where
-      r : IsIn new other.base (other.base + other.size) (record_of (payload - 16) (other.base + other.size))
-      r = in_part new Used other.base other.extents (other.base + other.size) part.extents there
-
-      whole : payload % 8 ≡ 0
-      whole = omega (arith, r.stands.whole)
-
-      long : 80 ≤ other.base + other.size - (payload - 16)
-      long = elim (r.stands.size) [ inl short ↦ omega arith | inr longer ↦ omega arith ]
-
-      at : (k : ℕ) → payload ≤ k → k < payload + 32 → k % 8 ≡ 0 → new k ≡ old k
-      at k low high m = same k (omega (arith, r.low)) (omega (arith, r.high, long)) m
-          (inner_spared new Used other.base other.extents (other.base + other.size) part.extents there refl k (omega arith) (omega (arith, long)))
+  record_told : {other : Segment} → IsSegment regions' new other →
+      ((k : ℕ) → other.base < k → k < other.base + other.size → k % 8 ≡ 0 → AllSpare other.extents k → new k ≡ old k) →
+      (others now : List Segment) (payload : ℕ) → AreRecords old payload (other ∷ others) → AreRecords new (old (payload + 16)) now → AreRecords new payload (other ∷ now)
+  record_told {other} part same others now payload h rest =
+      let p = payload_in part payload h.0 h.4 in
+      record_stays old new payload other others now p.whole (λ k low high m. same k (omega arith) (omega arith) m
+      (inner_spared new Used other.base other.extents (other.base + other.size) part.extents h.4 refl k (omega arith) (omega arith))) h rest
 
   pub records_behind : (back : List Segment) → AllByRecursion (IsApartFrom segment) back → AreSegments regions old back →
       (payload : ℕ) → AreRecords old payload back → AreRecords new payload back
   records_behind [] apart parts payload h = h
   records_behind (other ∷ back) apart parts payload h =
       let beyond = apart_back segment other apart.0 in
-      record_told (other_kept beyond parts.0) (λ k low high m spared. beside parts.0 beyond k low high m) back payload h.0 h.1 h.2 h.3 h.4
+      record_told (other_kept beyond parts.0) (λ k low high m spared. beside parts.0 beyond k low high m) back back payload h
       (records_behind back apart.1 parts.1 (old (payload + 16)) h.5)
 
   -- and so the records tell them
@@ -128,10 +96,16 @@ module _ {regions regions' : List Grant} {old new : ℕ → ℕ} {segment segmen
       (payload : ℕ) → AreRecords old payload (front ++ segment ∷ back) → AreRecords new payload (front ++ segment' ∷ back)
   records_after [] back apart parts payload h =
       let is = changed.records (payload - 16) h.4 in
-      record_told changed.now (λ k low high m spared. changed.kept k (record { granted = parts.0.run.covered k (omega arith) (omega arith); aligned = m })
-      spared) back payload h.0 (h.1 ∙ sym is.0) (h.2 ∙ sym is.1) (h.3 ∙ sym is.2)
-      (is.3 ∙ (λ i. Some (record_of (payload - 16) (sym is.0 i + sym is.1 i)))) (records_behind back apart.0 parts.1 (old (payload + 16)) h.5)
+      record_told changed.now (λ k low high m spared. changed.kept k (record { granted = parts.0.run.covered k (omega arith) (omega arith); aligned = m }) spared)
+      back back payload (
+        h.0,
+        h.1 ∙ sym is.0,
+        h.2 ∙ sym is.1,
+        h.3 ∙ sym is.2,
+        is.3 ∙ (λ i. Some (record_of (payload - 16) (sym is.0 i + sym is.1 i))),
+        h.5,
+      ) (records_behind back apart.0 parts.1 (old (payload + 16)) h.5)
   records_after (other ∷ front) back apart parts payload h =
       let beyond = all_at (IsApartFrom other) front segment back apart.0 in
-      record_told (other_kept beyond parts.0) (λ k low high m spared. beside parts.0 beyond k low high m)
-      (front ++ segment' ∷ back) payload h.0 h.1 h.2 h.3 h.4 (records_after front back apart.1 parts.1 (old (payload + 16)) h.5)
+      record_told (other_kept beyond parts.0) (λ k low high m spared. beside parts.0 beyond k low high m) (front ++ segment ∷ back) (front ++ segment' ∷ back)
+      payload h (records_after front back apart.1 parts.1 (old (payload + 16)) h.5)

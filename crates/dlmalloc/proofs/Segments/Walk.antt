@@ -1,8 +1,8 @@
 -- Passing over the segments of a heap.
-use Rattle.dlmalloc.proofs.Names.{◌≡◌, ◌≢◌, ℕ, ◌+◌, ◌-◌, ◌%◌, ◌^◌, ◌<◌, ◌≤◌, inl, inr, List, [], ◌∷◌, ◌++◌, Some, refl, sym, ◌∙◌, ap, subst, arith, append_assoc, length-append, length, append-nil, Grant, IsWordOf, Used, Top, Foot, extent_at, Segment, IsSegment, AreSegments, record_of, records_from, AreRecords, chunks_between, IsChunkRun, segments_of, AreTold, IsSound, Dlmalloc}
+use Rattle.dlmalloc.proofs.Names.{◌≡◌, ◌≢◌, ℕ, ◌+◌, ◌-◌, ◌%◌, ◌^◌, ◌<◌, ◌≤◌, inl, inr, List, [], ◌∷◌, ◌++◌, Some, refl, sym, ◌∙◌, ap, subst, arith, append_assoc, length-append, length, append-nil, Grant, IsWordOf, Top, Foot, extent_at, Segment, IsSegment, AreSegments, record_of, records_from, AreRecords, chunks_between, IsChunkRun, segments_of, AreTold, IsSound, Dlmalloc}
 use Rattle.dlmalloc.proofs.Extents.Lookup.{extent}
 use Rattle.dlmalloc.proofs.Extents.FromWords.{records_read}
-use Rattle.dlmalloc.proofs.Segments.Among.{IsIn, in_part}
+use Rattle.dlmalloc.proofs.Words.OfRecords.{IsPayloadIn, payload_in}
 use Rattle.dlmalloc.proofs.Moves.OfHeaps.{segments_few}
 use Rattle.dlmalloc.proofs.Extents.Walk.{HasTail, top_tail, record_tail}
 
@@ -112,27 +112,24 @@ module _ {A : Type 0} {regions : A → List Grant} {word : A → ℕ → ℕ} {h
       abbrev words : ℕ → ℕ
       words = word heap.system
 
-      at_in : IsIn words segment.base segment_end (record_of (payload - 16) segment_end)
-      at_in = in_part words Used segment.base segment.extents segment_end ahead_segment.part.extents ahead_segment.there
-
-      long : 80 ≤ segment_end - (payload - 16)
-      long = elim (at_in.stands.size) [ inl short ↦ omega arith | inr longer ↦ omega arith ]
+      place : IsPayloadIn segment payload
+      place = payload_in ahead_segment.part payload ahead_segment.some ahead_segment.there
 
       -- the words of the payload
       pub payload_word : (k : ℕ) → payload ≤ k → k ≤ payload + 16 → k % 8 ≡ payload % 8 → IsWordOf (regions heap.system) k
       payload_word k low high m = record {
-        granted = ahead_segment.part.run.covered k (omega (arith, at_in.low, ahead_segment.some)) (omega (arith, long, ahead_segment.some));
-        aligned = omega (arith, at_in.stands.whole, ahead_segment.some);
+        granted = ahead_segment.part.run.covered k (omega (arith, place.low)) (omega (arith, place.high));
+        aligned = omega (arith, place.whole);
       }
 
       pub payload_high : payload + 16 < 2 ^ 64
-      payload_high = omega (arith, long, ahead_segment.some, ahead_segment.part.high)
+      payload_high = omega (arith, place.high, ahead_segment.part.high)
 
       pub payload_ends : words payload + words (payload + 8) < 2 ^ 64
       payload_ends = omega (arith, ahead_segment.base, ahead_segment.size, ahead_segment.part.high)
 
       pub payload_within : payload ≤ words payload + words (payload + 8)
-      payload_within = omega (arith, ahead_segment.base, ahead_segment.size, long, ahead_segment.some)
+      payload_within = omega (arith, ahead_segment.base, ahead_segment.size, place.high)
 
       -- what a look at it wants
       pub span_fits : SpanFits (regions heap.system) words payload
@@ -140,8 +137,8 @@ module _ {A : Type 0} {regions : A → List Grant} {word : A → ℕ → ℕ} {h
         low = ahead_segment.some;
         high = payload_high;
         base = payload_word payload (omega arith) (omega arith) refl;
-        size = payload_word (payload + 8) (omega arith) (omega arith) (omega (arith, at_in.stands.whole, ahead_segment.some));
-        next = payload_word (payload + 16) (omega arith) (omega arith) (omega (arith, at_in.stands.whole, ahead_segment.some));
+        size = payload_word (payload + 8) (omega arith) (omega arith) (omega (arith, place.whole));
+        next = payload_word (payload + 16) (omega arith) (omega arith) (omega (arith, place.whole));
         ends = payload_ends;
         within = payload_within;
       }

@@ -1,29 +1,53 @@
 -- The payload of a segment's record: its words are granted, and the extents do not rest on them.
-use Rattle.dlmalloc.proofs.Names.{◌≡◌, ℕ, ◌+◌, ◌-◌, ◌%◌, ◌<◌, ◌≤◌, ◌⊎◌, inl, inr, List, ◌∷◌, Some, sym, ◌∙◌, subst, arith, Grant, IsWordOf, Used, Record, extent_at, Tiles, Segment, IsSegment, record_of}
+use Rattle.dlmalloc.proofs.Names.{◌≡◌, ℕ, ◌+◌, ◌-◌, ◌%◌, ◌<◌, ◌≤◌, ◌⊎◌, inl, inr, List, ◌∷◌, Some, sym, ◌∙◌, subst, arith, Grant, IsWordOf, Used, Record, extent_at, Tiles, Segment, IsSegment, record_of, AreRecords}
 use Rattle.dlmalloc.proofs.Extents.Lookup.{found}
 use Rattle.dlmalloc.proofs.Extents.Tiling.{tiles_kept, tiles_split, tiles_append, tiles_le}
 use Rattle.dlmalloc.proofs.Extents.FromWords.{nothing, none_behind_record}
-use Rattle.dlmalloc.proofs.Segments.Among.{IsIn, in_part}
+use Rattle.dlmalloc.proofs.Segments.Among.{in_part}
+
+-- where the payload of a segment's record is
+pub record IsPayloadIn (segment : Segment) (payload : ℕ) : Type 0 where
+  pub whole : payload % 16 ≡ 0
+  pub low : segment.base + 16 ≤ payload
+  pub high : payload + 64 ≤ segment.base + segment.size
+
+pub payload_in : {regions : List Grant} {words : ℕ → ℕ} {segment : Segment} → IsSegment regions words segment → (payload : ℕ) → 16 < payload →
+    extent_at (payload - 16) segment.extents ≡ Some (record_of (payload - 16) (segment.base + segment.size)) → IsPayloadIn segment payload
+payload_in {words} {segment} part payload some there =
+    let end = segment.base + segment.size in
+    let is = in_part words Used segment.base segment.extents end part.extents there in
+    let long : 80 ≤ end - (payload - 16) = elim (is.stands.size) [ inl short ↦ omega arith | inr longer ↦ omega arith ] in
+    record { whole = omega (arith, is.stands.whole); low = omega (arith, is.low); high = omega (arith, long) }
+
+-- a record tells its segment as before where the words of its payload stay
+pub record_stays : (old new : ℕ → ℕ) (payload : ℕ) (segment : Segment) (others now : List Segment) → payload % 16 ≡ 0 →
+    ((k : ℕ) → payload ≤ k → k < payload + 32 → k % 8 ≡ 0 → new k ≡ old k) → AreRecords old payload (segment ∷ others) →
+    AreRecords new (old (payload + 16)) now → AreRecords new payload (segment ∷ now)
+record_stays old new payload segment others now whole same h rest = (
+  h.0,
+  same payload (omega arith) (omega arith) (omega arith) ∙ h.1,
+  same (payload + 8) (omega arith) (omega arith) (omega arith) ∙ h.2,
+  same (payload + 24) (omega arith) (omega arith) (omega arith) ∙ h.3,
+  h.4,
+  subst (λ p. AreRecords new p now) (sym (same (payload + 16) (omega arith) (omega arith) (omega arith))) rest,
+)
 
 module _ {regions : List Grant} {old : ℕ → ℕ} {segment : Segment} (part : IsSegment regions old segment) (payload : ℕ) (some : 16 < payload)
     (there : extent_at (payload - 16) segment.extents ≡ Some (record_of (payload - 16) (segment.base + segment.size))) where
   abbrev end : ℕ
   end = segment.base + segment.size
 
-  record_in : IsIn old segment.base end (record_of (payload - 16) end)
-  record_in = in_part old Used segment.base segment.extents end part.extents there
-
-  long : 80 ≤ end - (payload - 16)
-  long = elim (record_in.stands.size) [ inl short ↦ omega arith | inr longer ↦ omega arith ]
+  place : IsPayloadIn segment payload
+  place = payload_in part payload some there
 
   pub payload_whole : payload % 16 ≡ 0
-  payload_whole = omega (arith, record_in.stands.whole)
+  payload_whole = place.whole
 
   pub payload_low : segment.base + 16 ≤ payload
-  payload_low = omega (arith, record_in.low)
+  payload_low = place.low
 
   pub payload_high : payload + 64 ≤ segment.base + segment.size
-  payload_high = omega (arith, long)
+  payload_high = place.high
 
   -- its words are granted
   pub payload_word : (k : ℕ) → payload ≤ k → k < payload + 32 → k % 8 ≡ 0 → IsWordOf regions k
@@ -40,15 +64,15 @@ module _ {regions : List Grant} {old : ℕ → ℕ} {segment : Segment} (part : 
         let last = nothing old Record (s.middle + (end - (payload - 16))) f.back end none_behind_record s.second.2 in
         subst (λ es. Tiles new Used segment.base es end) (sym f.is)
         (tiles_append new Used segment.base f.front (record_of (payload - 16) end ∷ f.back) s.middle end
-        (tiles_kept old new Used segment.base f.front s.middle s.first (λ k above below m free. kept k above (omega (arith, long)) m (inl (omega arith)))) (
+        (tiles_kept old new Used segment.base f.front s.middle s.first (λ k above below m free. kept k above (omega (arith, place.high)) m (inl (omega arith)))) (
           at,
           record {
             whole = s.second.1.whole;
             size = s.second.1.size;
             kind = s.second.1.kind;
-            head = kept (payload - 16 + 8) (omega arith) (omega (arith, long)) (omega (arith, payload_whole)) (inl (omega arith)) ∙ s.second.1.head;
+            head = kept (payload - 16 + 8) (omega arith) (omega (arith, place.high)) (omega (arith, payload_whole)) (inl (omega arith)) ∙ s.second.1.head;
             foot = λ free. absurd (cc);
-            fence = λ is k above below m. kept k (omega arith) (omega (arith, long)) m (inr (omega arith)) ∙ s.second.1.fence is k above below m;
+            fence = λ is k above below m. kept k (omega arith) (omega (arith, place.high)) m (inr (omega arith)) ∙ s.second.1.fence is k above below m;
           },
           subst (λ es. Tiles new Record (s.middle + (end - (payload - 16))) es end) (sym last.0) last.1,
         ))

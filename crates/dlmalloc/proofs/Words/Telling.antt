@@ -3,7 +3,8 @@ use Rattle.dlmalloc.proofs.Names.{◌≡◌, ℕ, ◌+◌, ◌-◌, ◌%◌, ◌
 use Rattle.dlmalloc.proofs.Extents.Lookup.{found_here}
 use Rattle.dlmalloc.proofs.Extents.Tiling.{sized}
 use Rattle.dlmalloc.proofs.Extents.OneMoreUsed.{AreDistinct, tiles_distinct}
-use Rattle.dlmalloc.proofs.Segments.Among.{extents_all, all_at, any_among, distinct_later, among_all, IsIn, in_part}
+use Rattle.dlmalloc.proofs.Segments.Among.{extents_all, all_at, any_among, distinct_later, among_all, in_part}
+use Rattle.dlmalloc.proofs.Words.OfRecords.{payload_in, record_stays}
 use Rattle.dlmalloc.proofs.Extents.Disjoint.{room_behind}
 use Rattle.dlmalloc.proofs.Moves.OfHeaps.{segments_read, segments_few}
 
@@ -109,30 +110,10 @@ module _ {A : Type 0} {regions : A → List Grant} {word : A → ℕ → ℕ} {h
       (payload : ℕ) → AreRecords words payload segments → AreRecords now payload segments
   still_records front [] is parts payload h = h
   still_records front (segment ∷ segments) is parts payload h =
-      let rest = still_records (front ++ segment ∷ []) segments (is ∙ sym (append_assoc front (segment ∷ []) segments)) parts.1 (words (payload + 16)) h.5 in (
-        h.0,
-        keeps payload (omega arith) (omega arith) whole ∙ h.1,
-        keeps (payload + 8) (omega arith) (omega arith) (omega (arith, whole)) ∙ h.2,
-        keeps (payload + 24) (omega arith) (omega arith) (omega (arith, whole)) ∙ h.3,
-        h.4,
-        subst (λ p. AreRecords now p segments) (sym (keeps (payload + 16) (omega arith) (omega arith) (omega (arith, whole)))) rest,
-      )
-    where
-      r : IsIn words segment.base (segment.base + segment.size) (record_of (payload - 16) (segment.base + segment.size))
-      r = in_part words Used segment.base segment.extents (segment.base + segment.size) parts.0.extents h.4
-
-      some : 16 < payload
-      some = h.0
-
-      whole : payload % 8 ≡ 0
-      whole = omega (arith, r.stands.whole, some)
-
-      long : 80 ≤ segment.base + segment.size - (payload - 16)
-      long = elim (r.stands.size) [ inl short ↦ omega arith | inr longer ↦ omega arith ]
-
-      keeps : (k : ℕ) → payload ≤ k → k < payload + 32 → k % 8 ≡ 0 → now k ≡ words k
-      keeps k low high m = told front segment segments is (record_of (payload - 16) (segment.base + segment.size)) h.4 k
-          (omega (arith, some), omega (arith, long, some), m, inr (inl refl), λ e. absurd (omega (arith, long, some)))
+      let p = payload_in parts.0 payload h.0 h.4 in let some = h.0 in
+      record_stays words now payload segment segments segments p.whole (λ k low high m. told front segment segments is
+      (record_of (payload - 16) (segment.base + segment.size)) h.4 k (omega arith, omega arith, m, inr (inl refl), λ e. absurd (omega arith))) h
+      (still_records (front ++ segment ∷ []) segments (is ∙ sym (append_assoc front (segment ∷ []) segments)) parts.1 (words (payload + 16)) h.5)
 
   still_told : AreTold now after (segments_of word heap)
   still_told = go (segments_of word heap) refl sound.segments sound.told
