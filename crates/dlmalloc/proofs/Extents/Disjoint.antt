@@ -1,6 +1,6 @@
 -- Two extents of a heap have no byte in common.
 use Rattle.dlmalloc.proofs.Names.{◌≡◌, ◌≢◌, ℕ, ◌+◌, ◌≤◌, ◌⊎◌, inl, inr, Bool, true, false, ◌==◌, if◌then◌else◌, List, [], ◌∷◌, Some, None, refl, sym, ◌∙◌, ap, subst, arith, AllByRecursion, Grant, Extent, Kind, Used, ends_segment, extent_at, HasChunk, Tiles, last_kind, Segment, IsSegment, AreSegments, IsApartFrom, AreApart}
-use Rattle.dlmalloc.proofs.Extents.Lookup.{nat_is, found, found_either}
+use Rattle.dlmalloc.proofs.Extents.Lookup.{at_one, found, found_either}
 use Rattle.dlmalloc.proofs.Extents.Tiling.{sized, tiles_le, tiles_split}
 use Rattle.dlmalloc.proofs.Moves.OfLists.{last_append}
 use Rattle.dlmalloc.proofs.Segments.Among.{extents_all, located, of_located, in_part}
@@ -18,17 +18,10 @@ beside_in words before from extents to h one other there there_other apart =
     elim (found_either other.at f.front (one ∷ f.back) (ap (extent_at other.at) (sym f.is) ∙ there_other)) [
       | inl first ↦ (let is = in_part words before from f.front s.middle s.first first in let high = is.high in inr (omega arith))
       | inr later ↦ elim (found_either other.at (one ∷ []) f.back later.1) [
-        | inl here ↦ absurd (apart (at_one other.at other one here))
+        | inl here ↦ absurd (apart (at_one other.at one here).1)
         | inr behind ↦ (let is = in_part words one.kind (s.middle + one.size) f.back to s.second.2 behind.1 in let low = is.low in inl (omega arith))
       ]
     ]
-  where
-    at_one : (k : ℕ) (other one : Extent) → extent_at k (one ∷ []) ≡ Some other → one.at ≡ k
-    at_one k other one is = go (one.at == k) refl is
-      where
-        go : (b : Bool) → (one.at == k) ≡ b → (if b then Some one else None) ≡ Some other → one.at ≡ k
-        go true test same = nat_is test
-        go false test same = absurd (cc)
 
 -- in some segments, apart from another
 within : (regions : List Grant) (words : ℕ → ℕ) (segment : Segment) (segments : List Segment) → AreSegments regions words segments →

@@ -2,7 +2,7 @@
 use Rattle.dlmalloc.proofs.Names.{◌≡◌, ◌≢◌, ℕ, ◌+◌, ◌-◌, ◌⊎◌, inl, inr, Bool, true, false, ◌&&◌, ◌==◌, if◌then◌else◌, List, [], ◌∷◌, ◌++◌, filter, Some, None, refl, sym, ◌∙◌, ap, subst, arith, append_assoc, AllByRecursion, Grant, Extent, Kind, Used, Free, Victim, Top, Record, Foot, ends_segment, IsSize, extent_at, MayStand, Tiles, last_kind, Segment, IsSegment, AreSegments, record_of, AreRecords, segments_of, state_of, AreTold, IsSound, Dlmalloc}
 use Rattle.dlmalloc.specs.Extents.{is_free}
 use Rattle.dlmalloc.specs.FreeExtents.{HasUsedBetween, AreParted, IsUnused, HasOneFree, EachHasOneFree}
-use Rattle.dlmalloc.proofs.Extents.Lookup.{extent, found, found_either, found_here, the_extent, nat_is}
+use Rattle.dlmalloc.proofs.Extents.Lookup.{extent, found, found_either, found_here, at_one, of_two}
 use Rattle.dlmalloc.proofs.Extents.Tiling.{tiles_le, tiles_split}
 use Rattle.dlmalloc.proofs.Extents.OneMoreUsed.{AreDistinct, tiles_distinct}
 use Rattle.dlmalloc.proofs.Segments.Among.{in_part, distinct_later, among_all}
@@ -26,14 +26,6 @@ behind_free first next free may = not_free next (ap (λ b. b && is_free next) (s
 none_behind : (words : ℕ → ℕ) (before : Kind) (from : ℕ) (back : List Extent) (to : ℕ) → ends_segment before ≡ true → Tiles words before from back to → back ≡ []
 none_behind words before from [] to ends h = refl
 none_behind words before from (next ∷ back) to ends h = absurd (let inner = (pair before next.kind h.1.kind).inner in cc)
-
--- the one of one
-at_one : (k : ℕ) (one : Extent) {other : Extent} → extent_at k (one ∷ []) ≡ Some other → (one ≡ other) × (one.at ≡ k)
-at_one k one {other} there = go (one.at == k) refl there
-  where
-    go : (b : Bool) → (one.at == k) ≡ b → (if b then Some one else None) ≡ Some other → (one ≡ other) × (one.at ≡ k)
-    go true test is = (the_extent is, nat_is test)
-    go false test is = absurd (cc)
 
 pub parted : (words : ℕ → ℕ) (before : Kind) (from : ℕ) (extents : List Extent) (to : ℕ) → Tiles words before from extents to → AreParted extents
 parted words before from extents to h first second there there' free free' less =
@@ -151,10 +143,7 @@ module _ {regions : List Grant} {words : ℕ → ℕ} {segment : Segment} (part 
 
   -- what is found is one of the two
   pub either : (k : ℕ) {other : Extent} → extent_at k segment.extents ≡ Some other → (bare.one ≡ other) ⊎ (bare.last ≡ other)
-  either k there = elim (found_either k (bare.one ∷ []) (bare.last ∷ []) (ap (extent_at k) (sym bare.is) ∙ there)) [
-    | inl here ↦ inl (at_one k bare.one here).0
-    | inr later ↦ inr (at_one k bare.last later.1).0
-  ]
+  either k there = of_two k bare.one bare.last (ap (extent_at k) (sym bare.is) ∙ there)
 
   -- a segment with the top
   pub head_free : {at size : ℕ} → extent_at at segment.extents ≡ Some (extent at size Top) → HasOneFree Top segment.extents

@@ -25,12 +25,25 @@ nat_isnt apart = grind (arith, nat_tests)
 pub the_extent : {one other : Extent} → Some one ≡ Some other → one ≡ other
 the_extent {one} h = ap (λ o. unwrap_or o one) h
 
-pub the_one : (k : ℕ) (one : Extent) {other : Extent} → extent_at k (one ∷ []) ≡ Some other → one ≡ other
-the_one k one {other} there = go (one.at == k) there
+-- the one of one
+pub at_one : (k : ℕ) (one : Extent) {other : Extent} → extent_at k (one ∷ []) ≡ Some other → (one ≡ other) × (one.at ≡ k)
+at_one k one {other} there = go (one.at == k) refl there
   where
-    go : (b : Bool) → (if b then Some one else None) ≡ Some other → one ≡ other
-    go true is = ap (λ o. unwrap_or o one) is
-    go false is = absurd (cc)
+    go : (b : Bool) → (one.at == k) ≡ b → (if b then Some one else None) ≡ Some other → (one ≡ other) × (one.at ≡ k)
+    go true test is = (the_extent is, nat_is test)
+    go false test is = absurd (cc)
+
+pub the_one : (k : ℕ) (one : Extent) {other : Extent} → extent_at k (one ∷ []) ≡ Some other → one ≡ other
+the_one k one there = (at_one k one there).0
+
+-- one of two
+pub of_two : (k : ℕ) (one two : Extent) {it : Extent} → extent_at k (one ∷ two ∷ []) ≡ Some it → (one ≡ it) ⊎ (two ≡ it)
+of_two k one two {it} there = go (one.at == k) (two.at == k) there
+  where
+    go : (a b : Bool) → (if a then Some one else if b then Some two else None) ≡ Some it → (one ≡ it) ⊎ (two ≡ it)
+    go true b found = inl (the_extent found)
+    go false true found = inr (the_extent found)
+    go false false found = absurd (cc)
 
 -- an extent with those before and behind it
 pub record Found (at : ℕ) (extent : Extent) (extents : List Extent) : Type 0 where

@@ -1,10 +1,11 @@
 -- A grant is put before the head segment, or before one that a record tells.
 use Rattle.dlmalloc.proofs.Names.{◌≡◌, ◌≢◌, ℕ, ◌+◌, ◌-◌, ◌%◌, ◌^◌, ◌<◌, ◌≤◌, inl, inr, true, false, ◌==◌, List, [], ◌∷◌, ◌++◌, Some, refl, sym, ◌∙◌, ap, subst, arith, ⊤, AllByRecursion, Grant, Event, IsWordOf, IsWhole, Extent, Used, Top, HasHead, head_of, extent_at, Tiles, Segment, extents_in, put_before, IsFresh, IsPrepended, IsInRecord, IsHeadBehind, IsToldBehind, IsSegment, AreSegments, record_of, AreRecords, segments_of, state_of, AreTold, IsSound, Dlmalloc}
 use Rattle.dlmalloc.proofs.Extents.Lookup.{extent, nat_isnt}
-use Rattle.dlmalloc.proofs.Segments.Among.{all_at, IsIn, in_part}
-use Rattle.dlmalloc.proofs.Words.OfRecords.{recorded_tiles}
-use Rattle.dlmalloc.proofs.Segments.ToldAnew.{KeepsIts, IsOutside, one_stays, records_stay}
-use Rattle.dlmalloc.proofs.Grants.PutBefore.{IsJoining, before_means, front_parts, back_parts, front_keeps, back_keeps, in_now, among_new, is_prepended}
+use Rattle.dlmalloc.proofs.Segments.Among.{all_at}
+use Rattle.dlmalloc.proofs.Segments.HeadTop.{top_low}
+use Rattle.dlmalloc.proofs.Words.OfRecords.{IsPayloadIn, payload_in, recorded_tiles}
+use Rattle.dlmalloc.proofs.Segments.WordsKept.{IsOutside, one_stays, records_stay}
+use Rattle.dlmalloc.proofs.Grants.PutBefore.{IsInTwo, IsJoining, before_means, front_parts, back_parts, front_keeps, back_keeps, among_new, is_prepended}
 use Rattle.dlmalloc.proofs.Grants.SegmentBehind.{told_around}
 
 -- the heads of the two parts of a grant are granted
@@ -24,11 +25,8 @@ behind_two grant n segment k place room low there =
     let second : (grant.base + n == k) ≡ false = nat_isnt (inl (omega arith)) in
     rw (first, second) there
 
-module _ {A : Type 0} {regions : A → List Grant} {word : A → ℕ → ℕ} (follows : A → List Event → A → Type 0) {heap : Dlmalloc A}
-    (sound : IsSound regions word heap) {grant : Grant} (fresh : IsFresh (regions heap.system) (segments_of word heap) grant) (n : ℕ)
-    (multiple : n % 16 ≡ 0) (least : 32 ≤ n) (room : n + 96 ≤ grant.size) (whole : AllByRecursion IsWhole (regions heap.system)) (system : A)
-    (same : regions system ≡ regions heap.system) (first : word system (grant.base + 8) ≡ head_of n true true)
-    (second : word system (grant.base + n + 8) ≡ head_of (grant.size - n) true true) (followed : follows heap.system [] system) where
+module _ {A : Type 0} {regions : A → List Grant} {word : A → ℕ → ℕ} {follows : A → List Event → A → Type 0} {heap : Dlmalloc A}
+    (sound : IsSound regions word heap) {grant : Grant} {n : ℕ} {system : A} (halves : IsInTwo regions word follows heap grant n system) where
   -- ---- before the head segment
 
   module _ (b : IsHeadBehind word heap grant) (kept : (k : ℕ) → IsWordOf (regions heap.system) k → k ≢ grant.base + 8 → k ≢ grant.base + n + 8 → word system k ≡ word heap.system k) where
@@ -41,17 +39,11 @@ module _ {A : Type 0} {regions : A → List Grant} {word : A → ℕ → ℕ} (f
     told_are : AreTold (word heap.system) heap (b.segment ∷ b.back)
     told_are = subst (AreTold (word heap.system) heap) b.is sound.told
 
-    keeps_its : KeepsIts (word heap.system) (word system) b.segment
-    keeps_its k low high m = kept k (record { granted = parts_are.0.run.covered k (omega arith) high; aligned = m })
-        (λ is. omega (arith, (before_means grant b.segment b.joins).0)) (λ is. omega (arith, (before_means grant b.segment b.joins).0))
+    place : b.segment.base ≡ grant.base + grant.size
+    place = (before_means grant b.segment b.joins).0
 
-    abbrev joint : IsJoining regions word heap system grant n (λ k. ⊤)
+    abbrev joint : IsJoining regions word heap grant n system (λ k. ⊤)
     joint = record {
-      fresh = fresh;
-      same = same;
-      multiple = multiple;
-      least = least;
-      room = room;
       front = [];
       segment = b.segment;
       back = b.back;
@@ -59,10 +51,9 @@ module _ {A : Type 0} {regions : A → List Grant} {word : A → ℕ → ℕ} (f
       joins = b.joins;
       untold = λ k out. tt;
       kept = λ k inside a c u. kept k inside a c;
+      tiles = (one_stays (regions heap.system) (word heap.system) (word system) parts_are.0 (λ k low high m. kept k
+          (record { granted = parts_are.0.run.covered k (omega arith) high; aligned = m }) (λ is. omega (arith, place)) (λ is. omega (arith, place)))).extents;
     }
-
-    top_in : IsIn (word heap.system) b.segment.base (b.segment.base + b.segment.size) (extent heap.top heap.top_size Top)
-    top_in = in_part (word heap.system) Used b.segment.base b.segment.extents (b.segment.base + b.segment.size) parts_are.0.extents told_are.4
 
     told_now : AreTold (word system) head_now (put_before grant n b.segment ∷ b.back)
     told_now = (
@@ -70,13 +61,12 @@ module _ {A : Type 0} {regions : A → List Grant} {word : A → ℕ → ℕ} (f
       refl,
       omega (arith, told_are.2),
       told_are.3,
-      behind_two grant n b.segment heap.top ((before_means grant b.segment b.joins).0) (omega arith) top_in.low told_are.4,
-      records_stay (regions heap.system) (word heap.system) (word system) b.back parts_are.1 (back_keeps head_now sound joint) heap.next told_are.5,
+      behind_two grant n b.segment heap.top place (omega arith) (omega (arith, top_low sound told_are.0, told_are.1)) told_are.4,
+      records_stay (regions heap.system) (word heap.system) (word system) b.back parts_are.1 (back_keeps sound halves joint) heap.next told_are.5,
     )
 
     pub before_head : IsPrepended regions word follows heap grant n head_now
-    before_head = is_prepended head_now sound joint whole first second ((one_stays (regions heap.system) (word heap.system)
-        (word system) parts_are.0 keeps_its).extents) told_now follows followed (omega (arith, told_are.0)) refl refl refl refl refl refl (λ k tag. tt)
+    before_head = is_prepended sound halves joint grant.base (heap.size + grant.size) (omega (arith, told_are.0)) told_now (λ k tag. tt)
 
   -- ---- before one that a record tells
 
@@ -95,47 +85,32 @@ module _ {A : Type 0} {regions : A → List Grant} {word : A → ℕ → ℕ} (f
     segment_place : b.segment.base ≡ grant.base + grant.size
     segment_place = (before_means grant b.segment b.joins).0
 
-    segments_are : AreSegments (regions heap.system) (word heap.system) (front ++ b.segment ∷ b.back)
-    segments_are = subst (AreSegments (regions heap.system) (word heap.system)) b.is sound.segments
-
     heap_told : AreTold (word heap.system) heap (front ++ b.segment ∷ b.back)
     heap_told = subst (AreTold (word heap.system) heap) b.is sound.told
 
     segment_part : IsSegment (regions heap.system) (word heap.system) b.segment
-    segment_part = go front segments_are
-      where
-        go : (front : List Segment) → AreSegments (regions heap.system) (word heap.system) (front ++ b.segment ∷ b.back) → IsSegment (regions heap.system) (word heap.system) b.segment
-        go [] parts = parts.0
-        go (other ∷ front) parts = go front parts.1
+    segment_part = all_at (IsSegment (regions heap.system) (word heap.system)) front b.segment b.back
+        (subst (AreSegments (regions heap.system) (word heap.system)) b.is sound.segments)
 
     abbrev end : ℕ
     end = b.segment.base + b.segment.size
 
-    record_in : IsIn (word heap.system) b.segment.base end (record_of (payload - 16) end)
-    record_in = in_part (word heap.system) Used b.segment.base b.segment.extents end segment_part.extents b.told.4
-
-    record_long : 80 ≤ end - (payload - 16)
-    record_long = elim (record_in.stands.size) [ inl short ↦ omega arith | inr longer ↦ omega arith ]
-
-    payload_some : 16 < payload
-    payload_some = b.told.0
-
-    payload_whole : payload % 16 ≡ 0
-    payload_whole = omega (arith, record_in.stands.whole, payload_some)
+    payload_place : IsPayloadIn b.segment payload
+    payload_place = payload_in segment_part payload b.told.0 b.told.4
 
     untold_outside : (k : ℕ) → IsOutside b.segment k → IsUntold k
     untold_outside k out = (
-      (λ is. elim out [ inl below ↦ omega (arith, record_in.low, payload_some) | inr above ↦ omega (arith, record_long, payload_some) ]),
-      (λ is. elim out [ inl below ↦ omega (arith, record_in.low, payload_some) | inr above ↦ omega (arith, record_long, payload_some) ]),
+      (λ is. elim out [ inl below ↦ omega (arith, payload_place.low) | inr above ↦ omega (arith, payload_place.high) ]),
+      (λ is. elim out [ inl below ↦ omega (arith, payload_place.low) | inr above ↦ omega (arith, payload_place.high) ]),
     )
 
-    abbrev joint_told : IsJoining regions word heap system grant n IsUntold
+    -- a word of the segment
+    kept_in : (k : ℕ) → b.segment.base < k → k < end → k % 8 ≡ 0 → k ≢ payload → k ≢ payload + 8 → word system k ≡ word heap.system k
+    kept_in k low high m not_base not_size = kept k (record { granted = segment_part.run.covered k (omega arith) high; aligned = m })
+        (λ is. omega (arith, segment_place)) (λ is. omega (arith, segment_place)) not_base not_size
+
+    abbrev joint_told : IsJoining regions word heap grant n system IsUntold
     joint_told = record {
-      fresh = fresh;
-      same = same;
-      multiple = multiple;
-      least = least;
-      room = room;
       front = front;
       segment = b.segment;
       back = b.back;
@@ -143,62 +118,58 @@ module _ {A : Type 0} {regions : A → List Grant} {word : A → ℕ → ℕ} (f
       joins = b.joins;
       untold = untold_outside;
       kept = λ k inside not_first not_second u. kept k inside not_first not_second u.0 u.1;
+      tiles = recorded_tiles segment_part payload b.told.0 b.told.4 (word system) (λ k low high m out. kept_in k low high m
+          (λ is. elim out [ inl below ↦ omega arith | inr above ↦ omega arith ]) (λ is. elim out [ inl below ↦ omega arith | inr above ↦ omega arith ]));
     }
-
-    -- a word of the segment
-    kept_in : (k : ℕ) → b.segment.base < k → k < end → k % 8 ≡ 0 → k ≢ payload → k ≢ payload + 8 → word system k ≡ word heap.system k
-    kept_in k low high m not_base not_size = kept k (record { granted = segment_part.run.covered k (omega arith) high; aligned = m })
-        (λ is. omega (arith, segment_place)) (λ is. omega (arith, segment_place)) not_base not_size
-
-    tiles_told : Tiles (word system) Used b.segment.base b.segment.extents end
-    tiles_told = recorded_tiles segment_part payload payload_some b.told.4 (word system) (λ k low high m out. kept_in k low high m
-        (λ is. elim out [ inl below ↦ omega arith | inr above ↦ omega arith ]) (λ is. elim out [ inl below ↦ omega arith | inr above ↦ omega arith ]))
 
     abbrev now_told : Segment
     now_told = put_before grant n b.segment
 
     record_now : extent_at (payload - 16) now_told.extents ≡ Some (record_of (payload - 16) (now_told.base + now_told.size))
-    record_now = behind_two grant n b.segment (payload - 16) segment_place (omega arith) record_in.low b.told.4
+    record_now = behind_two grant n b.segment (payload - 16) segment_place (omega arith) (omega (arith, payload_place.low)) b.told.4
         ∙ (λ i. Some (record_of (payload - 16) (same_end i)))
       where
         same_end : end ≡ grant.base + (grant.size + b.segment.size)
         same_end = omega (arith, segment_place)
 
+    -- the words behind those that were stored stay
+    still_told : (k : ℕ) → payload + 16 ≤ k → k < payload + 32 → k % 8 ≡ 0 → word system k ≡ word heap.system k
+    still_told k low high m = kept_in k (omega (arith, payload_place.low)) (omega (arith, payload_place.high)) m (λ is. omega arith) (λ is. omega arith)
+
     here_told : AreRecords (word system) payload (now_told ∷ b.back)
     here_told = (
-      payload_some,
+      b.told.0,
       base,
       size ∙ ap (λ m. grant.size + m) b.told.2,
-      kept_in (payload + 24) (omega (arith, record_in.low, payload_some)) (omega (arith, record_long, payload_some)) (omega (arith, payload_whole))
-          (λ is. omega arith) (λ is. omega arith) ∙ b.told.3,
+      still_told (payload + 24) (omega arith) (omega arith) (omega (arith, payload_place.whole)) ∙ b.told.3,
       record_now,
-      subst (λ p. AreRecords (word system) p b.back) (sym (kept_in (payload + 16) (omega (arith, record_in.low, payload_some))
-          (omega (arith, record_long, payload_some)) (omega (arith, payload_whole)) (λ is. omega arith) (λ is. omega arith)))
-          (records_stay (regions heap.system) (word heap.system) (word system) b.back (back_parts told_new sound joint_told)
-          (back_keeps told_new sound joint_told) (word heap.system (payload + 16)) b.told.5),
+      subst (λ p. AreRecords (word system) p b.back) (sym (still_told (payload + 16) (omega arith) (omega arith) (omega (arith, payload_place.whole))))
+          (records_stay (regions heap.system) (word heap.system) (word system) b.back (back_parts sound halves joint_told)
+          (back_keeps sound halves joint_told) (word heap.system (payload + 16)) b.told.5),
     )
 
     told_after : AreTold (word system) told_new (front ++ now_told ∷ b.back)
     told_after =
-        let parts = front_parts told_new sound joint_told in let keeps = front_keeps told_new sound joint_told in
+        let parts = front_parts sound halves joint_told in let keeps = front_keeps sound halves joint_told in
         (heap_told.0, heap_told.1, heap_told.2, heap_told.3, heap_told.4, told_around (regions heap.system) (word heap.system) (word system) (b.segment ∷ b.back) (now_told ∷ b.back) b.front heap.next b.reached parts.1 keeps.1 heap_told.5 here_told)
 
     recorded : (k : ℕ) → (IsInRecord (state_of word told_new) k → ⊥) → IsUntold k
     recorded k tag = (
-      (λ is. tag (in_it (omega (arith, payload_some)) (omega (arith, record_long, payload_some)))),
-      (λ is. tag (in_it (omega (arith, payload_some)) (omega (arith, record_long, payload_some)))),
+      (λ is. tag (in_it (omega (arith, b.told.0)) (omega (arith, payload_place.high)))),
+      (λ is. tag (in_it (omega (arith, b.told.0)) (omega (arith, payload_place.high)))),
     )
       where
-        there : extent_at (payload - 16) (extents_in (state_of word told_new)) ≡ Some (record_of (payload - 16) (now_told.base + now_told.size))
-        there = in_now told_new sound joint_told whole first second tiles_told told_after (payload - 16)
-            (among_new told_new sound joint_told whole first second tiles_told told_after (payload - 16) record_now)
-
         in_it : payload - 16 < k → k < end → IsInRecord (state_of word told_new) k
-        in_it low high = record { extent = record_of (payload - 16) (now_told.base + now_told.size); there = there; is = refl; low = low; high = omega (arith, segment_place, record_long, payload_some) }
+        in_it low high = record {
+          extent = record_of (payload - 16) (now_told.base + now_told.size);
+          there = among_new sound halves joint_told heap.base heap.size heap_told.0 told_after (payload - 16) record_now;
+          is = refl;
+          low = low;
+          high = omega (arith, segment_place, payload_place.low, payload_place.high);
+        }
 
     pub before_told : IsPrepended regions word follows heap grant n told_new
-    before_told = is_prepended told_new sound joint_told
-        whole first second tiles_told told_after follows followed heap_told.0 refl refl refl refl refl refl recorded
+    before_told = is_prepended sound halves joint_told heap.base heap.size heap_told.0 told_after recorded
 
 -- where the record is that tells the segment behind
 pub record ToldPlace (regions : List Grant) (words : ℕ → ℕ) (grant : Grant) (payload : ℕ) : Type 0 where
@@ -221,10 +192,7 @@ module _ {A : Type 0} {regions : A → List Grant} {word : A → ℕ → ℕ} {h
   told_place {payload} b =
       let parts = subst (AreSegments (regions heap.system) (word heap.system)) b.is sound.segments in
       let part = all_at (IsSegment (regions heap.system) (word heap.system)) (b.head ∷ b.front) b.segment b.back parts in
-      let end = b.segment.base + b.segment.size in
-      let r = in_part (word heap.system) Used b.segment.base b.segment.extents end part.extents b.told.4 in
-      let long : 80 ≤ end - (payload - 16) = elim (r.stands.size) [ inl short ↦ omega arith | inr longer ↦ omega arith ] in
-      let some = b.told.0 in let place = (before_means grant b.segment b.joins).0 in
+      let p = payload_in part payload b.told.0 b.told.4 in let size = b.told.2 in let place = (before_means grant b.segment b.joins).0 in
       record {
         base_word = record { granted = part.run.covered payload (omega arith) (omega arith); aligned = omega arith };
         size_word = record { granted = part.run.covered (payload + 8) (omega arith) (omega arith); aligned = omega arith };

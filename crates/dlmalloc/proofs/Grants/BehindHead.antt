@@ -4,15 +4,13 @@ use Rattle.dlmalloc.specs.Granted.{grown, extended}
 use Rattle.dlmalloc.proofs.Extents.Lookup.{extent, nat_same, found_later}
 use Rattle.dlmalloc.proofs.Extents.Tiling.{tiles_kept, tiles_append}
 use Rattle.dlmalloc.proofs.Moves.OfLists.{last_append}
-use Rattle.dlmalloc.proofs.Extents.OneMoreUsed.{none_outside}
-use Rattle.dlmalloc.proofs.Extents.FromWords.{are_chunks}
 use Rattle.dlmalloc.proofs.Segments.HeadTold.{IsHead, bare_head}
 use Rattle.dlmalloc.proofs.Segments.Among.{extents_all}
 use Rattle.dlmalloc.proofs.Segments.RegionsMore.{runs_joined}
 use Rattle.dlmalloc.proofs.Segments.Exchange.{Exchange, exchanged_read, exchanged_used, exchanged_sound, none_exchanged}
 use Rattle.dlmalloc.proofs.Segments.ToldAnew.{IsOutside, head_tags}
-use Rattle.dlmalloc.proofs.Segments.HeadTop.{top_stands, top_run, top_part, top_segment, top_last, top_low, top_whole, top_sizes, ends}
-use Rattle.dlmalloc.proofs.Grants.Opened.{segments_are, back_parts, back_apart, grant_apart, parts_kept, told_kept}
+use Rattle.dlmalloc.proofs.Segments.HeadTop.{top_of, top_stands, top_run, top_part, top_segment, top_last, top_low, top_whole, top_sizes, ends, head_first, behind_parts, behind_apart, head_chunks, head_extents, extents_all_are, none_from_top}
+use Rattle.dlmalloc.proofs.Grants.Opened.{grant_apart, parts_kept, told_kept}
 
 -- what the test says of a grant at the end of a segment
 pub behind_means : (grant : Grant) (segment : Segment) → is_behind grant segment ≡ true → (grant.base ≡ segment.base + segment.size) × (grant.flags ≡ segment.flags)
@@ -34,12 +32,24 @@ abbrev pub extended_heap : {A : Type 0} → Dlmalloc A → Grant → A → Dlmal
 extended_heap heap grant system =
     record heap { system = system; size = heap.size + grant.size; top_size = heap.base + (heap.size + grant.size) - 80 - heap.top; trim_check = trim_threshold }
 
-module _ {A : Type 0} {regions : A → List Grant} {word : A → ℕ → ℕ} {heap : Dlmalloc A} (system : A) (sound : IsSound regions word heap)
-    {grant : Grant} (fresh : IsFresh (regions heap.system) (segments_of word heap) grant) (same : regions system ≡ regions heap.system) (some : 0 < heap.size)
-    (begins : grant.base ≡ heap.base + heap.size) (equal : grant.flags ≡ heap.flags) (behind : is_behind grant (bare_head heap) ≡ true)
-    (whole : AllByRecursion IsWhole (regions heap.system)) (head : word system (heap.top + 8) ≡ heap.base + (heap.size + grant.size) - 80 - heap.top + 1)
-    (foot : word system (heap.base + (heap.size + grant.size) - 72) ≡ 80)
-    (kept : (k : ℕ) → IsWordOf (regions heap.system) k → k ≢ heap.top + 8 → k ≢ heap.base + (heap.size + grant.size) - 72 → word system k ≡ word heap.system k) where
+-- What is stored where the head segment gets the bytes of a grant: the heads of the longer top and of its foot.
+pub record IsExtended {A : Type 0} (regions : A → List Grant) (word : A → ℕ → ℕ) (heap : Dlmalloc A) (grant : Grant) (system : A) : Type 0 where
+  pub fresh : IsFresh (regions heap.system) (segments_of word heap) grant
+  pub some : 0 < heap.size
+  pub behind : is_behind grant (bare_head heap) ≡ true
+  pub whole : AllByRecursion IsWhole (regions heap.system)
+  pub same : regions system ≡ regions heap.system
+  pub head : word system (heap.top + 8) ≡ heap.base + (heap.size + grant.size) - 80 - heap.top + 1
+  pub foot : word system (heap.base + (heap.size + grant.size) - 72) ≡ 80
+  pub kept : (k : ℕ) → IsWordOf (regions heap.system) k → k ≢ heap.top + 8 → k ≢ heap.base + (heap.size + grant.size) - 72 → word system k ≡ word heap.system k
+
+module _ {A : Type 0} {regions : A → List Grant} {word : A → ℕ → ℕ} {heap : Dlmalloc A} {grant : Grant} {system : A}
+    (sound : IsSound regions word heap) (stored : IsExtended regions word heap grant system) where
+  open stored use {fresh, some, behind, whole, same, head, foot, kept}
+
+  begins : grant.base ≡ heap.base + heap.size
+  begins = (behind_means grant (bare_head heap) behind).0
+
   abbrev new : Dlmalloc A
   new = extended_heap heap grant system
 
@@ -49,9 +59,6 @@ module _ {A : Type 0} {regions : A → List Grant} {word : A → ℕ → ℕ} {h
   was : IsHead heap old_run.segment
   was = top_segment sound some
 
-  abbrev less : List Extent
-  less = extent heap.top heap.top_size Top ∷ extent (heap.top + heap.top_size) 80 Foot ∷ []
-
   abbrev length_now : ℕ
   length_now = heap.top_size + grant.size
 
@@ -59,7 +66,7 @@ module _ {A : Type 0} {regions : A → List Grant} {word : A → ℕ → ℕ} {h
   length_is = omega (arith, ends sound some)
 
   abbrev more : List Extent
-  more = extent heap.top length_now Top ∷ extent (heap.top + length_now) 80 Foot ∷ []
+  more = top_of heap.top length_now
 
   abbrev now : Segment
   now = record { base = old_run.segment.base; size = old_run.segment.size + grant.size; flags = old_run.segment.flags; extents = old_run.first ++ more }
@@ -76,8 +83,8 @@ module _ {A : Type 0} {regions : A → List Grant} {word : A → ℕ → ℕ} {h
     | inl below ↦ omega (arith, was.base, top_low sound some)
     | inr above ↦ omega (arith, (top_last sound some).1)
   ]) (λ is. elim second [
-    | inl below ↦ omega arith
-    | inr above ↦ omega arith
+    | inl below ↦ omega (arith, begins)
+    | inr above ↦ omega (arith, begins)
   ])
 
   more_stand : Tiles (word system) (last_kind Used old_run.first) heap.top more (old_run.segment.base + (old_run.segment.size + grant.size))
@@ -91,10 +98,10 @@ module _ {A : Type 0} {regions : A → List Grant} {word : A → ℕ → ℕ} {h
   is_now : IsSegment (regions system) (word system) now
   is_now = record {
     run = subst (λ rs. IsRun rs old_run.segment.base (old_run.segment.size + grant.size) old_run.segment.flags) (sym same)
-        (runs_joined (begins ∙ (λ i. was.base i + was.size i)) (top_part sound some).run
-        (subst (λ f. IsRun (regions heap.system) grant.base grant.size f) (equal ∙ was.flags) fresh.run) whole);
+        (runs_joined (begins ∙ (λ i. was.base i + was.size i)) (top_part sound some).run (subst (λ f. IsRun (regions heap.system) grant.base grant.size f)
+        ((behind_means grant (bare_head heap) behind).1 ∙ was.flags) fresh.run) whole);
     low = (top_part sound some).low;
-    high = omega (arith, was.base, was.size);
+    high = omega (arith, was.base, was.size, begins, fresh.high);
     long = omega (arith, (top_part sound some).long);
     extents = tiles_append (word system) Used old_run.segment.base old_run.first more heap.top (old_run.segment.base + (old_run.segment.size + grant.size))
         (tiles_kept (word heap.system) (word system) Used old_run.segment.base old_run.first heap.top old_run.first_stand (λ k above below m free. first_kept k
@@ -102,50 +109,39 @@ module _ {A : Type 0} {regions : A → List Grant} {word : A → ℕ → ℕ} {h
     tail = ap ends_segment (last_append Used old_run.first more);
   }
 
-  longer_apart : (others : List Segment) → AreSegments (regions heap.system) (word heap.system) others → AllByRecursion (IsApartFrom old_run.segment)
-      others → AllByRecursion (λ segment. IsApartFrom segment (opened grant)) others → AllByRecursion (IsApartFrom now) others
-  longer_apart [] parts one two = tt
-  longer_apart (other ∷ others) parts one two = (
+  longer_apart : (others : List Segment) → AllByRecursion (IsApartFrom old_run.segment) others → AllByRecursion (λ segment. IsApartFrom segment (opened grant)) others →
+      AreSegments (regions heap.system) (word heap.system) others → AllByRecursion (IsApartFrom now) others
+  longer_apart [] one two parts = tt
+  longer_apart (other ∷ others) one two parts = (
     elim (one.0) [
       | inr before ↦ inr before
       | inl behind ↦ elim (two.0) [
-        | inl ahead ↦ absurd (omega (arith, was.base, was.size))
-        | inr past ↦ inl (omega (arith, was.base, was.size))
+        | inl ahead ↦ absurd (omega (arith, was.base, was.size, begins))
+        | inr past ↦ inl (omega (arith, was.base, was.size, begins))
       ]
     ],
-    longer_apart others parts.1 one.1 two.1,
+    longer_apart others one.1 two.1 parts.1,
   )
 
   where_top : extent_at new.top now.extents ≡ Some (extent new.top new.top_size Top)
-  where_top =
-      let here : (heap.top == heap.top) ≡ true = nat_same heap.top in
-      found_later heap.top old_run.first more (none_outside (word heap.system) Used old_run.segment.base old_run.first heap.top heap.top
-      (inr (omega arith)) old_run.first_stand) ∙ (rw here refl ∙ (λ i. Some (extent heap.top (length_is i) Top)))
-
-  extents_were : extents_in (state_of word heap) ≡ old_run.first ++ (less ++ extents_all old_run.back)
-  extents_were =
-      ap extents_all (segments_are system sound fresh same some)
-      ∙ (ap (λ es. es ++ extents_all old_run.back) (old_run.extents ∙ ap (λ es. old_run.first ++ extent heap.top heap.top_size Top ∷ es)
-      ((top_last sound some).0 ∙ (λ i. extent (foot_at i) 80 Foot ∷ []))) ∙ append_assoc old_run.first less (extents_all old_run.back))
-    where
-      foot_at : old_run.segment.base + old_run.segment.size - 80 ≡ heap.top + heap.top_size
-      foot_at = omega (arith, (top_last sound some).1)
+  where_top = found_later heap.top old_run.first more (none_from_top sound some heap.top (omega arith))
+      ∙ (let here = nat_same heap.top in rw here refl ∙ (λ i. Some (extent heap.top (length_is i) Top)))
 
   abbrev it : Exchange regions word heap new
   it = record {
     now = now ∷ old_run.back;
     parts = (is_now, parts_kept system sound fresh same some outside_kept);
-    apart = (let back = back_apart system sound fresh same some in
-        (longer_apart old_run.back (back_parts system sound fresh same some) back.0 (grant_apart system sound fresh same some).1, back.1));
+    apart = (let back = behind_apart sound some in
+        (longer_apart old_run.back back.0 (grant_apart system sound fresh same some).1 (behind_parts sound some), back.1));
     told = (omega arith, was.base, ap (λ n. n + grant.size) was.size, was.flags, where_top, told_kept system sound fresh same some outside_kept);
     some = omega arith;
     granularity = refl;
     ahead = [];
     first = old_run.first;
-    less = less;
+    less = top_of heap.top heap.top_size;
     more = more;
     last = extents_all old_run.back;
-    were = extents_were;
+    were = extents_all_are sound some;
     are = append_assoc old_run.first more (extents_all old_run.back);
   }
 
@@ -159,7 +155,7 @@ module _ {A : Type 0} {regions : A → List Grant} {word : A → ℕ → ℕ} {h
   extended_state n =
       (λ i. record { segments = segments_now i; victim = heap.victim; granularity = heap.granularity; rate = heap.rate; countdown = heap.countdown; trim_check = trim_threshold })
       ∙ (sym after ∙ ap (λ ss. granted grant n (record { segments = ss; victim = heap.victim; granularity = heap.granularity; rate = heap.rate; countdown = heap.countdown; trim_check = heap.trim_check }))
-      (sym (segments_are system sound fresh same some)))
+      (sym (head_first sound some)))
     where
       here : is_behind grant old_run.segment ≡ true
       here = (λ i. (grant.base == (sym was.base) i + (sym was.size) i) && (grant.flags % 2 == 0 && grant.flags == (sym was.flags) i)) ∙ behind
@@ -168,17 +164,11 @@ module _ {A : Type 0} {regions : A → List Grant} {word : A → ℕ → ℕ} {h
           record { segments = extended grant.size old_run.segment ∷ old_run.back; victim = heap.victim; granularity = heap.granularity; rate = heap.rate; countdown = heap.countdown; trim_check = trim_threshold }
       after = (let test = here in rw test refl)
 
-      chunks : AreChunks old_run.first
-      chunks = are_chunks (word heap.system) Used old_run.segment.base old_run.first (extent heap.top heap.top_size Top) old_run.last
-          (old_run.segment.base + old_run.segment.size) (λ is. cc) (subst (λ es. Tiles (word heap.system) Used old_run.segment.base es
-          (old_run.segment.base + old_run.segment.size)) old_run.extents (top_part sound some).extents)
-
       grown_are : map (grown grant.size) old_run.segment.extents ≡ old_run.first ++ more
       grown_are =
-          let place : old_run.segment.base + old_run.segment.size - 80 + grant.size ≡ heap.top + length_now = omega (arith, (top_last sound some).1) in
-          ap (map (grown grant.size)) (old_run.extents ∙ ap (λ es. old_run.first ++ extent heap.top heap.top_size Top ∷ es) (top_last sound some).0)
-          ∙ (map-append (grown grant.size) old_run.first (extent heap.top heap.top_size Top ∷ extent (old_run.segment.base + old_run.segment.size - 80) 80
-          Foot ∷ []) ∙ (λ i. map_grown grant.size old_run.first chunks i ++ (extent heap.top length_now Top ∷ extent (place i) 80 Foot ∷ [])))
+          let place : heap.top + heap.top_size + grant.size ≡ heap.top + length_now = omega arith in
+          ap (map (grown grant.size)) (head_extents sound some) ∙ (map-append (grown grant.size) old_run.first (top_of heap.top heap.top_size)
+          ∙ (λ i. map_grown grant.size old_run.first (head_chunks sound some) i ++ (extent heap.top length_now Top ∷ extent (place i) 80 Foot ∷ [])))
 
       segments_now : segments_of word new ≡ extended grant.size old_run.segment ∷ old_run.back
       segments_now = exchanged_read sound it ∙ (λ i. (record { base = old_run.segment.base; size = old_run.segment.size + grant.size; flags = old_run.segment.flags; extents = (sym grown_are) i }) ∷ old_run.back)

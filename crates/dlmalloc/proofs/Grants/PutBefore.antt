@@ -2,33 +2,36 @@
 use Rattle.dlmalloc.proofs.Names.{◌≡◌, ◌≢◌, ℕ, ◌+◌, ◌-◌, ◌%◌, ◌<◌, ◌≤◌, inl, inr, Bool, true, false, ◌==◌, if◌then◌else◌, List, [], ◌∷◌, ◌++◌, map, Some, None, refl, sym, ◌∙◌, ap, subst, arith, AllByRecursion, nat_tests, map-append, Grant, IsWordOf, IsWhole, Event, Extent, Used, Free, head_of, extent_at, Tiles, Segment, extents_in, opened, is_before, put_before, IsFresh, IsPrepended, IsInRecord, IsRun, IsSegment, AreSegments, IsApartFrom, AreApart, segments_of, state_of, IsGranularity, AreTold, IsSound, Dlmalloc}
 use Rattle.dlmalloc.proofs.Extents.Tiling.{plain_chunk}
 use Rattle.dlmalloc.specs.Granted.{joined}
-use Rattle.dlmalloc.proofs.Extents.Lookup.{extent, nat_same, nat_isnt, nat_is, found_here, found_more}
-use Rattle.dlmalloc.proofs.Extents.OneMoreUsed.{AreDistinct}
-use Rattle.dlmalloc.proofs.Segments.Among.{extents_all, all_among, all_at, all_front, all_back, all_with, front_apart, back_apart, apart_back, none_there, all_distinct, distinct_later}
+use Rattle.dlmalloc.proofs.Extents.Lookup.{extent, nat_same, nat_isnt, found_here, of_two}
+use Rattle.dlmalloc.proofs.Segments.Among.{extents_all, all_among, all_at, all_front, all_back, all_with, front_apart, back_apart, apart_back, none_there, among_all}
+pub use Rattle.dlmalloc.proofs.Segments.Among.{flip}
 use Rattle.dlmalloc.proofs.Segments.RegionsMore.{runs_joined}
-use Rattle.dlmalloc.proofs.Segments.ToldAnew.{KeepsIts, IsOutside, parts_stay, apart_stay, retold, distinct, all_retold, retold_sound, replaced_found}
+use Rattle.dlmalloc.proofs.Segments.WordsKept.{KeepsIts, IsOutside, parts_stay, apart_stay}
+use Rattle.dlmalloc.proofs.Segments.Exchange.{Exchange, exchanged_read, exchanged_new, exchanged_still, exchanged_was, exchanged_sound}
 
 -- what the test says of a grant before a segment
 pub before_means : (grant : Grant) (segment : Segment) → is_before grant segment ≡ true → (segment.base ≡ grant.base + grant.size) × (grant.flags ≡ segment.flags)
 before_means grant segment test = (grind (arith, nat_tests), grind (arith, nat_tests))
-
--- being apart goes both ways
-pub flip : (one : Segment) (others : List Segment) → AllByRecursion (λ other. IsApartFrom other one) others → AllByRecursion (IsApartFrom one) others
-flip one [] all = tt
-flip one (other ∷ others) all = (apart_back other one all.0, flip one others all.1)
 
 pub parts_around : {regions : List Grant} {words : ℕ → ℕ} {now : Segment} (front back : List Segment) → AreSegments regions words front →
     IsSegment regions words now → AreSegments regions words back → AreSegments regions words (front ++ now ∷ back)
 parts_around [] back first one last = (one, last)
 parts_around (other ∷ front) back first one last = (first.0, parts_around front back first.1 one last)
 
--- A grant is put before a segment that it joins: of the words, those of its two heads change, and those that tell the segment.
-pub record IsJoining {A : Type 0} (regions : A → List Grant) (word : A → ℕ → ℕ) (heap : Dlmalloc A) (system : A) (grant : Grant) (n : ℕ) (IsUntold : ℕ → Type 0) : Type 0 where
+-- A grant stands as two chunks in use, of which the first has n bytes.
+pub record IsInTwo {A : Type 0} (regions : A → List Grant) (word : A → ℕ → ℕ) (follows : A → List Event → A → Type 0) (heap : Dlmalloc A) (grant : Grant) (n : ℕ) (system : A) : Type 0 where
   pub fresh : IsFresh (regions heap.system) (segments_of word heap) grant
-  pub same : regions system ≡ regions heap.system
   pub multiple : n % 16 ≡ 0
   pub least : 32 ≤ n
   pub room : n + 96 ≤ grant.size
+  pub whole : AllByRecursion IsWhole (regions heap.system)
+  pub same : regions system ≡ regions heap.system
+  pub first : word system (grant.base + 8) ≡ head_of n true true
+  pub second : word system (grant.base + n + 8) ≡ head_of (grant.size - n) true true
+  pub followed : follows heap.system [] system
+
+-- It joins the segment behind it: of the words, those of its two heads change, and those that tell the segment.
+pub record IsJoining {A : Type 0} (regions : A → List Grant) (word : A → ℕ → ℕ) (heap : Dlmalloc A) (grant : Grant) (n : ℕ) (system : A) (IsUntold : ℕ → Type 0) : Type 0 where
   pub front : List Segment
   pub segment : Segment
   pub back : List Segment
@@ -36,10 +39,12 @@ pub record IsJoining {A : Type 0} (regions : A → List Grant) (word : A → ℕ
   pub joins : is_before grant segment ≡ true
   pub untold : (k : ℕ) → IsOutside segment k → IsUntold k
   pub kept : (k : ℕ) → IsWordOf (regions heap.system) k → k ≢ grant.base + 8 → k ≢ grant.base + n + 8 → IsUntold k → word system k ≡ word heap.system k
+  pub tiles : Tiles (word system) Used segment.base segment.extents (segment.base + segment.size)
 
-module _ {A : Type 0} {regions : A → List Grant} {word : A → ℕ → ℕ} {heap : Dlmalloc A} (new : Dlmalloc A) (sound : IsSound regions word heap)
-    {grant : Grant} {n : ℕ} {IsUntold : ℕ → Type 0} (joint : IsJoining regions word heap new.system grant n IsUntold) where
-  open joint use {fresh, same, multiple, least, room, front, segment, back, is, joins, untold, kept}
+module _ {A : Type 0} {regions : A → List Grant} {word : A → ℕ → ℕ} {follows : A → List Event → A → Type 0} {heap : Dlmalloc A} (sound : IsSound regions word heap)
+    {grant : Grant} {n : ℕ} {system : A} {IsUntold : ℕ → Type 0} (halves : IsInTwo regions word follows heap grant n system) (joint : IsJoining regions word heap grant n system IsUntold) where
+  open halves use {fresh, multiple, least, room, whole, same, first, second, followed}
+  open joint use {front, segment, back, is, joins, untold, kept, tiles}
 
   place : segment.base ≡ grant.base + grant.size
   place = (before_means grant segment joins).0
@@ -68,37 +73,37 @@ module _ {A : Type 0} {regions : A → List Grant} {word : A → ℕ → ℕ} {h
   back_beside : AllByRecursion (λ other. IsApartFrom other (opened grant)) back
   back_beside = (all_back (λ other. IsApartFrom other (opened grant)) front (segment ∷ back) beside).1
 
-  outside_kept : (k : ℕ) → IsWordOf (regions heap.system) k → IsOutside segment k → IsOutside (opened grant) k → word new.system k ≡ word heap.system k
+  outside_kept : (k : ℕ) → IsWordOf (regions heap.system) k → IsOutside segment k → IsOutside (opened grant) k → word system k ≡ word heap.system k
   outside_kept k inside first second = kept k inside (λ at. elim second [ inl below ↦ omega arith | inr above ↦ omega arith ])
       (λ at. elim second [ inl below ↦ omega arith | inr above ↦ omega arith ]) (untold k first)
 
-  pub front_keeps : AllByRecursion (KeepsIts (word heap.system) (word new.system)) front
-  front_keeps = apart_stay (regions heap.system) (word heap.system) (word new.system) segment (opened grant) front front_parts
+  pub front_keeps : AllByRecursion (KeepsIts (word heap.system) (word system)) front
+  front_keeps = apart_stay (regions heap.system) (word heap.system) (word system) segment (opened grant) front front_parts
       (flip segment front (front_apart front segment back apart)) front_beside outside_kept
 
-  pub back_keeps : AllByRecursion (KeepsIts (word heap.system) (word new.system)) back
-  back_keeps = apart_stay (regions heap.system) (word heap.system) (word new.system) segment (opened grant) back back_parts
+  pub back_keeps : AllByRecursion (KeepsIts (word heap.system) (word system)) back
+  back_keeps = apart_stay (regions heap.system) (word heap.system) (word system) segment (opened grant) back back_parts
       (flip segment back (back_apart front segment back apart)) back_beside outside_kept
 
   abbrev pub now : Segment
   now = put_before grant n segment
 
-  abbrev two : List Extent
-  two = extent grant.base n Used ∷ extent (grant.base + n) (grant.size - n) Used ∷ []
+  abbrev two_chunks : List Extent
+  two_chunks = extent grant.base n Used ∷ extent (grant.base + n) (grant.size - n) Used ∷ []
 
-  module _ (whole : AllByRecursion IsWhole (regions heap.system)) (first : word new.system (grant.base + 8) ≡ head_of n true true)
-      (second : word new.system (grant.base + n + 8) ≡ head_of (grant.size - n) true true)
-      (tiles : Tiles (word new.system) Used segment.base segment.extents (segment.base + segment.size))
-      (told : AreTold (word new.system) new (front ++ now ∷ back)) where
-    two_stand : Tiles (word new.system) Used grant.base now.extents (grant.base + (grant.size + segment.size))
+  module _ (base size : ℕ) (some : 0 < size) (told : AreTold (word system) (record heap { system = system; base = base; size = size }) (front ++ now ∷ back)) where
+    abbrev new : Dlmalloc A
+    new = record heap { system = system; base = base; size = size }
+
+    two_stand : Tiles (word system) Used grant.base now.extents (grant.base + (grant.size + segment.size))
     two_stand = (
       refl,
       plain_chunk fresh.base_aligned (multiple, least) (inl refl) first (λ free. cc) (λ is. cc),
       (
         refl,
         plain_chunk (omega arith) (omega arith, omega arith) (inl refl) second (λ free. cc) (λ is. cc),
-        subst (λ end. Tiles (word new.system) Used (grant.base + n + (grant.size - n)) segment.extents end) same_end
-            (subst (λ at. Tiles (word new.system) Used at segment.extents (segment.base + segment.size)) same_begin tiles),
+        subst (λ end. Tiles (word system) Used (grant.base + n + (grant.size - n)) segment.extents end) same_end
+            (subst (λ at. Tiles (word system) Used at segment.extents (segment.base + segment.size)) same_begin tiles),
       ),
     )
       where
@@ -108,7 +113,7 @@ module _ {A : Type 0} {regions : A → List Grant} {word : A → ℕ → ℕ} {h
         same_begin : segment.base ≡ grant.base + n + (grant.size - n)
         same_begin = omega (arith, place)
 
-    is_now : IsSegment (regions new.system) (word new.system) now
+    is_now : IsSegment (regions system) (word system) now
     is_now = record {
       run = subst (λ rs. IsRun rs grant.base (grant.size + segment.size) segment.flags) (sym same) (runs_joined place
           (subst (λ f. IsRun (regions heap.system) grant.base grant.size f) (before_means grant segment joins).1 fresh.run) the_part.run whole);
@@ -119,10 +124,10 @@ module _ {A : Type 0} {regions : A → List Grant} {word : A → ℕ → ℕ} {h
       tail = the_part.tail;
     }
 
-    parts_now : AreSegments (regions new.system) (word new.system) (front ++ now ∷ back)
-    parts_now = parts_around front back (subst (λ rs. AreSegments rs (word new.system) front) (sym same) (parts_stay (regions heap.system) (word heap.system)
-        (word new.system) front front_parts front_keeps)) is_now (subst (λ rs. AreSegments rs (word new.system) back) (sym same)
-        (parts_stay (regions heap.system) (word heap.system) (word new.system) back back_parts back_keeps))
+    parts_now : AreSegments (regions system) (word system) (front ++ now ∷ back)
+    parts_now = parts_around front back (subst (λ rs. AreSegments rs (word system) front) (sym same) (parts_stay (regions heap.system) (word heap.system)
+        (word system) front front_parts front_keeps)) is_now (subst (λ rs. AreSegments rs (word system) back) (sym same)
+        (parts_stay (regions heap.system) (word heap.system) (word system) back back_parts back_keeps))
 
     -- what is apart from the segment and from the grant is apart from both as one
     step : (other : Segment) → 96 < other.size → IsApartFrom other segment → IsApartFrom other (opened grant) → IsApartFrom other now
@@ -150,47 +155,39 @@ module _ {A : Type 0} {regions : A → List Grant} {word : A → ℕ → ℕ} {h
     abbrev after : List Extent
     after = segment.extents ++ extents_all back
 
-    all_old : extents_in (state_of word heap) ≡ extents_all front ++ ([] ++ after)
-    all_old = ap extents_all is ∙ all_among front segment back
+    -- nothing gives way to the two
+    abbrev it : Exchange regions word heap new
+    it = record {
+      now = front ++ now ∷ back;
+      parts = parts_now;
+      apart = apart_now;
+      told = told;
+      some = some;
+      granularity = refl;
+      ahead = [];
+      first = extents_all front;
+      less = [];
+      more = two_chunks;
+      last = after;
+      were = ap extents_all is ∙ all_among front segment back;
+      are = all_among front now back;
+    }
 
-    all_apart : AreDistinct (extents_all (front ++ now ∷ back))
-    all_apart = distinct regions word new (front ++ now ∷ back) parts_now apart_now told
+    -- what is found in the segment is found
+    pub among_new : (k : ℕ) {one : Extent} → extent_at k now.extents ≡ Some one → extent_at k (extents_in (state_of word new)) ≡ Some one
+    among_new k there = ap (λ ss. extent_at k (extents_all ss)) (exchanged_read sound it) ∙ among_all (regions system) (word system) parts_now apart_now front now back refl k there
 
-    pub in_now : (k : ℕ) {one : Extent} → extent_at k (extents_all (front ++ now ∷ back)) ≡ Some one → extent_at k (extents_in (state_of word new)) ≡ Some one
-    in_now k there = ap (extent_at k) (all_retold regions word new (front ++ now ∷ back) parts_now apart_now told) ∙ there
-
-    -- what is found in the segment is found among all
-    pub among_new : (k : ℕ) {one : Extent} → extent_at k now.extents ≡ Some one → extent_at k (extents_all (front ++ now ∷ back)) ≡ Some one
-    among_new k there = ap (extent_at k) (all_among front now back) ∙ distinct_later (extents_all front) (now.extents ++ extents_all back) k
-        (subst AreDistinct (all_among front now back) all_apart) (found_more k now.extents (extents_all back) there)
-
-    found_now : (k : ℕ) {one : Extent} → extent_at k (extents_in (state_of word heap)) ≡ Some one → extent_at k (extents_all (front ++ now ∷ back)) ≡ Some one
-    found_now k there = replaced_found k (extents_all front) [] two after (all_among front now back) all_apart (λ found. absurd (cc)) (ap (extent_at k) (sym all_old) ∙ there)
-
-    -- one of the two is found
-    of_two : (k : ℕ) {one : Extent} → extent_at k (two ++ after) ≡ Some one → extent_at k (extents_all (front ++ now ∷ back)) ≡ Some one
-    of_two k there = ap (extent_at k) (all_among front now back) ∙ distinct_later (extents_all front) (two ++ after) k (subst AreDistinct (all_among front now back) all_apart) there
-
-    chunk_there : extent_at grant.base (extents_all (front ++ now ∷ back)) ≡ Some (extent grant.base n Used)
-    chunk_there = of_two grant.base (found_here (extent grant.base n Used) (extent (grant.base + n) (grant.size - n) Used ∷ after))
-
-    rest_there : extent_at (grant.base + n) (extents_all (front ++ now ∷ back)) ≡ Some (extent (grant.base + n) (grant.size - n) Used)
+    rest_there : extent_at (grant.base + n) two_chunks ≡ Some (extent (grant.base + n) (grant.size - n) Used)
     rest_there =
         let other : (grant.base == grant.base + n) ≡ false = nat_isnt (inl (omega arith)) in
         let here = nat_same (grant.base + n) in
-        of_two (grant.base + n) {one = (extent (grant.base + n) (grant.size - n) Used)} (rw (other, here) refl)
+        rw (other, here) refl
 
-    found_before : (k : ℕ) (one : Extent) → k ≢ grant.base → k ≢ grant.base + n → extent_at k (extents_all (front ++ now ∷ back)) ≡ Some one →
-        extent_at k (extents_in (state_of word heap)) ≡ Some one
-    found_before k one not_chunk not_rest there =
-        replaced_found k (extents_all front) two [] after all_old (all_distinct (regions heap.system) (word heap.system) (segments_of word heap) sound.segments sound.apart)
-        (λ found. absurd (none (grant.base == k) refl (grant.base + n == k) refl found)) (ap (extent_at k) (sym (all_among front now back)) ∙ there)
-      where
-        none : (a : Bool) → (grant.base == k) ≡ a → (b : Bool) → (grant.base + n == k) ≡ b →
-            (if a then Some (extent grant.base n Used) else if b then Some (extent (grant.base + n) (grant.size - n) Used) else None) ≡ Some one → ⊥
-        none true is b other found = not_chunk (sym (nat_is is))
-        none false isnt true is found = not_rest (sym (nat_is is))
-        none false isnt false other found = cc
+    not_two : (one : Extent) → one.at ≢ grant.base → one.at ≢ grant.base + n → extent_at one.at two_chunks ≡ Some one → ⊥
+    not_two one not_chunk not_rest found = elim (of_two one.at (extent grant.base n Used) (extent (grant.base + n) (grant.size - n) Used) found) [
+      | inl chunk ↦ not_chunk (sym (ap (λ e. e.at) chunk))
+      | inr rest ↦ not_rest (sym (ap (λ e. e.at) rest))
+    ]
 
     -- nothing was found in the grant
     none_in_grant : (k : ℕ) {one : Extent} → grant.base ≤ k → k < grant.base + grant.size → extent_at k (extents_in (state_of word heap)) ≡ Some one → ⊥
@@ -219,29 +216,21 @@ module _ {A : Type 0} {regions : A → List Grant} {word : A → ℕ → ℕ} {h
         here : joined grant n segment ≡ now
         here = (let test = joins in rw test refl)
 
-    module _ (follows : A → List Event → A → Type 0) (followed : follows heap.system [] new.system) (size_some : 0 < new.size)
-        (victim : new.victim ≡ heap.victim) (victim_size : new.victim_size ≡ heap.victim_size) (granularity : new.granularity ≡ heap.granularity)
-        (rate : new.rate ≡ heap.rate) (countdown : new.countdown ≡ heap.countdown) (trim_check : new.trim_check ≡ heap.trim_check)
-        (recorded : (k : ℕ) → (IsInRecord (state_of word new) k → ⊥) → IsUntold k) where
-      pub is_prepended : IsPrepended regions word follows heap grant n new
-      is_prepended = record {
-        state = λ i. record { segments = (retold regions word new (front ++ now ∷ back) parts_now apart_now told ∙ sym joined_are) i; victim = victim i; granularity = granularity i; rate = rate i; countdown = countdown i; trim_check = trim_check i };
-        sound = retold_sound regions word new (front ++ now ∷ back) parts_now apart_now told
-            (subst IsGranularity (sym granularity) sound.granularity) size_some (λ none. victim ∙ sound.no_victim (sym victim_size ∙ none))
-            (λ there. (λ i. extent_at (victim i) (extents_all (front ++ now ∷ back))) ∙ (found_now heap.victim
-            (sound.victim (λ none. there (victim_size ∙ none))) ∙ (λ i. Some (extent ((sym victim) i) ((sym victim_size) i) Free))));
-        regions_same = same;
-        followed = followed;
-        chunk = in_now grant.base chunk_there;
-        rest = in_now (grant.base + n) rest_there;
-        still = λ one there. in_now one.at (found_now one.at there);
-        before = λ one not_chunk not_rest there. found_before one.at one not_chunk not_rest
-            (ap (extent_at one.at) (sym (all_retold regions word new (front ++ now ∷ back) parts_now apart_now told)) ∙ there);
-        apart = λ one there. (
-          (λ at. none_in_grant one.at (omega arith) (omega arith) there),
-          (λ at. none_in_grant one.at (omega arith) (omega arith) there),
-        );
-        words = λ k inside out tag. kept k inside (λ at. elim out [ inl below ↦ omega arith | inr above ↦ omega arith ])
-            (λ at. elim out [ inl below ↦ omega arith | inr above ↦ omega arith ]) (recorded k tag);
-        new_words = λ k inside low high not_first not_second. kept k inside not_first not_second (untold k (inl (omega (arith, place))));
-      }
+    pub is_prepended : ((k : ℕ) → (IsInRecord (state_of word new) k → ⊥) → IsUntold k) → IsPrepended regions word follows heap grant n new
+    is_prepended recorded = record {
+      state = λ i. record { segments = (exchanged_read sound it ∙ sym joined_are) i; victim = heap.victim; granularity = heap.granularity; rate = heap.rate; countdown = heap.countdown; trim_check = heap.trim_check };
+      sound = exchanged_sound sound it tt refl refl;
+      regions_same = same;
+      followed = followed;
+      chunk = exchanged_new sound it grant.base (found_here (extent grant.base n Used) (extent (grant.base + n) (grant.size - n) Used ∷ []));
+      rest = exchanged_new sound it (grant.base + n) rest_there;
+      still = λ one there. exchanged_still sound it one.at (λ found. cc) there;
+      before = λ one not_chunk not_rest there. exchanged_was sound it one.at (λ found. cc) (not_two one not_chunk not_rest) there;
+      apart = λ one there. (
+        (λ at. none_in_grant one.at (omega arith) (omega arith) there),
+        (λ at. none_in_grant one.at (omega arith) (omega arith) there),
+      );
+      words = λ k inside out tag. kept k inside (λ at. elim out [ inl below ↦ omega arith | inr above ↦ omega arith ])
+          (λ at. elim out [ inl below ↦ omega arith | inr above ↦ omega arith ]) (recorded k tag);
+      new_words = λ k inside low high not_first not_second. kept k inside not_first not_second (untold k (inl (omega (arith, place))));
+    }

@@ -1,18 +1,9 @@
 -- What a top leaves behind where another head segment comes: a record, and a free chunk if it has more than 16 bytes.
-use Rattle.dlmalloc.proofs.Names.{◌≡◌, ℕ, ◌+◌, ◌-◌, ◌%◌, ◌≤◌, ◌⊎◌, inl, inr, Bool, true, false, ◌==◌, if◌then◌else◌, List, [], ◌∷◌, ◌++◌, Some, None, refl, sym, ◌∙◌, ap, subst, arith, dec_lt, unwrap_or, flat_map, nat_tests, Extent, Kind, Used, Free, Record, head_of, ends_segment, extent_at, is_used, Tiles, last_kind, IsRecordAt, record_of, IsIn, AreChunks, SegmentRecord}
+use Rattle.dlmalloc.proofs.Names.{◌≡◌, ℕ, ◌+◌, ◌-◌, ◌%◌, ◌<◌, ◌≤◌, ◌⊎◌, inl, inr, Bool, true, false, ◌==◌, nat_lt, if◌then◌else◌, List, [], ◌∷◌, ◌++◌, Some, None, refl, sym, ◌∙◌, ap, subst, arith, dec_lt, unwrap_or, flat_map, nat_tests, Extent, Kind, Used, Free, Record, head_of, ends_segment, extent_at, is_used, Tiles, last_kind, IsRecordAt, record_of, IsIn, AreChunks, SegmentRecord}
 use Rattle.dlmalloc.proofs.Extents.Tiling.{free_chunk}
 use Rattle.dlmalloc.specs.Granted.{closed}
 use Rattle.dlmalloc.proofs.Moves.OfFreeExtents.{IsThere}
-use Rattle.dlmalloc.proofs.Extents.Lookup.{extent, nat_same, nat_isnt, found_here, found_either, the_one}
-
--- an extent that is found among two is one of them
-pub of_two : (k : ℕ) (one two : Extent) {it : Extent} → extent_at k (one ∷ two ∷ []) ≡ Some it → (one ≡ it) ⊎ (two ≡ it)
-of_two k one two {it} there = go (one.at == k) (two.at == k) there
-  where
-    go : (a b : Bool) → (if a then Some one else if b then Some two else None) ≡ Some it → (one ≡ it) ⊎ (two ≡ it)
-    go true b found = inl (ap (λ o. unwrap_or o one) found)
-    go false true found = inr (ap (λ o. unwrap_or o two) found)
-    go false false found = absurd (cc)
+use Rattle.dlmalloc.proofs.Extents.Lookup.{extent, nat_same, nat_isnt, found_here, the_one, of_two}
 
 -- chunks stay where a top is closed
 pub closed_chunks : (chunks : List Extent) → AreChunks chunks → flat_map closed chunks ≡ chunks
@@ -33,9 +24,9 @@ left_free small top = if small then [] else top ∷ []
 
 pub in_left : (small : Bool) (top size k bytes : ℕ) → extent_at k (left small top size) ≡ Some (extent k bytes Free) → IsIn k (left_free small top)
 in_left true top size k bytes found = (let no : Record ≡ Free = ap (λ e. e.kind) (the_one k (extent top 96 Record) found) in cc)
-in_left false top size k bytes found = elim (found_either k (extent top size Free ∷ []) (extent (top + size) 80 Record ∷ []) found) [
-  | inl first ↦ inl (sym (ap (λ e. e.at) (the_one k (extent top size Free) first)))
-  | inr later ↦ absurd (let no : Record ≡ Free = ap (λ e. e.kind) (the_one k (extent (top + size) 80 Record) later.1) in cc)
+in_left false top size k bytes found = elim (of_two k (extent top size Free) (extent (top + size) 80 Record) found) [
+  | inl first ↦ inl (sym (ap (λ e. e.at) first))
+  | inr later ↦ absurd (let no : Record ≡ Free = ap (λ e. e.kind) later in cc)
 ]
 
 pub left_there : (small : Bool) (top size k : ℕ) → IsIn k (left_free small top) → IsThere k (left small top size)
@@ -46,8 +37,38 @@ left_there false top size k (inr none) = absurd none
 abbrev pub place : Bool → ℕ → ℕ → ℕ
 place b at size = if b then at else at + size
 
+-- where the record begins
+pub record_place : (at top size : ℕ) → at ≡ (if nat_lt size 32 then top else top + size) → size % 16 ≡ 0 → 16 ≤ size → ((size == 16) ≡ (at == top)) × (at ≡ place (at == top) top size)
+record_place at top size is units long = go (nat_lt size 32) refl is
+  where
+    go : (b : Bool) → nat_lt size 32 ≡ b → at ≡ (if b then top else top + size) → ((size == 16) ≡ (at == top)) × (at ≡ place (at == top) top size)
+    go true test is =
+        let small : size < 32 = grind (arith, nat_tests) in
+        let bytes : size ≡ 16 = omega arith in
+        let sixteen : (size == 16) ≡ true = grind (arith, nat_tests) in
+        let here : (at == top) ≡ true = grind (arith, nat_tests) in
+        (sixteen ∙ sym here, is ∙ ap (λ b. place b top size) (sym here))
+    go false test is =
+        let large : 32 ≤ size = grind (arith, nat_tests) in
+        let other : (size == 16) ≡ false = nat_isnt (inr (omega arith)) in
+        let beyond : (at == top) ≡ false = nat_isnt (inr (omega arith)) in
+        (other ∙ sym beyond, is ∙ ap (λ b. place b top size) (sym beyond))
+
+-- it is in the segment
+pub record_bounds : (at top size : ℕ) {end : ℕ} → at ≡ (if nat_lt size 32 then top else top + size) → top % 16 ≡ 0 → size % 16 ≡ 0 →
+    16 ≤ size → top + size + 80 ≡ end → (top ≤ at) × (at + 80 ≤ end) × (at % 16 ≡ 0)
+record_bounds at top size {end} is whole units long ends = go (nat_lt size 32) is
+  where
+    go : (b : Bool) → at ≡ (if b then top else top + size) → (top ≤ at) × (at + 80 ≤ end) × (at % 16 ≡ 0)
+    go true is = (omega arith, omega arith, omega arith)
+    go false is = (omega arith, omega arith, omega arith)
+
+-- beyond a top that is left as a free chunk
+pub large_at : {at : ℕ} (top size : ℕ) → at ≡ (if nat_lt size 32 then top else top + size) → 32 ≤ size → top + size ≤ at
+large_at top size is large = (let test : nat_lt size 32 ≡ false = grind (arith, nat_tests) in omega (arith, is ∙ ap (λ b. if b then top else top + size) test))
+
 -- it stands up to the segment's end
-module _ (words : ℕ → ℕ) {before : Kind} (at size : ℕ) {end : ℕ} (told : SegmentRecord) (used : before ≡ Used) (whole : at % 16 ≡ 0)
+module _ (words : ℕ → ℕ) {before : Kind} (at size : ℕ) {end : ℕ} {told : SegmentRecord} (used : before ≡ Used) (whole : at % 16 ≡ 0)
     (units : size % 16 ≡ 0) (long : 16 ≤ size) (ends_at : at + size + 80 ≡ end) where
   pub left_stands : (b : Bool) → (size == 16) ≡ b → IsRecordAt words (place b at size) told end b → (b ≡ false → words (at + 8) ≡ size + 1) →
       (b ≡ false → words (at + size) ≡ size) → Tiles words before at (left b at size) end
@@ -88,21 +109,20 @@ module _ (words : ℕ → ℕ) {before : Kind} (at size : ℕ) {end : ℕ} (told
         | no more ↦ omega arith
       ]
 
-  pub left_tail : (b : Bool) → ends_segment (last_kind before (left b at size)) ≡ true
-  left_tail true = refl
-  left_tail false = refl
+pub left_tail : (before : Kind) (at size : ℕ) (b : Bool) → ends_segment (last_kind before (left b at size)) ≡ true
+left_tail before at size true = refl
+left_tail before at size false = refl
 
-  -- the record is found in it
-  pub left_record : (b : Bool) → (size == 16) ≡ b → extent_at (place b at size) (left b at size) ≡ Some (record_of (place b at size) end)
-  left_record true is =
-      let s : size ≡ 16 = grind (arith, nat_tests) in
-      let here = nat_same at in
-      rw here (λ i. Some (extent at (bytes s i) Record))
-    where
-      bytes : size ≡ 16 → 96 ≡ end - at
-      bytes s = omega arith
-  left_record false isnt =
-      let first : (at == at + size) ≡ false = nat_isnt (inl (omega arith)) in
-      let second = nat_same (at + size) in
-      let bytes : 80 ≡ end - (at + size) = omega arith in
-      rw (first, second) (λ i. Some (extent (at + size) (bytes i) Record))
+-- the record is found in it
+pub left_record : (at size : ℕ) {end : ℕ} → 16 ≤ size → at + size + 80 ≡ end → (b : Bool) → (size == 16) ≡ b →
+    extent_at (place b at size) (left b at size) ≡ Some (record_of (place b at size) end)
+left_record at size {end} long ends_at true is =
+    let s : size ≡ 16 = grind (arith, nat_tests) in
+    let bytes : 96 ≡ end - at = omega arith in
+    let here = nat_same at in
+    rw here (λ i. Some (extent at (bytes i) Record))
+left_record at size {end} long ends_at false isnt =
+    let first : (at == at + size) ≡ false = nat_isnt (inl (omega arith)) in
+    let second = nat_same (at + size) in
+    let bytes : 80 ≡ end - (at + size) = omega arith in
+    rw (first, second) (λ i. Some (extent (at + size) (bytes i) Record))

@@ -1,7 +1,8 @@
 use Rattle.dlmalloc.proofs.Names.{◌≡◌, ℕ, ◌+◌, ◌-◌, ◌%◌, ◌<◌, ◌≤◌, ◌∙◌, inl, inr, ◌==◌, nat_le, if◌then◌else◌, [], ◌∷◌, refl, sym, ap, subst, arith, IsWordOf, state_of, IsFreeAt, IsSameBins, FreeMoves, IsAdmitted, IsRecordAt}
 use Rattle.dlmalloc.proofs.Segments.HeadTop.{top_low, top_whole, top_sizes, ends, end_whole, head_low, head_small, head_word}
-use Rattle.dlmalloc.proofs.Grants.NewHead.{new_head, record_of_head}
-use Rattle.dlmalloc.proofs.Grants.NewHeadStored.{bounds_of, ends_same, told_same, beside_head, large_at, record_kept, new_added}
+use Rattle.dlmalloc.proofs.Grants.TopLeft.{large_at}
+use Rattle.dlmalloc.proofs.Grants.NewHead.{new_head, record_of_head, bounds_of, beside_head, IsNewHead}
+use Rattle.dlmalloc.proofs.Grants.NewHeadStored.{ends_same, told_same, record_kept, new_added}
 use Rattle.dlmalloc.proofs.heap.Dlmalloc.change_head.Goals as goal
 
 pub leave_top-record-requires : goal.leave_top-record-requires
@@ -75,14 +76,24 @@ returns g c =
     let of_head : (k : ℕ) → heap.base ≤ k → k < heap.base + heap.size → k % 8 ≡ 0 → word new.system k ≡ word system k = λ k from to m.
     made.elsewhere k (onto k (head_word c.requires.sound there k from to m)) (λ is. elim apart [ inl before ↦ omega arith | inr behind ↦ omega arith ])
     (λ is. elim apart [ inl before ↦ omega arith | inr behind ↦ omega arith ]) in
-    let added = new_added g.A.Links.follows c.requires.sound fresh there c.requires.beside c.requires.apart new.system (made.regions ∙ (put.regions
-    ∙ left.regions)) left.place made.head made.foot_head (record_kept (word new.system) (omega arith) b.1 (λ k from to m. of_head k (omega arith) to m) told)
-    (λ large. of_head (heap.top + heap.top_size) (omega arith) (omega arith) (omega (arith, top_whole c.requires.sound there))
-    ∙ (put.elsewhere (heap.top + heap.top_size) (into (heap.top + heap.top_size) (head_word c.requires.sound there (heap.top + heap.top_size) (omega arith)
-    (omega arith) (omega (arith, top_whole c.requires.sound there)))) (inl (large_at heap.top heap.top_size left.place large)) ∙ left.foot large))
-    (λ k inside out free not_top not_foot. made.elsewhere k (onto k inside) not_top not_foot ∙ (put.elsewhere k (into k inside)
-    (elim out [ inl before ↦ inl before | inr behind ↦ inr (omega arith) ]) ∙ left.elsewhere k inside free)) (g.A.Links.follows_on heap.system system
-    new.system [] [] [] (g.A.Links.follows_on heap.system middle.system system [] [] [] left.follows put.follows refl) made.follows refl) in
+    let stored : IsNewHead regions word heap grant new.system at = record {
+      fresh = fresh;
+      some = there;
+      beside = c.requires.beside;
+      no_join = c.requires.apart;
+      same = made.regions ∙ (put.regions ∙ left.regions);
+      at_is = left.place;
+      head = made.head;
+      foot = made.foot_head;
+      recorded = record_kept (word new.system) (omega arith) b.1 (λ k from to m. of_head k (omega arith) to m) told;
+      left_foot = λ large. of_head (heap.top + heap.top_size) (omega arith) (omega arith) (omega (arith, top_whole c.requires.sound there))
+          ∙ (put.elsewhere (heap.top + heap.top_size) (into (heap.top + heap.top_size) (head_word c.requires.sound there (heap.top + heap.top_size) (omega arith)
+          (omega arith) (omega (arith, top_whole c.requires.sound there)))) (inl (large_at heap.top heap.top_size left.place large)) ∙ left.foot large);
+      kept = λ k inside out free not_top not_foot. made.elsewhere k (onto k inside) not_top not_foot ∙ (put.elsewhere k (into k inside)
+          (elim out [ inl before ↦ inl before | inr behind ↦ inr (omega arith) ]) ∙ left.elsewhere k inside free);
+    } in
+    let added = new_added g.A.Links.follows c.requires.sound stored (g.A.Links.follows_on heap.system system new.system [] [] []
+    (g.A.Links.follows_on heap.system middle.system system [] [] [] left.follows put.follows refl) made.follows refl) in
     let is = made.fields ∙ ap (λ h. new_head h grant new.system at) left.fields in
     record {
       joined = subst (λ h. IsAdmitted regions word g.A.Links.follows heap grant h) (sym is) added.0;

@@ -1,4 +1,5 @@
 use Rattle.dlmalloc.proofs.Names.{◌+◌, refl, arith, whole_each}
+use Rattle.dlmalloc.proofs.Grants.PutBefore.{IsInTwo}
 use Rattle.dlmalloc.proofs.Grants.BeforeWhich.{part_head, before_head, head_ends}
 use Rattle.dlmalloc.proofs.heap.Dlmalloc.prepend_head.Goals as goal
 
@@ -28,9 +29,15 @@ put_two-requires-clause-ends g c = let high = c.requires.fresh.high in let room 
 pub returns : goal.returns
 returns g c =
     let regions = g.A.Links.regions in let heap = c.args.self.now in let put = c.put_two.ensures in
-    record {
-      prepended = before_head g.A.Links.follows c.requires.sound c.requires.fresh c.args.n c.requires.whole c.requires.least c.requires.room
-          (whole_each (regions heap.system) (g.A.Links.whole heap.system)) c.put_two.new.memory put.regions put.first put.second put.follows c.requires.behind
-          put.elsewhere;
-      same = record { bins = refl; victim = refl };
-    }
+    let halves : IsInTwo regions g.A.Links.word g.A.Links.follows heap c.args.grant.now c.args.n c.put_two.new.memory = record {
+      fresh = c.requires.fresh;
+      multiple = c.requires.whole;
+      least = c.requires.least;
+      room = c.requires.room;
+      whole = whole_each (regions heap.system) (g.A.Links.whole heap.system);
+      same = put.regions;
+      first = put.first;
+      second = put.second;
+      followed = put.follows;
+    } in
+    record { prepended = before_head c.requires.sound halves c.requires.behind put.elsewhere; same = record { bins = refl; victim = refl } }

@@ -1,4 +1,5 @@
 use Rattle.dlmalloc.proofs.Names.{◌≡◌, ℕ, ◌+◌, ◌∙◌, [], refl, sym, subst, arith, IsWordOf, whole_each, HasHead}
+use Rattle.dlmalloc.proofs.Grants.PutBefore.{IsInTwo}
 use Rattle.dlmalloc.proofs.Grants.BeforeWhich.{part_head, before_told, told_place}
 use Rattle.dlmalloc.proofs.heap.Dlmalloc.prepend_told.Goals as goal
 
@@ -62,11 +63,21 @@ returns g c =
     put.elsewhere (payload + 8) (into (payload + 8) p.size_word) (λ is. p.apart (payload + 8) (omega arith) (omega arith) (omega arith) (omega arith))
     (λ is. p.apart (payload + 8) (omega arith) (omega arith) (omega arith) (omega arith))
     ∙ (two.stored.here ∙ (λ i. grant.size + c.load_counted-size.ensures.value i)) in
+    let halves : IsInTwo regions word g.A.Links.follows heap grant c.args.n system = record {
+      fresh = c.requires.fresh;
+      multiple = c.requires.whole;
+      least = c.requires.least;
+      room = c.requires.room;
+      whole = whole_each (regions heap.system) (g.A.Links.whole heap.system);
+      same = put.regions ∙ same;
+      first = put.first;
+      second = put.second;
+      followed = g.A.Links.follows_on heap.system at_second system [] [] []
+          (g.A.Links.follows_on heap.system at_first at_second [] [] [] one.follows two.follows refl) put.follows refl;
+    } in
     record {
-      prepended = before_told g.A.Links.follows c.requires.sound c.requires.fresh c.args.n c.requires.whole c.requires.least c.requires.room
-          (whole_each (regions heap.system) (g.A.Links.whole heap.system)) system (put.regions ∙ same) put.first put.second (g.A.Links.follows_on heap.system
-          at_second system [] [] [] (g.A.Links.follows_on heap.system at_first at_second [] [] [] one.follows two.follows refl) put.follows refl)
-          c.requires.behind base size (λ k inside not_first not_second not_base not_size. put.elsewhere k (into k inside) not_first not_second
+      prepended = before_told c.requires.sound halves c.requires.behind base size
+          (λ k inside not_first not_second not_base not_size. put.elsewhere k (into k inside) not_first not_second
           ∙ (two.stored.elsewhere k (onto k inside) not_size ∙ one.stored.elsewhere k inside not_base));
       same = record { bins = refl; victim = refl };
     }
