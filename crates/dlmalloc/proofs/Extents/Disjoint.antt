@@ -1,5 +1,5 @@
 -- Two extents of a heap have no byte in common.
-use Rattle.dlmalloc.proofs.Names.{◌≡◌, ◌≢◌, ℕ, ◌+◌, ◌≤◌, ◌⊎◌, inl, inr, Bool, true, false, ◌==◌, if◌then◌else◌, List, [], ◌∷◌, Some, None, refl, sym, ◌∙◌, ap, subst, arith, AllByRecursion, Grant, Extent, Kind, Used, ends_segment, extent_at, HasChunk, Tiles, last_kind, Segment, IsSegment, AreSegments, IsApartFrom, AreApart}
+use Rattle.dlmalloc.proofs.Names.{◌≡◌, ◌≢◌, ℕ, ◌+◌, ◌≤◌, ◌⊎◌, inl, inr, true, false, List, [], ◌∷◌, Some, None, sym, ◌∙◌, ap, subst, arith, AllByRecursion, Grant, Extent, Kind, Used, ends_segment, extent_at, HasChunk, Tiles, last_kind, Segment, IsSegment, AreSegments, IsApartFrom, AreApart}
 use Rattle.dlmalloc.proofs.Extents.Lookup.{at_one, found, found_either}
 use Rattle.dlmalloc.proofs.Extents.Tiling.{sized, tiles_le, tiles_split}
 use Rattle.dlmalloc.proofs.Moves.OfLists.{last_append}

@@ -1,5 +1,5 @@
 -- Free extents of a segment are parted by one in use, and where none is in use there is one of them.
-use Rattle.dlmalloc.proofs.Names.{◌≡◌, ◌≢◌, ℕ, ◌+◌, ◌-◌, ◌⊎◌, inl, inr, Bool, true, false, ◌&&◌, ◌==◌, if◌then◌else◌, List, [], ◌∷◌, ◌++◌, filter, Some, None, refl, sym, ◌∙◌, ap, subst, arith, append_assoc, AllByRecursion, Grant, Extent, Kind, Used, Free, Victim, Top, Record, Foot, ends_segment, IsSize, extent_at, MayStand, Tiles, last_kind, Segment, IsSegment, AreSegments, record_of, AreRecords, segments_of, state_of, AreTold, IsSound, Dlmalloc}
+use Rattle.dlmalloc.proofs.Names.{◌≡◌, ◌≢◌, ℕ, ◌+◌, ◌-◌, ◌⊎◌, inl, inr, true, false, ◌&&◌, List, [], ◌∷◌, ◌++◌, filter, Some, refl, sym, ◌∙◌, ap, subst, arith, append_assoc, AllByRecursion, Grant, Extent, Kind, Used, Free, Victim, Top, Record, Foot, ends_segment, IsSize, extent_at, MayStand, Tiles, last_kind, Segment, IsSegment, AreSegments, record_of, AreRecords, segments_of, state_of, AreTold, IsSound, Dlmalloc}
 use Rattle.dlmalloc.specs.Extents.{is_free}
 use Rattle.dlmalloc.specs.FreeExtents.{HasUsedBetween, AreParted, IsUnused, HasOneFree, EachHasOneFree}
 use Rattle.dlmalloc.proofs.Extents.Lookup.{extent, found, found_either, found_here, at_one, of_two}

@@ -1,6 +1,6 @@
 -- A grant is put before the head segment, or before one that a record tells.
-use Rattle.dlmalloc.proofs.Names.{◌≡◌, ◌≢◌, ℕ, ◌+◌, ◌-◌, ◌%◌, ◌^◌, ◌<◌, ◌≤◌, inl, inr, true, false, ◌==◌, List, [], ◌∷◌, ◌++◌, Some, refl, sym, ◌∙◌, ap, subst, arith, ⊤, AllByRecursion, Grant, Event, IsWordOf, IsWhole, Extent, Used, Top, HasHead, head_of, extent_at, Tiles, Segment, extents_in, put_before, IsFresh, IsPrepended, IsInRecord, IsHeadBehind, IsToldBehind, IsSegment, AreSegments, record_of, AreRecords, segments_of, state_of, AreTold, IsSound, Dlmalloc}
-use Rattle.dlmalloc.proofs.Extents.Lookup.{extent, nat_isnt}
+use Rattle.dlmalloc.proofs.Names.{◌≡◌, ◌≢◌, ℕ, ◌+◌, ◌-◌, ◌%◌, ◌^◌, ◌<◌, ◌≤◌, inl, inr, false, ◌==◌, List, [], ◌∷◌, ◌++◌, Some, refl, sym, ◌∙◌, ap, subst, arith, ⊤, Grant, Event, IsWordOf, Extent, HasHead, extent_at, Segment, put_before, IsFresh, IsPrepended, IsInRecord, IsHeadBehind, IsToldBehind, IsSegment, AreSegments, record_of, AreRecords, state_of, AreTold, IsSound, Dlmalloc}
+use Rattle.dlmalloc.proofs.Extents.Lookup.{nat_isnt}
 use Rattle.dlmalloc.proofs.Segments.Among.{all_at}
 use Rattle.dlmalloc.proofs.Segments.HeadTop.{top_low}
 use Rattle.dlmalloc.proofs.Words.OfRecords.{IsPayloadIn, payload_in, recorded_tiles}

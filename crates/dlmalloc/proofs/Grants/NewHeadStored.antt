@@ -1,5 +1,5 @@
 -- The stores that make a grant the head segment leave the heap so.
-use Rattle.dlmalloc.proofs.Names.{◌≡◌, ◌≢◌, ℕ, ◌+◌, ◌-◌, ◌%◌, ◌<◌, ◌≤◌, ◌⊎◌, inl, inr, Bool, true, false, ◌==◌, nat_le, if◌then◌else◌, List, [], ◌∷◌, ◌++◌, refl, sym, ◌∙◌, ap, subst, arith, nat_lt, AllByRecursion, nat_tests, Grant, IsWordOf, Event, IsAdmitted, IsRecordAt, IsFreeAt, FreeMoves, state_of, IsSound, Dlmalloc, SegmentRecord}
+use Rattle.dlmalloc.proofs.Names.{◌≡◌, ℕ, ◌+◌, ◌%◌, ◌<◌, ◌≤◌, inl, inr, Bool, true, false, ◌==◌, nat_le, if◌then◌else◌, List, [], ◌∷◌, refl, sym, ◌∙◌, ap, subst, arith, nat_tests, Grant, Event, IsAdmitted, IsRecordAt, IsFreeAt, FreeMoves, state_of, IsSound, Dlmalloc, SegmentRecord}
 use Rattle.dlmalloc.proofs.Extents.Lookup.{nat_isnt}
 use Rattle.dlmalloc.proofs.Segments.HeadTop.{top_sizes}
 use Rattle.dlmalloc.proofs.Grants.TopLeft.{left_free}

@@ -1,5 +1,5 @@
 -- A grant as a segment of its own, and the segments that were there before it.
-use Rattle.dlmalloc.proofs.Names.{◌≡◌, ℕ, ◌+◌, ◌-◌, ◌<◌, Bool, true, false, ◌==◌, if◌then◌else◌, List, [], ◌∷◌, ◌++◌, Some, None, refl, sym, ◌∙◌, ap, subst, arith, unwrap_or, AllByRecursion, flat_map, nat_tests, Grant, IsWordOf, Extent, Used, Free, Top, Foot, extent_at, Tiles, Segment, countdown_from, trim_threshold, opened, granted, IsFresh, HasSameUsed, IsRun, IsSegment, AreSegments, IsApartFrom, AreApart, AreRecords, FreeMoves, segments_of, state_of, AreTold, IsSound, Dlmalloc, IsRunOf}
+use Rattle.dlmalloc.proofs.Names.{◌≡◌, ℕ, ◌+◌, ◌-◌, ◌<◌, List, [], ◌∷◌, refl, sym, ◌∙◌, ap, subst, arith, AllByRecursion, Grant, IsWordOf, Used, Top, Foot, Tiles, countdown_from, trim_threshold, opened, granted, IsFresh, HasSameUsed, IsRun, IsSegment, AreSegments, IsApartFrom, AreRecords, FreeMoves, segments_of, state_of, IsSound, Dlmalloc, IsRunOf}
 use Rattle.dlmalloc.proofs.Extents.Lookup.{extent, nat_same}
 use Rattle.dlmalloc.proofs.Segments.Among.{extents_all, flip}
 use Rattle.dlmalloc.proofs.Segments.WordsKept.{KeepsIts, IsOutside, parts_stay, records_stay, apart_stay}

@@ -1,5 +1,5 @@
 -- A grant is put before a segment, in two parts that are in use.
-use Rattle.dlmalloc.proofs.Names.{◌≡◌, ◌≢◌, ℕ, ◌+◌, ◌-◌, ◌%◌, ◌<◌, ◌≤◌, inl, inr, Bool, true, false, ◌==◌, if◌then◌else◌, List, [], ◌∷◌, ◌++◌, map, Some, None, refl, sym, ◌∙◌, ap, subst, arith, AllByRecursion, nat_tests, map-append, Grant, IsWordOf, IsWhole, Event, Extent, Used, Free, head_of, extent_at, Tiles, Segment, extents_in, opened, is_before, put_before, IsFresh, IsPrepended, IsInRecord, IsRun, IsSegment, AreSegments, IsApartFrom, AreApart, segments_of, state_of, IsGranularity, AreTold, IsSound, Dlmalloc}
+use Rattle.dlmalloc.proofs.Names.{◌≡◌, ◌≢◌, ℕ, ◌+◌, ◌-◌, ◌%◌, ◌<◌, ◌≤◌, inl, inr, true, false, ◌==◌, List, [], ◌∷◌, ◌++◌, map, Some, refl, sym, ◌∙◌, ap, subst, arith, AllByRecursion, nat_tests, map-append, Grant, IsWordOf, IsWhole, Event, Extent, Used, head_of, extent_at, Tiles, Segment, extents_in, opened, is_before, put_before, IsFresh, IsPrepended, IsInRecord, IsRun, IsSegment, AreSegments, IsApartFrom, AreApart, segments_of, state_of, AreTold, IsSound, Dlmalloc}
 use Rattle.dlmalloc.proofs.Extents.Tiling.{plain_chunk}
 use Rattle.dlmalloc.specs.Granted.{joined}
 use Rattle.dlmalloc.proofs.Extents.Lookup.{extent, nat_same, nat_isnt, found_here, of_two}

@@ -1,5 +1,5 @@
 -- The segment that a grant is put before is found, and the two ways in which it is told.
-use Rattle.dlmalloc.proofs.Names.{◌≡◌, ◌≢◌, ℕ, ◌+◌, ◌-◌, ◌%◌, ◌^◌, ◌<◌, ◌≤◌, inl, inr, Bool, true, false, ◌&&◌, ◌==◌, List, [], ◌∷◌, ◌++◌, refl, sym, ◌∙◌, ap, subst, arith, append_assoc, ⊤, AllByRecursion, list_any, list_any-append, Grant, IsWordOf, Used, Segment, is_behind, is_before, is_put_before, AreSegments, record_of, AreRecords, payload_behind, IsToldBehind, segments_of, AreTold, IsSound, Dlmalloc}
+use Rattle.dlmalloc.proofs.Names.{◌≡◌, ◌≢◌, ℕ, ◌+◌, ◌%◌, ◌^◌, ◌<◌, ◌≤◌, Bool, true, false, ◌&&◌, ◌==◌, List, [], ◌∷◌, ◌++◌, refl, sym, ◌∙◌, ap, subst, arith, append_assoc, ⊤, AllByRecursion, list_any, list_any-append, Grant, IsWordOf, Segment, is_behind, is_before, is_put_before, AreSegments, AreRecords, payload_behind, IsToldBehind, segments_of, AreTold, IsSound, Dlmalloc}
 use Rattle.dlmalloc.proofs.Segments.HeadTold.{bare_head}
 use Rattle.dlmalloc.proofs.Segments.WordsKept.{KeepsIts}
 use Rattle.dlmalloc.proofs.Words.OfRecords.{IsPayloadIn, payload_in, record_stays}

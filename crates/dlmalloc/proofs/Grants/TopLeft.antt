@@ -1,5 +1,5 @@
 -- What a top leaves behind where another head segment comes: a record, and a free chunk if it has more than 16 bytes.
-use Rattle.dlmalloc.proofs.Names.{◌≡◌, ℕ, ◌+◌, ◌-◌, ◌%◌, ◌<◌, ◌≤◌, ◌⊎◌, inl, inr, Bool, true, false, ◌==◌, nat_lt, if◌then◌else◌, List, [], ◌∷◌, ◌++◌, Some, None, refl, sym, ◌∙◌, ap, subst, arith, dec_lt, unwrap_or, flat_map, nat_tests, Extent, Kind, Used, Free, Record, head_of, ends_segment, extent_at, is_used, Tiles, last_kind, IsRecordAt, record_of, IsIn, AreChunks, SegmentRecord}
+use Rattle.dlmalloc.proofs.Names.{◌≡◌, ℕ, ◌+◌, ◌-◌, ◌%◌, ◌<◌, ◌≤◌, ◌⊎◌, inl, inr, Bool, true, false, ◌==◌, nat_lt, if◌then◌else◌, List, [], ◌∷◌, ◌++◌, Some, refl, sym, ◌∙◌, ap, subst, arith, dec_lt, flat_map, nat_tests, Extent, Kind, Used, Free, Record, head_of, ends_segment, extent_at, is_used, Tiles, last_kind, IsRecordAt, record_of, IsIn, AreChunks, SegmentRecord}
 use Rattle.dlmalloc.proofs.Extents.Tiling.{free_chunk}
 use Rattle.dlmalloc.specs.Granted.{closed}
 use Rattle.dlmalloc.proofs.Moves.OfFreeExtents.{IsThere}
