@@ -6,6 +6,7 @@ use Rattle.dlmalloc.proofs.Extents.Lookup.{extent, found, found_either, found_he
 use Rattle.dlmalloc.proofs.Extents.Tiling.{tiles_le, tiles_split}
 use Rattle.dlmalloc.proofs.Extents.OneMoreUsed.{AreDistinct, tiles_distinct}
 use Rattle.dlmalloc.proofs.Segments.Among.{in_part, distinct_later, among_all}
+use Rattle.dlmalloc.proofs.Extents.FromWords.{nothing}
 use Rattle.dlmalloc.proofs.Extents.Shown.{pair}
 use Rattle.dlmalloc.proofs.Extents.Top.{no_record}
 
@@ -21,11 +22,6 @@ not_free Foot h = inr refl
 -- so is what stands behind a free extent
 behind_free : (first next : Kind) → is_free first ≡ true → MayStand first next → (next ≡ Used) ⊎ (ends_segment next ≡ true)
 behind_free first next free may = not_free next (ap (λ b. b && is_free next) (sym free) ∙ (pair first next may).apart)
-
--- behind what ends a segment stands nothing
-none_behind : (words : ℕ → ℕ) (before : Kind) (from : ℕ) (back : List Extent) (to : ℕ) → ends_segment before ≡ true → Tiles words before from back to → back ≡ []
-none_behind words before from [] to ends h = refl
-none_behind words before from (next ∷ back) to ends h = absurd (let inner = (pair before next.kind h.1.kind).inner in cc)
 
 pub parted : (words : ℕ → ℕ) (before : Kind) (from : ℕ) (extents : List Extent) (to : ℕ) → Tiles words before from extents to → AreParted extents
 parted words before from extents to h first second there there' free free' less =
@@ -63,7 +59,7 @@ parted words before from extents to h first second there there' free free' less 
             })
       ]
       | inr ends ↦ absurd (
-          let none = none_behind words next.kind (s.middle + first.size + next.size) back to ends tiles.2 in
+          let none = (nothing words next.kind (s.middle + first.size + next.size) back to ends tiles.2).0 in
           let same = ap (λ e. is_free e.kind) (at_one second.at next (ap (λ es. extent_at second.at (next ∷ es)) (sym none) ∙ there)).0 in
           let not = (pair first.kind next.kind tiles.1.kind).apart in
           let no : is_free next.kind ≡ false = ap (λ b. b && is_free next.kind) (sym free) ∙ not in cc)
@@ -106,7 +102,7 @@ module _ {regions : List Grant} {words : ℕ → ℕ} {segment : Segment} (part 
                 | inr ends ↦ record {
                   one = one;
                   last = last;
-                  is = is ∙ ap (λ es. one ∷ last ∷ es) (none_behind words last.kind (segment.base + one.size + last.size) rest (segment.base + segment.size) ends h.2);
+                  is = is ∙ ap (λ es. one ∷ last ∷ es) (nothing words last.kind (segment.base + one.size + last.size) rest (segment.base + segment.size) ends h.2).0;
                   free = kind;
                   ends = ends;
                 }
@@ -118,7 +114,7 @@ module _ {regions : List Grant} {words : ℕ → ℕ} {segment : Segment} (part 
           by_kind Victim same may size = absurd (subst (MayStand Used) same may)
           by_kind Top same may size = free (ap is_free same) (inr same)
           by_kind Record same may size = absurd (
-              let none = none_behind words one.kind (segment.base + one.size) back (segment.base + segment.size) (ap ends_segment same) h.2 in
+              let none = (nothing words one.kind (segment.base + one.size) back (segment.base + segment.size) (ap ends_segment same) h.2).0 in
               let end = subst (λ es. Tiles words one.kind (segment.base + one.size) es (segment.base + segment.size)) none h.2 in
               let long = part.long in
               elim (subst (λ kind. IsSize kind one.size) same size) [ inl short ↦ omega arith | inr longer ↦ omega arith ])

@@ -2,8 +2,8 @@
 use Rattle.dlmalloc.proofs.Names.{◌≡◌, ◌≢◌, ℕ, zero, suc, ◌+◌, ◌-◌, ◌*◌, ◌/◌, ◌%◌, ◌≤◌, inl, inr, Bool, true, false, ◌==◌, if◌then◌else◌, List, [], ◌∷◌, ◌++◌, Some, refl, sym, ◌∙◌, ap, subst, arith, length, nat_tests, Grant, Extent, Kind, Used, Free, Victim, Top, Record, Foot, size_of, head_of, size_of-head_of, pinuse_of-head_of, cinuse_of-head_of, ends_segment, IsSize, kind_of, chunks_from, is_used, Segment, top_and_foot, IsChunkKind, AreChunks, MayStand, told_size, HasChunk, Tiles, last_kind, IsSegment, AreSegments, record_of, records_from, AreRecords}
 use Rattle.std.proofs.lemmas.Bool.{le-ltb, lt-ltb}
 use Rattle.dlmalloc_chunks.specs.Tiling.{extent_at}
-use Rattle.dlmalloc.proofs.Extents.Lookup.{found, nat_isnt}
-use Rattle.dlmalloc.proofs.Extents.Lookup.{extent, same_extent}
+use Rattle.dlmalloc.proofs.Extents.Lookup.{extent, same_extent, found, nat_isnt}
+use Rattle.dlmalloc.proofs.Extents.Shown.{pair}
 use Rattle.dlmalloc.proofs.Extents.Tiling.{sized, tiles_le, tiles_split}
 use Rattle.dlmalloc.proofs.Moves.OfLists.{last_append}
 
@@ -71,27 +71,11 @@ chunks_read words before (suc most) at (chunk ∷ chunks) end few h are =
     ap (λ e. chunks_from words most (at + e.size) end) one ∙ chunks_read words chunk.kind most (at + chunk.size) chunks end (omega arith) h.2 are.1 in
     rw (lt-ltb at end (omega arith)) (λ i. one i ∷ rest i)
 
--- what stands behind a top is its foot, and behind a record nothing
-pub nothing : (words : ℕ → ℕ) (before : Kind) (from : ℕ) (back : List Extent) (end : ℕ) →
-    ((kind : Kind) → MayStand before kind → ⊥) → Tiles words before from back end → (back ≡ []) × (from ≡ end)
-nothing words before from [] end none h = (refl, h)
-nothing words before from (extent ∷ back) end none h = absurd (none extent.kind h.1.kind)
-
-pub none_behind_record : (kind : Kind) → MayStand Record kind → ⊥
-none_behind_record Used h = elim h [ inl a ↦ cc | inr a ↦ cc ]
-none_behind_record Free h = cc
-none_behind_record Victim h = h
-none_behind_record Top h = cc
-none_behind_record Record h = elim h [ inl a ↦ cc | inr a ↦ cc ]
-none_behind_record Foot h = cc
-
-none_behind_foot : (kind : Kind) → MayStand Foot kind → ⊥
-none_behind_foot Used h = elim h [ inl a ↦ cc | inr a ↦ cc ]
-none_behind_foot Free h = cc
-none_behind_foot Victim h = h
-none_behind_foot Top h = cc
-none_behind_foot Record h = elim h [ inl a ↦ cc | inr a ↦ cc ]
-none_behind_foot Foot h = cc
+-- what stands behind a top is its foot, and behind a record or a foot nothing
+pub nothing : (words : ℕ → ℕ) (before : Kind) (from : ℕ) (back : List Extent) (end : ℕ) → ends_segment before ≡ true →
+    Tiles words before from back end → (back ≡ []) × (from ≡ end)
+nothing words before from [] end ends h = (refl, h)
+nothing words before from (extent ∷ back) end ends h = absurd (let inner = (pair before extent.kind h.1.kind).inner in cc)
 
 pub only_foot : (kind : Kind) → MayStand Top kind → kind ≡ Foot
 only_foot Used h = elim h [ inl a ↦ absurd (cc) | inr a ↦ absurd (cc) ]
@@ -107,7 +91,7 @@ behind_top words from [] end h tail = absurd (cc)
 behind_top words from (foot ∷ back) end h tail =
     let kind = only_foot foot.kind h.1.kind in
     let size : foot.size ≡ 80 = subst (λ k. IsSize k foot.size) kind h.1.size in
-    let rest = nothing words foot.kind (from + foot.size) back end (subst (λ k. (kind : Kind) → MayStand k kind → ⊥) (sym kind) none_behind_foot) h.2 in
+    let rest = nothing words foot.kind (from + foot.size) back end (ap ends_segment kind) h.2 in
     let place = h.0 in let ends = rest.1 in
     (λ i. same_extent {at = foot.at} {at' = end - 80} {size = foot.size} {size' = 80} {kind = foot.kind} {kind' = Foot} (omega arith) size kind i ∷ rest.0 i, omega arith)
 
@@ -140,7 +124,7 @@ module _ {regions : List Grant} {words : ℕ → ℕ} {segment : Segment} (h : I
 
   pub read_record : (at : ℕ) → extent_at at segment.extents ≡ Some (record_of at end) → chunks_from words (segment.size / 16) segment.base at ++ record_of at end ∷ [] ≡ segment.extents
   read_record at there = read (λ is. cc) there (record_of at end ∷ [])
-      (λ back tiles tail. ap (λ b. record_of at end ∷ b) (nothing words Record (at + (end - at)) back end none_behind_record tiles).0)
+      (λ back tiles tail. ap (λ b. record_of at end ∷ b) (nothing words Record (at + (end - at)) back end refl tiles).0)
 
 pub records_read : (regions : List Grant) (words : ℕ → ℕ) (most payload : ℕ) (segments : List Segment) → length segments ≤ most →
     AreSegments regions words segments → AreRecords words payload segments → records_from words most payload ≡ segments

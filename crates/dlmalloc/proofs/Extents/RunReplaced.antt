@@ -104,7 +104,7 @@ module _ {A : Type 0} {regions : A → List Grant} {word : A → ℕ → ℕ} {h
   abbrev pub step_beside : new.next ≡ heap.next → HasSameHead heap new → ((k : ℕ) (tail : Extent) → extent_at k less ≡ Some tail →
       tail.kind ≡ Top → extent_at k more ≡ Some tail) → IsStep regions word heap new less more
   step_beside next head top = step (told_same heap new changed next run.front run.back apart parts (subst (AreTold (word heap.system) heap) run.is sound.told)
-      head refl refl refl (λ there. stays heap.top (λ here. top heap.top (extent heap.top heap.top_size Top) here refl) there))
+      head (λ there. stays heap.top (λ here. top heap.top (extent heap.top heap.top_size Top) here refl) there))
 
   -- the head segment has another top
   abbrev pub step_top : new.next ≡ heap.next → run.front ≡ [] → IsHead new run_now → IsStep regions word heap new less more

@@ -65,18 +65,4 @@ pair first Foot is = subst (λ k. IsPair k Foot) (sym is) (record { inner = refl
 
 -- heads do not tell the victim
 pub no_victim_kind : (before kind : Kind) → MayStand before kind → kind ≢ Victim
-no_victim_kind before Used h = λ is. cc
-no_victim_kind before Free h = λ is. cc
-no_victim_kind before Victim h = λ is. h
-no_victim_kind before Top h = λ is. cc
-no_victim_kind before Record h = λ is. cc
-no_victim_kind before Foot h = λ is. cc
-
--- the first of a segment is no foot
-pub no_foot_first : (kind : Kind) → MayStand Used kind → is_foot kind ≡ false
-no_foot_first Used h = refl
-no_foot_first Free h = refl
-no_foot_first Victim h = refl
-no_foot_first Top h = refl
-no_foot_first Record h = refl
-no_foot_first Foot h = absurd (cc)
+no_victim_kind before kind h = λ is. subst (MayStand before) is h

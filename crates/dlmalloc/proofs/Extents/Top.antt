@@ -1,11 +1,10 @@
 -- The one top.
 use Rattle.dlmalloc.proofs.Names.{◌<◌, ◌≡◌, ℕ, ◌+◌, ◌-◌, inl, inr, Bool, true, false, ◌==◌, if◌then◌else◌, List, [], ◌∷◌, ◌++◌, Some, None, refl, sym, ◌∙◌, ap, subst, arith, append_assoc, unwrap_or, nat_tests, Grant, Extent, Used, Free, Top, Record, Foot, ends_segment, Segment, Tiles, last_kind, IsSegment, AreSegments, AreApart, record_of, AreRecords, segments_of, AreTold, IsSound, Dlmalloc, AreChunks}
 use Rattle.dlmalloc_chunks.specs.Tiling.{extent_at}
-use Rattle.dlmalloc.proofs.Extents.Lookup.{nat_is, found, found_either, found_more}
-use Rattle.dlmalloc.proofs.Extents.Lookup.{extent, same_extent}
+use Rattle.dlmalloc.proofs.Extents.Lookup.{extent, same_extent, nat_is, found, found_either, found_more}
 use Rattle.dlmalloc.proofs.Extents.Tiling.{tiles_split}
 use Rattle.dlmalloc.proofs.Moves.OfLists.{last_append}
-use Rattle.dlmalloc.proofs.Extents.FromWords.{are_chunks, nothing, none_behind_record, behind_top}
+use Rattle.dlmalloc.proofs.Extents.FromWords.{are_chunks, nothing, behind_top}
 use Rattle.dlmalloc.proofs.Segments.Among.{extents_all, all_among, all_at, all_distinct, distinct_later}
 use Rattle.dlmalloc.proofs.Extents.OneMoreUsed.{AreDistinct, tiles_distinct}
 
@@ -65,7 +64,7 @@ module _ {regions : List Grant} {words : ℕ → ℕ} {segment : Segment} (part 
   no_record record_at there record_there =
       let f = found record_at (record_of record_at end) segment.extents record_there in
       let s = tiles_split words Used segment.base f.front (record_of record_at end ∷ f.back) end (subst (λ es. Tiles words Used segment.base es end) f.is part.extents) in
-      let none = (nothing words Record (s.middle + (end - record_at)) f.back end none_behind_record s.second.2).0 in
+      let none = (nothing words Record (s.middle + (end - record_at)) f.back end refl s.second.2).0 in
       let kind : last_kind Used segment.extents ≡ Record = ap (last_kind Used) (f.is ∙ ap (λ es. f.front ++ record_of record_at end ∷ es) none)
       ∙ last_append Used f.front (record_of record_at end ∷ []) in
       let no : Foot ≡ Record = sym (topped there).foot ∙ kind in

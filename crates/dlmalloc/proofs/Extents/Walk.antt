@@ -4,7 +4,7 @@ use Rattle.dlmalloc.specs.Walk.{chunk_told}
 use Rattle.dlmalloc.proofs.Extents.Lookup.{extent, same_extent, found}
 use Rattle.dlmalloc.proofs.Extents.Tiling.{sized, tiles_le, tiles_split, tiles_append}
 use Rattle.dlmalloc.proofs.Moves.OfLists.{last_append}
-use Rattle.dlmalloc.proofs.Extents.FromWords.{told, are_chunks, chunks_read, behind_top, nothing, none_behind_record}
+use Rattle.dlmalloc.proofs.Extents.FromWords.{told, are_chunks, chunks_read, behind_top, nothing}
 
 -- ---- the chunks of a range
 
@@ -159,7 +159,7 @@ pub record_tail : {regions : List Grant} {words : ℕ → ℕ} {segment : Segmen
     HasTail regions words segment at (record_of at (segment.base + segment.size) ∷ [])
 record_tail {words} {segment} part at there = has_tail part (λ is. cc) there (record_of at (segment.base + segment.size) ∷ [])
     (λ back tiles tail. ap (λ b. record_of at (segment.base + segment.size) ∷ b)
-    (nothing words Record (at + (segment.base + segment.size - at)) back (segment.base + segment.size) none_behind_record tiles).0)
+    (nothing words Record (at + (segment.base + segment.size - at)) back (segment.base + segment.size) refl tiles).0)
 
 -- ---- lists of what is passed
 

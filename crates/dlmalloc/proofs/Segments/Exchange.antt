@@ -1,10 +1,11 @@
 -- Some extents of a heap give way to others, as its segments become others that are told: what stays is found as before.
-use Rattle.dlmalloc.proofs.Names.{◌≡◌, ◌≢◌, ℕ, ◌<◌, ◌⊎◌, inl, inr, Bool, true, false, ◌==◌, if◌then◌else◌, List, [], ◌∷◌, ◌++◌, Some, sym, ◌∙◌, ap, subst, refl, unwrap_or, Grant, Extent, Kind, Used, Free, extent_at, Segment, extents_in, AreSegments, AreApart, IsIn, FreeMoves, HasSameUsed, segments_of, state_of, AreTold, IsSound, IsGranularity, Dlmalloc}
+use Rattle.dlmalloc.proofs.Names.{◌≡◌, ◌≢◌, ℕ, ◌<◌, ◌⊎◌, inl, inr, Bool, true, false, ◌==◌, if◌then◌else◌, List, [], ◌∷◌, ◌++◌, Some, sym, ◌∙◌, ap, subst, refl, arith, unwrap_or, Grant, Extent, Kind, Used, Free, extent_at, Segment, extents_in, AreSegments, AreApart, IsIn, FreeMoves, HasSameUsed, segments_of, state_of, AreTold, IsSound, IsGranularity, Dlmalloc}
 use Rattle.dlmalloc.proofs.Extents.Lookup.{extent, found_either, found_more}
 use Rattle.dlmalloc.proofs.Extents.OneMoreUsed.{AreDistinct, distinct_second}
 use Rattle.dlmalloc.proofs.Moves.OfFreeExtents.{IsThere, free_stays}
 use Rattle.dlmalloc.proofs.Segments.Among.{extents_all, all_distinct, distinct_later}
-use Rattle.dlmalloc.proofs.Segments.ToldAnew.{retold, distinct, retold_sound, replaced_found}
+use Rattle.dlmalloc.proofs.Moves.OfHeaps.{segments_read}
+use Rattle.dlmalloc.proofs.Segments.ToldAnew.{few}
 
 -- no extent of a list is of a kind
 abbrev pub HasNo : Kind → List Extent → Type 0
@@ -18,6 +19,17 @@ none_of kind (other ∷ extents) k {one} none is found = go (other.at == k) foun
     go : (b : Bool) → (if b then Some other else extent_at k extents) ≡ Some one → (extent_at k extents ≡ Some one → ⊥) → ⊥
     go true here rest = none.0 (ap (λ o. (unwrap_or o one).kind) here ∙ is)
     go false later rest = rest later
+
+-- what is found still is, where others stand in the place of some and it is not among these
+pub replaced_found : (k : ℕ) {one : Extent} (front less more back : List Extent) → AreDistinct (front ++ (more ++ back)) →
+    (extent_at k less ≡ Some one → ⊥) → extent_at k (front ++ (less ++ back)) ≡ Some one → extent_at k (front ++ (more ++ back)) ≡ Some one
+replaced_found k front less more back distinct out there = elim (found_either k front (less ++ back) there) [
+  | inl first ↦ found_more k front (more ++ back) first
+  | inr later ↦ distinct_later front (more ++ back) k distinct (elim (found_either k less back later.1) [
+    | inl here ↦ absurd (out here)
+    | inr last ↦ distinct_later more back k (distinct_second front (more ++ back) distinct) last.1
+  ])
+]
 
 -- The segments of a heap are told anew, with one order of the extents that stay: `less` give way to `more`, and `ahead` come before.
 pub record Exchange {A : Type 0} (regions : A → List Grant) (word : A → ℕ → ℕ) (heap new : Dlmalloc A) : Type 0 where
@@ -37,7 +49,8 @@ pub record Exchange {A : Type 0} (regions : A → List Grant) (word : A → ℕ 
 
 module _ {A : Type 0} {regions : A → List Grant} {word : A → ℕ → ℕ} {heap new : Dlmalloc A} (sound : IsSound regions word heap) (it : Exchange regions word heap new) where
   pub exchanged_read : segments_of word new ≡ it.now
-  exchanged_read = retold regions word new it.now it.parts it.apart it.told
+  exchanged_read = segments_read (regions new.system) word new it.now it.parts it.told
+      (let n = few (regions new.system) (word new.system) it.now it.parts it.apart in omega arith)
 
   extents_now : extents_in (state_of word new) ≡ it.ahead ++ (it.first ++ (it.more ++ it.last))
   extents_now = ap extents_all exchanged_read ∙ it.are
@@ -46,7 +59,7 @@ module _ {A : Type 0} {regions : A → List Grant} {word : A → ℕ → ℕ} {h
   distinct_old = subst AreDistinct it.were (all_distinct (regions heap.system) (word heap.system) (segments_of word heap) sound.segments sound.apart)
 
   distinct_all : AreDistinct (it.ahead ++ (it.first ++ (it.more ++ it.last)))
-  distinct_all = subst AreDistinct it.are (distinct regions word new it.now it.parts it.apart it.told)
+  distinct_all = subst AreDistinct it.are (all_distinct (regions new.system) (word new.system) it.now it.parts it.apart)
 
   distinct_rest : AreDistinct (it.first ++ (it.more ++ it.last))
   distinct_rest = distinct_second it.ahead (it.first ++ (it.more ++ it.last)) distinct_all
@@ -63,14 +76,14 @@ module _ {A : Type 0} {regions : A → List Grant} {word : A → ℕ → ℕ} {h
   pub exchanged_still : (k : ℕ) {one : Extent} → (extent_at k it.less ≡ Some one → ⊥) →
       extent_at k (extents_in (state_of word heap)) ≡ Some one → extent_at k (extents_in (state_of word new)) ≡ Some one
   exchanged_still k out there = exchanged_found k
-      (replaced_found k it.first it.less it.more it.last refl distinct_rest (λ found. absurd (out found)) (ap (extent_at k) (sym it.were) ∙ there))
+      (replaced_found k it.first it.less it.more it.last distinct_rest out (ap (extent_at k) (sym it.were) ∙ there))
 
   -- and was, but for what came
   pub exchanged_was : (k : ℕ) {one : Extent} → (extent_at k it.ahead ≡ Some one → ⊥) → (extent_at k it.more ≡ Some one → ⊥) →
       extent_at k (extents_in (state_of word new)) ≡ Some one → extent_at k (extents_in (state_of word heap)) ≡ Some one
   exchanged_was k none out there = elim (found_either k it.ahead (it.first ++ (it.more ++ it.last)) (ap (extent_at k) (sym extents_now) ∙ there)) [
     | inl here ↦ absurd (none here)
-    | inr later ↦ ap (extent_at k) it.were ∙ replaced_found k it.first it.more it.less it.last refl distinct_old (λ found. absurd (out found)) later.1
+    | inr later ↦ ap (extent_at k) it.were ∙ replaced_found k it.first it.more it.less it.last distinct_old out later.1
   ]
 
   -- so it is with the extents of a kind that none has which gave way or came
@@ -110,9 +123,15 @@ module _ {A : Type 0} {regions : A → List Grant} {word : A → ℕ → ℕ} {h
   -- the heap is sound, where its victim is a free extent
   pub sound_as : (new.victim_size ≡ 0 → new.victim ≡ 0) → (new.victim_size ≢ 0 →
       extent_at new.victim (extents_in (state_of word new)) ≡ Some (extent new.victim new.victim_size Free)) → IsSound regions word new
-  sound_as none there =
-      retold_sound regions word new it.now it.parts it.apart it.told (subst IsGranularity (sym it.granularity) sound.granularity) it.some none
-      (λ some. ap (extent_at new.victim) (sym (ap extents_all exchanged_read)) ∙ there some)
+  sound_as none there = record {
+    granularity = subst IsGranularity (sym it.granularity) sound.granularity;
+    segments = subst (AreSegments (regions new.system) (word new.system)) (sym exchanged_read) it.parts;
+    apart = subst AreApart (sym exchanged_read) it.apart;
+    told = subst (AreTold (word new.system) new) (sym exchanged_read) it.told;
+    none = λ gone. absurd (let some = it.some in omega arith);
+    no_victim = none;
+    victim = there;
+  }
 
   -- so it is, where no free extent gave way and the victim is the same
   pub exchanged_sound : HasNo Free it.less → new.victim ≡ heap.victim → new.victim_size ≡ heap.victim_size → IsSound regions word new

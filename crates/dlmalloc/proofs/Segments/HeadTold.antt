@@ -1,6 +1,7 @@
 -- The head segment is told by fields, after a move too.
-use Rattle.dlmalloc.proofs.Names.{◌≡◌, ℕ, ◌<◌, List, [], ◌∷◌, ◌++◌, Some, sym, ◌∙◌, ap, subst, Grant, Top, extent_at, Segment, AreSegments, AreApart, AreRecords, segments_of, AreTold, Dlmalloc}
+use Rattle.dlmalloc.proofs.Names.{◌≡◌, ℕ, ◌<◌, List, [], ◌∷◌, ◌++◌, Some, refl, sym, ◌∙◌, ap, subst, Grant, Extent, Top, extent_at, Segment, AreSegments, AreApart, AreRecords, segments_of, AreTold, Dlmalloc}
 use Rattle.dlmalloc.proofs.Extents.Lookup.{extent}
+use Rattle.dlmalloc.proofs.Segments.Among.{with_extents}
 use Rattle.dlmalloc.proofs.Segments.OneReplaced.{IsChanged, records_after, records_behind}
 
 -- the fields tell a segment
@@ -38,27 +39,27 @@ module _ {A : Type 0} {regions regions' : List Grant} {old words : ℕ → ℕ} 
   )
   told_head (first ∷ front) back none apart parts h head = absurd (cc)
 
-  -- what the fields tell stayed
-  pub told_same : (front back : List Segment) → AreApart (front ++ segment ∷ back) → AreSegments regions old (front ++ segment ∷ back) →
-      AreTold old heap (front ++ segment ∷ back) → HasSameHead heap new → segment'.base ≡ segment.base → segment'.size ≡ segment.size →
-      segment'.flags ≡ segment.flags → (extent_at heap.top segment.extents ≡ Some (extent heap.top heap.top_size Top) →
-      extent_at heap.top segment'.extents ≡ Some (extent heap.top heap.top_size Top)) → AreTold words new (front ++ segment' ∷ back)
-  told_same [] back apart parts h same base size flags top = (
-    subst (λ n. 0 < n) (sym same.size) h.0,
-    same.base ∙ (h.1 ∙ sym base),
-    same.size ∙ (h.2 ∙ sym size),
-    same.flags ∙ (h.3 ∙ sym flags),
-    ap (λ t. extent_at t segment'.extents) same.top ∙ (top h.4 ∙ (λ i. Some (extent ((sym same.top) i) ((sym same.top_size) i) Top))),
-    subst (λ p. AreRecords words p back) (sym next) (records_behind changed back apart.0 parts.1 heap.next h.5),
-  )
-  told_same (first ∷ front) back apart parts h same base size flags top = (
-    subst (λ n. 0 < n) (sym same.size) h.0,
-    same.base ∙ h.1,
-    same.size ∙ h.2,
-    same.flags ∙ h.3,
-    ap (λ t. extent_at t first.extents) same.top ∙ (h.4 ∙ (λ i. Some (extent ((sym same.top) i) ((sym same.top_size) i) Top))),
-    subst (λ p. AreRecords words p (front ++ segment' ∷ back)) (sym next) (records_after changed front back apart.1 parts.1 heap.next h.5),
-  )
+-- what the fields tell stayed, where the segment has other extents
+pub told_same : {A : Type 0} {regions regions' : List Grant} {old words : ℕ → ℕ} (heap new : Dlmalloc A) {segment : Segment} {extents : List Extent} →
+    IsChanged regions regions' old words segment (with_extents segment extents) → new.next ≡ heap.next → (front back : List Segment) →
+    AreApart (front ++ segment ∷ back) → AreSegments regions old (front ++ segment ∷ back) → AreTold old heap (front ++ segment ∷ back) →
+    HasSameHead heap new → (extent_at heap.top segment.extents ≡ Some (extent heap.top heap.top_size Top) →
+    extent_at heap.top extents ≡ Some (extent heap.top heap.top_size Top)) → AreTold words new (front ++ with_extents segment extents ∷ back)
+told_same heap new {extents} changed next [] back apart parts h same top = told_head heap new changed next [] back refl apart parts h (record {
+  some = subst (λ n. 0 < n) (sym same.size) h.0;
+  base = same.base ∙ h.1;
+  size = same.size ∙ h.2;
+  flags = same.flags ∙ h.3;
+  top = ap (λ t. extent_at t extents) same.top ∙ (top h.4 ∙ (λ i. Some (extent ((sym same.top) i) ((sym same.top_size) i) Top)));
+})
+told_same {words} heap new {segment} {extents} changed next (first ∷ front) back apart parts h same top = (
+  subst (λ n. 0 < n) (sym same.size) h.0,
+  same.base ∙ h.1,
+  same.size ∙ h.2,
+  same.flags ∙ h.3,
+  ap (λ t. extent_at t first.extents) same.top ∙ (h.4 ∙ (λ i. Some (extent ((sym same.top) i) ((sym same.top_size) i) Top))),
+  subst (λ p. AreRecords words p (front ++ with_extents segment extents ∷ back)) (sym next) (records_after changed front back apart.1 parts.1 heap.next h.5),
+)
 
 -- the first of the segments is told by the fields
 pub head_is : {A : Type 0} (word : A → ℕ → ℕ) (heap : Dlmalloc A) (front : List Segment) (segment : Segment) (back : List Segment) → front ≡ [] →

@@ -1,7 +1,7 @@
 -- One segment of a heap gives way to another, and the regions may grow.
 use Rattle.dlmalloc.proofs.Names.{◌≡◌, ℕ, ◌+◌, ◌-◌, ◌%◌, ◌<◌, inl, inr, List, [], ◌∷◌, ◌++◌, Some, refl, sym, ◌∙◌, ap, arith, AllByRecursion, Grant, IsWordOf, Extent, Kind, Used, Free, Victim, Top, Record, Foot, extent_at, HeapState, Segment, extents_in, is_free_below_top, IsBoundary, IsSpared, AllSpare, IsRun, IsSegment, AreSegments, IsApartFrom, AreApart, record_of, AreRecords}
 use Rattle.dlmalloc.proofs.Extents.Lookup.{found_here}
-use Rattle.dlmalloc.proofs.Words.Spared.{spared_before, spared_behind, inner_spared}
+use Rattle.dlmalloc.proofs.Words.Spared.{spared, spared_before, spared_behind, inner_spared}
 use Rattle.dlmalloc.proofs.Words.OfRecords.{payload_in, record_stays}
 use Rattle.dlmalloc.proofs.Extents.OneMoreUsed.{AreDistinct}
 use Rattle.dlmalloc.proofs.Segments.Among.{all_at, apart_back, distinct_later}
@@ -17,24 +17,13 @@ pub record IsChanged (regions regions' : List Grant) (old new : ℕ → ℕ) (se
       (segment'.base ≡ segment.base) × (segment'.size ≡ segment.size) × (segment'.flags ≡ segment.flags)
       × (extent_at at segment'.extents ≡ Some (record_of at (segment.base + segment.size)))
 
--- an extent that is found is spared by what is no boundary
-found_spared : (heap : HeapState) (k : ℕ) (extent : Extent) → extent_at extent.at (extents_in heap) ≡ Some extent → (IsBoundary heap k → ⊥) →
-    (kind : Kind) → extent.kind ≡ kind → IsSpared k kind extent.at extent.size
-found_spared heap k extent there apart Used is = λ e. apart (record { extent = extent; there = there; is = inl e })
-found_spared heap k extent there apart Free is =
-    ((λ e. apart (record { extent = extent; there = there; is = inl e })), (λ e. apart (record { extent = extent; there = there; is = inr (ap is_free_below_top is, e) })))
-found_spared heap k extent there apart Victim is =
-    ((λ e. apart (record { extent = extent; there = there; is = inl e })), (λ e. apart (record { extent = extent; there = there; is = inr (ap is_free_below_top is, e) })))
-found_spared heap k extent there apart Top is = λ e. apart (record { extent = extent; there = there; is = inl e })
-found_spared heap k extent there apart Record is = λ e. apart (record { extent = extent; there = there; is = inl e })
-found_spared heap k extent there apart Foot is = λ e. apart (record { extent = extent; there = there; is = inl e })
-
--- and so are all
+-- extents that are found are spared by what is no boundary
 pub all_spared : (heap : HeapState) (k : ℕ) (extents : List Extent) → AreDistinct extents → ((extent : Extent) → extent_at extent.at extents ≡ Some
     extent → extent_at extent.at (extents_in heap) ≡ Some extent) → (IsBoundary heap k → ⊥) → AllSpare extents k
 all_spared heap k [] distinct there apart = tt
 all_spared heap k (extent ∷ extents) distinct there apart = (
-  found_spared heap k extent (there extent (found_here extent extents)) apart extent.kind refl,
+  spared extent.kind extent.at extent.size k (λ e. apart (record { extent = extent; there = there extent (found_here extent extents); is = inl e }))
+      (λ free e. apart (record { extent = extent; there = there extent (found_here extent extents); is = inr (free, e) })),
   all_spared heap k extents distinct.1 (λ other found. there other (distinct_later (extent ∷ []) extents other.at distinct found)) apart,
 )
 

@@ -1,8 +1,8 @@
 -- The payload of a segment's record: its words are granted, and the extents do not rest on them.
-use Rattle.dlmalloc.proofs.Names.{◌≡◌, ℕ, ◌+◌, ◌-◌, ◌%◌, ◌<◌, ◌≤◌, ◌⊎◌, inl, inr, List, ◌∷◌, Some, sym, ◌∙◌, subst, arith, Grant, IsWordOf, Used, Record, extent_at, Tiles, Segment, IsSegment, record_of, AreRecords}
+use Rattle.dlmalloc.proofs.Names.{◌≡◌, ℕ, ◌+◌, ◌-◌, ◌%◌, ◌<◌, ◌≤◌, ◌⊎◌, inl, inr, List, ◌∷◌, Some, refl, sym, ◌∙◌, subst, arith, Grant, IsWordOf, Used, Record, extent_at, Tiles, Segment, IsSegment, record_of, AreRecords}
 use Rattle.dlmalloc.proofs.Extents.Lookup.{found}
 use Rattle.dlmalloc.proofs.Extents.Tiling.{tiles_kept, tiles_split, tiles_append, tiles_le}
-use Rattle.dlmalloc.proofs.Extents.FromWords.{nothing, none_behind_record}
+use Rattle.dlmalloc.proofs.Extents.FromWords.{nothing}
 use Rattle.dlmalloc.proofs.Segments.Among.{in_part}
 
 -- where the payload of a segment's record is
@@ -61,7 +61,7 @@ module _ {regions : List Grant} {old : ℕ → ℕ} {segment : Segment} (part : 
         let s = tiles_split old Used segment.base f.front (record_of (payload - 16) end ∷ f.back) end (subst (λ es. Tiles old Used segment.base es end) f.is part.extents) in
         let at : payload - 16 ≡ s.middle = s.second.0 in
         let low = tiles_le old Used segment.base f.front s.middle s.first in
-        let last = nothing old Record (s.middle + (end - (payload - 16))) f.back end none_behind_record s.second.2 in
+        let last = nothing old Record (s.middle + (end - (payload - 16))) f.back end refl s.second.2 in
         subst (λ es. Tiles new Used segment.base es end) (sym f.is)
         (tiles_append new Used segment.base f.front (record_of (payload - 16) end ∷ f.back) s.middle end
         (tiles_kept old new Used segment.base f.front s.middle s.first (λ k above below m free. kept k above (omega (arith, place.high)) m (inl (omega arith)))) (

@@ -1,40 +1,32 @@
 -- The words that extents do not write.
-use Rattle.dlmalloc.proofs.Names.{◌≡◌, ℕ, ◌+◌, ◌<◌, ◌≤◌, true, List, [], ◌∷◌, ◌++◌, Some, sym, subst, arith, Extent, Kind, Used, Free, Victim, Top, Record, Foot, is_used, Tiles, IsSpared, AllSpare}
+use Rattle.dlmalloc.proofs.Names.{◌≡◌, ◌≢◌, ℕ, ◌+◌, ◌<◌, ◌≤◌, true, List, [], ◌∷◌, ◌++◌, Some, IsTrue, refl, sym, subst, arith, Extent, Kind, Used, Free, Victim, Top, Record, Foot, is_free_below_top, is_used, Tiles, IsSpared, AllSpare}
 use Rattle.dlmalloc_chunks.specs.Tiling.{extent_at}
 use Rattle.dlmalloc.proofs.Extents.Lookup.{found}
 use Rattle.dlmalloc.proofs.Extents.Tiling.{sized, tiles_le, tiles_split}
 
--- one before it, and one behind it
-spared_below : (kind : Kind) (at size k : ℕ) → 16 ≤ size → k < at + 8 → IsSpared k kind at size
-spared_below Used at size k long low = λ is. omega arith
-spared_below Free at size k long low = ((λ is. omega arith), (λ is. omega arith))
-spared_below Victim at size k long low = ((λ is. omega arith), (λ is. omega arith))
-spared_below Top at size k long low = λ is. omega arith
-spared_below Record at size k long low = λ is. omega arith
-spared_below Foot at size k long low = λ is. omega arith
-
-spared_above : (kind : Kind) (at size k : ℕ) → 16 ≤ size → at + size < k → IsSpared k kind at size
-spared_above Used at size k long high = λ is. omega arith
-spared_above Free at size k long high = ((λ is. omega arith), (λ is. omega arith))
-spared_above Victim at size k long high = ((λ is. omega arith), (λ is. omega arith))
-spared_above Top at size k long high = λ is. omega arith
-spared_above Record at size k long high = λ is. omega arith
-spared_above Foot at size k long high = λ is. omega arith
+-- those that one writes are its head, and the word behind a free one
+pub spared : (kind : Kind) (at size k : ℕ) → k ≢ at + 8 → (IsTrue (is_free_below_top kind) → k ≢ at + size) → IsSpared k kind at size
+spared Used at size k head foot = head
+spared Free at size k head foot = (head, foot refl)
+spared Victim at size k head foot = (head, foot refl)
+spared Top at size k head foot = head
+spared Record at size k head foot = head
+spared Foot at size k head foot = head
 
 pub spared_before : (words : ℕ → ℕ) (before : Kind) (from : ℕ) (extents : List Extent) (to k : ℕ) → Tiles words before from extents to → k < from + 8 → AllSpare extents k
 spared_before words before from [] to k h low = tt
 spared_before words before from (extent ∷ extents) to k h low =
-    let place = h.0 in (
-      spared_below extent.kind extent.at extent.size k (sized extent.kind extent.size h.1.size).1 (omega arith),
+    let place = h.0 in let long = (sized extent.kind extent.size h.1.size).1 in (
+      spared extent.kind extent.at extent.size k (λ is. omega arith) (λ free is. omega arith),
       spared_before words extent.kind (from + extent.size) extents to k h.2 (omega arith),
     )
 
 pub spared_behind : (words : ℕ → ℕ) (before : Kind) (from : ℕ) (extents : List Extent) (to k : ℕ) → Tiles words before from extents to → to < k → AllSpare extents k
 spared_behind words before from [] to k h high = tt
 spared_behind words before from (extent ∷ extents) to k h high =
-    let place = h.0 in
+    let place = h.0 in let long = (sized extent.kind extent.size h.1.size).1 in
     let later = tiles_le words extent.kind (from + extent.size) extents to h.2 in (
-      spared_above extent.kind extent.at extent.size k (sized extent.kind extent.size h.1.size).1 (omega arith),
+      spared extent.kind extent.at extent.size k (λ is. omega arith) (λ free is. omega arith),
       spared_behind words extent.kind (from + extent.size) extents to k h.2 high,
     )
 
