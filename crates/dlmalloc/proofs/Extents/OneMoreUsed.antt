@@ -27,6 +27,15 @@ pub distinct_second : (front back : List Extent) → AreDistinct (front ++ back)
 distinct_second [] back apart = apart
 distinct_second (first ∷ front) back apart = distinct_second front back apart.1
 
+-- what is found behind some is found with them
+pub distinct_later : (front back : List Extent) (k : ℕ) {extent : Extent} → AreDistinct (front ++ back) → extent_at k back ≡ Some extent → extent_at k (front ++ back) ≡ Some extent
+distinct_later [] back k distinct there = there
+distinct_later (first ∷ front) back k {extent} distinct there = go (first.at == k) refl (distinct_later front back k distinct.1 there)
+  where
+    go : (b : Bool) → (first.at == k) ≡ b → extent_at k (front ++ back) ≡ Some extent → (if b then Some first else extent_at k (front ++ back)) ≡ Some extent
+    go true here later = absurd (let none = subst (λ a. extent_at a (front ++ back) ≡ None) (nat_is here) distinct.0 in let some = later in cc)
+    go false other later = later
+
 -- none of the extents of a range begins outside of it
 pub none_outside : (words : ℕ → ℕ) (before : Kind) (from : ℕ) (extents : List Extent) (to k : ℕ) → (k < from) ⊎ (to ≤ k) → Tiles words before from extents to → extent_at k extents ≡ None
 none_outside words before from [] to k out h = refl
@@ -59,20 +68,9 @@ module _ (k : ℕ) (extent : Extent) (extents : List Extent) where
   met : (extent.at == k) ≡ true → is_used extent.kind ≡ true → extent_at k (used_of (extent ∷ extents)) ≡ Some extent
   met here used = rw (used, here) refl
 
-  step : {answer : Option Extent} → (b : Bool) → (extent.at == k) ≡ b → extent_at k (extent ∷ extents) ≡ answer → (if b then Some extent else extent_at k extents) ≡ answer
-  step {answer} b test there = subst (λ b. (if b then Some extent else extent_at k extents) ≡ answer) test there
-
-  step_used : {answer : Option Extent} → (b u : Bool) → (extent.at == k) ≡ b → is_used extent.kind ≡ u →
-      extent_at k (used_of (extent ∷ extents)) ≡ answer → (if u then (if b then Some extent else extent_at k later) else extent_at k later) ≡ answer
-  step_used {answer} b u test kind there = go u (subst (λ u. extent_at k (if u then extent ∷ later else later) ≡ answer) kind there)
-    where
-      go : (u : Bool) → extent_at k (if u then extent ∷ later else later) ≡ answer → (if u then (if b then Some extent else extent_at k later) else extent_at k later) ≡ answer
-      go true is = subst (λ b. (if b then Some extent else extent_at k later) ≡ answer) test is
-      go false is = is
-
 pub used_there : (k : ℕ) (extents : List Extent) {used : Extent} → used.kind ≡ Used → extent_at k extents ≡ Some used → extent_at k (used_of extents) ≡ Some used
 used_there k [] is there = there
-used_there k (extent ∷ extents) {used} is there = go (extent.at == k) refl (step k extent extents _ refl there) (used_there k extents is)
+used_there k (extent ∷ extents) {used} is there = go (extent.at == k) refl there (used_there k extents is)
   where
     go : (b : Bool) → (extent.at == k) ≡ b → (if b then Some extent else extent_at k extents) ≡ Some used →
         (extent_at k extents ≡ Some used → extent_at k (used_of extents) ≡ Some used) → extent_at k (used_of (extent ∷ extents)) ≡ Some used
@@ -83,7 +81,7 @@ used_there k (extent ∷ extents) {used} is there = go (extent.at == k) refl (st
 
 none_used : (k : ℕ) (extents : List Extent) → extent_at k extents ≡ None → extent_at k (used_of extents) ≡ None
 none_used k [] none = none
-none_used k (extent ∷ extents) none = go (extent.at == k) refl (step k extent extents _ refl none) (none_used k extents)
+none_used k (extent ∷ extents) none = go (extent.at == k) refl none (none_used k extents)
   where
     go : (b : Bool) → (extent.at == k) ≡ b → (if b then Some extent else extent_at k extents) ≡ None →
         (extent_at k extents ≡ None → extent_at k (used_of extents) ≡ None) → extent_at k (used_of (extent ∷ extents)) ≡ None
@@ -93,16 +91,18 @@ none_used k (extent ∷ extents) none = go (extent.at == k) refl (step k extent 
 -- and the other way round
 pub used_back : (k : ℕ) (extents : List Extent) {used : Extent} → AreDistinct extents → extent_at k (used_of extents) ≡ Some used → extent_at k extents ≡ Some used
 used_back k [] apart there = there
-used_back k (extent ∷ extents) {used} apart there = go (extent.at == k) refl (is_used extent.kind) refl (step_used k extent extents _ _ refl refl there) (used_back k extents apart.1)
+used_back k (extent ∷ extents) {used} apart there =
+    go (is_used extent.kind) there (λ found. distinct_later (extent ∷ []) extents k apart (used_back k extents apart.1 found))
   where
-    go : (b : Bool) → (extent.at == k) ≡ b → (u : Bool) → is_used extent.kind ≡ u →
-        (if u then (if b then Some extent else extent_at k (used_of extents)) else extent_at k (used_of extents)) ≡ Some used →
-        (extent_at k (used_of extents) ≡ Some used → extent_at k extents ≡ Some used) → extent_at k (extent ∷ extents) ≡ Some used
-    go true here true is found later = rw here found
-    go true here false isnt found later =
-        absurd (let none = none_used k extents (subst (λ a. extent_at a extents ≡ None) (nat_is here) apart.0) in let some = found in cc)
-    go false other true is found later = rw other (later found)
-    go false other false isnt found later = rw other (later found)
+    here : (b : Bool) → (extent.at == k) ≡ b → (if b then Some extent else extent_at k (used_of extents)) ≡ Some used →
+        (extent_at k (used_of extents) ≡ Some used → extent_at k (extent ∷ extents) ≡ Some used) → extent_at k (extent ∷ extents) ≡ Some used
+    here true is found later = rw is found
+    here false isnt found later = later found
+
+    go : (u : Bool) → extent_at k (if u then extent ∷ used_of extents else used_of extents) ≡ Some used →
+        (extent_at k (used_of extents) ≡ Some used → extent_at k (extent ∷ extents) ≡ Some used) → extent_at k (extent ∷ extents) ≡ Some used
+    go true found later = here (extent.at == k) refl found later
+    go false found later = later found
 
 -- those in use are distinct
 used_distinct : (extents : List Extent) → AreDistinct extents → AreDistinct (used_of extents)

@@ -19,6 +19,12 @@ no_top (extent ∷ extents) are k {one} there is = go (extent.at == k) there (λ
         elim are.0 [ inl used ↦ (let no : Used ≡ Top = sym used ∙ kind in cc) | inr free ↦ (let no : Free ≡ Top = sym free ∙ kind in cc) ]
     go false found later = later found
 
+-- the segments that records tell have records
+record_there : (words : ℕ → ℕ) (payload : ℕ) (front : List Segment) (segment : Segment) (back : List Segment) →
+    AreRecords words payload (front ++ segment ∷ back) → (at : ℕ) × (extent_at at segment.extents ≡ Some (record_of at (segment.base + segment.size)))
+record_there words payload [] segment back h = (payload - 16, h.4)
+record_there words payload (first ∷ front) segment back h = record_there words (words (payload + 16)) front segment back h.5
+
 module _ {regions : List Grant} {words : ℕ → ℕ} {segment : Segment} (part : IsSegment regions words segment) where
   abbrev end : ℕ
   end = segment.base + segment.size
@@ -87,12 +93,6 @@ module _ {regions : List Grant} {words : ℕ → ℕ} {segment : Segment} (part 
           foot : (b : Bool) → (if b then Some (extent (end - 80) 80 Foot) else None) ≡ Some (extent other other_size Top) → ⊥
           foot true is = (let no : Foot ≡ Top = ap (λ o. (unwrap_or o (extent other other_size Top)).kind) is in cc)
           foot false is = cc
-
--- the segments that records tell have records
-record_there : (words : ℕ → ℕ) (payload : ℕ) (front : List Segment) (segment : Segment) (back : List Segment) →
-    AreRecords words payload (front ++ segment ∷ back) → (at : ℕ) × (extent_at at segment.extents ≡ Some (record_of at (segment.base + segment.size)))
-record_there words payload [] segment back h = (payload - 16, h.4)
-record_there words payload (first ∷ front) segment back h = record_there words (words (payload + 16)) front segment back h.5
 
 module _ {A : Type 0} {regions : A → List Grant} {word : A → ℕ → ℕ} {heap : Dlmalloc A} (sound : IsSound regions word heap)
     (front : List Segment) (segment : Segment) (back : List Segment) (is : segments_of word heap ≡ front ++ segment ∷ back) where

@@ -26,10 +26,10 @@ pub skip : (at : ℕ) (front back : List Extent) → find (has at) front ≡ Non
 skip at front back none = find-append (has at) front back ∙ ap (λ o. option_or o (find (has at) back)) none
 
 -- a free extent has its bytes
-has_one : (words : ℕ → ℕ) (before : Kind) (from : ℕ) (extents : List Extent) (to : ℕ) (one : Extent) (at : ℕ) (rest : List Extent) →
+has_one : (words : ℕ → ℕ) (before : Kind) (from : ℕ) (extents : List Extent) (to : ℕ) {one : Extent} (at : ℕ) (rest : List Extent) →
     Tiles words before from extents to → extent_at one.at extents ≡ Some one → one.kind ≡ Free → one.at ≤ at → at < one.at + one.size →
     find (has at) (extents ++ rest) ≡ Some one
-has_one words before from extents to one at rest h there free low high =
+has_one words before from extents to {one} at rest h there free low high =
     let f = found one.at one extents there in
     let s = tiles_split words before from f.front (one ∷ f.back) to (subst (λ es. Tiles words before from es to) f.is h) in
     let place = s.second.0 in
@@ -43,7 +43,7 @@ pub has_in : (regions : List Grant) (words : ℕ → ℕ) (segments : List Segme
 has_in regions words [] parts apart at there free low high = absurd (cc)
 has_in regions words (segment ∷ segments) parts apart {one} at there free low high =
     elim (found_either one.at segment.extents (extents_all segments) there) [
-      | inl here ↦ has_one words Used segment.base segment.extents (segment.base + segment.size) one at (extents_all segments) parts.0.extents here free low high
+      | inl here ↦ has_one words Used segment.base segment.extents (segment.base + segment.size) at (extents_all segments) parts.0.extents here free low high
       | inr later ↦ skip at segment.extents (extents_all segments) (has_none words Used segment.base segment.extents (segment.base + segment.size) at
           (out later.1) parts.0.extents) ∙ has_in regions words segments parts.1 apart.1 at later.1 free low high
     ]

@@ -27,47 +27,6 @@ behind_two grant n segment k place room low there =
 
 module _ {A : Type 0} {regions : A → List Grant} {word : A → ℕ → ℕ} {follows : A → List Event → A → Type 0} {heap : Dlmalloc A}
     (sound : IsSound regions word heap) {grant : Grant} {n : ℕ} {system : A} (halves : IsInTwo regions word follows heap grant n system) where
-  -- ---- before the head segment
-
-  module _ (b : IsHeadBehind word heap grant) (kept : (k : ℕ) → IsWordOf (regions heap.system) k → k ≢ grant.base + 8 → k ≢ grant.base + n + 8 → word system k ≡ word heap.system k) where
-    abbrev pub head_now : Dlmalloc A
-    head_now = record heap { system = system; base = grant.base; size = heap.size + grant.size }
-
-    parts_are : AreSegments (regions heap.system) (word heap.system) (b.segment ∷ b.back)
-    parts_are = subst (AreSegments (regions heap.system) (word heap.system)) b.is sound.segments
-
-    told_are : AreTold (word heap.system) heap (b.segment ∷ b.back)
-    told_are = subst (AreTold (word heap.system) heap) b.is sound.told
-
-    place : b.segment.base ≡ grant.base + grant.size
-    place = (before_means grant b.segment b.joins).0
-
-    abbrev joint : IsJoining regions word heap grant n system (λ k. ⊤)
-    joint = record {
-      front = [];
-      segment = b.segment;
-      back = b.back;
-      is = b.is;
-      joins = b.joins;
-      untold = λ k out. tt;
-      kept = λ k inside a c u. kept k inside a c;
-      tiles = (one_stays (regions heap.system) (word heap.system) (word system) parts_are.0 (λ k low high m. kept k
-          (record { granted = parts_are.0.run.covered k (omega arith) high; aligned = m }) (λ is. omega (arith, place)) (λ is. omega (arith, place)))).extents;
-    }
-
-    told_now : AreTold (word system) head_now (put_before grant n b.segment ∷ b.back)
-    told_now = (
-      omega (arith, told_are.0),
-      refl,
-      omega (arith, told_are.2),
-      told_are.3,
-      behind_two grant n b.segment heap.top place (omega arith) (omega (arith, top_low sound told_are.0, told_are.1)) told_are.4,
-      records_stay (regions heap.system) (word heap.system) (word system) b.back parts_are.1 (back_keeps sound halves joint) heap.next told_are.5,
-    )
-
-    pub before_head : IsPrepended regions word follows heap grant n head_now
-    before_head = is_prepended sound halves joint grant.base (heap.size + grant.size) (omega (arith, told_are.0)) told_now (λ k tag. tt)
-
   -- ---- before one that a record tells
 
   module _ {payload : ℕ} (b : IsToldBehind word heap grant payload) (base : word system payload ≡ grant.base)
@@ -170,6 +129,47 @@ module _ {A : Type 0} {regions : A → List Grant} {word : A → ℕ → ℕ} {f
 
     pub before_told : IsPrepended regions word follows heap grant n told_new
     before_told = is_prepended sound halves joint_told heap.base heap.size heap_told.0 told_after recorded
+
+  -- ---- before the head segment
+
+  module _ (b : IsHeadBehind word heap grant) (kept : (k : ℕ) → IsWordOf (regions heap.system) k → k ≢ grant.base + 8 → k ≢ grant.base + n + 8 → word system k ≡ word heap.system k) where
+    abbrev pub head_now : Dlmalloc A
+    head_now = record heap { system = system; base = grant.base; size = heap.size + grant.size }
+
+    parts_are : AreSegments (regions heap.system) (word heap.system) (b.segment ∷ b.back)
+    parts_are = subst (AreSegments (regions heap.system) (word heap.system)) b.is sound.segments
+
+    told_are : AreTold (word heap.system) heap (b.segment ∷ b.back)
+    told_are = subst (AreTold (word heap.system) heap) b.is sound.told
+
+    place : b.segment.base ≡ grant.base + grant.size
+    place = (before_means grant b.segment b.joins).0
+
+    abbrev joint : IsJoining regions word heap grant n system (λ k. ⊤)
+    joint = record {
+      front = [];
+      segment = b.segment;
+      back = b.back;
+      is = b.is;
+      joins = b.joins;
+      untold = λ k out. tt;
+      kept = λ k inside a c u. kept k inside a c;
+      tiles = (one_stays (regions heap.system) (word heap.system) (word system) parts_are.0 (λ k low high m. kept k
+          (record { granted = parts_are.0.run.covered k (omega arith) high; aligned = m }) (λ is. omega (arith, place)) (λ is. omega (arith, place)))).extents;
+    }
+
+    told_now : AreTold (word system) head_now (put_before grant n b.segment ∷ b.back)
+    told_now = (
+      omega (arith, told_are.0),
+      refl,
+      omega (arith, told_are.2),
+      told_are.3,
+      behind_two grant n b.segment heap.top place (omega arith) (omega (arith, top_low sound told_are.0, told_are.1)) told_are.4,
+      records_stay (regions heap.system) (word heap.system) (word system) b.back parts_are.1 (back_keeps sound halves joint) heap.next told_are.5,
+    )
+
+    pub before_head : IsPrepended regions word follows heap grant n head_now
+    before_head = is_prepended sound halves joint grant.base (heap.size + grant.size) (omega (arith, told_are.0)) told_now (λ k tag. tt)
 
 -- where the record is that tells the segment behind
 pub record ToldPlace (regions : List Grant) (words : ℕ → ℕ) (grant : Grant) (payload : ℕ) : Type 0 where

@@ -7,6 +7,7 @@ use Rattle.dlmalloc.proofs.Blocks.WordsKept.{blocks_law_tags}
 use Rattle.dlmalloc.proofs.Extents.NoRoom.{full}
 use Rattle.dlmalloc.proofs.Words.OfLinks.{same_or_beside}
 use Rattle.dlmalloc.proofs.Bins.Changes.{binned_same}
+use Rattle.dlmalloc.proofs.Grants.NewRegion.{granted_same}
 use Rattle.dlmalloc.proofs.Extents.OneMoreUsed.{AreDistinct, tiles_distinct}
 use Rattle.dlmalloc.proofs.Segments.RegionsMore.{word_kept, word_fresh, with_other, none_granted}
 use Rattle.dlmalloc.proofs.Extents.RunReplaced.{run_of, run_part, has_next, behind}
@@ -137,65 +138,68 @@ module _ {A : Type 0} {regions : A → List Grant} {word : A → ℕ → ℕ} {f
 
 -- ---- so the chunk is cut out
 
-module _ {A : Type 0} {regions : A → List Grant} {word : A → ℕ → ℕ}
-    (zeros : A → Bool) {follows : A → List Event → A → Type 0} {old : Dlmalloc A} (sound : IsSound regions word old) {n asked : ℕ}
-    (enough : n + 96 ≤ asked) (none : chosen (state_of word old) n ≡ None) {grant : Grant} (good : IsGoodGrant asked grant) (long : 128 ≤ grant.size)
-    (beside : AllByRecursion (IsApart grant.base (grant.base + grant.size)) (regions old.system)) (middle : A)
-    (with_it : regions middle ≡ with_grant grant (regions old.system)) (same : state_of word (record old { system = middle }) ≡ state_of word old)
-    (test : is_put_before grant (segments_of word old) ≡ true) (words : (k : ℕ) → IsWordOf (regions old.system) k → word middle k ≡ word old.system k)
-    (zero : zeros old.system ≡ true → (k : ℕ) → grant.base ≤ k → k < grant.base + grant.size → k % 8 ≡ 0 → word middle k ≡ 0)
-    {new : Dlmalloc A} (put : IsPutBefore regions word follows (record old { system = middle }) grant n new)
-    (followed : follows old.system (Granted (round_up (n + 96) old.granularity) grant ∷ []) new.system) where
-  more_put : HasOneMore (state_of word old) (state_of word new) grant.base
-  more_put = subst (λ s. HasOneMore s (state_of word new) grant.base) same put.more
+pub cut_before : {A : Type 0} {regions : A → List Grant} {word : A → ℕ → ℕ} {zeros : A → Bool} {follows : A → List Event → A → Type 0}
+    {old : Dlmalloc A} {middle : A} {n asked : ℕ} {grant : Grant} {new : Dlmalloc A} → IsSound regions word old → 32 ≤ n → n + 96 ≤ asked →
+    chosen (state_of word old) n ≡ None → IsGoodGrant asked grant → AllByRecursion (IsApart grant.base (grant.base + grant.size)) (regions old.system) →
+    regions middle ≡ with_grant grant (regions old.system) → ((k : ℕ) → IsWordOf (regions old.system) k → word middle k ≡ word old.system k) →
+    (zeros old.system ≡ true → (k : ℕ) → grant.base ≤ k → k < grant.base + grant.size → k % 8 ≡ 0 → word middle k ≡ 0) →
+    is_put_before grant (segments_of word (record old { system = middle })) ≡ true → IsPutBefore regions word follows (record old { system = middle }) grant n new →
+    follows old.system (Granted (round_up (n + 96) old.granularity) grant ∷ []) new.system → IsCutOut regions word zeros follows old n grant.base new
+cut_before {regions} {word} {old} {middle} {n} {grant} {new} sound least enough none good beside with_it words zero test put followed = record {
+  cut = inr (
+    grant,
+    record {
+      none_chosen = none;
+      full = full sound n none;
+      of_grant = λ is. (refl, put.state ∙ (ap (λ s. freed (prepended grant n s) (grant.base + n)) same ∙ sym (granted_before grant n (state_of word old) joins)));
+      of_top = λ is. absurd (let no : false ≡ true = sym is ∙ joins in cc);
+      room = omega arith;
+      place = inl refl;
+    },
+    followed,
+    put.regions_same ∙ with_it,
+    beside,
+  );
+  small = omega arith;
+  more = more_put;
+  holds = λ size holds near. record {
+    extent = extent grant.base n Used;
+    there = subst (λ a. extent_at a (extents_in (state_of word new)) ≡ Some (extent grant.base n Used)) back put.chunk;
+    low = omega arith;
+    used = refl;
+    holds = holds;
+    little = omega arith;
+  };
+  kept = blocks_law_tags sound put.sound words_put (extents_in (state_of word old)) (λ block there used. (there, more_put.kept block used there));
+  words = words_put;
+  own = λ is. absurd (with_other grant (sym (put.regions_same ∙ with_it) ∙ is));
+  new_words = λ zeroed k inside fresh own.
+      let there = subst (λ rs. IsWordOf rs k) put.regions_same inside in
+      let within = word_fresh grant (regions old.system) with_it k there fresh in
+      put.new_words k there within.0 within.1 own ∙ zero zeroed k within.0 within.1 inside.aligned;
+  sound = put.sound;
+}
+  where
+    same : state_of word (record old { system = middle }) ≡ state_of word old
+    same = granted_same sound middle (omega arith) good beside with_it words
 
-  words_put : OnlyOwnOrTagsChange (regions old.system) (state_of word old) (state_of word new) (word old.system) (word new.system)
-  words_put k inside was own tag = put.words k (word_kept grant with_it inside) out (λ f. was (subst (λ s. IsInFree s k) same f)) own tag ∙ words k inside
-    where
-      out : (k < grant.base) ⊎ (grant.base + grant.size ≤ k)
-      out = elim (dec_lt k grant.base) [
-        | yes below ↦ inl below
-        | no low ↦ elim (dec_lt k (grant.base + grant.size)) [
-          | yes high ↦ absurd (none_granted grant.base (grant.base + grant.size) (regions old.system) beside k (omega arith) high inside.granted)
-          | no above ↦ inr (omega arith)
+    joins : is_put_before grant (segments_of word old) ≡ true
+    joins = subst (λ ss. is_put_before grant ss ≡ true) (λ i. (same i).segments) test
+
+    more_put : HasOneMore (state_of word old) (state_of word new) grant.base
+    more_put = subst (λ s. HasOneMore s (state_of word new) grant.base) same put.more
+
+    words_put : OnlyOwnOrTagsChange (regions old.system) (state_of word old) (state_of word new) (word old.system) (word new.system)
+    words_put k inside was own tag = put.words k (word_kept grant with_it inside) out (λ f. was (subst (λ s. IsInFree s k) same f)) own tag ∙ words k inside
+      where
+        out : (k < grant.base) ⊎ (grant.base + grant.size ≤ k)
+        out = elim (dec_lt k grant.base) [
+          | yes below ↦ inl below
+          | no low ↦ elim (dec_lt k (grant.base + grant.size)) [
+            | yes high ↦ absurd (none_granted grant.base (grant.base + grant.size) (regions old.system) beside k (omega arith) high inside.granted)
+            | no above ↦ inr (omega arith)
+          ]
         ]
-      ]
 
-  pub cut_before : IsCutOut regions word zeros follows old n grant.base new
-  cut_before = record {
-    cut = inr (
-      grant,
-      record {
-        none_chosen = none;
-        full = full sound n none;
-        of_grant = λ is. (refl, put.state ∙ (ap (λ s. freed (prepended grant n s) (grant.base + n)) same ∙ sym (granted_before grant n (state_of word old) test)));
-        of_top = λ is. absurd (cc);
-        room = omega arith;
-        place = inl refl;
-      },
-      followed,
-      put.regions_same ∙ with_it,
-      beside,
-    );
-    small = omega arith;
-    more = more_put;
-    holds = λ size holds near. record {
-      extent = extent grant.base n Used;
-      there = subst (λ a. extent_at a (extents_in (state_of word new)) ≡ Some (extent grant.base n Used)) back put.chunk;
-      low = omega arith;
-      used = refl;
-      holds = holds;
-      little = omega arith;
-    };
-    kept = blocks_law_tags sound put.sound words_put (extents_in (state_of word old)) (λ block there used. (there, more_put.kept block used there));
-    words = words_put;
-    own = λ is. absurd (with_other grant (sym (put.regions_same ∙ with_it) ∙ is));
-    new_words = λ zeroed k inside fresh own.
-        let there = subst (λ rs. IsWordOf rs k) put.regions_same inside in
-        let within = word_fresh grant (regions old.system) with_it k there fresh in
-        put.new_words k there within.0 within.1 own ∙ zero zeroed k within.0 within.1 inside.aligned;
-    sound = put.sound;
-  }
-    where
-      back : grant.base ≡ grant.base + 16 - 16
-      back = omega arith
+    back : grant.base ≡ grant.base + 16 - 16
+    back = omega arith

@@ -112,7 +112,7 @@ module _ {A : Type 0} {regions : A → List Grant} {word : A → ℕ → ℕ} {h
       (λ is. elim (grant_beside) [ inl a ↦ omega (arith, ends_at, sizes.1, fresh.long) | inr b ↦ omega (arith, fresh.long) ])
 
   rest_stand : Tiles (word system) (last_kind Used it.first) heap.top rest (it.segment.base + it.segment.size)
-  rest_stand = left_stands (word system) heap.top heap.top_size it.here.1.kind (top_whole sound some) sizes.0 sizes.1 ends_at small where_is.0
+  rest_stand = left_stands (word system) it.here.1 ends_at small where_is.0
       (subst (λ a. IsRecordAt (word system) a (record_of_head heap) (it.segment.base + it.segment.size) small) where_is.1
       (subst (λ e. IsRecordAt (word system) at (record_of_head heap) e small) (λ i. was.base i + was.size i) recorded)) was_top
       (λ large. left_foot (let other = where_is.0 ∙ large in let units = sizes.0 in let long = sizes.1 in grind (arith, nat_tests)))

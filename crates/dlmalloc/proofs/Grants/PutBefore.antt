@@ -91,66 +91,66 @@ module _ {A : Type 0} {regions : A → List Grant} {word : A → ℕ → ℕ} {f
   abbrev two_chunks : List Extent
   two_chunks = extent grant.base n Used ∷ extent (grant.base + n) (grant.size - n) Used ∷ []
 
+  two_stand : Tiles (word system) Used grant.base now.extents (grant.base + (grant.size + segment.size))
+  two_stand = (
+    refl,
+    plain_chunk fresh.base_aligned (multiple, least) (inl refl) first (λ free. cc) (λ is. cc),
+    (
+      refl,
+      plain_chunk (omega arith) (omega arith, omega arith) (inl refl) second (λ free. cc) (λ is. cc),
+      subst (λ end. Tiles (word system) Used (grant.base + n + (grant.size - n)) segment.extents end) same_end
+          (subst (λ at. Tiles (word system) Used at segment.extents (segment.base + segment.size)) same_begin tiles),
+    ),
+  )
+    where
+      same_end : segment.base + segment.size ≡ grant.base + (grant.size + segment.size)
+      same_end = omega (arith, place)
+
+      same_begin : segment.base ≡ grant.base + n + (grant.size - n)
+      same_begin = omega (arith, place)
+
+  is_now : IsSegment (regions system) (word system) now
+  is_now = record {
+    run = subst (λ rs. IsRun rs grant.base (grant.size + segment.size) segment.flags) (sym same) (runs_joined place
+        (subst (λ f. IsRun (regions heap.system) grant.base grant.size f) (before_means grant segment joins).1 fresh.run) the_part.run whole);
+    low = fresh.low;
+    high = omega (arith, the_part.high, place);
+    long = omega (arith, the_part.long);
+    extents = two_stand;
+    tail = the_part.tail;
+  }
+
+  parts_now : AreSegments (regions system) (word system) (front ++ now ∷ back)
+  parts_now = parts_around front back (subst (λ rs. AreSegments rs (word system) front) (sym same) (parts_stay (regions heap.system) (word heap.system)
+      (word system) front front_parts front_keeps)) is_now (subst (λ rs. AreSegments rs (word system) back) (sym same)
+      (parts_stay (regions heap.system) (word heap.system) (word system) back back_parts back_keeps))
+
+  -- what is apart from the segment and from the grant is apart from both as one
+  step : (other : Segment) → 96 < other.size → IsApartFrom other segment → IsApartFrom other (opened grant) → IsApartFrom other now
+  step other long one two = elim two [
+    | inl before ↦ inl before
+    | inr behind ↦ elim one [
+      | inl below ↦ absurd (omega (arith, place))
+      | inr above ↦ inr (omega (arith, place))
+    ]
+  ]
+
+  now_back : (others : List Segment) → AreSegments (regions heap.system) (word heap.system) others → AllByRecursion (λ other. IsApartFrom other segment)
+      others → AllByRecursion (λ other. IsApartFrom other (opened grant)) others → AllByRecursion (IsApartFrom now) others
+  now_back [] p one two = tt
+  now_back (other ∷ others) p one two = (apart_back other now (step other p.0.long one.0 two.0), now_back others p.1 one.1 two.1)
+
+  around : (others : List Segment) → AreSegments (regions heap.system) (word heap.system) others → AreApart (others ++ segment ∷ back) →
+      AllByRecursion (λ other. IsApartFrom other (opened grant)) others → AreApart (others ++ now ∷ back)
+  around [] p all two = (now_back back back_parts (back_apart front segment back apart) back_beside, all.1)
+  around (other ∷ others) p all two = (all_with (IsApartFrom other) others segment now back (λ one. step other p.0.long one two.0) all.0, around others p.1 all.1 two.1)
+
+  apart_now : AreApart (front ++ now ∷ back)
+  apart_now = around front front_parts apart front_beside
+
   module _ (base size : ℕ) (some : 0 < size) (told : AreTold (word system) (record heap { system = system; base = base; size = size }) (front ++ now ∷ back)) where
     abbrev new : Dlmalloc A
     new = record heap { system = system; base = base; size = size }
-
-    two_stand : Tiles (word system) Used grant.base now.extents (grant.base + (grant.size + segment.size))
-    two_stand = (
-      refl,
-      plain_chunk fresh.base_aligned (multiple, least) (inl refl) first (λ free. cc) (λ is. cc),
-      (
-        refl,
-        plain_chunk (omega arith) (omega arith, omega arith) (inl refl) second (λ free. cc) (λ is. cc),
-        subst (λ end. Tiles (word system) Used (grant.base + n + (grant.size - n)) segment.extents end) same_end
-            (subst (λ at. Tiles (word system) Used at segment.extents (segment.base + segment.size)) same_begin tiles),
-      ),
-    )
-      where
-        same_end : segment.base + segment.size ≡ grant.base + (grant.size + segment.size)
-        same_end = omega (arith, place)
-
-        same_begin : segment.base ≡ grant.base + n + (grant.size - n)
-        same_begin = omega (arith, place)
-
-    is_now : IsSegment (regions system) (word system) now
-    is_now = record {
-      run = subst (λ rs. IsRun rs grant.base (grant.size + segment.size) segment.flags) (sym same) (runs_joined place
-          (subst (λ f. IsRun (regions heap.system) grant.base grant.size f) (before_means grant segment joins).1 fresh.run) the_part.run whole);
-      low = fresh.low;
-      high = omega (arith, the_part.high, place);
-      long = omega (arith, the_part.long);
-      extents = two_stand;
-      tail = the_part.tail;
-    }
-
-    parts_now : AreSegments (regions system) (word system) (front ++ now ∷ back)
-    parts_now = parts_around front back (subst (λ rs. AreSegments rs (word system) front) (sym same) (parts_stay (regions heap.system) (word heap.system)
-        (word system) front front_parts front_keeps)) is_now (subst (λ rs. AreSegments rs (word system) back) (sym same)
-        (parts_stay (regions heap.system) (word heap.system) (word system) back back_parts back_keeps))
-
-    -- what is apart from the segment and from the grant is apart from both as one
-    step : (other : Segment) → 96 < other.size → IsApartFrom other segment → IsApartFrom other (opened grant) → IsApartFrom other now
-    step other long one two = elim two [
-      | inl before ↦ inl before
-      | inr behind ↦ elim one [
-        | inl below ↦ absurd (omega (arith, place))
-        | inr above ↦ inr (omega (arith, place))
-      ]
-    ]
-
-    now_back : (others : List Segment) → AreSegments (regions heap.system) (word heap.system) others → AllByRecursion (λ other. IsApartFrom other segment)
-        others → AllByRecursion (λ other. IsApartFrom other (opened grant)) others → AllByRecursion (IsApartFrom now) others
-    now_back [] p one two = tt
-    now_back (other ∷ others) p one two = (apart_back other now (step other p.0.long one.0 two.0), now_back others p.1 one.1 two.1)
-
-    around : (others : List Segment) → AreSegments (regions heap.system) (word heap.system) others → AreApart (others ++ segment ∷ back) →
-        AllByRecursion (λ other. IsApartFrom other (opened grant)) others → AreApart (others ++ now ∷ back)
-    around [] p all two = (now_back back back_parts (back_apart front segment back apart) back_beside, all.1)
-    around (other ∷ others) p all two = (all_with (IsApartFrom other) others segment now back (λ one. step other p.0.long one two.0) all.0, around others p.1 all.1 two.1)
-
-    apart_now : AreApart (front ++ now ∷ back)
-    apart_now = around front front_parts apart front_beside
 
     abbrev after : List Extent
     after = segment.extents ++ extents_all back

@@ -3,7 +3,7 @@ use Rattle.dlmalloc.proofs.Names.{◌≡◌, ◌≢◌, ℕ, ◌+◌, ◌%◌, �
 use Rattle.dlmalloc.proofs.Segments.HeadTold.{bare_head}
 use Rattle.dlmalloc.proofs.Segments.WordsKept.{KeepsIts}
 use Rattle.dlmalloc.proofs.Words.OfRecords.{IsPayloadIn, payload_in, record_stays}
-use Rattle.dlmalloc.proofs.Segments.Walk.{PassedSegments, ahead_segment}
+use Rattle.dlmalloc.proofs.Segments.Walk.{PassedSegments, none_told, ahead_segment}
 
 -- the records of some segments are passed, none of which the grant is before
 pub record PassedBehind {A : Type 0} (word : A → ℕ → ℕ) (heap : Dlmalloc A) (grant : Grant) (payload : ℕ) : Type 0 where
@@ -121,12 +121,8 @@ module _ {A : Type 0} {regions : A → List Grant} {word : A → ℕ → ℕ} {h
 
   -- where no record is left, the grant is before no segment
   pub none_behind : {payload : ℕ} → PassedBehind word heap grant payload → payload ≡ 0 → list_any (is_before grant) (segments_of word heap) ≡ false
-  none_behind {payload} p empty = ap (list_any (is_before grant)) (p.is ∙ (ap (λ ss. p.head ∷ (p.passed ++ ss)) (nothing p.rest p.told)))
+  none_behind {payload} p empty = ap (list_any (is_before grant)) (p.is ∙ (ap (λ ss. p.head ∷ (p.passed ++ ss)) (none_told (word heap.system) p.rest p.told empty)))
       ∙ (list_any-append (is_before grant) (p.head ∷ p.passed) [] ∙ (let none = p.none in rw none refl))
-    where
-      nothing : (rest : List Segment) → AreRecords (word heap.system) payload rest → rest ≡ []
-      nothing [] h = refl
-      nothing (one ∷ rest) h = absurd (let low = h.0 in omega arith)
 
 -- ---- records that tell segments as before, and others behind them
 

@@ -1,5 +1,5 @@
 -- What a top leaves behind where another head segment comes: a record, and a free chunk if it has more than 16 bytes.
-use Rattle.dlmalloc.proofs.Names.{◌≡◌, ℕ, ◌+◌, ◌-◌, ◌%◌, ◌<◌, ◌≤◌, ◌⊎◌, inl, inr, Bool, true, false, ◌==◌, nat_lt, if◌then◌else◌, List, [], ◌∷◌, ◌++◌, Some, refl, sym, ◌∙◌, ap, subst, arith, dec_lt, flat_map, nat_tests, Extent, Kind, Used, Free, Record, head_of, ends_segment, extent_at, is_used, Tiles, last_kind, IsRecordAt, record_of, IsIn, AreChunks, SegmentRecord}
+use Rattle.dlmalloc.proofs.Names.{◌≡◌, ℕ, ◌+◌, ◌-◌, ◌%◌, ◌<◌, ◌≤◌, ◌⊎◌, inl, inr, Bool, true, false, ◌==◌, nat_lt, if◌then◌else◌, List, [], ◌∷◌, ◌++◌, Some, refl, sym, ◌∙◌, ap, subst, arith, dec_lt, flat_map, nat_tests, Extent, Kind, Used, Free, Top, Record, head_of, ends_segment, extent_at, is_used, HasChunk, Tiles, last_kind, IsRecordAt, record_of, IsIn, AreChunks, SegmentRecord}
 use Rattle.dlmalloc.proofs.Extents.Tiling.{free_chunk}
 use Rattle.dlmalloc.specs.Granted.{closed}
 use Rattle.dlmalloc.proofs.Moves.OfFreeExtents.{IsThere}
@@ -67,47 +67,46 @@ record_bounds at top size {end} is whole units long ends = go (nat_lt size 32) i
 pub large_at : {at : ℕ} (top size : ℕ) → at ≡ (if nat_lt size 32 then top else top + size) → 32 ≤ size → top + size ≤ at
 large_at top size is large = (let test : nat_lt size 32 ≡ false = grind (arith, nat_tests) in omega (arith, is ∙ ap (λ b. if b then top else top + size) test))
 
--- it stands up to the segment's end
-module _ (words : ℕ → ℕ) {before : Kind} (at size : ℕ) {end : ℕ} {told : SegmentRecord} (used : before ≡ Used) (whole : at % 16 ≡ 0)
-    (units : size % 16 ≡ 0) (long : 16 ≤ size) (ends_at : at + size + 80 ≡ end) where
-  pub left_stands : (b : Bool) → (size == 16) ≡ b → IsRecordAt words (place b at size) told end b → (b ≡ false → words (at + 8) ≡ size + 1) →
-      (b ≡ false → words (at + size) ≡ size) → Tiles words before at (left b at size) end
-  left_stands true is recorded head foot =
-      let s : size ≡ 16 = grind (arith, nat_tests) in (
+-- it stands up to the segment's end, where the top stood
+pub left_stands : (words : ℕ → ℕ) {old : ℕ → ℕ} {before : Kind} {at size : ℕ} {end : ℕ} {told : SegmentRecord} →
+    HasChunk old before (extent at size Top) → at + size + 80 ≡ end → (b : Bool) → (size == 16) ≡ b → IsRecordAt words (place b at size) told end b →
+    (b ≡ false → words (at + 8) ≡ size + 1) → (b ≡ false → words (at + size) ≡ size) → Tiles words before at (left b at size) end
+left_stands words {size} top ends_at true is recorded head foot =
+    let s : size ≡ 16 = grind (arith, nat_tests) in (
+      refl,
+      record {
+        whole = top.whole;
+        size = inr refl;
+        kind = inl top.kind;
+        head = recorded.head ∙ ap (λ k. head_of 48 (is_used k) true) (sym top.kind);
+        foot = λ free. absurd (cc);
+        fence = λ is k low high m. recorded.fences k low (omega arith) m;
+      },
+      omega arith,
+    )
+left_stands words {size} top ends_at false isnt recorded head foot =
+    let more = large isnt in (
+      refl,
+      free_chunk top.whole (top.size.0, more) top.kind (head refl ∙ (omega arith ∙ ap (λ k. head_of size (is_used k) false) (sym top.kind))) (foot refl),
+      (
         refl,
         record {
-          whole = whole;
-          size = inr refl;
-          kind = inl used;
-          head = recorded.head ∙ ap (λ k. head_of 48 (is_used k) true) (sym used);
+          whole = omega (arith, top.whole, top.size.0);
+          size = inl refl;
+          kind = inr refl;
+          head = recorded.head;
           foot = λ free. absurd (cc);
           fence = λ is k low high m. recorded.fences k low (omega arith) m;
         },
-        omega arith,
-      )
-  left_stands false isnt recorded head foot =
-      let more = large isnt in (
-        refl,
-        free_chunk whole (units, more) used (head refl ∙ (omega arith ∙ ap (λ k. head_of size (is_used k) false) (sym used))) (foot refl),
-        (
-          refl,
-          record {
-            whole = omega arith;
-            size = inl refl;
-            kind = inr refl;
-            head = recorded.head;
-            foot = λ free. absurd (cc);
-            fence = λ is k low high m. recorded.fences k low (omega arith) m;
-          },
-          ends_at,
-        ),
-      )
-    where
-      large : (size == 16) ≡ false → 32 ≤ size
-      large test = elim (dec_lt size 32) [
-        | yes small ↦ absurd (let sixteen : size ≡ 16 = omega arith in let yes : (size == 16) ≡ true = grind (arith, nat_tests) in cc)
-        | no more ↦ omega arith
-      ]
+        ends_at,
+      ),
+    )
+  where
+    large : (size == 16) ≡ false → 32 ≤ size
+    large test = elim (dec_lt size 32) [
+      | yes small ↦ absurd (let sixteen : size ≡ 16 = omega (arith, top.size.0, top.size.1) in let yes : (size == 16) ≡ true = grind (arith, nat_tests) in cc)
+      | no more ↦ omega arith
+    ]
 
 pub left_tail : (before : Kind) (at size : ℕ) (b : Bool) → ends_segment (last_kind before (left b at size)) ≡ true
 left_tail before at size true = refl

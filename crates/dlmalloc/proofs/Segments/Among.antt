@@ -3,7 +3,8 @@ use Rattle.dlmalloc.proofs.Names.{◌≡◌, ℕ, suc, ◌+◌, ◌<◌, ◌≤�
 use Rattle.dlmalloc_chunks.specs.Tiling.{extent_at}
 use Rattle.dlmalloc.proofs.Extents.Lookup.{found, found_either, found_more, found_later, nat_is}
 use Rattle.dlmalloc.proofs.Extents.Tiling.{sized, tiles_le, tiles_split}
-use Rattle.dlmalloc.proofs.Extents.OneMoreUsed.{AreDistinct, none_outside}
+use Rattle.dlmalloc.proofs.Extents.OneMoreUsed.{AreDistinct, none_outside, distinct_later}
+pub use Rattle.dlmalloc.proofs.Extents.OneMoreUsed.{distinct_later}
 
 abbrev pub extents_all : List Segment → List Extent
 extents_all segments = flat_map (λ segment. segment.extents) segments
@@ -121,15 +122,6 @@ all_distinct regions words [] parts apart = tt
 all_distinct regions words (segment ∷ segments) parts apart =
     distinct_append words Used segment.base segment.extents (segment.base + segment.size) (extents_all segments) parts.0.extents
     (none_there regions words segment segments parts.1 apart.0) (all_distinct regions words segments parts.1 apart.1)
-
--- what is found behind some is found with them
-pub distinct_later : (front back : List Extent) (k : ℕ) {extent : Extent} → AreDistinct (front ++ back) → extent_at k back ≡ Some extent → extent_at k (front ++ back) ≡ Some extent
-distinct_later [] back k distinct there = there
-distinct_later (first ∷ front) back k {extent} distinct there = go (first.at == k) refl (distinct_later front back k distinct.1 there)
-  where
-    go : (b : Bool) → (first.at == k) ≡ b → extent_at k (front ++ back) ≡ Some extent → (if b then Some first else extent_at k (front ++ back)) ≡ Some extent
-    go true here later = absurd (let none = subst (λ a. extent_at a (front ++ back) ≡ None) (nat_is here) distinct.0 in let some = later in cc)
-    go false other later = later
 
 -- an extent in its segment
 pub record IsIn (words : ℕ → ℕ) (from to : ℕ) (extent : Extent) : Type 0 where

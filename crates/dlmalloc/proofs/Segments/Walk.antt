@@ -2,6 +2,7 @@
 use Rattle.dlmalloc.proofs.Names.{◌≡◌, ◌≢◌, ℕ, ◌+◌, ◌-◌, ◌%◌, ◌^◌, ◌<◌, ◌≤◌, List, [], ◌∷◌, ◌++◌, Some, refl, sym, ◌∙◌, ap, subst, arith, append_assoc, length-append, length, append-nil, Grant, IsWordOf, Top, Foot, extent_at, Segment, IsSegment, AreSegments, record_of, records_from, AreRecords, chunks_between, IsChunkRun, segments_of, AreTold, IsSound, Dlmalloc}
 use Rattle.dlmalloc.proofs.Extents.Lookup.{extent}
 use Rattle.dlmalloc.proofs.Extents.FromWords.{records_read}
+use Rattle.dlmalloc.proofs.Segments.Among.{all_back}
 use Rattle.dlmalloc.proofs.Words.OfRecords.{IsPayloadIn, payload_in}
 use Rattle.dlmalloc.proofs.Moves.OfHeaps.{segments_few}
 use Rattle.dlmalloc.proofs.Extents.Walk.{HasTail, top_tail, record_tail}
@@ -45,9 +46,10 @@ next_segment regions words payload [] some parts h = absurd (some h)
 next_segment regions words payload (segment ∷ others) some parts h =
     record { segment = segment; others = others; is = refl; some = h.0; base = h.1; size = h.2; told = h.5; part = parts.0; there = h.4 }
 
-rest_segments : (regions : List Grant) (words : ℕ → ℕ) (front back : List Segment) → AreSegments regions words (front ++ back) → AreSegments regions words back
-rest_segments regions words [] back parts = parts
-rest_segments regions words (first ∷ front) back parts = rest_segments regions words front back parts.1
+-- where no record is left, no segment is
+pub none_told : (words : ℕ → ℕ) {payload : ℕ} (rest : List Segment) → AreRecords words payload rest → payload ≡ 0 → rest ≡ []
+none_told words [] h none = refl
+none_told words (segment ∷ rest) h none = absurd (let some = h.0 in omega arith)
 
 -- the head is passed
 pub head_passed : {A : Type 0} {regions : A → List Grant} {word : A → ℕ → ℕ} (heap : Dlmalloc A) → IsSound regions word heap → 0 < heap.size →
@@ -80,7 +82,7 @@ module _ {A : Type 0} {regions : A → List Grant} {word : A → ℕ → ℕ} {h
 
   module _ {payload : ℕ} {known : List Segment → Type 0} (p : PassedSegments word heap payload known) where
     parts_left : AreSegments (regions heap.system) (word heap.system) p.rest
-    parts_left = rest_segments (regions heap.system) (word heap.system) p.passed p.rest (subst (AreSegments (regions heap.system) (word heap.system)) p.is sound.segments)
+    parts_left = all_back (IsSegment (regions heap.system) (word heap.system)) p.passed p.rest (subst (AreSegments (regions heap.system) (word heap.system)) p.is sound.segments)
 
     few_left : length p.rest ≤ 2 ^ 64
     few_left = let all = segments_few word heap in let sum = ap length p.is ∙ length-append p.passed p.rest in let some = p.some in omega arith
@@ -90,11 +92,7 @@ module _ {A : Type 0} {regions : A → List Grant} {word : A → ℕ → ℕ} {h
 
     -- all are passed where no record is left
     pub all_segments : payload ≡ 0 → known (segments_of word heap)
-    all_segments none = subst known (sym (p.is ∙ (ap (λ ss. p.passed ++ ss) (empty p.rest p.told) ∙ append-nil p.passed))) p.so_far
-      where
-        empty : (rest : List Segment) → AreRecords (word heap.system) payload rest → rest ≡ []
-        empty [] h = refl
-        empty (segment ∷ rest) h = absurd (let some = h.0 in omega arith)
+    all_segments none = subst known (sym (p.is ∙ (ap (λ ss. p.passed ++ ss) (none_told (word heap.system) p.rest p.told none) ∙ append-nil p.passed))) p.so_far
 
     module _ (some : payload ≢ 0) where
       pub ahead_segment : NextSegment (regions heap.system) (word heap.system) payload p.rest

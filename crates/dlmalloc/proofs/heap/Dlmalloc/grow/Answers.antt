@@ -70,15 +70,12 @@ pub returns-in-Some-clause-cut : goal.returns-in-Some-clause-cut
 returns-in-Some-clause-cut g c = λ at is.
     let regions = g.A.Links.regions in let word = g.A.Links.word in let heap = c.args.self.now in
     let grant = c.in_ok-grant.grant in let given = c.in_ok-grant.ensures in let asked = c.asked-asked.result in
-    let enough = c.asked-asked.ensures.enough in let least = c.requires.least in let long = given.good.long in
     let middle = c.alloc.new.self in let new = c.put_before.new.self in let put = c.put_before.ensures.put in
-    let same = same g (goal.at.returns-in-Some-clause-cut g c).In_ok-grant in
     let followed = g.A.Links.follows_on heap.system middle new.system (Granted asked grant ∷ []) [] (Granted asked grant ∷ []) given.follows put.followed refl in
     let at_is : grant.base ≡ at = ap (λ o. unwrap_or o grant.base) is in
     subst (λ a. IsCutOut regions word g.A.Allocator.zeros g.A.Links.follows heap c.args.n a new) at_is
-    (cut_before g.A.Allocator.zeros c.requires.sound enough c.requires.none given.good (omega arith) given.apart middle given.regions same
-    (subst (λ ss. is_put_before grant ss ≡ true) (λ i. (same i).segments) c.in-Some.ensures.some)
-    given.words given.zeros put (subst (λ bytes. g.A.Links.follows heap.system (Granted bytes grant ∷ []) new.system) c.asked-asked.ensures.asked followed))
+    (cut_before c.requires.sound c.requires.least c.asked-asked.ensures.enough c.requires.none given.good given.apart given.regions given.words given.zeros
+    c.in-Some.ensures.some put (subst (λ bytes. g.A.Links.follows heap.system (Granted bytes grant ∷ []) new.system) c.asked-asked.ensures.asked followed))
 
 pub returns-in-None-clause-top : goal.returns-in-None-clause-top
 returns-in-None-clause-top g c = λ is.
