@@ -1,25 +1,14 @@
 -- Worked values: resizing in place, and blocks at alignments, computed on small heaps.
-use Rattle.std.proofs.Common.{◌≡◌, ℕ, List, [], ◌∷◌, refl, Some, None}
-use Rattle.dlmalloc_chunks.specs.declared.extent.Extent.{Extent}
-use Rattle.dlmalloc_chunks.specs.declared.extent.Kind.{Kind}
-use Rattle.dlmalloc_chunks.specs.declared.extent.Kind.TheVariants.{Used, Free, Top, Foot}
-use Rattle.dlmalloc.specs.State.{HeapState, new_heap}
+use Rattle.std.proofs.Common.{◌≡◌, [], ◌∷◌, refl, Some, None}
+use Rattle.dlmalloc_chunks.specs.declared.extent.Kind.TheVariants.{Used, Free, Top}
+use Rattle.dlmalloc.specs.State.{HeapState}
 use Rattle.dlmalloc.specs.Choice.{OfBins, chosen}
 use Rattle.dlmalloc.specs.Taken.{taken}
 use Rattle.dlmalloc.specs.Freed.{freed}
 use Rattle.dlmalloc.specs.Resized.{in_place}
 use Rattle.dlmalloc.specs.Aligned.{aligned_place, aligned}
-
-abbrev run : ℕ → ℕ → Kind → Extent
-run at size kind = record { at = at; size = size; kind = kind }
-
--- a heap of one segment of 65536 bytes from 0x400000 on, with these extents before its foot, and this victim
-abbrev heap : List Extent → ℕ → HeapState
-heap extents victim = record new_heap
-    { segments = (record { base = 0x400000; size = 65536; flags = 0; extents = extents }) ∷ []; victim = victim; countdown = 4095; trim_check = 2097152 }
-
-abbrev foot : Extent
-foot = run 0x40ffb0 80 Foot
+use Rattle.dlmalloc.proofs.Extents.Lookup.{extent as run}
+use Rattle.dlmalloc.proofs.Examples.Definitions.{heap, foot}
 
 -- ---- a block that keeps its place
 

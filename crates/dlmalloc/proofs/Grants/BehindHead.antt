@@ -9,7 +9,7 @@ use Rattle.dlmalloc.proofs.Segments.Among.{extents_all}
 use Rattle.dlmalloc.proofs.Segments.RegionsMore.{runs_joined}
 use Rattle.dlmalloc.proofs.Segments.Exchange.{Exchange, exchanged_read, exchanged_used, exchanged_sound, none_exchanged}
 use Rattle.dlmalloc.proofs.Segments.ToldAnew.{IsOutside, head_tags}
-use Rattle.dlmalloc.proofs.Segments.HeadTop.{top_of, top_stands, top_run, top_part, top_segment, top_last, top_low, top_whole, top_sizes, ends, head_first, behind_parts, behind_apart, head_chunks, head_extents, extents_all_are, none_from_top}
+use Rattle.dlmalloc.proofs.Segments.HeadTop.{top_of, top_stands, top_run, top_part, top_segment, top_last, top_low, top_whole, top_sizes, ends, head_first, behind_parts, head_beside, behind_apart, head_chunks, head_extents, extents_all_are, none_from_top}
 use Rattle.dlmalloc.proofs.Grants.Opened.{grant_apart, parts_kept, told_kept}
 
 -- what the test says of a grant at the end of a segment
@@ -131,8 +131,7 @@ module _ {A : Type 0} {regions : A → List Grant} {word : A → ℕ → ℕ} {h
   it = record {
     now = now ∷ old_run.back;
     parts = (is_now, parts_kept system sound fresh same some outside_kept);
-    apart = (let back = behind_apart sound some in
-        (longer_apart old_run.back back.0 (grant_apart system sound fresh same some).1 (behind_parts sound some), back.1));
+    apart = (longer_apart old_run.back (head_beside sound some) (grant_apart system sound fresh same some).1 (behind_parts sound some), behind_apart sound some);
     told = (omega arith, was.base, ap (λ n. n + grant.size) was.size, was.flags, where_top, told_kept system sound fresh same some outside_kept);
     some = omega arith;
     granularity = refl;

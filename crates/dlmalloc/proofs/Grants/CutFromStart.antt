@@ -102,39 +102,39 @@ module _ {A : Type 0} {regions : A → List Grant} {word : A → ℕ → ℕ} {f
   abbrev pub prepended_binned : IndexStays → IsSound regions word old → IsSameBins old middle → IsBinned regions word old → IsBinned regions word middle
   prepended_binned stays sound same = binned_same stays sound first.sound (λ k was is boundary tag tag'. prepended_tags k was boundary tag') same.bins prepended_free same.victim
 
-module _ {A : Type 0} {regions : A → List Grant} {word : A → ℕ → ℕ} {follows : A → List Event → A → Type 0} {old middle new : Dlmalloc A}
-    {grant : Grant} {n : ℕ} (least : 32 ≤ n) (first : IsPrepended regions word follows old grant n middle)
-    (state : state_of word new ≡ freed (state_of word middle) (grant.base + n))
-    (less : HasOneMore (state_of word new) (state_of word middle) (grant.base + n)) (moved : IsTurned regions word follows middle new)
-    (records : (one : Extent) → one.kind ≡ Record → extent_at one.at (extents_in (state_of word middle)) ≡ Some one → extent_at one.at (extents_in (state_of word new)) ≡ Some one)
-    (followed : follows old.system [] new.system) where
-  chunk_there : extent_at grant.base (extents_in (state_of word new)) ≡ Some (extent grant.base n Used)
-  chunk_there = less.only (extent grant.base n Used) refl first.chunk (λ is. omega arith)
+-- its rest was freed
+pub put_before_is : {A : Type 0} {regions : A → List Grant} {word : A → ℕ → ℕ} {follows : A → List Event → A → Type 0} {old middle new : Dlmalloc A}
+    {grant : Grant} {n : ℕ} → 32 ≤ n → IsPrepended regions word follows old grant n middle →
+    state_of word new ≡ freed (state_of word middle) (grant.base + n) → HasOneMore (state_of word new) (state_of word middle) (grant.base + n) →
+    IsTurned regions word follows middle new → ((one : Extent) → one.kind ≡ Record →
+    extent_at one.at (extents_in (state_of word middle)) ≡ Some one → extent_at one.at (extents_in (state_of word new)) ≡ Some one) →
+    follows old.system [] new.system → IsPutBefore regions word follows old grant n new
+put_before_is {regions} {word} {old} {middle} {new} {grant} {n} least first state less moved records followed = record {
+  state = state ∙ ap (λ s. freed s (grant.base + n)) first.state;
+  sound = moved.sound;
+  regions_same = moved.regions_same ∙ first.regions_same;
+  followed = followed;
+  chunk = chunk_there;
+  more = record {
+    kept = λ used is there. less.only used is (first.still used there) ((first.apart used there).1);
+    only = λ used is there other. first.before used other (less.new used is there) (less.kept used is there);
+    new = λ used is there. (first.apart used there).0;
+  };
+  words = λ k inside out was own tag. moved.words k (into k inside) (no_free first k was) own ∙ first.words k inside out
+      (λ r. tag (record { extent = r.extent; there = records r.extent r.is r.there; is = r.is; low = r.low; high = r.high }));
+  new_words = λ k inside low high own. moved.words k (into k inside) (none_of_grant first k low high) own ∙ first.new_words k inside low high
+      (λ is. own (inl (record { extent = extent grant.base n Used; there = chunk_there; is = inl is })))
+      (λ is. own (inl (record { extent = rest_there.next; there = rest_there.there; is = inl (is ∙ ap (λ a. a + 8) (sym rest_there.place)) })));
+}
+  where
+    chunk_there : extent_at grant.base (extents_in (state_of word new)) ≡ Some (extent grant.base n Used)
+    chunk_there = less.only (extent grant.base n Used) refl first.chunk (λ is. omega arith)
 
-  rest_there : IsFoundBehind (segments_of word new) (extent grant.base n Used)
-  rest_there = found_behind (regions new.system) (word new.system) (segments_of word new) moved.sound.segments moved.sound.apart chunk_there refl
+    rest_there : IsFoundBehind (segments_of word new) (extent grant.base n Used)
+    rest_there = found_behind (regions new.system) (word new.system) (segments_of word new) moved.sound.segments moved.sound.apart chunk_there refl
 
-  into : (k : ℕ) → IsWordOf (regions old.system) k → IsWordOf (regions middle.system) k
-  into k inside = subst (λ rs. IsWordOf rs k) (sym first.regions_same) inside
-
-  pub put_before_is : IsPutBefore regions word follows old grant n new
-  put_before_is = record {
-    state = state ∙ ap (λ s. freed s (grant.base + n)) first.state;
-    sound = moved.sound;
-    regions_same = moved.regions_same ∙ first.regions_same;
-    followed = followed;
-    chunk = chunk_there;
-    more = record {
-      kept = λ used is there. less.only used is (first.still used there) ((first.apart used there).1);
-      only = λ used is there other. first.before used other (less.new used is there) (less.kept used is there);
-      new = λ used is there. (first.apart used there).0;
-    };
-    words = λ k inside out was own tag. moved.words k (into k inside) (no_free first k was) own ∙ first.words k inside out
-        (λ r. tag (record { extent = r.extent; there = records r.extent r.is r.there; is = r.is; low = r.low; high = r.high }));
-    new_words = λ k inside low high own. moved.words k (into k inside) (none_of_grant first k low high) own ∙ first.new_words k inside low high
-        (λ is. own (inl (record { extent = extent grant.base n Used; there = chunk_there; is = inl is })))
-        (λ is. own (inl (record { extent = rest_there.next; there = rest_there.there; is = inl (is ∙ ap (λ a. a + 8) (sym rest_there.place)) })));
-  }
+    into : (k : ℕ) → IsWordOf (regions old.system) k → IsWordOf (regions middle.system) k
+    into k inside = subst (λ rs. IsWordOf rs k) (sym first.regions_same) inside
 
 -- ---- so the chunk is cut out
 

@@ -6,7 +6,7 @@ use Rattle.dlmalloc.proofs.Extents.Tiling.{tiles_kept, tiles_append}
 use Rattle.dlmalloc.proofs.Moves.OfLists.{last_append}
 use Rattle.dlmalloc.proofs.Segments.HeadTold.{IsHead, bare_head}
 use Rattle.dlmalloc.proofs.Segments.Among.{extents_all, apart_back}
-use Rattle.dlmalloc.proofs.Segments.HeadTop.{top_of, top_run, top_part, top_segment, top_last, top_sizes, top_whole, low_top, ends, head_first, behind_apart, head_chunks, head_extents, extents_all_are, none_from_top}
+use Rattle.dlmalloc.proofs.Segments.HeadTop.{top_of, top_run, top_part, top_segment, top_last, top_sizes, top_whole, low_top, ends, head_first, head_beside, behind_apart, head_chunks, head_extents, extents_all_are, none_from_top}
 use Rattle.dlmalloc.proofs.Grants.Opened.{grant_apart, apart_grant, parts_kept, told_kept, opened_segment}
 use Rattle.dlmalloc.proofs.Segments.Exchange.{HasNo, none_of, Exchange, exchanged_read, exchanged_new, exchanged_used, exchanged_free, exchanged_sound}
 use Rattle.dlmalloc.proofs.Segments.ToldAnew.{head_tags}
@@ -176,7 +176,7 @@ module _ {A : Type 0} {regions : A → List Grant} {word : A → ℕ → ℕ} {h
   exchange = record {
     now = all;
     parts = (opened_segment system sound fresh same head foot, (is_now, parts_kept system sound fresh same some outside_kept));
-    apart = ((apart_back it.segment (opened grant) grant_beside, apart_grant system sound fresh same some), behind_apart sound some);
+    apart = ((apart_back it.segment (opened grant) grant_beside, apart_grant system sound fresh same some), (head_beside sound some, behind_apart sound some));
     told = told_now;
     some = omega (arith, fresh.long);
     granularity = refl;

@@ -4,7 +4,7 @@ use Rattle.dlmalloc.proofs.Extents.Lookup.{extent, nat_same}
 use Rattle.dlmalloc.proofs.Segments.Among.{extents_all, flip}
 use Rattle.dlmalloc.proofs.Segments.WordsKept.{KeepsIts, IsOutside, parts_stay, records_stay, apart_stay}
 use Rattle.dlmalloc.proofs.Segments.Exchange.{Exchange, exchanged_read, exchanged_used, exchanged_sound, none_exchanged}
-use Rattle.dlmalloc.proofs.Segments.HeadTop.{no_segments, top_stands, top_run, head_first, behind_parts, behind_apart, behind_told}
+use Rattle.dlmalloc.proofs.Segments.HeadTop.{no_segments, top_stands, top_run, head_first, behind_parts, head_beside, behind_told}
 
 -- a heap that had no segment, with a grant as its head segment
 abbrev pub opened_heap : {A : Type 0} → Dlmalloc A → Grant → A → ℕ → Dlmalloc A
@@ -104,7 +104,7 @@ module _ {A : Type 0} {regions : A → List Grant} {word : A → ℕ → ℕ} {h
     module _ (kept : (k : ℕ) → IsWordOf (regions heap.system) k → IsOutside run.segment k → IsOutside (opened grant) k → word system k ≡ word heap.system k) where
       back_keeps : AllByRecursion (KeepsIts (word heap.system) (word system)) run.back
       back_keeps = apart_stay (regions heap.system) (word heap.system) (word system) run.segment (opened grant) run.back (behind_parts sound some)
-          (behind_apart sound some).0 grant_apart.1 kept
+          (head_beside sound some) grant_apart.1 kept
 
       pub parts_kept : AreSegments (regions system) (word system) run.back
       parts_kept = subst (λ rs. AreSegments rs (word system) run.back) (sym same)

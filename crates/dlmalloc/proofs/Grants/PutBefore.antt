@@ -73,6 +73,12 @@ module _ {A : Type 0} {regions : A → List Grant} {word : A → ℕ → ℕ} {f
   back_beside : AllByRecursion (λ other. IsApartFrom other (opened grant)) back
   back_beside = (all_back (λ other. IsApartFrom other (opened grant)) front (segment ∷ back) beside).1
 
+  abbrev pub now : Segment
+  now = put_before grant n segment
+
+  abbrev two_chunks : List Extent
+  two_chunks = extent grant.base n Used ∷ extent (grant.base + n) (grant.size - n) Used ∷ []
+
   outside_kept : (k : ℕ) → IsWordOf (regions heap.system) k → IsOutside segment k → IsOutside (opened grant) k → word system k ≡ word heap.system k
   outside_kept k inside first second = kept k inside (λ at. elim second [ inl below ↦ omega arith | inr above ↦ omega arith ])
       (λ at. elim second [ inl below ↦ omega arith | inr above ↦ omega arith ]) (untold k first)
@@ -84,12 +90,6 @@ module _ {A : Type 0} {regions : A → List Grant} {word : A → ℕ → ℕ} {f
   pub back_keeps : AllByRecursion (KeepsIts (word heap.system) (word system)) back
   back_keeps = apart_stay (regions heap.system) (word heap.system) (word system) segment (opened grant) back back_parts
       (flip segment back (back_apart front segment back apart)) back_beside outside_kept
-
-  abbrev pub now : Segment
-  now = put_before grant n segment
-
-  abbrev two_chunks : List Extent
-  two_chunks = extent grant.base n Used ∷ extent (grant.base + n) (grant.size - n) Used ∷ []
 
   two_stand : Tiles (word system) Used grant.base now.extents (grant.base + (grant.size + segment.size))
   two_stand = (

@@ -1,6 +1,6 @@
 -- Of a region that was granted for a block that moves, some byte is granted still as the old block was freed: the new block
 -- has one, or the head segment stays whole.
-use Rattle.dlmalloc.proofs.Names.{◌≡◌, ℕ, ◌+◌, ◌-◌, ◌<◌, ◌≤◌, inl, inr, Bool, List, Some, refl, sym, ◌∙◌, ap, subst, arith, dec_lt, AllByRecursion, IsPowerOfTwo, Grant, Event, IsApart, with_grant, padded, enlarged, Extent, extent_at, HeapState, extents_in, granted, IsBlock, IsInside, segments_of, state_of, IsSound, IsBehindTop, IsTakenFromGrant, IsObtained, IsServed, spans, IsServedAligned, IsElsewhere, Dlmalloc}
+use Rattle.dlmalloc.proofs.Names.{◌≡◌, ℕ, ◌+◌, ◌-◌, ◌<◌, ◌≤◌, inl, inr, Bool, List, Some, IsTrue, refl, sym, ◌∙◌, ap, subst, arith, dec_lt, AllByRecursion, IsPowerOfTwo, Grant, Event, IsApart, is_granted, with_grant, padded, enlarged, Extent, extent_at, HeapState, extents_in, granted, IsBlock, IsInside, segments_of, state_of, IsSound, IsBehindTop, IsTakenFromGrant, IsObtained, IsServed, spans, IsServedAligned, IsElsewhere, Dlmalloc}
 use Rattle.dlmalloc.specs.Moved.{HasByteOf}
 use Rattle.dlmalloc.proofs.Extents.Lookup.{found}
 use Rattle.dlmalloc.proofs.Segments.RegionsMore.{with_other, one_more, none_granted}
@@ -22,6 +22,10 @@ module _ {A : Type 0} {regions : A → List Grant} {word : A → ℕ → ℕ} {h
 
   chunk_inside : IsInside (regions heap.system) block.extent
   chunk_inside = used_inside regions word heap sound block.extent block.used chunk_there
+
+  -- its first byte is granted
+  chunk_granted : IsTrue (is_granted (regions heap.system) block.extent.at)
+  chunk_granted = chunk_inside.granted block.extent.at (omega arith) (omega (arith, chunk_inside.long))
 
 module _ {A : Type 0} {regions : A → List Grant} {word : A → ℕ → ℕ} {zeros : A → Bool} {follows : A → List Event → A → Type 0} {frees parts : Bool} {unit : ℕ}
     {old new : Dlmalloc A} {from held align size address n : ℕ} (sound : IsSound regions word old) (power : IsPowerOfTwo align) (block : IsBlock (state_of word old) from n)
@@ -73,12 +77,12 @@ module _ {A : Type 0} {regions : A → List Grant} {word : A → ℕ → ℕ} {z
             | inr beyond ↦ omega (arith, longer.0, longer.1, end)
           ])
         ]
-        | no above ↦ (chunk.at, omega arith, omega (arith, top_place sound behind.1.1, ends sound some, end), (chunk_inside out.freed.sound out.block).granted chunk.at (omega arith) (omega (arith, (chunk_inside out.freed.sound out.block).long)))
+        | no above ↦ (chunk.at, omega arith, omega (arith, top_place sound behind.1.1, ends sound some, end), chunk_granted out.freed.sound out.block)
       ]
 
     still_new : HasByteOf grant (regions new.system)
     still_new = elim taken.place [
-      | inl here ↦ (chunk.at, omega arith, omega arith, (chunk_inside out.freed.sound out.block).granted chunk.at (omega arith) (omega (arith, (chunk_inside out.freed.sound out.block).long)))
+      | inl here ↦ (chunk.at, omega arith, omega arith, chunk_granted out.freed.sound out.block)
       | inr behind ↦ still_behind behind
     ]
 

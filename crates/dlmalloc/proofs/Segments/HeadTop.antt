@@ -69,8 +69,11 @@ module _ {A : Type 0} {regions : A → List Grant} {word : A → ℕ → ℕ} {h
   pub behind_parts : AreSegments (regions heap.system) (word heap.system) top_run.back
   behind_parts = (subst (AreSegments (regions heap.system) (word heap.system)) head_first sound.segments).1
 
-  pub behind_apart : AllByRecursion (IsApartFrom top_run.segment) top_run.back × AreApart top_run.back
-  behind_apart = subst AreApart head_first sound.apart
+  pub head_beside : AllByRecursion (IsApartFrom top_run.segment) top_run.back
+  head_beside = (subst AreApart head_first sound.apart).0
+
+  pub behind_apart : AreApart top_run.back
+  behind_apart = (subst AreApart head_first sound.apart).1
 
   pub behind_told : AreRecords (word heap.system) heap.next top_run.back
   behind_told = (subst (AreTold (word heap.system) heap) head_first sound.told).5
