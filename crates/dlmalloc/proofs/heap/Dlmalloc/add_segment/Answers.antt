@@ -12,12 +12,6 @@ returns-then-top_size-lt-LEAST_CHUNK g c =
       order = λ b. (little_left c.index_stays.ensures c.requires.sound c.requires.there e.joined e.free e.same b c.if-top_size-lt-LEAST_CHUNK.true, order_same b.index);
     }
 
-pub bin-requires-clause-sound : goal.bin-requires-clause-sound
-bin-requires-clause-sound g c = c.change_head.ensures.joined.sound
-
-pub bin-requires-clause-free : goal.bin-requires-clause-free
-bin-requires-clause-free g c = c.change_head.ensures.rest c.if-top_size-lt-LEAST_CHUNK.false
-
 pub bin-requires-clause-other : goal.bin-requires-clause-other
 bin-requires-clause-other g c =
     let e = c.change_head.ensures in

@@ -3,22 +3,6 @@ use Rattle.dlmalloc.proofs.Grants.Opened.{opened_heap, opened_sound, opened_stat
 use Rattle.dlmalloc.proofs.Segments.ToldAnew.{head_tags}
 use Rattle.dlmalloc.proofs.heap.Dlmalloc.open.Goals as goal
 
-pub make_head-requires-clause-high : goal.make_head-requires-clause-high
-make_head-requires-clause-high g c = c.requires.fresh.high
-
-pub make_head-requires-clause-long : goal.make_head-requires-clause-long
-make_head-requires-clause-long g c = let long = c.requires.fresh.long in omega arith
-
-pub make_head-requires-clause-top : goal.make_head-requires-clause-top
-make_head-requires-clause-top g c =
-    let f = c.requires.fresh in
-    record { granted = f.run.covered (c.args.grant.now.base + 8) (omega arith) (omega arith); aligned = omega arith }
-
-pub make_head-requires-clause-foot : goal.make_head-requires-clause-foot
-make_head-requires-clause-foot g c =
-    let f = c.requires.fresh in let grant = c.args.grant.now in
-    record { granted = f.run.covered (grant.base + grant.size - 72) (omega arith) (omega arith); aligned = omega arith }
-
 pub returns : goal.returns
 returns g c =
     let regions = g.A.Links.regions in let word = g.A.Links.word in let heap = c.args.self.now in

@@ -20,12 +20,6 @@ put_two-requires-clause-behind g c =
     let whole = c.requires.whole in let room = c.requires.room in let least = c.requires.least in
     part_head f (c.args.grant.now.base + c.args.n) (omega arith) (omega arith) (omega arith)
 
-pub put_two-requires-clause-second : goal.put_two-requires-clause-second
-put_two-requires-clause-second g c = let size = c.requires.fresh.size_aligned in let whole = c.requires.whole in let room = c.requires.room in omega arith
-
-pub put_two-requires-clause-ends : goal.put_two-requires-clause-ends
-put_two-requires-clause-ends g c = let high = c.requires.fresh.high in let room = c.requires.room in omega arith
-
 pub returns : goal.returns
 returns g c =
     let regions = g.A.Links.regions in let heap = c.args.self.now in let put = c.put_two.ensures in

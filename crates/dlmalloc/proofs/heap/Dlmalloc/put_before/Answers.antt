@@ -2,12 +2,6 @@ use Rattle.dlmalloc.proofs.Names.{[], refl}
 use Rattle.dlmalloc.proofs.Grants.CutFromStart.{prepended_binned, put_before_is}
 use Rattle.dlmalloc.proofs.heap.Dlmalloc.put_before.Goals as goal
 
-pub dispose_chunk-requires-clause-sound : goal.dispose_chunk-requires-clause-sound
-dispose_chunk-requires-clause-sound g c = c.prepend.ensures.prepended.sound
-
-pub dispose_chunk-requires-clause-chunk : goal.dispose_chunk-requires-clause-chunk
-dispose_chunk-requires-clause-chunk g c = c.prepend.ensures.prepended.rest
-
 pub dispose_chunk-requires-clause-linked : goal.dispose_chunk-requires-clause-linked
 dispose_chunk-requires-clause-linked g c =
     prepended_binned c.prepend.ensures.prepended c.index_stays.ensures c.requires.sound c.prepend.ensures.same c.requires.linked
