@@ -13,11 +13,9 @@ use Rattle.dlmalloc.proofs.Extents.Top.{no_record}
 -- what is not free is in use, or ends a segment
 not_free : (kind : Kind) → is_free kind ≡ false → (kind ≡ Used) ⊎ (ends_segment kind ≡ true)
 not_free Used h = inl refl
-not_free Free h = absurd (cc)
-not_free Victim h = absurd (cc)
-not_free Top h = absurd (cc)
 not_free Record h = inr refl
 not_free Foot h = inr refl
+not_free kind h = absurd (cc)
 
 -- so is what stands behind a free extent
 behind_free : (first next : Kind) → is_free first ≡ true → MayStand first next → (next ≡ Used) ⊎ (ends_segment next ≡ true)
@@ -130,12 +128,9 @@ module _ {regions : List Grant} {words : ℕ → ℕ} {segment : Segment} (part 
       other = go bare.last.kind bare.ends
         where
           go : (kind : Kind) → ends_segment kind ≡ true → is_free kind ≡ false
-          go Used ends = absurd (cc)
-          go Free ends = absurd (cc)
-          go Victim ends = absurd (cc)
-          go Top ends = absurd (cc)
           go Record ends = refl
           go Foot ends = refl
+          go kind ends = absurd (cc)
 
   -- what is found is one of the two
   pub either : (k : ℕ) {other : Extent} → extent_at k segment.extents ≡ Some other → (bare.one ≡ other) ⊎ (bare.last ≡ other)

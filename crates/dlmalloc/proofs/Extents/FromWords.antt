@@ -37,9 +37,7 @@ kind_told Used before size whole is h = go (is_used before)
     go false = rw (pinuse_of-head_of size false true whole) refl
 kind_told Free before size whole is h = rw (h, pinuse_of-head_of size true false whole, cinuse_of-head_of size true false whole) refl
 kind_told Victim before size whole is h = absurd h
-kind_told Top before size whole is h = elim is [ inl a ↦ absurd (cc) | inr a ↦ absurd (cc) ]
-kind_told Record before size whole is h = elim is [ inl a ↦ absurd (cc) | inr a ↦ absurd (cc) ]
-kind_told Foot before size whole is h = elim is [ inl a ↦ absurd (cc) | inr a ↦ absurd (cc) ]
+kind_told kind before size whole is h = elim is [ inl a ↦ absurd (cc) | inr a ↦ absurd (cc) ]
 
 pub told : {words : ℕ → ℕ} {before : Kind} {chunk : Extent} → IsChunkKind chunk.kind → HasChunk words before chunk →
     extent chunk.at (size_of (words (chunk.at + 8))) (kind_of (words (chunk.at + 8))) ≡ chunk
@@ -79,11 +77,10 @@ nothing words before from (extent ∷ back) end ends h = absurd (let inner = (pa
 
 pub only_foot : (kind : Kind) → MayStand Top kind → kind ≡ Foot
 only_foot Used h = elim h [ inl a ↦ absurd (cc) | inr a ↦ absurd (cc) ]
-only_foot Free h = absurd (cc)
-only_foot Victim h = absurd h
-only_foot Top h = absurd (cc)
 only_foot Record h = elim h [ inl a ↦ absurd (cc) | inr a ↦ absurd (cc) ]
+only_foot Victim h = absurd h
 only_foot Foot h = refl
+only_foot kind h = absurd (cc)
 
 pub behind_top : (words : ℕ → ℕ) (from : ℕ) (back : List Extent) (end : ℕ) → Tiles words Top from back end →
     ends_segment (last_kind Top back) ≡ true → (back ≡ extent (end - 80) 80 Foot ∷ []) × (from + 80 ≡ end)

@@ -74,22 +74,16 @@ module _ (words : ℕ → ℕ) (n from : ℕ) where
   -- the run's start, and else at most as many bytes further as the extent before may have.
   abbrev further : Kind → ℕ
   further Used = 0
-  further Free = n
-  further Victim = n
-  further Top = n
   further Record = n + 96
   further Foot = n + 80
+  further kind = n
 
   abbrev Outcome : List Extent → ℕ → Type 0
   Outcome extents end = MeetsOne extents from (from + (n + 256)) ⊎ (end ≤ from + (n + 160))
 
   last_near : (kind : Kind) → further kind ≤ n + 96
   last_near Used = omega arith
-  last_near Free = omega arith
-  last_near Victim = omega arith
-  last_near Top = omega arith
-  last_near Record = omega arith
-  last_near Foot = omega arith
+  last_near kind = omega arith
 
   meets_one : (before : Kind) (at : ℕ) (extents : List Extent) (end : ℕ) → Tiles words before at extents end → AreDistinct extents → at ≤ from + 63 + further before →
       ((one : Extent) → extent_at one.at extents ≡ Some one → (one.kind ≡ Free) ⊎ (one.kind ≡ Top) → one.size ≤ n) → Outcome extents end

@@ -18,7 +18,6 @@ pub shown_as : (heap : HeapState) (extent : Extent) → IsShownAs heap.victim ex
 shown_as heap extent = of extent.at extent.size extent.kind
   where
     of : (at size : ℕ) (kind : Kind) → IsShownAs heap.victim (record { at = at; size = size; kind = kind }) (shown heap (record { at = at; size = size; kind = kind }))
-    of at size Used = record { place = refl; size = refl; free = refl; top = refl; foot = refl; ends = refl; bytes = λ h. h; named = λ no other. refl }
     of at size Free = go (at == heap.victim) refl
       where
         go : (b : Bool) → (at == heap.victim) ≡ b → IsShownAs heap.victim (record { at = at; size = size; kind = Free })
@@ -31,9 +30,7 @@ shown_as heap extent = of extent.at extent.size extent.kind
             (if b then record { at = at; size = size; kind = Victim } else record { at = at; size = size; kind = Victim })
         go true = record { place = refl; size = refl; free = refl; top = refl; foot = refl; ends = refl; bytes = λ h. h; named = λ no other. absurd (no refl) }
         go false = record { place = refl; size = refl; free = refl; top = refl; foot = refl; ends = refl; bytes = λ h. h; named = λ no other. absurd (no refl) }
-    of at size Top = record { place = refl; size = refl; free = refl; top = refl; foot = refl; ends = refl; bytes = λ h. h; named = λ no other. refl }
-    of at size Record = record { place = refl; size = refl; free = refl; top = refl; foot = refl; ends = refl; bytes = λ h. h; named = λ no other. refl }
-    of at size Foot = record { place = refl; size = refl; free = refl; top = refl; foot = refl; ends = refl; bytes = λ h. h; named = λ no other. refl }
+    of at size kind = record { place = refl; size = refl; free = refl; top = refl; foot = refl; ends = refl; bytes = λ h. h; named = λ no other. refl }
 
 -- so it is found where the extent is
 pub shown_found : (heap : HeapState) (at : ℕ) (extents : List Extent) → extent_at at (map (shown heap) extents) ≡ option_map (shown heap) (extent_at at extents)
@@ -56,12 +53,10 @@ pub record IsPair (first second : Kind) : Type 0 where
 pub pair : (first second : Kind) → MayStand first second → IsPair first second
 pair first Used (inl is) = subst (λ k. IsPair k Used) (sym is) (record { inner = refl; apart = refl; foot = refl })
 pair first Used (inr is) = subst (λ k. IsPair k Used) (sym is) (record { inner = refl; apart = refl; foot = refl })
-pair first Free is = subst (λ k. IsPair k Free) (sym is) (record { inner = refl; apart = refl; foot = refl })
 pair first Victim is = absurd is
-pair first Top is = subst (λ k. IsPair k Top) (sym is) (record { inner = refl; apart = refl; foot = refl })
 pair first Record (inl is) = subst (λ k. IsPair k Record) (sym is) (record { inner = refl; apart = refl; foot = refl })
 pair first Record (inr is) = subst (λ k. IsPair k Record) (sym is) (record { inner = refl; apart = refl; foot = refl })
-pair first Foot is = subst (λ k. IsPair k Foot) (sym is) (record { inner = refl; apart = refl; foot = refl })
+pair first second is = subst (λ k. IsPair k second) (sym is) (record { inner = refl; apart = refl; foot = refl })
 
 -- heads do not tell the victim
 pub no_victim_kind : (before kind : Kind) → MayStand before kind → kind ≢ Victim

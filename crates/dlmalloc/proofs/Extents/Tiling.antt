@@ -3,12 +3,10 @@ use Rattle.dlmalloc.proofs.Names.{◌≡◌, ℕ, ◌+◌, ◌%◌, ◌<◌, ◌
 
 -- sizes are whole units, and one at least
 pub sized : (kind : Kind) (size : ℕ) → IsSize kind size → (size % 16 ≡ 0) × (16 ≤ size)
-sized Used size h = (h.0, (let l = h.1 in omega arith))
-sized Free size h = (h.0, (let l = h.1 in omega arith))
-sized Victim size h = (h.0, (let l = h.1 in omega arith))
 sized Top size h = h
 sized Record size h = elim h [ inl short ↦ (omega arith, omega arith) | inr long ↦ (omega arith, omega arith) ]
 sized Foot size h = (omega arith, omega arith)
+sized kind size h = (h.0, (let l = h.1 in omega arith))
 
 -- an extent of which its head alone tells
 pub plain_chunk : {words : ℕ → ℕ} {before : Kind} {one : Extent} → one.at % 16 ≡ 0 → IsSize one.kind one.size → MayStand before one.kind →

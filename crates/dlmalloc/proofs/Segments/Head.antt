@@ -48,9 +48,7 @@ first_counted frees parts heap at = count (is_counted heap at) (nat_le heap.coun
 
     count : (a b frees : Bool) → HasSameFirst (if a then (if b then passed frees parts heap else record heap { countdown = heap.countdown - 1 }) else heap).segments heap.segments
     count true true true = stays heap.segments
-    count true true false = (refl, refl)
-    count true false frees = (refl, refl)
-    count false b frees = (refl, refl)
+    count a b frees = (refl, refl)
 
 -- a grant behind it makes it longer
 pub first_granted : (grant : Grant) (n : ℕ) (heap : HeapState) → is_behind_head grant heap.segments ≡ true → (first_base

@@ -6,12 +6,9 @@ use Rattle.dlmalloc.proofs.Extents.Tiling.{sized, tiles_le, tiles_split}
 
 -- those that one writes are its head, and the word behind a free one
 pub spared : (kind : Kind) (at size k : ℕ) → k ≢ at + 8 → (IsTrue (is_free_below_top kind) → k ≢ at + size) → IsSpared k kind at size
-spared Used at size k head foot = head
 spared Free at size k head foot = (head, foot refl)
 spared Victim at size k head foot = (head, foot refl)
-spared Top at size k head foot = head
-spared Record at size k head foot = head
-spared Foot at size k head foot = head
+spared kind at size k head foot = head
 
 pub spared_before : (words : ℕ → ℕ) (before : Kind) (from : ℕ) (extents : List Extent) (to k : ℕ) → Tiles words before from extents to → k < from + 8 → AllSpare extents k
 spared_before words before from [] to k h low = tt
@@ -45,11 +42,8 @@ spared_second (extent ∷ front) back k h = spared_second front back k h.1
 -- the words of an extent in use are at no boundary
 inner : (kind : Kind) (at size k : ℕ) → is_used kind ≡ true → at + 16 ≤ k → IsSpared k kind at size
 inner Used at size k used low = λ is. omega arith
-inner Free at size k used low = absurd (cc)
-inner Victim at size k used low = absurd (cc)
-inner Top at size k used low = absurd (cc)
 inner Record at size k used low = λ is. omega arith
-inner Foot at size k used low = absurd (cc)
+inner kind at size k used low = absurd (cc)
 
 pub inner_spared : (words : ℕ → ℕ) (before : Kind) (from : ℕ) (extents : List Extent) (to : ℕ) {block : Extent} → Tiles words before from extents to →
     extent_at block.at extents ≡ Some block → is_used block.kind ≡ true → (k : ℕ) → block.at + 16 ≤ k → k < block.at + block.size + 8 → AllSpare extents k

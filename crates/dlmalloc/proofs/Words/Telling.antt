@@ -70,12 +70,9 @@ module _ {A : Type 0} {regions : A → List Grant} {word : A → ℕ → ℕ} {h
       part = all_at (IsSegment (regions heap.system) words) front segment back (subst (AreSegments (regions heap.system) words) is sound.segments)
 
       ends : (kind : Kind) → IsTrue (is_free_below_top kind) → ends_segment kind ≡ false
-      ends Used plain = refl
-      ends Free plain = refl
-      ends Victim plain = refl
-      ends Top plain = refl
       ends Record plain = absurd (cc)
       ends Foot plain = absurd (cc)
+      ends kind plain = refl
 
       inner : one.at + one.size ≤ segment.base + segment.size → k < segment.base + segment.size
       inner high = elim (dec_lt k (one.at + one.size)) [
