@@ -1,7 +1,7 @@
 -- Lists with one extent in use more.
-use Rattle.dlmalloc.proofs.Names.{◌≡◌, ◌≢◌, ℕ, ◌+◌, ◌<◌, ◌≤◌, ◌⊎◌, inl, Bool, true, false, ◌==◌, if◌then◌else◌, List, [], ◌∷◌, ◌++◌, Option, Some, None, refl, sym, ◌∙◌, ap, subst, arith, append_assoc, ⊤, filter-append, nat_tests, Extent, Kind, Used, is_used, HeapState, extents_in, HasOneMore, Tiles, used_of, HasMore}
+use Rattle.dlmalloc.proofs.Names.{◌≡◌, ◌≢◌, ℕ, ◌+◌, ◌<◌, ◌≤◌, ◌⊎◌, inl, inr, Bool, true, false, ◌==◌, if◌then◌else◌, List, [], ◌∷◌, ◌++◌, Option, Some, None, refl, sym, ◌∙◌, ap, subst, arith, append_assoc, ⊤, filter-append, nat_tests, Extent, Kind, Used, is_used, HeapState, extents_in, HasOneMore, Tiles, used_of, HasMore}
 use Rattle.dlmalloc_chunks.specs.Tiling.{extent_at}
-use Rattle.dlmalloc.proofs.Extents.Lookup.{nat_is, nat_same, nat_isnt, the_extent}
+use Rattle.dlmalloc.proofs.Extents.Lookup.{nat_is, nat_same, nat_isnt, the_extent, found_either, found_more}
 use Rattle.dlmalloc.proofs.Extents.Tiling.{sized, tiles_le}
 
 pub used_append : (front back : List Extent) → used_of (front ++ back) ≡ used_of front ++ used_of back
@@ -36,6 +36,17 @@ distinct_later (first ∷ front) back k {extent} distinct there = go (first.at =
     go true here later = absurd (let none = subst (λ a. extent_at a (front ++ back) ≡ None) (nat_is here) distinct.0 in let some = later in cc)
     go false other later = later
 
+-- what is found still is, where others stand in the place of some and it is found among them
+pub replaced_found : (k : ℕ) {one : Extent} (front less more back : List Extent) → AreDistinct (front ++ (more ++ back)) →
+    (extent_at k less ≡ Some one → extent_at k more ≡ Some one) → extent_at k (front ++ (less ++ back)) ≡ Some one → extent_at k (front ++ (more ++ back)) ≡ Some one
+replaced_found k front less more back distinct stays there = elim (found_either k front (less ++ back) there) [
+  | inl first ↦ found_more k front (more ++ back) first
+  | inr later ↦ distinct_later front (more ++ back) k distinct (elim (found_either k less back later.1) [
+    | inl here ↦ found_more k more back (stays here)
+    | inr last ↦ distinct_later more back k (distinct_second front (more ++ back) distinct) last.1
+  ])
+]
+
 -- none of the extents of a range begins outside of it
 pub none_outside : (words : ℕ → ℕ) (before : Kind) (from : ℕ) (extents : List Extent) (to k : ℕ) → (k < from) ⊎ (to ≤ k) → Tiles words before from extents to → extent_at k extents ≡ None
 none_outside words before from [] to k out h = refl
@@ -54,14 +65,14 @@ tiles_distinct words before from (extent ∷ extents) to h =
 
 -- what is found in use is found among those in use
 module _ (k : ℕ) (extent : Extent) (extents : List Extent) where
-  abbrev later : List Extent
-  later = used_of extents
+  abbrev used_later : List Extent
+  used_later = used_of extents
 
   -- the first of them is used or not, and begins there or not
-  passed : {found : Option Extent} → (extent.at == k) ≡ false → extent_at k later ≡ found → extent_at k (used_of (extent ∷ extents)) ≡ found
+  passed : {found : Option Extent} → (extent.at == k) ≡ false → extent_at k used_later ≡ found → extent_at k (used_of (extent ∷ extents)) ≡ found
   passed {found} other is = go (is_used extent.kind)
     where
-      go : (b : Bool) → extent_at k (if b then extent ∷ later else later) ≡ found
+      go : (b : Bool) → extent_at k (if b then extent ∷ used_later else used_later) ≡ found
       go true = rw other is
       go false = is
 

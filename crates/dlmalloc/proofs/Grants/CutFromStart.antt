@@ -1,8 +1,9 @@
 -- A chunk is cut from the start of a grant that is put before a segment.
-use Rattle.dlmalloc.proofs.Names.{◌≡◌, ℕ, ◌+◌, ◌-◌, ◌%◌, ◌<◌, ◌≤◌, ◌⊎◌, inl, inr, Bool, true, false, not, ◌&&◌, List, [], ◌∷◌, ◌++◌, None, Some, refl, sym, ◌∙◌, ap, subst, arith, append_assoc, dec_lt, AllByRecursion, list_any, Grant, Event, Granted, IsWordOf, IsApart, IsGoodGrant, with_grant, round_up, Extent, Used, Free, Record, ends_segment, extent_at, HeapState, Segment, extents_in, chosen, freed, is_behind, is_before, is_put_before, granted, HasOneMore, IsInFree, OnlyTagsChange, OnlyOwnOrTagsChange, IsPrepended, AreSegments, AreApart, segments_of, state_of, IsSound, IsTurned, IsCutOut, IndexStays, IsFreeAt, IsBinned, IsSameBins, FreeMoves, Dlmalloc}
+use Rattle.dlmalloc.proofs.Names.{◌≡◌, ℕ, ◌+◌, ◌-◌, ◌%◌, ◌<◌, ◌≤◌, ◌⊎◌, inl, inr, Bool, true, false, not, ◌&&◌, List, [], ◌∷◌, ◌++◌, None, Some, refl, sym, ◌∙◌, ap, subst, arith, append_assoc, dec_lt, AllByRecursion, list_any, Grant, Event, Granted, IsWordOf, IsApart, IsGoodGrant, with_grant, round_up, Extent, Used, Free, Record, ends_segment, extent_at, HeapState, Segment, extents_in, chosen, freed, is_behind, is_before, is_put_before, granted, HasOneMore, IsBoundary, IsInFree, OnlyTagsChange, OnlyOwnOrTagsChange, IsPrepended, AreSegments, AreApart, segments_of, state_of, IsSound, IsTurned, IsCutOut, IndexStays, IsFreeAt, IsBinned, IsSameBins, FreeMoves, Dlmalloc}
 use Rattle.dlmalloc.specs.Granted.{prepended}
 use Rattle.dlmalloc.specs.Grown.{IsPutBefore}
 use Rattle.dlmalloc.proofs.Extents.Lookup.{extent, found_here, the_extent}
+use Rattle.dlmalloc.proofs.Frees.Behind.{next_boundary}
 use Rattle.dlmalloc.proofs.Blocks.WordsKept.{blocks_law_tags}
 use Rattle.dlmalloc.proofs.Extents.NoRoom.{full}
 use Rattle.dlmalloc.proofs.Words.OfLinks.{same_or_beside}
@@ -12,27 +13,6 @@ use Rattle.dlmalloc.proofs.Extents.OneMoreUsed.{AreDistinct, tiles_distinct}
 use Rattle.dlmalloc.proofs.Segments.RegionsMore.{word_kept, word_fresh, with_other, none_granted}
 use Rattle.dlmalloc.proofs.Extents.RunReplaced.{run_of, run_part, has_next, behind}
 use Rattle.dlmalloc.proofs.Segments.Among.{extents_all, among_all, distinct_later}
-
--- an extent that is behind another
-record IsFoundBehind (segments : List Segment) (one : Extent) : Type 0 where
-  pub next : Extent
-  pub place : next.at ≡ one.at + one.size
-  pub there : extent_at next.at (extents_all segments) ≡ Some next
-
-found_behind : (regions : List Grant) (words : ℕ → ℕ) (segments : List Segment) (parts : AreSegments regions words segments) → AreApart segments →
-    {one : Extent} → extent_at one.at (extents_all segments) ≡ Some one → ends_segment one.kind ≡ false → IsFoundBehind segments one
-found_behind regions words segments parts apart {one} there goes_on =
-    let run = run_of regions words segments parts there in let part = run_part regions parts run in
-    let n = has_next regions parts run goes_on in
-    let is : run.segment.extents ≡ (run.first ++ one ∷ []) ++ n.next ∷ n.rest = run.extents
-    ∙ (ap (λ es. run.first ++ one ∷ es) n.is ∙ sym (append_assoc run.first (one ∷ []) (n.next ∷ n.rest))) in
-    record {
-      next = n.next;
-      place = (behind regions parts run n).0;
-      there = among_all regions words parts apart run.front run.segment run.back run.is n.next.at
-          (ap (extent_at n.next.at) is ∙ distinct_later (run.first ++ one ∷ []) (n.next ∷ n.rest) n.next.at (subst AreDistinct is
-          (tiles_distinct words Used run.segment.base run.segment.extents (run.segment.base + run.segment.size) part.extents)) (found_here n.next n.rest));
-    }
 
 -- where the grant is put before a segment, the state is that
 pub granted_before : (grant : Grant) (n : ℕ) (heap : HeapState) → is_put_before grant heap.segments ≡ true → granted grant n heap ≡ freed (prepended grant n heap) (grant.base + n)
@@ -124,14 +104,11 @@ put_before_is {regions} {word} {old} {middle} {new} {grant} {n} least first stat
       (λ r. tag (record { extent = r.extent; there = records r.extent r.is r.there; is = r.is; low = r.low; high = r.high }));
   new_words = λ k inside low high own. moved.words k (into k inside) (none_of_grant first k low high) own ∙ first.new_words k inside low high
       (λ is. own (inl (record { extent = extent grant.base n Used; there = chunk_there; is = inl is })))
-      (λ is. own (inl (record { extent = rest_there.next; there = rest_there.there; is = inl (is ∙ ap (λ a. a + 8) (sym rest_there.place)) })));
+      (λ is. own (inl (subst (IsBoundary (state_of word new)) (sym is) (next_boundary moved.sound chunk_there))));
 }
   where
     chunk_there : extent_at grant.base (extents_in (state_of word new)) ≡ Some (extent grant.base n Used)
     chunk_there = less.only (extent grant.base n Used) refl first.chunk (λ is. omega arith)
-
-    rest_there : IsFoundBehind (segments_of word new) (extent grant.base n Used)
-    rest_there = found_behind (regions new.system) (word new.system) (segments_of word new) moved.sound.segments moved.sound.apart chunk_there refl
 
     into : (k : ℕ) → IsWordOf (regions old.system) k → IsWordOf (regions middle.system) k
     into k inside = subst (λ rs. IsWordOf rs k) (sym first.regions_same) inside

@@ -1,7 +1,7 @@
 -- Some extents of a heap give way to others, as its segments become others that are told: what stays is found as before.
 use Rattle.dlmalloc.proofs.Names.{◌≡◌, ◌≢◌, ℕ, ◌<◌, ◌⊎◌, inl, inr, Bool, true, false, ◌==◌, if◌then◌else◌, List, [], ◌∷◌, ◌++◌, Some, sym, ◌∙◌, ap, subst, refl, arith, unwrap_or, Grant, Extent, Kind, Used, Free, extent_at, Segment, extents_in, AreSegments, AreApart, IsIn, FreeMoves, HasSameUsed, segments_of, state_of, AreTold, IsSound, IsGranularity, Dlmalloc}
 use Rattle.dlmalloc.proofs.Extents.Lookup.{extent, found_either, found_more}
-use Rattle.dlmalloc.proofs.Extents.OneMoreUsed.{AreDistinct, distinct_second}
+use Rattle.dlmalloc.proofs.Extents.OneMoreUsed.{AreDistinct, distinct_second, replaced_found}
 use Rattle.dlmalloc.proofs.Moves.OfFreeExtents.{IsThere, free_stays}
 use Rattle.dlmalloc.proofs.Segments.Among.{extents_all, all_distinct, distinct_later}
 use Rattle.dlmalloc.proofs.Moves.OfHeaps.{segments_read}
@@ -19,17 +19,6 @@ none_of kind (other ∷ extents) k {one} none is found = go (other.at == k) foun
     go : (b : Bool) → (if b then Some other else extent_at k extents) ≡ Some one → (extent_at k extents ≡ Some one → ⊥) → ⊥
     go true here rest = none.0 (ap (λ o. (unwrap_or o one).kind) here ∙ is)
     go false later rest = rest later
-
--- what is found still is, where others stand in the place of some and it is not among these
-pub replaced_found : (k : ℕ) {one : Extent} (front less more back : List Extent) → AreDistinct (front ++ (more ++ back)) →
-    (extent_at k less ≡ Some one → ⊥) → extent_at k (front ++ (less ++ back)) ≡ Some one → extent_at k (front ++ (more ++ back)) ≡ Some one
-replaced_found k front less more back distinct out there = elim (found_either k front (less ++ back) there) [
-  | inl first ↦ found_more k front (more ++ back) first
-  | inr later ↦ distinct_later front (more ++ back) k distinct (elim (found_either k less back later.1) [
-    | inl here ↦ absurd (out here)
-    | inr last ↦ distinct_later more back k (distinct_second front (more ++ back) distinct) last.1
-  ])
-]
 
 -- The segments of a heap are told anew, with one order of the extents that stay: `less` give way to `more`, and `ahead` come before.
 pub record Exchange {A : Type 0} (regions : A → List Grant) (word : A → ℕ → ℕ) (heap new : Dlmalloc A) : Type 0 where
@@ -76,14 +65,14 @@ module _ {A : Type 0} {regions : A → List Grant} {word : A → ℕ → ℕ} {h
   pub exchanged_still : (k : ℕ) {one : Extent} → (extent_at k it.less ≡ Some one → ⊥) →
       extent_at k (extents_in (state_of word heap)) ≡ Some one → extent_at k (extents_in (state_of word new)) ≡ Some one
   exchanged_still k out there = exchanged_found k
-      (replaced_found k it.first it.less it.more it.last distinct_rest out (ap (extent_at k) (sym it.were) ∙ there))
+      (replaced_found k it.first it.less it.more it.last distinct_rest (λ found. absurd (out found)) (ap (extent_at k) (sym it.were) ∙ there))
 
   -- and was, but for what came
   pub exchanged_was : (k : ℕ) {one : Extent} → (extent_at k it.ahead ≡ Some one → ⊥) → (extent_at k it.more ≡ Some one → ⊥) →
       extent_at k (extents_in (state_of word new)) ≡ Some one → extent_at k (extents_in (state_of word heap)) ≡ Some one
   exchanged_was k none out there = elim (found_either k it.ahead (it.first ++ (it.more ++ it.last)) (ap (extent_at k) (sym extents_now) ∙ there)) [
     | inl here ↦ absurd (none here)
-    | inr later ↦ ap (extent_at k) it.were ∙ replaced_found k it.first it.more it.less it.last distinct_old out later.1
+    | inr later ↦ ap (extent_at k) it.were ∙ replaced_found k it.first it.more it.less it.last distinct_old (λ found. absurd (out found)) later.1
   ]
 
   -- so it is with the extents of a kind that none has which gave way or came

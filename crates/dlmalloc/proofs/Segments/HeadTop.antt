@@ -7,7 +7,7 @@ use Rattle.dlmalloc.proofs.Extents.OneMoreUsed.{none_outside}
 use Rattle.dlmalloc.proofs.Extents.FromWords.{are_chunks, behind_top}
 use Rattle.dlmalloc.proofs.Segments.HeadTold.{IsHead, head_is}
 use Rattle.dlmalloc.proofs.Segments.Among.{extents_all}
-use Rattle.dlmalloc.proofs.Extents.RunReplaced.{run_of, run_part}
+use Rattle.dlmalloc.proofs.Extents.RunReplaced.{run_of, run_part, run_tail}
 use Rattle.dlmalloc.proofs.Extents.Top.{is_top, top_among}
 
 -- a heap with no segment
@@ -54,13 +54,9 @@ module _ {A : Type 0} {regions : A → List Grant} {word : A → ℕ → ℕ} {h
   pub top_segment : IsHead heap top_run.segment
   top_segment = head_is word heap top_run.front top_run.segment top_run.back top_front top_run.is sound.told
 
-  tail_behind : ends_segment (last_kind Top top_run.last) ≡ true
-  tail_behind = ap ends_segment (sym (last_append (last_kind Used top_run.first) (extent heap.top heap.top_size Top ∷ []) top_run.last))
-      ∙ (ap ends_segment (sym (last_append Used top_run.first (extent heap.top heap.top_size Top ∷ top_run.last)))
-      ∙ (ap (λ es. ends_segment (last_kind Used es)) (sym top_run.extents) ∙ top_part.tail))
-
   pub top_last : (top_run.last ≡ extent (top_run.segment.base + top_run.segment.size - 80) 80 Foot ∷ []) × (heap.top + heap.top_size + 80 ≡ top_run.segment.base + top_run.segment.size)
-  top_last = behind_top (word heap.system) (heap.top + heap.top_size) top_run.last (top_run.segment.base + top_run.segment.size) top_run.last_stand tail_behind
+  top_last = behind_top (word heap.system) (heap.top + heap.top_size) top_run.last (top_run.segment.base + top_run.segment.size) top_run.last_stand
+      (run_tail (regions heap.system) sound.segments top_run)
 
   -- it is the first of all, and the others are apart from it
   pub head_first : segments_of word heap ≡ top_run.segment ∷ top_run.back
