@@ -1,11 +1,11 @@
 -- The one top.
 use Rattle.dlmalloc.proofs.Names.{◌<◌, ◌≡◌, ℕ, ◌+◌, ◌-◌, inl, inr, Bool, true, false, ◌==◌, if◌then◌else◌, List, [], ◌∷◌, ◌++◌, Some, None, refl, sym, ◌∙◌, ap, subst, arith, append_assoc, unwrap_or, nat_tests, Grant, Extent, Used, Free, Top, Record, Foot, ends_segment, Segment, Tiles, last_kind, IsSegment, AreSegments, AreApart, record_of, AreRecords, segments_of, AreTold, IsSound, Dlmalloc, AreChunks}
 use Rattle.dlmalloc_chunks.specs.Tiling.{extent_at}
-use Rattle.dlmalloc.proofs.Extents.Lookup.{extent, same_extent, nat_is, found, found_either, found_more}
+use Rattle.dlmalloc.proofs.Extents.Lookup.{extent, same_extent, nat_is, the_extent, found, found_either, found_more}
 use Rattle.dlmalloc.proofs.Extents.Tiling.{tiles_split}
 use Rattle.dlmalloc.proofs.Moves.OfLists.{last_append}
 use Rattle.dlmalloc.proofs.Extents.FromWords.{are_chunks, nothing, behind_top}
-use Rattle.dlmalloc.proofs.Segments.Among.{extents_all, all_among, all_at, all_distinct, distinct_later}
+use Rattle.dlmalloc.proofs.Segments.Among.{extents_all, all_at, among_all, distinct_later}
 use Rattle.dlmalloc.proofs.Extents.OneMoreUsed.{AreDistinct, tiles_distinct}
 
 -- a chunk is no top
@@ -94,6 +94,15 @@ module _ {regions : List Grant} {words : ℕ → ℕ} {segment : Segment} (part 
           foot true is = (let no : Foot ≡ Top = ap (λ o. (unwrap_or o (extent other other_size Top)).kind) is in cc)
           foot false is = cc
 
+-- the top is found among all, where there is a segment
+pub top_among : {A : Type 0} {regions : A → List Grant} {word : A → ℕ → ℕ} {heap : Dlmalloc A} → IsSound regions word heap → 0 < heap.size →
+    extent_at heap.top (extents_all (segments_of word heap)) ≡ Some (extent heap.top heap.top_size Top)
+top_among {word} {heap} sound some = go (segments_of word heap) sound.told
+  where
+    go : (segments : List Segment) → AreTold (word heap.system) heap segments → extent_at heap.top (extents_all segments) ≡ Some (extent heap.top heap.top_size Top)
+    go [] h = absurd (omega arith)
+    go (segment ∷ segments) h = found_more heap.top segment.extents (extents_all segments) h.4
+
 module _ {A : Type 0} {regions : A → List Grant} {word : A → ℕ → ℕ} {heap : Dlmalloc A} (sound : IsSound regions word heap)
     (front : List Segment) (segment : Segment) (back : List Segment) (is : segments_of word heap ≡ front ++ segment ∷ back) where
   part : IsSegment (regions heap.system) (word heap.system) segment
@@ -112,28 +121,12 @@ module _ {A : Type 0} {regions : A → List Grant} {word : A → ℕ → ℕ} {h
   -- what is found in the segment at the place of the top is the top
   pub the_top : {one : Extent} → extent_at one.at segment.extents ≡ Some one → one.at ≡ heap.top → one ≡ extent heap.top heap.top_size Top
   the_top {one} there place =
-      let all = all_distinct (regions heap.system) (word heap.system) (front ++ segment ∷ back)
-      (subst (AreSegments (regions heap.system) (word heap.system)) is sound.segments) (subst AreApart is sound.apart) in
-      let one_all : extent_at one.at (extents_all (front ++ segment ∷ back)) ≡ Some one =
-      ap (extent_at one.at) (all_among front segment back) ∙ distinct_later (extents_all front) (segment.extents ++ extents_all back) one.at
-      (subst AreDistinct (all_among front segment back) all) (found_more one.at segment.extents (extents_all back) there) in
-      let top_all : extent_at heap.top (extents_all (front ++ segment ∷ back)) ≡ Some (extent heap.top heap.top_size Top) = head_top front
-      (subst (AreTold (word heap.system) heap) is sound.told) in
-      ap (λ o. unwrap_or o one) (sym one_all ∙ (ap (λ k. extent_at k (extents_all (front ++ segment ∷ back))) place ∙ top_all))
+      let all = among_all (regions heap.system) (word heap.system) sound.segments sound.apart front segment back is one.at there in
+      the_extent (sym all ∙ (ap (λ k. extent_at k (extents_all (segments_of word heap))) place ∙ top_among sound (some front (subst (AreTold (word heap.system) heap) is sound.told))))
     where
-      head_top : (front : List Segment) → AreTold (word heap.system) heap (front ++ segment ∷ back) →
-          extent_at heap.top (extents_all (front ++ segment ∷ back)) ≡ Some (extent heap.top heap.top_size Top)
-      head_top [] h = found_more heap.top segment.extents (extents_all back) h.4
-      head_top (first ∷ front) h = found_more heap.top first.extents (extents_all (front ++ segment ∷ back)) h.4
-
--- it is found among all, where there is a segment
-pub top_among : {A : Type 0} {regions : A → List Grant} {word : A → ℕ → ℕ} {heap : Dlmalloc A} → IsSound regions word heap → 0 < heap.size →
-    extent_at heap.top (extents_all (segments_of word heap)) ≡ Some (extent heap.top heap.top_size Top)
-top_among {word} {heap} sound some = go (segments_of word heap) sound.told
-  where
-    go : (segments : List Segment) → AreTold (word heap.system) heap segments → extent_at heap.top (extents_all segments) ≡ Some (extent heap.top heap.top_size Top)
-    go [] h = absurd (omega arith)
-    go (segment ∷ segments) h = found_more heap.top segment.extents (extents_all segments) h.4
+      some : (front : List Segment) → AreTold (word heap.system) heap (front ++ segment ∷ back) → 0 < heap.size
+      some [] h = h.0
+      some (first ∷ front) h = h.0
 
 -- and so is its foot
 pub foot_among : {A : Type 0} {regions : A → List Grant} {word : A → ℕ → ℕ} {heap : Dlmalloc A} → IsSound regions word heap → 0 < heap.size →

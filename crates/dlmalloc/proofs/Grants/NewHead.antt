@@ -11,7 +11,7 @@ use Rattle.dlmalloc.proofs.Grants.Opened.{grant_apart, apart_grant, parts_kept, 
 use Rattle.dlmalloc.proofs.Segments.Exchange.{HasNo, none_of, Exchange, exchanged_read, exchanged_new, exchanged_used, exchanged_free, exchanged_sound}
 use Rattle.dlmalloc.proofs.Segments.ToldAnew.{head_tags}
 use Rattle.dlmalloc.proofs.Segments.WordsKept.{IsOutside}
-use Rattle.dlmalloc.proofs.Grants.TopLeft.{closed_chunks, left, left_free, in_left, left_there, place, record_place, record_bounds, left_stands, left_tail, left_record}
+use Rattle.dlmalloc.proofs.Grants.TopLeft.{closed_chunks, left, left_free, in_left, left_there, place, record_place, left_stands, left_tail, left_record}
 
 -- ---- the heap
 
@@ -34,9 +34,11 @@ record_of_head heap = record { base = heap.base; size = heap.size; next = heap.n
 
 module _ {A : Type 0} {regions : A → List Grant} {word : A → ℕ → ℕ} {heap : Dlmalloc A} (sound : IsSound regions word heap) (some : 0 < heap.size) where
   pub bounds_of : {at : ℕ} → at ≡ (if nat_lt heap.top_size 32 then heap.top else heap.top + heap.top_size) → (heap.top ≤ at) × (at + 80 ≤ heap.base + heap.size) × (at % 16 ≡ 0)
-  bounds_of {at} is =
-      let sizes = top_sizes sound some in
-      record_bounds at heap.top heap.top_size is (top_whole sound some) sizes.0 sizes.1 (ends sound some)
+  bounds_of {at} is = go (nat_lt heap.top_size 32) is
+    where
+      go : (b : Bool) → at ≡ (if b then heap.top else heap.top + heap.top_size) → (heap.top ≤ at) × (at + 80 ≤ heap.base + heap.size) × (at % 16 ≡ 0)
+      go true is = (omega arith, omega (arith, ends sound some), omega (arith, top_whole sound some))
+      go false is = (omega arith, omega (arith, ends sound some), omega (arith, top_whole sound some, (top_sizes sound some).0))
 
   -- the grant is beside the head segment
   pub beside_head : (grant : Grant) → IsFresh (regions heap.system) (segments_of word heap) grant → (heap.base + heap.size ≤ grant.base) ⊎ (grant.base + grant.size ≤ heap.base)

@@ -54,15 +54,6 @@ record_place at top size is units long = go (nat_lt size 32) refl is
         let beyond : (at == top) ≡ false = nat_isnt (inr (omega arith)) in
         (other ∙ sym beyond, is ∙ ap (λ b. place b top size) (sym beyond))
 
--- it is in the segment
-pub record_bounds : (at top size : ℕ) {end : ℕ} → at ≡ (if nat_lt size 32 then top else top + size) → top % 16 ≡ 0 → size % 16 ≡ 0 →
-    16 ≤ size → top + size + 80 ≡ end → (top ≤ at) × (at + 80 ≤ end) × (at % 16 ≡ 0)
-record_bounds at top size {end} is whole units long ends = go (nat_lt size 32) is
-  where
-    go : (b : Bool) → at ≡ (if b then top else top + size) → (top ≤ at) × (at + 80 ≤ end) × (at % 16 ≡ 0)
-    go true is = (omega arith, omega arith, omega arith)
-    go false is = (omega arith, omega arith, omega arith)
-
 -- beyond a top that is left as a free chunk
 pub large_at : {at : ℕ} (top size : ℕ) → at ≡ (if nat_lt size 32 then top else top + size) → 32 ≤ size → top + size ≤ at
 large_at top size is large = (let test : nat_lt size 32 ≡ false = grind (arith, nat_tests) in omega (arith, is ∙ ap (λ b. if b then top else top + size) test))

@@ -4,7 +4,7 @@ use Rattle.dlmalloc.proofs.Extents.Lookup.{found_here}
 use Rattle.dlmalloc.proofs.Words.Spared.{spared, spared_before, spared_behind, inner_spared}
 use Rattle.dlmalloc.proofs.Words.OfRecords.{payload_in, record_stays}
 use Rattle.dlmalloc.proofs.Extents.OneMoreUsed.{AreDistinct}
-use Rattle.dlmalloc.proofs.Segments.Among.{all_at, apart_back, distinct_later}
+use Rattle.dlmalloc.proofs.Segments.Among.{all_at, all_with, apart_back, distinct_later}
 use Rattle.dlmalloc.proofs.Segments.WordsKept.{KeepsIts, segment_kept}
 
 -- All granted words stay but those at boundaries of the new segment; what was apart from the old one is apart from the new one,
@@ -53,14 +53,9 @@ module _ {regions regions' : List Grant} {old new : ℕ → ℕ} {segment segmen
   behind_apart [] apart parts = tt
   behind_apart (other ∷ back) apart parts = (apart_back other segment' (changed.others other parts.0 (apart_back segment other apart.0)).1, behind_apart back apart.1 parts.1)
 
-  among_apart : (other : Segment) → IsSegment regions old other → (front back : List Segment) →
-      AllByRecursion (IsApartFrom other) (front ++ segment ∷ back) → AllByRecursion (IsApartFrom other) (front ++ segment' ∷ back)
-  among_apart other part [] back apart = ((changed.others other part apart.0).1, apart.1)
-  among_apart other part (first ∷ front) back apart = (apart.0, among_apart other part front back apart.1)
-
   pub apart_after : (front back : List Segment) → AreApart (front ++ segment ∷ back) → AreSegments regions old (front ++ segment ∷ back) → AreApart (front ++ segment' ∷ back)
   apart_after [] back apart parts = (behind_apart back apart.0 parts.1, apart.1)
-  apart_after (other ∷ front) back apart parts = (among_apart other parts.0 front back apart.0, apart_after front back apart.1 parts.1)
+  apart_after (other ∷ front) back apart parts = (all_with (IsApartFrom other) front segment segment' back (λ one. (changed.others other parts.0 one).1) apart.0, apart_after front back apart.1 parts.1)
 
   -- ---- the payload of a record stays
 
