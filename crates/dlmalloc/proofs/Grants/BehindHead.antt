@@ -2,14 +2,12 @@
 use Rattle.dlmalloc.proofs.Names.{◌≡◌, ◌≢◌, ℕ, ◌+◌, ◌-◌, ◌%◌, ◌<◌, ◌≤◌, ◌⊎◌, inl, inr, true, ◌&&◌, ◌==◌, List, [], ◌∷◌, ◌++◌, map, Some, refl, sym, ◌∙◌, ap, subst, arith, append_assoc, AllByRecursion, nat_tests, map-append, Grant, IsWordOf, IsWhole, Extent, Used, Free, Top, Foot, ends_segment, extent_at, Tiles, last_kind, Segment, trim_threshold, opened, is_behind, granted, IsFresh, HasSameUsed, OnlyTagsChange, IsRun, IsSegment, AreSegments, IsApartFrom, FreeMoves, segments_of, state_of, IsSound, Dlmalloc, AreChunks, IsRunOf}
 use Rattle.dlmalloc.specs.Granted.{grown, extended}
 use Rattle.dlmalloc.proofs.Extents.Lookup.{extent, nat_same, found_later}
-use Rattle.dlmalloc.proofs.Extents.Tiling.{tiles_kept, tiles_append}
-use Rattle.dlmalloc.proofs.Moves.OfLists.{last_append}
 use Rattle.dlmalloc.proofs.Segments.HeadTold.{IsHead, bare_head}
 use Rattle.dlmalloc.proofs.Segments.Among.{extents_all}
 use Rattle.dlmalloc.proofs.Segments.RegionsMore.{runs_joined}
 use Rattle.dlmalloc.proofs.Segments.Exchange.{Exchange, exchanged_read, exchanged_used, exchanged_sound, none_exchanged}
 use Rattle.dlmalloc.proofs.Segments.ToldAnew.{IsOutside, head_tags}
-use Rattle.dlmalloc.proofs.Segments.HeadTop.{top_of, top_stands, top_run, top_part, top_segment, top_last, top_low, top_whole, top_sizes, ends, head_first, behind_parts, head_beside, behind_apart, head_chunks, head_extents, extents_all_are, none_from_top}
+use Rattle.dlmalloc.proofs.Segments.HeadTop.{top_of, top_stands, top_run, top_part, top_segment, top_last, top_low, top_whole, top_sizes, ends, head_word, head_with, head_first, behind_parts, head_beside, behind_apart, head_chunks, head_extents, extents_all_are, none_from_top}
 use Rattle.dlmalloc.proofs.Grants.Opened.{grant_apart, parts_kept, told_kept}
 
 -- what the test says of a grant at the end of a segment
@@ -74,10 +72,7 @@ module _ {A : Type 0} {regions : A → List Grant} {word : A → ℕ → ℕ} {h
   now_end : heap.top + length_now + 80 ≡ old_run.segment.base + (old_run.segment.size + grant.size)
   now_end = omega (arith, (top_last sound some).1)
 
-  -- words of the chunks before the top stay, and so do those of other segments
-  first_kept : (k : ℕ) → IsWordOf (regions heap.system) k → k ≤ heap.top → word system k ≡ word heap.system k
-  first_kept k inside below = kept k inside (λ is. omega arith) (λ is. omega (arith, ends sound some))
-
+  -- words of other segments stay
   outside_kept : (k : ℕ) → IsWordOf (regions heap.system) k → IsOutside old_run.segment k → IsOutside (opened grant) k → word system k ≡ word heap.system k
   outside_kept k inside first second = kept k inside (λ is. elim first [
     | inl below ↦ omega (arith, was.base, top_low sound some)
@@ -96,18 +91,11 @@ module _ {A : Type 0} {regions : A → List Grant} {word : A → ℕ → ℕ} {h
       (omega (arith, (top_sizes sound some).1)) (head ∙ ap (λ n. n + 1) (sym length_is)) (ap (word system) place ∙ foot))
 
   is_now : IsSegment (regions system) (word system) now
-  is_now = record {
-    run = subst (λ rs. IsRun rs old_run.segment.base (old_run.segment.size + grant.size) old_run.segment.flags) (sym same)
-        (runs_joined (begins ∙ (λ i. was.base i + was.size i)) (top_part sound some).run (subst (λ f. IsRun (regions heap.system) grant.base grant.size f)
-        ((behind_means grant (bare_head heap) behind).1 ∙ was.flags) fresh.run) whole);
-    low = (top_part sound some).low;
-    high = omega (arith, was.base, was.size, begins, fresh.high);
-    long = omega (arith, (top_part sound some).long);
-    extents = tiles_append (word system) Used old_run.segment.base old_run.first more heap.top (old_run.segment.base + (old_run.segment.size + grant.size))
-        (tiles_kept (word heap.system) (word system) Used old_run.segment.base old_run.first heap.top old_run.first_stand (λ k above below m free. first_kept k
-        (record { granted = (top_part sound some).run.covered k (omega arith) (omega (arith, (top_last sound some).1)); aligned = m }) below)) more_stand;
-    tail = ap ends_segment (last_append Used old_run.first more);
-  }
+  is_now = head_with sound some (word system) more (subst (λ rs. IsRun rs old_run.segment.base (old_run.segment.size + grant.size) old_run.segment.flags) (sym same)
+      (runs_joined (begins ∙ (λ i. was.base i + was.size i)) (top_part sound some).run (subst (λ f. IsRun (regions heap.system) grant.base grant.size f)
+      ((behind_means grant (bare_head heap) behind).1 ∙ was.flags) fresh.run) whole)) (omega (arith, was.base, was.size, begins))
+      (omega (arith, (top_part sound some).long)) (λ k above below m. kept k (head_word sound some k (omega (arith, was.base)) (omega (arith, ends sound some)) m)
+      (λ is. omega arith) (λ is. omega (arith, ends sound some))) more_stand refl
 
   longer_apart : (others : List Segment) → AllByRecursion (IsApartFrom old_run.segment) others → AllByRecursion (λ segment. IsApartFrom segment (opened grant)) others →
       AreSegments (regions heap.system) (word heap.system) others → AllByRecursion (IsApartFrom now) others
@@ -152,15 +140,15 @@ module _ {A : Type 0} {regions : A → List Grant} {word : A → ℕ → ℕ} {h
 
   pub extended_state : (n : ℕ) → state_of word new ≡ granted grant n (state_of word heap)
   extended_state n =
-      (λ i. record { segments = segments_now i; victim = heap.victim; granularity = heap.granularity; rate = heap.rate; countdown = heap.countdown; trim_check = trim_threshold })
-      ∙ (sym after ∙ ap (λ ss. granted grant n (record { segments = ss; victim = heap.victim; granularity = heap.granularity; rate = heap.rate; countdown = heap.countdown; trim_check = heap.trim_check }))
+      (λ i. record (state_of word heap) { segments = segments_now i; trim_check = trim_threshold })
+      ∙ (sym after ∙ ap (λ ss. granted grant n (record (state_of word heap) { segments = ss }))
       (sym (head_first sound some)))
     where
       here : is_behind grant old_run.segment ≡ true
       here = (λ i. (grant.base == (sym was.base) i + (sym was.size) i) && (grant.flags % 2 == 0 && grant.flags == (sym was.flags) i)) ∙ behind
 
-      after : granted grant n (record { segments = old_run.segment ∷ old_run.back; victim = heap.victim; granularity = heap.granularity; rate = heap.rate; countdown = heap.countdown; trim_check = heap.trim_check }) ≡
-          record { segments = extended grant.size old_run.segment ∷ old_run.back; victim = heap.victim; granularity = heap.granularity; rate = heap.rate; countdown = heap.countdown; trim_check = trim_threshold }
+      after : granted grant n (record (state_of word heap) { segments = old_run.segment ∷ old_run.back }) ≡
+          record (state_of word heap) { segments = extended grant.size old_run.segment ∷ old_run.back; trim_check = trim_threshold }
       after = (let test = here in rw test refl)
 
       grown_are : map (grown grant.size) old_run.segment.extents ≡ old_run.first ++ more

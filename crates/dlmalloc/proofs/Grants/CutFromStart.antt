@@ -23,8 +23,8 @@ granted_before grant n heap test = go heap.segments test
     both false c is = (refl, is)
 
     go : (segments : List Segment) → is_put_before grant segments ≡ true →
-        granted grant n (record { segments = segments; victim = heap.victim; granularity = heap.granularity; rate = heap.rate; countdown = heap.countdown; trim_check = heap.trim_check })
-        ≡ freed (prepended grant n (record { segments = segments; victim = heap.victim; granularity = heap.granularity; rate = heap.rate; countdown = heap.countdown; trim_check = heap.trim_check })) (grant.base + n)
+        granted grant n (record heap { segments = segments })
+        ≡ freed (prepended grant n (record heap { segments = segments })) (grant.base + n)
     go [] is = absurd (cc)
     go (head ∷ rest) is =
         let b = both (is_behind grant head) (list_any (is_before grant) (head ∷ rest)) is in

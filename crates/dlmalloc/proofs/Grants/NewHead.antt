@@ -2,11 +2,9 @@
 use Rattle.dlmalloc.proofs.Names.{◌≡◌, ◌≢◌, ℕ, ◌+◌, ◌-◌, ◌%◌, ◌<◌, ◌≤◌, ◌⊎◌, inl, inr, Bool, true, false, not, ◌&&◌, ◌==◌, nat_lt, if◌then◌else◌, List, [], ◌∷◌, ◌++◌, Some, refl, sym, ◌∙◌, ap, subst, arith, append_assoc, dec_lt, AllByRecursion, nat_tests, flat_map, list_any, flat_map-append, Grant, IsWordOf, Extent, Used, Free, Top, Record, head_of, ends_segment, extent_at, is_used, Tiles, last_kind, Segment, trim_threshold, opened, is_behind, is_before, is_put_before, granted, IsFresh, HasSameUsed, IsRecordAt, OnlyTagsChange, IsRun, IsSegment, IsApartFrom, record_of, AreRecords, IsFreeAt, FreeMoves, segments_of, state_of, AreTold, IsSound, IsRunOf, Dlmalloc, SegmentRecord}
 use Rattle.dlmalloc.specs.Granted.{closed, without_top}
 use Rattle.dlmalloc.proofs.Extents.Lookup.{extent, found_here, found_later, nat_same}
-use Rattle.dlmalloc.proofs.Extents.Tiling.{tiles_kept, tiles_append}
-use Rattle.dlmalloc.proofs.Moves.OfLists.{last_append}
 use Rattle.dlmalloc.proofs.Segments.HeadTold.{IsHead, bare_head}
 use Rattle.dlmalloc.proofs.Segments.Among.{extents_all, apart_back}
-use Rattle.dlmalloc.proofs.Segments.HeadTop.{top_of, top_run, top_part, top_segment, top_last, top_sizes, top_whole, low_top, ends, head_first, head_beside, behind_apart, head_chunks, head_extents, extents_all_are, none_from_top}
+use Rattle.dlmalloc.proofs.Segments.HeadTop.{top_of, top_run, top_part, top_segment, top_last, top_sizes, top_whole, low_top, ends, head_with, head_first, head_beside, behind_apart, head_chunks, head_extents, extents_all_are, none_from_top}
 use Rattle.dlmalloc.proofs.Grants.Opened.{grant_apart, apart_grant, parts_kept, told_kept, opened_segment}
 use Rattle.dlmalloc.proofs.Segments.Exchange.{HasNo, none_of, Exchange, exchanged_read, exchanged_new, exchanged_used, exchanged_free, exchanged_sound}
 use Rattle.dlmalloc.proofs.Segments.ToldAnew.{head_tags}
@@ -126,16 +124,9 @@ module _ {A : Type 0} {regions : A → List Grant} {word : A → ℕ → ℕ} {h
           ∙ (it.here.1.head ∙ (ap (λ k. head_of heap.top_size (is_used k) false) it.here.1.kind ∙ omega arith))
 
   is_now : IsSegment (regions system) (word system) now
-  is_now = record {
-    run = subst (λ rs. IsRun rs it.segment.base it.segment.size it.segment.flags) (sym same) old_part.run;
-    low = old_part.low;
-    high = old_part.high;
-    long = old_part.long;
-    extents = tiles_append (word system) Used it.segment.base it.first rest heap.top (it.segment.base + it.segment.size)
-        (tiles_kept (word heap.system) (word system) Used it.segment.base it.first heap.top it.first_stand
-        (λ k above below m free. inside_kept k (omega arith) (omega arith) (omega (arith, bounds.0)) m)) rest_stand;
-    tail = ap ends_segment (last_append Used it.first rest) ∙ left_tail (last_kind Used it.first) heap.top heap.top_size small;
-  }
+  is_now = head_with sound some (word system) rest (subst (λ rs. IsRun rs it.segment.base it.segment.size it.segment.flags) (sym same) old_part.run)
+      old_part.high old_part.long (λ k above below m. inside_kept k (omega arith) (omega arith) (omega (arith, bounds.0)) m) rest_stand
+      (left_tail (last_kind Used it.first) heap.top heap.top_size small)
 
   outside_kept : (k : ℕ) → IsWordOf (regions heap.system) k → IsOutside it.segment k → IsOutside (opened grant) k → word system k ≡ word heap.system k
   outside_kept k inside first second = kept k inside
@@ -255,8 +246,8 @@ module _ {A : Type 0} {regions : A → List Grant} {word : A → ℕ → ℕ} {h
 
   pub added_state : (n : ℕ) → state_of word new ≡ granted grant n (state_of word heap)
   added_state n =
-      (λ i. record { segments = segments_now i; victim = heap.victim; granularity = heap.granularity; rate = heap.rate; countdown = heap.countdown; trim_check = trim_threshold })
-      ∙ (sym after ∙ ap (λ ss. granted grant n (record { segments = ss; victim = heap.victim; granularity = heap.granularity; rate = heap.rate; countdown = heap.countdown; trim_check = heap.trim_check }))
+      (λ i. record (state_of word heap) { segments = segments_now i; trim_check = trim_threshold })
+      ∙ (sym after ∙ ap (λ ss. granted grant n (record (state_of word heap) { segments = ss }))
       (sym (head_first sound some)))
     where
       apart : is_behind grant it.segment ≡ false
@@ -265,8 +256,8 @@ module _ {A : Type 0} {regions : A → List Grant} {word : A → ℕ → ℕ} {h
       none : list_any (is_before grant) (it.segment ∷ it.back) ≡ false
       none = (λ i. not (sym apart i) && list_any (is_before grant) (it.segment ∷ it.back)) ∙ (ap (is_put_before grant) (sym (head_first sound some)) ∙ no_join)
 
-      after : granted grant n (record { segments = it.segment ∷ it.back; victim = heap.victim; granularity = heap.granularity; rate = heap.rate; countdown = heap.countdown; trim_check = heap.trim_check }) ≡
-          record { segments = opened grant ∷ without_top it.segment ∷ it.back; victim = heap.victim; granularity = heap.granularity; rate = heap.rate; countdown = heap.countdown; trim_check = trim_threshold }
+      after : granted grant n (record (state_of word heap) { segments = it.segment ∷ it.back }) ≡
+          record (state_of word heap) { segments = opened grant ∷ without_top it.segment ∷ it.back; trim_check = trim_threshold }
       after = (let one = apart in let two = none in rw (one, two) refl)
 
       closed_are : flat_map closed it.segment.extents ≡ it.first ++ rest

@@ -78,7 +78,7 @@ module _ {A : Type 0} {regions : A → List Grant} {word : A → ℕ → ℕ} {h
       pub opened_state : (n : ℕ) → state_of word new ≡ granted grant n (state_of word heap)
       opened_state n =
           (λ i. record { segments = exchanged_read sound only i; victim = heap.victim; granularity = heap.granularity; rate = heap.rate; countdown = counted i; trim_check = trim_threshold })
-          ∙ ap (λ ss. granted grant n (record { segments = ss; victim = heap.victim; granularity = heap.granularity; rate = heap.rate; countdown = heap.countdown; trim_check = heap.trim_check })) (sym (no_segments word heap none))
+          ∙ ap (λ ss. granted grant n (record (state_of word heap) { segments = ss })) (sym (no_segments word heap none))
 
       -- no extent is in use before, nor after
       pub opened_used : HasSameUsed (state_of word heap) (state_of word new)

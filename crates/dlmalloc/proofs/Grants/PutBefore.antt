@@ -218,7 +218,7 @@ module _ {A : Type 0} {regions : A → List Grant} {word : A → ℕ → ℕ} {f
 
     pub is_prepended : ((k : ℕ) → (IsInRecord (state_of word new) k → ⊥) → IsUntold k) → IsPrepended regions word follows heap grant n new
     is_prepended recorded = record {
-      state = λ i. record { segments = (exchanged_read sound it ∙ sym joined_are) i; victim = heap.victim; granularity = heap.granularity; rate = heap.rate; countdown = heap.countdown; trim_check = heap.trim_check };
+      state = λ i. record (state_of word heap) { segments = (exchanged_read sound it ∙ sym joined_are) i };
       sound = exchanged_sound sound it tt refl refl;
       regions_same = same;
       followed = followed;

@@ -56,8 +56,8 @@ pub first_granted : (grant : Grant) (n : ℕ) (heap : HeapState) → is_behind_h
 first_granted grant n heap test = go heap.segments test
   where
     go : (segments : List Segment) → is_behind_head grant segments ≡ true →
-        (first_base (granted grant n (record { segments = segments; victim = heap.victim; granularity = heap.granularity; rate = heap.rate; countdown = heap.countdown; trim_check = heap.trim_check })).segments ≡ first_base segments)
-        × (first_size (granted grant n (record { segments = segments; victim = heap.victim; granularity = heap.granularity; rate = heap.rate; countdown = heap.countdown; trim_check = heap.trim_check })).segments ≡ first_size segments + grant.size)
+        (first_base (granted grant n (record heap { segments = segments })).segments ≡ first_base segments)
+        × (first_size (granted grant n (record heap { segments = segments })).segments ≡ first_size segments + grant.size)
     go [] is = absurd (cc)
     go (head ∷ rest) is = let behind : is_behind grant head ≡ true = is in rw behind (refl, refl)
 

@@ -1,7 +1,7 @@
 -- The head segment ends with the top and its foot.
-use Rattle.dlmalloc.proofs.Names.{◌≡◌, ℕ, ◌+◌, ◌-◌, ◌%◌, ◌^◌, ◌<◌, ◌≤◌, inr, true, false, ◌==◌, List, [], ◌∷◌, ◌++◌, Some, None, refl, sym, ◌∙◌, ap, subst, arith, append_assoc, dec_lt, AllByRecursion, nat_tests, Grant, IsWordOf, Extent, Kind, Used, Top, Foot, head_of, ends_segment, extent_at, is_used, Tiles, last_kind, extents_in, IsSegment, AreSegments, IsApartFrom, AreApart, AreRecords, segments_of, state_of, AreTold, IsSound, AreChunks, Dlmalloc, IsRunOf}
+use Rattle.dlmalloc.proofs.Names.{◌≡◌, ℕ, ◌+◌, ◌-◌, ◌%◌, ◌^◌, ◌<◌, ◌≤◌, inr, true, false, ◌==◌, List, [], ◌∷◌, ◌++◌, Some, None, refl, sym, ◌∙◌, ap, subst, arith, append_assoc, dec_lt, AllByRecursion, nat_tests, Grant, IsWordOf, Extent, Kind, Used, Top, Foot, head_of, ends_segment, extent_at, is_used, Tiles, last_kind, extents_in, IsRun, IsSegment, AreSegments, IsApartFrom, AreApart, AreRecords, segments_of, state_of, AreTold, IsSound, AreChunks, Dlmalloc, IsRunOf}
 use Rattle.dlmalloc.proofs.Extents.Lookup.{extent, nat_same, found_later}
-use Rattle.dlmalloc.proofs.Extents.Tiling.{sized, tiles_le, plain_chunk}
+use Rattle.dlmalloc.proofs.Extents.Tiling.{sized, tiles_le, plain_chunk, tiles_kept, tiles_append}
 use Rattle.dlmalloc.proofs.Moves.OfLists.{last_append}
 use Rattle.dlmalloc.proofs.Extents.OneMoreUsed.{none_outside}
 use Rattle.dlmalloc.proofs.Extents.FromWords.{are_chunks, behind_top}
@@ -96,6 +96,22 @@ module _ {A : Type 0} {regions : A → List Grant} {word : A → ℕ → ℕ} {h
 
   pub low_top : top_run.segment.base ≤ heap.top
   low_top = tiles_le (word heap.system) Used top_run.segment.base top_run.first heap.top top_run.first_stand
+
+  -- with other extents from the top on it is a segment, where the words before them stay
+  pub head_with : {others : List Grant} (new : ℕ → ℕ) {size : ℕ} (more : List Extent) →
+      IsRun others top_run.segment.base size top_run.segment.flags → top_run.segment.base + size < 2 ^ 64 → 96 < size →
+      ((k : ℕ) → top_run.segment.base < k → k ≤ heap.top → k % 8 ≡ 0 → new k ≡ word heap.system k) →
+      Tiles new (last_kind Used top_run.first) heap.top more (top_run.segment.base + size) → ends_segment (last_kind (last_kind Used top_run.first) more) ≡ true →
+      IsSegment others new (record { base = top_run.segment.base; size = size; flags = top_run.segment.flags; extents = top_run.first ++ more })
+  head_with new {size} more run high long kept stand tail = record {
+    run = run;
+    low = top_part.low;
+    high = high;
+    long = long;
+    extents = tiles_append new Used top_run.segment.base top_run.first more heap.top (top_run.segment.base + size)
+        (tiles_kept (word heap.system) new Used top_run.segment.base top_run.first heap.top top_run.first_stand (λ k above below m free. kept k above below m)) stand;
+    tail = ap ends_segment (last_append Used top_run.first more) ∙ tail;
+  }
 
   pub top_low : heap.base ≤ heap.top
   top_low = omega (arith, low_top, top_segment.base)

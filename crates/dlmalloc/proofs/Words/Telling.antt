@@ -134,4 +134,4 @@ module _ {A : Type 0} {regions : A → List Grant} {word : A → ℕ → ℕ} {h
   }
 
   pub state_told : state_of word after ≡ state_of word heap
-  state_told = λ i. record { segments = still_read i; victim = heap.victim; granularity = heap.granularity; rate = heap.rate; countdown = heap.countdown; trim_check = heap.trim_check }
+  state_told = λ i. record (state_of word heap) { segments = still_read i }
