@@ -1,5 +1,5 @@
 -- A run of extents of a heap gives way to others.
-use Rattle.dlmalloc.proofs.Names.{◌≡◌, ℕ, ◌+◌, ◌%◌, ◌<◌, ◌≤◌, inl, inr, true, false, List, [], ◌∷◌, ◌++◌, Some, refl, sym, ◌∙◌, ap, subst, arith, append_assoc, dec_lt, Grant, IsWordOf, Extent, Used, Top, Record, ends_segment, extent_at, Tiles, last_kind, Segment, IsMove, IsRunOf, IsRun, IsSegment, AreSegments, AreApart, record_of, segments_of, AreTold, IsSound, Dlmalloc}
+use Rattle.dlmalloc.proofs.Names.{◌≡◌, ℕ, ◌+◌, ◌%◌, ◌<◌, ◌≤◌, true, false, List, [], ◌∷◌, ◌++◌, Some, refl, sym, ◌∙◌, ap, subst, arith, append_assoc, Grant, IsWordOf, Extent, Used, Top, Record, ends_segment, extent_at, Tiles, last_kind, Segment, IsMove, IsRunOf, IsRun, IsSegment, AreSegments, AreApart, record_of, segments_of, AreTold, IsSound, Dlmalloc}
 use Rattle.dlmalloc.proofs.Extents.Lookup.{extent, found}
 use Rattle.dlmalloc.proofs.Extents.Tiling.{sized, tiles_append, tiles_split}
 use Rattle.dlmalloc.proofs.Words.Spared.{spared_first, spared_second}

@@ -1,5 +1,5 @@
 -- Extents as they are shown: the victim is told from the other free ones.
-use Rattle.dlmalloc.proofs.Names.{◌≡◌, ◌≢◌, ℕ, inl, inr, Bool, true, false, ◌&&◌, ◌==◌, if◌then◌else◌, List, [], ◌∷◌, map, Some, refl, sym, ◌∙◌, ap, subst, option_map, Extent, Kind, Used, Free, Victim, Top, Record, Foot, is_free, is_named_victim, is_foot, ends_segment, IsSize, extent_at, MayStand, HeapState, shown}
+use Rattle.dlmalloc.proofs.Names.{◌≡◌, ◌≢◌, ℕ, inl, inr, Bool, true, false, ◌&&◌, ◌==◌, if◌then◌else◌, List, [], ◌∷◌, map, Some, refl, sym, ◌∙◌, ap, subst, option_map, Extent, Kind, Used, Free, Victim, Record, is_free, is_named_victim, is_foot, ends_segment, IsSize, extent_at, MayStand, HeapState, shown}
 use Rattle.dlmalloc_chunks.specs.Kinds.{is_top}
 use Rattle.dlmalloc.proofs.Extents.Lookup.{nat_is}
 

@@ -1,5 +1,5 @@
 -- Extents that tile a segment.
-use Rattle.dlmalloc.proofs.Names.{◌≡◌, ℕ, ◌+◌, ◌%◌, ◌<◌, ◌≤◌, inl, inr, false, List, [], ◌∷◌, ◌++◌, IsTrue, refl, sym, ◌∙◌, subst, arith, Extent, Kind, Used, Free, Victim, Top, Record, Foot, IsSize, is_free_below_top, HasChunk, MayStand, told_size, is_used, head_of, Tiles, last_kind}
+use Rattle.dlmalloc.proofs.Names.{◌≡◌, ℕ, ◌+◌, ◌%◌, ◌<◌, ◌≤◌, inl, inr, false, List, [], ◌∷◌, ◌++◌, IsTrue, refl, sym, ◌∙◌, subst, arith, Extent, Kind, Free, Top, Record, Foot, IsSize, is_free_below_top, HasChunk, MayStand, told_size, is_used, head_of, Tiles, last_kind}
 
 -- sizes are whole units, and one at least
 pub sized : (kind : Kind) (size : ℕ) → IsSize kind size → (size % 16 ≡ 0) × (16 ≤ size)

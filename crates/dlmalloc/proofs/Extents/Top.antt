@@ -1,5 +1,5 @@
 -- The one top.
-use Rattle.dlmalloc.proofs.Names.{◌<◌, ◌≡◌, ℕ, ◌+◌, ◌-◌, inl, inr, Bool, true, false, ◌==◌, if◌then◌else◌, List, [], ◌∷◌, ◌++◌, Some, None, refl, sym, ◌∙◌, ap, subst, arith, append_assoc, unwrap_or, nat_tests, Grant, Extent, Used, Free, Top, Record, Foot, ends_segment, Segment, Tiles, last_kind, IsSegment, AreSegments, AreApart, record_of, AreRecords, segments_of, AreTold, IsSound, Dlmalloc, AreChunks}
+use Rattle.dlmalloc.proofs.Names.{◌<◌, ◌≡◌, ℕ, ◌+◌, ◌-◌, inl, inr, Bool, true, false, ◌==◌, if◌then◌else◌, List, [], ◌∷◌, ◌++◌, Some, None, refl, sym, ◌∙◌, ap, subst, arith, append_assoc, unwrap_or, nat_tests, Grant, Extent, Used, Free, Top, Record, Foot, ends_segment, Segment, Tiles, last_kind, IsSegment, AreSegments, record_of, AreRecords, segments_of, AreTold, IsSound, Dlmalloc, AreChunks}
 use Rattle.dlmalloc_chunks.specs.Tiling.{extent_at}
 use Rattle.dlmalloc.proofs.Extents.Lookup.{extent, same_extent, nat_is, the_extent, found, found_either, found_more}
 use Rattle.dlmalloc.proofs.Extents.Tiling.{tiles_split}

@@ -1,5 +1,5 @@
 -- A grant at the end of the head segment makes its top longer.
-use Rattle.dlmalloc.proofs.Names.{◌≡◌, ◌≢◌, ℕ, ◌+◌, ◌-◌, ◌%◌, ◌<◌, ◌≤◌, ◌⊎◌, inl, inr, true, ◌&&◌, ◌==◌, List, [], ◌∷◌, ◌++◌, map, Some, refl, sym, ◌∙◌, ap, subst, arith, append_assoc, AllByRecursion, nat_tests, map-append, Grant, IsWordOf, IsWhole, Extent, Used, Free, Top, Foot, ends_segment, extent_at, Tiles, last_kind, Segment, trim_threshold, opened, is_behind, granted, IsFresh, HasSameUsed, OnlyTagsChange, IsRun, IsSegment, AreSegments, IsApartFrom, FreeMoves, segments_of, state_of, IsSound, Dlmalloc, AreChunks, IsRunOf}
+use Rattle.dlmalloc.proofs.Names.{◌≡◌, ◌≢◌, ℕ, ◌+◌, ◌-◌, ◌%◌, ◌<◌, ◌⊎◌, inl, inr, true, ◌&&◌, ◌==◌, List, [], ◌∷◌, ◌++◌, map, Some, refl, sym, ◌∙◌, ap, subst, arith, append_assoc, AllByRecursion, nat_tests, map-append, Grant, IsWordOf, IsWhole, Extent, Used, Free, Top, Foot, extent_at, Tiles, last_kind, Segment, trim_threshold, opened, is_behind, granted, IsFresh, HasSameUsed, OnlyTagsChange, IsRun, IsSegment, AreSegments, IsApartFrom, FreeMoves, segments_of, state_of, IsSound, Dlmalloc, AreChunks, IsRunOf}
 use Rattle.dlmalloc.specs.Granted.{grown, extended}
 use Rattle.dlmalloc.proofs.Extents.Lookup.{extent, nat_same, found_later}
 use Rattle.dlmalloc.proofs.Segments.HeadTold.{IsHead, bare_head}

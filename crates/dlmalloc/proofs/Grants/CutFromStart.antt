@@ -1,18 +1,16 @@
 -- A chunk is cut from the start of a grant that is put before a segment.
-use Rattle.dlmalloc.proofs.Names.{◌≡◌, ℕ, ◌+◌, ◌-◌, ◌%◌, ◌<◌, ◌≤◌, ◌⊎◌, inl, inr, Bool, true, false, not, ◌&&◌, List, [], ◌∷◌, ◌++◌, None, Some, refl, sym, ◌∙◌, ap, subst, arith, append_assoc, dec_lt, AllByRecursion, list_any, Grant, Event, Granted, IsWordOf, IsApart, IsGoodGrant, with_grant, round_up, Extent, Used, Free, Record, ends_segment, extent_at, HeapState, Segment, extents_in, chosen, freed, is_behind, is_before, is_put_before, granted, HasOneMore, IsBoundary, IsInFree, OnlyTagsChange, OnlyOwnOrTagsChange, IsPrepended, AreSegments, AreApart, segments_of, state_of, IsSound, IsTurned, IsCutOut, IndexStays, IsFreeAt, IsBinned, IsSameBins, FreeMoves, Dlmalloc}
+use Rattle.dlmalloc.proofs.Names.{◌≡◌, ℕ, ◌+◌, ◌-◌, ◌%◌, ◌<◌, ◌≤◌, ◌⊎◌, inl, inr, Bool, true, false, not, ◌&&◌, List, [], ◌∷◌, None, Some, refl, sym, ◌∙◌, ap, subst, arith, dec_lt, AllByRecursion, list_any, Grant, Event, Granted, IsWordOf, IsApart, IsGoodGrant, with_grant, round_up, Extent, Used, Free, Record, extent_at, HeapState, Segment, extents_in, chosen, freed, is_behind, is_before, is_put_before, granted, HasOneMore, IsBoundary, IsInFree, OnlyTagsChange, OnlyOwnOrTagsChange, IsPrepended, segments_of, state_of, IsSound, IsTurned, IsCutOut, IndexStays, IsFreeAt, IsBinned, IsSameBins, FreeMoves, Dlmalloc}
 use Rattle.dlmalloc.specs.Granted.{prepended}
 use Rattle.dlmalloc.specs.Grown.{IsPutBefore}
-use Rattle.dlmalloc.proofs.Extents.Lookup.{extent, found_here, the_extent}
+use Rattle.dlmalloc.proofs.Extents.Lookup.{extent, the_extent}
 use Rattle.dlmalloc.proofs.Frees.Behind.{next_boundary}
 use Rattle.dlmalloc.proofs.Blocks.WordsKept.{blocks_law_tags}
 use Rattle.dlmalloc.proofs.Extents.NoRoom.{full}
 use Rattle.dlmalloc.proofs.Words.OfLinks.{same_or_beside}
 use Rattle.dlmalloc.proofs.Bins.Changes.{binned_same}
 use Rattle.dlmalloc.proofs.Grants.NewRegion.{granted_same}
-use Rattle.dlmalloc.proofs.Extents.OneMoreUsed.{AreDistinct, tiles_distinct}
 use Rattle.dlmalloc.proofs.Segments.RegionsMore.{word_kept, word_fresh, with_other, none_granted}
-use Rattle.dlmalloc.proofs.Extents.RunReplaced.{run_of, run_part, has_next, behind}
-use Rattle.dlmalloc.proofs.Segments.Among.{extents_all, among_all, distinct_later}
+use Rattle.dlmalloc.proofs.Extents.RunReplaced.{behind}
 
 -- where the grant is put before a segment, the state is that
 pub granted_before : (grant : Grant) (n : ℕ) (heap : HeapState) → is_put_before grant heap.segments ≡ true → granted grant n heap ≡ freed (prepended grant n heap) (grant.base + n)

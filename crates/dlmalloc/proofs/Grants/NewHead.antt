@@ -1,5 +1,5 @@
 -- A grant becomes the head segment: what was the top is freed, and a record behind it tells the segment that it is in.
-use Rattle.dlmalloc.proofs.Names.{◌≡◌, ◌≢◌, ℕ, ◌+◌, ◌-◌, ◌%◌, ◌<◌, ◌≤◌, ◌⊎◌, inl, inr, Bool, true, false, not, ◌&&◌, ◌==◌, nat_lt, if◌then◌else◌, List, [], ◌∷◌, ◌++◌, Some, refl, sym, ◌∙◌, ap, subst, arith, append_assoc, dec_lt, AllByRecursion, nat_tests, flat_map, list_any, flat_map-append, Grant, IsWordOf, Extent, Used, Free, Top, Record, head_of, ends_segment, extent_at, is_used, Tiles, last_kind, Segment, trim_threshold, opened, is_behind, is_before, is_put_before, granted, IsFresh, HasSameUsed, IsRecordAt, OnlyTagsChange, IsRun, IsSegment, IsApartFrom, record_of, AreRecords, IsFreeAt, FreeMoves, segments_of, state_of, AreTold, IsSound, IsRunOf, Dlmalloc, SegmentRecord}
+use Rattle.dlmalloc.proofs.Names.{◌≡◌, ◌≢◌, ℕ, ◌+◌, ◌-◌, ◌%◌, ◌<◌, ◌≤◌, ◌⊎◌, inl, inr, Bool, true, false, not, ◌&&◌, ◌==◌, nat_lt, if◌then◌else◌, List, [], ◌∷◌, ◌++◌, Some, refl, sym, ◌∙◌, ap, subst, arith, append_assoc, dec_lt, AllByRecursion, nat_tests, flat_map, list_any, flat_map-append, Grant, IsWordOf, Extent, Used, Free, Top, Record, head_of, extent_at, is_used, Tiles, last_kind, Segment, trim_threshold, opened, is_behind, is_before, is_put_before, granted, IsFresh, HasSameUsed, IsRecordAt, OnlyTagsChange, IsRun, IsSegment, IsApartFrom, record_of, AreRecords, IsFreeAt, FreeMoves, segments_of, state_of, AreTold, IsSound, IsRunOf, Dlmalloc, SegmentRecord}
 use Rattle.dlmalloc.specs.Granted.{closed, without_top}
 use Rattle.dlmalloc.proofs.Extents.Lookup.{extent, found_here, found_later, nat_same}
 use Rattle.dlmalloc.proofs.Segments.HeadTold.{IsHead, bare_head}

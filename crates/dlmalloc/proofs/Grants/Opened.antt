@@ -77,7 +77,7 @@ module _ {A : Type 0} {regions : A → List Grant} {word : A → ℕ → ℕ} {h
 
       pub opened_state : (n : ℕ) → state_of word new ≡ granted grant n (state_of word heap)
       opened_state n =
-          (λ i. record { segments = exchanged_read sound only i; victim = heap.victim; granularity = heap.granularity; rate = heap.rate; countdown = counted i; trim_check = trim_threshold })
+          (λ i. record (state_of word heap) { segments = exchanged_read sound only i; countdown = counted i; trim_check = trim_threshold })
           ∙ ap (λ ss. granted grant n (record (state_of word heap) { segments = ss })) (sym (no_segments word heap none))
 
       -- no extent is in use before, nor after

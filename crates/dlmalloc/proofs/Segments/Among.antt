@@ -1,7 +1,7 @@
 -- Segments among others.
-use Rattle.dlmalloc.proofs.Names.{◌≡◌, ℕ, suc, ◌+◌, ◌<◌, ◌≤◌, ◌⊎◌, inl, inr, Bool, true, false, ◌||◌, ◌==◌, if◌then◌else◌, List, [], ◌∷◌, ◌++◌, Some, None, refl, ◌∙◌, ap, subst, arith, length, flat_map, list_any, AllByRecursion, flat_map-append, Grant, Extent, Kind, Used, Segment, HasChunk, Tiles, last_kind, AreSegments, IsApartFrom, AreApart}
+use Rattle.dlmalloc.proofs.Names.{◌≡◌, ℕ, suc, ◌+◌, ◌<◌, ◌≤◌, ◌⊎◌, inl, inr, Bool, true, false, ◌||◌, List, [], ◌∷◌, ◌++◌, Some, None, refl, ◌∙◌, ap, subst, arith, length, flat_map, list_any, AllByRecursion, flat_map-append, Grant, Extent, Kind, Used, Segment, HasChunk, Tiles, last_kind, AreSegments, IsApartFrom, AreApart}
 use Rattle.dlmalloc_chunks.specs.Tiling.{extent_at}
-use Rattle.dlmalloc.proofs.Extents.Lookup.{found, found_either, found_more, found_later, nat_is}
+use Rattle.dlmalloc.proofs.Extents.Lookup.{found, found_either, found_more, found_later}
 use Rattle.dlmalloc.proofs.Extents.Tiling.{sized, tiles_le, tiles_split}
 use Rattle.dlmalloc.proofs.Extents.OneMoreUsed.{AreDistinct, none_outside, distinct_later}
 pub use Rattle.dlmalloc.proofs.Extents.OneMoreUsed.{distinct_later}

@@ -1,5 +1,5 @@
 -- One segment of a heap gives way to another, and the regions may grow.
-use Rattle.dlmalloc.proofs.Names.{◌≡◌, ℕ, ◌+◌, ◌-◌, ◌%◌, ◌<◌, inl, inr, List, [], ◌∷◌, ◌++◌, Some, refl, sym, ◌∙◌, ap, arith, AllByRecursion, Grant, IsWordOf, Extent, Kind, Used, Free, Victim, Top, Record, Foot, extent_at, HeapState, Segment, extents_in, is_free_below_top, IsBoundary, IsSpared, AllSpare, IsRun, IsSegment, AreSegments, IsApartFrom, AreApart, record_of, AreRecords}
+use Rattle.dlmalloc.proofs.Names.{◌≡◌, ℕ, ◌+◌, ◌-◌, ◌%◌, ◌<◌, inl, inr, List, [], ◌∷◌, ◌++◌, Some, refl, sym, ◌∙◌, arith, AllByRecursion, Grant, IsWordOf, Extent, Used, extent_at, HeapState, Segment, extents_in, IsBoundary, AllSpare, IsRun, IsSegment, AreSegments, IsApartFrom, AreApart, record_of, AreRecords}
 use Rattle.dlmalloc.proofs.Extents.Lookup.{found_here}
 use Rattle.dlmalloc.proofs.Words.Spared.{spared, spared_before, spared_behind, inner_spared}
 use Rattle.dlmalloc.proofs.Words.OfRecords.{payload_in, record_stays}

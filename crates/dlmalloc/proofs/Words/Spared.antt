@@ -1,5 +1,5 @@
 -- The words that extents do not write.
-use Rattle.dlmalloc.proofs.Names.{◌≡◌, ◌≢◌, ℕ, ◌+◌, ◌<◌, ◌≤◌, true, List, [], ◌∷◌, ◌++◌, Some, IsTrue, refl, sym, subst, arith, Extent, Kind, Used, Free, Victim, Top, Record, Foot, is_free_below_top, is_used, Tiles, IsSpared, AllSpare}
+use Rattle.dlmalloc.proofs.Names.{◌≡◌, ◌≢◌, ℕ, ◌+◌, ◌<◌, ◌≤◌, true, List, [], ◌∷◌, ◌++◌, Some, IsTrue, refl, sym, subst, arith, Extent, Kind, Used, Free, Victim, Record, is_free_below_top, is_used, Tiles, IsSpared, AllSpare}
 use Rattle.dlmalloc_chunks.specs.Tiling.{extent_at}
 use Rattle.dlmalloc.proofs.Extents.Lookup.{found}
 use Rattle.dlmalloc.proofs.Extents.Tiling.{sized, tiles_le, tiles_split}

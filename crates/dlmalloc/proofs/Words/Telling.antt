@@ -1,5 +1,5 @@
 -- A heap rests on the words that tell its extents, and on the payloads of its records alone.
-use Rattle.dlmalloc.proofs.Names.{◌≡◌, ℕ, ◌+◌, ◌-◌, ◌%◌, ◌<◌, ◌≤◌, ◌⊎◌, inl, inr, true, false, nat_le, nat_lt, List, [], ◌∷◌, ◌++◌, Some, IsTrue, refl, sym, ◌∙◌, ap, subst, arith, append_assoc, dec_lt, list_any, AllByRecursion, nat_tests, Grant, IsWordOf, Extent, Kind, Used, Free, Victim, Top, Record, Foot, ends_segment, Bins, extent_at, HasChunk, Tiles, Segment, extents_in, is_free_below_top, IsRun, IsSegment, has_byte_in, AreSegments, AreApart, record_of, AreRecords, segments_of, state_of, AreTold, IsSound, Dlmalloc}
+use Rattle.dlmalloc.proofs.Names.{◌≡◌, ℕ, ◌+◌, ◌-◌, ◌%◌, ◌<◌, ◌≤◌, ◌⊎◌, inl, inr, true, false, nat_le, nat_lt, List, [], ◌∷◌, ◌++◌, Some, IsTrue, refl, sym, ◌∙◌, ap, subst, arith, append_assoc, dec_lt, list_any, AllByRecursion, nat_tests, Grant, IsWordOf, Extent, Kind, Used, Record, Foot, ends_segment, Bins, extent_at, HasChunk, Tiles, Segment, extents_in, is_free_below_top, IsRun, IsSegment, has_byte_in, AreSegments, AreApart, record_of, AreRecords, segments_of, state_of, AreTold, IsSound, Dlmalloc}
 use Rattle.dlmalloc.proofs.Extents.Lookup.{found_here}
 use Rattle.dlmalloc.proofs.Extents.Tiling.{sized}
 use Rattle.dlmalloc.proofs.Extents.OneMoreUsed.{AreDistinct, tiles_distinct}
