@@ -100,7 +100,8 @@ module _ {regions : List Grant} {words : ℕ → ℕ} {segment : Segment} (part 
                 | inr ends ↦ record {
                   one = one;
                   last = last;
-                  is = is ∙ ap (λ es. one ∷ last ∷ es) (nothing words last.kind (segment.base + one.size + last.size) rest (segment.base + segment.size) ends h.2).0;
+                  is = is ∙ ap (λ es. one ∷ last ∷ es) (nothing words last.kind (segment.base + one.size + last.size) rest
+                      (segment.base + segment.size) ends h.2).0;
                   free = kind;
                   ends = ends;
                 }

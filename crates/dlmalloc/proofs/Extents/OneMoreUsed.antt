@@ -38,7 +38,8 @@ distinct_later (first ∷ front) back k {extent} distinct there = go (first.at =
 
 -- what is found still is, where others stand in the place of some and it is found among them
 pub replaced_found : (k : ℕ) {one : Extent} (front less more back : List Extent) → AreDistinct (front ++ (more ++ back)) →
-    (extent_at k less ≡ Some one → extent_at k more ≡ Some one) → extent_at k (front ++ (less ++ back)) ≡ Some one → extent_at k (front ++ (more ++ back)) ≡ Some one
+    (extent_at k less ≡ Some one → extent_at k more ≡ Some one) → extent_at k (front ++ (less ++ back)) ≡ Some one →
+    extent_at k (front ++ (more ++ back)) ≡ Some one
 replaced_found k front less more back distinct stays there = elim (found_either k front (less ++ back) there) [
   | inl first ↦ found_more k front (more ++ back) first
   | inr later ↦ distinct_later front (more ++ back) k distinct (elim (found_either k less back later.1) [

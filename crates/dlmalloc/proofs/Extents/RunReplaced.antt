@@ -113,7 +113,8 @@ module _ {A : Type 0} {regions : A → List Grant} {word : A → ℕ → ℕ} {h
     high = part.high;
     long = part.long;
     extents = moved Used run.segment.base (run.segment.base + run.segment.size) run.first run.last run.first_stand move
-        run.last_stand (λ k low high m. record { granted = part.run.covered k (omega arith) high; aligned = m }) run.some refl kind (run_tail (regions heap.system) sound.segments run);
+        run.last_stand (λ k low high m. record { granted = part.run.covered k (omega arith) high; aligned = m }) run.some refl kind
+        (run_tail (regions heap.system) sound.segments run);
     tail = ap ends_segment (last_append Used run.first (more ++ run.last)) ∙ (ap ends_segment (last_append (last_kind Used run.first) more run.last)
         ∙ (ap (λ k. ends_segment (last_kind k run.last)) kind ∙ (run_tail (regions heap.system) sound.segments run)));
   }
@@ -121,7 +122,8 @@ module _ {A : Type 0} {regions : A → List Grant} {word : A → ℕ → ℕ} {h
   -- what is found in the segment still is, where it is found among the new ones too
   pub stays : (k : ℕ) {one : Extent} → (extent_at k less ≡ Some one → extent_at k more ≡ Some one) → extent_at k run.segment.extents ≡ Some one → extent_at k run_extents ≡ Some one
   stays k still there = replaced_found k run.first less more run.last
-      (tiles_distinct (word new.system) Used run.segment.base run_extents (run.segment.base + run.segment.size) is_now.extents) still (ap (extent_at k) (sym run.extents) ∙ there)
+      (tiles_distinct (word new.system) Used run.segment.base run_extents (run.segment.base + run.segment.size) is_now.extents) still
+      (ap (extent_at k) (sym run.extents) ∙ there)
 
   pub changed : IsChanged (regions heap.system) (regions new.system) (word heap.system) (word new.system) run.segment run_now
   changed = record {

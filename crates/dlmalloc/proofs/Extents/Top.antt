@@ -1,10 +1,9 @@
 -- The one top.
-use Rattle.dlmalloc.proofs.Names.{◌<◌, ◌≡◌, ℕ, ◌+◌, ◌-◌, inl, inr, Bool, true, false, ◌==◌, if◌then◌else◌, List, [], ◌∷◌, ◌++◌, Some, None, refl, sym, ◌∙◌, ap, subst, arith, append_assoc, unwrap_or, nat_tests, Grant, Extent, Used, Free, Top, Record, Foot, ends_segment, Segment, Tiles, last_kind, IsSegment, AreSegments, record_of, AreRecords, segments_of, AreTold, IsSound, Dlmalloc, AreChunks}
+use Rattle.dlmalloc.proofs.Names.{◌<◌, ◌≡◌, ℕ, ◌+◌, ◌-◌, inl, inr, Bool, true, false, ◌==◌, if◌then◌else◌, List, [], ◌∷◌, ◌++◌, Some, None, refl, sym, ◌∙◌, ap, subst, arith, append_assoc, unwrap_or, nat_tests, Grant, Extent, Used, Free, Top, Record, Foot, ends_segment, Segment, Tiles, last_kind, IsSegment, AreSegments, record_of, AreRecords, segments_of, AreTold, IsSound, Dlmalloc, AreChunks, chunks_between}
 use Rattle.dlmalloc_chunks.specs.Tiling.{extent_at}
-use Rattle.dlmalloc.proofs.Extents.Lookup.{extent, same_extent, nat_is, the_extent, found, found_either, found_more}
-use Rattle.dlmalloc.proofs.Extents.Tiling.{tiles_split}
+use Rattle.dlmalloc.proofs.Extents.Lookup.{extent, the_extent, found_here, found_either, found_more, of_two}
 use Rattle.dlmalloc.proofs.Moves.OfLists.{last_append}
-use Rattle.dlmalloc.proofs.Extents.FromWords.{are_chunks, nothing, behind_top}
+use Rattle.dlmalloc.proofs.Extents.Walk.{run_read, top_tail, record_tail}
 use Rattle.dlmalloc.proofs.Segments.Among.{extents_all, all_at, among_all, distinct_later}
 use Rattle.dlmalloc.proofs.Extents.OneMoreUsed.{AreDistinct, tiles_distinct}
 
@@ -29,70 +28,40 @@ module _ {regions : List Grant} {words : ℕ → ℕ} {segment : Segment} (part 
   abbrev end : ℕ
   end = segment.base + segment.size
 
-  -- what a segment with a top ends with
-  pub record Topped (at size : ℕ) : Type 0 where
-    pub front : List Extent
-    pub is : segment.extents ≡ front ++ extent at size Top ∷ extent (end - 80) 80 Foot ∷ []
-    pub chunks : AreChunks front
-    pub ends : at + size + 80 ≡ end
-    pub foot : last_kind Used segment.extents ≡ Foot
+  module _ {at size : ℕ} (there : extent_at at segment.extents ≡ Some (extent at size Top)) where
+    abbrev chunks : List Extent
+    chunks = (top_tail part there).run.chunks
 
-  pub topped : {at size : ℕ} → extent_at at segment.extents ≡ Some (extent at size Top) → Topped at size
-  topped {at} {size} there =
-      let f = found at (extent at size Top) segment.extents there in
-      let tiles = subst (λ es. Tiles words Used segment.base es end) f.is part.extents in
-      let s = tiles_split words Used segment.base f.front (extent at size Top ∷ f.back) end tiles in
-      let place : at ≡ s.middle = s.second.0 in
-      let tail : ends_segment (last_kind Top f.back) ≡ true =
-      ap ends_segment (sym (last_append Used f.front (extent at size Top ∷ f.back))) ∙ (ap (λ es. ends_segment (last_kind Used es)) (sym f.is) ∙ part.tail) in
-      let b = behind_top words (s.middle + size) f.back end s.second.2 tail in
-      let ends = b.1 in
-      record {
-        front = f.front;
-        is = f.is ∙ ap (λ es. f.front ++ extent at size Top ∷ es) b.0;
-        chunks = are_chunks words Used segment.base f.front (extent at size Top) f.back end (λ is. cc) tiles;
-        ends = omega arith;
-        foot = ap (last_kind Used) (f.is ∙ ap (λ es. f.front ++ extent at size Top ∷ es) b.0) ∙ last_append Used f.front (extent at size Top ∷ extent (end - 80) 80 Foot ∷ []);
-      }
+    top_is : segment.extents ≡ chunks ++ extent at size Top ∷ extent (at + size) 80 Foot ∷ []
+    top_is = (top_tail part there).is ∙ ap (λ es. es ++ extent at size Top ∷ extent (at + size) 80 Foot ∷ []) (run_read (top_tail part there).run)
 
-  -- its foot is behind it
-  pub foot_there : {at size : ℕ} → extent_at at segment.extents ≡ Some (extent at size Top) → extent_at (at + size) segment.extents ≡ Some (extent (at + size) 80 Foot)
-  foot_there {at} {size} there =
-      let t = topped there in let ends = t.ends in let foot = extent (end - 80) 80 Foot in
-      let is : segment.extents ≡ (t.front ++ extent at size Top ∷ []) ++ foot ∷ [] = t.is ∙ sym (append_assoc t.front (extent at size Top ∷ []) (foot ∷ [])) in
-      let here : (end - 80 == at + size) ≡ true = (let e : end - 80 ≡ at + size = omega arith in grind (arith, nat_tests)) in
-      ap (extent_at (at + size)) is ∙ (distinct_later (t.front ++ extent at size Top ∷ []) (foot ∷ []) (at + size) {extent = foot}
-      (subst AreDistinct is (tiles_distinct words Used segment.base segment.extents end part.extents)) (rw here refl)
-      ∙ (λ i. Some (same_extent {at = end - 80} {at' = at + size} {size = 80} {size' = 80} {kind = Foot} {kind' = Foot} (omega arith) refl refl i)))
+    -- its foot is behind it
+    pub foot_there : extent_at (at + size) segment.extents ≡ Some (extent (at + size) 80 Foot)
+    foot_there =
+        let foot = extent (at + size) 80 Foot in
+        let is = top_is ∙ sym (append_assoc chunks (extent at size Top ∷ []) (foot ∷ [])) in
+        ap (extent_at (at + size)) is ∙ distinct_later (chunks ++ extent at size Top ∷ []) (foot ∷ []) (at + size)
+        (subst AreDistinct is (tiles_distinct words Used segment.base segment.extents end part.extents)) (found_here foot [])
+
+    -- there is one
+    one_top : {other other_size : ℕ} → extent_at other segment.extents ≡ Some (extent other other_size Top) → at ≡ other
+    one_top {other} other_there =
+        elim (found_either other chunks (extent at size Top ∷ extent (at + size) 80 Foot ∷ []) (ap (extent_at other) (sym top_is) ∙ other_there)) [
+          | inl first ↦ absurd (no_top chunks (top_tail part there).run.are other first refl)
+          | inr later ↦ elim (of_two other (extent at size Top) (extent (at + size) 80 Foot) later.1) [
+            | inl same ↦ ap (λ e. e.at) same
+            | inr foot ↦ absurd (let no : Foot ≡ Top = ap (λ e. e.kind) foot in cc)
+          ]
+        ]
 
   -- no record is there
   pub no_record : {at size : ℕ} (record_at : ℕ) → extent_at at segment.extents ≡ Some (extent at size Top) → extent_at record_at segment.extents ≡ Some (record_of record_at end) → ⊥
-  no_record record_at there record_there =
-      let f = found record_at (record_of record_at end) segment.extents record_there in
-      let s = tiles_split words Used segment.base f.front (record_of record_at end ∷ f.back) end (subst (λ es. Tiles words Used segment.base es end) f.is part.extents) in
-      let none = (nothing words Record (s.middle + (end - record_at)) f.back end refl s.second.2).0 in
-      let kind : last_kind Used segment.extents ≡ Record = ap (last_kind Used) (f.is ∙ ap (λ es. f.front ++ record_of record_at end ∷ es) none)
-      ∙ last_append Used f.front (record_of record_at end ∷ []) in
-      let no : Foot ≡ Record = sym (topped there).foot ∙ kind in
+  no_record {at} {size} record_at there record_there =
+      let foot = ap (last_kind Used) (top_is there) ∙ last_append Used (chunks there) (extent at size Top ∷ extent (at + size) 80 Foot ∷ []) in
+      let kind = ap (last_kind Used) (record_tail part record_at record_there).is
+      ∙ last_append Used (chunks_between words segment.base record_at) (record_of record_at end ∷ []) in
+      let no : Foot ≡ Record = sym foot ∙ kind in
       cc
-
-  -- there is one
-  one_top : (at size : ℕ) {other other_size : ℕ} → extent_at at segment.extents ≡ Some (extent at size Top) →
-      extent_at other segment.extents ≡ Some (extent other other_size Top) → at ≡ other
-  one_top at size {other} {other_size} there other_there =
-      let t = topped there in
-      elim (found_either other t.front (extent at size Top ∷ extent (end - 80) 80 Foot ∷ []) (ap (extent_at other) (sym t.is) ∙ other_there)) [
-        | inl first ↦ absurd (no_top t.front t.chunks other first refl)
-        | inr later ↦ go (at == other) refl later.1
-      ]
-    where
-      go : (b : Bool) → (at == other) ≡ b → (if b then Some (extent at size Top) else extent_at other (extent (end - 80) 80 Foot ∷ [])) ≡ Some (extent other other_size Top) → at ≡ other
-      go true is found = nat_is is
-      go false isnt found = absurd (foot (end - 80 == other) found)
-        where
-          foot : (b : Bool) → (if b then Some (extent (end - 80) 80 Foot) else None) ≡ Some (extent other other_size Top) → ⊥
-          foot true is = (let no : Foot ≡ Top = ap (λ o. (unwrap_or o (extent other other_size Top)).kind) is in cc)
-          foot false is = cc
 
 -- the top is found among all, where there is a segment
 pub top_among : {A : Type 0} {regions : A → List Grant} {word : A → ℕ → ℕ} {heap : Dlmalloc A} → IsSound regions word heap → 0 < heap.size →
@@ -113,7 +82,7 @@ module _ {A : Type 0} {regions : A → List Grant} {word : A → ℕ → ℕ} {h
   is_top {at} {size} there = go front (subst (AreTold (word heap.system) heap) is sound.told)
     where
       go : (front : List Segment) → AreTold (word heap.system) heap (front ++ segment ∷ back) → (front ≡ []) × (at ≡ heap.top)
-      go [] h = (refl, one_top part at size there h.4)
+      go [] h = (refl, one_top part there h.4)
       go (first ∷ front) h =
           let r = record_there (word heap.system) heap.next front segment back h.5 in
           absurd (no_record part r.0 there r.1)
@@ -122,7 +91,8 @@ module _ {A : Type 0} {regions : A → List Grant} {word : A → ℕ → ℕ} {h
   pub the_top : {one : Extent} → extent_at one.at segment.extents ≡ Some one → one.at ≡ heap.top → one ≡ extent heap.top heap.top_size Top
   the_top {one} there place =
       let all = among_all (regions heap.system) (word heap.system) sound.segments sound.apart front segment back is one.at there in
-      the_extent (sym all ∙ (ap (λ k. extent_at k (extents_all (segments_of word heap))) place ∙ top_among sound (some front (subst (AreTold (word heap.system) heap) is sound.told))))
+      the_extent (sym all ∙ (ap (λ k. extent_at k (extents_all (segments_of word heap))) place
+      ∙ top_among sound (some front (subst (AreTold (word heap.system) heap) is sound.told))))
     where
       some : (front : List Segment) → AreTold (word heap.system) heap (front ++ segment ∷ back) → 0 < heap.size
       some [] h = h.0

@@ -90,14 +90,18 @@ module _ {A : Type 0} {regions : A → List Grant} {word : A → ℕ → ℕ} {h
       (top_stands (word system) heap.top length_now old_run.here.1.kind (top_whole sound some) (omega (arith, (top_sizes sound some).0))
       (omega (arith, (top_sizes sound some).1)) (head ∙ ap (λ n. n + 1) (sym length_is)) (ap (word system) place ∙ foot))
 
-  is_now : IsSegment (regions system) (word system) now
-  is_now = head_with sound some (word system) more (subst (λ rs. IsRun rs old_run.segment.base (old_run.segment.size + grant.size) old_run.segment.flags) (sym same)
+  run_now : IsRun (regions system) old_run.segment.base (old_run.segment.size + grant.size) old_run.segment.flags
+  run_now = subst (λ rs. IsRun rs old_run.segment.base (old_run.segment.size + grant.size) old_run.segment.flags) (sym same)
       (runs_joined (begins ∙ (λ i. was.base i + was.size i)) (top_part sound some).run (subst (λ f. IsRun (regions heap.system) grant.base grant.size f)
-      ((behind_means grant (bare_head heap) behind).1 ∙ was.flags) fresh.run) whole)) (omega (arith, was.base, was.size, begins))
-      (omega (arith, (top_part sound some).long)) (λ k above below m. kept k (head_word sound some k (omega (arith, was.base)) (omega (arith, ends sound some)) m)
-      (λ is. omega arith) (λ is. omega (arith, ends sound some))) more_stand refl
+      ((behind_means grant (bare_head heap) behind).1 ∙ was.flags) fresh.run) whole)
 
-  longer_apart : (others : List Segment) → AllByRecursion (IsApartFrom old_run.segment) others → AllByRecursion (λ segment. IsApartFrom segment (opened grant)) others →
+  is_now : IsSegment (regions system) (word system) now
+  is_now = head_with sound some (word system) more run_now (omega (arith, was.base, was.size, begins)) (omega (arith, (top_part sound some).long))
+      (λ k above below m. kept k (head_word sound some k (omega (arith, was.base)) (omega (arith, ends sound some)) m) (λ is. omega arith)
+      (λ is. omega (arith, ends sound some))) more_stand refl
+
+  longer_apart : (others : List Segment) → AllByRecursion (IsApartFrom old_run.segment) others →
+      AllByRecursion (λ segment. IsApartFrom segment (opened grant)) others →
       AreSegments (regions heap.system) (word heap.system) others → AllByRecursion (IsApartFrom now) others
   longer_apart [] one two parts = tt
   longer_apart (other ∷ others) one two parts = (
@@ -119,7 +123,11 @@ module _ {A : Type 0} {regions : A → List Grant} {word : A → ℕ → ℕ} {h
   it = record {
     now = now ∷ old_run.back;
     parts = (is_now, parts_kept system sound fresh same some outside_kept);
-    apart = (longer_apart old_run.back (head_beside sound some) (grant_apart system sound fresh same some).1 (behind_parts sound some), behind_apart sound some);
+    apart = (
+      longer_apart old_run.back (head_beside sound some) (grant_apart system sound fresh same some).1
+          (behind_parts sound some),
+      behind_apart sound some,
+    );
     told = (omega arith, was.base, ap (λ n. n + grant.size) was.size, was.flags, where_top, told_kept system sound fresh same some outside_kept);
     some = omega arith;
     granularity = refl;

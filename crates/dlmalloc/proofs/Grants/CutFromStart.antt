@@ -118,7 +118,8 @@ pub cut_before : {A : Type 0} {regions : A → List Grant} {word : A → ℕ →
     chosen (state_of word old) n ≡ None → IsGoodGrant asked grant → AllByRecursion (IsApart grant.base (grant.base + grant.size)) (regions old.system) →
     regions middle ≡ with_grant grant (regions old.system) → ((k : ℕ) → IsWordOf (regions old.system) k → word middle k ≡ word old.system k) →
     (zeros old.system ≡ true → (k : ℕ) → grant.base ≤ k → k < grant.base + grant.size → k % 8 ≡ 0 → word middle k ≡ 0) →
-    is_put_before grant (segments_of word (record old { system = middle })) ≡ true → IsPutBefore regions word follows (record old { system = middle }) grant n new →
+    is_put_before grant (segments_of word (record old { system = middle })) ≡ true →
+    IsPutBefore regions word follows (record old { system = middle }) grant n new →
     follows old.system (Granted (round_up (n + 96) old.granularity) grant ∷ []) new.system → IsCutOut regions word zeros follows old n grant.base new
 cut_before {regions} {word} {old} {middle} {n} {grant} {new} sound least enough none good beside with_it words zero test put followed = record {
   cut = inr (
@@ -126,7 +127,11 @@ cut_before {regions} {word} {old} {middle} {n} {grant} {new} sound least enough 
     record {
       none_chosen = none;
       full = full sound n none;
-      of_grant = λ is. (refl, put.state ∙ (ap (λ s. freed (prepended grant n s) (grant.base + n)) same ∙ sym (granted_before grant n (state_of word old) joins)));
+      of_grant = λ is. (
+        refl,
+        put.state ∙ (ap (λ s. freed (prepended grant n s) (grant.base + n)) same
+            ∙ sym (granted_before grant n (state_of word old) joins)),
+      );
       of_top = λ is. absurd (let no : false ≡ true = sym is ∙ joins in cc);
       room = omega arith;
       place = inl refl;

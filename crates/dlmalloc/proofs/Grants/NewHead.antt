@@ -108,7 +108,8 @@ module _ {A : Type 0} {regions : A → List Grant} {word : A → ℕ → ℕ} {h
   -- a word of the segment before the record is none of those written
   inside_kept : (k : ℕ) → it.segment.base ≤ k → k ≤ heap.top + 8 → k ≤ at → k % 8 ≡ 0 → word system k ≡ word heap.system k
   inside_kept k low below before m = kept k (record { granted = old_part.run.covered k low (omega (arith, ends_at, sizes.1)); aligned = m })
-      (inl before) (λ is. absurd (omega (arith, sizes.1))) (λ is. elim (grant_beside) [ inl a ↦ omega (arith, ends_at, sizes.1) | inr b ↦ omega (arith, fresh.long) ])
+      (inl before) (λ is. absurd (omega (arith, sizes.1))) (λ is. elim (grant_beside)
+      [ inl a ↦ omega (arith, ends_at, sizes.1) | inr b ↦ omega (arith, fresh.long) ])
       (λ is. elim (grant_beside) [ inl a ↦ omega (arith, ends_at, sizes.1, fresh.long) | inr b ↦ omega (arith, fresh.long) ])
 
   rest_stand : Tiles (word system) (last_kind Used it.first) heap.top rest (it.segment.base + it.segment.size)

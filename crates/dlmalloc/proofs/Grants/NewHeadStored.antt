@@ -50,6 +50,7 @@ module _ {A : Type 0} {regions : A → List Grant} {word : A → ℕ → ℕ} (f
       words = added_words sound stored;
       new_words = added_new sound stored;
     },
-    subst (λ come. FreeMoves (state_of word heap) (state_of word (new_head heap grant system at)) [] come) (small_is (at == heap.top) refl) (added_free sound stored),
+    subst (λ come. FreeMoves (state_of word heap) (state_of word (new_head heap grant system at)) [] come) (small_is (at == heap.top) refl)
+        (added_free sound stored),
     λ many. added_rest sound stored (sym (where_is sound stored).0 ∙ nat_isnt (inr (omega arith))),
   )

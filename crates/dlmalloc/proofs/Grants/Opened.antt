@@ -111,4 +111,5 @@ module _ {A : Type 0} {regions : A → List Grant} {word : A → ℕ → ℕ} {h
           (parts_stay (regions heap.system) (word heap.system) (word system) run.back (behind_parts sound some) back_keeps)
 
       pub told_kept : AreRecords (word system) heap.next run.back
-      told_kept = records_stay (regions heap.system) (word heap.system) (word system) run.back (behind_parts sound some) back_keeps heap.next (behind_told sound some)
+      told_kept = records_stay (regions heap.system) (word heap.system) (word system) run.back (behind_parts sound some) back_keeps heap.next
+          (behind_told sound some)

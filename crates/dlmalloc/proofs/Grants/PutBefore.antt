@@ -19,7 +19,8 @@ parts_around [] back first one last = (one, last)
 parts_around (other ∷ front) back first one last = (first.0, parts_around front back first.1 one last)
 
 -- A grant stands as two chunks in use, of which the first has n bytes.
-pub record IsInTwo {A : Type 0} (regions : A → List Grant) (word : A → ℕ → ℕ) (follows : A → List Event → A → Type 0) (heap : Dlmalloc A) (grant : Grant) (n : ℕ) (system : A) : Type 0 where
+pub record IsInTwo {A : Type 0} (regions : A → List Grant) (word : A → ℕ → ℕ) (follows : A → List Event → A → Type 0) (heap : Dlmalloc A) (grant : Grant)
+    (n : ℕ) (system : A) : Type 0 where
   pub fresh : IsFresh (regions heap.system) (segments_of word heap) grant
   pub multiple : n % 16 ≡ 0
   pub least : 32 ≤ n
@@ -31,7 +32,8 @@ pub record IsInTwo {A : Type 0} (regions : A → List Grant) (word : A → ℕ �
   pub followed : follows heap.system [] system
 
 -- It joins the segment behind it: of the words, those of its two heads change, and those that tell the segment.
-pub record IsJoining {A : Type 0} (regions : A → List Grant) (word : A → ℕ → ℕ) (heap : Dlmalloc A) (grant : Grant) (n : ℕ) (system : A) (IsUntold : ℕ → Type 0) : Type 0 where
+pub record IsJoining {A : Type 0} (regions : A → List Grant) (word : A → ℕ → ℕ) (heap : Dlmalloc A) (grant : Grant) (n : ℕ) (system : A)
+    (IsUntold : ℕ → Type 0) : Type 0 where
   pub front : List Segment
   pub segment : Segment
   pub back : List Segment
@@ -41,8 +43,9 @@ pub record IsJoining {A : Type 0} (regions : A → List Grant) (word : A → ℕ
   pub kept : (k : ℕ) → IsWordOf (regions heap.system) k → k ≢ grant.base + 8 → k ≢ grant.base + n + 8 → IsUntold k → word system k ≡ word heap.system k
   pub tiles : Tiles (word system) Used segment.base segment.extents (segment.base + segment.size)
 
-module _ {A : Type 0} {regions : A → List Grant} {word : A → ℕ → ℕ} {follows : A → List Event → A → Type 0} {heap : Dlmalloc A} (sound : IsSound regions word heap)
-    {grant : Grant} {n : ℕ} {system : A} {IsUntold : ℕ → Type 0} (halves : IsInTwo regions word follows heap grant n system) (joint : IsJoining regions word heap grant n system IsUntold) where
+module _ {A : Type 0} {regions : A → List Grant} {word : A → ℕ → ℕ} {follows : A → List Event → A → Type 0} {heap : Dlmalloc A}
+    (sound : IsSound regions word heap) {grant : Grant} {n : ℕ} {system : A} {IsUntold : ℕ → Type 0}
+    (halves : IsInTwo regions word follows heap grant n system) (joint : IsJoining regions word heap grant n system IsUntold) where
   open halves use {fresh, multiple, least, room, whole, same, first, second, followed}
   open joint use {front, segment, back, is, joins, untold, kept, tiles}
 
@@ -148,7 +151,8 @@ module _ {A : Type 0} {regions : A → List Grant} {word : A → ℕ → ℕ} {f
   apart_now : AreApart (front ++ now ∷ back)
   apart_now = around front front_parts apart front_beside
 
-  module _ (base size : ℕ) (some : 0 < size) (told : AreTold (word system) (record heap { system = system; base = base; size = size }) (front ++ now ∷ back)) where
+  module _ (base size : ℕ) (some : 0 < size) (told : AreTold (word system) (record heap { system = system; base = base; size = size })
+      (front ++ now ∷ back)) where
     abbrev new : Dlmalloc A
     new = record heap { system = system; base = base; size = size }
 
@@ -175,7 +179,8 @@ module _ {A : Type 0} {regions : A → List Grant} {word : A → ℕ → ℕ} {f
 
     -- what is found in the segment is found
     pub among_new : (k : ℕ) {one : Extent} → extent_at k now.extents ≡ Some one → extent_at k (extents_in (state_of word new)) ≡ Some one
-    among_new k there = ap (λ ss. extent_at k (extents_all ss)) (exchanged_read sound it) ∙ among_all (regions system) (word system) parts_now apart_now front now back refl k there
+    among_new k there = ap (λ ss. extent_at k (extents_all ss)) (exchanged_read sound it)
+        ∙ among_all (regions system) (word system) parts_now apart_now front now back refl k there
 
     rest_there : extent_at (grant.base + n) two_chunks ≡ Some (extent (grant.base + n) (grant.size - n) Used)
     rest_there =

@@ -121,7 +121,8 @@ module _ {A : Type 0} {regions : A → List Grant} {word : A → ℕ → ℕ} {h
 
   -- where no record is left, the grant is before no segment
   pub none_behind : {payload : ℕ} → PassedBehind word heap grant payload → payload ≡ 0 → list_any (is_before grant) (segments_of word heap) ≡ false
-  none_behind {payload} p empty = ap (list_any (is_before grant)) (p.is ∙ (ap (λ ss. p.head ∷ (p.passed ++ ss)) (none_told (word heap.system) p.rest p.told empty)))
+  none_behind {payload} p empty = ap (list_any (is_before grant)) (p.is
+      ∙ (ap (λ ss. p.head ∷ (p.passed ++ ss)) (none_told (word heap.system) p.rest p.told empty)))
       ∙ (list_any-append (is_before grant) (p.head ∷ p.passed) [] ∙ (let none = p.none in rw none refl))
 
 -- ---- records that tell segments as before, and others behind them

@@ -101,7 +101,8 @@ module _ {A : Type 0} {regions : A → List Grant} {word : A → ℕ → ℕ} {h
   pub head_with : {others : List Grant} (new : ℕ → ℕ) {size : ℕ} (more : List Extent) →
       IsRun others top_run.segment.base size top_run.segment.flags → top_run.segment.base + size < 2 ^ 64 → 96 < size →
       ((k : ℕ) → top_run.segment.base < k → k ≤ heap.top → k % 8 ≡ 0 → new k ≡ word heap.system k) →
-      Tiles new (last_kind Used top_run.first) heap.top more (top_run.segment.base + size) → ends_segment (last_kind (last_kind Used top_run.first) more) ≡ true →
+      Tiles new (last_kind Used top_run.first) heap.top more (top_run.segment.base + size) →
+      ends_segment (last_kind (last_kind Used top_run.first) more) ≡ true →
       IsSegment others new (record { base = top_run.segment.base; size = size; flags = top_run.segment.flags; extents = top_run.first ++ more })
   head_with new {size} more run high long kept stand tail = record {
     run = run;
@@ -109,7 +110,8 @@ module _ {A : Type 0} {regions : A → List Grant} {word : A → ℕ → ℕ} {h
     high = high;
     long = long;
     extents = tiles_append new Used top_run.segment.base top_run.first more heap.top (top_run.segment.base + size)
-        (tiles_kept (word heap.system) new Used top_run.segment.base top_run.first heap.top top_run.first_stand (λ k above below m free. kept k above below m)) stand;
+        (tiles_kept (word heap.system) new Used top_run.segment.base top_run.first heap.top top_run.first_stand
+        (λ k above below m free. kept k above below m)) stand;
     tail = ap ends_segment (last_append Used top_run.first more) ∙ tail;
   }
 

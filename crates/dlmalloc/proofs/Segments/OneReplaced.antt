@@ -55,13 +55,18 @@ module _ {regions regions' : List Grant} {old new : ℕ → ℕ} {segment segmen
 
   pub apart_after : (front back : List Segment) → AreApart (front ++ segment ∷ back) → AreSegments regions old (front ++ segment ∷ back) → AreApart (front ++ segment' ∷ back)
   apart_after [] back apart parts = (behind_apart back apart.0 parts.1, apart.1)
-  apart_after (other ∷ front) back apart parts = (all_with (IsApartFrom other) front segment segment' back (λ one. (changed.others other parts.0 one).1) apart.0, apart_after front back apart.1 parts.1)
+  apart_after (other ∷ front) back apart parts = (
+    all_with (IsApartFrom other) front segment segment' back
+        (λ one. (changed.others other parts.0 one).1) apart.0,
+    apart_after front back apart.1 parts.1,
+  )
 
   -- ---- the payload of a record stays
 
   record_told : {other : Segment} → IsSegment regions' new other →
       ((k : ℕ) → other.base < k → k < other.base + other.size → k % 8 ≡ 0 → AllSpare other.extents k → new k ≡ old k) →
-      (others now : List Segment) (payload : ℕ) → AreRecords old payload (other ∷ others) → AreRecords new (old (payload + 16)) now → AreRecords new payload (other ∷ now)
+      (others now : List Segment) (payload : ℕ) → AreRecords old payload (other ∷ others) → AreRecords new (old (payload + 16)) now →
+      AreRecords new payload (other ∷ now)
   record_told {other} part same others now payload h rest =
       let p = payload_in part payload h.0 h.4 in
       record_stays old new payload other others now p.whole (λ k low high m. same k (omega arith) (omega arith) m
@@ -80,7 +85,8 @@ module _ {regions regions' : List Grant} {old new : ℕ → ℕ} {segment segmen
       (payload : ℕ) → AreRecords old payload (front ++ segment ∷ back) → AreRecords new payload (front ++ segment' ∷ back)
   records_after [] back apart parts payload h =
       let is = changed.records (payload - 16) h.4 in
-      record_told changed.now (λ k low high m spared. changed.kept k (record { granted = parts.0.run.covered k (omega arith) (omega arith); aligned = m }) spared)
+      record_told changed.now
+      (λ k low high m spared. changed.kept k (record { granted = parts.0.run.covered k (omega arith) (omega arith); aligned = m }) spared)
       back back payload (
         h.0,
         h.1 ∙ sym is.0,

@@ -82,7 +82,8 @@ module _ {A : Type 0} {regions : A → List Grant} {word : A → ℕ → ℕ} {h
 
   module _ {payload : ℕ} {known : List Segment → Type 0} (p : PassedSegments word heap payload known) where
     parts_left : AreSegments (regions heap.system) (word heap.system) p.rest
-    parts_left = all_back (IsSegment (regions heap.system) (word heap.system)) p.passed p.rest (subst (AreSegments (regions heap.system) (word heap.system)) p.is sound.segments)
+    parts_left = all_back (IsSegment (regions heap.system) (word heap.system)) p.passed p.rest
+        (subst (AreSegments (regions heap.system) (word heap.system)) p.is sound.segments)
 
     few_left : length p.rest ≤ 2 ^ 64
     few_left = let all = segments_few word heap in let sum = ap length p.is ∙ length-append p.passed p.rest in let some = p.some in omega arith

@@ -23,7 +23,8 @@ segment_kept old new {segment} part run same = record {
   tail = part.tail;
 }
   where
-    within : (k : ℕ) → k ≤ segment.base + segment.size → (k ≡ segment.base + segment.size → IsTrue (is_free_below_top (last_kind Used segment.extents))) → k < segment.base + segment.size
+    within : (k : ℕ) → k ≤ segment.base + segment.size → (k ≡ segment.base + segment.size → IsTrue (is_free_below_top (last_kind Used segment.extents))) →
+        k < segment.base + segment.size
     within k high free = elim (dec_lt k (segment.base + segment.size))
         [ yes below ↦ below | no beyond ↦ absurd (no_plain (last_kind Used segment.extents) part.tail (free (omega arith))) ]
 

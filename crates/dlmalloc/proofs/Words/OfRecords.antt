@@ -64,7 +64,8 @@ module _ {regions : List Grant} {old : ℕ → ℕ} {segment : Segment} (part : 
         let last = nothing old Record (s.middle + (end - (payload - 16))) f.back end refl s.second.2 in
         subst (λ es. Tiles new Used segment.base es end) (sym f.is)
         (tiles_append new Used segment.base f.front (record_of (payload - 16) end ∷ f.back) s.middle end
-        (tiles_kept old new Used segment.base f.front s.middle s.first (λ k above below m free. kept k above (omega (arith, place.high)) m (inl (omega arith)))) (
+        (tiles_kept old new Used segment.base f.front s.middle s.first
+        (λ k above below m free. kept k above (omega (arith, place.high)) m (inl (omega arith)))) (
           at,
           record {
             whole = s.second.1.whole;
