@@ -113,7 +113,7 @@ module _ {A : Type 0} {regions : A → List Grant} {word : A → ℕ → ℕ} {h
     high = part.high;
     long = part.long;
     extents = moved Used run.segment.base (run.segment.base + run.segment.size) run.first run.last run.first_stand move
-        run.last_stand (λ k low high m. record { granted = part.run.covered k (omega arith) high; aligned = m }) run.some refl kind
+        run.last_stand (λ k low high m. record { granted = part.run.covered k (omega arith) high; aligned = m }) run.some kind
         (run_tail (regions heap.system) sound.segments run);
     tail = ap ends_segment (last_append Used run.first (more ++ run.last)) ∙ (ap ends_segment (last_append (last_kind Used run.first) more run.last)
         ∙ (ap (λ k. ends_segment (last_kind k run.last)) kind ∙ (run_tail (regions heap.system) sound.segments run)));

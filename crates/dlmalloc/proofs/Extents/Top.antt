@@ -29,6 +29,7 @@ module _ {regions : List Grant} {words : ℕ → ℕ} {segment : Segment} (part 
   end = segment.base + segment.size
 
   module _ {at size : ℕ} (there : extent_at at segment.extents ≡ Some (extent at size Top)) where
+    -- chunks, the top, and its foot
     abbrev chunks : List Extent
     chunks = (top_tail part there).run.chunks
 

@@ -16,28 +16,27 @@ no_plain Foot ends free = cc
 
 -- ---- the extents, with others for the run
 
-module _ {regions : List Grant} {old new : ℕ → ℕ} (before : Kind) (base : ℕ) {from to to' : ℕ} (end : ℕ)
+module _ {regions : List Grant} {old new : ℕ → ℕ} (before : Kind) (base : ℕ) {from to : ℕ} (end : ℕ)
     (front : List Extent) {less more : List Extent} (back : List Extent) (first : Tiles old before base front from)
-    (move : IsMove regions old new (last_kind before front) from to to' less more) (second : Tiles old (last_kind (last_kind before front) less) to back end)
+    (move : IsMove regions old new (last_kind before front) from to to less more) (second : Tiles old (last_kind (last_kind before front) less) to back end)
     (granted : (k : ℕ) → base < k → k < end → k % 8 ≡ 0 → IsWordOf regions k) (some : from < to) where
   -- what stands before it stays
   before_kept : Tiles new before base front from
   before_kept =
       let reach = tiles_le old (last_kind (last_kind before front) less) to back end second in
       tiles_kept old new before base front from first (λ k low high m free. move.kept k (granted k low (omega arith) m)
-      (spared_before new (last_kind before front) from more to' k move.more_stand (omega arith)))
+      (spared_before new (last_kind before front) from more to k move.more_stand (omega arith)))
 
   -- others stand behind it
-  pub moved : to' ≡ to → last_kind (last_kind before front) more ≡ last_kind (last_kind before front) less →
+  pub moved : last_kind (last_kind before front) more ≡ last_kind (last_kind before front) less →
       ends_segment (last_kind (last_kind (last_kind before front) less) back) ≡ true → Tiles new before base (front ++ (more ++ back)) end
-  moved same kind tail =
+  moved kind tail =
       let below = tiles_le old before base front from first in
       let behind : Tiles new (last_kind (last_kind before front) less) to back end =
       tiles_kept old new (last_kind (last_kind before front) less) to back end second (λ k low high m free. move.kept k
-      (granted k (omega arith) (inside k high free) m) (spared_behind new (last_kind before front) from more to' k move.more_stand (omega arith))) in
+      (granted k (omega arith) (inside k high free) m) (spared_behind new (last_kind before front) from more to k move.more_stand (omega arith))) in
       tiles_append new before base front (more ++ back) from end before_kept
-      (tiles_append new (last_kind before front) from more back to' end move.more_stand (subst (λ kind. Tiles new kind to' back end) (sym kind)
-      (subst (λ a. Tiles new (last_kind (last_kind before front) less) a back end) (sym same) behind)))
+      (tiles_append new (last_kind before front) from more back to end move.more_stand (subst (λ kind. Tiles new kind to back end) (sym kind) behind))
     where
       inside : (k : ℕ) → k ≤ end → (k ≡ end → IsTrue (is_free_below_top (last_kind (last_kind (last_kind before front) less) back))) → k < end
       inside k high free = elim (dec_lt k end) [ yes below ↦ below | no beyond ↦ absurd (no_plain (last_kind (last_kind (last_kind before front) less) back) tail (free (omega arith))) ]
