@@ -1,5 +1,5 @@
 -- The one top.
-use Rattle.dlmalloc.proofs.Names.{◌<◌, ◌≡◌, ℕ, ◌+◌, ◌-◌, inl, inr, Bool, true, false, ◌==◌, if◌then◌else◌, List, [], ◌∷◌, ◌++◌, Some, None, refl, sym, ◌∙◌, ap, subst, arith, append_assoc, unwrap_or, nat_tests, Grant, Extent, Used, Free, Top, Record, Foot, ends_segment, Segment, Tiles, last_kind, IsSegment, AreSegments, record_of, AreRecords, segments_of, AreTold, IsSound, Dlmalloc, AreChunks, chunks_between}
+use Rattle.dlmalloc.proofs.Names.{◌<◌, ◌≡◌, ℕ, ◌+◌, ◌-◌, inl, inr, Bool, true, false, ◌==◌, if◌then◌else◌, List, [], ◌∷◌, ◌++◌, Some, refl, sym, ◌∙◌, ap, subst, arith, append_assoc, unwrap_or, Grant, Extent, Used, Free, Top, Record, Foot, Segment, last_kind, IsSegment, AreSegments, record_of, AreRecords, segments_of, AreTold, IsSound, Dlmalloc, AreChunks, chunks_between}
 use Rattle.dlmalloc_chunks.specs.Tiling.{extent_at}
 use Rattle.dlmalloc.proofs.Extents.Lookup.{extent, the_extent, found_here, found_either, found_more, of_two}
 use Rattle.dlmalloc.proofs.Moves.OfLists.{last_append}

@@ -1,5 +1,5 @@
 -- A grant at the end of the head segment makes its top longer.
-use Rattle.dlmalloc.proofs.Names.{◌≡◌, ◌≢◌, ℕ, ◌+◌, ◌-◌, ◌%◌, ◌<◌, ◌⊎◌, inl, inr, true, ◌&&◌, ◌==◌, List, [], ◌∷◌, ◌++◌, map, Some, refl, sym, ◌∙◌, ap, subst, arith, append_assoc, AllByRecursion, nat_tests, map-append, Grant, IsWordOf, IsWhole, Extent, Used, Free, Top, Foot, extent_at, Tiles, last_kind, Segment, trim_threshold, opened, is_behind, granted, IsFresh, HasSameUsed, OnlyTagsChange, IsRun, IsSegment, AreSegments, IsApartFrom, FreeMoves, segments_of, state_of, IsSound, Dlmalloc, AreChunks, IsRunOf}
+use Rattle.dlmalloc.proofs.Names.{◌≡◌, ◌≢◌, ℕ, ◌+◌, ◌-◌, ◌<◌, ◌⊎◌, inl, inr, true, List, [], ◌∷◌, ◌++◌, map, Some, refl, sym, ◌∙◌, ap, subst, arith, append_assoc, AllByRecursion, nat_tests, map-append, Grant, IsWordOf, IsWhole, Extent, Used, Free, Top, Foot, extent_at, Tiles, last_kind, Segment, trim_threshold, opened, is_behind, granted, IsFresh, HasSameUsed, OnlyTagsChange, IsRun, IsSegment, AreSegments, IsApartFrom, FreeMoves, segments_of, state_of, IsSound, Dlmalloc, AreChunks, IsRunOf}
 use Rattle.dlmalloc.specs.Granted.{grown, extended}
 use Rattle.dlmalloc.proofs.Extents.Lookup.{extent, nat_same, found_later}
 use Rattle.dlmalloc.proofs.Segments.HeadTold.{IsHead, bare_head}
@@ -7,7 +7,7 @@ use Rattle.dlmalloc.proofs.Segments.Among.{extents_all}
 use Rattle.dlmalloc.proofs.Segments.RegionsMore.{runs_joined}
 use Rattle.dlmalloc.proofs.Segments.Exchange.{Exchange, exchanged_read, exchanged_used, exchanged_sound, none_exchanged}
 use Rattle.dlmalloc.proofs.Segments.ToldAnew.{IsOutside, head_tags}
-use Rattle.dlmalloc.proofs.Segments.HeadTop.{top_of, top_stands, top_run, top_part, top_segment, top_last, top_low, top_whole, top_sizes, ends, head_word, head_with, head_first, behind_parts, head_beside, behind_apart, head_chunks, head_extents, extents_all_are, none_from_top}
+use Rattle.dlmalloc.proofs.Segments.HeadTop.{top_of, top_stands, top_run, top_part, top_segment, top_last, top_low, top_whole, top_sizes, ends, head_word, head_with, grant_behind_head, head_first, behind_parts, head_beside, behind_apart, head_chunks, head_extents, extents_all_are, none_from_top}
 use Rattle.dlmalloc.proofs.Grants.Opened.{grant_apart, parts_kept, told_kept}
 
 -- what the test says of a grant at the end of a segment
@@ -153,7 +153,7 @@ module _ {A : Type 0} {regions : A → List Grant} {word : A → ℕ → ℕ} {h
       (sym (head_first sound some)))
     where
       here : is_behind grant old_run.segment ≡ true
-      here = (λ i. (grant.base == (sym was.base) i + (sym was.size) i) && (grant.flags % 2 == 0 && grant.flags == (sym was.flags) i)) ∙ behind
+      here = grant_behind_head sound some grant ∙ behind
 
       after : granted grant n (record (state_of word heap) { segments = old_run.segment ∷ old_run.back }) ≡
           record (state_of word heap) { segments = extended grant.size old_run.segment ∷ old_run.back; trim_check = trim_threshold }

@@ -4,7 +4,7 @@ use Rattle.dlmalloc.specs.Granted.{closed, without_top}
 use Rattle.dlmalloc.proofs.Extents.Lookup.{extent, found_here, found_later, nat_same}
 use Rattle.dlmalloc.proofs.Segments.HeadTold.{IsHead, bare_head}
 use Rattle.dlmalloc.proofs.Segments.Among.{extents_all, apart_back}
-use Rattle.dlmalloc.proofs.Segments.HeadTop.{top_of, top_run, top_part, top_segment, top_last, top_sizes, top_whole, low_top, ends, head_with, head_first, head_beside, behind_apart, head_chunks, head_extents, extents_all_are, none_from_top}
+use Rattle.dlmalloc.proofs.Segments.HeadTop.{top_of, top_run, top_part, top_segment, top_last, top_sizes, top_whole, low_top, ends, head_with, grant_behind_head, head_first, head_beside, behind_apart, head_chunks, head_extents, extents_all_are, none_from_top}
 use Rattle.dlmalloc.proofs.Grants.Opened.{grant_apart, apart_grant, parts_kept, told_kept, opened_segment}
 use Rattle.dlmalloc.proofs.Segments.Exchange.{HasNo, none_of, Exchange, exchanged_read, exchanged_new, exchanged_used, exchanged_free, exchanged_sound}
 use Rattle.dlmalloc.proofs.Segments.ToldAnew.{head_tags}
@@ -252,7 +252,7 @@ module _ {A : Type 0} {regions : A → List Grant} {word : A → ℕ → ℕ} {h
       (sym (head_first sound some)))
     where
       apart : is_behind grant it.segment ≡ false
-      apart = (λ i. (grant.base == (sym was.base) i + (sym was.size) i) && (grant.flags % 2 == 0 && grant.flags == (sym was.flags) i)) ∙ beside
+      apart = grant_behind_head sound some grant ∙ beside
 
       none : list_any (is_before grant) (it.segment ∷ it.back) ≡ false
       none = (λ i. not (sym apart i) && list_any (is_before grant) (it.segment ∷ it.back)) ∙ (ap (is_put_before grant) (sym (head_first sound some)) ∙ no_join)

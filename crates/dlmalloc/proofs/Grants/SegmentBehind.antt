@@ -1,8 +1,9 @@
 -- The segment that a grant is put before is found, and the two ways in which it is told.
-use Rattle.dlmalloc.proofs.Names.{◌≡◌, ◌≢◌, ℕ, ◌+◌, ◌%◌, ◌^◌, ◌<◌, ◌≤◌, Bool, true, false, ◌&&◌, ◌==◌, List, [], ◌∷◌, ◌++◌, refl, sym, ◌∙◌, ap, subst, arith, append_assoc, ⊤, AllByRecursion, list_any, list_any-append, Grant, IsWordOf, Segment, is_behind, is_before, is_put_before, AreSegments, AreRecords, payload_behind, IsToldBehind, segments_of, AreTold, IsSound, Dlmalloc}
+use Rattle.dlmalloc.proofs.Names.{◌≡◌, ◌≢◌, ℕ, ◌+◌, ◌%◌, ◌^◌, ◌<◌, ◌≤◌, Bool, true, false, ◌&&◌, ◌==◌, List, [], ◌∷◌, ◌++◌, refl, sym, ◌∙◌, ap, subst, arith, append_assoc, ⊤, AllByRecursion, list_any, list_any-append, Grant, IsWordOf, Segment, is_behind, is_before, is_put_before, AreSegments, AreRecords, payload_behind, IsToldBehind, segments_of, IsSound, Dlmalloc}
 use Rattle.dlmalloc.proofs.Segments.HeadTold.{bare_head}
 use Rattle.dlmalloc.proofs.Segments.WordsKept.{KeepsIts}
 use Rattle.dlmalloc.proofs.Words.OfRecords.{IsPayloadIn, payload_in, record_stays}
+use Rattle.dlmalloc.proofs.Segments.HeadTop.{top_run, head_first, behind_told, grant_behind_head, grant_before_head}
 use Rattle.dlmalloc.proofs.Segments.Walk.{PassedSegments, none_told, ahead_segment}
 
 -- the records of some segments are passed, none of which the grant is before
@@ -30,42 +31,19 @@ any_more : (grant : Grant) (front : List Segment) (segment : Segment) → list_a
 any_more grant front segment none other = list_any-append (is_before grant) front (segment ∷ []) ∙ (let a = none in let b = other in rw (a, b) refl)
 
 module _ {A : Type 0} {regions : A → List Grant} {word : A → ℕ → ℕ} {heap : Dlmalloc A} (sound : IsSound regions word heap) (some : 0 < heap.size) (grant : Grant) where
-  -- what the fields tell of the head segment
-  record HeadTold : Type 0 where
-    pub segment : Segment
-    pub back : List Segment
-    pub is : segments_of word heap ≡ segment ∷ back
-    pub same : is_before grant segment ≡ is_before grant (bare_head heap)
-    pub longer : is_behind grant segment ≡ is_behind grant (bare_head heap)
-    pub told : AreRecords (word heap.system) heap.next back
-
-  head_told : HeadTold
-  head_told = go (segments_of word heap) refl sound.told
-    where
-      go : (segments : List Segment) → segments_of word heap ≡ segments → AreTold (word heap.system) heap segments → HeadTold
-      go [] is h = absurd (omega arith)
-      go (segment ∷ segments) is h = record {
-        segment = segment;
-        back = segments;
-        is = is;
-        same = λ i. (sym h.1) i == grant.base + grant.size && (grant.flags % 2 == 0 && grant.flags == (sym h.3) i);
-        longer = λ i. grant.base == (sym h.1) i + (sym h.2) i && (grant.flags % 2 == 0 && grant.flags == (sym h.3) i);
-        told = h.5;
-      }
-
   pub put_none : is_behind grant (bare_head heap) ≡ true → is_put_before grant (segments_of word heap) ≡ false
-  put_none test = ap (is_put_before grant) head_told.is ∙ (let longer = head_told.longer ∙ test in rw longer refl)
+  put_none test = ap (is_put_before grant) (head_first sound some) ∙ (let longer = grant_behind_head sound some grant ∙ test in rw longer refl)
 
-  -- or not, and it is passed
+  -- where the grant is not before the head segment, that is passed
   pub begun_behind : is_before grant (bare_head heap) ≡ false → PassedBehind word heap grant heap.next
   begun_behind test = record {
-    head = head_told.segment;
+    head = (top_run sound some).segment;
     passed = [];
-    rest = head_told.back;
-    is = head_told.is;
-    told = head_told.told;
+    rest = (top_run sound some).back;
+    is = head_first sound some;
+    told = behind_told sound some;
     reached = refl;
-    none = (let other = head_told.same ∙ test in rw other refl);
+    none = (let other = grant_before_head sound some grant ∙ test in rw other refl);
   }
 
   module _ {payload : ℕ} (p : PassedBehind word heap grant payload) (more : payload ≢ 0) where

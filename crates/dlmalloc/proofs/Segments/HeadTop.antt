@@ -1,11 +1,11 @@
 -- The head segment ends with the top and its foot.
-use Rattle.dlmalloc.proofs.Names.{◌≡◌, ℕ, ◌+◌, ◌-◌, ◌%◌, ◌^◌, ◌<◌, ◌≤◌, inr, true, false, ◌==◌, List, [], ◌∷◌, ◌++◌, Some, None, refl, sym, ◌∙◌, ap, subst, arith, append_assoc, dec_lt, AllByRecursion, nat_tests, Grant, IsWordOf, Extent, Kind, Used, Top, Foot, head_of, ends_segment, extent_at, is_used, Tiles, last_kind, extents_in, IsRun, IsSegment, AreSegments, IsApartFrom, AreApart, AreRecords, segments_of, state_of, AreTold, IsSound, AreChunks, Dlmalloc, IsRunOf}
+use Rattle.dlmalloc.proofs.Names.{◌≡◌, ℕ, ◌+◌, ◌-◌, ◌%◌, ◌^◌, ◌<◌, ◌≤◌, inr, true, false, ◌&&◌, ◌==◌, List, [], ◌∷◌, ◌++◌, Some, None, refl, sym, ◌∙◌, ap, subst, arith, append_assoc, dec_lt, AllByRecursion, nat_tests, Grant, IsWordOf, Extent, Kind, Used, Top, Foot, head_of, ends_segment, extent_at, is_used, is_behind, is_before, Tiles, last_kind, extents_in, IsRun, IsSegment, AreSegments, IsApartFrom, AreApart, AreRecords, segments_of, state_of, AreTold, IsSound, AreChunks, Dlmalloc, IsRunOf}
 use Rattle.dlmalloc.proofs.Extents.Lookup.{extent, nat_same, found_later}
 use Rattle.dlmalloc.proofs.Extents.Tiling.{sized, tiles_le, plain_chunk, tiles_kept, tiles_append}
 use Rattle.dlmalloc.proofs.Moves.OfLists.{last_append}
 use Rattle.dlmalloc.proofs.Extents.OneMoreUsed.{none_outside}
 use Rattle.dlmalloc.proofs.Extents.FromWords.{are_chunks, behind_top}
-use Rattle.dlmalloc.proofs.Segments.HeadTold.{IsHead, head_is}
+use Rattle.dlmalloc.proofs.Segments.HeadTold.{IsHead, bare_head, head_is}
 use Rattle.dlmalloc.proofs.Segments.Among.{extents_all}
 use Rattle.dlmalloc.proofs.Extents.RunReplaced.{run_of, run_part, run_tail}
 use Rattle.dlmalloc.proofs.Extents.Top.{is_top, top_among}
@@ -73,6 +73,14 @@ module _ {A : Type 0} {regions : A → List Grant} {word : A → ℕ → ℕ} {h
 
   pub behind_told : AreRecords (word heap.system) heap.next top_run.back
   behind_told = (subst (AreTold (word heap.system) heap) head_first sound.told).5
+
+  -- a grant is behind it, or before it, as its fields say
+  pub grant_behind_head : (grant : Grant) → is_behind grant top_run.segment ≡ is_behind grant (bare_head heap)
+  grant_behind_head grant = λ i. grant.base == (sym top_segment.base) i + (sym top_segment.size) i &&
+      (grant.flags % 2 == 0 && grant.flags == (sym top_segment.flags) i)
+
+  pub grant_before_head : (grant : Grant) → is_before grant top_run.segment ≡ is_before grant (bare_head heap)
+  grant_before_head grant = λ i. (sym top_segment.base) i == grant.base + grant.size && (grant.flags % 2 == 0 && grant.flags == (sym top_segment.flags) i)
 
   -- its extents: chunks, the top, and the foot
   pub head_chunks : AreChunks top_run.first

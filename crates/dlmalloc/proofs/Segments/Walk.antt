@@ -1,9 +1,10 @@
 -- Passing over the segments of a heap.
-use Rattle.dlmalloc.proofs.Names.{◌≡◌, ◌≢◌, ℕ, ◌+◌, ◌-◌, ◌%◌, ◌^◌, ◌<◌, ◌≤◌, List, [], ◌∷◌, ◌++◌, Some, refl, sym, ◌∙◌, ap, subst, arith, append_assoc, length-append, length, append-nil, Grant, IsWordOf, Top, Foot, extent_at, Segment, IsSegment, AreSegments, record_of, records_from, AreRecords, chunks_between, IsChunkRun, segments_of, AreTold, IsSound, Dlmalloc}
+use Rattle.dlmalloc.proofs.Names.{◌≡◌, ◌≢◌, ℕ, ◌+◌, ◌-◌, ◌%◌, ◌^◌, ◌<◌, ◌≤◌, List, [], ◌∷◌, ◌++◌, Some, refl, sym, ◌∙◌, ap, subst, arith, append_assoc, length-append, length, append-nil, Grant, IsWordOf, Top, Foot, extent_at, Segment, IsSegment, AreSegments, record_of, records_from, AreRecords, chunks_between, IsChunkRun, segments_of, IsSound, Dlmalloc}
 use Rattle.dlmalloc.proofs.Extents.Lookup.{extent}
 use Rattle.dlmalloc.proofs.Extents.FromWords.{records_read}
 use Rattle.dlmalloc.proofs.Segments.Among.{all_back}
 use Rattle.dlmalloc.proofs.Words.OfRecords.{IsPayloadIn, payload_in}
+use Rattle.dlmalloc.proofs.Segments.HeadTop.{top_run, top_part, top_segment, head_first, behind_told}
 use Rattle.dlmalloc.proofs.Moves.OfHeaps.{segments_few}
 use Rattle.dlmalloc.proofs.Extents.Walk.{HasTail, top_tail, record_tail}
 
@@ -56,29 +57,20 @@ pub head_passed : {A : Type 0} {regions : A → List Grant} {word : A → ℕ �
     (known : List Segment → Type 0) → ((segment : Segment) → segment.base ≡ heap.base → HasTail (regions heap.system)
     (word heap.system) segment heap.top (extent heap.top heap.top_size Top ∷ extent (heap.top + heap.top_size) 80 Foot ∷ []) → known (segment ∷ [])) →
     PassedSegments word heap heap.next known
-head_passed {regions} {word} heap sound some known holds = go (segments_of word heap) refl sound.segments sound.told
-  where
-    go : (segments : List Segment) → segments_of word heap ≡ segments → AreSegments (regions heap.system) (word heap.system) segments →
-        AreTold (word heap.system) heap segments → PassedSegments word heap heap.next known
-    go [] is parts h = absurd (omega arith)
-    go (segment ∷ segments) is parts h = record {
-      passed = segment ∷ [];
-      rest = segments;
-      is = is;
-      some = omega arith;
-      told = h.5;
-      so_far = holds segment (sym h.1) (top_tail parts.0 h.4);
-    }
+head_passed heap sound some known holds = record {
+  passed = (top_run sound some).segment ∷ [];
+  rest = (top_run sound some).back;
+  is = head_first sound some;
+  some = omega arith;
+  told = behind_told sound some;
+  so_far = holds (top_run sound some).segment (sym (top_segment sound some).base) (top_tail (top_part sound some) (top_segment sound some).top);
+}
 
 module _ {A : Type 0} {regions : A → List Grant} {word : A → ℕ → ℕ} {heap : Dlmalloc A} (sound : IsSound regions word heap) where
   -- the run of chunks of the head segment
   pub head_run : 0 < heap.size → IsChunkRun (regions heap.system) (word heap.system) heap.base heap.top
-  head_run some = go (segments_of word heap) sound.segments sound.told
-    where
-      go : (segments : List Segment) → AreSegments (regions heap.system) (word heap.system) segments → AreTold (word heap.system) heap segments →
-          IsChunkRun (regions heap.system) (word heap.system) heap.base heap.top
-      go [] parts h = absurd (omega arith)
-      go (segment ∷ segments) parts h = subst (λ base. IsChunkRun (regions heap.system) (word heap.system) base heap.top) (sym h.1) (top_tail parts.0 h.4).run
+  head_run some = subst (λ base. IsChunkRun (regions heap.system) (word heap.system) base heap.top) (sym (top_segment sound some).base)
+      (top_tail (top_part sound some) (top_segment sound some).top).run
 
   module _ {payload : ℕ} {known : List Segment → Type 0} (p : PassedSegments word heap payload known) where
     parts_left : AreSegments (regions heap.system) (word heap.system) p.rest
