@@ -1,7 +1,7 @@
 -- Which extent of a sound heap is chosen.
-use Rattle.dlmalloc.proofs.Names.{◌≡◌, ◌≢◌, ℕ, ◌+◌, ◌^◌, ◌<◌, ◌≤◌, Bool, true, false, not, ◌&&◌, ◌==◌, nat_le, nat_lt, List, Option, Some, None, IsTrue, refl, sym, ◌∙◌, ap, subst, arith, unwrap_or, option_map, find, nat_tests, Grant, Extent, Kind, Used, Free, Top, extent_at, HeapState, extents_in, is_free_below_top, is_victim, is_binned, size_where, OfBins, TheVictim, TheTop, least_fit, choose, chosen, IsChosen, IsSegment, segments_of, state_of, IsSound, Dlmalloc}
+use Rattle.dlmalloc.proofs.Names.{◌≡◌, ◌≢◌, ℕ, ◌+◌, ◌^◌, ◌<◌, ◌≤◌, Bool, true, false, not, ◌&&◌, ◌==◌, nat_le, nat_lt, List, Option, Some, None, IsTrue, refl, sym, ◌∙◌, ap, subst, arith, unwrap_or, option_map, find, nat_tests, Grant, Extent, Kind, Used, Free, Top, extent_at, HeapState, extents_in, is_free_below_top, is_victim, size_where, OfBins, TheVictim, TheTop, least_fit, choose, chosen, IsChosen, IsSegment, segments_of, state_of, IsSound, Dlmalloc}
 use Rattle.dlmalloc.specs.State.{is_top}
-use Rattle.dlmalloc.specs.Choice.{Choice, goes_first, is_one_of}
+use Rattle.dlmalloc.specs.Choice.{goes_first, is_one_of}
 use Rattle.dlmalloc.specs.declared.walk.Place.{Place}
 use Rattle.dlmalloc.specs.declared.walk.Choice.TheVariants.{Chunk}
 use Rattle.dlmalloc.proofs.Extents.Lookup.{extent, nat_same}

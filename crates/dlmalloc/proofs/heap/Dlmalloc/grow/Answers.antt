@@ -1,4 +1,4 @@
-use Rattle.dlmalloc.proofs.Names.{◌≡◌, ℕ, ◌+◌, ◌≤◌, ◌∙◌, true, false, List, [], ◌∷◌, refl, ap, subst, arith, unwrap_or, Event, Granted, is_put_before, granted, HasSameUsed, segments_of, state_of, IsSound, IsFresh, IsBinned, IsCutOut, IsInFree, round_up}
+use Rattle.dlmalloc.proofs.Names.{◌≡◌, ℕ, ◌+◌, ◌≤◌, ◌∙◌, false, List, [], ◌∷◌, refl, ap, subst, arith, unwrap_or, Event, Granted, is_put_before, granted, HasSameUsed, segments_of, state_of, IsSound, IsFresh, IsBinned, IsCutOut, IsInFree}
 use Rattle.heap_memory.specs.Events.{Refused}
 use Rattle.heap_memory.specs.declared.grant.GrantFault.{GrantFault}
 use Rattle.dlmalloc.proofs.Segments.RegionsMore.{word_kept, word_new}
