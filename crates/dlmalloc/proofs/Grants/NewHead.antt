@@ -31,6 +31,7 @@ abbrev pub record_of_head : {A : Type 0} → Dlmalloc A → SegmentRecord
 record_of_head heap = record { base = heap.base; size = heap.size; next = heap.next; flags = heap.flags }
 
 module _ {A : Type 0} {regions : A → List Grant} {word : A → ℕ → ℕ} {heap : Dlmalloc A} (sound : IsSound regions word heap) (some : 0 < heap.size) where
+  -- the record is in the head segment
   pub bounds_of : {at : ℕ} → at ≡ (if nat_lt heap.top_size 32 then heap.top else heap.top + heap.top_size) → (heap.top ≤ at) × (at + 80 ≤ heap.base + heap.size) × (at % 16 ≡ 0)
   bounds_of {at} is = go (nat_lt heap.top_size 32) is
     where

@@ -1,6 +1,6 @@
 -- The head segment ends with the top and its foot.
 use Rattle.dlmalloc.proofs.Names.{◌≡◌, ℕ, ◌+◌, ◌-◌, ◌%◌, ◌^◌, ◌<◌, ◌≤◌, inr, true, false, ◌&&◌, ◌==◌, List, [], ◌∷◌, ◌++◌, Some, None, refl, sym, ◌∙◌, ap, subst, arith, append_assoc, dec_lt, AllByRecursion, nat_tests, Grant, IsWordOf, Extent, Kind, Used, Top, Foot, head_of, ends_segment, extent_at, is_used, is_behind, is_before, Tiles, last_kind, extents_in, IsRun, IsSegment, AreSegments, IsApartFrom, AreApart, AreRecords, segments_of, state_of, AreTold, IsSound, AreChunks, Dlmalloc, IsRunOf}
-use Rattle.dlmalloc.proofs.Extents.Lookup.{extent, nat_same, found_later}
+use Rattle.dlmalloc.proofs.Extents.Lookup.{extent, found_here, found_later}
 use Rattle.dlmalloc.proofs.Extents.Tiling.{sized, tiles_le, plain_chunk, tiles_kept, tiles_append}
 use Rattle.dlmalloc.proofs.Moves.OfLists.{last_append}
 use Rattle.dlmalloc.proofs.Extents.OneMoreUsed.{none_outside}
@@ -46,10 +46,14 @@ module _ {A : Type 0} {regions : A → List Grant} {word : A → ℕ → ℕ} {h
   pub top_part : IsSegment (regions heap.system) (word heap.system) top_run.segment
   top_part = run_part (regions heap.system) sound.segments top_run
 
+  -- nothing of the chunks is found at the top, nor above it
+  pub none_from_top : (k : ℕ) → heap.top ≤ k → extent_at k top_run.first ≡ None
+  none_from_top k above = none_outside (word heap.system) Used top_run.segment.base top_run.first heap.top k (inr above) top_run.first_stand
+
   pub top_front : top_run.front ≡ []
-  top_front = (is_top sound top_run.front top_run.segment top_run.back top_run.is {at = heap.top} {size = heap.top_size} (ap (extent_at heap.top)
-      top_run.extents ∙ (found_later heap.top top_run.first (extent heap.top heap.top_size Top ∷ top_run.last) (none_outside (word heap.system) Used
-      top_run.segment.base top_run.first heap.top heap.top (inr (omega arith)) top_run.first_stand) ∙ (let here = nat_same heap.top in rw here refl)))).0
+  top_front = (is_top sound top_run.front top_run.segment top_run.back top_run.is {at = heap.top} {size = heap.top_size}
+      (ap (extent_at heap.top) top_run.extents ∙ (found_later heap.top top_run.first (extent heap.top heap.top_size Top ∷ top_run.last)
+      (none_from_top heap.top (omega arith)) ∙ found_here (extent heap.top heap.top_size Top) top_run.last))).0
 
   pub top_segment : IsHead heap top_run.segment
   top_segment = head_is word heap top_run.front top_run.segment top_run.back top_front top_run.is sound.told
@@ -97,10 +101,6 @@ module _ {A : Type 0} {regions : A → List Grant} {word : A → ℕ → ℕ} {h
   pub extents_all_are : extents_in (state_of word heap) ≡ top_run.first ++ (top_of heap.top heap.top_size ++ extents_all top_run.back)
   extents_all_are = ap extents_all head_first ∙ (ap (λ es. es ++ extents_all top_run.back) head_extents
       ∙ append_assoc top_run.first (top_of heap.top heap.top_size) (extents_all top_run.back))
-
-  -- nothing of the chunks is found at the top, nor above it
-  pub none_from_top : (k : ℕ) → heap.top ≤ k → extent_at k top_run.first ≡ None
-  none_from_top k above = none_outside (word heap.system) Used top_run.segment.base top_run.first heap.top k (inr above) top_run.first_stand
 
   pub low_top : top_run.segment.base ≤ heap.top
   low_top = tiles_le (word heap.system) Used top_run.segment.base top_run.first heap.top top_run.first_stand

@@ -4,6 +4,7 @@ use Rattle.dlmalloc.proofs.Extents.Tiling.{tiles_kept}
 use Rattle.dlmalloc.proofs.Moves.OfLists.{no_plain}
 use Rattle.dlmalloc.proofs.Words.OfRecords.{payload_in, record_stays}
 
+-- the words of a segment stay
 abbrev pub KeepsIts : (ℕ → ℕ) → (ℕ → ℕ) → Segment → Type 0
 KeepsIts old new segment = (k : ℕ) → segment.base < k → k < segment.base + segment.size → k % 8 ≡ 0 → new k ≡ old k
 
