@@ -24,7 +24,7 @@ beside_in words before from extents to h one other there there_other apart =
     ]
 
 -- in some segments, apart from another
-within : (regions : List Grant) (words : ℕ → ℕ) (segment : Segment) (segments : List Segment) → AreSegments regions words segments →
+pub within : (regions : List Grant) (words : ℕ → ℕ) (segment : Segment) (segments : List Segment) → AreSegments regions words segments →
     AllByRecursion (IsApartFrom segment) segments → {one : Extent} → extent_at one.at (extents_all segments) ≡ Some one →
     (one.at + one.size ≤ segment.base) ⊎ (segment.base + segment.size ≤ one.at)
 within regions words segment segments parts apart {one} there =

@@ -1,11 +1,12 @@
 -- The victim among the extents of all segments.
-use Rattle.dlmalloc.proofs.Names.{◌≡◌, ◌≢◌, ℕ, ◌+◌, ◌<◌, ◌≤◌, ◌⊎◌, inl, inr, Bool, true, false, ◌==◌, ◌&&◌, nat_le, nat_lt, List, [], ◌∷◌, ◌++◌, Option, Some, None, refl, sym, ◌∙◌, ap, subst, arith, unwrap_or, option_map, find, AllByRecursion, option_or, find-append, nat_tests, Grant, Extent, Kind, Used, Free, Segment, is_free_below_top, has, victim_in, Tiles, IsSegment, AreSegments, IsApartFrom, AreApart}
+use Rattle.dlmalloc.proofs.Names.{◌≡◌, ◌≢◌, ℕ, ◌+◌, ◌<◌, ◌≤◌, ◌⊎◌, inl, inr, Bool, true, false, ◌==◌, ◌&&◌, nat_le, nat_lt, List, [], ◌∷◌, ◌++◌, Option, Some, None, refl, sym, ◌∙◌, ap, subst, arith, unwrap_or, option_map, find, AllByRecursion, option_or, find-append, nat_tests, Grant, Extent, Kind, Used, Free, Segment, is_free_below_top, has, victim_in, Tiles, AreSegments, IsApartFrom, AreApart}
 use Rattle.dlmalloc_chunks.specs.Tiling.{extent_at}
 use Rattle.dlmalloc.proofs.Extents.Lookup.{nat_is, found, found_either}
 use Rattle.dlmalloc.proofs.Extents.FreeMerged.{has_here}
 use Rattle.dlmalloc.proofs.Extents.Lookup.{extent}
 use Rattle.dlmalloc.proofs.Extents.Tiling.{sized, tiles_le, tiles_split}
-use Rattle.dlmalloc.proofs.Segments.Among.{extents_all, located, of_located, in_part}
+use Rattle.dlmalloc.proofs.Segments.Among.{extents_all}
+use Rattle.dlmalloc.proofs.Extents.Disjoint.{within}
 
 outside : (plain : Bool) (low high at : ℕ) → (at < low) ⊎ (high ≤ at) → (plain && nat_le low at && nat_lt at high) ≡ false
 outside false low high at out = refl
@@ -49,11 +50,7 @@ has_in regions words (segment ∷ segments) parts apart {one} at there free low 
     ]
   where
     out : extent_at one.at (extents_all segments) ≡ Some one → (at < segment.base) ⊎ (segment.base + segment.size ≤ at)
-    out later =
-        let l = located one.at segments later in let p = of_located (IsSegment regions words) l parts.1 in
-        let is = in_part words Used l.segment.base l.segment.extents (l.segment.base + l.segment.size) p.extents l.there in
-        let from = is.low in let to = is.high in
-        elim (of_located (λ s. IsApartFrom segment s) l apart.0) [ inl before ↦ inr (omega arith) | inr behind ↦ inl (omega arith) ]
+    out later = elim (within regions words segment segments parts.1 apart.0 later) [ inl before ↦ inl (omega arith) | inr behind ↦ inr (omega arith) ]
 
 pub has_no_zero : (regions : List Grant) (words : ℕ → ℕ) (segments : List Segment) → AreSegments regions words segments → find (has 0) (extents_all segments) ≡ None
 has_no_zero regions words [] parts = refl

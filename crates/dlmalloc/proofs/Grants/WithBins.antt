@@ -1,8 +1,9 @@
 -- A grant becomes part of a heap, and of its bins.
-use Rattle.dlmalloc.proofs.Names.{◌≡◌, ◌≢◌, ℕ, ◌+◌, ◌<◌, ◌≤◌, ◌⊎◌, inl, inr, Bool, true, false, ◌==◌, nat_le, if◌then◌else◌, List, [], ◌∷◌, ◌++◌, Some, refl, sym, ◌∙◌, ap, subst, arith, nat_tests, Grant, IsWordOf, Event, Extent, Kind, Used, Free, Top, IndexStays, extent_at, extents_in, IsBoundary, IsInFree, IsInRecord, HasSameUsed, IsFresh, IsAdmitted, opened, IsSegment, IsApartFrom, segments_of, state_of, IsSound, IsFreeAt, IsBinned, IsBinnedBut, IsSameBins, IsRebinned, FreeMoves, Dlmalloc}
+use Rattle.dlmalloc.proofs.Names.{◌≡◌, ◌≢◌, ℕ, ◌+◌, ◌<◌, ◌≤◌, ◌⊎◌, inl, inr, Bool, true, false, ◌==◌, nat_le, if◌then◌else◌, List, [], ◌∷◌, ◌++◌, Some, refl, sym, ◌∙◌, ap, subst, arith, nat_tests, Grant, IsWordOf, Event, Extent, Kind, Free, Top, IndexStays, extent_at, extents_in, IsBoundary, IsInFree, IsInRecord, HasSameUsed, IsFresh, IsAdmitted, opened, segments_of, state_of, IsSound, IsFreeAt, IsBinned, IsBinnedBut, IsSameBins, IsRebinned, FreeMoves, Dlmalloc}
 use Rattle.dlmalloc.specs.Grown.{BeginsTop, IsJoined}
 use Rattle.dlmalloc.proofs.Extents.Lookup.{extent, nat_is, the_extent}
-use Rattle.dlmalloc.proofs.Segments.Among.{located, of_located, in_part}
+use Rattle.dlmalloc.proofs.Segments.Among.{flip}
+use Rattle.dlmalloc.proofs.Extents.Disjoint.{within}
 use Rattle.dlmalloc.proofs.Bins.Held.{one_size}
 use Rattle.dlmalloc.proofs.Bins.Changes.{binned_moved, binned_same}
 use Rattle.dlmalloc.proofs.Moves.WithBins.{out_of}
@@ -106,12 +107,8 @@ module _ {A : Type 0} {regions : A → List Grant} {word : A → ℕ → ℕ} {h
     (rest : IsFreeAt (state_of word new) heap.top heap.top_size) where
   -- an extent of the heap is beside the grant
   beside_grant : {one : Extent} → extent_at one.at (extents_in (state_of word heap)) ≡ Some one → (one.at + one.size ≤ grant.base) ⊎ (grant.base + grant.size ≤ one.at)
-  beside_grant {one} there =
-      let l = located one.at (segments_of word heap) there in
-      let p = of_located (IsSegment (regions heap.system) (word heap.system)) l sound.segments in
-      let is = in_part (word heap.system) Used l.segment.base l.segment.extents (l.segment.base + l.segment.size) p.extents l.there in
-      let low = is.low in let high = is.high in
-      elim (of_located (λ segment. IsApartFrom segment (opened grant)) l fresh.apart) [ inl before ↦ inl (omega arith) | inr behind ↦ inr (omega arith) ]
+  beside_grant there = within (regions heap.system) (word heap.system) (opened grant) (segments_of word heap) sound.segments
+      (flip (opened grant) (segments_of word heap) fresh.apart) there
 
   pub none_in_grant : (k : ℕ) → grant.base ≤ k → k < grant.base + grant.size → IsInFree (state_of word new) k → ⊥
   none_in_grant k low high f = go (f.at == heap.top) refl
