@@ -1,18 +1,14 @@
 -- The end of the head segment goes back to the system: the heap stays sound, and its top is shorter.
-use Rattle.dlmalloc.proofs.Names.{◌≡◌, ◌≢◌, ℕ, ◌+◌, ◌-◌, ◌%◌, ◌<◌, ◌≤◌, ◌⊎◌, inl, inr, true, ◌==◌, List, [], ◌∷◌, ◌++◌, map, Some, IsTrue, refl, sym, ◌∙◌, ap, subst, arith, append_assoc, AllByRecursion, map-append, Grant, Event, Released, IsWordOf, IsWhole, IsGivenRun, without, Extent, Used, Free, Top, Foot, ends_segment, extent_at, Tiles, last_kind, Segment, extents_in, trim_threshold, cut_top, IsShortened, KeepsBlocks, OnlyBoundariesChange, HasSameUsed, IsRunOf, AreChunks, IsRun, IsSegment, AreSegments, IsApartFrom, AreApart, segments_of, state_of, AreTold, IsSound, Dlmalloc}
+use Rattle.dlmalloc.proofs.Names.{◌≡◌, ◌≢◌, ℕ, ◌+◌, ◌-◌, ◌%◌, ◌<◌, ◌≤◌, ◌⊎◌, inl, inr, List, [], ◌∷◌, ◌++◌, map, Some, IsTrue, refl, sym, ◌∙◌, ap, subst, arith, append_assoc, AllByRecursion, map-append, Grant, Event, Released, IsWordOf, IsWhole, IsGivenRun, without, Extent, Used, Free, Top, Foot, extent_at, Tiles, last_kind, Segment, extents_in, trim_threshold, cut_top, IsShortened, KeepsBlocks, OnlyBoundariesChange, HasSameUsed, IsRunOf, AreChunks, IsRun, IsSegment, AreSegments, IsApartFrom, AreApart, segments_of, state_of, IsSound, Dlmalloc}
 use Rattle.heap_memory.specs.Regions.{are_whole}
 use Rattle.heap_memory.specs.RunLaws.{run_aligned}
 use Rattle.dlmalloc.specs.Trimmed.{shrunk, shortened}
 use Rattle.dlmalloc.proofs.Extents.Lookup.{extent, nat_same, found_later}
-use Rattle.dlmalloc.proofs.Extents.Tiling.{tiles_kept, tiles_append}
-use Rattle.dlmalloc.proofs.Moves.OfLists.{last_append}
-use Rattle.dlmalloc.proofs.Extents.OneMoreUsed.{none_outside}
-use Rattle.dlmalloc.proofs.Extents.FromWords.{are_chunks}
 use Rattle.dlmalloc.proofs.Segments.HeadTold.{IsHead}
 use Rattle.dlmalloc.proofs.Segments.Among.{extents_all, back_apart}
 use Rattle.dlmalloc.proofs.Segments.Exchange.{Exchange, exchanged_read, exchanged_used, exchanged_sound, none_exchanged, kind_was}
 use Rattle.dlmalloc.proofs.Segments.ToldAnew.{KeepsIts, IsOutside, parts_stay, records_stay, apart_stay, head_tags}
-use Rattle.dlmalloc.proofs.Segments.HeadTop.{top_run, top_part, top_segment, top_front, top_last, top_low, top_whole, top_sizes, ends, end_whole, top_stands}
+use Rattle.dlmalloc.proofs.Segments.HeadTop.{top_of, top_run, top_part, top_segment, top_last, top_low, top_whole, top_sizes, ends, end_whole, top_stands, head_with, head_first, behind_parts, head_beside, behind_apart, behind_told, head_chunks, head_extents, extents_all_are, none_from_top}
 use Rattle.dlmalloc.proofs.Blocks.WordsKept.{blocks_law_still}
 use Rattle.dlmalloc.proofs.Segments.RegionsLess.{given_run, run_shortened, segments_beside}
 
@@ -31,18 +27,6 @@ module _ {A : Type 0} {regions : A → List Grant} {word : A → ℕ → ℕ} {h
 
   was : IsHead heap run.segment
   was = top_segment sound some
-
-  segments_are : segments_of word heap ≡ run.segment ∷ run.back
-  segments_are = run.is ∙ ap (λ front. front ++ run.segment ∷ run.back) (top_front sound some)
-
-  parts : AreSegments (regions heap.system) (word heap.system) (run.segment ∷ run.back)
-  parts = subst (AreSegments (regions heap.system) (word heap.system)) segments_are sound.segments
-
-  apart : AreApart (run.segment ∷ run.back)
-  apart = subst AreApart segments_are sound.apart
-
-  told : AreTold (word heap.system) heap (run.segment ∷ run.back)
-  told = subst (AreTold (word heap.system) heap) segments_are sound.told
 
   closes : heap.top + heap.top_size + 80 ≡ heap.base + heap.size
   closes = ends sound some
@@ -96,11 +80,8 @@ module _ {A : Type 0} {regions : A → List Grant} {word : A → ℕ → ℕ} {h
         length_is : length_now ≡ heap.base + (heap.size - less) - 80 - heap.top
         length_is = omega (arith, closes, low)
 
-        abbrev old : List Extent
-        old = extent heap.top heap.top_size Top ∷ extent (heap.top + heap.top_size) 80 Foot ∷ []
-
         abbrev more : List Extent
-        more = extent heap.top length_now Top ∷ extent (heap.top + length_now) 80 Foot ∷ []
+        more = top_of heap.top length_now
 
         abbrev now : Segment
         now = record { base = run.segment.base; size = run.segment.size - less; flags = run.segment.flags; extents = run.first ++ more }
@@ -112,10 +93,7 @@ module _ {A : Type 0} {regions : A → List Grant} {word : A → ℕ → ℕ} {h
         now_run = subst (λ f. IsRun (regions system) run.segment.base (run.segment.size - less) f) was.flags (subst (λ n. IsRun (regions system)
             run.segment.base (n - less) heap.flags) was.size (subst (λ b. IsRun (regions system) b (heap.size - less) heap.flags) was.base rest_run))
 
-        -- words of the chunks before the top stay, and so do those of other segments
-        first_kept : (k : ℕ) → IsWordOf (regions system) k → k ≤ heap.top → word system k ≡ word heap.system k
-        first_kept k inside below = kept k inside (λ is. omega arith) (λ is. omega (arith, closes, low))
-
+        -- words of other segments stay
         outside_kept : (k : ℕ) → IsWordOf (regions system) k → IsOutside run.segment k → IsOutside run.segment k → word system k ≡ word heap.system k
         outside_kept k inside first second = kept k inside (λ is. elim first [
           | inl below ↦ omega (arith, was.base, low)
@@ -133,60 +111,53 @@ module _ {A : Type 0} {regions : A → List Grant} {word : A → ℕ → ℕ} {h
             (head ∙ ap (λ n. n + 1) (sym length_is)) (ap (word system) place ∙ foot))
 
         is_now : IsSegment (regions system) (word system) now
-        is_now = record {
-          run = now_run;
-          low = (top_part sound some).low;
-          high = omega (arith, (top_part sound some).high);
-          long = omega (arith, now_end, was.base, low);
-          extents = tiles_append (word system) Used run.segment.base run.first more heap.top (run.segment.base + (run.segment.size - less))
-              (tiles_kept (word heap.system) (word system) Used run.segment.base run.first heap.top run.first_stand
-              (λ k above below m free. first_kept k (still_word k (omega (arith, was.base)) (omega (arith, closes)) m) below)) more_stand;
-          tail = ap ends_segment (last_append Used run.first more);
-        }
+        is_now = head_with sound some (word system) more now_run (omega (arith, (top_part sound some).high)) (omega (arith, now_end, was.base, low))
+            (λ k above below m. kept k (still_word k (omega (arith, was.base)) (omega (arith, closes)) m) (λ is. omega arith)
+            (λ is. omega (arith, closes, low)))
+            more_stand refl
 
         back_parts : AreSegments (regions system) (word heap.system) run.back
         back_parts = subst (λ rs. AreSegments rs (word heap.system) run.back) (sym gone)
-            (segments_beside head_run less within (word heap.system) run.segment run.back (sym was.base) (sym was.size) parts.1 apart.0)
+            (segments_beside head_run less within (word heap.system) run.segment run.back (sym was.base) (sym was.size) (behind_parts sound some)
+            (head_beside sound some))
 
         back_keeps : AllByRecursion (KeepsIts (word heap.system) (word system)) run.back
-        back_keeps = apart_stay (regions system) (word heap.system) (word system) run.segment run.segment run.back back_parts apart.0
-            (back_apart [] run.segment run.back apart) outside_kept
+        back_keeps = apart_stay (regions system) (word heap.system) (word system) run.segment run.segment run.back back_parts
+            (head_beside sound some) (back_apart [] run.segment run.back (head_beside sound some, behind_apart sound some)) outside_kept
 
         apart_now : AreApart (now ∷ run.back)
-        apart_now = (shorter run.back apart.0, apart.1)
+        apart_now = (shorter run.back (head_beside sound some), behind_apart sound some)
           where
             shorter : (others : List Segment) → AllByRecursion (IsApartFrom run.segment) others → AllByRecursion (IsApartFrom now) others
             shorter [] all = tt
             shorter (other ∷ others) all = (elim (all.0) [ inl before ↦ inl (omega arith) | inr behind ↦ inr behind ], shorter others all.1)
 
         where_top : extent_at heap.top now.extents ≡ Some (extent heap.top after.top_size Top)
-        where_top =
-            let here : (heap.top == heap.top) ≡ true = nat_same heap.top in
-            found_later heap.top run.first more (none_outside (word heap.system) Used run.segment.base run.first heap.top heap.top
-            (inr (omega arith)) run.first_stand) ∙ (rw here refl ∙ (λ i. Some (extent heap.top (length_is i) Top)))
-
-        extents_were : extents_in (state_of word heap) ≡ run.first ++ (old ++ extents_all run.back)
-        extents_were =
-            ap extents_all segments_are ∙ (ap (λ es. es ++ extents_all run.back) (run.extents ∙ ap (λ es. run.first ++ extent heap.top heap.top_size
-            Top ∷ es) ((top_last sound some).0 ∙ (λ i. extent (foot_at i) 80 Foot ∷ []))) ∙ append_assoc run.first old (extents_all run.back))
-          where
-            foot_at : run.segment.base + run.segment.size - 80 ≡ heap.top + heap.top_size
-            foot_at = omega (arith, (top_last sound some).1)
+        where_top = found_later heap.top run.first more (none_from_top sound some heap.top (omega arith))
+            ∙ (let here = nat_same heap.top in rw here refl ∙ (λ i. Some (extent heap.top (length_is i) Top)))
 
         abbrev it : Exchange regions word heap after
         it = record {
           now = now ∷ run.back;
           parts = (is_now, parts_stay (regions system) (word heap.system) (word system) run.back back_parts back_keeps);
           apart = apart_now;
-          told = (rest_some, was.base, ap (λ n. n - less) was.size, was.flags, where_top, records_stay (regions system) (word heap.system) (word system) run.back back_parts back_keeps heap.next told.5);
+          told = (
+            rest_some,
+            was.base,
+            ap (λ n. n - less) was.size,
+            was.flags,
+            where_top,
+            records_stay (regions system) (word heap.system)
+                (word system) run.back back_parts back_keeps heap.next (behind_told sound some),
+          );
           some = rest_some;
           granularity = refl;
           ahead = [];
           first = run.first;
-          less = old;
+          less = top_of heap.top heap.top_size;
           more = more;
           last = extents_all run.back;
-          were = extents_were;
+          were = extents_all_are sound some;
           are = append_assoc run.first more (extents_all run.back);
         }
 
@@ -198,19 +169,14 @@ module _ {A : Type 0} {regions : A → List Grant} {word : A → ℕ → ℕ} {h
 
         shortened_state : state_of word after ≡ cut_top less (state_of word heap)
         shortened_state =
-            (λ i. record { segments = segments_now i; victim = heap.victim; granularity = heap.granularity; rate = heap.rate; countdown = heap.countdown; trim_check = trim_threshold })
-            ∙ ap (λ ss. cut_top less (record { segments = ss; victim = heap.victim; granularity = heap.granularity; rate = heap.rate; countdown = heap.countdown; trim_check = heap.trim_check })) (sym segments_are)
+            (λ i. record (state_of word heap) { segments = segments_now i; trim_check = trim_threshold })
+            ∙ ap (λ ss. cut_top less (record (state_of word heap) { segments = ss })) (sym (head_first sound some))
           where
-            chunks : AreChunks run.first
-            chunks = are_chunks (word heap.system) Used run.segment.base run.first (extent heap.top heap.top_size Top) run.last (run.segment.base + run.segment.size) (λ is. cc)
-                (subst (λ es. Tiles (word heap.system) Used run.segment.base es (run.segment.base + run.segment.size)) run.extents (top_part sound some).extents)
-
             shrunk_are : map (shrunk less) run.segment.extents ≡ run.first ++ more
             shrunk_are =
-                let place : run.segment.base + run.segment.size - 80 - less ≡ heap.top + length_now = omega (arith, (top_last sound some).1) in
-                ap (map (shrunk less)) (run.extents ∙ ap (λ es. run.first ++ extent heap.top heap.top_size Top ∷ es) (top_last sound some).0)
-                ∙ (map-append (shrunk less) run.first (extent heap.top heap.top_size Top ∷ extent (run.segment.base + run.segment.size - 80) 80 Foot ∷ [])
-                ∙ (λ i. map_shrunk less run.first chunks i ++ (extent heap.top length_now Top ∷ extent (place i) 80 Foot ∷ [])))
+                let place : heap.top + heap.top_size - less ≡ heap.top + length_now = omega arith in
+                ap (map (shrunk less)) (head_extents sound some) ∙ (map-append (shrunk less) run.first (top_of heap.top heap.top_size)
+                ∙ (λ i. map_shrunk less run.first (head_chunks sound some) i ++ (extent heap.top length_now Top ∷ extent (place i) 80 Foot ∷ [])))
 
             segments_now : segments_of word after ≡ shortened less run.segment ∷ run.back
             segments_now = exchanged_read sound it ∙ (λ i.
