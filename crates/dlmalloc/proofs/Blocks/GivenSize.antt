@@ -1,6 +1,7 @@
 -- What holds of each block that gets another size, and of each that is cleared.
-use Rattle.dlmalloc.proofs.Names.{IfSome, asked, ◌≡◌, ℕ, ◌+◌, ◌-◌, ◌%◌, IsTrue, ◌<◌, ◌≤◌, inl, inr, max, Bool, true, false, nat_le, List, ◌++◌, Option, None, Some, refl, sym, ◌∙◌, ap, subst, arith, IsPowerOfTwo, Grant, Event, is_granted, IsWordOf, IsBeside, padded, limit, Extent, extent_at, HeapState, extents_in, cut, IsBlock, IsInside, HasOneMore, joined, has_room, replaced_both, in_place, HasOneMoved, state_of, IsSound, spans, IsHandedOut, words_in, IsSameHeap, IsInPlace, IsElsewhere, IsResized, IsGivenSize, Dlmalloc}
-use Rattle.dlmalloc.proofs.Blocks.Chunks.{block_place, block_there, block_inside}
+use Rattle.dlmalloc.proofs.Names.{IfSome, asked, ◌≡◌, ℕ, ◌+◌, ◌-◌, ◌%◌, ◌<◌, ◌≤◌, inl, inr, Bool, true, false, nat_le, List, ◌++◌, Option, None, Some, refl, sym, ◌∙◌, ap, subst, arith, IsPowerOfTwo, Grant, Event, is_granted, IsWordOf, IsBeside, padded, limit, Extent, extent_at, HeapState, extents_in, cut, IsBlock, HasOneMore, joined, has_room, replaced_both, in_place, HasOneMoved, state_of, IsSound, spans, IsHandedOut, words_in, IsSameHeap, IsInPlace, IsElsewhere, IsResized, IsGivenSize, Dlmalloc}
+use Rattle.dlmalloc.specs.Blocks.{IsPlaced}
+use Rattle.dlmalloc.proofs.Blocks.Chunks.{block_place, block_there, block_placed}
 use Rattle.dlmalloc.proofs.Blocks.Words.{written_kept}
 use Rattle.dlmalloc.proofs.Segments.RegionsMore.{with_other}
 use Rattle.dlmalloc.proofs.Grants.StillGranted.{still_granted}
@@ -15,7 +16,8 @@ spans_resized heap at n is = subst (λ o. IfSome o (HasSameSpans heap)) is (firs
     first None none = rw none tt
     first (Some one) there = fit (nat_le n one.size) refl
       where
-        behind : nat_le n one.size ≡ false → (o : Option Extent) → extent_at (one.at + one.size) (extents_in heap) ≡ o → IfSome (in_place heap at n) (HasSameSpans heap)
+        behind : nat_le n one.size ≡ false → (o : Option Extent) → extent_at (one.at + one.size) (extents_in heap) ≡ o →
+            IfSome (in_place heap at n) (HasSameSpans heap)
         behind more None none = rw (there, more, none) tt
         behind more (Some next) after = room (has_room n (joined one next)) refl
           where
@@ -30,23 +32,6 @@ spans_resized heap at n is = subst (λ o. IfSome o (HasSameSpans heap)) is (firs
         fit : (b : Bool) → nat_le n one.size ≡ b → IfSome (in_place heap at n) (HasSameSpans heap)
         fit true fits = rest fits (nat_le (n + 32) one.size) refl
         fit false more = behind more (extent_at (one.at + one.size) (extents_in heap)) refl
-
--- ---- the block
-
-module _ {A : Type 0} {regions : A → List Grant} {word : A → ℕ → ℕ} {heap : Dlmalloc A} (sound : IsSound regions word heap) {address size : ℕ}
-    (block : IsBlock (state_of word heap) address size) where
-  inside : IsInside (regions heap.system) block.extent
-  inside = block_inside sound block
-
-  place : block.extent.at ≡ address - 16
-  place = block_place sound block
-
-  -- a block lies in granted bytes, at a multiple of 16
-  pub whole : address % 16 ≡ 0
-  whole = omega (arith, place, inside.whole)
-
-  pub bytes_granted : (k : ℕ) → address ≤ k → k < address + max size 1 → IsTrue (is_granted (regions heap.system) k)
-  bytes_granted k low high = inside.granted k (omega (arith, place)) (omega (arith, place, inside.long))
 
 -- ---- a block that is cleared
 
@@ -75,7 +60,7 @@ handed_written {regions} {word} on {old} middle {new} {size} {align} {address} h
 given_here : {A : Type 0} {regions : A → List Grant} {word : A → ℕ → ℕ} {follows : A → List Event → A → Type 0} {frees parts : Bool} {unit : ℕ}
     {old new : Dlmalloc A} {from held align size address n : ℕ} → IsBlock (state_of word old) from n → align ≤ 16 → address ≡ from →
     IsInPlace regions word follows old from held size new → IsGivenSize regions word follows frees parts unit old from held align size address new
-given_here {word} {old} {new} {from} {align} {size} {address} block few same out = record {
+given_here {regions} {word} {old} {new} {from} {align} {size} {address} block few same out = record {
   middle = new;
   found = inl (still.0, out.moved.followed, out.moved.regions_same);
   between = out.moved.sound;
@@ -87,8 +72,8 @@ given_here {word} {old} {new} {from} {align} {size} {address} block few same out
   low = subst (λ a. 16 ≤ a) (sym same) block.low;
   block = there_now;
   multiple = λ is. ap (λ a. a % align) same ∙ is;
-  aligned = whole out.moved.sound there_now;
-  granted = bytes_granted out.moved.sound there_now;
+  aligned = placed.aligned;
+  granted = placed.granted;
   moved = subst (λ a. HasOneMoved (state_of word old) (state_of word new) (from - 16) (a - 16)) (sym same) (record {
     kept = λ used is other there. out.others.kept used is other other there;
     only = λ used is other there. out.others.only used is other other there;
@@ -102,6 +87,9 @@ given_here {word} {old} {new} {from} {align} {size} {address} block few same out
   where
     there_now : IsBlock (state_of word new) address size
     there_now = subst (λ a. IsBlock (state_of word new) a size) (sym same) out.block
+
+    placed : IsPlaced (regions new.system) address size
+    placed = block_placed regions word new out.moved.sound address size there_now
 
     still : HasSameSpans (state_of word old) (state_of word new)
     still = spans_resized (state_of word old) (from - 16) (padded size) out.state
@@ -117,17 +105,11 @@ module _ {A : Type 0} {regions : A → List Grant} {word : A → ℕ → ℕ} {z
       | inr many ↦ handed_high many.0 on many.1
     ]
 
-    -- what is in use as the block is handed out is what is in use as its words are filled
-    filled : (k : ℕ) {one : Extent} → extent_at k (extents_in (state_of word out.middle)) ≡ Some one → extent_at k (extents_in (state_of word out.filled)) ≡ Some one
-    filled k is = ap (λ s. extent_at k (extents_in s)) out.same.state ∙ is
-
-    unfilled : (k : ℕ) {one : Extent} → extent_at k (extents_in (state_of word out.filled)) ≡ Some one → extent_at k (extents_in (state_of word out.middle)) ≡ Some one
-    unfilled k is = ap (λ s. extent_at k (extents_in s)) (sym out.same.state) ∙ is
-
     pub given_elsewhere : IsGivenSize regions word follows frees parts unit old from held align size address new
     given_elsewhere = record {
       middle = out.filled;
-      found = found_on regions word old out.middle out.filled (padded (asked size align)) on handed.found (ap spans out.same.state) out.same.followed out.same.regions_same;
+      found = found_on regions word old out.middle out.filled (padded (asked size align)) on handed.found (ap spans out.same.state)
+          out.same.followed out.same.regions_same;
       between = out.same.sound;
       still = still_granted sound power block out;
       here = λ same. absurd (handed.more.new block.extent block.used (block_there sound block) (omega (arith, block_place sound block)));
@@ -138,10 +120,11 @@ module _ {A : Type 0} {regions : A → List Grant} {word : A → ℕ → ℕ} {z
       block = out.block;
       multiple = λ is. handed.multiple;
       aligned = handed.aligned;
-      granted = bytes_granted out.freed.sound out.block;
+      granted = (block_placed regions word new out.freed.sound address size out.block).granted;
       moved = record {
-        kept = λ used is other there. out.freed.less.only used is (filled used.at (handed.more.kept used is there)) other;
-        only = λ used is other there. handed.more.only used is (unfilled used.at (out.freed.less.kept used is there)) other;
+        kept = λ used is other there. out.freed.less.only used is (ap (λ s. extent_at used.at (extents_in s)) out.same.state ∙ handed.more.kept used is there) other;
+        only = λ used is other there.
+            handed.more.only used is (ap (λ s. extent_at used.at (extents_in s)) (sym out.same.state) ∙ out.freed.less.kept used is there) other;
         apart = λ used is other there. handed.more.new used is there;
         gone = λ used is other there. out.freed.less.new used is there;
       };

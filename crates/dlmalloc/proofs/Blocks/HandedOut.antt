@@ -18,7 +18,8 @@ abbrev pub HasSameSpans : HeapState → HeapState → Type 0
 HasSameSpans old new = (spans new ≡ spans old) × (new.granularity ≡ old.granularity)
 
 pub halves_freed : (heap : HeapState) (at n from : ℕ) → HasSameSpans heap (freed (exchanged heap at (halves n)) from)
-halves_freed heap at n from = (spans_changed (freed_in from) (in_segments (replaced at (halves n)) heap.segments) ∙ spans_changed (replaced at (halves n)) heap.segments, refl)
+halves_freed heap at n from =
+    (spans_changed (freed_in from) (in_segments (replaced at (halves n)) heap.segments) ∙ spans_changed (replaced at (halves n)) heap.segments, refl)
 
 either_kept : (b : Bool) (heap one other : HeapState) → HasSameSpans heap one → HasSameSpans heap other → HasSameSpans heap (if b then one else other)
 either_kept true heap one other first second = first
@@ -111,9 +112,11 @@ module _ {A : Type 0} {regions : A → List Grant} {word : A → ℕ → ℕ} {z
     )
   ]
 
-  pub handed_low : {new : Dlmalloc A} {size align address : ℕ} → IsPowerOfTwo align → align ≤ 16 → IsServed regions word zeros follows old size address new → IsHandedOut regions word follows old size align address new
+  pub handed_low : {new : Dlmalloc A} {size align address : ℕ} → IsPowerOfTwo align → align ≤ 16 →
+      IsServed regions word zeros follows old size address new → IsHandedOut regions word follows old size align address new
   handed_low {new} {size} {align} {address} power few served = record {
-    found = subst (λ n. IsFound follows regions old.system (state_of word old) (padded n) new.system (state_of word new)) (asked_low size align few) (served_kept served).0;
+    found = subst (λ n. IsFound follows regions old.system (state_of word old) (padded n) new.system (state_of word new)) (asked_low size align few)
+        (served_kept served).0;
     granularity = (served_kept served).1;
     small = subst (λ n. n < limit old.granularity) (asked_low size align few) served.small;
     low = served.low;
@@ -126,11 +129,13 @@ module _ {A : Type 0} {regions : A → List Grant} {word : A → ℕ → ℕ} {z
     sound = served.sound;
   }
 
-  pub handed_high : {new : Dlmalloc A} {size align address : ℕ} → 16 < align → ((x y z : A) (a b c : List Event) → follows x a y → follows y b z → a ++ b ≡ c → follows x c z) →
+  pub handed_high : {new : Dlmalloc A} {size align address : ℕ} → 16 < align →
+      ((x y z : A) (a b c : List Event) → follows x a y → follows y b z → a ++ b ≡ c → follows x c z) →
       IsServedAligned regions word zeros follows old size align address new → IsHandedOut regions word follows old size align address new
   handed_high {new} {size} {align} many on out = record {
     found = subst (λ n. IsFound follows regions old.system (state_of word old) (padded n) new.system (state_of word new)) (asked_high size align many)
-        (found_on regions word old out.middle new (padded (enlarged size align)) on (served_kept out.served).0 (ap spans out.state ∙ stay.0) out.followed out.regions_same);
+        (found_on regions word old out.middle new (padded (enlarged size align)) on (served_kept out.served).0 (ap spans out.state ∙ stay.0)
+        out.followed out.regions_same);
     granularity = ap (λ h. h.granularity) out.state ∙ (stay.1 ∙ (served_kept out.served).1);
     small = subst (λ n. n < limit old.granularity) (asked_high size align many) out.served.small;
     low = out.low;

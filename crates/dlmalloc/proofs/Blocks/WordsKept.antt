@@ -112,7 +112,8 @@ pub kept_in : {A : Type 0} {regions : A → List Grant} {word : A → ℕ → �
     IsTurned regions word follows old new → {block : Extent} → extent_at block.at (extents_in (state_of word new)) ≡ Some block → block.kind ≡ Used →
     (k : ℕ) → block.at + 16 ≤ k → k < block.at + block.size + 8 → IsWordOf (regions old.system) k → (IsInFree (state_of word old) k → ⊥) →
     word new.system k ≡ word old.system k
-kept_in {regions} {word} {old} moved = kept_in_tags (regions old.system) (state_of word old) (word old.system) moved.sound (λ k inside was own recorded. moved.words k inside was own)
+kept_in {regions} {word} {old} moved =
+    kept_in_tags (regions old.system) (state_of word old) (word old.system) moved.sound (λ k inside was own recorded. moved.words k inside was own)
 
 -- blocks that keep their words twice keep them
 pub keeps_on : {blocks : List Extent} {first second third : ℕ → ℕ} → KeepsBlocks blocks first second → KeepsBlocks blocks second third → KeepsBlocks blocks first third

@@ -224,10 +224,12 @@ module _ (stays : IndexStays) {A : Type 0} {regions : A → List Grant} {word : 
     same_victim = (let test : (at + size == old.victim) ≡ false = (let o = other in grind (arith, nat_tests)) in victim_grown ∙ rw test refl)
 
     abbrev pub into_whole : IsBinnedBut ((at + size) ∷ []) regions word old → size + free < n + 32 → IsBinned regions word new
-    into_whole loose little = binned_gone stays sound joined.moved bins (at + size) (at + n) (moves_whole (at + n) n (size + free) joined.free little) same_victim loose
+    into_whole loose little =
+        binned_gone stays sound joined.moved bins (at + size) (at + n) (moves_whole (at + n) n (size + free) joined.free little) same_victim loose
 
     abbrev pub into_part : IsBinnedBut ((at + size) ∷ []) regions word old → n + 32 ≤ size + free → IsBinnedBut ((at + n) ∷ []) regions word new
-    into_part loose room = binned_rest stays sound joined.moved bins (at + size) (at + n) (moves_rest (at + n) n (size + free) joined.free room) same_victim loose
+    into_part loose room =
+        binned_rest stays sound joined.moved bins (at + size) (at + n) (moves_rest (at + n) n (size + free) joined.free room) same_victim loose
 
     pub part_other : n + 32 ≤ size + free → 0 < n → at + n ≢ new.victim
     part_other room some = rest_no_victim stays sound joined.moved bins (at + size) (at + n) (moves_rest (at + n) n (size + free) joined.free room) other same_victim (omega arith)

@@ -9,7 +9,8 @@ use Rattle.dlmalloc.proofs.Extents.RunReplaced.{run_of, HasNext, has_next, with_
 
 -- a heap with another system, top and victim
 abbrev pub changed : {A : Type 0} → Dlmalloc A → A → ℕ → ℕ → ℕ → ℕ → Dlmalloc A
-changed heap system top top_size victim victim_size = record heap { system = system; top = top; top_size = top_size; victim = victim; victim_size = victim_size }
+changed heap system top top_size victim victim_size =
+    record heap { system = system; top = top; top_size = top_size; victim = victim; victim_size = victim_size }
 
 -- A chunk in use took bytes of the extent behind it, so that it has so many.
 pub record IsEnlarged {A : Type 0} (regions : A → List Grant) (word : A → ℕ → ℕ) (old : Dlmalloc A) (chunk behind : Extent) (n whole : ℕ) (new : Dlmalloc A) : Type 0 where

@@ -20,24 +20,22 @@ both_none words before from (extent ∷ next ∷ extents) to at others out h =
     let test : (extent.at == at) ≡ false = nat_isnt (grind arith) in
     rw test (ap (λ es. extent ∷ es) rest)
 
+-- an extent that begins elsewhere stays, with others behind it
+both_later : (at : ℕ) (others : Extent → Extent → List Extent) (extent : Extent) (first : List Extent) (one : Extent) (last : List Extent) →
+    (extent.at == at) ≡ false → replaced_both at others (extent ∷ (first ++ one ∷ last)) ≡ extent ∷ replaced_both at others (first ++ one ∷ last)
+both_later at others extent [] one last test = rw test refl
+both_later at others extent (second ∷ first) one last test = rw test refl
+
 both_here : (words : ℕ → ℕ) (before : Kind) (from : ℕ) (first : List Extent) (one next : Extent) (last : List Extent)
     (others : Extent → Extent → List Extent) → Tiles words before from first one.at →
     replaced_both one.at others (first ++ (one ∷ next ∷ last)) ≡ first ++ (others one next ++ last)
 both_here words before from [] one next last others h = (let here = nat_same one.at in rw here refl)
-both_here words before from (extent ∷ []) one next last others h =
+both_here words before from (extent ∷ first) one next last others h =
     let long = (sized extent.kind extent.size h.1.size).1 in
-    let later = tiles_le words extent.kind (from + extent.size) [] one.at h.2 in
+    let later = tiles_le words extent.kind (from + extent.size) first one.at h.2 in
     let place = h.0 in
-    let test : (extent.at == one.at) ≡ false = nat_isnt (grind arith) in
-    let rest = both_here words extent.kind (from + extent.size) [] one next last others h.2 in
-    rw test (ap (λ es. extent ∷ es) rest)
-both_here words before from (extent ∷ second ∷ first) one next last others h =
-    let long = (sized extent.kind extent.size h.1.size).1 in
-    let later = tiles_le words extent.kind (from + extent.size) (second ∷ first) one.at h.2 in
-    let place = h.0 in
-    let test : (extent.at == one.at) ≡ false = nat_isnt (grind arith) in
-    let rest = both_here words extent.kind (from + extent.size) (second ∷ first) one next last others h.2 in
-    rw test (ap (λ es. extent ∷ es) rest)
+    both_later one.at others extent first one (next ∷ last) (nat_isnt (grind arith))
+    ∙ ap (λ es. extent ∷ es) (both_here words extent.kind (from + extent.size) first one next last others h.2)
 
 pub both_run : (regions : List Grant) (words : ℕ → ℕ) {segments : List Segment} → AreSegments regions words segments → AreApart segments →
     (one next : Extent) {to : ℕ} (others : Extent → Extent → List Extent) → (run : IsRunOf words segments one.at to (one ∷ next ∷ [])) →

@@ -36,7 +36,7 @@ other_there at (first ∷ extents) k {one} there = go (first.at == at) refl (λ 
         (later.0, rw apart later.1)
     go false at_first rest = elim (found_either k (first ∷ []) (others_at at extents) (rw at_first at there)) [
       | inl here ↦ (
-        λ place. (let is = ap (λ e. e.at) (the_one k first here) ∙ place in let yes : (first.at == at) ≡ true = rw is (nat_same at) in let no : true ≡ false = sym yes ∙ at_first in cc),
+        λ place. (let is = ap (λ e. e.at) (the_one k first here) ∙ place in let no : true ≡ false = sym (ap (λ a. a == at) is ∙ nat_same at) ∙ at_first in cc),
         found_more k (first ∷ []) extents here,
       )
       | inr later ↦ (let found = rest later.1 in (found.0, found_later k (first ∷ []) extents later.0 ∙ found.1))
@@ -46,7 +46,8 @@ other_there at (first ∷ extents) k {one} there = go (first.at == at) refl (λ 
 
 pub stays_there : {A : Type 0} {regions : A → List Grant} {word : A → ℕ → ℕ} {follows : A → List Event → A → Type 0} {old new : Dlmalloc A}
     {ptr n held size m : ℕ} → IsSound regions word old → (block : IsBlock (state_of word old) ptr n) →
-    held + 8 ≤ size_where (λ extent. extent.at == ptr - 16) (extents_in (state_of word old)) → size < limit old.granularity → m ≡ padded size → size + 8 ≤ m → m ≤ size + 32 → in_place (state_of word old) (ptr - 16) m ≡ Some (state_of word new) →
+    held + 8 ≤ size_where (λ extent. extent.at == ptr - 16) (extents_in (state_of word old)) → size < limit old.granularity →
+    m ≡ padded size → size + 8 ≤ m → m ≤ size + 32 → in_place (state_of word old) (ptr - 16) m ≡ Some (state_of word new) →
     (whole : ℕ) × (extent_at (ptr - 16) (extents_in (state_of word new)) ≡ Some (extent (ptr - 16) whole Used)) × (m ≤ whole) × (whole < m + 32) →
     HasSameOthers (state_of word old) (state_of word new) (ptr - 16) (ptr - 16) → IsTurned regions word follows old new →
     KeepsOrder regions word old new → IsInPlace regions word follows old ptr held size new

@@ -144,7 +144,7 @@ module _ {A : Type 0} {regions : A → List Grant} {word : A → ℕ → ℕ} {h
           let test : (at + size == heap.victim) ≡ false = differ (at + size) heap.victim isnt in
           part (record {
             none = sound.no_victim;
-            named = λ some. found_again sound (part_step heap.victim heap.victim_size) heap.victim (λ found. absurd (not_victim isnt found)) (sound.victim some);
+            named = λ some. found_again sound (part_step heap.victim heap.victim_size) heap.victim (λ here. absurd (not_victim isnt here)) (sound.victim some);
             left = rw test refl;
           })
 
@@ -195,7 +195,7 @@ module _ {A : Type 0} {regions : A → List Grant} {word : A → ℕ → ℕ} {h
 
       no_last : last.kind ≢ Free
       no_last is =
-          elim (behind_free last.kind stands_third.1.kind) [ inl used ↦ (let no : Used ≡ Free = sym used ∙ is in cc) | inr tail ↦ (let no : Record ≡ Free = sym tail ∙ is in cc) ]
+          elim (behind_free last.kind stands_third.1.kind) [ inl used ↦ (let no = sym used ∙ is in cc) | inr tail ↦ (let no = sym tail ∙ is in cc) ]
 
       abbrev whole_step : (victim victim_size : ℕ) → IsStep regions word heap (after victim victim_size) three all
       whole_step victim victim_size = step_beside (after victim victim_size) sound same (with_next (regions heap.system) sound.segments both third) move refl

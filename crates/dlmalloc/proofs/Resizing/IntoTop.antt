@@ -45,10 +45,12 @@ module _ {A : Type 0} {regions : A → List Grant} {word : A → ℕ → ℕ} {h
   rest_room = omega (arith, both.here.1.size.0, both.here.2.1.size.0)
 
   pub top_first_head : HasHead (regions heap.system) at
-  top_first_head = head_there sound can.there next_is at (omega arith) (omega (arith, high sound can.there next_is, rest_room)) (omega (arith, both.here.1.whole))
+  top_first_head =
+      head_there sound can.there next_is at (omega arith) (omega (arith, high sound can.there next_is, rest_room)) (omega (arith, both.here.1.whole))
 
   pub top_rest_head : HasHead (regions heap.system) (at + n)
-  top_rest_head = head_there sound can.there next_is (at + n) (omega arith) (omega (arith, high sound can.there next_is, rest_room)) (omega (arith, both.here.1.whole))
+  top_rest_head =
+      head_there sound can.there next_is (at + n) (omega arith) (omega (arith, high sound can.there next_is, rest_room)) (omega (arith, both.here.1.whole))
 
   head_segment : both.front ≡ []
   head_segment = (is_top sound both.front both.segment both.back both.is {at = (at + size)} {size = heap.top_size} (ap (extent_at (at + size)) both.extents
@@ -71,7 +73,8 @@ module _ {A : Type 0} {regions : A → List Grant} {word : A → ℕ → ℕ} {h
 
     where_top : extent_at (at + n) (both.first ++ (parts ++ both.last)) ≡ Some (extent (at + n) rest Top)
     where_top =
-        found_later (at + n) both.first (parts ++ both.last) (none_outside words Used both.segment.base both.first at (at + n) (inr (omega arith)) both.first_stand)
+        found_later (at + n) both.first (parts ++ both.last)
+        (none_outside words Used both.segment.base both.first at (at + n) (inr (omega arith)) both.first_stand)
         ∙ found_second at n (extent (at + n) rest Top) both.last (omega (arith, least))
 
     move : IsMove (regions heap.system) words (word system) (last_kind Used both.first) at (at + size + heap.top_size) (at + size + heap.top_size) (chunk ∷ top ∷ []) parts
@@ -93,7 +96,8 @@ module _ {A : Type 0} {regions : A → List Grant} {word : A → ℕ → ℕ} {h
         })
         (record {
           none = sound.no_victim;
-          named = λ some. found_again sound step heap.victim (λ found. absurd (no_kind chunk top Free (λ is. cc) (λ is. cc) heap.victim found refl)) (sound.victim some);
+          named = λ some.
+              found_again sound step heap.victim (λ found. absurd (no_kind chunk top Free (λ is. cc) (λ is. cc) heap.victim found refl)) (sound.victim some);
           left = refl;
         })
 

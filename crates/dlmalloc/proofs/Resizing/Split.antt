@@ -129,7 +129,8 @@ module _ {A : Type 0} {regions : A → List Grant} {word : A → ℕ → ℕ} {h
       };
       words = λ k inside first second. stores.elsewhere k inside (first, (second, tt));
       free = free_moves sound step [] [] (λ k bytes found. (let no : Used ≡ Free = used_one k found in cc))
-          (λ k bytes found. no_kind (extent at n Used) (extent (at + n) (size - n) Used) Free (λ is. cc) (λ is. cc) k found refl) (λ k none. absurd none) (λ k none. absurd none);
+          (λ k bytes found. no_kind (extent at n Used) (extent (at + n) (size - n) Used) Free (λ is. cc) (λ is. cc) k found refl)
+          (λ k none. absurd none) (λ k none. absurd none);
       moved = record {
         sound = stays_sound sound step same refl refl refl refl sound.no_victim
             (λ more. found_again sound step heap.victim (λ here. absurd (let no : Used ≡ Free = used_one heap.victim here in cc)) (sound.victim more));

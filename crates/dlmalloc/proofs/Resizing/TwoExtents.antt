@@ -30,7 +30,8 @@ no_other first second free {used} is other found =
     ]
 
 -- of a chunk in use and another extent the other alone can be free
-pub only_second : (at size : ℕ) (second : Extent) (k bytes : ℕ) → extent_at k (extent at size Used ∷ second ∷ []) ≡ Some (extent k bytes Free) → IsIn k (second.at ∷ [])
+pub only_second : (at size : ℕ) (second : Extent) (k bytes : ℕ) →
+    extent_at k (extent at size Used ∷ second ∷ []) ≡ Some (extent k bytes Free) → IsIn k (second.at ∷ [])
 only_second at size second k bytes found =
     elim (in_two (extent at size Used) second k found) [
       | inl here ↦ absurd (let no : Used ≡ Free = ap (λ e. e.kind) here in cc)
@@ -38,7 +39,8 @@ only_second at size second k bytes found =
     ]
 
 -- the second is found, with others behind it
-pub found_second : (at size : ℕ) (second : Extent) (others : List Extent) → at < second.at → extent_at second.at (extent at size Used ∷ second ∷ others) ≡ Some second
+pub found_second : (at size : ℕ) (second : Extent) (others : List Extent) → at < second.at →
+    extent_at second.at (extent at size Used ∷ second ∷ others) ≡ Some second
 found_second at size second others above = rw (nat_isnt (inl above), nat_same second.at) refl
 
 pub second_there : (at size : ℕ) (second : Extent) (others : List Extent) → at < second.at → (k : ℕ) → IsIn k (second.at ∷ []) →

@@ -20,7 +20,7 @@ same : (g : _) (c : After-fill_counted g) →
     IsSameHeap g.A.Links.regions g.A.Links.word g.A.Links.follows c.malloc.new.self (record c.malloc.new.self { system = c.fill_counted.new.self })
 same g c =
     let handed = c.in-Ok.ensures.handed in let filled = c.fill_counted.ensures in
-    same_heap handed.sound handed.block g.A.Links.follows c.args.size (omega arith) c.fill_counted.new.self filled.regions filled.follows (cleared g c).elsewhere
+    same_heap handed.sound handed.block g.A.Links.follows c.args.size (omega arith) _ filled.regions filled.follows (cleared g c).elsewhere
 
 pub returns-in-Ok-clause-served : goal.returns-in-Ok-clause-served
 returns-in-Ok-clause-served g c =

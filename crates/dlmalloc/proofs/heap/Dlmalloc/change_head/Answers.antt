@@ -53,7 +53,8 @@ make_head-requires g c =
     record {
       high = f.high;
       long = omega arith;
-      top = subst (λ rs. IsWordOf rs (grant.base + 8)) same (record { granted = f.run.covered (grant.base + 8) (omega arith) (omega arith); aligned = omega arith });
+      top = subst (λ rs. IsWordOf rs (grant.base + 8)) same
+          (record { granted = f.run.covered (grant.base + 8) (omega arith) (omega arith); aligned = omega arith });
       foot = subst (λ rs. IsWordOf rs (grant.base + grant.size - 72)) same
           (record { granted = f.run.covered (grant.base + grant.size - 72) (omega arith) (omega arith); aligned = omega arith });
     }

@@ -40,8 +40,10 @@ state : (g : _) (c : After-join_part g) → state_of g.A.Links.word c.join_part.
 state g c = c.join_part.ensures.state
     ∙ ap (λ s. grown_into s (extent c.args.at c.args.size Used) (extent (c.args.at + c.args.size) c.args.free Free) c.args.n) c.unbin.ensures.same.state
 
-others : (g : _) (c : After-join_part g) → HasSameOthers (state_of g.A.Links.word c.args.self.now) (state_of g.A.Links.word c.join_part.new.self) c.args.at c.args.at
-others g c = subst (λ s. HasSameOthers s (state_of g.A.Links.word c.join_part.new.self) c.args.at c.args.at) c.unbin.ensures.same.state c.join_part.ensures.others
+others : (g : _) (c : After-join_part g) →
+    HasSameOthers (state_of g.A.Links.word c.args.self.now) (state_of g.A.Links.word c.join_part.new.self) c.args.at c.args.at
+others g c =
+    subst (λ s. HasSameOthers s (state_of g.A.Links.word c.join_part.new.self) c.args.at c.args.at) c.unbin.ensures.same.state c.join_part.ensures.others
 
 moved : (g : _) (c : After-join_part g) → IsTurned g.A.Links.regions g.A.Links.word g.A.Links.follows c.args.self.now c.join_part.new.self
 moved g c =
@@ -60,7 +62,8 @@ returns-then-was_victim g c =
     let left = one.loose [] b (λ none. none) in
     let after = into_victim c.index_stays.ensures one.same.sound (joined g now) e.bins mine (none_binned left.0 (λ n free. mine)) in
     (after.0, order_left b.index left.0.index after.0.index (lessened_as c.args.free (c.args.at + c.args.size) b.index left.0.index left.1) after.1) in
-    record { state = state g now; held = e.held; others = others g now; moved = moved g now; linked = (order c.requires.linked).0; order = order; counted = omega arith }
+    let linked = (order c.requires.linked).0 in
+    record { state = state g now; held = e.held; others = others g now; moved = moved g now; linked = linked; order = order; counted = omega arith }
 
 pub returns-then-rest-lt-LEAST_CHUNK : goal.returns-then-rest-lt-LEAST_CHUNK
 returns-then-rest-lt-LEAST_CHUNK g c =
@@ -71,7 +74,8 @@ returns-then-rest-lt-LEAST_CHUNK g c =
       into_whole c.index_stays.ensures one.same.sound (joined g now) e.bins (other g at.Else-was_victim) left.0 (omega arith),
       order_less b.index left.0.index (lessened_as c.args.free (c.args.at + c.args.size) b.index left.0.index left.1),
     ) in
-    record { state = state g now; held = e.held; others = others g now; moved = moved g now; linked = (order c.requires.linked).0; order = order; counted = omega arith }
+    let linked = (order c.requires.linked).0 in
+    record { state = state g now; held = e.held; others = others g now; moved = moved g now; linked = linked; order = order; counted = omega arith }
 
 pub bin-requires-clause-other : goal.bin-requires-clause-other
 bin-requires-clause-other g c =
@@ -97,7 +101,8 @@ returns g c =
     let rest_size = c.args.size + c.args.free - c.args.n in
     let order : KeepsOrder g.A.Links.regions g.A.Links.word old new = λ b.
     let left = one.loose [] b (λ none. none) in
-    let after = last.binned [] (into_part c.index_stays.ensures one.same.sound (joined g now) e.bins (other g at.Else-was_victim) left.0 (omega arith)) (λ none. none) in (
+    let after = last.binned []
+    (into_part c.index_stays.ensures one.same.sound (joined g now) e.bins (other g at.Else-was_victim) left.0 (omega arith)) (λ none. none) in (
       after.0,
       in_order rest_size rest b.index left.0.index after.0.index (lessened_as c.args.free (c.args.at + c.args.size) b.index left.0.index left.1)
           (added_as rest_size rest left.0.index after.0.index after.1)

@@ -10,7 +10,8 @@ resize_chunk-requires-clause-chunk g c =
 pub returns-then-resize_chunk-clause-resized : goal.returns-then-resize_chunk-clause-resized
 returns-then-resize_chunk-clause-resized g c =
     let request = c.request2size.ensures in let done = c.resize_chunk.ensures in let yes = c.if-resize_chunk.true in
-    let small : c.args.size < limit c.args.self.now.granularity = (let less = c.if-size-max_request.false in let is = c.max_request.ensures.is in omega arith) in
+    let small : c.args.size < limit c.args.self.now.granularity =
+    (let less = c.if-size-max_request.false in let is = c.max_request.ensures.is in omega arith) in
     inl (
       c.requires.least,
       refl,
