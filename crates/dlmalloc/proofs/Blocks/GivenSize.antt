@@ -122,7 +122,8 @@ module _ {A : Type 0} {regions : A → List Grant} {word : A → ℕ → ℕ} {z
       aligned = handed.aligned;
       granted = (block_placed regions word new out.freed.sound address size out.block).granted;
       moved = record {
-        kept = λ used is other there. out.freed.less.only used is (ap (λ s. extent_at used.at (extents_in s)) out.same.state ∙ handed.more.kept used is there) other;
+        kept = λ used is other there.
+            out.freed.less.only used is (ap (λ s. extent_at used.at (extents_in s)) out.same.state ∙ handed.more.kept used is there) other;
         only = λ used is other there.
             handed.more.only used is (ap (λ s. extent_at used.at (extents_in s)) (sym out.same.state) ∙ out.freed.less.kept used is there) other;
         apart = λ used is other there. handed.more.new used is there;

@@ -116,7 +116,8 @@ kept_in {regions} {word} {old} moved =
     kept_in_tags (regions old.system) (state_of word old) (word old.system) moved.sound (λ k inside was own recorded. moved.words k inside was own)
 
 -- blocks that keep their words twice keep them
-pub keeps_on : {blocks : List Extent} {first second third : ℕ → ℕ} → KeepsBlocks blocks first second → KeepsBlocks blocks second third → KeepsBlocks blocks first third
+pub keeps_on : {blocks : List Extent} {first second third : ℕ → ℕ} →
+    KeepsBlocks blocks first second → KeepsBlocks blocks second third → KeepsBlocks blocks first third
 keeps_on one other = record {
   words = λ block there used k low high m. other.words block there used k low high m ∙ one.words block there used k low high m;
   heads = λ block there used. other.heads block there used ∙ one.heads block there used;
@@ -131,11 +132,16 @@ kept_among among kept = record {
   heads = λ block there used. kept.heads block (among block used there) used;
 }
 
+-- Each of some blocks is in use in two heaps.
+abbrev pub AreInBoth : HeapState → HeapState → List Extent → Type 0
+AreInBoth old new blocks = (block : Extent) → extent_at block.at blocks ≡ Some block → block.kind ≡ Used →
+    (extent_at block.at (extents_in old) ≡ Some block) × (extent_at block.at (extents_in new) ≡ Some block)
+
 -- blocks of two sound heaps keep their words, where of some granted words own ones and those of tags alone change
 module _ {A : Type 0} {regions : A → List Grant} {word : A → ℕ → ℕ} {old new : Dlmalloc A} (sound : IsSound regions word old)
     (sound' : IsSound regions word new) (granted : List Grant)
     (same : OnlyOwnOrTagsChange granted (state_of word old) (state_of word new) (word old.system) (word new.system)) (blocks : List Extent)
-    (both : (block : Extent) → extent_at block.at blocks ≡ Some block → block.kind ≡ Used → (extent_at block.at (extents_in (state_of word old)) ≡ Some block) × (extent_at block.at (extents_in (state_of word new)) ≡ Some block)) where
+    (both : AreInBoth (state_of word old) (state_of word new) blocks) where
   blocks_kept : ((block : Extent) → extent_at block.at blocks ≡ Some block → block.kind ≡ Used → (k : ℕ) → block.at + 16 ≤ k →
       k < block.at + block.size + 8 → IsTrue (is_granted granted k)) → KeepsBlocks blocks (word old.system) (word new.system)
   blocks_kept inside = record {
@@ -152,24 +158,21 @@ module _ {A : Type 0} {regions : A → List Grant} {word : A → ℕ → ℕ} {o
         ap (λ w. w / 2) was.head ∙ (half block.size was.before is.before (omega arith) ∙ ap (λ w. w / 2) (sym is.head));
   }
 
-pub blocks_law_tags : {A : Type 0} {regions : A → List Grant} {word : A → ℕ → ℕ} {old new : Dlmalloc A} → IsSound regions word old → IsSound
-    regions word new → OnlyOwnOrTagsChange (regions old.system) (state_of word old) (state_of word new) (word old.system) (word new.system) → (blocks : List
-    Extent) → ((block : Extent) → extent_at block.at blocks ≡ Some block → block.kind ≡ Used → (extent_at block.at (extents_in (state_of word old))
-    ≡ Some block) × (extent_at block.at (extents_in (state_of word new)) ≡ Some block)) → KeepsBlocks blocks (word old.system) (word new.system)
+pub blocks_law_tags : {A : Type 0} {regions : A → List Grant} {word : A → ℕ → ℕ} {old new : Dlmalloc A} → IsSound regions word old → IsSound regions word new →
+    OnlyOwnOrTagsChange (regions old.system) (state_of word old) (state_of word new) (word old.system) (word new.system) →
+    (blocks : List Extent) → AreInBoth (state_of word old) (state_of word new) blocks → KeepsBlocks blocks (word old.system) (word new.system)
 blocks_law_tags {regions} {word} {old} sound sound' same blocks both = blocks_kept sound sound' (regions old.system) same blocks both
     (λ block there used k low high. (used_inside regions word old sound block used (both block there used).0).granted k (omega arith) (omega arith))
 
 -- so they do where bytes were given back, and of the words that are granted still those of tags alone change
 pub blocks_law_still : {A : Type 0} (regions : A → List Grant) (word : A → ℕ → ℕ) {old : Dlmalloc A} (new : Dlmalloc A) →
-    IsSound regions word old → IsSound regions word new → OnlyOwnOrTagsChange (regions new.system) (state_of word old) (state_of word new) (word old.system)
-    (word new.system) → (blocks : List Extent) → ((block : Extent) → extent_at block.at blocks ≡ Some block → block.kind ≡ Used →
-    (extent_at block.at (extents_in (state_of word old)) ≡ Some block) × (extent_at block.at (extents_in (state_of word new)) ≡ Some block)) →
-    KeepsBlocks blocks (word old.system) (word new.system)
+    IsSound regions word old → IsSound regions word new →
+    OnlyOwnOrTagsChange (regions new.system) (state_of word old) (state_of word new) (word old.system) (word new.system) →
+    (blocks : List Extent) → AreInBoth (state_of word old) (state_of word new) blocks → KeepsBlocks blocks (word old.system) (word new.system)
 blocks_law_still regions word new sound sound' same blocks both = blocks_kept sound sound' (regions new.system) same blocks both
     (λ block there used k low high. (used_inside regions word new sound' block used (both block there used).1).granted k (omega arith) (omega arith))
 
-pub blocks_law : {A : Type 0} {regions : A → List Grant} {word : A → ℕ → ℕ} {old new : Dlmalloc A} → IsSound regions word old → IsSound regions
-    word new → OnlyOwnChange (regions old.system) (state_of word old) (state_of word new) (word old.system) (word new.system) → (blocks : List Extent) →
-    ((block : Extent) → extent_at block.at blocks ≡ Some block → block.kind ≡ Used → (extent_at block.at (extents_in (state_of word old)) ≡ Some
-    block) × (extent_at block.at (extents_in (state_of word new)) ≡ Some block)) → KeepsBlocks blocks (word old.system) (word new.system)
+pub blocks_law : {A : Type 0} {regions : A → List Grant} {word : A → ℕ → ℕ} {old new : Dlmalloc A} → IsSound regions word old → IsSound regions word new →
+    OnlyOwnChange (regions old.system) (state_of word old) (state_of word new) (word old.system) (word new.system) →
+    (blocks : List Extent) → AreInBoth (state_of word old) (state_of word new) blocks → KeepsBlocks blocks (word old.system) (word new.system)
 blocks_law sound sound' same blocks both = blocks_law_tags sound sound' (λ k inside was own recorded. same k inside was own) blocks both

@@ -82,7 +82,7 @@ module _ {A : Type 0} {regions : A → List Grant} {word : A → ℕ → ℕ} {h
       state = (
           let segments_are = read sound step ∙ (now ∙ (ap (λ es. two.front ++ with_extents two.segment (two.first ++ (es ++ two.last)) ∷ two.back) (sym
           parts) ∙ sym (both_run (regions heap.system) words sound.segments sound.apart chunk behind (λ one behind. cut n (joined one behind)) two))) in
-          λ i. record { segments = segments_are i; victim = left.left i; granularity = heap.granularity; rate = heap.rate; countdown = heap.countdown; trim_check = heap.trim_check });
+          λ i. record (state_of word heap) { segments = segments_are i; victim = left.left i });
       held = found_new sound step at (extent at whole Used) chunks.held;
       others = record {
         kept = λ used is other again there. found_again sound step used.at (chunks.kept used is other) there;

@@ -120,7 +120,7 @@ module _ {A : Type 0} {regions : A → List Grant} {word : A → ℕ → ℕ} {h
     is_split followed = record {
       state = (
           let segments_are = read sound step ∙ sym (replaced_run (regions heap.system) sound.segments sound.apart (halves n) run) in
-          λ i. record { segments = segments_are i; victim = heap.victim; granularity = heap.granularity; rate = heap.rate; countdown = heap.countdown; trim_check = heap.trim_check });
+          λ i. record (state_of word heap) { segments = segments_are i });
       first = found_new sound step at (extent at n Used) (found_here (extent at n Used) (extent (at + n) (size - n) Used ∷ []));
       second = found_new sound step (at + n) (extent (at + n) (size - n) Used) (found_second at n (extent (at + n) (size - n) Used) [] (omega arith));
       others = record {
