@@ -1,7 +1,7 @@
 -- What a move does to the free extents of a heap.
 use Rattle.dlmalloc.proofs.Names.{◌≡◌, ℕ, ◌⊎◌, inl, inr, Bool, true, false, ◌==◌, if◌then◌else◌, List, [], ◌∷◌, ◌++◌, Some, None, refl, sym, ◌∙◌, ap, subst, Grant, Extent, Free, IsIn, extent_at, state_of, IsSound, FreeMoves, Dlmalloc}
 use Rattle.dlmalloc.proofs.Extents.Lookup.{extent, nat_is, found_either, found_more}
-use Rattle.dlmalloc.proofs.Extents.OneMoreUsed.{AreDistinct, distinct_second}
+use Rattle.dlmalloc.proofs.Extents.OneMoreUsed.{AreDistinct, distinct_second, replaced_found}
 use Rattle.dlmalloc.proofs.Segments.Among.{distinct_later}
 use Rattle.dlmalloc.proofs.Moves.OfHeaps.{IsStep, before, behind, all_old, all_new, distinct_old, distinct_new}
 
@@ -25,25 +25,19 @@ module _ (front less more back : List Extent) (apart : AreDistinct (front ++ (mo
     (come_there : (k : ℕ) → IsIn k come → IsIn k gone ⊎ IsThere k more) where
   pub free_stays : {k size : ℕ} → extent_at k (front ++ (less ++ back)) ≡ Some (extent k size Free) → (IsIn k gone → ⊥) →
       (extent_at k (front ++ (more ++ back)) ≡ Some (extent k size Free)) × (IsIn k come → ⊥)
-  free_stays {k} {size} free out = elim (found_either k front (less ++ back) free) [
-    | inl first ↦ (
-      found_more k front (more ++ back) first,
-      λ came. elim (come_there k came) [
-        | inl left ↦ out left
-        | inr there ↦ not_both front (more ++ back) k apart first (found_more k more back there.1)
-      ],
-    )
-    | inr later ↦ elim (found_either k less back later.1) [
-      | inl here ↦ absurd (out (in_less k size here))
-      | inr last ↦ (
-        distinct_later front (more ++ back) k apart (distinct_later more back k (distinct_second front (more ++ back) apart) last.1),
-        λ came. elim (come_there k came) [
-          | inl left ↦ out left
-          | inr there ↦ not_both more back k (distinct_second front (more ++ back) apart) there.1 last.1
-        ],
-      )
-    ]
-  ]
+  free_stays {k} {size} free out = (
+    replaced_found k front less more back apart (λ here. absurd (out (in_less k size here))) free,
+    λ came. elim (come_there k came) [
+      | inl left ↦ out left
+      | inr there ↦ elim (found_either k front (less ++ back) free) [
+        | inl first ↦ not_both front (more ++ back) k apart first (found_more k more back there.1)
+        | inr later ↦ elim (found_either k less back later.1) [
+          | inl here ↦ out (in_less k size here)
+          | inr last ↦ not_both more back k (distinct_second front (more ++ back) apart) there.1 last.1
+        ]
+      ]
+    ],
+  )
 
 -- so the free extents before and after a step are
 module _ {A : Type 0} {regions : A → List Grant} {word : A → ℕ → ℕ} {heap new : Dlmalloc A}

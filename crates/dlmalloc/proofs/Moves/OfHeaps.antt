@@ -2,7 +2,7 @@
 use Rattle.dlmalloc.proofs.Names.{◌≡◌, ◌≢◌, ℕ, suc, ◌+◌, ◌/◌, ◌^◌, ◌<◌, ◌≤◌, inl, inr, Bool, true, false, ◌==◌, if◌then◌else◌, List, [], ◌∷◌, ◌++◌, Option, Some, None, refl, sym, ◌∙◌, ap, subst, arith, append_assoc, length, nat_tests, Grant, Extent, Free, extent_at, chunks_from, Segment, extents_in, top_and_foot, OnlyBoundariesChange, HasOneMore, HasMore, used_of, AreSegments, AreApart, records_from, segments_of, state_of, AreTold, IsGranularity, IsSound, Dlmalloc}
 use Rattle.dlmalloc.proofs.Extents.Lookup.{extent, nat_isnt, found_either, found_more}
 use Rattle.dlmalloc.proofs.Extents.FromWords.{read_top, records_read, records_few}
-use Rattle.dlmalloc.proofs.Extents.OneMoreUsed.{AreDistinct, more_between, one_more, used_append}
+use Rattle.dlmalloc.proofs.Extents.OneMoreUsed.{AreDistinct, more_between, one_more, used_append, replaced_found}
 use Rattle.dlmalloc.proofs.Segments.Among.{extents_all, all_among, as_many, all_distinct, distinct_later}
 use Rattle.dlmalloc.proofs.Segments.OneReplaced.{IsChanged, all_spared, segments_after, apart_after}
 
@@ -90,43 +90,21 @@ module _ {A : Type 0} {regions : A → List Grant} {word : A → ℕ → ℕ} {h
   pub distinct_new : AreDistinct (extents_in (state_of word new))
   distinct_new = all_distinct (regions new.system) (word new.system) (segments_of word new) segments_now apart_now
 
-  distinct : AreDistinct (before ++ (more ++ behind))
-  distinct = subst AreDistinct all_new distinct_new
-
-  distinct_second : (one other : List Extent) → AreDistinct (one ++ other) → AreDistinct other
-  distinct_second [] other d = d
-  distinct_second (extent ∷ one) other d = distinct_second one other d.1
-
   -- one of the new extents is found among all
   pub found_new : (k : ℕ) (one : Extent) → extent_at k more ≡ Some one → extent_at k (extents_in (state_of word new)) ≡ Some one
-  found_new k one there = ap (extent_at k) all_new ∙ distinct_later before (more ++ behind) k distinct (found_more k more behind there)
+  found_new k one there = ap (extent_at k) all_new ∙ distinct_later before (more ++ behind) k (subst AreDistinct all_new distinct_new) (found_more k more behind there)
 
   -- what is found still is, where it is found among the new ones too
   pub found_again : (k : ℕ) {one : Extent} → (extent_at k less ≡ Some one → extent_at k more ≡ Some one) →
       extent_at k (extents_in (state_of word heap)) ≡ Some one → extent_at k (extents_in (state_of word new)) ≡ Some one
-  found_again k {one} stays there =
-      ap (extent_at k) all_new ∙ elim (found_either k before (less ++ behind) (ap (extent_at k) (sym all_old) ∙ there)) [
-        | inl first ↦ found_more k before (more ++ behind) first
-        | inr later ↦ distinct_later before (more ++ behind) k {extent = one} distinct (elim (found_either k less behind later.1) [
-          | inl here ↦ found_more k more behind (stays here)
-          | inr last ↦ distinct_later more behind k (distinct_second before (more ++ behind) distinct) last.1
-        ])
-      ]
+  found_again k stays there =
+      ap (extent_at k) all_new ∙ replaced_found k before less more behind (subst AreDistinct all_new distinct_new) stays (ap (extent_at k) (sym all_old) ∙ there)
 
   -- what is found was there, where it was found among the old ones too
   pub found_before : (k : ℕ) {one : Extent} → (extent_at k more ≡ Some one → extent_at k less ≡ Some one) →
       extent_at k (extents_in (state_of word new)) ≡ Some one → extent_at k (extents_in (state_of word heap)) ≡ Some one
-  found_before k {one} stays there =
-      ap (extent_at k) all_old ∙ elim (found_either k before (more ++ behind) (ap (extent_at k) (sym all_new) ∙ there)) [
-        | inl first ↦ found_more k before (less ++ behind) first
-        | inr later ↦ distinct_later before (less ++ behind) k {extent = one} was_distinct (elim (found_either k more behind later.1) [
-          | inl here ↦ found_more k less behind (stays here)
-          | inr last ↦ distinct_later less behind k (distinct_second before (less ++ behind) was_distinct) last.1
-        ])
-      ]
-    where
-      was_distinct : AreDistinct (before ++ (less ++ behind))
-      was_distinct = subst AreDistinct all_old distinct_old
+  found_before k stays there =
+      ap (extent_at k) all_old ∙ replaced_found k before more less behind (subst AreDistinct all_old distinct_old) stays (ap (extent_at k) (sym all_new) ∙ there)
 
   -- all granted words stay but those at boundaries
   pub keeps_words : OnlyBoundariesChange (regions heap.system) (state_of word new) (word heap.system) (word new.system)
