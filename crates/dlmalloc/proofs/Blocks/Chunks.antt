@@ -9,6 +9,7 @@ use Rattle.dlmalloc.proofs.Laws.{used_inside, used_apart}
 
 module _ {A : Type 0} {regions : A → List Grant} {word : A → ℕ → ℕ} {heap : Dlmalloc A} (sound : IsSound regions word heap) {ptr size : ℕ}
     (block : IsBlock (state_of word heap) ptr size) where
+  -- where a block's chunk is, that it is found there, and that it lies in granted bytes
   pub block_place : block.extent.at ≡ ptr - 16
   block_place = (found (ptr - 16) block.extent (extents_in (state_of word heap)) block.there).place
 

@@ -17,14 +17,17 @@ spans_changed change (segment ∷ segments) = ap (λ l. (record segment { extent
 abbrev pub HasSameSpans : HeapState → HeapState → Type 0
 HasSameSpans old new = (spans new ≡ spans old) × (new.granularity ≡ old.granularity)
 
+-- they do where an extent is halved and one of the two is freed
 pub halves_freed : (heap : HeapState) (at n from : ℕ) → HasSameSpans heap (freed (exchanged heap at (halves n)) from)
 halves_freed heap at n from =
     (spans_changed (freed_in from) (in_segments (replaced at (halves n)) heap.segments) ∙ spans_changed (replaced at (halves n)) heap.segments, refl)
 
+-- they do where they do in each of two cases
 either_kept : (b : Bool) (heap one other : HeapState) → HasSameSpans heap one → HasSameSpans heap other → HasSameSpans heap (if b then one else other)
 either_kept true heap one other first second = first
 either_kept false heap one other first second = second
 
+-- and so they do where an aligned place in an extent is left in use
 aligned_kept : (heap : HeapState) (at align n : ℕ) → HasSameSpans heap (aligned heap at align n)
 aligned_kept heap at align n =
     let place = aligned_place at align in let led = lead_freed heap at place in

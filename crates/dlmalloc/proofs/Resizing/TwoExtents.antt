@@ -3,9 +3,11 @@ use Rattle.dlmalloc.proofs.Names.{◌≡◌, ◌≢◌, ℕ, ◌<◌, ◌⊎◌,
 use Rattle.dlmalloc.proofs.Extents.Lookup.{extent, nat_isnt, nat_same, found_either, the_one}
 use Rattle.dlmalloc.proofs.Moves.OfFreeExtents.{IsThere}
 
+-- numbers that are not the same are told apart
 pub differ : (m n : ℕ) → m ≢ n → (m == n) ≡ false
 differ m n other = (let e = other in grind (arith, nat_tests))
 
+-- what is found among two is one of them
 pub in_two : (first second : Extent) (k : ℕ) {one : Extent} → extent_at k (first ∷ second ∷ []) ≡ Some one → (first ≡ one) ⊎ (second ≡ one)
 in_two first second k found =
     elim (found_either k (first ∷ []) (second ∷ []) found) [
@@ -43,6 +45,7 @@ pub found_second : (at size : ℕ) (second : Extent) (others : List Extent) → 
     extent_at second.at (extent at size Used ∷ second ∷ others) ≡ Some second
 found_second at size second others above = rw (nat_isnt (inl above), nat_same second.at) refl
 
+-- so one begins where the second does
 pub second_there : (at size : ℕ) (second : Extent) (others : List Extent) → at < second.at → (k : ℕ) → IsIn k (second.at ∷ []) →
     IsThere k (extent at size Used ∷ second ∷ others)
 second_there at size second others above k (inl is) = (

@@ -8,6 +8,7 @@ use Rattle.dlmalloc.proofs.Blocks.HandedOut.{on_ok, handed_low}
 use Rattle.dlmalloc.proofs.heap.Dlmalloc.c_realloc.Goals as goal
 use Rattle.dlmalloc.proofs.heap.Dlmalloc.c_realloc.Goals.{In-Some, After-size-size}
 
+-- the block that is told
 block : (g : _) (c : In-Some g) → (size : ℕ) × IsBlock (state_of g.A.Links.word c.args.self.now) c.in-Some.address size
 block g c = block_told (state_of g.A.Links.word c.args.self.now) c.in-Some.is c.requires.block
 
@@ -19,6 +20,7 @@ size_read g c =
     size_at (state_of g.A.Links.word c.args.self.now) (address - 16) (extent (address - 16) c.size-size.result Used) (block_chunk g.A.Links.regions
     g.A.Links.word c.args.self.now c.requires.sound address there.0 there.1 c.size-size.result c.size-size.ensures.value)
 
+-- its chunk has room for a head
 long : (g : _) (c : After-size-size g) → 8 ≤ c.size-size.result
 long g c =
     let there = block_told (state_of g.A.Links.word c.args.self.now) c.in-Some.is c.requires.block in

@@ -11,11 +11,13 @@ fill_counted-requires g c =
     subst (λ n. AreWordsOf (g.A.Links.regions c.malloc.new.self.system) c.in-Ok.address n) (sym c.words_in.ensures)
     (block_words handed.sound handed.block c.args.size (omega arith))
 
+-- the words that hold the block's bytes are cleared
 cleared : (g : _) (c : After-fill_counted g) → AreFilled (g.A.Links.regions c.malloc.new.self.system) (g.A.Links.word c.malloc.new.self.system)
     c.in-Ok.address (words_in c.args.size) 0 (g.A.Links.word c.fill_counted.new.self)
 cleared g c = subst (λ n. AreFilled (g.A.Links.regions c.malloc.new.self.system) (g.A.Links.word c.malloc.new.self.system) c.in-Ok.address n 0
     (g.A.Links.word c.fill_counted.new.self)) c.words_in.ensures c.fill_counted.ensures.filled
 
+-- and the heap is the same
 same : (g : _) (c : After-fill_counted g) →
     IsSameHeap g.A.Links.regions g.A.Links.word g.A.Links.follows c.malloc.new.self (record c.malloc.new.self { system = c.fill_counted.new.self })
 same g c =

@@ -20,6 +20,7 @@ returns-in_err-grant-clause-err g c =
 
 -- ---- the heap is as it was, with a fresh grant beside it
 
+-- what is asked for has room for a chunk and the end of a segment
 long : (g : _) (c : In_ok-grant g) → 128 ≤ c.asked-asked.result
 long g c = let enough = c.asked-asked.ensures.enough in let least = c.requires.least in omega arith
 

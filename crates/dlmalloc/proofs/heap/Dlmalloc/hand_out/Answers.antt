@@ -34,6 +34,7 @@ set_next-requires-clause-word g c =
 
 -- ---- the segment was taken
 
+-- its regions are granted no more, and the words of all others stay but the link to it
 gone : (g : _) (c : After-set_next g) → g.A.Links.regions c.set_next.new.self.system
     ≡ without c.args.told.now.base (c.args.told.now.base + c.args.told.now.size) (g.A.Links.regions c.args.self.now.system)
 gone g c =
