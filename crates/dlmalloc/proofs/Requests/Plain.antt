@@ -1,8 +1,7 @@
 -- Requests: their sizes, and the blocks that they are given.
-use Rattle.dlmalloc.proofs.Names.{◌≡◌, ℕ, ◌+◌, ◌-◌, ◌*◌, ◌/◌, ◌%◌, ◌^◌, ◌<◌, ◌≤◌, Bool, true, false, ◌==◌, ◌||◌, if◌then◌else◌, List, [], ◌∷◌, ◌++◌, Some, None, Result, Ok, Err, refl, sym, ◌∙◌, ap, subst, arith, nat_lt, nat_le, pow_mono, dec_lt, unwrap_or, IsPowerOfTwo, flat_map, flat_map-append, nat_tests, Grant, padded, limit, Extent, Used, extent_at, HeapState, Segment, extents_in, IsBlock, chosen, state_of, Dlmalloc, replaced, cut, taken, in_segments}
+use Rattle.dlmalloc.proofs.Names.{◌≡◌, ℕ, ◌+◌, ◌-◌, ◌*◌, ◌/◌, ◌%◌, ◌^◌, ◌<◌, ◌≤◌, Bool, true, false, ◌==◌, if◌then◌else◌, List, [], ◌∷◌, ◌++◌, Some, None, Result, Ok, Err, refl, sym, ◌∙◌, ap, subst, arith, nat_lt, nat_le, pow_mono, dec_lt, unwrap_or, IsPowerOfTwo, flat_map, flat_map-append, nat_tests, Grant, padded, limit, Extent, Used, extent_at, HeapState, Segment, extents_in, IsBlock, chosen, state_of, Dlmalloc, replaced, cut, taken, in_segments}
 use Rattle.std.proofs.Common.{IfErr}
 use Rattle.std.specs.Result.{IsErrAnd}
-use Rattle.dlmalloc.specs.State.{is_top}
 use Rattle.dlmalloc.specs.Taken.{leaves_rest}
 use Rattle.dlmalloc.proofs.Extents.Lookup.{nat_is, nat_same}
 use Rattle.dlmalloc.proofs.Requests.Granularity.{granularity_whole}
@@ -56,10 +55,6 @@ replaced_found at others (one ∷ extents) extent first rest found is place = go
         subst (λ l. extent_at at (l ++ replaced at others extents) ≡ Some first) (sym (ap others same ∙ is)) (rw here refl)
     go false test found later = rw test (later found is place)
 
-or_false : (a b : Bool) → (a || b) ≡ false → b ≡ false
-or_false true b h = absurd (cc)
-or_false false b h = h
-
 -- what is cut holds the block, and little more
 pub taken_block : (old : HeapState) {extent : Extent} (n size : ℕ) → extent_at extent.at (extents_in old) ≡ Some extent → n ≤ extent.size →
     size + 8 ≤ n → n ≤ size + 32 → IsBlock (taken old extent n) (extent.at + 16) size
@@ -82,7 +77,6 @@ taken_block old {extent} n size there fits holds near = go (leaves_rest n extent
       little = omega arith;
     }
     go false test =
-        let whole : nat_le (n + 32) extent.size ≡ false = or_false (is_top extent.kind) (nat_le (n + 32) extent.size) test in
         let less : extent.size < n + 32 = grind (arith, nat_tests) in
         record {
           extent = record extent { kind = Used };

@@ -1,4 +1,4 @@
-use Rattle.dlmalloc.proofs.Names.{◌≡◌, ◌<◌, None, refl, subst, arith, rules, chosen, state_of, limit}
+use Rattle.dlmalloc.proofs.Names.{◌<◌, refl, arith, rules, limit}
 use Rattle.dlmalloc.proofs.Bins.Members.{member_behind}
 use Rattle.dlmalloc.proofs.Requests.Plain.{request_small}
 use Rattle.dlmalloc.proofs.Cuts.OneStepOrTwo.{served}
@@ -19,12 +19,6 @@ returns-in-Ok-clause-served g c =
 
 pub returns-in-Ok-clause-member : goal.returns-in-Ok-clause-member
 returns-in-Ok-clause-member g c = member_behind g.A.Links.regions g.A.Links.word c.args.self.now c.args.size c.in-Ok.chunk c.request2size.ensures.is c.in-Ok.ensures.member
-
-pub returns-in-Ok-clause-counted : goal.returns-in-Ok-clause-counted
-returns-in-Ok-clause-counted g c = λ some. c.cut.ensures.counted (λ none. some (subst (λ n. chosen (state_of g.A.Links.word c.args.self.now) n ≡ None) c.request2size.ensures.is none))
-
-pub returns-in-Err-clause-counted : goal.returns-in-Err-clause-counted
-returns-in-Err-clause-counted g c = λ some. c.cut.ensures.counted (λ none. some (subst (λ n. chosen (state_of g.A.Links.word c.args.self.now) n ≡ None) c.request2size.ensures.is none))
 
 pub returns-then-size-max_request-clause-order : goal.returns-then-size-max_request-clause-order
 returns-then-size-max_request-clause-order g c = λ b. (b, order_same b.index)

@@ -45,9 +45,3 @@ returns-in-Ok-clause-counted g c = λ some.
     let few = c.c_malloc.ensures.counted (λ none. some (subst (λ m. chosen (state_of g.A.Links.word c.args.self.now) (padded m) ≡ None)
     (enlarged_is c.args.size c.args.align c.request2size-n.ensures.is) none)) in
     omega arith
-
-pub returns-in-Err-clause-counted : goal.returns-in-Err-clause-counted
-returns-in-Err-clause-counted g c = λ some.
-    let few = c.c_malloc.ensures.counted (λ none. some (subst (λ m. chosen (state_of g.A.Links.word c.args.self.now) (padded m) ≡ None)
-    (enlarged_is c.args.size c.args.align c.request2size-n.ensures.is) none)) in
-    omega arith
