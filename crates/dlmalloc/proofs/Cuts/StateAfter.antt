@@ -30,13 +30,21 @@ replaced_none words before from (extent ∷ extents) to at others out h =
     let test : (extent.at == at) ≡ false = nat_isnt (grind arith) in
     rw test (ap (λ es. extent ∷ es) rest)
 
+-- a byte of a segment is in none that is apart from it
+pub in_no_other : (other segment : Segment) (at : ℕ) → segment.base ≤ at → at < segment.base + segment.size →
+    (IsApartFrom other segment) ⊎ (IsApartFrom segment other) → (at < other.base) ⊎ (other.base + other.size ≤ at)
+in_no_other other segment at low high (inl (inl a)) = inr (omega arith)
+in_no_other other segment at low high (inl (inr b)) = inl (omega arith)
+in_no_other other segment at low high (inr (inl a)) = inl (omega arith)
+in_no_other other segment at low high (inr (inr b)) = inr (omega arith)
+
 pub replaced_run : (regions : List Grant) {words : ℕ → ℕ} {segments : List Segment} → AreSegments regions words segments → AreApart segments →
     {extent : Extent} (others : Extent → List Extent) → (run : IsRunOf words segments extent.at (extent.at + extent.size) (extent ∷ [])) →
     in_segments (replaced extent.at others) segments ≡ run.front ++ with_extents run.segment (run.first ++ (others extent ++ run.last)) ∷ run.back
 replaced_run regions {words} parts apart {extent} others run =
     ap (in_segments (replaced extent.at others)) run.is ∙ in_one regions words (replaced extent.at others) run.front run.segment run.back
     (subst (AreSegments regions words) run.is parts) (subst AreApart run.is apart) (λ other part beyond. replaced_none words Used other.base other.extents
-    (other.base + other.size) extent.at others (out other beyond) part.extents) (ap (replaced extent.at others) run.extents
+    (other.base + other.size) extent.at others (in_no_other other run.segment extent.at low (omega (arith, high, run.some)) beyond) part.extents) (ap (replaced extent.at others) run.extents
     ∙ (flat_map-append each run.first (extent ∷ run.last) ∙ (λ i. before i ++ ((if here i then others extent else extent ∷ []) ++ behind i))))
   where
     each : Extent → List Extent
@@ -56,9 +64,3 @@ replaced_run regions {words} parts apart {extent} others run =
 
     behind : replaced extent.at others run.last ≡ run.last
     behind = replaced_none words extent.kind (extent.at + extent.size) run.last (run.segment.base + run.segment.size) extent.at others (inl run.some) run.last_stand
-
-    out : (other : Segment) → (IsApartFrom other run.segment) ⊎ (IsApartFrom run.segment other) → (extent.at < other.base) ⊎ (other.base + other.size ≤ extent.at)
-    out other (inl (inl a)) = let l = low in inr (omega arith)
-    out other (inl (inr b)) = let h = high in let s = run.some in inl (omega arith)
-    out other (inr (inl a)) = let h = high in let s = run.some in inl (omega arith)
-    out other (inr (inr b)) = let l = low in inr (omega arith)

@@ -44,6 +44,12 @@ first_there words before from [] next to h = (next, subst (λ a. extent_at a (ne
 first_there words before from (extent ∷ extents) next to h =
     (extent, subst (λ a. extent_at a (extent ∷ (extents ++ next ∷ [])) ≡ Some extent) h.0 (found_here extent (extents ++ next ∷ [])))
 
+-- they begin at whole places
+pub begins_whole : (words : ℕ → ℕ) (before : Kind) (from : ℕ) (front : List Extent) (extent : Extent) (back : List Extent) (to : ℕ) →
+    Tiles words before from (front ++ extent ∷ back) to → from % 16 ≡ 0
+begins_whole words before from [] extent back to h = let place = h.0 in let whole = h.1.whole in omega arith
+begins_whole words before from (first ∷ front) extent back to h = let place = h.0 in let whole = h.1.whole in omega arith
+
 -- the extents before one at an address: those that stay, and the free one that is joined, if there is one
 pub record Left (words : ℕ → ℕ) (base : ℕ) (extents : List Extent) (at from : ℕ) : Type 0 where
   pub front : List Extent

@@ -1,5 +1,5 @@
 -- A chunk in use joins what is free on its two sides: what its run becomes, and what that leaves of the heap.
-use Rattle.dlmalloc.proofs.Names.{◌≡◌, ◌≢◌, ℕ, ◌+◌, ◌-◌, ◌%◌, ◌<◌, ◌≤◌, ◌⊎◌, inl, inr, true, false, ◌==◌, List, [], ◌∷◌, ◌++◌, map, Some, refl, sym, ◌∙◌, ap, subst, arith, append_assoc, nat_tests, map-append, Grant, IsWordOf, Extent, Kind, Used, Free, Top, Record, is_free, is_used, Segment, extents_in, in_segments, before, freed_in, victim_in, freed, OnlyBoundariesChange, IsFreeAround, HasOneMore, IsIn, FreeMoves, Tiles, last_kind, IsRunOf, HasMore, used_of, IsSegment, AreSegments, IsApartFrom, AreApart, segments_of, state_of, IsSound, Dlmalloc}
+use Rattle.dlmalloc.proofs.Names.{◌≡◌, ◌≢◌, ℕ, ◌+◌, ◌-◌, ◌%◌, ◌<◌, ◌≤◌, ◌⊎◌, inl, inr, true, false, ◌==◌, List, [], ◌∷◌, ◌++◌, map, Some, refl, sym, ◌∙◌, ap, subst, arith, append_assoc, nat_tests, map-append, Grant, IsWordOf, Extent, Kind, Used, Free, Top, Record, is_free, is_used, Segment, extents_in, in_segments, before, freed_in, victim_in, freed, OnlyBoundariesChange, IsFreeAround, HasOneMore, IsIn, FreeMoves, Tiles, last_kind, IsRunOf, HasMore, used_of, IsSegment, AreSegments, AreApart, segments_of, state_of, IsSound, Dlmalloc}
 use Rattle.dlmalloc_chunks.specs.Tiling.{extent_at}
 use Rattle.dlmalloc.specs.Binned.{IsJoint}
 use Rattle.dlmalloc.specs.Freed.{merged, set_free}
@@ -9,10 +9,10 @@ use Rattle.dlmalloc.proofs.Moves.OfLists.{last_append}
 use Rattle.dlmalloc.proofs.Extents.OneMoreUsed.{used_append, none_outside}
 use Rattle.dlmalloc.proofs.Segments.Among.{extents_all, with_extents, all_at}
 use Rattle.dlmalloc.proofs.Extents.RunReplaced.{run_word}
-use Rattle.dlmalloc.proofs.Cuts.StateAfter.{in_one}
+use Rattle.dlmalloc.proofs.Cuts.StateAfter.{in_one, in_no_other}
 use Rattle.dlmalloc.proofs.Frees.StateAfter.{IsBeside, joint_kind, merged_same, merged_behind, set_free_none}
 use Rattle.dlmalloc.proofs.Extents.FreeMerged.{before_free, before_next_used}
-use Rattle.dlmalloc.proofs.Frees.FreeBeside.{Left, Right, with_left, found_place, beside_place, first_there}
+use Rattle.dlmalloc.proofs.Frees.FreeBeside.{Left, Right, begins_whole, with_left, found_place, beside_place, first_there}
 use Rattle.dlmalloc.proofs.Moves.OfFreeExtents.{IsThere, free_moves}
 use Rattle.dlmalloc.proofs.Extents.Victim.{victim_same}
 use Rattle.dlmalloc.proofs.Moves.OfHeaps.{IsStep, read, segments_now, apart_now, found_new, found_again, keeps_words, stays_sound, has_less}
@@ -28,11 +28,6 @@ pub record IsFree {A : Type 0} (regions : A → List Grant) (word : A → ℕ �
   pub free : FreeMoves (state_of word old) (state_of word new) (from ∷ (at + size) ∷ []) (from ∷ [])
   pub joined : IsJoint (state_of word new) new.top from (to - from)
   pub around : IsFreeAround (state_of word new) at from
-
-pub begins_whole : (words : ℕ → ℕ) (before : Kind) (from : ℕ) (front : List Extent) (extent : Extent) (back : List Extent) (to : ℕ) →
-    Tiles words before from (front ++ extent ∷ back) to → from % 16 ≡ 0
-begins_whole words before from [] extent back to h = let place = h.0 in let whole = h.1.whole in omega arith
-begins_whole words before from (first ∷ front) extent back to h = let place = h.0 in let whole = h.1.whole in omega arith
 
 module _ {A : Type 0} {regions : A → List Grant} {word : A → ℕ → ℕ} {heap : Dlmalloc A} (sound : IsSound regions word heap) {at size from to : ℕ}
     {kind : Kind} (right : Right (word heap.system) (segments_of word heap) at size to kind)
@@ -176,10 +171,6 @@ module _ {A : Type 0} {regions : A → List Grant} {word : A → ℕ → ℕ} {h
   joint_here : extent_at from more ≡ Some joint
   joint_here = (let test : (from == from) ≡ true = nat_same from in rw test refl)
 
-  pub where_joint : extent_at from (run.first ++ (more ++ run.last)) ≡ Some joint
-  where_joint = found_later from run.first (more ++ run.last) (none_outside words Used run.segment.base run.first from from (inr (omega arith)) run.first_stand)
-      ∙ (let test : (from == from) ≡ true = nat_same from in rw test refl)
-
   -- ---- what the state becomes
 
   behind_stand : Tiles words Used (at + size) (right.rights ++ next ∷ run.last) run_end
@@ -242,17 +233,15 @@ module _ {A : Type 0} {regions : A → List Grant} {word : A → ℕ → ℕ} {h
       ap (in_segments (freed_in at)) run.is ∙ in_one (regions heap.system) words (freed_in at) run.front run.segment run.back
       (subst (AreSegments (regions heap.system) words) run.is sound.segments) (subst AreApart run.is sound.apart)
       (λ other part beyond. ap merged (set_free_none words Used other.base other.extents (other.base + other.size) at
-      (out other beyond) part.extents) ∙ merged_same words Used other.base other.extents (other.base + other.size) part.extents)
+      (in_no_other other run.segment at (omega (arith, low, reach)) (omega (arith, high, right.reach, right.run.here.1.size.1)) beyond) part.extents) ∙ merged_same words Used other.base other.extents (other.base + other.size) part.extents)
       (ap merged marked ∙ (merged_behind run.first (left.lefts ++ freed_chunk ∷ (right.rights ++ next ∷ run.last)) (more ++ run.last)
       (merged_all left.lefts left.beside left.lefts_stand
       ∙ (ap (λ e. e ∷ next ∷ run.last) same ∙ sym (merged_same words' (last_kind Used run.first) split.middle (more ++ run.last) run_end split.second)))
       ∙ merged_same words' Used run.segment.base (run.first ++ (more ++ run.last)) run_end now))
-    where
-      out : (other : Segment) → (IsApartFrom other run.segment) ⊎ (IsApartFrom run.segment other) → (at < other.base) ⊎ (other.base + other.size ≤ at)
-      out other (inl (inl a)) = inr (omega (arith, low, reach))
-      out other (inl (inr b)) = inl (omega (arith, high, right.reach, right.run.here.1.size.1))
-      out other (inr (inl a)) = inl (omega (arith, high, right.reach, right.run.here.1.size.1))
-      out other (inr (inr b)) = inr (omega (arith, low, reach))
+
+  pub where_joint : extent_at from (run.first ++ (more ++ run.last)) ≡ Some joint
+  where_joint = found_later from run.first (more ++ run.last) (none_outside words Used run.segment.base run.first from from (inr (omega arith)) run.first_stand)
+      ∙ found_more from more run.last joint_here
 
   -- ---- a step puts the joint one in the place of the run
 

@@ -4,11 +4,10 @@ use Rattle.dlmalloc_chunks.specs.Tiling.{extent_at}
 use Rattle.dlmalloc.proofs.Extents.Lookup.{extent, end_of, nat_is}
 use Rattle.dlmalloc.proofs.Extents.Tiling.{tiles_le}
 use Rattle.dlmalloc.proofs.Extents.RunReplaced.{run_part, run_word}
-use Rattle.dlmalloc.proofs.Frees.FreeBeside.{IsFrom, IsTo, Left, left_at, with_left}
+use Rattle.dlmalloc.proofs.Frees.FreeBeside.{IsFrom, IsTo, Left, begins_whole, left_at, with_left}
 pub use Rattle.dlmalloc.proofs.Frees.Behind.{next_top, no_top}
 use Rattle.dlmalloc.proofs.Frees.Behind.{run_one}
 use Rattle.dlmalloc.proofs.Cuts.ChunkPlace.{room, head_at, foot_at}
-use Rattle.dlmalloc.proofs.Frees.OfRun.{begins_whole}
 use Rattle.dlmalloc.proofs.Frees.OfChunk.{below_top, end_small}
 
 module _ {A : Type 0} {regions : A → List Grant} {word : A → ℕ → ℕ} {heap : Dlmalloc A} (sound : IsSound regions word heap) {at size : ℕ}
