@@ -38,10 +38,13 @@ returns-in-Some-Chunk-clause-member g c = λ size is.
 pub returns-in-Some-Top-clause-member : goal.returns-in-Some-Top-clause-member
 returns-in-Some-Top-clause-member g c = λ size is. absurd (top_no_bins size (c.in-Some-Top.ensures.top (ap Some c.in-Some-Top.field-0-is)) refl is)
 
-pub returns-in-Some-Top-clause-linked : goal.returns-in-Some-Top-clause-linked
-returns-in-Some-Top-clause-linked g c =
+pub returns-in-Some-Top-clause-order : goal.returns-in-Some-Top-clause-order
+returns-in-Some-Top-clause-order g c = λ b.
     let e = c.take_top.ensures in
-    binned_beside c.index_stays.ensures c.requires.sound e.moved e.bins e.free (ap (λ s. s.victim) e.state) c.requires.linked
+    (binned_beside c.index_stays.ensures c.requires.sound e.moved e.bins e.free (ap (λ s. s.victim) e.state) b, order_same b.index)
+
+pub returns-in-Some-Top-clause-linked : goal.returns-in-Some-Top-clause-linked
+returns-in-Some-Top-clause-linked g c = (returns-in-Some-Top-clause-order g c c.requires.linked).0
 
 pub returns-clause-member : goal.returns-clause-member
 returns-clause-member g c = none_member g.A.Links.regions g.A.Links.word c.args.self.now c.args.n (elim c.if-self-gt0.branch [
@@ -54,11 +57,6 @@ returns-clause-counted g c = λ some. absurd (some (elim c.if-self-gt0.branch [
   | then-self-gt0+in-None w ↦ w.in-None.ensures.none refl
   | else-self-gt0 w ↦ none_chosen_empty g.A.Links.regions g.A.Links.word c.args.self.now (let none = w.if-self-gt0.false in omega arith) c.args.n c.requires.least
 ]))
-
-pub returns-in-Some-Top-clause-order : goal.returns-in-Some-Top-clause-order
-returns-in-Some-Top-clause-order g c = λ b.
-    let e = c.take_top.ensures in
-    (binned_beside c.index_stays.ensures c.requires.sound e.moved e.bins e.free (ap (λ s. s.victim) e.state) b, order_same b.index)
 
 pub take-requires-clause-member : goal.take-requires-clause-member
 take-requires-clause-member g c = c.in-Some-Chunk.ensures.member c.in-Some-Chunk.place (ap Some c.in-Some-Chunk.field-0-is)

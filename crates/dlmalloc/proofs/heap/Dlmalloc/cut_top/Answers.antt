@@ -14,22 +14,19 @@ free_part-requires g c = record {
   whole = rest_whole c.requires.sound c.requires.there c.args.cut c.requires.whole c.requires.room (g.A.Links.whole c.args.self.now.system);
 }
 
-pub close_top-requires-clause-low : goal.close_top-requires-clause-low
-close_top-requires-clause-low g c = top_low c.requires.sound c.requires.there
-
-pub close_top-requires-clause-room : goal.close_top-requires-clause-room
-close_top-requires-clause-room g c =
+pub close_top-requires : goal.close_top-requires
+close_top-requires g c =
+    let heap = c.args.self.now in let room = c.requires.room in
     let closes = ends c.requires.sound c.requires.there in let low = top_low c.requires.sound c.requires.there in
-    let room = c.requires.room in
-    omega arith
-
-pub close_top-requires-clause-top : goal.close_top-requires-clause-top
-close_top-requires-clause-top g c = top_still c.requires.sound c.requires.there c.args.cut c.requires.whole c.requires.room (whole_each (g.A.Links.regions
-    c.args.self.now.system) (g.A.Links.whole c.args.self.now.system)) c.free_part.new.self (c.free_part.ensures.regions c.if-not-free_part.false)
-
-pub close_top-requires-clause-foot : goal.close_top-requires-clause-foot
-close_top-requires-clause-foot g c = foot_still c.requires.sound c.requires.there c.args.cut c.requires.whole c.requires.room (whole_each (g.A.Links.regions
-    c.args.self.now.system) (g.A.Links.whole c.args.self.now.system)) c.free_part.new.self (c.free_part.ensures.regions c.if-not-free_part.false)
+    let whole = whole_each (g.A.Links.regions heap.system) (g.A.Links.whole heap.system) in
+    let taken = c.free_part.ensures.regions c.if-not-free_part.false in
+    record {
+      low = low;
+      room = omega arith;
+      high = search rules;
+      top = top_still c.requires.sound c.requires.there c.args.cut c.requires.whole room whole c.free_part.new.self taken;
+      foot = foot_still c.requires.sound c.requires.there c.args.cut c.requires.whole room whole c.free_part.new.self taken;
+    }
 
 pub returns-clause-cut : goal.returns-clause-cut
 returns-clause-cut g c = λ is.

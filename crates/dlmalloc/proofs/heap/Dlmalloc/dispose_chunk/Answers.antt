@@ -16,11 +16,8 @@ free_begin-from-requires g c = record {
 pub overflow_add-at : goal.overflow_add-at
 overflow_add-at g c = let small = behind_small c.requires.sound c.requires.chunk in omega arith
 
-pub free_end-to-requires-clause-head : goal.free_end-to-requires-clause-head
-free_end-to-requires-clause-head g c = behind_there c.requires.sound c.requires.chunk
-
-pub free_end-to-requires-clause-fits : goal.free_end-to-requires-clause-fits
-free_end-to-requires-clause-fits g c = end_below c.requires.sound c.requires.chunk
+pub free_end-to-requires : goal.free_end-to-requires
+free_end-to-requires g c = record { head = behind_there c.requires.sound c.requires.chunk; fits = end_below c.requires.sound c.requires.chunk }
 
 -- ---- the free chunks beside it leave their bins
 

@@ -23,14 +23,15 @@ returns-then-not-may_leave-clause-visited g c = λ chained.
 pub overflow_sub-size : goal.overflow_sub-size
 overflow_sub-size g c = let long = long_told c.requires.sound c.requires.chained in omega arith
 
-pub unbin-requires-clause-free : goal.unbin-requires-clause-free
-unbin-requires-clause-free g c =
-    let heap = c.args.self.now in let chained = c.requires.chained in
-    let may = sym c.if-not-may_leave.false ∙ (c.may_leave.ensures.told ∙ test_is c.requires.sound chained (g.A.Allocator.parts heap.system)) in
-    first_is_free c.requires.sound chained (last_test (is_own chained.segment) (g.A.Allocator.parts heap.system) (is_unused chained.segment) may)
-
-pub unbin-requires-clause-binned : goal.unbin-requires-clause-binned
-unbin-requires-clause-binned g c = ([], c.requires.linked, λ none. none)
+pub unbin-requires : goal.unbin-requires
+unbin-requires g c =
+    let parts = g.A.Allocator.parts c.args.self.now.system in let chained = c.requires.chained in
+    let may = sym c.if-not-may_leave.false ∙ (c.may_leave.ensures.told ∙ test_is c.requires.sound chained parts) in
+    record {
+      sound = c.requires.sound;
+      free = first_is_free c.requires.sound chained (last_test (is_own chained.segment) parts (is_unused chained.segment) may);
+      binned = ([], c.requires.linked, λ none. none);
+    }
 
 pub hand_out-requires : goal.hand_out-requires
 hand_out-requires g c =
