@@ -52,7 +52,8 @@ came_unique (first ∷ third ∷ one) (second ∷ two) a b to from = absurd (ome
 
 pub one_order : (old one two : List ℕ) → AreDistinct old → IsInOrder old one → IsInOrder old two → ((k : ℕ) → IsIn k one → IsIn k two) → ((k : ℕ) → IsIn k two → IsIn k one) → one ≡ two
 one_order old one two distinct a b to from =
-    a.are ∙ ((λ i. part_unique a.stayed b.stayed old a.part b.part distinct stay_to stay_from i ++ came_unique a.came b.came a.few b.few came_to came_from i) ∙ sym b.are)
+    a.are ∙ ((λ i. part_unique a.stayed b.stayed old a.part b.part distinct (stay one two a b to) (stay two one b a from) i
+    ++ came_unique a.came b.came a.few b.few (come one two a b to) (come two one b a from) i) ∙ sym b.are)
   where
     stay : (x y : List ℕ) (u : IsInOrder old x) (v : IsInOrder old y) → ((k : ℕ) → IsIn k x → IsIn k y) → (k : ℕ) → IsIn k u.stayed → IsIn k v.stayed
     stay x y u v on k here = elim (in_one k v.stayed v.came (subst (IsIn k) v.are (on k (subst (IsIn k) (sym u.are) (in_front k u.stayed u.came here))))) [
@@ -65,15 +66,3 @@ one_order old one two distinct a b to from =
       | inl there ↦ absurd (u.others k here (part_in k v.stayed old v.part there))
       | inr new ↦ new
     ]
-
-    stay_to : (k : ℕ) → IsIn k a.stayed → IsIn k b.stayed
-    stay_to = stay one two a b to
-
-    stay_from : (k : ℕ) → IsIn k b.stayed → IsIn k a.stayed
-    stay_from = stay two one b a from
-
-    came_to : (k : ℕ) → IsIn k a.came → IsIn k b.came
-    came_to = come one two a b to
-
-    came_from : (k : ℕ) → IsIn k b.came → IsIn k a.came
-    came_from = come two one b a from

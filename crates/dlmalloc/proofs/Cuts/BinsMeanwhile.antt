@@ -10,10 +10,6 @@ use Rattle.dlmalloc.proofs.Resizing.IntoFree.{IsPartJoined}
 -- The chunk at an address gave way, and left `more` free, or nothing.
 module _ {A : Type 0} {regions : A → List Grant} {word : A → ℕ → ℕ} {old : Dlmalloc A} (new : Dlmalloc A)
     (sound : IsSound regions word old) {at : ℕ} {more : List ℕ} (moves : FreeMoves (state_of word old) (state_of word new) (at ∷ []) more) where
-  -- nothing begins at address 0
-  none_at_zero : {k n : ℕ} → IsFreeAt (state_of word old) k n → k ≢ 0
-  none_at_zero free zero = (let low = free_low sound free in omega arith)
-
   -- it was the victim, and its rest is, if it has one
   pub victim_cut : at ≡ old.victim → (IsIn new.victim more) ⊎ (new.victim ≡ 0) →
       ((k : ℕ) → IsIn k more → k ≡ new.victim) → AreAccounted (state_of word old) (state_of word new) [] [] (at ∷ []) more
@@ -24,7 +20,7 @@ module _ {A : Type 0} {regions : A → List Grant} {word : A → ℕ → ℕ} {o
     from = λ k out which n free other. elim which [
       | inl victim ↦ elim now [
         | inl there ↦ absurd (out (subst (λ a. IsIn a more) (sym victim) there))
-        | inr zero ↦ absurd (none_at_zero free (victim ∙ zero))
+        | inr zero ↦ absurd (let low = free_low sound free in omega arith)
       ]
       | inr none ↦ none
     ];

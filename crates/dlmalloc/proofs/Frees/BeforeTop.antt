@@ -52,9 +52,6 @@ module _ {A : Type 0} {regions : A → List Grant} {word : A → ℕ → ℕ} {h
   pub foot_stand : Tiles words top.kind (at + size + top.size) (foot.next ∷ foot.rest) (one.segment.base + one.segment.size)
   foot_stand = behind (regions heap.system) sound.segments two foot
 
-  pub foot_kind : foot.next.kind ≡ Foot
-  foot_kind = only_foot foot.next.kind (subst (λ k. MayStand k foot.next.kind) kind foot_stand.1.kind)
-
   -- the top is what is free behind it, and its foot is behind that
   abbrev right : Right words (segments_of word heap) at size (at + size + top.size) Top
   right = record {
@@ -62,7 +59,7 @@ module _ {A : Type 0} {regions : A → List Grant} {word : A → ℕ → ℕ} {h
     next = foot.next;
     run = with_next (regions heap.system) sound.segments two foot;
     place = foot_stand.0;
-    stays = ap is_free foot_kind;
+    stays = ap is_free (only_foot foot.next.kind (subst (λ k. MayStand k foot.next.kind) kind foot_stand.1.kind));
     beside = ap is_free kind;
     joint = kind;
     joins = inr refl;
@@ -112,16 +109,13 @@ module _ {A : Type 0} {regions : A → List Grant} {word : A → ℕ → ℕ} {h
     abbrev end : ℕ
     end = joined.end sound right left
 
-    foot_long : 16 ≤ foot.next.size
-    foot_long = (sized foot.next.kind foot.next.size foot_stand.1.size).1
-
     move : IsMove (regions heap.system) words (word system) (last_kind Used run.first) from end end less more
     move = subst (λ k. IsMove (regions heap.system) words (word system) k from end end less more) (sym left.used)
         (join_top (regions heap.system) (word system) from less (joined.from_whole sound right left)
         (omega (arith, joined.from_whole sound right left, joined.to_whole sound right left, reach)) (omega (arith, reach)) foot_stand.0
         (subst (λ k. HasChunk words k foot.next) kind foot_stand.1) (subst (λ k. Tiles words k from less end) left.used run.here)
         (subst (λ n. IsStored (regions heap.system) words (from + 8) (n + 1) (word system)) (sym size_is) stored)
-        (joined.word_there sound right left (at + size + top.size + 8) (omega (arith, reach)) (omega (arith, foot_long))
+        (joined.word_there sound right left (at + size + top.size + 8) (omega (arith, reach)) (omega (arith, (sized foot.next.kind foot.next.size foot_stand.1.size).1))
         (omega (arith, joined.to_whole sound right left))))
 
     abbrev after : ℕ → ℕ → Dlmalloc A

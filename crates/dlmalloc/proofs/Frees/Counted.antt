@@ -24,9 +24,6 @@ module _ {A : Type 0} {regions : A → List Grant} {word : A → ℕ → ℕ} {h
   there : extent_at one.at (extents_all (segments_of word heap)) ≡ Some one
   there = subst (λ a. extent_at a (extents_all (segments_of word heap)) ≡ Some one) (sym place) around.there
 
-  pub some : 0 < heap.size
-  some = some_segment word heap one.at there
-
   l : Located one.at one (segments_of word heap)
   l = located one.at (segments_of word heap) there
 
@@ -51,12 +48,9 @@ module _ {A : Type 0} {regions : A → List Grant} {word : A → ℕ → ℕ} {h
   kinds Top is = inl is
   kinds kind is = absurd (let free = around.free in let no : is_free one.kind ≡ false = ap is_free is in cc)
 
-  at_top : one.kind ≡ Top → from ≡ heap.top
-  at_top is = sym place ∙ top_place sound there is
-
   not_top : one.kind ≡ Free → from ≢ heap.top
   not_top is same =
-      let top = top_among sound some in
+      let top = top_among sound (some_segment word heap one.at there) in
       let both : Some one ≡ Some (extent heap.top heap.top_size Top) = sym there ∙ (ap (λ a. extent_at a (extents_all (segments_of word heap))) (place ∙ same) ∙ top) in
       let no : Free ≡ Top = sym is ∙ ap (λ e. e.kind) (the_extent both) in
       cc
@@ -69,7 +63,7 @@ module _ {A : Type 0} {regions : A → List Grant} {word : A → ℕ → ℕ} {h
   -- so its head tells whether it counts
   counted_told : {b : Bool} → b ≡ (not (from == heap.top) && (not (from == heap.victim) && nat_le 256 (size_of (word heap.system (from + 8))))) → b ≡ is_counted (state_of word heap) at
   counted_told b_is = b_is ∙ elim (kinds one.kind refl) [
-    | inl is ↦ (let same : (from == heap.top) ≡ true = ap (λ n. n == heap.top) (at_top is) ∙ nat_same heap.top in
+    | inl is ↦ (let same : (from == heap.top) ≡ true = ap (λ n. n == heap.top) (sym place ∙ top_place sound there is) ∙ nat_same heap.top in
         ap (λ c. not c && (not (from == heap.victim) && nat_le 256 (size_of (word heap.system (from + 8))))) same ∙ sym (none_plain is))
     | inr is ↦ (let other : (from == heap.top) ≡ false = (let n = not_top is in grind (arith, nat_tests)) in
         let found = has_in (regions heap.system) (word heap.system) (segments_of word heap) sound.segments sound.apart at there is (omega (arith, place)) (omega (arith, place)) in

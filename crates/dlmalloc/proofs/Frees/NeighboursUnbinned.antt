@@ -155,8 +155,7 @@ module _ {A : Type 0} {regions : A → List Grant} {word : A → ℕ → ℕ} {h
       come = λ k is n free other. is;
       still = λ k out which n free other. absurd (elim which [
         | inl was ↦ lost k was out (moves_back k n free out) other
-        | inr loose ↦ out
-            (turn (at + size) from k loose)
+        | inr loose ↦ out (turn (at + size) from k loose)
       ]);
       from = λ k out which n free other. absurd (elim which [ inl now ↦ gained k n now out free other | inr loose ↦ out loose ]);
     }

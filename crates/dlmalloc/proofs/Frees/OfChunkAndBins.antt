@@ -12,9 +12,6 @@ use Rattle.dlmalloc.proofs.Bins.Changes.{binned_moved}
 module _ {A : Type 0} {regions : A → List Grant} {word : A → ℕ → ℕ} {heap : Dlmalloc A}
     (sound : IsSound regions word heap) {at size : ℕ} (there : extent_at at (extents_in (state_of word heap)) ≡ Some (extent at size Used)) {from to : ℕ}
     (from_is : IsFrom (word heap.system) at from) (to_is : IsTo (word heap.system) heap.top (at + size) to) where
-  pub some : 0 < heap.size
-  some = some_segment word heap at there
-
   used_long : 0 < size
   used_long = (let s = (stands_there (regions heap.system) (word heap.system) (segments_of word heap) sound.segments there).1.size.1 in omega arith)
 

@@ -117,16 +117,10 @@ pub settled_top : {A : Type 0} {regions : A → List Grant} {word : A → ℕ �
     (old.trim_check < old.top_size → (answer : Bool) × IsTrimmed regions word follows frees parts unit old 0 answer new) →
     (old.top_size ≤ old.trim_check → new ≡ old) → IsSettled regions word follows frees parts unit old at new
 settled_top {regions} {word} follows follows_none frees parts unit {old} sound at around is new above same = elim (dec_lt old.trim_check old.top_size) [
-  | yes more ↦ (let t = above more in settled_trimmed regions word follows frees parts unit old at new (test_is ∙ over more) t.1)
+  | yes more ↦ (let t = above more in settled_trimmed regions word follows frees parts unit old at new (test_is ∙ grind (arith, nat_tests)) t.1)
   | no less ↦ subst (λ heap. IsSettled regions word follows frees parts unit old at heap) (sym (same (omega arith))) (settled_counted regions word follows
-      frees parts unit old at old (test_is ∙ under less) (counted_none follows follows_none frees parts sound at (sym (top_told sound around is))))
+      frees parts unit old at old (test_is ∙ (let most : old.top_size ≤ old.trim_check = omega arith in grind (arith, nat_tests))) (counted_none follows follows_none frees parts sound at (sym (top_told sound around is))))
 ]
   where
     test_is : is_above_check (state_of word old) at ≡ nat_lt old.trim_check old.top_size
     test_is = above_top sound around is
-
-    over : old.trim_check < old.top_size → nat_lt old.trim_check old.top_size ≡ true
-    over more = grind (arith, nat_tests)
-
-    under : (old.trim_check < old.top_size → ⊥) → nat_lt old.trim_check old.top_size ≡ false
-    under less = (let most : old.top_size ≤ old.trim_check = omega arith in grind (arith, nat_tests))

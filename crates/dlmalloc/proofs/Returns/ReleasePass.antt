@@ -159,10 +159,6 @@ module _ {A : Type 0} {regions : A → List Grant} {word : A → ℕ → ℕ} {f
       }
 
   module _ {before payload count released : ℕ} {now : Dlmalloc A} (p : Passing regions word follows frees parts old before payload count released now) where
-    -- the bytes that left are fewer than addresses
-    pub few_released : released ≤ bytes_of p.done
-    few_released = omega (arith, bytes_filter (λ segment. frees && may_leave parts segment) p.done)
-
     -- no more are visited than there are
     pub passed_few : count ≤ length (segments_of word old)
     passed_few = omega (arith, ap length p.was, length-append p.done p.rest)
@@ -215,7 +211,7 @@ module _ {A : Type 0} {regions : A → List Grant} {word : A → ℕ → ℕ} {f
         told_size = ap (λ t. t.size) read ∙ ahead.told.2
 
         pub sum_fits : released + told.size < 2 ^ 64
-        sum_fits = omega (arith, few_released, bounded, told_size)
+        sum_fits = omega (arith, p.bytes_are, bytes_filter (λ segment. frees && may_leave parts segment) p.done, bounded, told_size)
 
         module _ (follows_on : (x y z : A) (a b c : List Event) → follows x a y → follows y b z → a ++ b ≡ c → follows x c z) {b : Bool}
             (b_is : b ≡ (frees && may_leave parts ahead.segment)) {new : Dlmalloc A}
@@ -279,9 +275,6 @@ module _ {A : Type 0} {regions : A → List Grant} {word : A → ℕ → ℕ} {f
 
     -- all are at the end, and the countdown begins anew
     module _ (none : payload ≡ 0) (countdown : ℕ) (begins : countdown ≡ max count (countdown_from now.rate)) where
-      abbrev pub passed_heap : Dlmalloc A
-      passed_heap = record now { countdown = countdown }
-
       was_all : segments_of word old ≡ p.head ∷ p.done
       was_all = p.was ∙ ap (λ segments. p.head ∷ segments) (ap (λ rest. p.done ++ rest) (none_ahead (word now.system) p.rest none p.records) ∙ append-nil p.done)
 
@@ -296,15 +289,12 @@ module _ {A : Type 0} {regions : A → List Grant} {word : A → ℕ → ℕ} {f
       victim_now = p.victim ∙ ap (λ segments. if list_any (λ segment. segment.base == old.victim) (handed_out parts segments) then 0 else old.victim) (sym was_all)
 
       countdown_is : countdown ≡ max (visited (segments_of word old)) (countdown_from old.rate)
-      countdown_is = begins ∙ (λ i. max (count_is i) (countdown_from (p.rate_same i)))
-        where
-          count_is : count ≡ visited (segments_of word old)
-          count_is = p.counted ∙ ap visited (sym was_all)
+      countdown_is = begins ∙ (λ i. max ((p.counted ∙ ap visited (sym was_all)) i) (countdown_from (p.rate_same i)))
 
       gone_are : leaving frees parts p.done ≡ taken_back frees (handed_out parts (segments_of word old))
       gone_are = leaving_is frees parts p.head p.done ∙ ap (λ segments. taken_back frees (handed_out parts segments)) (sym was_all)
 
-      pub passed_all : IsPassed regions word follows frees parts old released passed_heap
+      pub passed_all : IsPassed regions word follows frees parts old released (record now { countdown = countdown })
       passed_all = record {
         state = λ i. record { segments = segments_are i; victim = victim_now i; granularity = p.granularity_same i; rate = p.rate_same i; countdown = countdown_is i; trim_check = p.trim_check_same i };
         bytes_are = p.bytes_are ∙ ap bytes_of gone_are;

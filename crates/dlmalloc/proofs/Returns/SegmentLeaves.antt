@@ -238,9 +238,6 @@ module _ {A : Type 0} {regions : A → List Grant} {word : A → ℕ → ℕ} {h
       abbrev now : List Segment
       now = c.head ∷ (c.front ++ c.back)
 
-      all_old : extents_in (state_of word heap) ≡ extents_all (c.head ∷ c.front) ++ (c.segment.extents ++ extents_all c.back)
-      all_old = ap extents_all c.is ∙ all_among (c.head ∷ c.front) c.segment c.back
-
       abbrev exchange : Exchange regions word heap left_heap
       exchange = record {
         now = now;
@@ -254,7 +251,7 @@ module _ {A : Type 0} {regions : A → List Grant} {word : A → ℕ → ℕ} {h
         less = c.segment.extents;
         more = [];
         last = extents_all c.back;
-        were = all_old;
+        were = ap extents_all c.is ∙ all_among (c.head ∷ c.front) c.segment c.back;
         are = flat_map-append (λ segment. segment.extents) (c.head ∷ c.front) c.back;
       }
 

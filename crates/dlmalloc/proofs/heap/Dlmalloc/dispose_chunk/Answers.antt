@@ -1,7 +1,8 @@
 use Rattle.dlmalloc.proofs.Names.{◌+◌, ◌-◌, [], ◌∷◌, refl, sym, ◌∙◌, ap, subst, arith, extents_in, extent_at, freed, IsFreeAround, HasOneMore, state_of, IsFreeAt, KeepsOrder}
 use Rattle.dlmalloc.proofs.Frees.WhatCallsWant.{head_there, foot_there, behind_there, behind_small, end_below, foot_fits}
 use Rattle.dlmalloc.proofs.Frees.NeighboursUnbinned.{left_free, left_none, right_free, right_none}
-use Rattle.dlmalloc.proofs.Frees.OfChunkAndBins.{some, two, joined_other, still_there, from_still, to_still, joined_loose}
+use Rattle.dlmalloc.proofs.Frees.OfChunkAndBins.{two, joined_other, still_there, from_still, to_still, joined_loose}
+use Rattle.dlmalloc.proofs.Segments.HeadTop.{some_segment}
 use Rattle.dlmalloc.proofs.Bins.Order.{lessened_on, in_order}
 use Rattle.dlmalloc.proofs.Moves.WithBins.{rebinned_on, turned}
 use Rattle.dlmalloc.proofs.heap.Dlmalloc.dispose_chunk.Goals as goal
@@ -32,7 +33,7 @@ unbin_between-requires g c = record {
 pub unbin_between-requires-2 : goal.unbin_between-requires-2
 unbin_between-requires-2 g c =
     let begin = c.free_begin-from.ensures.value in let end = c.free_end-to.ensures.value in
-    let there = some c.requires.sound c.requires.chunk begin end in let state = c.unbin_between.ensures.same.state in
+    let there = some_segment g.A.Links.word c.args.self.now c.args.at c.requires.chunk in let state = c.unbin_between.ensures.same.state in
     record {
       sound = c.unbin_between.ensures.same.sound;
       free = λ more. subst (λ s. IsFreeAt s (c.args.at + c.args.size) (c.free_end-to.result - (c.args.at + c.args.size))) (sym state)
