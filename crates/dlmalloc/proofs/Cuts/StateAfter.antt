@@ -44,7 +44,8 @@ pub replaced_run : (regions : List Grant) {words : ℕ → ℕ} {segments : List
 replaced_run regions {words} parts apart {extent} others run =
     ap (in_segments (replaced extent.at others)) run.is ∙ in_one regions words (replaced extent.at others) run.front run.segment run.back
     (subst (AreSegments regions words) run.is parts) (subst AreApart run.is apart) (λ other part beyond. replaced_none words Used other.base other.extents
-    (other.base + other.size) extent.at others (in_no_other other run.segment extent.at low (omega (arith, high, run.some)) beyond) part.extents) (ap (replaced extent.at others) run.extents
+    (other.base + other.size) extent.at others (in_no_other other run.segment extent.at low (omega (arith, high, run.some)) beyond) part.extents)
+    (ap (replaced extent.at others) run.extents
     ∙ (flat_map-append each run.first (extent ∷ run.last) ∙ (λ i. before i ++ ((if here i then others extent else extent ∷ []) ++ behind i))))
   where
     each : Extent → List Extent

@@ -1,5 +1,5 @@
 -- A chunk before the top is freed.
-use Rattle.dlmalloc.proofs.Names.{◌≡◌, ◌≢◌, ℕ, ◌+◌, ◌-◌, ◌^◌, ◌<◌, ◌≤◌, ◌⊎◌, inl, inr, List, [], ◌∷◌, Some, refl, sym, ◌∙◌, ap, subst, arith, unwrap_or, option_map, Grant, IsStored, Extent, Used, Free, Top, Record, Foot, is_free, is_used, ends_segment, extents_in, MayStand, HasChunk, Tiles, last_kind, IsMove, IsRunOf, segments_of, state_of, IsSound, Dlmalloc}
+use Rattle.dlmalloc.proofs.Names.{◌≡◌, ◌≢◌, ℕ, ◌+◌, ◌-◌, ◌^◌, ◌<◌, ◌≤◌, ◌⊎◌, inl, inr, List, [], ◌∷◌, Some, refl, sym, ◌∙◌, ap, subst, arith, unwrap_or, option_map, Grant, IsStored, Extent, Used, Free, Top, Record, is_free, is_used, ends_segment, extents_in, MayStand, HasChunk, Tiles, last_kind, IsMove, IsRunOf, segments_of, state_of, IsSound, Dlmalloc}
 use Rattle.dlmalloc_chunks.specs.Tiling.{extent_at}
 use Rattle.dlmalloc.specs.Binned.{IsJoint}
 use Rattle.dlmalloc.proofs.Extents.Lookup.{extent, the_extent}
@@ -115,7 +115,8 @@ module _ {A : Type 0} {regions : A → List Grant} {word : A → ℕ → ℕ} {h
         (omega (arith, joined.from_whole sound right left, joined.to_whole sound right left, reach)) (omega (arith, reach)) foot_stand.0
         (subst (λ k. HasChunk words k foot.next) kind foot_stand.1) (subst (λ k. Tiles words k from less end) left.used run.here)
         (subst (λ n. IsStored (regions heap.system) words (from + 8) (n + 1) (word system)) (sym size_is) stored)
-        (joined.word_there sound right left (at + size + top.size + 8) (omega (arith, reach)) (omega (arith, (sized foot.next.kind foot.next.size foot_stand.1.size).1))
+        (joined.word_there sound right left (at + size + top.size + 8) (omega (arith, reach))
+        (omega (arith, (sized foot.next.kind foot.next.size foot_stand.1.size).1))
         (omega (arith, joined.to_whole sound right left))))
 
     abbrev after : ℕ → ℕ → Dlmalloc A

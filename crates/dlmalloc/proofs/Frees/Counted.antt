@@ -1,5 +1,5 @@
 -- Whether a freed chunk counts, as the free extent tells it that it became part of.
-use Rattle.dlmalloc.proofs.Names.{◌≡◌, ◌≢◌, ℕ, ◌+◌, ◌-◌, ◌<◌, ◌⊎◌, inl, inr, Bool, true, false, not, ◌&&◌, ◌==◌, if◌then◌else◌, List, [], Some, refl, sym, ◌∙◌, ap, subst, arith, find, nat_le, nat_tests, Grant, Event, Extent, Kind, Used, Free, Victim, Top, HasHead, size_of, is_free, MayStand, extent_at, extents_in, is_free_below_top, has, KeepsBlocks, handed_out, taken_back, releases, regions_without, passed, is_counted, left_by_count, IsFreeAround, IsPassed, IsCounted, after_pass, IsSegment, segments_of, state_of, IsSound, Dlmalloc}
+use Rattle.dlmalloc.proofs.Names.{◌≡◌, ◌≢◌, ℕ, ◌+◌, ◌-◌, ◌⊎◌, inl, inr, Bool, true, false, not, ◌&&◌, ◌==◌, if◌then◌else◌, List, [], Some, refl, sym, ◌∙◌, ap, subst, arith, find, nat_le, nat_tests, Grant, Event, Extent, Kind, Used, Free, Victim, Top, HasHead, size_of, is_free, MayStand, extent_at, extents_in, is_free_below_top, has, KeepsBlocks, handed_out, taken_back, releases, regions_without, passed, is_counted, left_by_count, IsFreeAround, IsPassed, IsCounted, after_pass, IsSegment, segments_of, state_of, IsSound, Dlmalloc}
 use Rattle.dlmalloc.specs.Released.{is_large_binned}
 use Rattle.dlmalloc.proofs.Bins.Changes.{same_bins}
 use Rattle.dlmalloc.proofs.Extents.Lookup.{extent, nat_same, the_extent}

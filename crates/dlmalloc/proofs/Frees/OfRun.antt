@@ -233,7 +233,8 @@ module _ {A : Type 0} {regions : A → List Grant} {word : A → ℕ → ℕ} {h
       ap (in_segments (freed_in at)) run.is ∙ in_one (regions heap.system) words (freed_in at) run.front run.segment run.back
       (subst (AreSegments (regions heap.system) words) run.is sound.segments) (subst AreApart run.is sound.apart)
       (λ other part beyond. ap merged (set_free_none words Used other.base other.extents (other.base + other.size) at
-      (in_no_other other run.segment at (omega (arith, low, reach)) (omega (arith, high, right.reach, right.run.here.1.size.1)) beyond) part.extents) ∙ merged_same words Used other.base other.extents (other.base + other.size) part.extents)
+      (in_no_other other run.segment at (omega (arith, low, reach)) (omega (arith, high, right.reach, right.run.here.1.size.1)) beyond) part.extents)
+      ∙ merged_same words Used other.base other.extents (other.base + other.size) part.extents)
       (ap merged marked ∙ (merged_behind run.first (left.lefts ++ freed_chunk ∷ (right.rights ++ next ∷ run.last)) (more ++ run.last)
       (merged_all left.lefts left.beside left.lefts_stand
       ∙ (ap (λ e. e ∷ next ∷ run.last) same ∙ sym (merged_same words' (last_kind Used run.first) split.middle (more ++ run.last) run_end split.second)))

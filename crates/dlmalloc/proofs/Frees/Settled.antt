@@ -119,7 +119,8 @@ pub settled_top : {A : Type 0} {regions : A → List Grant} {word : A → ℕ �
 settled_top {regions} {word} follows follows_none frees parts unit {old} sound at around is new above same = elim (dec_lt old.trim_check old.top_size) [
   | yes more ↦ (let t = above more in settled_trimmed regions word follows frees parts unit old at new (test_is ∙ grind (arith, nat_tests)) t.1)
   | no less ↦ subst (λ heap. IsSettled regions word follows frees parts unit old at heap) (sym (same (omega arith))) (settled_counted regions word follows
-      frees parts unit old at old (test_is ∙ (let most : old.top_size ≤ old.trim_check = omega arith in grind (arith, nat_tests))) (counted_none follows follows_none frees parts sound at (sym (top_told sound around is))))
+      frees parts unit old at old (test_is ∙ (let most : old.top_size ≤ old.trim_check = omega arith in grind (arith, nat_tests)))
+      (counted_none follows follows_none frees parts sound at (sym (top_told sound around is))))
 ]
   where
     test_is : is_above_check (state_of word old) at ≡ nat_lt old.trim_check old.top_size
