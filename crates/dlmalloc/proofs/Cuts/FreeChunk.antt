@@ -58,14 +58,7 @@ module _ {A : Type 0} {regions : A → List Grant} {word : A → ℕ → ℕ} {h
         state = (
             let segments_are = read sound step ∙ (now ∙ (ap (λ es. run.front ++ with_extents run.segment (run.first ++ (es ++ run.last)) ∷ run.back)
             (sym is) ∙ sym (replaced_run (regions heap.system) sound.segments sound.apart (cut n) run))) in
-            λ i. record {
-              segments = segments_are i;
-              victim = left.is i;
-              granularity = heap.granularity;
-              rate = heap.rate;
-              countdown = heap.countdown;
-              trim_check = heap.trim_check;
-            });
+            λ i. record (state_of word heap) { segments = segments_are i; victim = left.is i });
         more = has_more sound step (extent at k Used) h;
         sound = stays_sound sound step same refl refl refl refl left.none left.named;
         words = keeps_words sound step;

@@ -63,7 +63,7 @@ module _ {A : Type 0} {regions : A → List Grant} {word : A → ℕ → ℕ} {h
     top_taken = record {
       state = (
           let segments_are = read sound cut_step ∙ sym (replaced_run (regions heap.system) sound.segments sound.apart (cut n) run) in
-          λ i. record { segments = segments_are i; victim = heap.victim; granularity = heap.granularity; rate = heap.rate; countdown = heap.countdown; trim_check = heap.trim_check });
+          λ i. record (state_of word heap) { segments = segments_are i });
       more = has_more sound cut_step (extent heap.top n Used) (record { front = []; back = []; fewer = refl; further = refl });
       sound = stays_sound sound cut_step same refl refl refl refl sound.no_victim
           (λ more. found_again sound cut_step heap.victim (λ found. absurd (let no : Top ≡ Free = top_one heap.victim found in cc)) (sound.victim more));

@@ -1,5 +1,5 @@
 -- A chunk before the top is freed.
-use Rattle.dlmalloc.proofs.Names.{◌≡◌, ◌≢◌, ℕ, ◌+◌, ◌-◌, ◌^◌, ◌<◌, ◌≤◌, ◌⊎◌, inl, inr, List, [], ◌∷◌, Some, refl, sym, ◌∙◌, ap, subst, arith, unwrap_or, option_map, Grant, IsStored, Extent, Used, Free, Top, Record, is_free, is_used, ends_segment, extents_in, MayStand, HasChunk, Tiles, last_kind, IsMove, IsRunOf, segments_of, state_of, IsSound, Dlmalloc}
+use Rattle.dlmalloc.proofs.Names.{◌≡◌, ◌≢◌, ℕ, ◌+◌, ◌-◌, ◌^◌, ◌<◌, ◌≤◌, ◌⊎◌, inl, inr, List, [], ◌∷◌, ◌++◌, Some, refl, sym, ◌∙◌, ap, subst, arith, unwrap_or, option_map, Grant, IsStored, Extent, Used, Free, Top, Record, is_free, is_used, ends_segment, extents_in, MayStand, HasChunk, Tiles, last_kind, IsMove, IsRunOf, segments_of, state_of, IsSound, Dlmalloc}
 use Rattle.dlmalloc_chunks.specs.Tiling.{extent_at}
 use Rattle.dlmalloc.specs.Binned.{IsJoint}
 use Rattle.dlmalloc.proofs.Extents.Lookup.{extent, the_extent}
@@ -125,16 +125,11 @@ module _ {A : Type 0} {regions : A → List Grant} {word : A → ℕ → ℕ} {h
     abbrev step : (victim victim_size : ℕ) → IsStep regions word heap (after victim victim_size) less more
     step victim victim_size =
         let head = head_is word heap run.front run.segment run.back none_before run.is sound.told in
+        let top : extent_at from (run.first ++ (more ++ run.last)) ≡ Some (extent from new_size Top) =
+        joined.where_joint sound right left ∙ (λ i. Some (extent from (size_is i) Top)) in
         step_top (after victim victim_size) sound same run move (sym (joined.last_less sound right left))
         (joined.stays sound right left {other = Record} (λ is. cc) (λ is. cc) (λ is. cc)) refl none_before
-        (record {
-          some = head.some;
-          base = head.base;
-          size = head.size;
-          flags = head.flags;
-          top = joined.where_joint sound right left
-              ∙ (λ i. Some (extent from (size_is i) Top));
-        })
+        (record { some = head.some; base = head.base; size = head.size; flags = head.flags; top = top })
 
     is_joined : IsJoined sound right left system from new_size
     is_joined = record { same = same; step = step; now = λ victim victim_size. refl }
@@ -144,11 +139,8 @@ module _ {A : Type 0} {regions : A → List Grant} {word : A → ℕ → ℕ} {h
     top_there victim victim_size = joined.joint_there sound right left is_joined victim victim_size
 
     joint_is : (victim victim_size : ℕ) → IsJoint (state_of word (after victim victim_size)) from from (to - from)
-    joint_is victim victim_size = inl (
-      refl,
-      λ bytes free. (let no : Top ≡ Free = ap (λ e. e.kind)
-          (the_extent (sym (top_there victim victim_size) ∙ free)) in cc),
-    )
+    joint_is victim victim_size =
+        inl (refl, λ bytes free. (let no : Top ≡ Free = ap (λ e. e.kind) (the_extent (sym (top_there victim victim_size) ∙ free)) in cc))
 
     -- the victim went into it
     pub top_victim : from ≤ heap.victim → heap.victim < to → IsFree regions word heap at size from to (after 0 0)

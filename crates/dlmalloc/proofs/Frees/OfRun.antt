@@ -59,8 +59,11 @@ module _ {A : Type 0} {regions : A → List Grant} {word : A → ℕ → ℕ} {h
   pub reach : from ≤ at
   reach = tiles_le words Used from left.lefts at left.lefts_stand
 
+  long : 32 ≤ size
+  long = right.run.here.1.size.1
+
   pub room : from + 32 ≤ to
-  room = omega (arith, reach, right.reach, right.run.here.1.size.1)
+  room = omega (arith, reach, right.reach, long)
 
   pub from_whole : from % 16 ≡ 0
   from_whole = begins_whole words (last_kind Used run.first) from left.lefts chunk (right.rights ++ next ∷ []) end run.here
@@ -106,11 +109,7 @@ module _ {A : Type 0} {regions : A → List Grant} {word : A → ℕ → ℕ} {h
   beyond k out =
       let s = tiles_split words Used (at + size) right.rights (next ∷ []) end right.run.here.2 in
       let place : s.middle ≡ to = sym s.second.0 ∙ right.place in
-      let test : (at == k) ≡ false = nat_isnt (elim out [
-        | inl a ↦ inr (omega (arith, reach))
-        | inr b ↦ inl
-            (omega (arith, right.reach, right.run.here.1.size.1))
-      ]) in
+      let test : (at == k) ≡ false = nat_isnt (elim out [ inl a ↦ inr (omega (arith, reach)) | inr b ↦ inl (omega (arith, right.reach, long)) ]) in
       let test' : (from == k) ≡ false = nat_isnt (elim out [ inl a ↦ inr a | inr b ↦ inl (omega (arith, room)) ]) in
       found_later k left.lefts (chunk ∷ (right.rights ++ next ∷ [])) (none_outside words Used from left.lefts at k
       (elim out [ inl a ↦ inl a | inr b ↦ inr (omega (arith, right.reach)) ]) left.lefts_stand)
@@ -162,7 +161,7 @@ module _ {A : Type 0} {regions : A → List Grant} {word : A → ℕ → ℕ} {h
   right_there : IsThere (at + size) less
   right_there =
       let f = first_there words Used (at + size) right.rights next end right.run.here.2 in
-      let test : (at == at + size) ≡ false = nat_isnt (inl (let long = right.run.here.1.size.1 in omega arith)) in (
+      let test : (at == at + size) ≡ false = nat_isnt (inl (omega (arith, long))) in (
         f.0,
         found_later (at + size) left.lefts (chunk ∷ (right.rights ++ next ∷ []))
             (none_outside words Used from left.lefts at (at + size) (inr (omega arith)) left.lefts_stand) ∙ rw test f.1,
@@ -216,8 +215,7 @@ module _ {A : Type 0} {regions : A → List Grant} {word : A → ℕ → ℕ} {h
   marked =
       let one = set_free_none words Used run.segment.base run.first from at (inr reach) run.first_stand in
       let two = set_free_none words Used from left.lefts at at (inr (omega arith)) left.lefts_stand in
-      let three = set_free_none words Used (at + size) (right.rights ++ next ∷ run.last) run_end at (inl (omega (arith, right.run.here.1.size.1)))
-      behind_stand in
+      let three = set_free_none words Used (at + size) (right.rights ++ next ∷ run.last) run_end at (inl (omega (arith, long))) behind_stand in
       let here : (at == at) ≡ true = nat_same at in
       let free : set_free at chunk ≡ freed_chunk = rw here refl in
       ap (map (set_free at)) (run.extents ∙ ap (λ l. run.first ++ l) (append_assoc left.lefts (chunk ∷ (right.rights ++ next ∷ [])) run.last
@@ -233,7 +231,7 @@ module _ {A : Type 0} {regions : A → List Grant} {word : A → ℕ → ℕ} {h
       ap (in_segments (freed_in at)) run.is ∙ in_one (regions heap.system) words (freed_in at) run.front run.segment run.back
       (subst (AreSegments (regions heap.system) words) run.is sound.segments) (subst AreApart run.is sound.apart)
       (λ other part beyond. ap merged (set_free_none words Used other.base other.extents (other.base + other.size) at
-      (in_no_other other run.segment at (omega (arith, low, reach)) (omega (arith, high, right.reach, right.run.here.1.size.1)) beyond) part.extents)
+      (in_no_other other run.segment at (omega (arith, low, reach)) (omega (arith, high, right.reach, long)) beyond) part.extents)
       ∙ merged_same words Used other.base other.extents (other.base + other.size) part.extents)
       (ap merged marked ∙ (merged_behind run.first (left.lefts ++ freed_chunk ∷ (right.rights ++ next ∷ run.last)) (more ++ run.last)
       (merged_all left.lefts left.beside left.lefts_stand
@@ -268,8 +266,7 @@ module _ {A : Type 0} {regions : A → List Grant} {word : A → ℕ → ℕ} {h
     joined_free victim victim_size = free_moves sound (j.step victim victim_size) (from ∷ (at + size) ∷ []) (from ∷ []) in_less in_more
         (λ k is. elim is [
           | inl same ↦ inl (inl same)
-          | inr later ↦ elim later
-              [ inl same ↦ inr (subst (λ a. IsThere a less) (sym same) right_there) | inr none ↦ absurd none ]
+          | inr later ↦ elim later [ inl same ↦ inr (subst (λ a. IsThere a less) (sym same) right_there) | inr none ↦ absurd none ]
         ])
         (λ k is. elim is [ inl same ↦ inl (inl same) | inr none ↦ absurd none ])
 
@@ -293,14 +290,7 @@ module _ {A : Type 0} {regions : A → List Grant} {word : A → ℕ → ℕ} {h
         let whole : victim ≡ victim_in heap.victim (extents_all (in_segments (freed_in at) segments)) =
         found ∙ ap (λ ss. victim_in heap.victim (extents_all ss)) are in
         record {
-          state = λ i. record {
-            segments = are i;
-            victim = whole i;
-            granularity = heap.granularity;
-            rate = heap.rate;
-            countdown = heap.countdown;
-            trim_check = heap.trim_check;
-          };
+          state = λ i. record (state_of word heap) { segments = are i; victim = whole i };
           less = has_less sound (j.step victim victim_size) fewer;
           sound = stays_sound sound (j.step victim victim_size) j.same refl refl refl refl none named;
           words = keeps_words sound (j.step victim victim_size);
@@ -314,7 +304,7 @@ module _ {A : Type 0} {regions : A → List Grant} {word : A → ℕ → ℕ} {h
             place = refl;
             free = elim (right.joins) [ inl is ↦ ap is_free is | inr is ↦ ap is_free is ];
             low = reach;
-            high = omega (arith, room, right.reach, right.run.here.1.size.1);
+            high = omega (arith, room, right.reach, long);
           };
         }
 
