@@ -6,7 +6,6 @@ pub mod HeadTold
 pub mod Head
 pub mod RegionsMore
 pub mod RegionsLess
-pub mod ToldAnew
 pub mod Exchange
 pub mod ByAddress
 pub mod HeadTop

@@ -1,5 +1,5 @@
 -- The one top.
-use Rattle.dlmalloc.proofs.Names.{◌<◌, ◌≡◌, ℕ, ◌+◌, ◌-◌, inl, inr, Bool, true, false, ◌==◌, if◌then◌else◌, List, [], ◌∷◌, ◌++◌, Some, refl, sym, ◌∙◌, ap, subst, arith, append_assoc, unwrap_or, Grant, Extent, Used, Free, Top, Record, Foot, Segment, last_kind, IsSegment, AreSegments, record_of, AreRecords, segments_of, AreTold, IsSound, Dlmalloc, AreChunks, chunks_between}
+use Rattle.dlmalloc.proofs.Names.{◌<◌, ◌≡◌, ℕ, ◌+◌, ◌-◌, inl, inr, Bool, true, false, ◌==◌, if◌then◌else◌, List, [], ◌∷◌, ◌++◌, Some, refl, sym, ◌∙◌, ap, subst, arith, append_assoc, unwrap_or, Grant, Extent, Used, Free, Top, Record, Foot, Segment, last_kind, IsSegment, AreSegments, record_of, AreRecords, segments_of, AreTold, IsSound, Dlmalloc, AreChunks, chunks_between, ◌≢◌, IsBoundary, state_of}
 use Rattle.dlmalloc_chunks.specs.Tiling.{extent_at}
 use Rattle.dlmalloc.proofs.Extents.Lookup.{extent, the_extent, found_here, found_either, found_more, of_two}
 use Rattle.dlmalloc.proofs.Moves.OfLists.{last_append}
@@ -108,3 +108,11 @@ foot_among {regions} {word} {heap} sound some = go (segments_of word heap) sound
         extent_at (heap.top + heap.top_size) (extents_all segments) ≡ Some (extent (heap.top + heap.top_size) 80 Foot)
     go [] parts h = absurd (omega arith)
     go (segment ∷ segments) parts h = found_more (heap.top + heap.top_size) segment.extents (extents_all segments) (foot_there parts.0 h.4)
+
+-- what is at no boundary is not the head of the top, nor of its foot
+pub head_tags : {A : Type 0} {regions : A → List Grant} {word : A → ℕ → ℕ} {heap : Dlmalloc A} → IsSound regions word heap → 0 < heap.size →
+    (k : ℕ) → (IsBoundary (state_of word heap) k → ⊥) → (k ≢ heap.top + 8) × (k ≢ heap.top + heap.top_size + 8)
+head_tags {heap} sound some k apart = (
+  (λ is. apart (record { extent = extent heap.top heap.top_size Top; there = top_among sound some; is = inl is })),
+  (λ is. apart (record { extent = extent (heap.top + heap.top_size) 80 Foot; there = foot_among sound some; is = inl is })),
+)

@@ -6,7 +6,8 @@ use Rattle.dlmalloc.proofs.Segments.HeadTold.{IsHead, bare_head}
 use Rattle.dlmalloc.proofs.Segments.Among.{extents_all}
 use Rattle.dlmalloc.proofs.Segments.RegionsMore.{runs_joined}
 use Rattle.dlmalloc.proofs.Segments.Exchange.{Exchange, exchanged_read, exchanged_used, exchanged_sound, none_exchanged}
-use Rattle.dlmalloc.proofs.Segments.ToldAnew.{IsOutside, head_tags}
+use Rattle.dlmalloc.proofs.Extents.Top.{head_tags}
+use Rattle.dlmalloc.proofs.Segments.WordsKept.{IsOutside}
 use Rattle.dlmalloc.proofs.Segments.HeadTop.{top_of, top_stands, top_run, top_part, top_segment, top_last, top_low, top_whole, top_sizes, ends, head_word, head_with, grant_behind_head, head_first, behind_parts, head_beside, behind_apart, head_chunks, head_extents, extents_all_are, none_from_top}
 use Rattle.dlmalloc.proofs.Grants.Opened.{grant_apart, parts_kept, told_kept}
 

@@ -7,7 +7,7 @@ use Rattle.dlmalloc.proofs.Segments.Among.{extents_all, apart_back}
 use Rattle.dlmalloc.proofs.Segments.HeadTop.{top_of, top_run, top_part, top_segment, top_last, top_sizes, top_whole, low_top, ends, head_with, grant_behind_head, head_first, head_beside, behind_apart, head_chunks, head_extents, extents_all_are, none_from_top}
 use Rattle.dlmalloc.proofs.Grants.Opened.{grant_apart, apart_grant, parts_kept, told_kept, opened_segment}
 use Rattle.dlmalloc.proofs.Segments.Exchange.{HasNo, none_of, Exchange, exchanged_read, exchanged_new, exchanged_used, exchanged_free, exchanged_sound}
-use Rattle.dlmalloc.proofs.Segments.ToldAnew.{head_tags}
+use Rattle.dlmalloc.proofs.Extents.Top.{head_tags}
 use Rattle.dlmalloc.proofs.Segments.WordsKept.{IsOutside}
 use Rattle.dlmalloc.proofs.Grants.TopLeft.{closed_chunks, left, left_free, in_left, left_there, place, record_place, left_stands, left_tail, left_record}
 

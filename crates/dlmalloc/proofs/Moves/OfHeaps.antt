@@ -1,8 +1,8 @@
 -- What a move leaves of a heap.
-use Rattle.dlmalloc.proofs.Names.{◌≡◌, ◌≢◌, ℕ, suc, ◌+◌, ◌/◌, ◌^◌, ◌<◌, ◌≤◌, inl, inr, Bool, true, false, ◌==◌, if◌then◌else◌, List, [], ◌∷◌, ◌++◌, Option, Some, None, refl, sym, ◌∙◌, ap, subst, arith, append_assoc, length, nat_tests, Grant, Extent, Free, extent_at, chunks_from, Segment, extents_in, top_and_foot, OnlyBoundariesChange, HasOneMore, HasMore, used_of, AreSegments, AreApart, records_from, segments_of, state_of, AreTold, IsGranularity, IsSound, Dlmalloc}
-use Rattle.dlmalloc.proofs.Extents.Lookup.{extent, nat_isnt, found_either, found_more}
+use Rattle.dlmalloc.proofs.Names.{◌≡◌, ◌≢◌, ℕ, suc, ◌+◌, ◌/◌, ◌^◌, ◌<◌, ◌≤◌, inr, Bool, true, false, ◌==◌, if◌then◌else◌, List, [], ◌∷◌, ◌++◌, Option, Some, None, refl, sym, ◌∙◌, ap, subst, arith, append_assoc, length, nat_tests, Grant, Extent, Free, extent_at, chunks_from, Segment, extents_in, top_and_foot, OnlyBoundariesChange, HasOneMore, HasMore, used_of, AreSegments, AreApart, records_from, segments_of, state_of, AreTold, IsGranularity, IsSound, Dlmalloc}
+use Rattle.dlmalloc.proofs.Extents.Lookup.{extent, nat_isnt, found_more}
 use Rattle.dlmalloc.proofs.Extents.FromWords.{read_top, records_read, records_few}
-use Rattle.dlmalloc.proofs.Extents.OneMoreUsed.{AreDistinct, more_between, one_more, used_append, replaced_found}
+use Rattle.dlmalloc.proofs.Extents.OneMoreUsed.{AreDistinct, distinct_second, more_between, one_more, used_append, replaced_found}
 use Rattle.dlmalloc.proofs.Segments.Among.{extents_all, all_among, as_many, all_distinct, distinct_later}
 use Rattle.dlmalloc.proofs.Segments.OneReplaced.{IsChanged, all_spared, segments_after, apart_after}
 

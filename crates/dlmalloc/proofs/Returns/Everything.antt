@@ -3,7 +3,7 @@ use Rattle.dlmalloc.proofs.Names.{◌≡◌, ◌≢◌, ℕ, ◌+◌, ◌%◌, �
 use Rattle.dlmalloc.proofs.Extents.FromWords.{records_read}
 use Rattle.dlmalloc.proofs.Segments.Among.{back_apart}
 use Rattle.dlmalloc.proofs.Moves.OfHeaps.{segments_few}
-use Rattle.dlmalloc.proofs.Segments.ToldAnew.{KeepsIts, parts_stay, records_stay}
+use Rattle.dlmalloc.proofs.Segments.WordsKept.{KeepsIts, parts_stay, records_stay}
 use Rattle.dlmalloc.proofs.Grants.PutBefore.{flip}
 use Rattle.dlmalloc.proofs.Words.OfRecords.{payload_whole, payload_high, payload_word}
 use Rattle.dlmalloc.proofs.Returns.Segments.{whole_run, apart_segments, apart_keeps, bytes_append, bytes_filter, bytes_few, taken_append, taken_few, given_on, given_same}

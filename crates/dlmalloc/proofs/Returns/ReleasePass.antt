@@ -5,7 +5,7 @@ use Rattle.dlmalloc.proofs.Returns.PassOrder.{visit_same, visits_on}
 use Rattle.dlmalloc.proofs.Bins.Changes.{same_bins}
 use Rattle.dlmalloc.proofs.Moves.OfLists.{standing}
 use Rattle.dlmalloc.proofs.Segments.Among.{all_at, located, of_located}
-use Rattle.dlmalloc.proofs.Segments.ToldAnew.{few}
+use Rattle.dlmalloc.proofs.Segments.ByAddress.{few}
 use Rattle.dlmalloc.proofs.Words.OfRecords.{payload_whole, payload_high, payload_word}
 use Rattle.dlmalloc.proofs.Extents.Lookup.{extent}
 use Rattle.dlmalloc.proofs.Blocks.WordsKept.{no_record, not_in_free}

@@ -5,7 +5,7 @@ use Rattle.dlmalloc.proofs.Extents.Lookup.{extent, nat_same, found_here}
 use Rattle.dlmalloc.proofs.Moves.OfFreeExtents.{IsThere}
 use Rattle.dlmalloc.proofs.Segments.Among.{extents_all, all_among, all_at, all_front, front_apart, back_apart, among_all}
 use Rattle.dlmalloc.proofs.Segments.Exchange.{Exchange, exchanged_read, exchanged_still, exchanged_was, exchanged_free, sound_as}
-use Rattle.dlmalloc.proofs.Segments.ToldAnew.{KeepsIts, IsOutside, records_stay, apart_stay}
+use Rattle.dlmalloc.proofs.Segments.WordsKept.{KeepsIts, IsOutside, records_stay, apart_stay}
 use Rattle.dlmalloc.proofs.Grants.PutBefore.{parts_around}
 use Rattle.dlmalloc.proofs.Grants.SegmentBehind.{told_around}
 use Rattle.dlmalloc.proofs.Words.OfRecords.{payload_whole, payload_low, payload_high, payload_word, recorded_stays}

@@ -1,7 +1,7 @@
 -- Segments go back to the system, and those that are apart from them stay as they were.
 use Rattle.dlmalloc.proofs.Names.{◌≡◌, ℕ, zero, suc, ◌+◌, ◌-◌, ◌^◌, ◌<◌, ◌≤◌, ◌⊎◌, inl, inr, Bool, true, false, cond, not, ◌&&◌, if◌then◌else◌, List, [], ◌∷◌, ◌++◌, map, IsTrue, refl, sym, ◌∙◌, ap, subst, arith, dec_lt, nat_le, nat_lt, filter, AllByRecursion, nat_tests, map-append, Grant, Event, Released, IsWordOf, IsApart, is_granted, begins_in, up_to, without, IsWholeRun, granted_before, granted_without, Segment, releases, regions_without, bytes_of, taken_back, AreGivenBack, IsWithin, IsRun, AreSegments, IsApartFrom, AreApart}
 use Rattle.heap_memory.specs.Runs.{IsWithin as IsWholeWithin}
-use Rattle.dlmalloc.proofs.Segments.ToldAnew.{KeepsIts, IsOutside, one_stays}
+use Rattle.dlmalloc.proofs.Segments.WordsKept.{KeepsIts, IsOutside, one_stays}
 
 -- ---- regions without those of some segments
 

@@ -7,7 +7,8 @@ use Rattle.dlmalloc.proofs.Extents.Lookup.{extent, nat_same, found_later}
 use Rattle.dlmalloc.proofs.Segments.HeadTold.{IsHead}
 use Rattle.dlmalloc.proofs.Segments.Among.{extents_all, back_apart}
 use Rattle.dlmalloc.proofs.Segments.Exchange.{Exchange, exchanged_read, exchanged_used, exchanged_sound, none_exchanged, kind_was}
-use Rattle.dlmalloc.proofs.Segments.ToldAnew.{KeepsIts, IsOutside, parts_stay, records_stay, apart_stay, head_tags}
+use Rattle.dlmalloc.proofs.Extents.Top.{head_tags}
+use Rattle.dlmalloc.proofs.Segments.WordsKept.{KeepsIts, IsOutside, parts_stay, records_stay, apart_stay}
 use Rattle.dlmalloc.proofs.Segments.HeadTop.{top_of, top_run, top_part, top_segment, top_last, top_low, top_whole, top_sizes, ends, end_whole, top_stands, head_with, head_first, behind_parts, head_beside, behind_apart, behind_told, head_chunks, head_extents, extents_all_are, none_from_top}
 use Rattle.dlmalloc.proofs.Blocks.WordsKept.{blocks_law_still}
 use Rattle.dlmalloc.proofs.Segments.RegionsLess.{given_run, run_shortened, segments_beside}

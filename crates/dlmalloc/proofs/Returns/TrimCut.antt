@@ -6,7 +6,7 @@ use Rattle.heap_memory.specs.Runs.{is_in_units}
 use Rattle.dlmalloc.specs.Trimmed.{may_go, end_released}
 use Rattle.dlmalloc.specs.Shortened.{KeepsAllButTop}
 use Rattle.dlmalloc.proofs.Cuts.Chosen.{top_size_is}
-use Rattle.dlmalloc.proofs.Segments.ToldAnew.{head_tags}
+use Rattle.dlmalloc.proofs.Extents.Top.{head_tags}
 use Rattle.dlmalloc.proofs.Bins.Changes.{binned_same}
 use Rattle.dlmalloc.proofs.Requests.Granularity.{granularities_whole}
 

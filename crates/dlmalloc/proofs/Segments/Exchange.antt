@@ -5,7 +5,7 @@ use Rattle.dlmalloc.proofs.Extents.OneMoreUsed.{AreDistinct, distinct_second, re
 use Rattle.dlmalloc.proofs.Moves.OfFreeExtents.{IsThere, free_stays}
 use Rattle.dlmalloc.proofs.Segments.Among.{extents_all, all_distinct, distinct_later}
 use Rattle.dlmalloc.proofs.Moves.OfHeaps.{segments_read}
-use Rattle.dlmalloc.proofs.Segments.ToldAnew.{few}
+use Rattle.dlmalloc.proofs.Segments.ByAddress.{few}
 
 -- no extent of a list is of a kind
 abbrev pub HasNo : Kind → List Extent → Type 0

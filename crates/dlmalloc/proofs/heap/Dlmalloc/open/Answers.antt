@@ -1,6 +1,6 @@
 use Rattle.dlmalloc.proofs.Names.{◌≡◌, ◌<◌, inl, refl, sym, subst, arith, [], IsAdmitted, state_of, FreeMoves, IsSameBins}
 use Rattle.dlmalloc.proofs.Grants.Opened.{opened_heap, opened_sound, opened_state, opened_used, opened_free}
-use Rattle.dlmalloc.proofs.Segments.ToldAnew.{head_tags}
+use Rattle.dlmalloc.proofs.Extents.Top.{head_tags}
 use Rattle.dlmalloc.proofs.heap.Dlmalloc.open.Goals as goal
 
 pub returns : goal.returns
