@@ -92,7 +92,8 @@ module _ {A : Type 0} {regions : A → List Grant} {word : A → ℕ → ℕ} {h
 
   -- one of the new extents is found among all
   pub found_new : (k : ℕ) (one : Extent) → extent_at k more ≡ Some one → extent_at k (extents_in (state_of word new)) ≡ Some one
-  found_new k one there = ap (extent_at k) all_new ∙ distinct_later before (more ++ behind) k (subst AreDistinct all_new distinct_new) (found_more k more behind there)
+  found_new k one there =
+      ap (extent_at k) all_new ∙ distinct_later before (more ++ behind) k (subst AreDistinct all_new distinct_new) (found_more k more behind there)
 
   -- what is found still is, where it is found among the new ones too
   pub found_again : (k : ℕ) {one : Extent} → (extent_at k less ≡ Some one → extent_at k more ≡ Some one) →

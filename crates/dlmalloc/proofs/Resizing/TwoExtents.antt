@@ -16,7 +16,8 @@ in_two first second k found =
     ]
 
 -- none of them is of a kind that they have not
-pub no_kind : (first second : Extent) (kind : Kind) → first.kind ≢ kind → second.kind ≢ kind → (k : ℕ) {one : Extent} → extent_at k (first ∷ second ∷ []) ≡ Some one → one.kind ≢ kind
+pub no_kind : (first second : Extent) (kind : Kind) → first.kind ≢ kind → second.kind ≢ kind →
+    (k : ℕ) {one : Extent} → extent_at k (first ∷ second ∷ []) ≡ Some one → one.kind ≢ kind
 no_kind first second kind no_first no_second k found is =
     elim (in_two first second k found) [
       | inl here ↦ no_first (ap (λ e. e.kind) here ∙ is)
@@ -24,7 +25,8 @@ no_kind first second kind no_first no_second k found is =
     ]
 
 -- and but for the first none is in use, where the second is not
-pub no_other : (first second : Extent) → second.kind ≢ Used → {used : Extent} → used.kind ≡ Used → used.at ≢ first.at → extent_at used.at (first ∷ second ∷ []) ≡ Some used → ⊥
+pub no_other : (first second : Extent) → second.kind ≢ Used → {used : Extent} → used.kind ≡ Used → used.at ≢ first.at →
+    extent_at used.at (first ∷ second ∷ []) ≡ Some used → ⊥
 no_other first second free {used} is other found =
     elim (in_two first second used.at found) [
       | inl here ↦ other (ap (λ e. e.at) (sym here))
