@@ -9,7 +9,7 @@ use Rattle.meminterval.specs.Entries.{with_entry}
 use Rattle.meminterval.specs.Interval.{by_ends}
 use Rattle.paging_core.specs.declared.page_table.Rights.{Rights}
 use Rattle.address_space.specs.Runs.{Follow, AreLongest, rights_in, begins_at}
-use Rattle.address_space.specs.Joining.{IsJoined, IsAdded, IsLongestAfter}
+use Rattle.address_space.specs.Joining.{AreRunsJoined, IsAdded, IsLongestAfter}
 use Rattle.address_space.proofs.Splits.{follow_append}
 use Rattle.address_space.proofs.Changes.{rights_append, begins_append, none_above, entry_between, begins_mapped}
 use Rattle.address_space.proofs.Clear.{AreClear, IsSplit, clear_split}
@@ -71,7 +71,7 @@ away es new first end before rights f longest clear p not_first not_end begins s
       less (inr h) = inr (omega (arith, h, not_end))
 
 pub added : (es one two new : List (Interval ℕ × Rights)) (first end : ℕ) (rights : Rights) → Follow 0 es (2 ^ 52) → AreLongest es → AreClear es first end → IsPut es one first end rights →
-    IsJoined one two end → IsJoined two new first → IsAdded es new first end rights
+    AreRunsJoined one two end → AreRunsJoined two new first → IsAdded es new first end rights
 added es one two new first end rights f longest clear p j k = record {
   follow = k.follow;
   longest = λ before begins same. at_end before (cases_eq (before + 1) first) begins same;

@@ -14,7 +14,7 @@ use Rattle.paging_core.specs.declared.page_table.Rights.{Rights}
 use Rattle.paging_core.proofs.Prefixes.{walk_reach}
 use Rattle.paging_core.proofs.Ranges.{same_number}
 use Rattle.address_space.specs.PageCopies.{ArePagesCopied}
-use Rattle.address_space.specs.Space.{rights_of}
+use Rattle.address_space.specs.Space.{rights_of_place}
 use Rattle.address_space.proofs.Mapped.{canonical_in}
 
 -- no table is at the frame of a page
@@ -56,9 +56,9 @@ only_in page n h = grind (arith, nat_tests, h)
 not_only : (page n : ℕ) → among page 1 n ≡ false → only page n ≡ false
 not_only page n h = grind (arith, nat_tests, h)
 
-entry_is : (q p : Place) (rights : Rights) → Some (granted q.frame rights) ≡ Some p → page_entry q.frame rights ≡ page_entry p.frame (rights_of p)
+entry_is : (q p : Place) (rights : Rights) → Some (granted q.frame rights) ≡ Some p → page_entry q.frame rights ≡ page_entry p.frame (rights_of_place p)
 unfolding from_some
-entry_is q p rights h = ap (λ (o : Option Place). page_entry (from_some o p).frame (rights_of (from_some o p))) h
+entry_is q p rights h = ap (λ (o : Option Place). page_entry (from_some o p).frame (rights_of_place (from_some o p))) h
 
 module _ (old one new : List ℕ) (root source target : ℕ) (rights : Rights) (free : List Bool)
     (tree : IsTree one root free)
@@ -85,7 +85,7 @@ module _ (old one new : List ℕ) (root source target : ℕ) (rights : Rights) (
       ∙ (changed.words t.frame i small (λ n table. absurd (no_table one root free 3 n (prefix_of target 4) t.frame t tree (omega arith) table met refl))
       ∙ (copied.copied i small ∙ ap (λ (p : Place). word_at old p.frame i) is_s))
 
-  pub one_entries : (n i f : ℕ) (place : Place) → i < 512 → among target 1 (512 * n + i) ≡ true → reach old root 3 n ≡ Some (top f) → reach new root 4 (512 * n + i) ≡ Some place → word_at new f i ≡ page_entry place.frame (rights_of place)
+  pub one_entries : (n i f : ℕ) (place : Place) → i < 512 → among target 1 (512 * n + i) ≡ true → reach old root 3 n ≡ Some (top f) → reach new root 4 (512 * n + i) ≡ Some place → word_at new f i ≡ page_entry place.frame (rights_of_place place)
   one_entries n i f place small g table at =
       let here = only_in target (512 * n + i) g in
       let q = changed.mapped (512 * n + i) here in
@@ -199,9 +199,9 @@ module _ (old one new : List ℕ) (root from pages to source target : ℕ) (free
   neither : (n : ℕ) → among to (pages + 1) n ≡ false → (among to pages n ≡ false) × (among target 1 n ≡ false)
   neither n h = run_neither (prefix_of to 4) pages (prefix_of target 4) n next h
 
-  pub more_entries : (n i f : ℕ) (place : Place) → i < 512 → among to (pages + 1) (512 * n + i) ≡ true → reach old root 3 n ≡ Some (top f) → reach new root 4 (512 * n + i) ≡ Some place → word_at new f i ≡ page_entry place.frame (rights_of place)
+  pub more_entries : (n i f : ℕ) (place : Place) → i < 512 → among to (pages + 1) (512 * n + i) ≡ true → reach old root 3 n ≡ Some (top f) → reach new root 4 (512 * n + i) ≡ Some place → word_at new f i ≡ page_entry place.frame (rights_of_place place)
   more_entries n i f place small g table at = go (among to pages (512 * n + i)) refl where
-    go : (b : Bool) → among to pages (512 * n + i) ≡ b → word_at new f i ≡ page_entry place.frame (rights_of place)
+    go : (b : Bool) → among to pages (512 * n + i) ≡ b → word_at new f i ≡ page_entry place.frame (rights_of_place place)
     go true h =
         let out = after (512 * n + i) h in
         d.others f i small

@@ -10,7 +10,7 @@ use Rattle.paging_core.specs.Walk.{Place, reach, walk_of, granted, top}
 use Rattle.paging_core.specs.declared.page_table.Rights.{Rights}
 use Rattle.paging_core.proofs.Prefixes.{walk_reach}
 use Rattle.address_space.specs.Changing.{AreWordsCopied}
-use Rattle.address_space.specs.Space.{Tables, rights_of}
+use Rattle.address_space.specs.Space.{Tables, rights_of_place}
 use Rattle.address_space.proofs.CopiedWords.{no_table, one_table, same_place, run_has}
 use Rattle.address_space.proofs.Duplicated.{AreDuplicated, page_of_number}
 
@@ -115,9 +115,9 @@ module _ (old new : Tables) (one : List ℕ) (from pages to : ℕ) (rights : Rig
       ∙ m.added.entries.table_words l n f i made less small (now l n f few table) missed (sym (step_same l (512 * n + i) less) ∙ at)
 
   page_words : (n f i : ℕ) (place : Place) → i < 512 → reach new.words old.root 3 n ≡ Some (top f) → reach old.words old.root 4 (512 * n + i) ≡ None →
-      reach new.words old.root 4 (512 * n + i) ≡ Some place → word_at new.words f i ≡ page_entry place.frame (rights_of place)
+      reach new.words old.root 4 (512 * n + i) ≡ Some place → word_at new.words f i ≡ page_entry place.frame (rights_of_place place)
   page_words n f i place small table missed at = go (among to pages (512 * n + i)) refl where
-    go : (b : Bool) → among to pages (512 * n + i) ≡ b → word_at new.words f i ≡ page_entry place.frame (rights_of place)
+    go : (b : Bool) → among to pages (512 * n + i) ≡ b → word_at new.words f i ≡ page_entry place.frame (rights_of_place place)
     go true h = m.copied.entries n i f place small h (now 3 n f (omega arith) table) at
     go false h = absurd (some_none (reach new.words old.root 4 (512 * n + i)) place at (other_page (512 * n + i) h ∙ missed))
 

@@ -7,7 +7,7 @@ use Rattle.meminterval.specs.Entries.{AllItems, first, or_else, without_key}
 use Rattle.meminterval.specs.Interval.{by_ends, with_end, starts_from, HasOwnStart}
 use Rattle.paging_core.specs.declared.page_table.Rights.{Rights}
 use Rattle.address_space.specs.Runs.{Follow, rights_in, begins_at}
-use Rattle.address_space.specs.Joining.{AreMeeting, IsMeeting, IsJoined}
+use Rattle.address_space.specs.Joining.{AreMeeting, IsMeeting, AreRunsJoined}
 use Rattle.address_space.proofs.Splits.{follow_append, IsLast, past_front, head_is, none_is, all_before}
 use Rattle.address_space.proofs.Changes.{rights_append, begins_append, none_above, none_below, none_begins_above, none_begins_below, without_between, end_between, own_between, begins_mapped, holds_inside}
 use Rattle.address_space.proofs.Clear.{last_holds, or_none, or_first}
@@ -60,9 +60,9 @@ none_begins front back e page h k l =
     let t : (e.0.start == page) ≡ false = grind (arith, nat_tests, k) in
     begins_append front (e ∷ back) page ∙ rw h (rw t l)
 
-pub joined : (runs new : List (Interval ℕ × Rights)) (start page end : ℕ) (m : AreMeeting runs start page end) → new ≡ m.front ++ (record { start = start; end = end }, m.rights) ∷ m.back → IsJoined runs new page
+pub joined : (runs new : List (Interval ℕ × Rights)) (start page end : ℕ) (m : AreMeeting runs start page end) → new ≡ m.front ++ (record { start = start; end = end }, m.rights) ∷ m.back → AreRunsJoined runs new page
 joined runs new start page end m is =
-    subst (λ (es : List (Interval ℕ × Rights)). IsJoined runs es page) (sym is)
+    subst (λ (es : List (Interval ℕ × Rights)). AreRunsJoined runs es page) (sym is)
     (record {
       follow = follow_append 0 start m.front ((record { start = start; end = end }, m.rights) ∷ m.back) (2 ^ 52) m.before (omega arith, omega (arith, m.first, m.second), m.behind);
       rights = λ any. rights_append m.front ((record { start = start; end = end }, m.rights) ∷ m.back) any

@@ -15,7 +15,7 @@ use Rattle.meminterval.specs.declared.interval.Interval.{Interval}
 use Rattle.address_space.specs.Runs.{rights_in, is_among}
 use Rattle.address_space.specs.Joining.{IsAdded}
 use Rattle.address_space.specs.PageMap.{IsMap, mapped}
-use Rattle.address_space.specs.Space.{Tables, IsKept, map_of, rights_of}
+use Rattle.address_space.specs.Space.{Tables, AreTablesKept, map_of, rights_of_place}
 
 -- ---- ranges
 
@@ -47,8 +47,8 @@ some_of {A} {B} f (Some a) b h = refl
 pub is_some_of : {A : Type 0} (o : Option A) (a : A) → o ≡ Some a → IsSome o
 is_some_of {A} o a h = rw h refl
 
-pub walks : (t : Tables) (page : ℕ) (rights : Rights) → IsKept t → rights_in t.runs page ≡ Some rights → IsSome (walk_of t.words t.root page)
-walks t page rights kept is = some_of rights_of (walk_of t.words t.root page) rights (kept.found page (kept.canonical page (is_some_of (rights_in t.runs page) rights is)) ∙ is)
+pub walks : (t : Tables) (page : ℕ) (rights : Rights) → AreTablesKept t → rights_in t.runs page ≡ Some rights → IsSome (walk_of t.words t.root page)
+walks t page rights kept is = some_of rights_of_place (walk_of t.words t.root page) rights (kept.found page (kept.canonical page (is_some_of (rights_in t.runs page) rights is)) ∙ is)
 
 -- a page that is mapped has an entry in the table of its slot, where there are no large pages
 pub by_table : (words : List ℕ) (root page : ℕ) → ((slot : ℕ) → large_of words root slot ≡ None) → IsSome (walk_of words root page) → IsSome (reach words root 3 (prefix_of page 3))
@@ -64,7 +64,7 @@ by_table words root page no_large some = go (walk_of words root page) refl some
 -- ---- the space after it
 
 pub record AreMapped (old : Tables) (words : List ℕ) (free : List Bool) (runs : List (Interval ℕ × Rights)) (first pages : ℕ) (rights : Rights) : Type 0 where
-  pub kept : IsKept old
+  pub kept : AreTablesKept old
   pub range : IsCanonicalRange first pages
   pub added : IsRangeAdded old.words words old.free free old.root first pages rights
   pub known : FreeBelow free (frame_count words)
@@ -74,7 +74,7 @@ pub record AreMapped (old : Tables) (words : List ℕ) (free : List Bool) (runs 
   pub runs_added : IsAdded old.runs runs first (first + pages) rights
 
 pub mapped_kept : (old : Tables) (words : List ℕ) (free : List Bool) (runs : List (Interval ℕ × Rights)) (first pages : ℕ) (rights : Rights) → AreMapped old words free runs first pages rights →
-    IsKept (record { words = words; root = old.root; free = free; runs = runs })
+    AreTablesKept (record { words = words; root = old.root; free = free; runs = runs })
 mapped_kept old words free runs first pages rights m =
     let count : frame_count words ≡ frame_count old.words = ap (λ n. n / 512) m.added.size in
     record {
@@ -95,15 +95,15 @@ mapped_kept old words free runs first pages rights m =
       is_there page false is some = m.kept.canonical page (rw is at some)
 
       finds : (page : ℕ) → IsTrue (is_canonical (page * 4096)) → (t : Bool) → is_among first pages page ≡ t →
-          option_map rights_of (walk_of words old.root page) ≡ cond (is_among first pages page) (Some rights) (rights_in old.runs page)
+          option_map rights_of_place (walk_of words old.root page) ≡ cond (is_among first pages page) (Some rights) (rights_in old.runs page)
       finds page canonical true is =
           let from = among_from first pages page is in
           let to = among_to first pages page is in
           let new = m.added.mapped (page - first) (omega (arith, from, to)) in
           let at : first + (page - first) ≡ page = omega (arith, from) in
-          rw is (ap (option_map rights_of) (ap (walk_of words old.root) (sym at) ∙ new.found))
+          rw is (ap (option_map rights_of_place) (ap (walk_of words old.root) (sym at) ∙ new.found))
       finds page canonical false is =
-          rw is (ap (option_map rights_of) (m.elsewhere page canonical (λ k less at. among_not first pages page k is less at)) ∙ m.kept.found page canonical)
+          rw is (ap (option_map rights_of_place) (m.elsewhere page canonical (λ k less at. among_not first pages page k is less at)) ∙ m.kept.found page canonical)
 
 pub mapped_map : (old : Tables) (words : List ℕ) (free : List Bool) (runs : List (Interval ℕ × Rights)) (first pages : ℕ) (rights : Rights) → AreMapped old words free runs first pages rights →
     IsMap (map_of (record { words = words; root = old.root; free = free; runs = runs })) (mapped first pages rights (map_of old))

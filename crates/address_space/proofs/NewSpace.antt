@@ -11,7 +11,7 @@ use Rattle.paging_core.specs.Pool.{is_free, FreeBelow}
 use Rattle.paging_core.specs.Walk.{reach, large_of, walk_of, top}
 use Rattle.paging_core.specs.Tree.{IsTree}
 use Rattle.paging_core.proofs.Reach.{reach_zero}
-use Rattle.address_space.specs.Space.{Tables, IsKept, rights_of}
+use Rattle.address_space.specs.Space.{Tables, AreTablesKept, rights_of_place}
 
 root_met : (words : List ℕ) (root : ℕ) → reach words root 0 0 ≡ Some (top root)
 root_met words root = reach_zero words root 0
@@ -27,7 +27,7 @@ none_longest page h same = absurd (cc)
 
 pub new_kept : (t : Tables) (count : ℕ) → t.runs ≡ [] → count < 2 ^ 32 → frame_count t.words ≡ count → t.free ≡ set (replicate count true) t.root false → length t.free ≡ count →
     FreeBelow t.free (frame_count t.words) → t.root < frame_count t.words → IsTree t.words t.root t.free → ((page : ℕ) → walk_of t.words t.root page ≡ None) →
-    ((slot : ℕ) → large_of t.words t.root slot ≡ None) → IsKept t
+    ((slot : ℕ) → large_of t.words t.root slot ≡ None) → AreTablesKept t
 new_kept t count runs few frames free flags known root tree nothing no_large = record {
   tree = tree;
   known = known;
@@ -35,7 +35,7 @@ new_kept t count runs few frames free flags known root tree nothing no_large = r
   root_in = root;
   few_frames = omega (arith, few, frames);
   canonical = subst (λ (es : List (Interval ℕ × Rights)). (page : ℕ) → IsSome (rights_in es page) → IsTrue (is_canonical (page * 4096))) (sym runs) none_canonical;
-  found = λ page canonical. ap (option_map rights_of) (nothing page) ∙ ap (λ (es : List (Interval ℕ × Rights)). rights_in es page) (sym runs);
+  found = λ page canonical. ap (option_map rights_of_place) (nothing page) ∙ ap (λ (es : List (Interval ℕ × Rights)). rights_in es page) (sym runs);
   accounted = λ frame less unmet. (let other : frame ≢ t.root = λ is. unmet 0 0 (top t.root) (omega arith) (root_met t.words t.root) (sym is) in ap (λ (flags : List Bool). is_free flags frame) free ∙ free_left count t.root frame (omega (arith, less, frames)) other);
   no_large = no_large;
   follow = subst (λ (es : List (Interval ℕ × Rights)). Follow 0 es (2 ^ 52)) (sym runs) (omega arith);

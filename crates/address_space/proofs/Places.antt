@@ -4,7 +4,7 @@ use Rattle.std.proofs.lemmas.Bool.{cases_lt}
 use Rattle.meminterval.specs.declared.interval.Interval.{Interval}
 use Rattle.paging_core.specs.declared.page_table.Rights.{Rights}
 use Rattle.address_space.specs.Runs.{rights_in}
-use Rattle.address_space.specs.PageMap.{IsPlace, HasNoPlace}
+use Rattle.address_space.specs.PageMap.{IsPagePlace, HasNoPagePlace}
 use Rattle.address_space.proofs.Splits.{IsLast}
 use Rattle.address_space.proofs.Clear.{AreClear, last_holds}
 
@@ -30,13 +30,13 @@ passed_on es base pages at to e some p i over = record {
   by_page page h k clear (inr behind) (inl first) = (let s = i.starts in let t = i.some in no_page page e.0.start clear (omega (arith, first)) (omega (arith, s, behind)) (omega arith) t)
   by_page page h k clear (inr behind) (inr inside) = (let s = i.starts in no_page page page clear (omega arith) (omega (arith, s, behind, inside)) inside k)
 
-pub is_place : (es : List (Interval ℕ × Rights)) (base end pages at : ℕ) → Passed es base pages at → at + pages ≤ end → AreClear es at (at + pages) → IsPlace (rights_in es) base end pages at
+pub is_place : (es : List (Interval ℕ × Rights)) (base end pages at : ℕ) → Passed es base pages at → at + pages ≤ end → AreClear es at (at + pages) → IsPagePlace (rights_in es) base end pages at
 is_place es base end pages at p within clear = record {
   fit = record { from = p.from; within = within; clear = clear };
   least = λ other lower fit. p.met other fit.from lower fit.clear;
 }
 
-pub no_place : (es : List (Interval ℕ × Rights)) (base end pages at : ℕ) → Passed es base pages at → end < at + pages → HasNoPlace (rights_in es) base end pages
+pub no_place : (es : List (Interval ℕ × Rights)) (base end pages at : ℕ) → Passed es base pages at → end < at + pages → HasNoPagePlace (rights_in es) base end pages
 no_place es base end pages at p over page fit = by_page (cases_lt page at) where
   by_page : (page < at) ⊎ (at ≤ page) → ⊥
   by_page (inl before) = p.met page fit.from before fit.clear

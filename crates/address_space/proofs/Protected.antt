@@ -13,13 +13,13 @@ use Rattle.meminterval.specs.declared.interval.Interval.{Interval}
 use Rattle.address_space.specs.Runs.{rights_in}
 use Rattle.address_space.specs.Joining.{IsAdded}
 use Rattle.address_space.specs.PageMap.{IsMap, protected}
-use Rattle.address_space.specs.Space.{Tables, IsKept, map_of, rights_of}
+use Rattle.address_space.specs.Space.{Tables, AreTablesKept, map_of, rights_of_place}
 use Rattle.address_space.proofs.Mapped.{canonical_in, walks, is_some_of}
 use Rattle.address_space.proofs.Cutting.{side_of, then_in, else_out}
 use Rattle.address_space.proofs.Unmapped.{not_among}
 
 pub record AreProtected (old : Tables) (words : List ℕ) (runs : List (Interval ℕ × Rights)) (first pages : ℕ) (rights : Rights) : Type 0 where
-  pub kept : IsKept old
+  pub kept : AreTablesKept old
   pub range : IsCanonicalRange first pages
   pub full : (page : ℕ) → first ≤ page → page < first + pages → IsSome (rights_in old.runs page)
   pub changed : ArePagesChanged old.words words old.root (regrant rights) (among first pages)
@@ -29,20 +29,20 @@ pub record AreProtected (old : Tables) (words : List ℕ) (runs : List (Interval
   pub bytes : (address : ℕ) → reached words old.root address ≡ reached old.words old.root address
   pub added : IsAdded old.runs runs first (first + pages) rights
 
-granted_rights : (o w : Option Place) (rights : Rights) → IsSome o → IfSome o (λ place. w ≡ Some (granted place.frame rights)) → option_map rights_of w ≡ Some rights
+granted_rights : (o w : Option Place) (rights : Rights) → IsSome o → IfSome o (λ place. w ≡ Some (granted place.frame rights)) → option_map rights_of_place w ≡ Some rights
 granted_rights None w rights some is = absurd (cc)
-granted_rights (Some place) w rights some is = ap (option_map rights_of) is
+granted_rights (Some place) w rights some is = ap (option_map rights_of_place) is
 
 -- the rights of a page that is mapped
 some_rights : (o : Option Rights) → IsSome o → (r : Rights) × (o ≡ Some r)
 some_rights None h = absurd (cc)
 some_rights (Some r) h = (r, refl)
 
-pub mapped_walks : (t : Tables) (page : ℕ) → IsKept t → IsSome (rights_in t.runs page) → IsSome (walk_of t.words t.root page)
+pub mapped_walks : (t : Tables) (page : ℕ) → AreTablesKept t → IsSome (rights_in t.runs page) → IsSome (walk_of t.words t.root page)
 mapped_walks t page kept some = let r = some_rights (rights_in t.runs page) some in walks t page r.0 kept r.1
 
 pub protected_kept : (old : Tables) (words : List ℕ) (runs : List (Interval ℕ × Rights)) (first pages : ℕ) (rights : Rights) → AreProtected old words runs first pages rights →
-    IsKept (record { words = words; root = old.root; free = old.free; runs = runs })
+    AreTablesKept (record { words = words; root = old.root; free = old.free; runs = runs })
 protected_kept old words runs first pages rights m =
     let count : frame_count words ≡ frame_count old.words = ap (λ n. n / 512) m.changed.size in
     record {
@@ -62,15 +62,15 @@ protected_kept old words runs first pages rights m =
       is_there page (inl k) some = canonical_in first pages page m.range k.0 k.1
       is_there page (inr k) some = m.kept.canonical page (subst IsSome (m.added.pages page ∙ else_out first (first + pages) page (Some rights) (rights_in old.runs page) k) some)
 
-      finds : (page : ℕ) → IsTrue (is_canonical (page * 4096)) → ((first ≤ page) × (page < first + pages)) ⊎ ((page < first) ⊎ (first + pages ≤ page)) → option_map rights_of (walk_of words old.root page) ≡ rights_in runs page
+      finds : (page : ℕ) → IsTrue (is_canonical (page * 4096)) → ((first ≤ page) × (page < first + pages)) ⊎ ((page < first) ⊎ (first + pages ≤ page)) → option_map rights_of_place (walk_of words old.root page) ≡ rights_in runs page
       finds page canonical (inl k) =
           let at : first + (page - first) ≡ page = omega (arith, k.0) in
           let was : IsSome (walk_of old.words old.root (first + (page - first))) = mapped_walks old (first + (page - first)) m.kept (m.full (first + (page - first)) (omega arith) (omega (arith, k.0, k.1))) in
-          ap (λ (p : ℕ). option_map rights_of (walk_of words old.root p)) (sym at)
+          ap (λ (p : ℕ). option_map rights_of_place (walk_of words old.root p)) (sym at)
           ∙ (granted_rights (walk_of old.words old.root (first + (page - first))) (walk_of words old.root (first + (page - first))) rights was (m.there (page - first) (omega (arith, k.0, k.1)))
           ∙ sym (m.added.pages page ∙ then_in first (first + pages) page (Some rights) (rights_in old.runs page) k.0 k.1))
       finds page canonical (inr k) =
-          ap (option_map rights_of) (m.elsewhere page canonical (λ j less is. not_among first pages page j k less is))
+          ap (option_map rights_of_place) (m.elsewhere page canonical (λ j less is. not_among first pages page j k less is))
           ∙ (m.kept.found page canonical ∙ sym (m.added.pages page ∙ else_out first (first + pages) page (Some rights) (rights_in old.runs page) k))
 
       unmet_before : (frame : ℕ) → ((level number : ℕ) (met : Place) → level ≤ 4 → reach words old.root level number ≡ Some met → met.frame ≡ frame → ⊥) →

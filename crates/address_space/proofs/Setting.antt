@@ -8,7 +8,7 @@ use Rattle.meminterval.specs.declared.interval.Interval.{Interval}
 use Rattle.meminterval.specs.Interval.{with_end}
 use Rattle.paging_core.specs.declared.page_table.Rights.{Rights}
 use Rattle.address_space.specs.Runs.{Follow, AreLongest, HasRun, rights_in, begins_at, crosses}
-use Rattle.address_space.specs.Joining.{IsJoined, IsAdded}
+use Rattle.address_space.specs.Joining.{AreRunsJoined, IsAdded}
 use Rattle.address_space.specs.RunChanges.{IsCut, IsRunSet, IsParted}
 use Rattle.address_space.proofs.Changes.{rights_append, begins_append, none_above, none_begins_above, none_begins_below}
 use Rattle.address_space.proofs.OneRun.{run_of, run_rights, among, shortened, crosses_free, or_right}
@@ -74,7 +74,7 @@ spread_set old one new start end to rights i was h order within c s e is = recor
 -- ---- the whole change
 
 pub set_added : (old one two three four new : List (Interval ℕ × Rights)) (first stop end : ℕ) (rights : Rights) → AreLongest old → first < end → stop ≤ end → IsParted old one end → IsRunSet one two first stop rights →
-    IsRunSet two three first end rights → IsJoined three four end → IsJoined four new first → IsAdded old new first end rights
+    IsRunSet two three first end rights → AreRunsJoined three four end → AreRunsJoined four new first → IsAdded old new first end rights
 set_added old one two three four new first stop end rights longest some order p s t j k = record {
   follow = k.follow;
   longest = λ before b same. at_first before b same (cases_eq (before + 1) first);
@@ -131,7 +131,7 @@ set_added old one two three four new first stop end rights longest some order p 
   at_first before b same (inr other) = at_end before other (k.begins (before + 1) b) (sym (k.rights before) ∙ (same ∙ k.rights (before + 1))) (cases_eq (before + 1) end)
 
 -- a run that was parted and joined again
-pub rejoined : (old one new : List (Interval ℕ × Rights)) (page : ℕ) → Follow 0 old (2 ^ 52) → AreLongest old → IsParted old one page → IsJoined one new page → new ≡ old
+pub rejoined : (old one new : List (Interval ℕ × Rights)) (page : ℕ) → Follow 0 old (2 ^ 52) → AreLongest old → IsParted old one page → AreRunsJoined one new page → new ≡ old
 rejoined old one new page f longest p j =
     runs_same 0 new old (2 ^ 52) j.follow (λ before b same. go before b same (p.begins (before + 1) (j.begins (before + 1) b))) f longest same_pages where
       same_pages : (any : ℕ) → rights_in new any ≡ rights_in old any

@@ -18,7 +18,7 @@ use Rattle.address_space.specs.Runs.{rights_in, is_among}
 use Rattle.address_space.specs.RunChanges.{AreTaken, AreFree}
 use Rattle.address_space.specs.PageMap.{IsMap, unmapped, mapped_count}
 use Rattle.address_space.specs.Changing.{IsUnmapped, is_mapped_in}
-use Rattle.address_space.specs.Space.{Tables, IsKept, map_of, rights_of}
+use Rattle.address_space.specs.Space.{Tables, AreTablesKept, map_of, rights_of_place}
 use Rattle.address_space.proofs.Mapped.{canonical_in, walks}
 use Rattle.address_space.proofs.Cutting.{side_of, then_in, else_out}
 use Rattle.address_space.proofs.Counting.{count_split, count_same, count_full, count_free}
@@ -40,7 +40,7 @@ not_there {A} (Some a) h some = let no : Some a ≡ None = h in absurd (cc)
 -- ---- the space after it
 
 pub record AreUnmapped (old : Tables) (words : List ℕ) (free : List Bool) (runs : List (Interval ℕ × Rights)) (first pages : ℕ) : Type 0 where
-  pub kept : IsKept old
+  pub kept : AreTablesKept old
   pub range : IsCanonicalRange first pages
   pub freed : ArePagesFreed old.words words old.free free old.root (among first pages)
   pub tree : IsTree words old.root free
@@ -56,7 +56,7 @@ not_among first pages page k (inl h) less is = absurd (omega (arith, h, is))
 not_among first pages page k (inr h) less is = absurd (omega (arith, h, less, is))
 
 pub unmapped_kept : (old : Tables) (words : List ℕ) (free : List Bool) (runs : List (Interval ℕ × Rights)) (first pages : ℕ) → AreUnmapped old words free runs first pages →
-    IsKept (record { words = words; root = old.root; free = free; runs = runs })
+    AreTablesKept (record { words = words; root = old.root; free = free; runs = runs })
 unmapped_kept old words free runs first pages m =
     let count : frame_count words ≡ frame_count old.words = ap (λ n. n / 512) m.freed.removed.size in
     record {
@@ -76,13 +76,13 @@ unmapped_kept old words free runs first pages m =
       is_there page (inl k) some = absurd (not_there (rights_in runs page) (m.taken.pages page ∙ then_in first (first + pages) page None (rights_in old.runs page) k.0 k.1) some)
       is_there page (inr k) some = m.kept.canonical page (subst IsSome (m.taken.pages page ∙ else_out first (first + pages) page None (rights_in old.runs page) k) some)
 
-      finds : (page : ℕ) → IsTrue (is_canonical (page * 4096)) → ((first ≤ page) × (page < first + pages)) ⊎ ((page < first) ⊎ (first + pages ≤ page)) → option_map rights_of (walk_of words old.root page) ≡ rights_in runs page
+      finds : (page : ℕ) → IsTrue (is_canonical (page * 4096)) → ((first ≤ page) × (page < first + pages)) ⊎ ((page < first) ⊎ (first + pages ≤ page)) → option_map rights_of_place (walk_of words old.root page) ≡ rights_in runs page
       finds page canonical (inl k) =
           let at : first + (page - first) ≡ page = omega (arith, k.0) in
-          ap (option_map rights_of) (ap (walk_of words old.root) (sym at) ∙ m.gone (page - first) (omega (arith, k.0, k.1)))
+          ap (option_map rights_of_place) (ap (walk_of words old.root) (sym at) ∙ m.gone (page - first) (omega (arith, k.0, k.1)))
           ∙ sym (m.taken.pages page ∙ then_in first (first + pages) page None (rights_in old.runs page) k.0 k.1)
       finds page canonical (inr k) =
-          ap (option_map rights_of) (m.elsewhere page canonical (λ j less is. not_among first pages page j k less is))
+          ap (option_map rights_of_place) (m.elsewhere page canonical (λ j less is. not_among first pages page j k less is))
           ∙ (m.kept.found page canonical ∙ sym (m.taken.pages page ∙ else_out first (first + pages) page None (rights_in old.runs page) k))
 
       clash : (frame : ℕ) (n : ℕ) (place : Place) → is_free free frame ≡ false → among first pages n ≡ true → reach old.words old.root 4 n ≡ Some place → place.frame ≡ frame → ⊥
@@ -146,7 +146,7 @@ among_more first pages more n le h = go (not (nat_lt n (prefix_of first 4))) (na
       let no : true ≡ false = rw t at (rw h1 at h) in absurd (cc)
 
 -- a page of a range that is in no run is met by no walk
-not_met : (t : Tables) (first pages n : ℕ) → IsKept t → IsCanonicalRange first pages → among first pages n ≡ true → rights_in t.runs (first + (n - prefix_of first 4)) ≡ None → is_some (reach t.words t.root 4 n) ≡ false
+not_met : (t : Tables) (first pages n : ℕ) → AreTablesKept t → IsCanonicalRange first pages → among first pages n ≡ true → rights_in t.runs (first + (n - prefix_of first 4)) ≡ None → is_some (reach t.words t.root 4 n) ≡ false
 not_met t first pages n kept range h none =
     let low : prefix_of first 4 ≤ n = grind (arith, nat_tests, h) in
     let high : n < prefix_of first 4 + pages = grind (arith, nat_tests, h) in
@@ -156,11 +156,11 @@ not_met t first pages n kept range h none =
     let met : reach t.words t.root 4 n ≡ walk_of t.words t.root page = ap (reach t.words t.root 4) (sym number) ∙ sym (walk_reach t.words t.root page) in
     let found = kept.found page (canonical_in first pages page range (omega arith) (omega (arith, low, high))) ∙ none in
     ap is_some met ∙ unfound (walk_of t.words t.root page) found where
-      unfound : (o : Option Place) → option_map rights_of o ≡ None → is_some o ≡ false
+      unfound : (o : Option Place) → option_map rights_of_place o ≡ None → is_some o ≡ false
       unfound None h = refl
-      unfound (Some place) h = let no : Some (rights_of place) ≡ None = h in absurd (cc)
+      unfound (Some place) h = let no : Some (rights_of_place place) ≡ None = h in absurd (cc)
 
-pub none_mapped : (t : Tables) (first pages n : ℕ) → IsKept t → IsCanonicalRange first pages → AreFree t.runs first (first + pages) → is_mapped_in t first pages n ≡ false
+pub none_mapped : (t : Tables) (first pages n : ℕ) → AreTablesKept t → IsCanonicalRange first pages → AreFree t.runs first (first + pages) → is_mapped_in t first pages n ≡ false
 none_mapped t first pages n kept range free = go (among first pages n) refl where
   go : (b : Bool) → among first pages n ≡ b → (b && is_some (reach t.words t.root 4 n)) ≡ false
   go false h = refl

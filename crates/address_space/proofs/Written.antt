@@ -12,7 +12,7 @@ use Rattle.paging_core.specs.declared.page_table.Rights.{Rights}
 use Rattle.address_space.specs.Runs.{rights_in}
 use Rattle.address_space.specs.PageMap.{IsMap, stored}
 use Rattle.address_space.specs.Access.{IsGoodSpan, byte_at, AreBytesPut, AreWritten, LiesIn, AreOtherWordsKept}
-use Rattle.address_space.specs.Space.{Tables, IsKept, map_of, rights_of}
+use Rattle.address_space.specs.Space.{Tables, AreTablesKept, map_of, rights_of_place}
 use Rattle.address_space.proofs.Cutting.{side_of, then_in, else_out}
 
 -- every address of bytes in one canonical half is canonical
@@ -241,9 +241,9 @@ part_byte bytes done count k less = get_or-take (done + count - done) (drop done
 
 -- ---- the space after it
 
-pub written_kept : (old : Tables) (words : List ℕ) (at : ℕ) (bytes : List ℕ) → IsKept old → length words ≡ length old.words → ((free : List Bool) → IsTree old.words old.root free → IsTree words old.root free) →
+pub written_kept : (old : Tables) (words : List ℕ) (at : ℕ) (bytes : List ℕ) → AreTablesKept old → length words ≡ length old.words → ((free : List Bool) → IsTree old.words old.root free → IsTree words old.root free) →
     ((level number : ℕ) → level ≤ 4 → reach words old.root level number ≡ reach old.words old.root level number) →
-    ((slot : ℕ) → large_of words old.root slot ≡ large_of old.words old.root slot) → IsKept (record { words = words; root = old.root; free = old.free; runs = old.runs })
+    ((slot : ℕ) → large_of words old.root slot ≡ large_of old.words old.root slot) → AreTablesKept (record { words = words; root = old.root; free = old.free; runs = old.runs })
 written_kept old words at bytes kept size tree walks larges =
     let count : frame_count words ≡ frame_count old.words = ap (λ n. n / 512) size in
     record {
@@ -253,14 +253,14 @@ written_kept old words at bytes kept size tree walks larges =
       root_in = (let r = kept.root_in in omega (arith, count, r));
       few_frames = (let r = kept.few_frames in omega (arith, count, r));
       canonical = kept.canonical;
-      found = λ page canonical. ap (option_map rights_of) (walk_same old.words words old.root page walks) ∙ kept.found page canonical;
+      found = λ page canonical. ap (option_map rights_of_place) (walk_same old.words words old.root page walks) ∙ kept.found page canonical;
       accounted = λ frame less unmet. kept.accounted frame (omega (arith, count, less)) (λ level number met le at. unmet level number met le (walks level number le ∙ at));
       no_large = λ slot. larges slot ∙ kept.no_large slot;
       follow = kept.follow;
       longest = kept.longest;
     }
 
-pub written_map : (old : Tables) (words : List ℕ) (at : ℕ) (bytes : List ℕ) → IsKept old → AreWritten (reached old.words old.root) (reached words old.root) at (length bytes) bytes → IsGoodSpan at (length bytes) →
+pub written_map : (old : Tables) (words : List ℕ) (at : ℕ) (bytes : List ℕ) → AreTablesKept old → AreWritten (reached old.words old.root) (reached words old.root) at (length bytes) bytes → IsGoodSpan at (length bytes) →
     ((any : ℕ) → at ≤ any → any < at + length bytes → IsSome (rights_in old.runs (any / 4096))) →
     IsMap (map_of (record { words = words; root = old.root; free = old.free; runs = old.runs })) (stored at bytes (map_of old))
 written_map old words at bytes kept w span mapped = record {

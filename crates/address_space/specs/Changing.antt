@@ -11,7 +11,7 @@ use Rattle.paging_core.specs.declared.page_table.Rights.{Rights}
 use Rattle.address_space.specs.declared.space_fault.SpaceFault.{SpaceFault}
 use Rattle.address_space.specs.declared.space_fault.SpaceFault.TheVariants.{BadRange, Overlap, Hole, NoFrames, OutOfMemory}
 use Rattle.address_space.specs.PageMap.{IsMap, unmapped, protected, duplicated, stored, mapped_count, IsGoodRange, IsClear, IsFull, IsHole}
-use Rattle.address_space.specs.Space.{Tables, map_of, rights_of}
+use Rattle.address_space.specs.Space.{Tables, map_of, rights_of_place}
 use Rattle.address_space.specs.Access.{AreOtherWordsKept}
 use Rattle.address_space.specs.Mapping.{HasFrames}
 
@@ -56,7 +56,7 @@ pub record AreWordsCopied (old new : Tables) (from pages to : ℕ) : Type 0 wher
       reach new.words old.root (l + 1) (512 * n + i) ≡ Some (top made) → word_at new.words f i ≡ table_entry made
   pub page_words :
       (n f i : ℕ) (place : Place) → i < 512 → reach new.words old.root 3 n ≡ Some (top f) → reach old.words old.root 4 (512 * n + i) ≡ None →
-      reach new.words old.root 4 (512 * n + i) ≡ Some place → word_at new.words f i ≡ page_entry place.frame (rights_of place)
+      reach new.words old.root 4 (512 * n + i) ≡ Some place → word_at new.words f i ≡ page_entry place.frame (rights_of_place place)
   -- a page that was mapped keeps its words
   pub others :
       (f i : ℕ) → i < 512 → is_free old.free f ≡ false → ((l n : ℕ) → l < 4 → reach old.words old.root l n ≡ Some (top f) → ⊥) →

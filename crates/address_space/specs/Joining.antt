@@ -25,7 +25,7 @@ IsMeeting runs page None = (before : ℕ) → before + 1 ≡ page → IsLongestA
 IsMeeting runs page (Some ends) = AreMeeting runs ends.0 page ends.1
 
 -- the runs that meet at a page were made one, if their rights are equal
-pub record IsJoined (old new : List (Interval ℕ × Rights)) (page : ℕ) : Type 0 where
+pub record AreRunsJoined (old new : List (Interval ℕ × Rights)) (page : ℕ) : Type 0 where
   pub follow : Follow 0 new (2 ^ 52)
   pub rights : (any : ℕ) → rights_in new any ≡ rights_in old any
   pub begins : (any : ℕ) → IsTrue (begins_at new any) → IsTrue (begins_at old any)

@@ -6,7 +6,7 @@ use Rattle.paging_core.specs.Mapping.{IsRangeAdded}
 use Rattle.paging_core.specs.declared.page_table.Rights.{Rights}
 use Rattle.address_space.specs.declared.space_fault.SpaceFault.{SpaceFault}
 use Rattle.address_space.specs.declared.space_fault.SpaceFault.TheVariants.{BadRange, Overlap, NoRoom, NoFrames, OutOfMemory}
-use Rattle.address_space.specs.PageMap.{IsMap, mapped, IsGoodRange, IsGoodWindow, IsClear, IsPlace, HasNoPlace}
+use Rattle.address_space.specs.PageMap.{IsMap, mapped, IsGoodRange, IsGoodWindow, IsClear, IsPagePlace, HasNoPagePlace}
 use Rattle.address_space.specs.Space.{Tables, map_of}
 
 -- there are frames for so many pages from the page `first` on, and for the tables that they miss
@@ -32,11 +32,11 @@ IsMapAnswer t start pages (Err fault) = ⊥
 -- When each answer of a call comes that maps pages at their lowest place in a window.
 abbrev pub IsPlaceAnswer : Tables → ℕ → ℕ → ℕ → Result ℕ SpaceFault → Type 0
 IsPlaceAnswer t low high pages (Ok at) =
-    IsGoodWindow low high × (0 < pages) × ((page : ℕ) × (at ≡ 4096 * page) × IsPlace (map_of t).rights (low / 4096) (high / 4096) pages page × HasFrames t page pages)
+    IsGoodWindow low high × (0 < pages) × ((page : ℕ) × (at ≡ 4096 * page) × IsPagePlace (map_of t).rights (low / 4096) (high / 4096) pages page × HasFrames t page pages)
 IsPlaceAnswer t low high pages (Err BadRange) = IsGoodWindow low high → 0 < pages → ⊥
-IsPlaceAnswer t low high pages (Err NoRoom) = IsGoodWindow low high × (0 < pages) × HasNoPlace (map_of t).rights (low / 4096) (high / 4096) pages
+IsPlaceAnswer t low high pages (Err NoRoom) = IsGoodWindow low high × (0 < pages) × HasNoPagePlace (map_of t).rights (low / 4096) (high / 4096) pages
 IsPlaceAnswer t low high pages (Err NoFrames) =
-    IsGoodWindow low high × (0 < pages) × ((page : ℕ) × IsPlace (map_of t).rights (low / 4096) (high / 4096) pages page × (HasFrames t page pages → ⊥))
+    IsGoodWindow low high × (0 < pages) × ((page : ℕ) × IsPagePlace (map_of t).rights (low / 4096) (high / 4096) pages page × (HasFrames t page pages → ⊥))
 IsPlaceAnswer t low high pages (Err OutOfMemory) =
-    IsGoodWindow low high × (0 < pages) × ((page : ℕ) × IsPlace (map_of t).rights (low / 4096) (high / 4096) pages page × HasFrames t page pages)
+    IsGoodWindow low high × (0 < pages) × ((page : ℕ) × IsPagePlace (map_of t).rights (low / 4096) (high / 4096) pages page × HasFrames t page pages)
 IsPlaceAnswer t low high pages (Err fault) = ⊥

@@ -81,19 +81,19 @@ mapped_count rights first (suc pages) = (if is_some (rights first) then 1 else 0
 -- ---- places
 
 -- so many pages from a page lie between two others, and none of them is mapped
-pub record IsFit (rights : ℕ → Option Rights) (base end pages page : ℕ) : Type 0 where
+pub record IsPageFit (rights : ℕ → Option Rights) (base end pages page : ℕ) : Type 0 where
   pub from : base ≤ page
   pub within : page + pages ≤ end
   pub clear : (any : ℕ) → page ≤ any → any < page + pages → rights any ≡ None
 
 -- and from no lower page
-pub record IsPlace (rights : ℕ → Option Rights) (base end pages page : ℕ) : Type 0 where
-  pub fit : IsFit rights base end pages page
-  pub least : (other : ℕ) → other < page → IsFit rights base end pages other → ⊥
+pub record IsPagePlace (rights : ℕ → Option Rights) (base end pages page : ℕ) : Type 0 where
+  pub fit : IsPageFit rights base end pages page
+  pub least : (other : ℕ) → other < page → IsPageFit rights base end pages other → ⊥
 
 -- from no page at all
-abbrev pub HasNoPlace : (ℕ → Option Rights) → ℕ → ℕ → ℕ → Type 0
-HasNoPlace rights base end pages = (page : ℕ) → IsFit rights base end pages page → ⊥
+abbrev pub HasNoPagePlace : (ℕ → Option Rights) → ℕ → ℕ → ℕ → Type 0
+HasNoPagePlace rights base end pages = (page : ℕ) → IsPageFit rights base end pages page → ⊥
 
 -- a window is good: its ends lie at pages, the first below the second, and it lies in one canonical half
 pub record IsGoodWindow (low high : ℕ) : Type 0 where

@@ -19,8 +19,8 @@ pub record Tables : Type 0 where
   pub runs : List (Interval ℕ × Rights)
 
 -- the rights of a place
-abbrev pub rights_of : Place → Rights
-rights_of place = record { write = place.write; user = place.user; fetch = place.fetch }
+abbrev pub rights_of_place : Place → Rights
+rights_of_place place = record { write = place.write; user = place.user; fetch = place.fetch }
 
 -- The plain map for which the tables stand: the runs name the pages and their rights, and the walk reaches the bytes.
 abbrev pub map_of : Tables → PageMap
@@ -31,14 +31,14 @@ map_of t = record {
 
 -- The walk finds a page exactly where the map has it, with its rights, and the tables are a tree. Each frame is free,
 -- or the walk meets it: as a table, or as the frame of one page. No page is in a large page. The runs are the longest ones.
-pub record IsKept (t : Tables) : Type 0 where
+pub record AreTablesKept (t : Tables) : Type 0 where
   pub tree : IsTree t.words t.root t.free
   pub known : FreeBelow t.free (frame_count t.words)
   pub flags : length t.free ≡ frame_count t.words
   pub root_in : t.root < frame_count t.words
   pub few_frames : frame_count t.words < 2 ^ 32
   pub canonical : (page : ℕ) → IsSome (rights_in t.runs page) → IsTrue (is_canonical (page * 4096))
-  pub found : (page : ℕ) → IsTrue (is_canonical (page * 4096)) → option_map rights_of (walk_of t.words t.root page) ≡ rights_in t.runs page
+  pub found : (page : ℕ) → IsTrue (is_canonical (page * 4096)) → option_map rights_of_place (walk_of t.words t.root page) ≡ rights_in t.runs page
   pub accounted :
       (frame : ℕ) → frame < frame_count t.words →
       ((level number : ℕ) (met : Place) → level ≤ 4 → reach t.words t.root level number ≡ Some met → met.frame ≡ frame → ⊥) →
@@ -47,5 +47,5 @@ pub record IsKept (t : Tables) : Type 0 where
   pub follow : Follow 0 t.runs (2 ^ 52)
   pub longest : AreLongest t.runs
 
-pub IsKept-prop : (t : Tables) → IsProp (IsKept t)
-IsKept-prop t = hlevel (props, Follow-prop 0 t.runs (2 ^ 52))
+pub AreTablesKept-prop : (t : Tables) → IsProp (AreTablesKept t)
+AreTablesKept-prop t = hlevel (props, Follow-prop 0 t.runs (2 ^ 52))

@@ -3,8 +3,8 @@ ghost use Rattle.std.specs.Prelude.{◌≡◌, ℕ, ◌+◌, ◌*◌, ◌^◌, �
 ghost use Rattle.meminterval.specs.Tree.{entries};
 ghost use Rattle.address_space.specs.Runs.{Follow, AreLongest, HasRun, rights_in, crosses, area_of, areas_of};
 ghost use Rattle.address_space.specs.RunChanges.{AreHeld, AreFree, IsGap};
-ghost use Rattle.address_space.specs.Joining.{IsMeeting, IsJoined, IsAdded};
-ghost use Rattle.address_space.specs.PageMap.{IsPlace, HasNoPlace};
+ghost use Rattle.address_space.specs.Joining.{IsMeeting, AreRunsJoined, IsAdded};
+ghost use Rattle.address_space.specs.PageMap.{IsPagePlace, HasNoPagePlace};
 
 use crate::area::{Area, AreaList};
 use meminterval::{Interval, IntervalTree};
@@ -55,7 +55,7 @@ pub(crate) fn is_clear(runs: &IntervalTree<u64, Rights>, first: u64, end: u64) -
 pub(crate) fn join(runs: &mut IntervalTree<u64, Rights>, page: u64)
     requires follow { Follow 0 (entries runs.old) (2 ^ 52) }
     requires within { page ≤ 2 ^ 52 }
-    ensures { IsJoined (entries runs.old) (entries runs.new) page }
+    ensures { AreRunsJoined (entries runs.old) (entries runs.new) page }
 {
     let Some((start, last)) = around(runs, page) else {
         return;
@@ -120,8 +120,8 @@ pub(crate) fn lowest_place(
     requires follow { Follow 0 (entries runs.now) (2 ^ 52) }
     requires some { 0 < pages }
     requires window { end ≤ 2 ^ 52 }
-    ensures place { IfSome result (IsPlace (rights_in (entries runs.now)) base end pages) }
-    ensures none { IfNone result (HasNoPlace (rights_in (entries runs.now)) base end pages) }
+    ensures place { IfSome result (IsPagePlace (rights_in (entries runs.now)) base end pages) }
+    ensures none { IfNone result (HasNoPagePlace (rights_in (entries runs.now)) base end pages) }
 {
     let mut at = base;
     while at <= end && pages <= end - at {

@@ -5,8 +5,8 @@ ghost use Rattle.paging_core.specs.Memory.{frame_count};
 ghost use Rattle.paging_core.specs.Pool.{free_count};
 ghost use Rattle.meminterval.specs.Tree.{entries};
 ghost use Rattle.address_space.specs.Runs.{areas_of};
-ghost use Rattle.address_space.specs.Space.{IsKept, IsKept-prop, map_of};
-ghost use Rattle.address_space.specs.PageMap.{IsClear, IsPlace, HasNoPlace};
+ghost use Rattle.address_space.specs.Space.{AreTablesKept, AreTablesKept-prop, map_of};
+ghost use Rattle.address_space.specs.PageMap.{IsClear, IsPagePlace, HasNoPagePlace};
 ghost use Rattle.address_space.specs.Mapping.{HasFrames, IsMapped};
 
 use crate::area::AreaList;
@@ -26,7 +26,7 @@ pub struct Space {
     pub(crate) pool: FramePool,
     pub(crate) root: PhysFrame,
     pub(crate) runs: IntervalTree<u64, Rights>,
-    ghost kept: { IsKept (record { words = frames; root = root; free = pool; runs = entries runs }) } by { IsKept-prop (record { words = frames; root = root; free = pool; runs = entries runs }) },
+    ghost kept: { AreTablesKept (record { words = frames; root = root; free = pool; runs = entries runs }) } by { AreTablesKept-prop (record { words = frames; root = root; free = pool; runs = entries runs }) },
 }
 
 impl Space {
@@ -58,7 +58,7 @@ impl Space {
         ensures words { result.now ≡ (tables_of self.now).words }
 
         // In it the walk from the root finds exactly the pages of the map, with their rights and bytes.
-        ensures kept { IsKept (tables_of self.now) }
+        ensures kept { AreTablesKept (tables_of self.now) }
     {
         &self.frames
     }
@@ -98,9 +98,9 @@ impl Space {
         requires some { 0 < pages }
         requires window { end ≤ 2 ^ 52 }
         requires range { IsCanonicalRange base (end - base) }
-        ensures place { IfSome result (IsPlace (map_of (tables_of self.now)).rights base end pages) }
+        ensures place { IfSome result (IsPagePlace (map_of (tables_of self.now)).rights base end pages) }
         ensures range { IfSome result (λ first. IsCanonicalRange first pages) }
-        ensures none { IfNone result (HasNoPlace (map_of (tables_of self.now)).rights base end pages) }
+        ensures none { IfNone result (HasNoPagePlace (map_of (tables_of self.now)).rights base end pages) }
     {
         let Some(number) = runs::lowest_place(&self.runs, base.number(), end, pages) else {
             return None;

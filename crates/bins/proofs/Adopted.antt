@@ -2,7 +2,7 @@
 use Rattle.std.proofs.Common.{◌≡◌, ◌≢◌, ℕ, zero, suc, ◌+◌, ◌*◌, ◌<◌, ◌≤◌, inl, inr, true, false, List, ◌∷◌, refl, sym, ap, subst, ◌∙◌, arith}
 use Rattle.heap_memory.specs.declared.grant.Grant.{Grant}
 use Rattle.dlmalloc_chunks.specs.Head.{size_of}
-use Rattle.bins.specs.Index.{IsIn, AreDistinct, without}
+use Rattle.bins.specs.Index.{IsIn, AreDistinct, without_size}
 use Rattle.bins.specs.Tries.{slot, low_at, width, IsNode, IsTrie}
 use Rattle.bins.specs.Linked.{AreChunks}
 use Rattle.bins.proofs.Frame.{linked_kept, trie_kept, in_without, in_half}
@@ -46,12 +46,12 @@ module _ (regions : List Grant) (old new : ℕ → ℕ) (index : ℕ → List �
   adopted low (suc n) at kept named (inl none) = inl none
   adopted low (suc n) at kept named (inr (d, children)) = inr (
     adopted_node low (low + 2 * width n) at kept (named d.some) d,
-    λ side. trie_kept old new bin (without d.size index) at (low_at side low (width n)) n (d.child side)
+    λ side. trie_kept old new bin (without_size d.size index) at (low_at side low (width n)) n (d.child side)
         (λ m a b c is k some few. let half = in_half side low (width n) m a b in
         kept m c half.0 half.1 (in_without d.size index m c is) k some few (λ same. absurd (apart m c is same))) (children side),
   ) where
-    apart : (m c : ℕ) → IsIn c (without d.size index m) → c ≡ at → ⊥
+    apart : (m c : ℕ) → IsIn c (without_size d.size index m) → c ≡ at → ⊥
     apart m c is same = elim (same_or_not m d.size) [
-      | inl here ↦ subst (λ (cs : List ℕ). IsIn c cs) (ap (without d.size index) here ∙ without_same d.size index) is
+      | inl here ↦ subst (λ (cs : List ℕ). IsIn c cs) (ap (without_size d.size index) here ∙ without_same d.size index) is
       | inr other ↦ other (one_size regions old old index m d.size c chunks (in_without d.size index m c is) (subst (λ (cs : List ℕ). IsIn c cs) (sym d.chunks) (inl same)))
     ]

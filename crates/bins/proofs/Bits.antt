@@ -8,7 +8,7 @@ use Rattle.std.proofs.Math.Nat.{mul-le-mul_right, add-mul}
 use Rattle.heap_memory.specs.declared.grant.Grant.{Grant}
 use Rattle.dlmalloc_chunks.specs.Bins.{least_size, IsTreeIndex}
 use Rattle.bins.specs.declared.bins.Bins.{Bins}
-use Rattle.bins.specs.Index.{IsIn, first_or, without, from}
+use Rattle.bins.specs.Index.{IsIn, first_or, without_size, from}
 use Rattle.bins.specs.Tries.{slot, low_at, width, IsTrie}
 use Rattle.bins.specs.Linked.{IsLinked, low_of, levels_of}
 use Rattle.bins.specs.Laws.{sides_of, node_at, shift_of}
@@ -75,7 +75,7 @@ module _ (words : ℕ → ℕ) (bin n chunk : ℕ) (others : List ℕ) where
     | inl here ↦ (zero, omega arith, head_same at chunk node.others others (sym node.chunks ∙ (ap index (sym here) ∙ listed)))
     | inr apart ↦
         let h = half_of offset (width levels) scale within (omega arith) in
-        let below = lead (without node.size index) at (low_at h.side low (width levels)) levels (node.child h.side) h.less (2 * scale) (children h.side) (omega arith)
+        let below = lead (without_size node.size index) at (low_at h.side low (width levels)) levels (node.child h.side) h.less (2 * scale) (children h.side) (omega arith)
         (let l = low_is h.side low (width levels) in omega (arith, h.place)) h.within (without_other node.size index n apart ∙ listed) in (
           suc below.0,
           (let d = below.1 in omega arith),

@@ -3,9 +3,9 @@ use Rattle.std.proofs.Common.{◌≡◌, ◌≢◌, ℕ, zero, suc, ◌+◌, ◌
 use Rattle.heap_memory.specs.declared.grant.Grant.{Grant}
 use Rattle.heap_memory.specs.Words.{IsStored}
 use Rattle.dlmalloc_chunks.specs.Head.{size_of}
-use Rattle.bins.specs.Index.{IsIn, first_or, without_chunk, without}
+use Rattle.bins.specs.Index.{IsIn, first_or, without_chunk, without_size}
 use Rattle.bins.specs.Tries.{slot, low_at, width, IsTrie}
-use Rattle.bins.specs.Stores.{IsPlace}
+use Rattle.bins.specs.Stores.{IsWordPlace}
 use Rattle.bins.specs.Below.{IsHeld, OnlyHeldChanges}
 use Rattle.bins.proofs.Frame.{in_without}
 use Rattle.bins.proofs.Lists.{without_other}
@@ -27,7 +27,7 @@ pub record IsBelow (regions : List Grant) (old : ℕ → ℕ) (index : ℕ → L
   pub is_in : IsIn chunk (own size)
   pub less : deep ≤ levels
   pub up_low : 4096 ≤ up
-  pub places : (b : Bool) → IsPlace regions (up + slot b)
+  pub places : (b : Bool) → IsWordPlace regions (up + slot b)
   pub here : old (up + slot side) ≡ chunk
   pub there : old (up + slot (not side)) ≢ chunk
   pub kept : (mid : ℕ → ℕ) → OnlyHeldChanges regions own from (from + width deep) old mid → (b : Bool) → mid (up + slot b) ≡ old (up + slot b)
@@ -50,7 +50,7 @@ module _ (regions : List Grant) (old : ℕ → ℕ) (bin size chunk : ℕ) (othe
     not_same is = other (node.node.head ∙ is)
 
     abbrev rest : ℕ → List ℕ
-    rest = without node.node.size index
+    rest = without_size node.node.size index
 
     rest_first : rest size ≡ chunk ∷ others
     rest_first = without_other node.node.size index size (λ e. not_same (sym e)) ∙ first

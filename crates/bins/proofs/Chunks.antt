@@ -4,7 +4,7 @@ use Rattle.std.proofs.lemmas.Bool.{cases_lt}
 use Rattle.heap_memory.specs.declared.grant.Grant.{Grant}
 use Rattle.dlmalloc_chunks.specs.Head.{size_of}
 use Rattle.bins.specs.Index.{IsIn, AreDistinct, with_chunk}
-use Rattle.bins.specs.Linked.{IsChunk, AreChunks, IsFresh}
+use Rattle.bins.specs.Linked.{IsChunk, AreChunks, IsFreshChunk}
 use Rattle.bins.proofs.Lists.{in_append, with_same, with_other}
 
 -- two numbers are one or not
@@ -42,7 +42,7 @@ module _ (regions : List Grant) (old new : ℕ → ℕ) where
   pub chunk_kept : (size chunk : ℕ) → new (chunk + 8) ≡ old (chunk + 8) → IsChunk regions old size chunk → IsChunk regions new size chunk
   chunk_kept size chunk same h = record { whole = h.whole; long = h.long; aligned = h.aligned; low = h.low; high = h.high; head = ap size_of same ∙ h.head; granted = h.granted }
 
-  pub chunks_with : (index : ℕ → List ℕ) (size chunk : ℕ) → AreChunks regions old index → IsFresh regions old index size chunk →
+  pub chunks_with : (index : ℕ → List ℕ) (size chunk : ℕ) → AreChunks regions old index → IsFreshChunk regions old index size chunk →
       ((n other : ℕ) → IsIn other (index n) → new (other + 8) ≡ old (other + 8)) → new (chunk + 8) ≡ old (chunk + 8) →
       AreChunks regions new (with_chunk size chunk index)
   chunks_with index size chunk h fresh heads head =

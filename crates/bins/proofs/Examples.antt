@@ -2,7 +2,7 @@
 use Rattle.std.proofs.Common.{◌≡◌, ℕ, ◌+◌, ◌≤◌, inl, inr, ◌==◌, Bool, true, false, List, [], ◌∷◌, refl, arith}
 use Rattle.std.specs.Prelude.{if◌then◌else◌}
 use Rattle.std.proofs.lemmas.Bool.Decides.{nat_tests}
-use Rattle.bins.specs.Index.{without}
+use Rattle.bins.specs.Index.{without_size}
 use Rattle.bins.specs.Rings.{IsRing}
 use Rattle.bins.specs.Tries.{slot, low_at, IsTrie}
 use Rattle.bins.proofs.Opened.{empty}
@@ -31,7 +31,7 @@ trie_words at =
 abbrev two_sizes : ℕ → List ℕ
 two_sizes n = if n == 608 then 0x400000 ∷ [] else if n == 528 then 0x401000 ∷ [] else []
 
-upper_none : (n : ℕ) → 640 ≤ n → without 608 two_sizes n ≡ []
+upper_none : (n : ℕ) → 640 ≤ n → without_size 608 two_sizes n ≡ []
 upper_none n above = grind (arith, nat_tests)
 
 abbrev by_tests : Bool → Bool → List ℕ
@@ -42,7 +42,7 @@ none_by_tests true b = refl
 none_by_tests false true = refl
 none_by_tests false false = refl
 
-both_none : (n : ℕ) → without 528 (without 608 two_sizes) n ≡ []
+both_none : (n : ℕ) → without_size 528 (without_size 608 two_sizes) n ≡ []
 both_none n = none_by_tests (n == 528) (n == 608)
 
 abbrev root_child : Bool → ℕ
@@ -57,7 +57,7 @@ leaf_slots : (side : Bool) → trie_words (0x401000 + slot side) ≡ 0
 leaf_slots false = refl
 leaf_slots true = refl
 
-leaf : IsTrie trie_words (without 608 two_sizes) 2 0x400000 512 4 0x401000
+leaf : IsTrie trie_words (without_size 608 two_sizes) 2 0x400000 512 4 0x401000
 leaf = inr (
   record {
     size = 528;
@@ -73,12 +73,12 @@ leaf = inr (
     parent_is = refl;
     bin_is = refl;
   },
-  λ side. empty trie_words (without 528 (without 608 two_sizes)) 2 0x401000 (low_at side 512 64) 3 (λ n above below. both_none n),
+  λ side. empty trie_words (without_size 528 (without_size 608 two_sizes)) 2 0x401000 (low_at side 512 64) 3 (λ n above below. both_none n),
 )
 
-children : (side : Bool) → IsTrie trie_words (without 608 two_sizes) 2 0x400000 (low_at side 512 128) 4 (root_child side)
+children : (side : Bool) → IsTrie trie_words (without_size 608 two_sizes) 2 0x400000 (low_at side 512 128) 4 (root_child side)
 children false = leaf
-children true = empty trie_words (without 608 two_sizes) 2 0x400000 640 4 (λ n above below. upper_none n above)
+children true = empty trie_words (without_size 608 two_sizes) 2 0x400000 640 4 (λ n above below. upper_none n above)
 
 -- 608 is in the lower half, 512 up to 639, as 528 is, which stands below it
 two_large : IsTrie trie_words two_sizes 2 130 512 5 0x400000

@@ -1,7 +1,7 @@
 -- What no store outside the words of its chunks changes.
 use Rattle.std.proofs.Common.{◌≡◌, ℕ, zero, suc, ◌+◌, ◌*◌, ◌<◌, ◌≤◌, inl, inr, ◌==◌, if◌then◌else◌, Bool, true, false, List, [], ◌∷◌, refl, sym, ap, subst, ◌∙◌, arith}
 use Rattle.dlmalloc_chunks.specs.Head.{size_of}
-use Rattle.bins.specs.Index.{IsIn, without}
+use Rattle.bins.specs.Index.{IsIn, without_size}
 use Rattle.bins.specs.Rings.{AreLinked, IsSame}
 use Rattle.bins.specs.Tries.{slot, low_at, width, IsNode, IsTrie}
 
@@ -20,7 +20,7 @@ in_if : (b : Bool) (chunk : ℕ) (chunks : List ℕ) → IsIn chunk (if b then [
 in_if true chunk chunks is = absurd is
 in_if false chunk chunks is = is
 
-pub in_without : (size : ℕ) (index : ℕ → List ℕ) (n chunk : ℕ) → IsIn chunk (without size index n) → IsIn chunk (index n)
+pub in_without : (size : ℕ) (index : ℕ → List ℕ) (n chunk : ℕ) → IsIn chunk (without_size size index n) → IsIn chunk (index n)
 in_without size index n chunk is = in_if (n == size) chunk (index n) is
 
 -- the chunks of an index of a size in a range stay as they are
@@ -68,6 +68,6 @@ module _ (old new : ℕ → ℕ) (bin : ℕ) where
   trie_kept index parent low (suc levels) at same (inl none) = inl none
   trie_kept index parent low (suc levels) at same (inr (node, children)) = inr (
     node_kept index parent low (low + 2 * width levels) at same node,
-    λ side. trie_kept (without node.size index) at (low_at side low (width levels)) levels (node.child side)
+    λ side. trie_kept (without_size node.size index) at (low_at side low (width levels)) levels (node.child side)
         (λ n above below chunk is. let half = in_half side low (width levels) n above below in same n half.0 half.1 chunk (in_without node.size index n chunk is)) (children side),
   )

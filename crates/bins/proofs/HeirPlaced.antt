@@ -1,11 +1,11 @@
 -- The heir of a node takes its place.
 use Rattle.std.proofs.Common.{◌≡◌, ◌≢◌, ℕ, ◌+◌, ◌*◌, ◌<◌, ◌≤◌, ◌⊎◌, inl, inr, Bool, true, false, not, List, [], ◌∷◌, refl, sym, ap, subst, ◌∙◌, arith}
 use Rattle.heap_memory.specs.declared.grant.Grant.{Grant}
-use Rattle.bins.specs.Index.{IsIn, AreDistinct, first_or, removed, without_chunk, without}
+use Rattle.bins.specs.Index.{IsIn, AreDistinct, first_or, removed, without_chunk, without_size}
 use Rattle.bins.specs.Rings.{IsRing}
 use Rattle.bins.specs.Tries.{both, low_at, width, IsTrie}
 use Rattle.bins.specs.Linked.{AreChunks}
-use Rattle.bins.specs.Stores.{IsPlace, HasHeirLinks, HasPlaced}
+use Rattle.bins.specs.Stores.{IsWordPlace, HasHeirLinks, HasPlaced}
 use Rattle.bins.specs.Below.{OnlyHeldChanges}
 use Rattle.bins.proofs.Frame.{trie_kept, in_without, in_half}
 use Rattle.bins.proofs.Reindexed.{trie_reindexed}
@@ -65,24 +65,24 @@ module _ (regions : List Grant) (old : ℕ → ℕ) (index : ℕ → List ℕ) (
   last_listed : IsIn last (index o.node.size)
   last_listed = ring_in last last_there
 
-  tries_old : (side : Bool) → IsTrie old (without o.node.size index) bin at (low_at side low (width n)) n (kids side)
-  tries_old false = subst (λ x. IsTrie old (without o.node.size index) bin at (low_at false low (width n)) n x) (sym (o.node.child_is false)) (o.children false)
-  tries_old true = subst (λ x. IsTrie old (without o.node.size index) bin at (low_at true low (width n)) n x) (sym (o.node.child_is true)) (o.children true)
+  tries_old : (side : Bool) → IsTrie old (without_size o.node.size index) bin at (low_at side low (width n)) n (kids side)
+  tries_old false = subst (λ x. IsTrie old (without_size o.node.size index) bin at (low_at false low (width n)) n x) (sym (o.node.child_is false)) (o.children false)
+  tries_old true = subst (λ x. IsTrie old (without_size o.node.size index) bin at (low_at true low (width n)) n x) (sym (o.node.child_is true)) (o.children true)
 
   -- ---- what the stores need
-  pub h_here : (k : ℕ) → 1 < k → k < 8 → IsPlace regions (at + 8 * k)
+  pub h_here : (k : ℕ) → 1 < k → k < 8 → IsWordPlace regions (at + 8 * k)
   h_here = x_place regions old old index o.node.size bin at low n at (both (old (at + 32)) (old (at + 40))) chunks large at_in tries_old
 
-  pub h_own : (k : ℕ) → 1 < k → k < 8 → IsPlace regions (heir + 8 * k)
+  pub h_own : (k : ℕ) → 1 < k → k < 8 → IsWordPlace regions (heir + 8 * k)
   h_own = x_place regions old old index o.node.size bin at low n heir (both (old (at + 32)) (old (at + 40))) chunks large heir_in tries_old
 
-  pub h_behind : IsPlace regions (old (at + 16) + 24)
+  pub h_behind : IsWordPlace regions (old (at + 16) + 24)
   h_behind = x_place regions old old index o.node.size bin at low n last (both (old (at + 32)) (old (at + 40))) chunks large last_listed tries_old 3 (omega arith) (omega arith)
 
   pub h_other : heir + 16 ≢ old (at + 16) + 24
   h_other e = let h = chunks.each o.node.size heir heir_in in let l = chunks.each o.node.size last last_listed in omega (arith, h.aligned, l.aligned)
 
-  pub h_places : (side : Bool) → 0 < both (old (at + 32)) (old (at + 40)) side → IsPlace regions (both (old (at + 32)) (old (at + 40)) side + 48)
+  pub h_places : (side : Bool) → 0 < both (old (at + 32)) (old (at + 40)) side → IsWordPlace regions (both (old (at + 32)) (old (at + 40)) side + 48)
   h_places = kid_place regions old old index o.node.size bin at low n heir (both (old (at + 32)) (old (at + 40))) chunks large heir_in tries_old
 
   pub h_apart : (side : Bool) → 0 < both (old (at + 32)) (old (at + 40)) side → (both (old (at + 32)) (old (at + 40)) side + 48 < heir + 32) ⊎ (heir + 64 ≤ both (old (at + 32)) (old (at + 40)) side + 48)
@@ -105,9 +105,9 @@ module _ (regions : List Grant) (old : ℕ → ℕ) (index : ℕ → List ℕ) (
         (λ e. elim (same_or_not c heir) [ inl same ↦ no_heir same (omega arith) | inr not ↦ word_apart m c k heir 16 c_in heir_in not few (omega arith) e ])
         (λ e. elim (same_or_not c last) [ inl same ↦ no_last same (omega arith) | inr not ↦ word_apart m c k last 24 c_in last_listed not few (omega arith) e ])
 
-    of_child : (m c d : ℕ) → IsIn c (without o.node.size index m) → IsIn d (index o.node.size) → c ≢ d
+    of_child : (m c d : ℕ) → IsIn c (without_size o.node.size index m) → IsIn d (index o.node.size) → c ≢ d
     of_child m c d c_in d_in same = elim (same_or_not m o.node.size) [
-      | inl here ↦ subst (λ (cs : List ℕ). IsIn c cs) (ap (without o.node.size index) here ∙ without_same o.node.size index) c_in
+      | inl here ↦ subst (λ (cs : List ℕ). IsIn c cs) (ap (without_size o.node.size index) here ∙ without_same o.node.size index) c_in
       | inr far ↦ far (one_size regions old old index m o.node.size c chunks (in_without o.node.size index m c c_in) (subst (λ x. IsIn x (index o.node.size)) (sym same) d_in))
     ]
 
@@ -130,12 +130,12 @@ module _ (regions : List Grant) (old : ℕ → ℕ) (index : ℕ → List ℕ) (
         (λ c is. mid_word o.node.size c 2 (ring_in c (inr is)) (omega arith) (omega arith) (λ e. absurd (once.1.0 (subst (λ x. IsIn x rest) e is))) (λ e. λ k. omega arith))
         (λ c is not. mid_word o.node.size c 3 (ring_in c is) (omega arith) (omega arith) (λ e. λ k. omega arith) (λ e. absurd (not e)))
 
-    tries_mid : (side : Bool) → IsTrie mid (without o.node.size (without_chunk o.node.size at index)) bin at (low_at side low (width n)) n (both (old (at + 32)) (old (at + 40)) side)
+    tries_mid : (side : Bool) → IsTrie mid (without_size o.node.size (without_chunk o.node.size at index)) bin at (low_at side low (width n)) n (both (old (at + 32)) (old (at + 40)) side)
     tries_mid side =
-        let stays = trie_kept old mid bin (without o.node.size index) at (low_at side low (width n)) n (kids side)
+        let stays = trie_kept old mid bin (without_size o.node.size index) at (low_at side low (width n)) n (kids side)
         (λ m a b c is k some few. mid_word m c k (in_without o.node.size index m c is) some few
         (λ e. absurd (of_child m c heir is heir_in e)) (λ e. absurd (of_child m c last is last_listed e))) (tries_old side) in
-        trie_reindexed mid bin (without o.node.size index) (without o.node.size (without_chunk o.node.size at index)) at (low_at side low (width n)) n (kids side)
+        trie_reindexed mid bin (without_size o.node.size index) (without_size o.node.size (without_chunk o.node.size at index)) at (low_at side low (width n)) n (kids side)
         (λ m a b. minus_alike o.node.size at index m) stays
 
     pub heir_opened : Opened new (without_chunk o.node.size at index) bin parent low n heir

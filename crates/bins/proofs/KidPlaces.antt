@@ -1,10 +1,10 @@
 -- The places of a node to be and of the children that it gets.
 use Rattle.std.proofs.Common.{◌≡◌, ◌≢◌, ℕ, ◌+◌, ◌*◌, ◌<◌, ◌≤◌, ◌⊎◌, inl, inr, Bool, true, false, List, ap, subst, ◌∙◌, arith}
 use Rattle.heap_memory.specs.declared.grant.Grant.{Grant}
-use Rattle.bins.specs.Index.{IsIn, without}
+use Rattle.bins.specs.Index.{IsIn, without_size}
 use Rattle.bins.specs.Tries.{low_at, width, IsTrie}
 use Rattle.bins.specs.Linked.{AreChunks}
-use Rattle.bins.specs.Stores.{IsPlace}
+use Rattle.bins.specs.Stores.{IsWordPlace}
 use Rattle.bins.proofs.Frame.{in_without}
 use Rattle.bins.proofs.Lists.{without_same}
 use Rattle.bins.proofs.Chunks.{one_size}
@@ -12,20 +12,20 @@ use Rattle.bins.proofs.Placed.{IsRoot, root_in}
 
 module _ (regions : List Grant) (old mid : ℕ → ℕ) (index : ℕ → List ℕ) (size bin parent low n x : ℕ) (child : Bool → ℕ)
     (chunks : AreChunks regions old index) (large : (m c : ℕ) → IsIn c (index m) → 256 ≤ m) (x_in : IsIn x (index size))
-    (tries : (side : Bool) → IsTrie mid (without size index) bin parent (low_at side low (width n)) n (child side)) where
-  pub x_place : (k : ℕ) → 1 < k → k < 8 → IsPlace regions (x + 8 * k)
+    (tries : (side : Bool) → IsTrie mid (without_size size index) bin parent (low_at side low (width n)) n (child side)) where
+  pub x_place : (k : ℕ) → 1 < k → k < 8 → IsWordPlace regions (x + 8 * k)
   x_place k some few = let h = chunks.each size x x_in in let l = large size x x_in in record {
     small = omega (arith, h.high);
     word = h.granted (x + 8 * k) (omega arith) (omega arith) (omega (arith, h.aligned));
   }
 
-  pub kid : (side : Bool) → 0 < child side → IsRoot (without size index) (low_at side low (width n)) (low_at side low (width n) + width n) (child side)
-  kid side some = root_in mid (without size index) bin parent (low_at side low (width n)) n (child side) some (tries side)
+  pub kid : (side : Bool) → 0 < child side → IsRoot (without_size size index) (low_at side low (width n)) (low_at side low (width n) + width n) (child side)
+  kid side some = root_in mid (without_size size index) bin parent (low_at side low (width n)) n (child side) some (tries side)
 
   pub kid_in : (side : Bool) (some : 0 < child side) → IsIn (child side) (index (kid side some).size)
   kid_in side some = in_without size index (kid side some).size (child side) (kid side some).is
 
-  pub kid_place : (side : Bool) → 0 < child side → IsPlace regions (child side + 48)
+  pub kid_place : (side : Bool) → 0 < child side → IsWordPlace regions (child side + 48)
   kid_place side some =
       let r = kid side some in let c_in = kid_in side some in
       let h = chunks.each r.size (child side) c_in in let l = large r.size (child side) c_in in record {
@@ -37,7 +37,7 @@ module _ (regions : List Grant) (old mid : ℕ → ℕ) (index : ℕ → List �
   kid_other side some same =
       let r = kid side some in
       let one : r.size ≡ size = one_size regions old old index r.size size x chunks (subst (λ y. IsIn y (index r.size)) same (kid_in side some)) x_in in
-      subst (λ (cs : List ℕ). IsIn (child side) cs) (ap (without size index) one ∙ without_same size index) r.is
+      subst (λ (cs : List ℕ). IsIn (child side) cs) (ap (without_size size index) one ∙ without_same size index) r.is
 
   pub kid_apart : (side : Bool) → 0 < child side → (child side + 48 < x + 32) ⊎ (x + 64 ≤ child side + 48)
   kid_apart side some =

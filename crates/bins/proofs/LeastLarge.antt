@@ -10,7 +10,7 @@ use Rattle.bins.specs.declared.fit.Fit.{Fit}
 use Rattle.bins.specs.Index.{IsIn, first_or, from, IsNone, IsLeastFit}
 use Rattle.bins.specs.Tries.{width}
 use Rattle.bins.specs.Linked.{IsLinked, low_of, levels_of}
-use Rattle.bins.specs.Fits.{IsReadable, IsFit, IsLesser, IsSearched}
+use Rattle.bins.specs.Fits.{IsReadable, IsBestFit, IsLesser, IsSearched}
 use Rattle.bins.proofs.Chunks.{same_or_not}
 use Rattle.bins.proofs.SmallBins.{in_from, least_large}
 use Rattle.bins.proofs.Opened.{none_in, empty}
@@ -68,7 +68,7 @@ module _ (regions : List Grant) (words : ℕ → ℕ) (bins : Bins) (index : ℕ
       (none_from (least_size 31) (least_size 31) (2 ^ 64) (omega arith) (λ n above below. l n (omega arith) (omega (arith, e))))
 
   -- the fit of a bin is that of the index
-  pub fit_up : (bin n low high : ℕ) (fit : Fit) → IsNone index n (least_size bin) ⊎ (least_size bin ≤ n) → IsFit (from (least_size bin) index) low high fit → (low ≤ n) ⊎ (low ≤ least_size bin) → (n ≤ least_size bin) ⊎ (n ≤ low) → IsLeastFit index n fit.chunk
+  pub fit_up : (bin n low high : ℕ) (fit : Fit) → IsNone index n (least_size bin) ⊎ (least_size bin ≤ n) → IsBestFit (from (least_size bin) index) low high fit → (low ≤ n) ⊎ (low ≤ least_size bin) → (n ≤ least_size bin) ⊎ (n ≤ low) → IsLeastFit index n fit.chunk
   fit_up bin n low high fit before f lower upper =
       let head : IsIn fit.chunk (from (least_size bin) index fit.size) = subst (λ (cs : List ℕ). IsIn fit.chunk cs) (sym f.oldest) (inl refl) in
       let there = in_from (least_size bin) index fit.size fit.chunk head in

@@ -1,9 +1,9 @@
 -- A chunk leaves the ring of a node of its size, in the words of the call.
 use Rattle.std.proofs.Common.{◌≡◌, ◌≢◌, ℕ, ◌+◌, ◌-◌, ◌*◌, ◌<◌, ◌≤◌, ◌⊎◌, inl, inr, Bool, List, [], ◌∷◌, refl, sym, ap, subst, ◌∙◌, arith}
 use Rattle.heap_memory.specs.declared.grant.Grant.{Grant}
-use Rattle.bins.specs.Index.{IsIn, AreDistinct, first_or, removed, without_chunk, without}
+use Rattle.bins.specs.Index.{IsIn, AreDistinct, first_or, removed, without_chunk, without_size}
 use Rattle.bins.specs.Tries.{both, width, IsTrie}
-use Rattle.bins.specs.Stores.{IsPlace, HasPulled, HasHeirLinks, HasPlaced}
+use Rattle.bins.specs.Stores.{IsWordPlace, HasPulled, HasHeirLinks, HasPlaced}
 use Rattle.bins.specs.Below.{IsHeld, OnlyHeldChanges}
 use Rattle.bins.proofs.Widths.{wide}
 use Rattle.bins.proofs.Lists.{removed_at, minus_same, minus_other, without_same, without_other}
@@ -44,13 +44,13 @@ module _ (regions : List Grant) (old : ℕ → ℕ) (index : ℕ → List ℕ) (
   wider : (new : ℕ → ℕ) → OnlyHeldChanges regions index low (low + 2 * width (levels - 1)) old new → OnlyHeldChanges regions index low (low + width levels) old new
   wider new h = subst (λ high. OnlyHeldChanges regions index low high old new) range h
 
-  pub u_at : (k : ℕ) → 0 < k → 8 * k < 64 → IsPlace regions (at + 8 * k)
+  pub u_at : (k : ℕ) → 0 < k → 8 * k < 64 → IsWordPlace regions (at + 8 * k)
   u_at k few more = let h = held.chunks.each size at at_in in let l = held.large size at at_in in record {
     small = omega (arith, h.high);
     word = h.granted (at + 8 * k) (omega arith) (omega arith) (omega (arith, h.aligned));
   }
 
-  pub u_chunk : (k : ℕ) → 0 < k → 8 * k < 64 → IsPlace regions (chunk + 8 * k)
+  pub u_chunk : (k : ℕ) → 0 < k → 8 * k < 64 → IsWordPlace regions (chunk + 8 * k)
   u_chunk k few more = let h = held.chunks.each size chunk chunk_in in let l = held.large size chunk chunk_in in record {
     small = omega (arith, h.high);
     word = h.granted (chunk + 8 * k) (omega arith) (omega arith) (omega (arith, h.aligned));
@@ -61,11 +61,11 @@ module _ (regions : List Grant) (old : ℕ → ℕ) (index : ℕ → List ℕ) (
     in_others : IsIn chunk u_o.node.others
     in_others = elim (subst (λ (cs : List ℕ). IsIn chunk cs) u_o.node.chunks (subst (λ s. IsIn chunk (index s)) (sym size_is) chunk_in)) [ inl is ↦ absurd (younger is) | inr is ↦ is ]
 
-    pub u_front : IsPlace regions (old (chunk + 16) + 24)
+    pub u_front : IsWordPlace regions (old (chunk + 16) + 24)
     u_front = ring_place regions old index bin parent low (levels - 1) at chunk (old (chunk + 16)) (old (chunk + 24)) held.chunks held.large u_o in_others refl refl (old (chunk + 16)) 3
         (prev_in regions old index bin parent low (levels - 1) at chunk (old (chunk + 16)) (old (chunk + 24)) held.chunks held.large u_o in_others refl refl) (omega arith) (omega arith)
 
-    pub u_back : IsPlace regions (old (chunk + 24) + 16)
+    pub u_back : IsWordPlace regions (old (chunk + 24) + 16)
     u_back = ring_place regions old index bin parent low (levels - 1) at chunk (old (chunk + 16)) (old (chunk + 24)) held.chunks held.large u_o in_others refl refl (old (chunk + 24)) 2
         (next_in regions old index bin parent low (levels - 1) at chunk (old (chunk + 16)) (old (chunk + 24)) held.chunks held.large u_o in_others refl refl) (omega arith) (omega arith)
 
@@ -82,29 +82,29 @@ module _ (regions : List Grant) (old : ℕ → ℕ) (index : ℕ → List ℕ) (
   pub u_alone : old (at + 24) ≡ at → index size ≡ at ∷ []
   u_alone is = ap index (sym size_is) ∙ (u_o.node.chunks ∙ ap (λ (cs : List ℕ). at ∷ cs) (alone_in at u_o.node.others (sym is ∙ u_o.node.ring.begins) once.0))
 
-  pub u_left : (new : ℕ → ℕ) (x : ℕ) → chunk ≡ at → index size ≡ at ∷ [] → IsTrie new (without size index) bin parent low levels x → IsTrie new (without_chunk size chunk index) bin parent low levels x
-  u_left new x oldest is h = trie_reindexed new bin (without size index) (without_chunk size chunk index) parent low levels x
+  pub u_left : (new : ℕ → ℕ) (x : ℕ) → chunk ≡ at → index size ≡ at ∷ [] → IsTrie new (without_size size index) bin parent low levels x → IsTrie new (without_chunk size chunk index) bin parent low levels x
+  u_left new x oldest is h = trie_reindexed new bin (without_size size index) (without_chunk size chunk index) parent low levels x
       (λ m a b. elim (same_or_not m size) [
         | inl e ↦ ap (without_chunk size chunk index) e ∙ (minus_same size chunk index ∙ (ap (λ (cs : List ℕ). removed chunk cs) (is ∙ ap (λ c. c ∷ []) (sym oldest)) ∙ (removed_at chunk [] [] ((λ n. n), tt)
-            ∙ sym (ap (without size index) e ∙ without_same size index))))
+            ∙ sym (ap (without_size size index) e ∙ without_same size index))))
         | inr e ↦ minus_other size chunk index m e ∙ sym (without_other size index m e)
       ]) h
 
   -- ---- the oldest, with an heir
   module _ (heir : ℕ) (heir_is : heir ≡ old (at + 24)) (other : heir ≢ at) where
-    pub u_here : (k : ℕ) → 1 < k → k < 8 → IsPlace regions (at + 8 * k)
+    pub u_here : (k : ℕ) → 1 < k → k < 8 → IsWordPlace regions (at + 8 * k)
     u_here = h_here regions old index bin parent low (levels - 1) at heir held.chunks held.large u_o heir_is other
 
-    pub u_own : (k : ℕ) → 1 < k → k < 8 → IsPlace regions (heir + 8 * k)
+    pub u_own : (k : ℕ) → 1 < k → k < 8 → IsWordPlace regions (heir + 8 * k)
     u_own = h_own regions old index bin parent low (levels - 1) at heir held.chunks held.large u_o heir_is other
 
-    pub u_behind : IsPlace regions (old (at + 16) + 24)
+    pub u_behind : IsWordPlace regions (old (at + 16) + 24)
     u_behind = h_behind regions old index bin parent low (levels - 1) at heir held.chunks held.large u_o heir_is other
 
     pub u_other : heir + 16 ≢ old (at + 16) + 24
     u_other = h_other regions old index bin parent low (levels - 1) at heir held.chunks held.large u_o heir_is other
 
-    pub u_places : (side : Bool) → 0 < both (old (at + 32)) (old (at + 40)) side → IsPlace regions (both (old (at + 32)) (old (at + 40)) side + 48)
+    pub u_places : (side : Bool) → 0 < both (old (at + 32)) (old (at + 40)) side → IsWordPlace regions (both (old (at + 32)) (old (at + 40)) side + 48)
     u_places = h_places regions old index bin parent low (levels - 1) at heir held.chunks held.large u_o heir_is other
 
     pub u_kids_apart : (side : Bool) → 0 < both (old (at + 32)) (old (at + 40)) side → (both (old (at + 32)) (old (at + 40)) side + 48 < heir + 32) ⊎ (heir + 64 ≤ both (old (at + 32)) (old (at + 40)) side + 48)

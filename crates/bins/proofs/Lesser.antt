@@ -5,9 +5,9 @@ use Rattle.heap_memory.specs.declared.grant.Grant.{Grant}
 use Rattle.dlmalloc_chunks.specs.Head.{size_of}
 use Rattle.bins.specs.declared.fit.Fit.{Fit}
 use Rattle.bins.specs.declared.search.Subtrie.{Subtrie}
-use Rattle.bins.specs.Index.{without, IsNone}
+use Rattle.bins.specs.Index.{without_size, IsNone}
 use Rattle.bins.specs.Tries.{slot, low_at, width, IsTrie}
-use Rattle.bins.specs.Fits.{IsReadable, IsFit, IsLesser, IsSearched}
+use Rattle.bins.specs.Fits.{IsReadable, IsBestFit, IsLesser, IsSearched}
 use Rattle.bins.proofs.Chunks.{same_or_not}
 use Rattle.bins.proofs.Widths.{wide}
 use Rattle.bins.proofs.Opened.{Opened, opened, none_in, levels_some}
@@ -28,7 +28,7 @@ module _ (index : ℕ → List ℕ) (s at : ℕ) (others : List ℕ) (chunks : i
   abbrev own : Fit
   own = record { size = s; chunk = at }
 
-  lesser_up : IsLesser (without s index) from high now.size now.chunk result → IsLesser index from high known_size known result
+  lesser_up : IsLesser (without_size s index) from high now.size now.chunk result → IsLesser index from high known_size known result
   lesser_up l = elim (cases_lt s from) [
     | inl before ↦ let k = same (inl before) in record {
       fit = l.fit;
@@ -52,7 +52,7 @@ module _ (index : ℕ → List ℕ) (s at : ℕ) (others : List ℕ) (chunks : i
     ]
   ]
 
-  lesser_own : from ≤ s → IsNone (without s index) from high → result ≡ now.chunk → IsLesser index from high known_size known result
+  lesser_own : from ≤ s → IsNone (without_size s index) from high → result ≡ now.chunk → IsLesser index from high known_size known result
   lesser_own enough none is = record {
     fit = own;
     is = own_fit index s at others chunks from high own refl refl enough below (λ m a b. none m a (omega arith));
@@ -60,7 +60,7 @@ module _ (index : ℕ → List ℕ) (s at : ℕ) (others : List ℕ) (chunks : i
     kept = λ less. is ∙ (same (inr less)).1;
   }
 
-  pub searched_up : from ≤ s → IsSearched (without s index) from high now.size now.chunk result → IsSearched index from high known_size known result
+  pub searched_up : from ≤ s → IsSearched (without_size s index) from high now.size now.chunk result → IsSearched index from high known_size known result
   searched_up enough (inl (none, is)) = inr (lesser_own enough none is)
   searched_up enough (inr l) = inr (lesser_up l)
 
@@ -70,7 +70,7 @@ module _ (index : ℕ → List ℕ) (s at : ℕ) (others : List ℕ) (chunks : i
     known_kept enough (inl (none, is)) = is
     known_kept enough (inr l) = l.kept (let above = l.is.above in elim (cases_lt known_size s) [ inl few ↦ (let k = same (inr few) in omega (arith, k.0)) | inr many ↦ (let k = other enough many in omega (arith, k.0)) ])
 
-    pub both_up : (IsNone (without s index) from high × IsSearched next next_low next_high now.size now.chunk result) ⊎ IsLesser (without s index) from high now.size now.chunk result →
+    pub both_up : (IsNone (without_size s index) from high × IsSearched next next_low next_high now.size now.chunk result) ⊎ IsLesser (without_size s index) from high now.size now.chunk result →
         (IsNone index from high × IsSearched next next_low next_high known_size known result) ⊎ IsLesser index from high known_size known result
     both_up (inr l) = inr (lesser_up l)
     both_up (inl (none, searched)) = elim (cases_lt s from) [
@@ -97,7 +97,7 @@ module _ (regions : List Grant) (old : ℕ → ℕ) (index : ℕ → List ℕ) (
   own_is = size_is ∙ node.node.head
 
   abbrev rest : ℕ → List ℕ
-  rest = without node.node.size index
+  rest = without_size node.node.size index
 
   other_is : (from : ℕ) → (from ≤ own.size → least ≤ own.size) → from ≤ node.node.size → node.node.size ≤ known.size → (now.size ≡ node.node.size) × (now.chunk ≡ at)
   other_is from to enough less = let e = other (to (omega (arith, own_is))) (omega (arith, own_is)) in (ap (λ (f : Fit). f.size) e ∙ own_is, ap (λ (f : Fit). f.chunk) e ∙ chunk_is)
@@ -200,7 +200,7 @@ exact_search regions old index low levels at some r size known_size known is eno
     let s = is ∙ o.node.head in
     let own : Fit = record { size = o.node.size; chunk = at } in record {
       fit = own;
-      is = subst (λ high. IsFit index size high own) (s_high regions old index low levels at some r)
+      is = subst (λ high. IsBestFit index size high own) (s_high regions old index low levels at some r)
           (own_fit index o.node.size at o.node.others o.node.chunks size (low + 2 * width (levels - 1)) own refl refl (omega (arith, s)) o.node.below (λ m a b. absurd (omega (arith, s))));
       found = λ e. refl;
       kept = λ e. absurd (omega (arith, s));
@@ -223,5 +223,5 @@ next_read regions old index low levels at some r side right right_is beside besi
         let e = turns (sym is) (omega arith) in
         let l = ap (λ (n : Subtrie). n.levels) e in
         let read = s_child regions old index low levels at some r true right (width (levels - 1)) right_is refl in
-        (omega (arith, l), (omega (arith, l), (without (q regions old index low levels at some r).node.size index, (low + width (levels - 1), subst (λ (n : Subtrie). IsReadable regions old (without (q regions old index low levels at some r).node.size index) (low + width (levels - 1)) n.levels n.at) (sym e) read))))
+        (omega (arith, l), (omega (arith, l), (without_size (q regions old index low levels at some r).node.size index, (low + width (levels - 1), subst (λ (n : Subtrie). IsReadable regions old (without_size (q regions old index low levels at some r).node.size index) (low + width (levels - 1)) n.levels n.at) (sym e) read))))
   ]

@@ -9,7 +9,7 @@ use Rattle.bins.specs.declared.bins.Bins.{Bins}
 use Rattle.bins.specs.Index.{IsIn, first_or, without_chunk, from}
 use Rattle.bins.specs.Tries.{slot, width, IsTrie}
 use Rattle.bins.specs.Linked.{IsLinked, OnlyLinksChange, low_of, levels_of}
-use Rattle.bins.specs.Stores.{IsPlace, HasRoot}
+use Rattle.bins.specs.Stores.{IsWordPlace, HasRoot}
 use Rattle.bins.specs.Below.{IsHeld, OnlyHeldChanges}
 use Rattle.bins.proofs.Opened.{opened}
 use Rattle.bins.proofs.TreeRanges.{levels_few, from_same}
@@ -28,7 +28,7 @@ root_words regions old index bin parent low levels at some held = let o = opened
 
 module _ (regions : List Grant) (old : ℕ → ℕ) (bins : Bins) (index : ℕ → List ℕ) (size chunk : ℕ) (large : 256 ≤ size) (linked : IsLinked regions old bins index)
     (chunk_in : IsIn chunk (index size)) (oldest : chunk ≡ first_or 0 (index size)) where
-  pub n_place : (k : ℕ) → 0 < k → 8 * k < 64 → IsPlace regions (chunk + 8 * k)
+  pub n_place : (k : ℕ) → 0 < k → 8 * k < 64 → IsWordPlace regions (chunk + 8 * k)
   n_place k some few = let h = linked.chunks.each size chunk chunk_in in record {
     small = omega (arith, h.high);
     word = h.granted (chunk + 8 * k) (omega arith) (omega arith) (omega (arith, h.aligned));
@@ -142,7 +142,7 @@ module _ (regions : List Grant) (old : ℕ → ℕ) (bins : Bins) (index : ℕ �
         own_words : OnlyHeldChanges regions u.own u.from (u.from + width u.deep) old mid
         own_words = words u.own u.from u.deep size (let l = u.less in let f = few in omega arith) u.held u.is_in
 
-        pub n_places : (side : Bool) → IsPlace regions (parent + slot side)
+        pub n_places : (side : Bool) → IsWordPlace regions (parent + slot side)
         n_places = u.places
 
         pub n_was : (side : Bool) × ((mid (parent + slot side) ≡ chunk) × (mid (parent + slot (not side)) ≢ chunk))

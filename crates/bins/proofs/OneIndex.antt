@@ -5,7 +5,7 @@ use Rattle.std.proofs.lemmas.Bool.{cases_lt}
 use Rattle.heap_memory.specs.declared.grant.Grant.{Grant}
 use Rattle.dlmalloc_chunks.specs.Bins.{least_size, IsTreeIndex}
 use Rattle.bins.specs.declared.bins.Bins.{Bins}
-use Rattle.bins.specs.Index.{IsIn, AreDistinct, first_or, without, from}
+use Rattle.bins.specs.Index.{IsIn, AreDistinct, first_or, without_size, from}
 use Rattle.bins.specs.Rings.{AreLinked, IsRing}
 use Rattle.bins.specs.Tries.{low_at, width, IsTrie}
 use Rattle.bins.specs.Linked.{IsLinked, low_of, levels_of}
@@ -62,8 +62,8 @@ module _ (words : ℕ → ℕ) (bin : ℕ) where
         | inr apart ↦
             let h = half_with low (width levels) n above below in
             let child : q.child h.0 ≡ p.child h.0 = sym (q.child_is h.0) ∙ p.child_is h.0 in
-            let theirs = subst (λ a. IsTrie words (without q.size other) bin at (low_at h.0 low (width levels)) levels a) child (qs h.0) in
-            let below' = same_trie (without p.size index) (without q.size other) at (low_at h.0 low (width levels)) levels (p.child h.0) (ps h.0) theirs
+            let theirs = subst (λ a. IsTrie words (without_size q.size other) bin at (low_at h.0 low (width levels)) levels a) child (qs h.0) in
+            let below' = same_trie (without_size p.size index) (without_size q.size other) at (low_at h.0 low (width levels)) levels (p.child h.0) (ps h.0) theirs
             (λ m. distinct_if (m == p.size) (index m) (once m)) (λ m. distinct_if (m == q.size) (other m) (once' m)) n h.1 h.2 in
             sym (without_other p.size index n apart) ∙ (below' ∙ without_other q.size other n (λ e. apart (e ∙ sym size)))
       ]

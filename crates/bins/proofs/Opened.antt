@@ -1,6 +1,6 @@
 -- A trie that is not empty, as its node and what stands below.
 use Rattle.std.proofs.Common.{◌≡◌, ◌≢◌, ℕ, zero, suc, ◌+◌, ◌-◌, ◌*◌, ◌<◌, ◌≤◌, ◌⊎◌, inl, inr, Bool, true, false, not, List, [], ◌∷◌, ◌++◌, refl, sym, ap, subst, ◌∙◌, arith}
-use Rattle.bins.specs.Index.{IsIn, with_chunk, without, IsNone}
+use Rattle.bins.specs.Index.{IsIn, with_chunk, without_size, IsNone}
 use Rattle.bins.specs.Tries.{slot, low_at, width, IsNode, IsTrie}
 use Rattle.bins.proofs.Frame.{linked_kept, trie_kept, in_without}
 use Rattle.bins.proofs.Reindexed.{AreAlike, trie_reindexed}
@@ -10,7 +10,7 @@ use Rattle.dlmalloc_chunks.specs.Head.{size_of}
 
 pub record Opened (words : ℕ → ℕ) (index : ℕ → List ℕ) (bin parent low n at : ℕ) : Type 0 where
   pub node : IsNode words index bin parent low (low + 2 * width n) at
-  pub children : (side : Bool) → IsTrie words (without node.size index) bin at (low_at side low (width n)) n (node.child side)
+  pub children : (side : Bool) → IsTrie words (without_size node.size index) bin at (low_at side low (width n)) n (node.child side)
 
 less_one : (n : ℕ) → n ≡ suc n - 1
 less_one n = omega arith
@@ -79,27 +79,27 @@ slot_at true = (5, (omega arith, (omega arith, refl)))
 
 -- ---- the indexes of children
 
-pub with_alike : (s size chunk : ℕ) (index : ℕ → List ℕ) (m : ℕ) → s ≢ size → without s (with_chunk size chunk index) m ≡ with_chunk size chunk (without s index) m
+pub with_alike : (s size chunk : ℕ) (index : ℕ → List ℕ) (m : ℕ) → s ≢ size → without_size s (with_chunk size chunk index) m ≡ with_chunk size chunk (without_size s index) m
 with_alike s size chunk index m apart = elim (same_or_not m s) [
-  | inl is ↦ subst (λ x. without s (with_chunk size chunk index) x ≡ with_chunk size chunk (without s index) x) (sym is)
-      (without_same s (with_chunk size chunk index) ∙ sym (with_other size chunk (without s index) s apart ∙ without_same s index))
+  | inl is ↦ subst (λ x. without_size s (with_chunk size chunk index) x ≡ with_chunk size chunk (without_size s index) x) (sym is)
+      (without_same s (with_chunk size chunk index) ∙ sym (with_other size chunk (without_size s index) s apart ∙ without_same s index))
   | inr not ↦ without_other s (with_chunk size chunk index) m not ∙ elim (same_or_not m size) [
-    | inl is ↦ subst (λ x. with_chunk size chunk index x ≡ with_chunk size chunk (without s index) x) (sym is)
-        (with_same size chunk index ∙ sym (with_same size chunk (without s index) ∙ ap (λ (cs : List ℕ). cs ++ chunk ∷ []) (without_other s index size (λ e. apart (sym e)))))
-    | inr other ↦ with_other size chunk index m other ∙ sym (with_other size chunk (without s index) m other ∙ without_other s index m not)
+    | inl is ↦ subst (λ x. with_chunk size chunk index x ≡ with_chunk size chunk (without_size s index) x) (sym is)
+        (with_same size chunk index ∙ sym (with_same size chunk (without_size s index) ∙ ap (λ (cs : List ℕ). cs ++ chunk ∷ []) (without_other s index size (λ e. apart (sym e)))))
+    | inr other ↦ with_other size chunk index m other ∙ sym (with_other size chunk (without_size s index) m other ∙ without_other s index m not)
   ]
 ]
 
-pub without_alike : (s size chunk : ℕ) (index : ℕ → List ℕ) (m : ℕ) → m ≢ size → without s (with_chunk size chunk index) m ≡ without s index m
+pub without_alike : (s size chunk : ℕ) (index : ℕ → List ℕ) (m : ℕ) → m ≢ size → without_size s (with_chunk size chunk index) m ≡ without_size s index m
 without_alike s size chunk index m other = elim (same_or_not m s) [
-  | inl is ↦ subst (λ x. without s (with_chunk size chunk index) x ≡ without s index x) (sym is) (without_same s (with_chunk size chunk index) ∙ sym (without_same s index))
+  | inl is ↦ subst (λ x. without_size s (with_chunk size chunk index) x ≡ without_size s index x) (sym is) (without_same s (with_chunk size chunk index) ∙ sym (without_same s index))
   | inr not ↦ without_other s (with_chunk size chunk index) m not ∙ (with_other size chunk index m other ∙ sym (without_other s index m not))
 ]
 
 -- the same size is in no child
-pub same_alike : (s chunk : ℕ) (index : ℕ → List ℕ) (m : ℕ) → without s (with_chunk s chunk index) m ≡ without s index m
+pub same_alike : (s chunk : ℕ) (index : ℕ → List ℕ) (m : ℕ) → without_size s (with_chunk s chunk index) m ≡ without_size s index m
 same_alike s chunk index m = elim (same_or_not m s) [
-  | inl is ↦ subst (λ x. without s (with_chunk s chunk index) x ≡ without s index x) (sym is) (without_same s (with_chunk s chunk index) ∙ sym (without_same s index))
+  | inl is ↦ subst (λ x. without_size s (with_chunk s chunk index) x ≡ without_size s index x) (sym is) (without_same s (with_chunk s chunk index) ∙ sym (without_same s index))
   | inr not ↦ without_other s (with_chunk s chunk index) m not ∙ (with_other s chunk index m not ∙ sym (without_other s index m not))
 ]
 
@@ -110,9 +110,9 @@ module _ (old new : ℕ → ℕ) (index : ℕ → List ℕ) (bin parent low n at
     (kept : (m c : ℕ) → IsIn c (index m) → (m ≡ o.node.size) ⊎ (low_at side low (width n) ≤ m → m < low_at side low (width n) + width n → ⊥) →
     (k : ℕ) → 0 < k → 8 * k < 64 → c + 8 * k ≢ at + slot side → new (c + 8 * k) ≡ old (c + 8 * k))
     (named : new (at + slot side) ≡ child)
-    (held : IsTrie new (with_chunk size chunk (without o.node.size index)) bin at (low_at side low (width n)) n child)
+    (held : IsTrie new (with_chunk size chunk (without_size o.node.size index)) bin at (low_at side low (width n)) n child)
     (alone : (c : ℕ) → IsIn c o.node.others → (k : ℕ) → 8 * k < 64 → c + 8 * k ≢ at + slot side)
-    (others_apart : (m c : ℕ) → IsIn c (without o.node.size index m) → (k : ℕ) → 8 * k < 64 → c + 8 * k ≢ at + slot side) where
+    (others_apart : (m c : ℕ) → IsIn c (without_size o.node.size index m) → (k : ℕ) → 8 * k < 64 → c + 8 * k ≢ at + slot side) where
   node_word : (k : ℕ) → 0 < k → 8 * k < 64 → 8 * k ≢ slot side → new (at + 8 * k) ≡ old (at + 8 * k)
   node_word k some few not = kept o.node.size at (subst (λ (cs : List ℕ). IsIn at cs) (sym o.node.chunks) (inl refl)) (inl refl) k some few (λ is. not (omega arith))
 
@@ -152,17 +152,17 @@ module _ (old new : ℕ → ℕ) (index : ℕ → List ℕ) (bin parent low n at
   unfolding new_node
   rebuilt =
       let s = o.node.size in
-      let here = trie_reindexed new bin (with_chunk size chunk (without s index)) (without s (with_chunk size chunk index)) at (low_at side low (width n)) n child
+      let here = trie_reindexed new bin (with_chunk size chunk (without_size s index)) (without_size s (with_chunk size chunk index)) at (low_at side low (width n)) n child
       (λ m low high. with_alike s size chunk index m apart) held in
-      let stays = trie_kept old new bin (without s index) at (low_at (not side) low (width n)) n (o.node.child (not side))
+      let stays = trie_kept old new bin (without_size s index) at (low_at (not side) low (width n)) n (o.node.child (not side))
       (λ m low' high' c is k some few. kept m c (in_without s index m c is) (inr (halves_apart side low (width n) m low' high')) k some few (others_apart m c is k few)) (o.children (not side)) in
-      let there = trie_reindexed new bin (without s index) (without s (with_chunk size chunk index)) at (low_at (not side) low (width n)) n (o.node.child (not side))
+      let there = trie_reindexed new bin (without_size s index) (without_size s (with_chunk size chunk index)) at (low_at (not side) low (width n)) n (o.node.child (not side))
       (λ m low' high'. without_alike s size chunk index m (λ is. halves_apart side low (width n) m low' high' (subst (λ x. low_at side low (width n) ≤ x) (sym is) above) (subst (λ x. x < low_at side low (width n) + width n) (sym is) below))) stays in
       record {
         node = new_node;
-        children = on_sides side (λ b. IsTrie new (without s (with_chunk size chunk index)) bin at (low_at b low (width n)) n (put side child (o.node.child (not side)) b))
-            (subst (λ x. IsTrie new (without s (with_chunk size chunk index)) bin at (low_at side low (width n)) n x) (sym (put_here side child (o.node.child (not side)))) here)
-            (subst (λ x. IsTrie new (without s (with_chunk size chunk index)) bin at (low_at (not side) low (width n)) n x) (sym (put_there side child (o.node.child (not side)))) there);
+        children = on_sides side (λ b. IsTrie new (without_size s (with_chunk size chunk index)) bin at (low_at b low (width n)) n (put side child (o.node.child (not side)) b))
+            (subst (λ x. IsTrie new (without_size s (with_chunk size chunk index)) bin at (low_at side low (width n)) n x) (sym (put_here side child (o.node.child (not side)))) here)
+            (subst (λ x. IsTrie new (without_size s (with_chunk size chunk index)) bin at (low_at (not side) low (width n)) n x) (sym (put_there side child (o.node.child (not side)))) there);
       }
 
 -- ---- a node of which one child changes
@@ -172,10 +172,10 @@ module _ (old new : ℕ → ℕ) (index index' : ℕ → List ℕ) (bin parent l
     (kept : (m c : ℕ) → IsIn c (index m) → (m ≡ o.node.size) ⊎ (low_at side low (width n) ≤ m → m < low_at side low (width n) + width n → ⊥) →
     (k : ℕ) → 0 < k → 8 * k < 64 → c + 8 * k ≢ at + slot side → new (c + 8 * k) ≡ old (c + 8 * k))
     (named : new (at + slot side) ≡ child)
-    (held : IsTrie new (without o.node.size index') bin at (low_at side low (width n)) n child)
-    (alike : AreAlike (without o.node.size index) (without o.node.size index') (low_at (not side) low (width n)) (low_at (not side) low (width n) + width n))
+    (held : IsTrie new (without_size o.node.size index') bin at (low_at side low (width n)) n child)
+    (alike : AreAlike (without_size o.node.size index) (without_size o.node.size index') (low_at (not side) low (width n)) (low_at (not side) low (width n) + width n))
     (alone : (c : ℕ) → IsIn c o.node.others → (k : ℕ) → 8 * k < 64 → c + 8 * k ≢ at + slot side)
-    (others_apart : (m c : ℕ) → IsIn c (without o.node.size index m) → (k : ℕ) → 8 * k < 64 → c + 8 * k ≢ at + slot side) where
+    (others_apart : (m c : ℕ) → IsIn c (without_size o.node.size index m) → (k : ℕ) → 8 * k < 64 → c + 8 * k ≢ at + slot side) where
   own_word : (k : ℕ) → 0 < k → 8 * k < 64 → 8 * k ≢ slot side → new (at + 8 * k) ≡ old (at + 8 * k)
   own_word k some few not = kept o.node.size at (subst (λ (cs : List ℕ). IsIn at cs) (sym o.node.chunks) (inl refl)) (inl refl) k some few (λ is. not (omega arith))
 
@@ -215,12 +215,12 @@ module _ (old new : ℕ → ℕ) (index index' : ℕ → List ℕ) (bin parent l
   unfolding turned_node
   turned =
       let s = o.node.size in
-      let stays = trie_kept old new bin (without s index) at (low_at (not side) low (width n)) n (o.node.child (not side))
+      let stays = trie_kept old new bin (without_size s index) at (low_at (not side) low (width n)) n (o.node.child (not side))
       (λ m low' high' c is k some few. kept m c (in_without s index m c is) (inr (halves_apart side low (width n) m low' high')) k some few (others_apart m c is k few)) (o.children (not side)) in
-      let there = trie_reindexed new bin (without s index) (without s index') at (low_at (not side) low (width n)) n (o.node.child (not side)) alike stays in
+      let there = trie_reindexed new bin (without_size s index) (without_size s index') at (low_at (not side) low (width n)) n (o.node.child (not side)) alike stays in
       record {
         node = turned_node;
-        children = on_sides side (λ b. IsTrie new (without s index') bin at (low_at b low (width n)) n (put side child (o.node.child (not side)) b))
-            (subst (λ x. IsTrie new (without s index') bin at (low_at side low (width n)) n x) (sym (put_here side child (o.node.child (not side)))) held)
-            (subst (λ x. IsTrie new (without s index') bin at (low_at (not side) low (width n)) n x) (sym (put_there side child (o.node.child (not side)))) there);
+        children = on_sides side (λ b. IsTrie new (without_size s index') bin at (low_at b low (width n)) n (put side child (o.node.child (not side)) b))
+            (subst (λ x. IsTrie new (without_size s index') bin at (low_at side low (width n)) n x) (sym (put_here side child (o.node.child (not side)))) held)
+            (subst (λ x. IsTrie new (without_size s index') bin at (low_at (not side) low (width n)) n x) (sym (put_there side child (o.node.child (not side)))) there);
       }

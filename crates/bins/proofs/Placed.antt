@@ -2,7 +2,7 @@
 use Rattle.std.proofs.Common.{◌≡◌, ◌≢◌, ℕ, zero, suc, ◌+◌, ◌*◌, ◌<◌, ◌≤◌, inl, inr, Bool, not, List, ◌∷◌, refl, sym, ap, subst, ◌∙◌, arith}
 use Rattle.heap_memory.specs.declared.grant.Grant.{Grant}
 use Rattle.dlmalloc_chunks.specs.Head.{size_of}
-use Rattle.bins.specs.Index.{IsIn, AreDistinct, without}
+use Rattle.bins.specs.Index.{IsIn, AreDistinct, without_size}
 use Rattle.bins.specs.Rings.{IsRing}
 use Rattle.bins.specs.Tries.{low_at, width, IsTrie}
 use Rattle.bins.specs.Linked.{AreChunks}
@@ -30,7 +30,7 @@ module _ (regions : List Grant) (mid new : ℕ → ℕ) (index : ℕ → List �
     (chunks : AreChunks regions mid index) (large : (m c : ℕ) → IsIn c (index m) → 256 ≤ m)
     (above : low ≤ size) (below : size < low + 2 * width n) (listed : index size ≡ x ∷ others)
     (ring : IsRing mid x (mid (x + 24)) (mid (x + 16)) others)
-    (tries : (side : Bool) → IsTrie mid (without size index) bin (parent_of side) (low_at side low (width n)) n (child side))
+    (tries : (side : Bool) → IsTrie mid (without_size size index) bin (parent_of side) (low_at side low (width n)) n (child side))
     (placed : HasPlaced regions mid x child parent bin new) where
   x_in : IsIn x (index size)
   x_in = subst (λ (cs : List ℕ). IsIn x cs) (sym listed) (inl refl)
@@ -41,12 +41,12 @@ module _ (regions : List Grant) (mid new : ℕ → ℕ) (index : ℕ → List �
   once : AreDistinct (x ∷ others)
   once = subst (λ (cs : List ℕ). AreDistinct cs) listed (chunks.once size)
 
-  root : (side : Bool) → 0 < child side → IsRoot (without size index) (low_at side low (width n)) (low_at side low (width n) + width n) (child side)
-  root side some = root_in mid (without size index) bin (parent_of side) (low_at side low (width n)) n (child side) some (tries side)
+  root : (side : Bool) → 0 < child side → IsRoot (without_size size index) (low_at side low (width n)) (low_at side low (width n) + width n) (child side)
+  root side some = root_in mid (without_size size index) bin (parent_of side) (low_at side low (width n)) n (child side) some (tries side)
 
-  of_child : (m c d : ℕ) → IsIn c (without size index m) → IsIn d (index size) → c ≢ d
+  of_child : (m c d : ℕ) → IsIn c (without_size size index m) → IsIn d (index size) → c ≢ d
   of_child m c d c_in d_in same = elim (same_or_not m size) [
-    | inl here ↦ subst (λ (cs : List ℕ). IsIn c cs) (ap (without size index) here ∙ without_same size index) c_in
+    | inl here ↦ subst (λ (cs : List ℕ). IsIn c cs) (ap (without_size size index) here ∙ without_same size index) c_in
     | inr other ↦ other (one_size regions mid mid index m size c chunks (in_without size index m c c_in) (subst (λ y. IsIn y (index size)) (sym same) d_in))
   ]
 
@@ -70,10 +70,10 @@ module _ (regions : List Grant) (mid new : ℕ → ℕ) (index : ℕ → List �
       ])
 
   -- a chunk of one half is not the node of the other
-  half_apart : (side : Bool) (m c : ℕ) → low_at side low (width n) ≤ m → m < low_at side low (width n) + width n → IsIn c (without size index m) → 0 < child (not side) → c ≢ child (not side)
+  half_apart : (side : Bool) (m c : ℕ) → low_at side low (width n) ≤ m → m < low_at side low (width n) + width n → IsIn c (without_size size index m) → 0 < child (not side) → c ≢ child (not side)
   half_apart side m c a b c_in real same =
       let r = root (not side) real in
-      let one = one_size regions mid mid index m r.size c chunks (in_without size index m c c_in) (in_without size index r.size c (subst (λ y. IsIn y (without size index r.size)) (sym same) r.is)) in
+      let one = one_size regions mid mid index m r.size c chunks (in_without size index m c c_in) (in_without size index r.size c (subst (λ y. IsIn y (without_size size index r.size)) (sym same) r.is)) in
       halves_apart side low (width n) r.size r.above r.below (omega arith) (omega arith)
 
   pub placed_opened : Opened new index bin parent low n x
@@ -102,7 +102,7 @@ module _ (regions : List Grant) (mid new : ℕ → ℕ) (index : ℕ → List �
           parent_is = placed.parent_is;
           bin_is = placed.bin_is;
         };
-        children = λ side. adopted regions mid new (without size index) bin (parent_of side) x (chunks_without regions mid index size chunks) (low_at side low (width n)) n (child side)
+        children = λ side. adopted regions mid new (without_size size index) bin (parent_of side) x (chunks_without regions mid index size chunks) (low_at side low (width n)) n (child side)
             (λ m d a b d_in k some few own_child. placed_word m d k (in_without size index m d d_in) some few (λ e. absurd (of_child m d x d_in x_in e))
             (on_sides side (λ s. 0 < child s → d ≡ child s → k ≢ 6) (λ real e. own_child e) (λ real e. absurd (half_apart side m d a b d_in real e))))
             (placed.adopted side) (tries side);

@@ -3,7 +3,7 @@ use Rattle.std.proofs.Common.{◌≡◌, ◌≢◌, ℕ, ◌+◌, ◌*◌, ◌<�
 use Rattle.heap_memory.specs.declared.grant.Grant.{Grant}
 use Rattle.heap_memory.specs.Regions.{IsWordOf}
 use Rattle.bins.specs.Tries.{slot, both}
-use Rattle.bins.specs.Stores.{IsPlace, HasNode, HasPlaced}
+use Rattle.bins.specs.Stores.{IsWordPlace, HasNode, HasPlaced}
 
 -- a child's parent word was stored, where there is one
 pub record HasAdopted (regions : List Grant) (old : ℕ → ℕ) (child chunk : ℕ) (new : ℕ → ℕ) : Type 0 where
@@ -11,8 +11,8 @@ pub record HasAdopted (regions : List Grant) (old : ℕ → ℕ) (child chunk : 
   pub elsewhere : (at : ℕ) → IsWordOf regions at → (0 < child → at ≢ child + 48) → new at ≡ old at
 
 module _ (r : List Grant) (w0 w1 w2 w3 : ℕ → ℕ) (chunk child0 child1 parent bin : ℕ)
-    (own : (k : ℕ) → 1 < k → k < 8 → IsPlace r (chunk + 8 * k))
-    (places : (side : Bool) → 0 < both child0 child1 side → IsPlace r (both child0 child1 side + 48))
+    (own : (k : ℕ) → 1 < k → k < 8 → IsWordPlace r (chunk + 8 * k))
+    (places : (side : Bool) → 0 < both child0 child1 side → IsWordPlace r (both child0 child1 side + 48))
     (apart : (side : Bool) → 0 < both child0 child1 side → (both child0 child1 side + 48 < chunk + 32) ⊎ (chunk + 64 ≤ both child0 child1 side + 48))
     (two : 0 < child0 → 0 < child1 → child0 ≢ child1)
     (node : HasNode r w0 chunk child0 child1 parent bin w1) (first : HasAdopted r w1 child0 chunk w2) (second : HasAdopted r w2 child1 chunk w3) where

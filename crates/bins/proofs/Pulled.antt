@@ -12,7 +12,7 @@ use Rattle.bins.specs.Index.{IsIn, AreDistinct, first_or, last_or, removed, with
 use Rattle.bins.specs.Rings.{AreLinked, IsRing, IsSame}
 use Rattle.bins.specs.Tries.{IsTrie}
 use Rattle.bins.specs.Linked.{AreChunks, IsSmallBin, IsTreeBin, IsLinked, OnlyLinksChange, low_of, levels_of}
-use Rattle.bins.specs.Stores.{IsPlace, HasPulled, HasLess}
+use Rattle.bins.specs.Stores.{IsWordPlace, HasPulled, HasLess}
 use Rattle.bins.proofs.Frame.{linked_kept, trie_kept}
 use Rattle.bins.proofs.Reindexed.{trie_reindexed}
 use Rattle.bins.proofs.Lists.{parted, last_in, last_append, in_front, in_back, distinct_less, apart, in_removed, removed_at, minus_same, minus_other}
@@ -108,13 +108,13 @@ module _ (regions : List Grant) (old : ℕ → ℕ) (bins : Bins) (index : ℕ �
   pub next_in : next ≢ tag → IsIn next place.back
   next_in not = elim (first_is tag next place.back place.next_is) [ inl none ↦ absurd (not none.1) | inr there ↦ there ]
 
-  pub own_place : (k : ℕ) → k < 4 → 0 < k → IsPlace regions (chunk + 8 * k)
+  pub own_place : (k : ℕ) → k < 4 → 0 < k → IsWordPlace regions (chunk + 8 * k)
   own_place k few some = let c = linked.chunks.each size chunk is_in in record { small = omega (arith, c.high, c.long); word = c.granted (chunk + 8 * k) (omega arith) (omega (arith, c.long)) (omega (arith, c.aligned)) }
 
-  pub prev_place : prev ≢ tag → IsPlace regions (prev + 24)
+  pub prev_place : prev ≢ tag → IsWordPlace regions (prev + 24)
   prev_place not = let c = linked.chunks.each size prev (in_ring_front prev (prev_in not)) in record { small = omega (arith, c.high, c.long); word = c.granted (prev + 24) (omega arith) (omega (arith, c.long)) (omega (arith, c.aligned)) }
 
-  pub next_place : next ≢ tag → IsPlace regions (next + 16)
+  pub next_place : next ≢ tag → IsWordPlace regions (next + 16)
   next_place not = let c = linked.chunks.each size next (in_ring_back next (next_in not)) in record { small = omega (arith, c.high, c.long); word = c.granted (next + 16) (omega arith) (omega (arith, c.long)) (omega (arith, c.aligned)) }
 
   pub places_apart : prev ≢ tag → next ≢ tag → prev + 24 ≢ next + 16

@@ -1,7 +1,7 @@
 -- A trie of an index is one of each index that is the same in its range.
 use Rattle.std.proofs.Common.{◌≡◌, ℕ, zero, suc, ◌+◌, ◌*◌, ◌<◌, ◌≤◌, inl, inr, ◌==◌, List, [], ap, ◌∙◌}
 use Rattle.std.specs.Prelude.{if◌then◌else◌}
-use Rattle.bins.specs.Index.{without}
+use Rattle.bins.specs.Index.{without_size}
 use Rattle.bins.specs.Tries.{low_at, width, IsNode, IsTrie}
 use Rattle.bins.proofs.Frame.{in_half}
 
@@ -32,6 +32,6 @@ module _ (words : ℕ → ℕ) (bin : ℕ) where
   trie_reindexed old new parent low (suc levels) at alike (inl (none, empty)) = inl (none, (λ n above below. alike n above below ∙ empty n above below))
   trie_reindexed old new parent low (suc levels) at alike (inr (node, children)) = inr (
     node_reindexed old new parent low (low + 2 * width levels) at alike node,
-    λ side. trie_reindexed (without node.size old) (without node.size new) at (low_at side low (width levels)) levels (node.child side)
+    λ side. trie_reindexed (without_size node.size old) (without_size node.size new) at (low_at side low (width levels)) levels (node.child side)
         (λ n above below. let half = in_half side low (width levels) n above below in ap (λ (cs : List ℕ). if n == node.size then [] else cs) (alike n half.0 half.1)) (children side),
   )

@@ -2,11 +2,11 @@
 use Rattle.std.proofs.Common.{◌≡◌, ◌≢◌, ℕ, ◌+◌, ◌*◌, ◌<◌, ◌≤◌, ◌⊎◌, inl, inr, true, false, List, ◌∷◌, ◌++◌, refl, sym, ap, subst, ◌∙◌, arith}
 use Rattle.heap_memory.specs.declared.grant.Grant.{Grant}
 use Rattle.dlmalloc_chunks.specs.Head.{size_of}
-use Rattle.bins.specs.Index.{IsIn, AreDistinct, removed, without_chunk, without}
+use Rattle.bins.specs.Index.{IsIn, AreDistinct, removed, without_chunk, without_size}
 use Rattle.bins.specs.Rings.{IsRing}
 use Rattle.bins.specs.Tries.{slot, low_at, width}
 use Rattle.bins.specs.Linked.{AreChunks}
-use Rattle.bins.specs.Stores.{IsPlace, HasPulled}
+use Rattle.bins.specs.Stores.{IsWordPlace, HasPulled}
 use Rattle.bins.specs.Below.{OnlyHeldChanges}
 use Rattle.bins.proofs.Frame.{trie_kept, in_without}
 use Rattle.bins.proofs.Reindexed.{trie_reindexed}
@@ -17,9 +17,9 @@ use Rattle.bins.proofs.SmallBins.{last_is}
 use Rattle.bins.proofs.Pulled.{Between, between, first_is, first_pulled, last_pulled}
 use Rattle.bins.proofs.Opened.{Opened}
 
-pub minus_alike : (s chunk : ℕ) (index : ℕ → List ℕ) (m : ℕ) → without s (without_chunk s chunk index) m ≡ without s index m
+pub minus_alike : (s chunk : ℕ) (index : ℕ → List ℕ) (m : ℕ) → without_size s (without_chunk s chunk index) m ≡ without_size s index m
 minus_alike s chunk index m = elim (same_or_not m s) [
-  | inl is ↦ subst (λ x. without s (without_chunk s chunk index) x ≡ without s index x) (sym is) (without_same s (without_chunk s chunk index) ∙ sym (without_same s index))
+  | inl is ↦ subst (λ x. without_size s (without_chunk s chunk index) x ≡ without_size s index x) (sym is) (without_same s (without_chunk s chunk index) ∙ sym (without_same s index))
   | inr other ↦ without_other s (without_chunk s chunk index) m other ∙ (minus_other s chunk index m other ∙ sym (without_other s index m other))
 ]
 
@@ -64,7 +64,7 @@ module _ (regions : List Grant) (old : ℕ → ℕ) (index : ℕ → List ℕ) (
       let lm = large m c c_in in let ld = large o.node.size d d_in in
       elim (chunks.apart m c o.node.size d c_in d_in other) [ inl below ↦ (λ e. omega arith) | inr above ↦ (λ e. omega arith) ]
 
-  pub ring_place : (c k : ℕ) → IsIn c (index o.node.size) → 0 < k → 8 * k < 64 → IsPlace regions (c + 8 * k)
+  pub ring_place : (c k : ℕ) → IsIn c (index o.node.size) → 0 < k → 8 * k < 64 → IsWordPlace regions (c + 8 * k)
   ring_place c k c_in some few = let h = chunks.each o.node.size c c_in in let l = large o.node.size c c_in in record {
     small = omega (arith, h.high);
     word = h.granted (c + 8 * k) (omega arith) (omega arith) (omega (arith, h.aligned));
@@ -96,9 +96,9 @@ module _ (regions : List Grant) (old : ℕ → ℕ) (index : ℕ → List ℕ) (
   index_less = minus_same o.node.size chunk index ∙ (ap (λ (cs : List ℕ). removed chunk cs) (o.node.chunks ∙ ap (λ (cs : List ℕ). at ∷ cs) place.is)
       ∙ removed_at chunk (at ∷ place.front) place.back (subst (λ (cs : List ℕ). AreDistinct (at ∷ cs)) place.is once))
 
-  of_child : (m c d : ℕ) → IsIn c (without o.node.size index m) → IsIn d (index o.node.size) → c ≢ d
+  of_child : (m c d : ℕ) → IsIn c (without_size o.node.size index m) → IsIn d (index o.node.size) → c ≢ d
   of_child m c d c_in d_in same = elim (same_or_not m o.node.size) [
-    | inl here ↦ subst (λ (cs : List ℕ). IsIn c cs) (ap (without o.node.size index) here ∙ without_same o.node.size index) c_in
+    | inl here ↦ subst (λ (cs : List ℕ). IsIn c cs) (ap (without_size o.node.size index) here ∙ without_same o.node.size index) c_in
     | inr other ↦ other (one_size regions old old index m o.node.size c chunks (in_without o.node.size index m c c_in) (subst (λ x. IsIn x (index o.node.size)) (sym same) d_in))
   ]
 
@@ -153,10 +153,10 @@ module _ (regions : List Grant) (old : ℕ → ℕ) (index : ℕ → List ℕ) (
             bin_is = own 7 (omega arith) (omega arith) (λ e. omega arith) (λ e. omega arith) ∙ d.bin_is;
           };
           children = λ side.
-              let stays = trie_kept old new bin (without d.size index) at (low_at side low (width n)) n (d.child side)
+              let stays = trie_kept old new bin (without_size d.size index) at (low_at side low (width n)) n (d.child side)
               (λ m a b c is k some few. pulled_word m c k (in_without d.size index m c is) some few
               (λ e. absurd (of_child m c prev is prev_in e)) (λ e. absurd (of_child m c next is next_in e))) (o.children side) in
-              trie_reindexed new bin (without d.size index) (without d.size (without_chunk d.size chunk index)) at (low_at side low (width n)) n (d.child side)
+              trie_reindexed new bin (without_size d.size index) (without_size d.size (without_chunk d.size chunk index)) at (low_at side low (width n)) n (d.child side)
               (λ m a b. minus_alike d.size chunk index m) stays;
         }
 

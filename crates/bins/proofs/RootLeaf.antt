@@ -2,10 +2,10 @@
 use Rattle.std.proofs.Common.{◌≡◌, ℕ, ◌+◌, ◌-◌, ◌*◌, ◌<◌, ◌≤◌, inl, inr, true, false, List, [], ◌∷◌, ◌++◌, ap, ◌∙◌, arith}
 use Rattle.heap_memory.specs.declared.grant.Grant.{Grant}
 use Rattle.dlmalloc_chunks.specs.Head.{size_of}
-use Rattle.bins.specs.Index.{with_chunk, without, IsNone}
+use Rattle.bins.specs.Index.{with_chunk, without_size, IsNone}
 use Rattle.bins.specs.Tries.{slot, low_at, width, IsTrie}
-use Rattle.bins.specs.Linked.{IsFresh}
-use Rattle.bins.specs.Stores.{IsPlace, HasLinks, HasNode}
+use Rattle.bins.specs.Linked.{IsFreshChunk}
+use Rattle.bins.specs.Stores.{IsWordPlace, HasLinks, HasNode}
 use Rattle.bins.specs.Below.{IsHeld, OnlyRangeChanges}
 use Rattle.bins.proofs.Frame.{in_half}
 use Rattle.bins.proofs.Widths.{wide}
@@ -14,8 +14,8 @@ use Rattle.bins.proofs.Chunks.{same_or_not}
 use Rattle.bins.proofs.Opened.{Opened, closed, none_in, empty}
 
 module _ (regions : List Grant) (old : ℕ → ℕ) (index : ℕ → List ℕ) (bin parent low levels root size chunk : ℕ)
-    (held : IsHeld regions old index bin parent low levels root) (fresh : IsFresh regions old index size chunk) (big : 256 ≤ size) where
-  pub r_own : (k : ℕ) → 1 < k → k < 8 → IsPlace regions (chunk + 8 * k)
+    (held : IsHeld regions old index bin parent low levels root) (fresh : IsFreshChunk regions old index size chunk) (big : 256 ≤ size) where
+  pub r_own : (k : ℕ) → 1 < k → k < 8 → IsWordPlace regions (chunk + 8 * k)
   r_own k some few = let f = fresh.is in record { small = omega (arith, f.high); word = f.granted (chunk + 8 * k) (omega arith) (omega arith) (omega (arith, f.aligned)) }
 
   module _ (zero_root : root ≡ 0) (deep : 0 < levels) (above : low ≤ size) (below : size < low + width levels)
@@ -48,9 +48,9 @@ module _ (regions : List Grant) (old : ℕ → ℕ) (index : ℕ → List ℕ) (
             parent_is = node.parent_is;
             bin_is = node.bin_is;
           };
-          children = λ b. empty new (without size (with_chunk size chunk index)) bin chunk (low_at b low (width (levels - 1))) (levels - 1)
+          children = λ b. empty new (without_size size (with_chunk size chunk index)) bin chunk (low_at b low (width (levels - 1))) (levels - 1)
               (λ x a c. let half = in_half b low (width (levels - 1)) x a c in elim (same_or_not x size) [
-                | inl e ↦ ap (without size (with_chunk size chunk index)) e ∙ without_same size (with_chunk size chunk index)
+                | inl e ↦ ap (without_size size (with_chunk size chunk index)) e ∙ without_same size (with_chunk size chunk index)
                 | inr e ↦ without_other size (with_chunk size chunk index) x e ∙ (with_other size chunk index x e ∙ none x half.0 (omega (arith, half.1, w)))
               ]);
         }

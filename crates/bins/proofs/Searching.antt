@@ -4,10 +4,10 @@ use Rattle.std.proofs.lemmas.Bool.{cases_lt}
 use Rattle.heap_memory.specs.declared.grant.Grant.{Grant}
 use Rattle.dlmalloc_chunks.specs.Chunk.{HasHead}
 use Rattle.bins.specs.declared.fit.Fit.{Fit}
-use Rattle.bins.specs.Index.{IsIn, without, IsNone}
+use Rattle.bins.specs.Index.{IsIn, without_size, IsNone}
 use Rattle.bins.specs.Tries.{slot, low_at, width, IsTrie}
-use Rattle.bins.specs.Stores.{IsPlace}
-use Rattle.bins.specs.Fits.{IsReadable, IsFit}
+use Rattle.bins.specs.Stores.{IsWordPlace}
+use Rattle.bins.specs.Fits.{IsReadable, IsBestFit}
 use Rattle.bins.proofs.Frame.{in_without}
 use Rattle.bins.proofs.Widths.{wide}
 use Rattle.bins.proofs.Opened.{Opened, opened, levels_some}
@@ -17,13 +17,13 @@ use Rattle.bins.proofs.TrieEntry.{chunks_without}
 -- ---- what is found without a node's size, and with it
 
 module _ (index : ℕ → List ℕ) (s at : ℕ) (others : List ℕ) (chunks : index s ≡ at ∷ others) where
-  pub none_up : (from high : ℕ) → s < from → IsNone (without s index) from high → IsNone index from high
+  pub none_up : (from high : ℕ) → s < from → IsNone (without_size s index) from high → IsNone index from high
   none_up from high before none m above below = sym (without_other s index m (λ is. omega arith)) ∙ none m above below
 
-  pub fit_apart : (from high : ℕ) (f : Fit) → IsFit (without s index) from high f → f.size ≢ s
-  fit_apart from high f fit is = let none = ap (without s index) is ∙ without_same s index in let some = fit.oldest in cc
+  pub fit_apart : (from high : ℕ) (f : Fit) → IsBestFit (without_size s index) from high f → f.size ≢ s
+  fit_apart from high f fit is = let none = ap (without_size s index) is ∙ without_same s index in let some = fit.oldest in cc
 
-  pub fit_up : (from high : ℕ) (f : Fit) → IsFit (without s index) from high f → (s < from) ⊎ (f.size < s) → IsFit index from high f
+  pub fit_up : (from high : ℕ) (f : Fit) → IsBestFit (without_size s index) from high f → (s < from) ⊎ (f.size < s) → IsBestFit index from high f
   fit_up from high f fit outside = record {
     above = fit.above;
     below = fit.below;
@@ -32,7 +32,7 @@ module _ (index : ℕ → List ℕ) (s at : ℕ) (others : List ℕ) (chunks : i
     oldest = sym (without_other s index f.size (fit_apart from high f fit)) ∙ fit.oldest;
   }
 
-  pub own_fit : (from high : ℕ) (own : Fit) → own.size ≡ s → own.chunk ≡ at → from ≤ s → s < high → IsNone (without s index) from s → IsFit index from high own
+  pub own_fit : (from high : ℕ) (own : Fit) → own.size ≡ s → own.chunk ≡ at → from ≤ s → s < high → IsNone (without_size s index) from s → IsBestFit index from high own
   own_fit from high own size_is chunk_is above below none = record {
     above = omega arith;
     below = omega arith;
@@ -43,10 +43,10 @@ module _ (index : ℕ → List ℕ) (s at : ℕ) (others : List ℕ) (chunks : i
 
 -- ---- halves
 
-pub fit_wider : (index : ℕ → List ℕ) (from high high' : ℕ) (f : Fit) → high ≤ high' → IsFit index from high f → IsFit index from high' f
+pub fit_wider : (index : ℕ → List ℕ) (from high high' : ℕ) (f : Fit) → high ≤ high' → IsBestFit index from high f → IsBestFit index from high' f
 fit_wider index from high high' f wider fit = record { above = fit.above; below = omega (arith, fit.below); least = fit.least; others = fit.others; oldest = fit.oldest }
 
-pub fit_behind : (index : ℕ → List ℕ) (from middle high : ℕ) (f : Fit) → from ≤ middle → IsNone index from middle → IsFit index middle high f → IsFit index from high f
+pub fit_behind : (index : ℕ → List ℕ) (from middle high : ℕ) (f : Fit) → from ≤ middle → IsNone index from middle → IsBestFit index middle high f → IsBestFit index from high f
 fit_behind index from middle high f before none fit = record {
   above = omega (arith, fit.above);
   below = fit.below;
@@ -88,10 +88,10 @@ module _ (regions : List Grant) (old : ℕ → ℕ) (index : ℕ → List ℕ) (
     granted = c.granted (at + 8) (omega arith) (omega (arith, c.long)) (omega (arith, c.aligned));
   }
 
-  pub s_slot : (side : Bool) → IsPlace regions (at + slot side)
+  pub s_slot : (side : Bool) → IsWordPlace regions (at + slot side)
   s_slot side =
       let c = r.chunks.each q.node.size at at_in in let l = r.large q.node.size at at_in in
-      elim side as (λ b. IsPlace regions (at + slot b)) [
+      elim side as (λ b. IsWordPlace regions (at + slot b)) [
         | false ↦ record { small = omega (arith, c.high); word = c.granted (at + 32) (omega arith) (omega arith) (omega (arith, c.aligned)) }
         | true ↦ record { small = omega (arith, c.high); word = c.granted (at + 40) (omega arith) (omega arith) (omega (arith, c.aligned)) }
       ]
@@ -99,11 +99,11 @@ module _ (regions : List Grant) (old : ℕ → ℕ) (index : ℕ → List ℕ) (
   pub s_high : low + 2 * width (levels - 1) ≡ low + width levels
   s_high = ap (λ w. low + w) (sym (wide levels s_levels))
 
-  pub s_trie : (side : Bool) (child half : ℕ) → child ≡ old (at + slot side) → half ≡ width (levels - 1) → IsTrie old (without q.node.size index) r.bin at (low_at side low half) (levels - 1) child
-  s_trie side child half child_is half_is = subst (λ h. IsTrie old (without q.node.size index) r.bin at (low_at side low h) (levels - 1) child) (sym half_is)
-      (subst (λ x. IsTrie old (without q.node.size index) r.bin at (low_at side low (width (levels - 1))) (levels - 1) x) (sym (child_is ∙ q.node.child_is side)) (q.children side))
+  pub s_trie : (side : Bool) (child half : ℕ) → child ≡ old (at + slot side) → half ≡ width (levels - 1) → IsTrie old (without_size q.node.size index) r.bin at (low_at side low half) (levels - 1) child
+  s_trie side child half child_is half_is = subst (λ h. IsTrie old (without_size q.node.size index) r.bin at (low_at side low h) (levels - 1) child) (sym half_is)
+      (subst (λ x. IsTrie old (without_size q.node.size index) r.bin at (low_at side low (width (levels - 1))) (levels - 1) x) (sym (child_is ∙ q.node.child_is side)) (q.children side))
 
-  pub s_child : (side : Bool) (child half : ℕ) → child ≡ old (at + slot side) → half ≡ width (levels - 1) → IsReadable regions old (without q.node.size index) (low_at side low half) (levels - 1) child
+  pub s_child : (side : Bool) (child half : ℕ) → child ≡ old (at + slot side) → half ≡ width (levels - 1) → IsReadable regions old (without_size q.node.size index) (low_at side low half) (levels - 1) child
   s_child side child half child_is half_is = record {
     bin = r.bin;
     parent = at;

@@ -13,8 +13,8 @@ use Rattle.bins.specs.declared.bins.Bins.{Bins}
 use Rattle.bins.specs.Index.{IsIn, first_or, last_or, with_chunk, from}
 use Rattle.bins.specs.Rings.{AreLinked, IsRing, IsSame}
 use Rattle.bins.specs.Tries.{IsTrie}
-use Rattle.bins.specs.Linked.{AreChunks, IsFresh, IsSmallBin, IsTreeBin, IsLinked, OnlyLinksChange, low_of, levels_of}
-use Rattle.bins.specs.Stores.{IsPlace, HasPushed, HasNewest}
+use Rattle.bins.specs.Linked.{AreChunks, IsFreshChunk, IsSmallBin, IsTreeBin, IsLinked, OnlyLinksChange, low_of, levels_of}
+use Rattle.bins.specs.Stores.{IsWordPlace, HasPushed, HasNewest}
 use Rattle.bins.proofs.Frame.{linked_kept, trie_kept}
 use Rattle.bins.proofs.Reindexed.{trie_reindexed}
 use Rattle.bins.proofs.Lists.{last_in, last_append, with_same, with_other}
@@ -53,7 +53,7 @@ least_large bin =
     omega arith
 
 module _ (regions : List Grant) (old new : ℕ → ℕ) (index : ℕ → List ℕ) (size chunk last tag : ℕ)
-    (chunks : AreChunks regions old index) (fresh : IsFresh regions old index size chunk) (pushed : HasPushed regions old last tag chunk new)
+    (chunks : AreChunks regions old index) (fresh : IsFreshChunk regions old index size chunk) (pushed : HasPushed regions old last tag chunk new)
     (last_of : ((index size ≡ []) × (last ≡ tag)) ⊎ IsIn last (index size)) (tag_small : tag < 4096) where
   last_in_index : last ≢ tag → IsIn last (index size)
   last_in_index not = elim last_of [ inl none ↦ absurd (not none.1) | inr is ↦ is ]
@@ -108,7 +108,7 @@ module _ (regions : List Grant) (old new : ℕ → ℕ) (index : ℕ → List �
 
 -- what stands at entry
 module _ (regions : List Grant) (old : ℕ → ℕ) (bins : Bins) (index : ℕ → List ℕ) (size chunk last tag : ℕ)
-    (linked : IsLinked regions old bins index) (fresh : IsFresh regions old index size chunk) (small : size < 256)
+    (linked : IsLinked regions old bins index) (fresh : IsFreshChunk regions old index size chunk) (small : size < 256)
     (last_at : last ≡ slice_index bins.lasts (size / 8)) (tag_is : tag ≡ 64 + size / 8) where
   bin_size : 8 * (size / 8) ≡ size
   bin_size = let f = fresh.is in omega (arith, f.whole)
@@ -124,7 +124,7 @@ module _ (regions : List Grant) (old : ℕ → ℕ) (bins : Bins) (index : ℕ �
   last_of = last_is tag last (index size) bin_ring.ends
 
   -- what the call requires of the places that it stores to
-  pub start_place : last ≢ tag → IsPlace regions (last + 24) × ((last + 24 ≢ chunk + 16) × (last + 24 ≢ chunk + 24))
+  pub start_place : last ≢ tag → IsWordPlace regions (last + 24) × ((last + 24 ≢ chunk + 16) × (last + 24 ≢ chunk + 24))
   start_place not = elim last_of [
     | inl none ↦ absurd (not none.1)
     | inr there ↦
@@ -140,7 +140,7 @@ module _ (regions : List Grant) (old : ℕ → ℕ) (bins : Bins) (index : ℕ �
 
 -- a chunk is put into its ring
 module _ (regions : List Grant) (old new : ℕ → ℕ) (bins bins' : Bins) (index : ℕ → List ℕ) (size chunk last tag : ℕ)
-    (linked : IsLinked regions old bins index) (fresh : IsFresh regions old index size chunk) (small : size < 256)
+    (linked : IsLinked regions old bins index) (fresh : IsFreshChunk regions old index size chunk) (small : size < 256)
     (last_at : last ≡ slice_index bins.lasts (size / 8)) (tag_is : tag ≡ 64 + size / 8)
     (pushed : HasPushed regions old last tag chunk new) (newest : HasNewest bins (size / 8) last tag chunk bins') where
   size_is : 8 * (size / 8) ≡ size

@@ -3,11 +3,11 @@ use Rattle.std.proofs.Common.{◌≡◌, ◌≢◌, ℕ, ◌+◌, ◌-◌, ◌*�
 use Rattle.std.specs.Prelude.{if◌then◌else◌}
 use Rattle.heap_memory.specs.declared.grant.Grant.{Grant}
 use Rattle.heap_memory.specs.Regions.{IsWordOf}
-use Rattle.bins.specs.Index.{IsIn, AreDistinct, without}
+use Rattle.bins.specs.Index.{IsIn, AreDistinct, without_size}
 use Rattle.bins.specs.Rings.{IsRing}
 use Rattle.bins.specs.Tries.{slot, low_at, width, IsTrie}
 use Rattle.bins.specs.Linked.{IsNoLink}
-use Rattle.bins.specs.Stores.{IsPlace}
+use Rattle.bins.specs.Stores.{IsWordPlace}
 use Rattle.bins.specs.Below.{IsHeld}
 use Rattle.bins.specs.Fits.{IsReadable, IsTakenOut, IsClearedIf}
 use Rattle.bins.proofs.Frame.{in_without, in_half, trie_kept, linked_kept}
@@ -19,7 +19,7 @@ use Rattle.bins.proofs.Chunks.{same_or_not, one_size}
 use Rattle.bins.proofs.TrieEntry.{chunks_without}
 use Rattle.bins.proofs.Searching.{none_both, s_slot}
 
-commute : (s t : ℕ) (index : ℕ → List ℕ) (m : ℕ) → without s (without t index) m ≡ without t (without s index) m
+commute : (s t : ℕ) (index : ℕ → List ℕ) (m : ℕ) → without_size s (without_size t index) m ≡ without_size t (without_size s index) m
 commute s t index m = by_tests (m == s) (m == t) where
   by_tests : (a b : Bool) → (if a then [] else if b then [] else index m) ≡ (if b then [] else if a then [] else index m)
   by_tests true true = refl
@@ -41,7 +41,7 @@ module _ (regions : List Grant) (old : ℕ → ℕ) (index : ℕ → List ℕ) (
   pub t_levels : 0 < levels
   t_levels = levels_some old index bin parent low levels at some held.trie
 
-  pub t_slot : (side : Bool) → IsPlace regions (at + slot side)
+  pub t_slot : (side : Bool) → IsWordPlace regions (at + slot side)
   t_slot = s_slot regions old index low levels at some reads
 
   at_in : IsIn at (index o.node.size)
@@ -54,8 +54,8 @@ module _ (regions : List Grant) (old : ℕ → ℕ) (index : ℕ → List ℕ) (
   pub all_taken : old (at + 32) ≡ 0 → old (at + 40) ≡ 0 → IsTakenOut regions old old index bin parent low levels at at
   all_taken no_left no_right =
       let w = width (levels - 1) in
-      let left = none_in old (without o.node.size index) bin at low (levels - 1) (o.node.child false) (sym (o.node.child_is false) ∙ no_left) (o.children false) in
-      let right = none_in old (without o.node.size index) bin at (low + w) (levels - 1) (o.node.child true) (sym (o.node.child_is true) ∙ no_right) (o.children true) in
+      let left = none_in old (without_size o.node.size index) bin at low (levels - 1) (o.node.child false) (sym (o.node.child_is false) ∙ no_left) (o.children false) in
+      let right = none_in old (without_size o.node.size index) bin at (low + w) (levels - 1) (o.node.child true) (sym (o.node.child_is true) ∙ no_right) (o.children true) in
       record {
         size = o.node.size;
         others = o.node.others;
@@ -63,18 +63,18 @@ module _ (regions : List Grant) (old : ℕ → ℕ) (index : ℕ → List ℕ) (
         below = omega (arith, o.node.below, range);
         chunks = o.node.chunks;
         ring = o.node.ring;
-        left = inl (refl, empty old (without o.node.size index) bin parent low levels (λ m a b. none_both (without o.node.size index) low (low + w) (low + w + w) left right m a (omega (arith, range))));
+        left = inl (refl, empty old (without_size o.node.size index) bin parent low levels (λ m a b. none_both (without_size o.node.size index) low (low + w) (low + w + w) left right m a (omega (arith, range))));
         words = λ place word out. refl;
       }
 
   -- ---- the leaf stands below a child
   module _ (side : Bool) (child : ℕ) (child_is : child ≡ old (at + slot side)) (real : 0 < child) where
-    sub_trie : IsTrie old (without o.node.size index) bin at (low_at side low (width (levels - 1))) (levels - 1) child
-    sub_trie = subst (λ x. IsTrie old (without o.node.size index) bin at (low_at side low (width (levels - 1))) (levels - 1) x) (sym (child_is ∙ o.node.child_is side)) (o.children side)
+    sub_trie : IsTrie old (without_size o.node.size index) bin at (low_at side low (width (levels - 1))) (levels - 1) child
+    sub_trie = subst (λ x. IsTrie old (without_size o.node.size index) bin at (low_at side low (width (levels - 1))) (levels - 1) x) (sym (child_is ∙ o.node.child_is side)) (o.children side)
 
-    pub sub_held : IsHeld regions old (without o.node.size index) bin at (low_at side low (width (levels - 1))) (levels - 1) child
+    pub sub_held : IsHeld regions old (without_size o.node.size index) bin at (low_at side low (width (levels - 1))) (levels - 1) child
     sub_held =
-        let deep : 0 < levels - 1 = levels_some old (without o.node.size index) bin at (low_at side low (width (levels - 1))) (levels - 1) child real sub_trie in
+        let deep : 0 < levels - 1 = levels_some old (without_size o.node.size index) bin at (low_at side low (width (levels - 1))) (levels - 1) child real sub_trie in
         let w = wide (levels - 1) deep in
         let v = width_whole (levels - 1 - 1) in
         record {
@@ -85,10 +85,10 @@ module _ (regions : List Grant) (old : ℕ → ℕ) (index : ℕ → List ℕ) (
         }
 
     module _ (mid new : ℕ → ℕ) (leaf place : ℕ) (is : Bool) (place_is : place ≡ at + slot side)
-        (sub : IsTakenOut regions old mid (without o.node.size index) bin at (low_at side low (width (levels - 1))) (levels - 1) child leaf)
+        (sub : IsTakenOut regions old mid (without_size o.node.size index) bin at (low_at side low (width (levels - 1))) (levels - 1) child leaf)
         (cleared : IsClearedIf regions mid place is new) (yes_is : leaf ≡ child → is ≡ true) (no_is : leaf ≢ child → is ≡ false) where
       apart : sub.size ≢ o.node.size
-      apart e = let none = ap (without o.node.size index) e ∙ without_same o.node.size index in let some' = sub.chunks in cc
+      apart e = let none = ap (without_size o.node.size index) e ∙ without_same o.node.size index in let some' = sub.chunks in cc
 
       leaf_chunks : index sub.size ≡ leaf ∷ sub.others
       leaf_chunks = sym (without_other o.node.size index sub.size apart) ∙ sub.chunks
@@ -114,9 +114,9 @@ module _ (regions : List Grant) (old : ℕ → ℕ) (index : ℕ → List ℕ) (
             | inr above ↦ (λ e. omega (arith, p.1.1.1, p.1.1.0))
           ]
 
-      of_child : (m c d : ℕ) → IsIn c (without o.node.size index m) → IsIn d (index o.node.size) → c ≢ d
+      of_child : (m c d : ℕ) → IsIn c (without_size o.node.size index m) → IsIn d (index o.node.size) → c ≢ d
       of_child m c d c_in d_in same = elim (same_or_not m o.node.size) [
-        | inl here ↦ subst (λ (cs : List ℕ). IsIn c cs) (ap (without o.node.size index) here ∙ without_same o.node.size index) c_in
+        | inl here ↦ subst (λ (cs : List ℕ). IsIn c cs) (ap (without_size o.node.size index) here ∙ without_same o.node.size index) c_in
         | inr other ↦ other (one_size regions old old index m o.node.size c held.chunks (in_without o.node.size index m c c_in) (subst (λ x. IsIn x (index o.node.size)) (sym same) d_in))
       ]
 
@@ -158,26 +158,26 @@ module _ (regions : List Grant) (old : ℕ → ℕ) (index : ℕ → List ℕ) (
       }
 
       after : ℕ → Type 0
-      after x = (new (at + slot side) ≡ x) × IsTrie mid (without sub.size (without o.node.size index)) bin at (low_at side low (width (levels - 1))) (levels - 1) x
+      after x = (new (at + slot side) ≡ x) × IsTrie mid (without_size sub.size (without_size o.node.size index)) bin at (low_at side low (width (levels - 1))) (levels - 1) x
 
-      left_over : (x : ℕ) × ((new (at + slot side) ≡ x) × IsTrie mid (without sub.size (without o.node.size index)) bin at (low_at side low (width (levels - 1))) (levels - 1) x)
+      left_over : (x : ℕ) × ((new (at + slot side) ≡ x) × IsTrie mid (without_size sub.size (without_size o.node.size index)) bin at (low_at side low (width (levels - 1))) (levels - 1) x)
       left_over = elim sub.left [
         | inl (same, trie) ↦ (0, (ap new (sym place_is) ∙ cleared.cleared (yes_is same), trie))
         | inr (other, trie) ↦ (child, (ap new (sym place_is) ∙ (cleared.kept (no_is other) ∙ (ap mid place_is ∙ mid_place)), trie))
       ]
 
-      opened_new : Opened new (without sub.size index) bin parent low (levels - 1) at
+      opened_new : Opened new (without_size sub.size index) bin parent low (levels - 1) at
       opened_new =
           let s = o.node.size in
           let n = levels - 1 in
           let low' = low_at side low (width n) in
           let x = left_over.0 in
-          let now = trie_kept mid new bin (without sub.size (without s index)) at low' n x
-          (λ m a b c c_is k some' few. let c_in = in_without sub.size (without s index) m c c_is in
+          let now = trie_kept mid new bin (without_size sub.size (without_size s index)) at low' n x
+          (λ m a b c c_is k some' few. let c_in = in_without sub.size (without_size s index) m c c_is in
           cleared.elsewhere (c + 8 * k) (word_in m c k (in_without s index m c c_in) some' few)
           (λ e. not_place m c k (in_without s index m c c_in) (of_child m c at c_in at_in) few (e ∙ place_is))) left_over.1.1 in
-          let here = trie_reindexed new bin (without sub.size (without s index)) (without s (without sub.size index)) at low' n x (λ m a b. commute s sub.size index m) now in
-          turned old new index (without sub.size index) bin parent low n at o side x (without_other sub.size index s (λ e. apart (sym e))) kept left_over.1.0 here
+          let here = trie_reindexed new bin (without_size sub.size (without_size s index)) (without_size s (without_size sub.size index)) at low' n x (λ m a b. commute s sub.size index m) now in
+          turned old new index (without_size sub.size index) bin parent low n at o side x (without_other sub.size index s (λ e. apart (sym e))) kept left_over.1.0 here
           (λ m a b. ap (λ (cs : List ℕ). if m == s then [] else cs) (without_other sub.size index m (λ e. halves_apart side low (width n) m a b
           (subst (λ y. low' ≤ y) (sym e) sub.above) (subst (λ y. y < low' + width n) (sym e) sub.below))))
           (λ c c_in k few. not_place s c k (subst (λ (cs : List ℕ). IsIn c cs) (sym o.node.chunks) (inr c_in)) (λ e. once.0 (subst (λ y. IsIn y o.node.others) e c_in)) few)
@@ -193,7 +193,7 @@ module _ (regions : List Grant) (old : ℕ → ℕ) (index : ℕ → List ℕ) (
             below = omega (arith, half.1, range);
             chunks = leaf_chunks;
             ring = ring_new;
-            left = inr (leaf_not_at, closed new (without sub.size index) bin parent low levels at t_levels opened_new);
+            left = inr (leaf_not_at, closed new (without_size sub.size index) bin parent low levels at t_levels opened_new);
             words = λ p word out.
                 let at_no = out o.node.size at o.node.above (omega (arith, o.node.below, range)) (λ e. apart (sym e)) at_in in
                 let la = held.large o.node.size at at_in in

@@ -8,7 +8,7 @@ use Rattle.dlmalloc_chunks.specs.Bins.{least_size, IsTreeIndex}
 use Rattle.bins.specs.declared.bins.Bins.{Bins}
 use Rattle.bins.specs.Index.{IsIn, AreDistinct, removed, with_chunk, without_chunk, from}
 use Rattle.bins.specs.Tries.{width, IsTrie}
-use Rattle.bins.specs.Linked.{AreChunks, IsFresh, IsLinked, OnlyLinksChange, low_of, levels_of}
+use Rattle.bins.specs.Linked.{AreChunks, IsFreshChunk, IsLinked, OnlyLinksChange, low_of, levels_of}
 use Rattle.bins.specs.Stores.{HasRoot}
 use Rattle.bins.specs.Below.{IsHeld, OnlyRangeChanges, OnlyHeldChanges}
 use Rattle.bins.proofs.Reindexed.{trie_reindexed}
@@ -131,10 +131,10 @@ module _ (regions : List Grant) (old : ℕ → ℕ) (bins : Bins) (index : ℕ �
     | inr not ↦ (let l = levels_normal bin not in omega arith)
   ]
 
-  pub t_fresh : (chunk : ℕ) → IsFresh regions old index size chunk → IsFresh regions old (from (least_size bin) index) size chunk
+  pub t_fresh : (chunk : ℕ) → IsFreshChunk regions old index size chunk → IsFreshChunk regions old (from (least_size bin) index) size chunk
   t_fresh chunk fresh = record { is = fresh.is; apart = λ m c is. fresh.apart m c (in_from (least_size bin) index m c is).0 }
 
-  module _ (chunk : ℕ) (fresh : IsFresh regions old index size chunk) (new : ℕ → ℕ) (bins' : Bins) (left : ℕ)
+  module _ (chunk : ℕ) (fresh : IsFreshChunk regions old index size chunk) (new : ℕ → ℕ) (bins' : Bins) (left : ℕ)
       (trie : IsTrie new (with_chunk size chunk (from (least_size bin) index)) bin (128 + bin) low levels left)
       (words : OnlyRangeChanges regions (from (least_size bin) index) low (low + width levels) size chunk old new)
       (rooted : HasRoot bins bin left bins') where

@@ -3,11 +3,11 @@ use Rattle.std.proofs.Common.{◌≡◌, ◌≢◌, ℕ, ◌+◌, ◌-◌, ◌*�
 use Rattle.heap_memory.specs.declared.grant.Grant.{Grant}
 use Rattle.dlmalloc_chunks.specs.Head.{size_of}
 use Rattle.dlmalloc_chunks.specs.Chunk.{HasHead}
-use Rattle.bins.specs.Index.{AreDistinct, with_chunk, without}
+use Rattle.bins.specs.Index.{AreDistinct, with_chunk, without_size}
 use Rattle.bins.specs.Tries.{slot, low_at, width, IsTrie}
-use Rattle.bins.specs.Linked.{AreChunks, IsFresh}
+use Rattle.bins.specs.Linked.{AreChunks, IsFreshChunk}
 use Rattle.bins.specs.Below.{IsHeld, OnlyRangeChanges}
-use Rattle.bins.specs.Stores.{IsPlace, HasJoined, HasLeaf}
+use Rattle.bins.specs.Stores.{IsWordPlace, HasJoined, HasLeaf}
 use Rattle.bins.proofs.Frame.{in_without}
 use Rattle.bins.proofs.Widths.{wide, width_whole}
 use Rattle.bins.proofs.Opened.{Opened, opened, closed, levels_some}
@@ -15,12 +15,12 @@ use Rattle.bins.proofs.Lists.{without_same, without_other}
 use Rattle.bins.proofs.Chunks.{same_or_not}
 use Rattle.bins.proofs.TrieInsert.{at_head, at_place, slot_place, last_place, joined_apart, slot_own, joined_opened, joined_words, leaf_opened, leaf_words, child_opened, child_words}
 
-pub chunks_without : (regions : List Grant) (old : ℕ → ℕ) (index : ℕ → List ℕ) (s : ℕ) → AreChunks regions old index → AreChunks regions old (without s index)
+pub chunks_without : (regions : List Grant) (old : ℕ → ℕ) (index : ℕ → List ℕ) (s : ℕ) → AreChunks regions old index → AreChunks regions old (without_size s index)
 chunks_without regions old index s h = record {
   each = λ n c is. h.each n c (in_without s index n c is);
   apart = λ n c m d is_c is_d other. h.apart n c m d (in_without s index n c is_c) (in_without s index m d is_d) other;
   once = λ n. elim (same_or_not n s) [
-    | inl e ↦ subst (λ (cs : List ℕ). AreDistinct cs) (sym (ap (without s index) e ∙ without_same s index)) tt
+    | inl e ↦ subst (λ (cs : List ℕ). AreDistinct cs) (sym (ap (without_size s index) e ∙ without_same s index)) tt
     | inr e ↦ subst (λ (cs : List ℕ). AreDistinct cs) (sym (without_other s index n e)) (h.once n)
   ];
 }
@@ -34,7 +34,7 @@ low_fits false low half = omega arith
 low_fits true low half = omega arith
 
 module _ (regions : List Grant) (old : ℕ → ℕ) (index : ℕ → List ℕ) (bin parent low levels at size chunk : ℕ)
-    (some : 0 < at) (held : IsHeld regions old index bin parent low levels at) (fresh : IsFresh regions old index size chunk) (big : 256 ≤ size) where
+    (some : 0 < at) (held : IsHeld regions old index bin parent low levels at) (fresh : IsFreshChunk regions old index size chunk) (big : 256 ≤ size) where
   pub has_levels : 0 < levels
   has_levels = levels_some old index bin parent low levels at some held.trie
 
@@ -44,19 +44,19 @@ module _ (regions : List Grant) (old : ℕ → ℕ) (index : ℕ → List ℕ) (
   pub e_head : HasHead regions at
   e_head = at_head regions old index bin parent low (levels - 1) at size chunk held.chunks held.large fresh big o
 
-  pub e_at : IsPlace regions (at + 16)
+  pub e_at : IsWordPlace regions (at + 16)
   e_at = at_place regions old index bin parent low (levels - 1) at size chunk held.chunks held.large fresh big o 2 (omega arith) (omega arith)
 
   pub e_slots : at + 40 < 2 ^ 64
   e_slots = (at_place regions old index bin parent low (levels - 1) at size chunk held.chunks held.large fresh big o 5 (omega arith) (omega arith)).small
 
-  pub e_last : IsPlace regions (old (at + 16) + 24)
+  pub e_last : IsWordPlace regions (old (at + 16) + 24)
   e_last = last_place regions old index bin parent low (levels - 1) at size chunk held.chunks held.large fresh big o
 
   pub e_apart : (at + 16 ≢ chunk + 16) × (at + 16 ≢ chunk + 24) × (old (at + 16) + 24 ≢ chunk + 16) × (old (at + 16) + 24 ≢ chunk + 24) × (old (at + 16) + 24 ≢ at + 16)
   e_apart = joined_apart regions old index bin parent low (levels - 1) at size chunk held.chunks held.large fresh big o
 
-  pub e_slot : (side : Bool) → IsPlace regions (at + slot side)
+  pub e_slot : (side : Bool) → IsWordPlace regions (at + slot side)
   e_slot = slot_place regions old index bin parent low (levels - 1) at size chunk held.chunks held.large fresh big o
 
   pub e_slot_own : (side : Bool) → (at + slot side < chunk + 16) ⊎ (chunk + 64 ≤ at + slot side)
@@ -102,12 +102,12 @@ module _ (regions : List Grant) (old : ℕ → ℕ) (index : ℕ → List ℕ) (
     pub e_fits : low_at side low half + width (levels - 1) ≤ low + width levels
     e_fits = let w = wide levels has_levels in let h = low_fits side low half in omega (arith, w, h, half_is)
 
-    pub e_held : 0 < child → IsHeld regions old (without o.node.size index) bin at (low_at side low half) (levels - 1) child
+    pub e_held : 0 < child → IsHeld regions old (without_size o.node.size index) bin at (low_at side low half) (levels - 1) child
     e_held real =
-        let sub : IsTrie old (without o.node.size index) bin at (low_at side low half) (levels - 1) child =
-        subst (λ h. IsTrie old (without o.node.size index) bin at (low_at side low h) (levels - 1) child) (sym half_is)
-        (subst (λ x. IsTrie old (without o.node.size index) bin at (low_at side low (width (levels - 1))) (levels - 1) x) child_at (o.children side)) in
-        let deep : 0 < levels - 1 = levels_some old (without o.node.size index) bin at (low_at side low half) (levels - 1) child real sub in
+        let sub : IsTrie old (without_size o.node.size index) bin at (low_at side low half) (levels - 1) child =
+        subst (λ h. IsTrie old (without_size o.node.size index) bin at (low_at side low h) (levels - 1) child) (sym half_is)
+        (subst (λ x. IsTrie old (without_size o.node.size index) bin at (low_at side low (width (levels - 1))) (levels - 1) x) child_at (o.children side)) in
+        let deep : 0 < levels - 1 = levels_some old (without_size o.node.size index) bin at (low_at side low half) (levels - 1) child real sub in
         let w = wide (levels - 1) deep in
         let v = width_whole (levels - 1 - 1) in
         record {
@@ -117,25 +117,25 @@ module _ (regions : List Grant) (old : ℕ → ℕ) (index : ℕ → List ℕ) (
           whole = low_whole side low half held.whole (omega (arith, half_is, w, v));
         }
 
-    pub e_fresh : IsFresh regions old (without o.node.size index) size chunk
+    pub e_fresh : IsFreshChunk regions old (without_size o.node.size index) size chunk
     e_fresh = record { is = fresh.is; apart = λ m c is. fresh.apart m c (in_without o.node.size index m c is) }
 
     -- what a call for the child promises of every index and parent
     module _ (new : ℕ → ℕ) (low' : ℕ) (low_is : low' ≡ low_at side low half) (real : 0 < child)
-        (trie : (index' : ℕ → List ℕ) (parent' : ℕ) → IsHeld regions old index' bin parent' low' (levels - 1) child → IsFresh regions old index' size chunk → IsTrie new (with_chunk size chunk index') bin parent' low' (levels - 1) child)
-        (words : (index' : ℕ → List ℕ) (parent' : ℕ) → IsHeld regions old index' bin parent' low' (levels - 1) child → IsFresh regions old index' size chunk → OnlyRangeChanges regions index' low' (low' + width (levels - 1)) size chunk old new) where
+        (trie : (index' : ℕ → List ℕ) (parent' : ℕ) → IsHeld regions old index' bin parent' low' (levels - 1) child → IsFreshChunk regions old index' size chunk → IsTrie new (with_chunk size chunk index') bin parent' low' (levels - 1) child)
+        (words : (index' : ℕ → List ℕ) (parent' : ℕ) → IsHeld regions old index' bin parent' low' (levels - 1) child → IsFreshChunk regions old index' size chunk → OnlyRangeChanges regions index' low' (low' + width (levels - 1)) size chunk old new) where
       low_same : low' ≡ low_at side low (width (levels - 1))
       low_same = low_is ∙ ap (λ h. low_at side low h) half_is
 
-      held_there : IsHeld regions old (without o.node.size index) bin at low' (levels - 1) child
-      held_there = subst (λ l. IsHeld regions old (without o.node.size index) bin at l (levels - 1) child) (sym low_is) (e_held real)
+      held_there : IsHeld regions old (without_size o.node.size index) bin at low' (levels - 1) child
+      held_there = subst (λ l. IsHeld regions old (without_size o.node.size index) bin at l (levels - 1) child) (sym low_is) (e_held real)
 
-      trie_there : IsTrie new (with_chunk size chunk (without o.node.size index)) bin at (low_at side low (width (levels - 1))) (levels - 1) (o.node.child side)
-      trie_there = subst (λ l. IsTrie new (with_chunk size chunk (without o.node.size index)) bin at l (levels - 1) (o.node.child side)) low_same
-          (subst (λ x. IsTrie new (with_chunk size chunk (without o.node.size index)) bin at low' (levels - 1) x) (sym child_at) (trie (without o.node.size index) at held_there e_fresh))
+      trie_there : IsTrie new (with_chunk size chunk (without_size o.node.size index)) bin at (low_at side low (width (levels - 1))) (levels - 1) (o.node.child side)
+      trie_there = subst (λ l. IsTrie new (with_chunk size chunk (without_size o.node.size index)) bin at l (levels - 1) (o.node.child side)) low_same
+          (subst (λ x. IsTrie new (with_chunk size chunk (without_size o.node.size index)) bin at low' (levels - 1) x) (sym child_at) (trie (without_size o.node.size index) at held_there e_fresh))
 
-      words_there : OnlyRangeChanges regions (without o.node.size index) (low_at side low (width (levels - 1))) (low_at side low (width (levels - 1)) + width (levels - 1)) size chunk old new
-      words_there = subst (λ l. OnlyRangeChanges regions (without o.node.size index) l (l + width (levels - 1)) size chunk old new) low_same (words (without o.node.size index) at held_there e_fresh)
+      words_there : OnlyRangeChanges regions (without_size o.node.size index) (low_at side low (width (levels - 1))) (low_at side low (width (levels - 1)) + width (levels - 1)) size chunk old new
+      words_there = subst (λ l. OnlyRangeChanges regions (without_size o.node.size index) l (l + width (levels - 1)) size chunk old new) low_same (words (without_size o.node.size index) at held_there e_fresh)
 
       pub e_child : IsTrie new (with_chunk size chunk index) bin parent low levels at
       e_child = closed new (with_chunk size chunk index) bin parent low levels at has_levels

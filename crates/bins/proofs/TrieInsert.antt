@@ -3,11 +3,11 @@ use Rattle.std.proofs.Common.{◌≡◌, ◌≢◌, ℕ, zero, suc, ◌+◌, ◌
 use Rattle.heap_memory.specs.declared.grant.Grant.{Grant}
 use Rattle.dlmalloc_chunks.specs.Head.{size_of}
 use Rattle.dlmalloc_chunks.specs.Chunk.{HasHead}
-use Rattle.bins.specs.Index.{IsIn, AreDistinct, with_chunk, without, IsNone}
+use Rattle.bins.specs.Index.{IsIn, AreDistinct, with_chunk, without_size, IsNone}
 use Rattle.bins.specs.Tries.{slot, low_at, width, IsTrie}
-use Rattle.bins.specs.Linked.{AreChunks, IsFresh}
+use Rattle.bins.specs.Linked.{AreChunks, IsFreshChunk}
 use Rattle.bins.specs.Below.{OnlyRangeChanges}
-use Rattle.bins.specs.Stores.{IsPlace, HasJoined, HasLeaf}
+use Rattle.bins.specs.Stores.{IsWordPlace, HasJoined, HasLeaf}
 use Rattle.bins.proofs.Frame.{trie_kept, in_without, in_half}
 use Rattle.bins.proofs.Reindexed.{trie_reindexed}
 use Rattle.bins.proofs.Lists.{last_append, with_same, with_other, without_same, without_other}
@@ -17,7 +17,7 @@ use Rattle.bins.proofs.SmallBins.{last_is, first_pushed}
 use Rattle.bins.proofs.Opened.{Opened, rebuilt, none_in, empty, slot_at, same_alike}
 
 module _ (regions : List Grant) (old : ℕ → ℕ) (index : ℕ → List ℕ) (bin parent low n at size chunk : ℕ)
-    (chunks : AreChunks regions old index) (large : (m c : ℕ) → IsIn c (index m) → 256 ≤ m) (fresh : IsFresh regions old index size chunk) (big : 256 ≤ size)
+    (chunks : AreChunks regions old index) (large : (m c : ℕ) → IsIn c (index m) → 256 ≤ m) (fresh : IsFreshChunk regions old index size chunk) (big : 256 ≤ size)
     (o : Opened old index bin parent low n at) where
   at_in : IsIn at (index o.node.size)
   at_in = subst (λ (cs : List ℕ). IsIn at cs) (sym o.node.chunks) (inl refl)
@@ -35,19 +35,19 @@ module _ (regions : List Grant) (old : ℕ → ℕ) (index : ℕ → List ℕ) (
     granted = c.granted (at + 8) (omega arith) (omega (arith, c.long)) (omega (arith, c.aligned));
   }
 
-  place_in : (m c k : ℕ) → IsIn c (index m) → 0 < k → 8 * k < 64 → IsPlace regions (c + 8 * k)
+  place_in : (m c k : ℕ) → IsIn c (index m) → 0 < k → 8 * k < 64 → IsWordPlace regions (c + 8 * k)
   place_in m c k is some few = let h = chunks.each m c is in let l = large m c is in record {
     small = omega (arith, h.high);
     word = h.granted (c + 8 * k) (omega arith) (omega arith) (omega (arith, h.aligned));
   }
 
-  pub at_place : (k : ℕ) → 0 < k → 8 * k < 64 → IsPlace regions (at + 8 * k)
+  pub at_place : (k : ℕ) → 0 < k → 8 * k < 64 → IsWordPlace regions (at + 8 * k)
   at_place k some few = place_in o.node.size at k at_in some few
 
-  pub slot_place : (side : Bool) → IsPlace regions (at + slot side)
-  slot_place side = let p = slot_at side in subst (λ x. IsPlace regions (at + x)) (sym p.1.1.1) (at_place p.0 p.1.0 p.1.1.0)
+  pub slot_place : (side : Bool) → IsWordPlace regions (at + slot side)
+  slot_place side = let p = slot_at side in subst (λ x. IsWordPlace regions (at + x)) (sym p.1.1.1) (at_place p.0 p.1.0 p.1.1.0)
 
-  pub own_place : (k : ℕ) → 1 < k → k < 8 → IsPlace regions (chunk + 8 * k)
+  pub own_place : (k : ℕ) → 1 < k → k < 8 → IsWordPlace regions (chunk + 8 * k)
   own_place k some few = let f = fresh.is in record { small = omega (arith, f.high); word = f.granted (chunk + 8 * k) (omega arith) (omega arith) (omega (arith, f.aligned)) }
 
   -- the words of two chunks that are not one
@@ -66,7 +66,7 @@ module _ (regions : List Grant) (old : ℕ → ℕ) (index : ℕ → List ℕ) (
   last_in_index : IsIn (old (at + 16)) (index o.node.size)
   last_in_index = elim last_of [ inl none ↦ subst (λ c. IsIn c (index o.node.size)) (sym none.1) at_in | inr is ↦ other_in (old (at + 16)) is ]
 
-  pub last_place : IsPlace regions (old (at + 16) + 24)
+  pub last_place : IsWordPlace regions (old (at + 16) + 24)
   last_place = place_in o.node.size (old (at + 16)) 3 last_in_index (omega arith) (omega arith)
 
   pub joined_apart : (at + 16 ≢ chunk + 16) × (at + 16 ≢ chunk + 24) × (old (at + 16) + 24 ≢ chunk + 16) × (old (at + 16) + 24 ≢ chunk + 24) × (old (at + 16) + 24 ≢ at + 16)
@@ -91,13 +91,13 @@ module _ (regions : List Grant) (old : ℕ → ℕ) (index : ℕ → List ℕ) (
   alone side c is k few = not_slot o.node.size c k side (other_in c is) (λ same. once.0 (subst (λ x. IsIn x o.node.others) same is)) few
 
   -- a chunk of a child is none of the node's ring
-  of_child : (m c d : ℕ) → IsIn c (without o.node.size index m) → IsIn d (index o.node.size) → c ≢ d
+  of_child : (m c d : ℕ) → IsIn c (without_size o.node.size index m) → IsIn d (index o.node.size) → c ≢ d
   of_child m c d is d_in same = elim (same_or_not m o.node.size) [
-    | inl here ↦ subst (λ (cs : List ℕ). IsIn c cs) (ap (without o.node.size index) here ∙ without_same o.node.size index) is
+    | inl here ↦ subst (λ (cs : List ℕ). IsIn c cs) (ap (without_size o.node.size index) here ∙ without_same o.node.size index) is
     | inr not ↦ not (one_size regions old old index m o.node.size c chunks (in_without o.node.size index m c is) (subst (λ x. IsIn x (index o.node.size)) (sym same) d_in))
   ]
 
-  others_apart : (side : Bool) (m c : ℕ) → IsIn c (without o.node.size index m) → (k : ℕ) → 8 * k < 64 → c + 8 * k ≢ at + slot side
+  others_apart : (side : Bool) (m c : ℕ) → IsIn c (without_size o.node.size index m) → (k : ℕ) → 8 * k < 64 → c + 8 * k ≢ at + slot side
   others_apart side m c is k few = not_slot m c k side (in_without o.node.size index m c is) (of_child m c at is at_in) few
 
   -- ---- a chunk of the node's size joins its ring
@@ -143,11 +143,11 @@ module _ (regions : List Grant) (old : ℕ → ℕ) (index : ℕ → List ℕ) (
             bin_is = own 7 (omega arith) (omega arith) (λ e. omega arith) (λ e. omega arith) ∙ d.bin_is;
           };
           children = λ side.
-              let stays = trie_kept old new bin (without d.size index) at (low_at side low (width n)) n (d.child side)
+              let stays = trie_kept old new bin (without_size d.size index) at (low_at side low (width n)) n (d.child side)
               (λ m a b c is k some few. joined_word m c k (in_without d.size index m c is) some few
               (λ e. absurd (of_child m c (old (at + 16)) is last_in_index e)) (λ e. absurd (of_child m c at is at_in e))) (o.children side) in
-              trie_reindexed new bin (without d.size index) (without d.size (with_chunk size chunk index)) at (low_at side low (width n)) n (d.child side)
-              (λ m a b. subst (λ s. without d.size (with_chunk s chunk index) m ≡ without d.size index m) same_size (same_alike d.size chunk index m)) stays;
+              trie_reindexed new bin (without_size d.size index) (without_size d.size (with_chunk size chunk index)) at (low_at side low (width n)) n (d.child side)
+              (λ m a b. subst (λ s. without_size d.size (with_chunk s chunk index) m ≡ without_size d.size index m) same_size (same_alike d.size chunk index m)) stays;
         } where
           slot_not : (side : Bool) (k : ℕ) → slot side ≡ 8 * k → (j : ℕ) → j < 4 → k ≢ j
           slot_not false k is j few = λ e. omega arith
@@ -172,8 +172,8 @@ module _ (regions : List Grant) (old : ℕ → ℕ) (index : ℕ → List ℕ) (
     leaf_kept m c is k some few not = leaf.elsewhere (c + 8 * k) (place_in m c k is some few).word not
         (elim (not_own m c k is few) [ inl x ↦ inl (omega arith) | inr x ↦ inr x ])
 
-    child_none : IsNone (without o.node.size index) (low_at side low (width n)) (low_at side low (width n) + width n)
-    child_none = none_in old (without o.node.size index) bin at (low_at side low (width n)) n (o.node.child side) no_child (o.children side)
+    child_none : IsNone (without_size o.node.size index) (low_at side low (width n)) (low_at side low (width n) + width n)
+    child_none = none_in old (without_size o.node.size index) bin at (low_at side low (width n)) n (o.node.child side) no_child (o.children side)
 
     -- two sizes do not fit in a range of 16 bytes
     deep : (n' : ℕ) → n' ≡ n → 0 < n'
@@ -184,7 +184,7 @@ module _ (regions : List Grant) (old : ℕ → ℕ) (index : ℕ → List ℕ) (
         not_same (omega (arith, a.whole, f.whole, d.above, d.below, half.0, half.1)))
     deep (suc m) is = omega arith
 
-    leaf_trie : (n' : ℕ) → n' ≡ n → IsTrie new (with_chunk size chunk (without o.node.size index)) bin at (low_at side low (width n)) n' chunk
+    leaf_trie : (n' : ℕ) → n' ≡ n → IsTrie new (with_chunk size chunk (without_size o.node.size index)) bin at (low_at side low (width n)) n' chunk
     leaf_trie zero is = absurd (let d = deep zero is in omega arith)
     leaf_trie (suc m) is =
         let f = fresh.is in
@@ -202,22 +202,22 @@ module _ (regions : List Grant) (old : ℕ → ℕ) (index : ℕ → List ℕ) (
             some = let l = f.low in omega arith;
             above = above;
             below = omega arith;
-            chunks = with_same size chunk (without s index) ∙ ap (λ (cs : List ℕ). cs ++ chunk ∷ []) none;
+            chunks = with_same size chunk (without_size s index) ∙ ap (λ (cs : List ℕ). cs ++ chunk ∷ []) none;
             head = ap size_of head ∙ f.head;
             ring = record { begins = leaf.next; ends = leaf.prev; linked = tt };
             child_is = λ b. elim b as (λ x. new (chunk + slot x) ≡ 0) [ false ↦ leaf.child0 | true ↦ leaf.child1 ];
             parent_is = leaf.parent_is;
             bin_is = leaf.bin_is;
           },
-          λ b. empty new (without size (with_chunk size chunk (without s index))) bin chunk (low_at b low' (width m)) m
+          λ b. empty new (without_size size (with_chunk size chunk (without_size s index))) bin chunk (low_at b low' (width m)) m
               (λ x a c. let half = in_half b low' (width m) x a c in elim (same_or_not x size) [
-                | inl e ↦ ap (without size (with_chunk size chunk (without s index))) e ∙ without_same size (with_chunk size chunk (without s index))
-                | inr e ↦ without_other size (with_chunk size chunk (without s index)) x e ∙ (with_other size chunk (without s index) x e ∙ child_none x half.0 (omega (arith, half.1)))
+                | inl e ↦ ap (without_size size (with_chunk size chunk (without_size s index))) e ∙ without_same size (with_chunk size chunk (without_size s index))
+                | inr e ↦ without_other size (with_chunk size chunk (without_size s index)) x e ∙ (with_other size chunk (without_size s index) x e ∙ child_none x half.0 (omega (arith, half.1)))
               ]),
         )
       where
         index_of : ℕ → List ℕ
-        index_of = without o.node.size index
+        index_of = without_size o.node.size index
 
         slot_far : (b : Bool) → chunk + 8 ≡ at + slot b → ⊥
         slot_far b e = let p = slot_at b in elim (not_own o.node.size at p.0 at_in p.1.1.0) [
@@ -243,8 +243,8 @@ module _ (regions : List Grant) (old : ℕ → ℕ) (index : ℕ → List ℕ) (
   -- ---- a chunk goes into a child
   module _ (new : ℕ → ℕ) (side : Bool) (not_same : o.node.size ≢ size)
       (above : low_at side low (width n) ≤ size) (below : size < low_at side low (width n) + width n)
-      (trie : IsTrie new (with_chunk size chunk (without o.node.size index)) bin at (low_at side low (width n)) n (o.node.child side))
-      (words : OnlyRangeChanges regions (without o.node.size index) (low_at side low (width n)) (low_at side low (width n) + width n) size chunk old new) where
+      (trie : IsTrie new (with_chunk size chunk (without_size o.node.size index)) bin at (low_at side low (width n)) n (o.node.child side))
+      (words : OnlyRangeChanges regions (without_size o.node.size index) (low_at side low (width n)) (low_at side low (width n) + width n) size chunk old new) where
     child_kept : (m c : ℕ) → IsIn c (index m) → (m ≡ o.node.size) ⊎ (low_at side low (width n) ≤ m → m < low_at side low (width n) + width n → ⊥) →
         (k : ℕ) → 0 < k → 8 * k < 64 → new (c + 8 * k) ≡ old (c + 8 * k)
     child_kept m c is outside k some few = words (c + 8 * k) (place_in m c k is some few).word

@@ -34,8 +34,8 @@ abbrev pub without_chunk : ℕ → ℕ → (ℕ → List ℕ) → ℕ → List �
 without_chunk size chunk index n = if n == size then removed chunk (index n) else index n
 
 -- an index without the chunks of a size
-abbrev pub without : ℕ → (ℕ → List ℕ) → ℕ → List ℕ
-without size index n = if n == size then [] else index n
+abbrev pub without_size : ℕ → (ℕ → List ℕ) → ℕ → List ℕ
+without_size size index n = if n == size then [] else index n
 
 -- an index of the chunks of at least a size
 abbrev pub from : ℕ → (ℕ → List ℕ) → ℕ → List ℕ

@@ -53,7 +53,7 @@ pub record IsLinked (regions : List Grant) (words : ℕ → ℕ) (bins : Bins) (
   pub large : (bin : ℕ) → bin < 32 → IsTreeBin words bins.roots bins.tree_map index bin
 
 -- a chunk that shares no byte with those of an index
-pub record IsFresh (regions : List Grant) (words : ℕ → ℕ) (index : ℕ → List ℕ) (size chunk : ℕ) : Type 0 where
+pub record IsFreshChunk (regions : List Grant) (words : ℕ → ℕ) (index : ℕ → List ℕ) (size chunk : ℕ) : Type 0 where
   pub is : IsChunk regions words size chunk
   pub apart : (other_size other : ℕ) → IsIn other (index other_size) → (chunk + size ≤ other) ⊎ (other + other_size ≤ chunk)
 

@@ -2,7 +2,7 @@
 -- a range, those of its child0 in the lower half and those of its child1 in the upper.
 use Rattle.std.specs.Prelude.{◌≡◌, ℕ, zero, suc, ◌+◌, ◌*◌, ◌<◌, ◌≤◌, ◌⊎◌, Bool, true, false, List, ◌∷◌}
 use Rattle.dlmalloc_chunks.specs.Head.{size_of}
-use Rattle.bins.specs.Index.{without, IsNone}
+use Rattle.bins.specs.Index.{without_size, IsNone}
 use Rattle.bins.specs.Rings.{IsRing}
 
 -- the bytes of the range of a trie of so many levels
@@ -46,4 +46,4 @@ IsTrie words index bin parent low zero at = (at ≡ 0) × IsNone index low (low 
 IsTrie words index bin parent low (suc levels) at =
     ((at ≡ 0) × IsNone index low (low + 2 * width levels))
     ⊎ ((node : IsNode words index bin parent low (low + 2 * width levels) at)
-    × ((side : Bool) → IsTrie words (without node.size index) bin at (low_at side low (width levels)) levels (node.child side)))
+    × ((side : Bool) → IsTrie words (without_size node.size index) bin at (low_at side low (width levels)) levels (node.child side)))

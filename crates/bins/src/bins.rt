@@ -28,7 +28,7 @@ pub struct Bins {
 
 impl Bins {
     ghost use Rattle.heap_memory.specs.declared.grant.Grant.{Grant};
-    ghost use Rattle.bins.specs.Linked.{IsLinked, IsFresh, OnlyLinksChange};
+    ghost use Rattle.bins.specs.Linked.{IsLinked, IsFreshChunk, OnlyLinksChange};
 
     /// Bins without a chunk, for any memory.
     pub fn new() -> Bins
@@ -60,10 +60,10 @@ impl Bins {
         size: u64,
         steps: &mut Steps<L>,
     )
-        requires linked { (index : ℕ → List ℕ) × IsLinked (M.regions memory.old) (M.word memory.old) self.old index × IsFresh (M.regions memory.old) (M.word memory.old) index size chunk }
-        ensures linked { (index : ℕ → List ℕ) → IsLinked (M.regions memory.old) (M.word memory.old) self.old index → IsFresh (M.regions memory.old) (M.word memory.old) index size chunk →
+        requires linked { (index : ℕ → List ℕ) × IsLinked (M.regions memory.old) (M.word memory.old) self.old index × IsFreshChunk (M.regions memory.old) (M.word memory.old) index size chunk }
+        ensures linked { (index : ℕ → List ℕ) → IsLinked (M.regions memory.old) (M.word memory.old) self.old index → IsFreshChunk (M.regions memory.old) (M.word memory.old) index size chunk →
             IsLinked (M.regions memory.new) (M.word memory.new) self.new (with_chunk size chunk index) }
-        ensures words { (index : ℕ → List ℕ) → IsLinked (M.regions memory.old) (M.word memory.old) self.old index → IsFresh (M.regions memory.old) (M.word memory.old) index size chunk →
+        ensures words { (index : ℕ → List ℕ) → IsLinked (M.regions memory.old) (M.word memory.old) self.old index → IsFreshChunk (M.regions memory.old) (M.word memory.old) index size chunk →
             OnlyLinksChange (M.regions memory.old) index size chunk (M.word memory.old) (M.word memory.new) }
         ensures regions { M.regions memory.new ≡ M.regions memory.old }
         ensures follows { M.follows memory.old [] memory.new }

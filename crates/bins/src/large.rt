@@ -3,7 +3,7 @@ ghost use Rattle.std.specs.Prelude.{◌≡◌, ◌≢◌, ℕ, ◌+◌, ◌*◌,
 ghost use Rattle.std.specs.Int.{bit_at};
 ghost use Rattle.dlmalloc_chunks.specs.Bins.{least_size};
 ghost use Rattle.bins.specs.Index.{IsIn, IsNone, IsLeastFit, first_or, with_chunk, without_chunk};
-ghost use Rattle.bins.specs.Linked.{IsLinked, IsFresh, OnlyLinksChange, low_of, levels_of};
+ghost use Rattle.bins.specs.Linked.{IsLinked, IsFreshChunk, OnlyLinksChange, low_of, levels_of};
 ghost use Rattle.bins.specs.Stores.{HasRoot};
 
 use crate::bins::Bins;
@@ -149,10 +149,10 @@ impl Bins {
         steps: &mut Steps<L>,
     )
         requires large { 256 ≤ size }
-        requires linked { (index : ℕ → List ℕ) × IsLinked (M.regions memory.old) (M.word memory.old) self.old index × IsFresh (M.regions memory.old) (M.word memory.old) index size chunk }
-        ensures linked { (index : ℕ → List ℕ) → IsLinked (M.regions memory.old) (M.word memory.old) self.old index → IsFresh (M.regions memory.old) (M.word memory.old) index size chunk →
+        requires linked { (index : ℕ → List ℕ) × IsLinked (M.regions memory.old) (M.word memory.old) self.old index × IsFreshChunk (M.regions memory.old) (M.word memory.old) index size chunk }
+        ensures linked { (index : ℕ → List ℕ) → IsLinked (M.regions memory.old) (M.word memory.old) self.old index → IsFreshChunk (M.regions memory.old) (M.word memory.old) index size chunk →
             IsLinked (M.regions memory.new) (M.word memory.new) self.new (with_chunk size chunk index) }
-        ensures words { (index : ℕ → List ℕ) → IsLinked (M.regions memory.old) (M.word memory.old) self.old index → IsFresh (M.regions memory.old) (M.word memory.old) index size chunk →
+        ensures words { (index : ℕ → List ℕ) → IsLinked (M.regions memory.old) (M.word memory.old) self.old index → IsFreshChunk (M.regions memory.old) (M.word memory.old) index size chunk →
             OnlyLinksChange (M.regions memory.old) index size chunk (M.word memory.old) (M.word memory.new) }
         ensures regions { M.regions memory.new ≡ M.regions memory.old }
         ensures follows { M.follows memory.old [] memory.new }

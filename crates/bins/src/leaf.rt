@@ -2,7 +2,7 @@
 ghost use Rattle.std.specs.Prelude.{◌≡◌, ℕ, ◌+◌, ◌*◌, ◌^◌, ◌<◌, ◌≤◌, ◌≢◌, ◌⊎◌, Bool, List, [], false, true};
 ghost use Rattle.heap_memory.specs.Regions.{IsWordOf};
 ghost use Rattle.bins.specs.Tries.{slot, both};
-ghost use Rattle.bins.specs.Stores.{IsPlace, HasPlaced};
+ghost use Rattle.bins.specs.Stores.{IsWordPlace, HasPlaced};
 ghost use Rattle.bins.specs.Below.{IsHeld};
 ghost use Rattle.bins.specs.Fits.{IsTakenOut};
 
@@ -21,8 +21,8 @@ pub(crate) struct Child {
 
 /// The left child of a node, or its right child where it has no left one.
 pub(crate) fn first_child<M: Links, L: Ledger>(memory: &M, at: u64, steps: &mut Steps<L>) -> Child
-    requires left { IsPlace (M.regions memory.now) (at + 32) }
-    requires right { IsPlace (M.regions memory.now) (at + 40) }
+    requires left { IsWordPlace (M.regions memory.now) (at + 32) }
+    requires right { IsWordPlace (M.regions memory.now) (at + 40) }
     ensures is { result.at ≡ M.word memory.now (at + slot result.is_upper) }
     ensures lower { result.is_upper ≡ false → 0 < result.at }
     ensures upper { result.is_upper ≡ true → M.word memory.now (at + 32) ≡ 0 }
@@ -45,7 +45,7 @@ pub(crate) fn first_child<M: Links, L: Ledger>(memory: &M, at: u64, steps: &mut 
 
 /// Names a chunk as the parent of a child, where there is one.
 fn adopt<M: Links, L: Ledger>(memory: &mut M, child: u64, chunk: u64, steps: &mut Steps<L>)
-    requires { 0 < child → IsPlace (M.regions memory.old) (child + 48) }
+    requires { 0 < child → IsWordPlace (M.regions memory.old) (child + 48) }
     ensures named { 0 < child → M.word memory.new (child + 48) ≡ chunk }
     ensures elsewhere { (at : ℕ) → IsWordOf (M.regions memory.old) at → (0 < child → at ≢ child + 48) → M.word memory.new at ≡ M.word memory.old at }
     ensures regions { M.regions memory.new ≡ M.regions memory.old }
@@ -67,8 +67,8 @@ pub(crate) fn place_node<M: Links, L: Ledger>(
     bin: u64,
     steps: &mut Steps<L>,
 )
-    requires own { (k : ℕ) → 1 < k → k < 8 → IsPlace (M.regions memory.old) (chunk + 8 * k) }
-    requires places { (side : Bool) → 0 < both child0 child1 side → IsPlace (M.regions memory.old) (both child0 child1 side + 48) }
+    requires own { (k : ℕ) → 1 < k → k < 8 → IsWordPlace (M.regions memory.old) (chunk + 8 * k) }
+    requires places { (side : Bool) → 0 < both child0 child1 side → IsWordPlace (M.regions memory.old) (both child0 child1 side + 48) }
     requires apart { (side : Bool) → 0 < both child0 child1 side → (both child0 child1 side + 48 < chunk + 32) ⊎ (chunk + 64 ≤ both child0 child1 side + 48) }
     requires two { 0 < child0 → 0 < child1 → child0 ≢ child1 }
     ensures placed { HasPlaced (M.regions memory.old) (M.word memory.old) chunk (both child0 child1) parent bin (M.word memory.new) }

@@ -2,10 +2,10 @@
 ghost use Rattle.std.specs.Prelude.{◌≡◌, ◌≢◌, ℕ, ◌+◌, ◌-◌, ◌*◌, ◌%◌, ◌^◌, ◌<◌, ◌≤◌, ◌⊎◌, Bool, not, List, [], ◌∷◌};
 ghost use Rattle.heap_memory.specs.Words.{IsStored};
 ghost use Rattle.dlmalloc_chunks.specs.Head.{size_of};
-ghost use Rattle.bins.specs.Index.{IsIn, without, without_chunk};
+ghost use Rattle.bins.specs.Index.{IsIn, without_size, without_chunk};
 ghost use Rattle.bins.specs.Tries.{both, slot, width, IsTrie};
 ghost use Rattle.bins.specs.Below.{IsHeld, OnlyHeldChanges};
-ghost use Rattle.bins.specs.Stores.{IsPlace, HasPulled, HasHeirLinks, HasPlaced};
+ghost use Rattle.bins.specs.Stores.{IsWordPlace, HasPulled, HasHeirLinks, HasPlaced};
 
 use crate::leaf::{first_child, place_node, take_leaf};
 use crate::small::pull;
@@ -18,10 +18,10 @@ use step_count::Steps;
 
 /// Takes a chunk that is not the oldest out of the ring of a node.
 fn leave_ring<M: Links, L: Ledger>(memory: &mut M, chunk: u64, steps: &mut Steps<L>)
-    requires prev { IsPlace (M.regions memory.old) (chunk + 16) }
-    requires next { IsPlace (M.regions memory.old) (chunk + 24) }
-    requires front { IsPlace (M.regions memory.old) (M.word memory.old (chunk + 16) + 24) }
-    requires back { IsPlace (M.regions memory.old) (M.word memory.old (chunk + 24) + 16) }
+    requires prev { IsWordPlace (M.regions memory.old) (chunk + 16) }
+    requires next { IsWordPlace (M.regions memory.old) (chunk + 24) }
+    requires front { IsWordPlace (M.regions memory.old) (M.word memory.old (chunk + 16) + 24) }
+    requires back { IsWordPlace (M.regions memory.old) (M.word memory.old (chunk + 24) + 16) }
     requires other { M.word memory.old (chunk + 16) + 24 ≢ M.word memory.old (chunk + 24) + 16 }
     ensures pulled { HasPulled (M.regions memory.old) (M.word memory.old) (M.word memory.old (chunk + 16)) (M.word memory.old (chunk + 24)) 0 (M.word memory.new) }
     ensures regions { M.regions memory.new ≡ M.regions memory.old }
@@ -35,8 +35,8 @@ fn leave_ring<M: Links, L: Ledger>(memory: &mut M, chunk: u64, steps: &mut Steps
 
 /// Gives the heir of a node the ring's last, and the last the heir.
 fn turn_heir<M: Links, L: Ledger>(memory: &mut M, heir: u64, last: u64, steps: &mut Steps<L>)
-    requires own { IsPlace (M.regions memory.old) (heir + 16) }
-    requires behind { IsPlace (M.regions memory.old) (last + 24) }
+    requires own { IsWordPlace (M.regions memory.old) (heir + 16) }
+    requires behind { IsWordPlace (M.regions memory.old) (last + 24) }
     requires other { heir + 16 ≢ last + 24 }
     ensures turned { HasHeirLinks (M.regions memory.old) (M.word memory.old) heir last (M.word memory.new) }
     ensures regions { M.regions memory.new ≡ M.regions memory.old }
@@ -56,11 +56,11 @@ fn give_to_heir<M: Links, L: Ledger>(
     bin: u64,
     steps: &mut Steps<L>,
 )
-    requires here { (k : ℕ) → 1 < k → k < 8 → IsPlace (M.regions memory.old) (at + 8 * k) }
-    requires own { (k : ℕ) → 1 < k → k < 8 → IsPlace (M.regions memory.old) (heir + 8 * k) }
-    requires behind { IsPlace (M.regions memory.old) (M.word memory.old (at + 16) + 24) }
+    requires here { (k : ℕ) → 1 < k → k < 8 → IsWordPlace (M.regions memory.old) (at + 8 * k) }
+    requires own { (k : ℕ) → 1 < k → k < 8 → IsWordPlace (M.regions memory.old) (heir + 8 * k) }
+    requires behind { IsWordPlace (M.regions memory.old) (M.word memory.old (at + 16) + 24) }
     requires other { heir + 16 ≢ M.word memory.old (at + 16) + 24 }
-    requires places { (side : Bool) → 0 < both (M.word memory.old (at + 32)) (M.word memory.old (at + 40)) side → IsPlace (M.regions memory.old) (both (M.word memory.old (at + 32)) (M.word memory.old (at + 40)) side + 48) }
+    requires places { (side : Bool) → 0 < both (M.word memory.old (at + 32)) (M.word memory.old (at + 40)) side → IsWordPlace (M.regions memory.old) (both (M.word memory.old (at + 32)) (M.word memory.old (at + 40)) side + 48) }
     requires apart { (side : Bool) → 0 < both (M.word memory.old (at + 32)) (M.word memory.old (at + 40)) side → (both (M.word memory.old (at + 32)) (M.word memory.old (at + 40)) side + 48 < heir + 32) ⊎ (heir + 64 ≤ both (M.word memory.old (at + 32)) (M.word memory.old (at + 40)) side + 48) }
     requires two { 0 < M.word memory.old (at + 32) → 0 < M.word memory.old (at + 40) → M.word memory.old (at + 32) ≢ M.word memory.old (at + 40) }
     ensures given { (mid : ℕ → ℕ) × (HasHeirLinks (M.regions memory.old) (M.word memory.old) heir (M.word memory.old (at + 16)) mid
@@ -109,7 +109,7 @@ fn raise_leaf<M: Links, L: Ledger>(
     requires child { child ≡ M.word memory.old (at + slot is_upper) }
     requires held { (index : ℕ → List ℕ) × ((low : ℕ) × ((deep : ℕ) × ((deep ≤ levels) × IsHeld (M.regions memory.old) (M.word memory.old) index bin parent low deep at))) }
     ensures trie { (index : ℕ → List ℕ) (low deep : ℕ) → deep ≤ levels → IsHeld (M.regions memory.old) (M.word memory.old) index bin parent low deep at →
-        (size : ℕ) → index size ≡ at ∷ [] → IsTrie (M.word memory.new) (without size index) bin parent low deep result }
+        (size : ℕ) → index size ≡ at ∷ [] → IsTrie (M.word memory.new) (without_size size index) bin parent low deep result }
     ensures words { (index : ℕ → List ℕ) (low deep : ℕ) → deep ≤ levels → IsHeld (M.regions memory.old) (M.word memory.old) index bin parent low deep at →
         OnlyHeldChanges (M.regions memory.old) index low (low + width deep) (M.word memory.old) (M.word memory.new) }
     ensures regions { M.regions memory.new ≡ M.regions memory.old }
@@ -139,7 +139,7 @@ fn give_to_leaf<M: Links, L: Ledger>(
     requires some { 0 < at }
     requires held { (index : ℕ → List ℕ) × ((low : ℕ) × ((deep : ℕ) × ((deep ≤ levels) × IsHeld (M.regions memory.old) (M.word memory.old) index bin parent low deep at))) }
     ensures trie { (index : ℕ → List ℕ) (low deep : ℕ) → deep ≤ levels → IsHeld (M.regions memory.old) (M.word memory.old) index bin parent low deep at →
-        (size : ℕ) → index size ≡ at ∷ [] → IsTrie (M.word memory.new) (without size index) bin parent low deep result }
+        (size : ℕ) → index size ≡ at ∷ [] → IsTrie (M.word memory.new) (without_size size index) bin parent low deep result }
     ensures words { (index : ℕ → List ℕ) (low deep : ℕ) → deep ≤ levels → IsHeld (M.regions memory.old) (M.word memory.old) index bin parent low deep at →
         OnlyHeldChanges (M.regions memory.old) index low (low + width deep) (M.word memory.old) (M.word memory.new) }
     ensures regions { M.regions memory.new ≡ M.regions memory.old }
@@ -199,7 +199,7 @@ pub(crate) fn swap_child<M: Links, L: Ledger>(
     child: u64,
     steps: &mut Steps<L>,
 )
-    requires places { (side : Bool) → IsPlace (M.regions memory.old) (parent + slot side) }
+    requires places { (side : Bool) → IsWordPlace (M.regions memory.old) (parent + slot side) }
     requires was { (side : Bool) × ((M.word memory.old (parent + slot side) ≡ was) × (M.word memory.old (parent + slot (not side)) ≢ was)) }
     ensures stored { (side : Bool) → M.word memory.old (parent + slot side) ≡ was → M.word memory.old (parent + slot (not side)) ≢ was →
         IsStored (M.regions memory.old) (M.word memory.old) (parent + slot side) child (M.word memory.new) }

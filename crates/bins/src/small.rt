@@ -1,8 +1,8 @@
 // The rings of small chunks.
 ghost use Rattle.std.specs.Prelude.{◌≡◌, ◌≢◌, ℕ, ◌+◌, ◌%◌, ◌^◌, ◌<◌, ◌≤◌, List, [], MatchOption};
 ghost use Rattle.bins.specs.Index.{IsIn, with_chunk, without_chunk, IsNone, IsLeastFit};
-ghost use Rattle.bins.specs.Linked.{IsLinked, IsFresh, OnlyLinksChange};
-ghost use Rattle.bins.specs.Stores.{IsPlace, HasPushed, HasNewest, HasPulled, HasLess};
+ghost use Rattle.bins.specs.Linked.{IsLinked, IsFreshChunk, OnlyLinksChange};
+ghost use Rattle.bins.specs.Stores.{IsWordPlace, HasPushed, HasNewest, HasPulled, HasLess};
 
 use crate::bins::Bins;
 use crate::map;
@@ -13,9 +13,9 @@ use step_count::Steps;
 
 /// Puts a chunk behind the last of a ring, which is its tag where it is empty.
 fn push<M: Links, L: Ledger>(memory: &mut M, last: u64, tag: u64, chunk: u64, steps: &mut Steps<L>)
-    requires prev { IsPlace (M.regions memory.old) (chunk + 16) }
-    requires next { IsPlace (M.regions memory.old) (chunk + 24) }
-    requires behind { last ≢ tag → IsPlace (M.regions memory.old) (last + 24) }
+    requires prev { IsWordPlace (M.regions memory.old) (chunk + 16) }
+    requires next { IsWordPlace (M.regions memory.old) (chunk + 24) }
+    requires behind { last ≢ tag → IsWordPlace (M.regions memory.old) (last + 24) }
     requires other { last ≢ tag → (last + 24 ≢ chunk + 16) × (last + 24 ≢ chunk + 24) }
     ensures pushed { HasPushed (M.regions memory.old) (M.word memory.old) last tag chunk (M.word memory.new) }
     ensures regions { M.regions memory.new ≡ M.regions memory.old }
@@ -37,8 +37,8 @@ pub(crate) fn pull<M: Links, L: Ledger>(
     tag: u64,
     steps: &mut Steps<L>,
 )
-    requires front { prev ≢ tag → IsPlace (M.regions memory.old) (prev + 24) }
-    requires back { next ≢ tag → IsPlace (M.regions memory.old) (next + 16) }
+    requires front { prev ≢ tag → IsWordPlace (M.regions memory.old) (prev + 24) }
+    requires back { next ≢ tag → IsWordPlace (M.regions memory.old) (next + 16) }
     requires other { prev ≢ tag → next ≢ tag → prev + 24 ≢ next + 16 }
     ensures pulled { HasPulled (M.regions memory.old) (M.word memory.old) prev next tag (M.word memory.new) }
     ensures regions { M.regions memory.new ≡ M.regions memory.old }
@@ -64,10 +64,10 @@ impl Bins {
         steps: &mut Steps<L>,
     )
         requires small { size < 256 }
-        requires linked { (index : ℕ → List ℕ) × IsLinked (M.regions memory.old) (M.word memory.old) self.old index × IsFresh (M.regions memory.old) (M.word memory.old) index size chunk }
-        ensures linked { (index : ℕ → List ℕ) → IsLinked (M.regions memory.old) (M.word memory.old) self.old index → IsFresh (M.regions memory.old) (M.word memory.old) index size chunk →
+        requires linked { (index : ℕ → List ℕ) × IsLinked (M.regions memory.old) (M.word memory.old) self.old index × IsFreshChunk (M.regions memory.old) (M.word memory.old) index size chunk }
+        ensures linked { (index : ℕ → List ℕ) → IsLinked (M.regions memory.old) (M.word memory.old) self.old index → IsFreshChunk (M.regions memory.old) (M.word memory.old) index size chunk →
             IsLinked (M.regions memory.new) (M.word memory.new) self.new (with_chunk size chunk index) }
-        ensures words { (index : ℕ → List ℕ) → IsLinked (M.regions memory.old) (M.word memory.old) self.old index → IsFresh (M.regions memory.old) (M.word memory.old) index size chunk →
+        ensures words { (index : ℕ → List ℕ) → IsLinked (M.regions memory.old) (M.word memory.old) self.old index → IsFreshChunk (M.regions memory.old) (M.word memory.old) index size chunk →
             OnlyLinksChange (M.regions memory.old) index size chunk (M.word memory.old) (M.word memory.new) }
         ensures regions { M.regions memory.new ≡ M.regions memory.old }
         ensures follows { M.follows memory.old [] memory.new }

@@ -9,7 +9,7 @@ use Rattle.heap_memory.specs.Words.{IsStored}
 use Rattle.dlmalloc_chunks.specs.Head.{size_of}
 use Rattle.bins.specs.declared.bins.Bins.{Bins}
 use Rattle.bins.specs.Index.{IsIn, AreDistinct, IsLeastFit, first_or, removed, with_chunk, without_chunk}
-use Rattle.bins.specs.Linked.{IsLinked, IsFresh}
+use Rattle.bins.specs.Linked.{IsLinked, IsFreshChunk}
 use Rattle.block_rows.specs.Plain.{index_of, is_apart, HasPlace, AreBeside}
 use Rattle.bins.proofs.Chunks.{one_size}
 use Rattle.bins.proofs.Stays.{index_stays}
@@ -129,7 +129,7 @@ module _ (regions : List Grant) (old new : ℕ → ℕ) (bins : Bins) (entries :
     ]);
   })
 
-  pub is_fresh : IsFresh regions new (index_of entries) size at
+  pub is_fresh : IsFreshChunk regions new (index_of entries) size at
   is_fresh = record {
     is = record {
       whole = place.whole;
@@ -169,8 +169,8 @@ module _ (regions : List Grant) (old : ℕ → ℕ) (bins : Bins) (entries : Lis
 pub linked_at : (regions regions' : List Grant) (words : ℕ → ℕ) (bins : Bins) (index : ℕ → List ℕ) → regions' ≡ regions → IsLinked regions words bins index → IsLinked regions' words bins index
 linked_at regions regions' words bins index same h = subst (λ (r : List Grant). IsLinked r words bins index) (sym same) h
 
-pub fresh_at : (regions regions' : List Grant) (words : ℕ → ℕ) (index : ℕ → List ℕ) (size at : ℕ) → regions' ≡ regions → IsFresh regions words index size at → IsFresh regions' words index size at
-fresh_at regions regions' words index size at same h = subst (λ (r : List Grant). IsFresh r words index size at) (sym same) h
+pub fresh_at : (regions regions' : List Grant) (words : ℕ → ℕ) (index : ℕ → List ℕ) (size at : ℕ) → regions' ≡ regions → IsFreshChunk regions words index size at → IsFreshChunk regions' words index size at
+fresh_at regions regions' words index size at same h = subst (λ (r : List Grant). IsFreshChunk r words index size at) (sym same) h
 
 pub beside_at : (regions regions' : List Grant) (words : ℕ → ℕ) (bins : Bins) (entries entries' : List (ℕ × ℕ)) → regions' ≡ regions → entries' ≡ entries → AreBeside regions words bins entries → AreBeside regions' words bins entries'
 beside_at regions regions' words bins entries entries' same list h =

@@ -19,7 +19,7 @@ pub use Rattle.heap_memory.specs.FlatSystem.{regions_of, word_of}
 pub use Rattle.heap_memory.specs.RegionLaws.{whole_each}
 pub use Rattle.heap_memory.specs.Regions.{IsApart, IsGoodGrant, IsWhole, IsWordOf, is_granted, with_grant}
 pub use Rattle.heap_memory.specs.RunLaws.{granted_before, granted_without}
-pub use Rattle.heap_memory.specs.Runs.{IsRun as IsGivenRun, IsRun as IsWholeRun, begins_in, up_to, without}
+pub use Rattle.heap_memory.specs.Runs.{IsRun, begins_in, up_to, without_run}
 pub use Rattle.heap_memory.specs.Words.{AreCopied, AreWordsOf, IsBeside, IsStored}
 pub use Rattle.heap_memory.specs.declared.grant.Grant.{Grant}
 pub use Rattle.dlmalloc_chunks.proofs.PowersOfTwo.{power_from_test}
@@ -50,7 +50,7 @@ unfoldable pub use Rattle.dlmalloc.specs.Extents.{chunks_from}
 pub use Rattle.dlmalloc.specs.Freed.{before, freed, freed_in, has, victim_in}
 pub use Rattle.dlmalloc.specs.GivenBack.{AreGivenBack, IsCounted, IsPassed, told_of}
 pub use Rattle.dlmalloc.specs.Granted.{granted, is_before, is_behind, is_put_before, opened, put_before, top_and_foot}
-pub use Rattle.dlmalloc.specs.Grown.{HasSameUsed, IsAdmitted, IsFresh, IsPrepended}
+pub use Rattle.dlmalloc.specs.Grown.{HasSameUsed, IsAdmitted, IsFreshGrant, IsPrepended}
 pub use Rattle.dlmalloc.specs.Heap.{AreTold, IsGranularity, IsSound, segments_of, state_of}
 pub use Rattle.dlmalloc.specs.Moved.{IsElsewhere, IsGivenSize, IsInPlace, IsResized}
 pub use Rattle.dlmalloc.specs.Moves.{AllSpare, HasMore, IsMove, IsRunOf, IsSpared, used_of}
@@ -60,7 +60,7 @@ pub use Rattle.dlmalloc.specs.Record.{IsRecordAt}
 pub use Rattle.dlmalloc.specs.Released.{IsFreeAround, bytes_of, counted, handed_out, is_counted, is_own, is_unused, left_by_count, may_leave, passed, regions_without, releases, staying, taken_back}
 pub use Rattle.dlmalloc.specs.Requested.{IsFound, IsHandedOut, IsMemberServed, IsServedAligned, IsServedAt, asked, spans}
 pub use Rattle.dlmalloc.specs.Resized.{HasSameOthers, exchanged, grown_into, halves, has_room, in_place, joined, replaced_both, tail_freed}
-pub use Rattle.dlmalloc.specs.Segments.{AreApart, AreRecords, AreSegments, IsApartFrom, IsRun, IsSegment, IsWithin, has_byte_in, record_of}
+pub use Rattle.dlmalloc.specs.Segments.{AreApart, AreRecords, AreSegments, IsApartFrom, IsFlaggedRun, IsSegment, IsWithin, has_byte_in, record_of}
 unfoldable pub use Rattle.dlmalloc.specs.Segments.{records_from}
 pub use Rattle.dlmalloc.specs.Served.{AreSpans, IsBehindTop, IsCutOut, IsDisposed, IsMoved, IsObtained, IsServed, IsTakenFromGrant, IsTurned, KeepsRegions, OnlyBlocksChange, regions_in}
 pub use Rattle.dlmalloc.specs.Shortened.{IsCutBack, IsShortened, IsTrimmed}

@@ -13,14 +13,14 @@ use Rattle.dlmalloc.specs.Boundaries.{IsInRecord, OnlyTagsChange, IsInFree, IsOw
 use Rattle.dlmalloc.specs.Granted.{opened, is_behind, is_put_before, prepended, granted}
 use Rattle.dlmalloc.specs.Freed.{freed}
 use Rattle.dlmalloc.specs.Blocks.{HasOneMore}
-use Rattle.dlmalloc.specs.Segments.{IsRun, IsApartFrom}
+use Rattle.dlmalloc.specs.Segments.{IsFlaggedRun, IsApartFrom}
 use Rattle.dlmalloc.specs.Heap.{state_of, IsSound}
 use Rattle.dlmalloc.specs.Order.{KeepsIndex}
 use Rattle.dlmalloc.specs.declared.heap.Dlmalloc.{Dlmalloc}
 
 -- A grant is a region that no segment has.
-pub record IsFresh (regions : List Grant) (segments : List Segment) (grant : Grant) : Type 0 where
-  pub run : IsRun regions grant.base grant.size grant.flags
+pub record IsFreshGrant (regions : List Grant) (segments : List Segment) (grant : Grant) : Type 0 where
+  pub run : IsFlaggedRun regions grant.base grant.size grant.flags
   pub apart : AllByRecursion (λ (segment : Segment). IsApartFrom segment (opened grant)) segments
   pub long : 128 ≤ grant.size
   pub base_aligned : grant.base % 16 ≡ 0
@@ -39,7 +39,7 @@ BeginsTop old grant top =
     (top ≡ grant.base) ⊎ ((0 < old.size) × (is_behind grant (record { base = old.base; size = old.size; flags = old.flags; extents = [] }) ≡ true) × (top ≡ old.top))
 
 -- A grant became part of a heap, and the top is in it.
-pub record IsJoined {A : Type 0} (regions : A → List Grant) (word : A → ℕ → ℕ) (follows : A → List Event → A → Type 0) (old : Dlmalloc A) (grant : Grant) (new : Dlmalloc A) : Type 0 where
+pub record IsGrantJoined {A : Type 0} (regions : A → List Grant) (word : A → ℕ → ℕ) (follows : A → List Event → A → Type 0) (old : Dlmalloc A) (grant : Grant) (new : Dlmalloc A) : Type 0 where
   pub state : (n : ℕ) → state_of word new ≡ granted grant n (state_of word old)
   pub sound : IsSound regions word new
   pub there : 0 < new.size

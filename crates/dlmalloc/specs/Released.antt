@@ -3,7 +3,7 @@ use Rattle.std.specs.Prelude.{◌≡◌, ◌≢◌, ◌↔◌, ⊤, ℕ, ◌+◌
 use Rattle.std.specs.List.{list_any, AllByRecursion}
 use Rattle.heap_memory.specs.declared.grant.Grant.{Grant}
 use Rattle.heap_memory.specs.Events.{Event, Released}
-use Rattle.heap_memory.specs.Runs.{without}
+use Rattle.heap_memory.specs.Runs.{without_run}
 use Rattle.dlmalloc_chunks.specs.declared.extent.Extent.{Extent}
 use Rattle.dlmalloc_chunks.specs.declared.extent.Kind.TheVariants.{Used, Record}
 use Rattle.dlmalloc.specs.Extents.{is_free, extent_at}
@@ -61,7 +61,7 @@ releases segments = map (λ segment. Released segment.base segment.size 0) segme
 
 abbrev pub regions_without : List Segment → List Grant → List Grant
 regions_without [] regions = regions
-regions_without (segment ∷ segments) regions = regions_without segments (without segment.base (segment.base + segment.size) regions)
+regions_without (segment ∷ segments) regions = regions_without segments (without_run segment.base (segment.base + segment.size) regions)
 
 abbrev pub bytes_of : List Segment → ℕ
 bytes_of [] = 0

@@ -14,14 +14,14 @@ abbrev pub IsWithin : ℕ → ℕ → ℕ → Grant → Type 0
 IsWithin low high flags region = (low ≤ region.base) × (region.base + region.size ≤ high) × (region.flags ≡ flags)
 
 -- a run of whole granted regions that have these flags
-pub record IsRun (regions : List Grant) (base size flags : ℕ) : Type 0 where
+pub record IsFlaggedRun (regions : List Grant) (base size flags : ℕ) : Type 0 where
   pub covered : (k : ℕ) → base ≤ k → k < base + size → IsTrue (is_granted regions k)
   pub whole : AllByRecursion (λ region. IsApart base (base + size) region ⊎ IsWithin base (base + size) flags region) regions
 
 -- A segment is a run of whole granted regions that have its flags, longer than a record. Its extents tile it, and the last
 -- of them ends a segment.
 pub record IsSegment (regions : List Grant) (words : ℕ → ℕ) (segment : Segment) : Type 0 where
-  pub run : IsRun regions segment.base segment.size segment.flags
+  pub run : IsFlaggedRun regions segment.base segment.size segment.flags
   pub low : 4096 ≤ segment.base
   pub high : segment.base + segment.size < 2 ^ 64
   pub long : 96 < segment.size

@@ -74,9 +74,9 @@ pub record IsDenied {A : Type 0} (denies : A → ℕ → GrantFault → Type 0) 
   pub denied : fault ≢ OutOfMemory → denies system (round_up (n + 96) old.granularity) fault
 
 -- why a request is refused
-abbrev pub IsRefused : {A : Type 0} → (A → ℕ → GrantFault → Type 0) → A → HeapState → ℕ → MallocError → Type 0
-IsRefused denies system old size TooLarge = limit old.granularity ≤ size
-IsRefused denies system old size (System fault) = (size < limit old.granularity) × IsDenied denies system old (padded size) fault
+abbrev pub IsMallocRefused : {A : Type 0} → (A → ℕ → GrantFault → Type 0) → A → HeapState → ℕ → MallocError → Type 0
+IsMallocRefused denies system old size TooLarge = limit old.granularity ≤ size
+IsMallocRefused denies system old size (System fault) = (size < limit old.granularity) × IsDenied denies system old (padded size) fault
 
 -- ---- what each call leaves
 
@@ -130,7 +130,7 @@ refused_events heap size (System fault) = Refused (round_up (padded size + 96) h
 
 -- A block of so many bytes was refused, and all is as it was.
 pub record IsRefusedWith {A : Type 0} (regions : A → List Grant) (word : A → ℕ → ℕ) (follows : A → List Event → A → Type 0) (refuses : A → A → Type 0) (denies : A → ℕ → GrantFault → Type 0) (old : Dlmalloc A) (size : ℕ) (error : MallocError) (new : Dlmalloc A) : Type 0 where
-  pub refused : IsRefused denies old.system (state_of word old) size error
+  pub refused : IsMallocRefused denies old.system (state_of word old) size error
   pub same : IsAsItWas regions word follows refuses (refused_events (state_of word old) size error) old new
 
 -- The block at an address was given back: its chunk is free, and one with the free ones beside it.

@@ -2,7 +2,7 @@
 use Rattle.std.specs.Prelude.{◌≡◌, ◌≢◌, ℕ, ◌+◌, ◌-◌, ◌&&◌, Bool, List, [], ◌∷◌, Some}
 use Rattle.heap_memory.specs.declared.grant.Grant.{Grant}
 use Rattle.heap_memory.specs.Regions.{IsWordOf}
-use Rattle.heap_memory.specs.Runs.{without}
+use Rattle.heap_memory.specs.Runs.{without_run}
 use Rattle.heap_memory.specs.Events.{Event, Released}
 use Rattle.dlmalloc_chunks.specs.declared.extent.Extent.{Extent}
 use Rattle.dlmalloc_chunks.specs.declared.extent.Kind.TheVariants.{Record}
@@ -33,7 +33,7 @@ pub record KeepsAllButTop {A : Type 0} (regions : A → List Grant) (word : A �
 pub record IsShortened {A : Type 0} (regions : A → List Grant) (word : A → ℕ → ℕ) (follows : A → List Event → A → Type 0) (old : Dlmalloc A) (less : ℕ) (new : Dlmalloc A) : Type 0 where
   pub state : state_of word new ≡ cut_top less (state_of word old)
   pub stays : KeepsAllButTop regions word old new
-  pub regions_are : regions new.system ≡ without (old.base + (old.size - less)) (old.base + old.size) (regions old.system)
+  pub regions_are : regions new.system ≡ without_run (old.base + (old.size - less)) (old.base + old.size) (regions old.system)
   pub followed : follows old.system (Released old.base old.size (old.size - less) ∷ []) new.system
 
 -- The top was cut as a trim cuts it, or was not.

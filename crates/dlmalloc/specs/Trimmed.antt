@@ -2,7 +2,7 @@
 use Rattle.std.specs.Prelude.{ℕ, ◌+◌, ◌-◌, ◌*◌, ◌/◌, ◌%◌, ◌^◌, Bool, false, ◌&&◌, ◌||◌, ◌==◌, nat_lt, if◌then◌else◌, List, [], ◌∷◌, ◌++◌, map, length}
 use Rattle.heap_memory.specs.declared.grant.Grant.{Grant}
 use Rattle.heap_memory.specs.Events.{Event, Released}
-use Rattle.heap_memory.specs.Runs.{without, is_in_units}
+use Rattle.heap_memory.specs.Runs.{without_run, is_in_units}
 use Rattle.dlmalloc_chunks.specs.Request.{limit}
 use Rattle.dlmalloc_chunks.specs.declared.extent.Extent.{Extent}
 use Rattle.dlmalloc_chunks.specs.declared.extent.Kind.{Kind}
@@ -91,7 +91,7 @@ end_released less (head ∷ rest) = Released head.base head.size (head.size - le
 
 abbrev pub without_end : ℕ → List Segment → List Grant → List Grant
 without_end less [] regions = regions
-without_end less (head ∷ rest) regions = without (head.base + (head.size - less)) (head.base + head.size) regions
+without_end less (head ∷ rest) regions = without_run (head.base + (head.size - less)) (head.base + head.size) regions
 
 -- which are those of the cut
 abbrev pub cut_off : Bool → ℕ → ℕ → HeapState → List Event

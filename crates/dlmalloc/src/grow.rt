@@ -10,7 +10,7 @@ ghost use Rattle.dlmalloc.specs.Granted.{is_behind, is_put_before};
 ghost use Rattle.dlmalloc.specs.Choice.{chosen};
 ghost use Rattle.dlmalloc.specs.Served.{IsCutOut};
 ghost use Rattle.dlmalloc.specs.Heap.{state_of, segments_of, IsSound, IsGranularity};
-ghost use Rattle.dlmalloc.specs.Grown.{IsFresh, IsJoined, IsAdmitted, IsGrown, IsAsItWas};
+ghost use Rattle.dlmalloc.specs.Grown.{IsFreshGrant, IsGrantJoined, IsAdmitted, IsGrown, IsAsItWas};
 ghost use Rattle.dlmalloc.specs.Order.{KeepsOrder};
 ghost use Rattle.dlmalloc.specs.Binned.{IsFreeAt, IsBinned, IsSameBins, FreeMoves};
 
@@ -77,9 +77,9 @@ impl<A: Allocator> Dlmalloc<A> {
     fn join<L: Ledger>(&mut self, grant: &Grant, steps: &mut Steps<L>)
         requires sound { IsSound A.regions A.word self.old }
         requires linked { IsBinned A.regions A.word self.old }
-        requires fresh { IsFresh (A.regions self.old.system) (segments_of A.word self.old) grant.now }
+        requires fresh { IsFreshGrant (A.regions self.old.system) (segments_of A.word self.old) grant.now }
         requires apart { is_put_before grant.now (segments_of A.word self.old) ≡ false }
-        ensures joined { IsJoined A.regions A.word A.follows self.old grant.now self.new }
+        ensures joined { IsGrantJoined A.regions A.word A.follows self.old grant.now self.new }
         ensures linked { IsBinned A.regions A.word self.new }
         ensures order { KeepsOrder A.regions A.word self.old self.new }
     {
@@ -106,7 +106,7 @@ impl<A: Allocator> Dlmalloc<A> {
     fn open<L: Ledger>(&mut self, grant: &Grant, steps: &mut Steps<L>)
         requires sound { IsSound A.regions A.word self.old }
         requires none { self.old.size ≡ 0 }
-        requires fresh { IsFresh (A.regions self.old.system) (segments_of A.word self.old) grant.now }
+        requires fresh { IsFreshGrant (A.regions self.old.system) (segments_of A.word self.old) grant.now }
         ensures joined { IsAdmitted A.regions A.word A.follows self.old grant.now self.new }
         ensures free { FreeMoves (state_of A.word self.old) (state_of A.word self.new) [] [] }
         ensures same { IsSameBins self.old self.new }
@@ -120,7 +120,7 @@ impl<A: Allocator> Dlmalloc<A> {
     fn extend<L: Ledger>(&mut self, grant: &Grant, steps: &mut Steps<L>)
         requires sound { IsSound A.regions A.word self.old }
         requires there { 0 < self.old.size }
-        requires fresh { IsFresh (A.regions self.old.system) (segments_of A.word self.old) grant.now }
+        requires fresh { IsFreshGrant (A.regions self.old.system) (segments_of A.word self.old) grant.now }
         requires behind { is_behind grant.now (record { base = self.old.base; size = self.old.size; flags = self.old.flags; extents = [] }) ≡ true }
         ensures joined { IsAdmitted A.regions A.word A.follows self.old grant.now self.new }
         ensures free { FreeMoves (state_of A.word self.old) (state_of A.word self.new) [] [] }
@@ -137,10 +137,10 @@ impl<A: Allocator> Dlmalloc<A> {
         requires sound { IsSound A.regions A.word self.old }
         requires linked { IsBinned A.regions A.word self.old }
         requires there { 0 < self.old.size }
-        requires fresh { IsFresh (A.regions self.old.system) (segments_of A.word self.old) grant.now }
+        requires fresh { IsFreshGrant (A.regions self.old.system) (segments_of A.word self.old) grant.now }
         requires apart { is_put_before grant.now (segments_of A.word self.old) ≡ false }
         requires beside { is_behind grant.now (record { base = self.old.base; size = self.old.size; flags = self.old.flags; extents = [] }) ≡ false }
-        ensures joined { IsJoined A.regions A.word A.follows self.old grant.now self.new }
+        ensures joined { IsGrantJoined A.regions A.word A.follows self.old grant.now self.new }
         ensures linked { IsBinned A.regions A.word self.new }
         ensures order { KeepsOrder A.regions A.word self.old self.new }
     {
@@ -158,7 +158,7 @@ impl<A: Allocator> Dlmalloc<A> {
     fn change_head<L: Ledger>(&mut self, grant: &Grant, steps: &mut Steps<L>)
         requires sound { IsSound A.regions A.word self.old }
         requires there { 0 < self.old.size }
-        requires fresh { IsFresh (A.regions self.old.system) (segments_of A.word self.old) grant.now }
+        requires fresh { IsFreshGrant (A.regions self.old.system) (segments_of A.word self.old) grant.now }
         requires apart { is_put_before grant.now (segments_of A.word self.old) ≡ false }
         requires beside { is_behind grant.now (record { base = self.old.base; size = self.old.size; flags = self.old.flags; extents = [] }) ≡ false }
         ensures joined { IsAdmitted A.regions A.word A.follows self.old grant.now self.new }

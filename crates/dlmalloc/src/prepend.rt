@@ -6,7 +6,7 @@ ghost use Rattle.dlmalloc_chunks.specs.Chunk.{HasHead};
 ghost use Rattle.dlmalloc_chunks.specs.Head.{head_of};
 ghost use Rattle.dlmalloc.specs.Granted.{is_before, is_put_before};
 ghost use Rattle.dlmalloc.specs.Heap.{state_of, segments_of, IsSound};
-ghost use Rattle.dlmalloc.specs.Grown.{IsFresh, IsPrepended, IsPutBefore};
+ghost use Rattle.dlmalloc.specs.Grown.{IsFreshGrant, IsPrepended, IsPutBefore};
 ghost use Rattle.dlmalloc.specs.Prepended.{IsBehindAt};
 ghost use Rattle.dlmalloc.specs.Order.{KeepsOrder};
 ghost use Rattle.dlmalloc.specs.Binned.{IsBinned, IsSameBins};
@@ -105,7 +105,7 @@ impl<A: Allocator> Dlmalloc<A> {
     )
         requires sound { IsSound A.regions A.word self.old }
         requires linked { IsBinned A.regions A.word self.old }
-        requires fresh { IsFresh (A.regions self.old.system) (segments_of A.word self.old) grant.now }
+        requires fresh { IsFreshGrant (A.regions self.old.system) (segments_of A.word self.old) grant.now }
         requires behind { IsBehindAt A.word self.old grant.now behind }
         requires whole { n % 16 ≡ 0 }
         requires least { 32 ≤ n }
@@ -122,7 +122,7 @@ impl<A: Allocator> Dlmalloc<A> {
     /// Puts a grant before a segment, in two chunks that are in use.
     fn prepend<L: Ledger>(&mut self, grant: &Grant, n: u64, behind: Behind, steps: &mut Steps<L>)
         requires sound { IsSound A.regions A.word self.old }
-        requires fresh { IsFresh (A.regions self.old.system) (segments_of A.word self.old) grant.now }
+        requires fresh { IsFreshGrant (A.regions self.old.system) (segments_of A.word self.old) grant.now }
         requires behind { IsBehindAt A.word self.old grant.now behind }
         requires whole { n % 16 ≡ 0 }
         requires least { 32 ≤ n }
@@ -139,7 +139,7 @@ impl<A: Allocator> Dlmalloc<A> {
     /// Puts a grant before the head segment, in two chunks that are in use.
     fn prepend_head<L: Ledger>(&mut self, grant: &Grant, n: u64, steps: &mut Steps<L>)
         requires sound { IsSound A.regions A.word self.old }
-        requires fresh { IsFresh (A.regions self.old.system) (segments_of A.word self.old) grant.now }
+        requires fresh { IsFreshGrant (A.regions self.old.system) (segments_of A.word self.old) grant.now }
         requires behind { IsBehindAt A.word self.old grant.now Head }
         requires whole { n % 16 ≡ 0 }
         requires least { 32 ≤ n }
@@ -155,7 +155,7 @@ impl<A: Allocator> Dlmalloc<A> {
     /// Puts a grant before the segment that a record tells, in two chunks that are in use.
     fn prepend_told<L: Ledger>(&mut self, payload: u64, grant: &Grant, n: u64, steps: &mut Steps<L>)
         requires sound { IsSound A.regions A.word self.old }
-        requires fresh { IsFresh (A.regions self.old.system) (segments_of A.word self.old) grant.now }
+        requires fresh { IsFreshGrant (A.regions self.old.system) (segments_of A.word self.old) grant.now }
         requires behind { IsBehindAt A.word self.old grant.now (Told payload) }
         requires whole { n % 16 ≡ 0 }
         requires least { 32 ≤ n }

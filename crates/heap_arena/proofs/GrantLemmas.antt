@@ -5,7 +5,7 @@ use Rattle.std.proofs.Common.{◌∙◌, ap, sym, subst, refl, inl, inr, arith}
 use Rattle.std.proofs.lemmas.Bool.Decides.{nat_tests}
 use Rattle.heap_memory.specs.declared.grant.Grant.{Grant}
 use Rattle.heap_memory.specs.Regions.{is_granted, is_whole, are_whole, are_ordered, with_grant, IsApart}
-use Rattle.heap_memory.specs.Runs.{begins_in, up_to, without, IsRun}
+use Rattle.heap_memory.specs.Runs.{begins_in, up_to, without_run, IsRun}
 use Rattle.heap_memory.specs.RegionLaws.{ordered_with, whole_with}
 use Rattle.heap_arena.specs.Grants.{grant_at, grants, are_between}
 
@@ -31,7 +31,7 @@ grants_none words = refl
 
 -- what is given back of grants and a further one
 pub without_more : (low high : ℕ) (regions : List Grant) (last : Grant) →
-    without low high (regions ++ last ∷ []) ≡ (if begins_in low high last then without low high regions else without low high regions ++ up_to low last ∷ [])
+    without_run low high (regions ++ last ∷ []) ≡ (if begins_in low high last then without_run low high regions else without_run low high regions ++ up_to low last ∷ [])
 without_more low high [] last = go (begins_in low high last)
   where
     go : (b : Bool) → map (λ region. up_to low region) (cond (not b) (last ∷ []) []) ≡ (if b then [] else up_to low last ∷ [])
@@ -39,7 +39,7 @@ without_more low high [] last = go (begins_in low high last)
     go false = refl
 without_more low high (region ∷ regions) last = go (begins_in low high region) (begins_in low high last) (without_more low high regions last)
   where
-    go : (b c : Bool) → map (λ r. up_to low r) (filter (λ r. not (begins_in low high r)) (regions ++ last ∷ [])) ≡ (if c then without low high regions else without low high regions ++ up_to low last ∷ []) →
+    go : (b c : Bool) → map (λ r. up_to low r) (filter (λ r. not (begins_in low high r)) (regions ++ last ∷ [])) ≡ (if c then without_run low high regions else without_run low high regions ++ up_to low last ∷ []) →
         map (λ r. up_to low r) (cond (not b) (region ∷ filter (λ r. not (begins_in low high r)) (regions ++ last ∷ [])) (filter (λ r. not (begins_in low high r)) (regions ++ last ∷ [])))
         ≡ (if c then map (λ r. up_to low r) (cond (not b) (region ∷ filter (λ r. not (begins_in low high r)) regions) (filter (λ r. not (begins_in low high r)) regions))
         else map (λ r. up_to low r) (cond (not b) (region ∷ filter (λ r. not (begins_in low high r)) regions) (filter (λ r. not (begins_in low high r)) regions)) ++ up_to low last ∷ [])
@@ -49,20 +49,20 @@ without_more low high (region ∷ regions) last = go (begins_in low high region)
     go false false rest = ap (λ (rs : List Grant). up_to low region ∷ rs) rest
 
 -- a grant more of a table was looked at, and it stays, or is given back
-pub kept_more : (low high : ℕ) (initial old new : List ℕ) (i kept : ℕ) → grants old kept ≡ without low high (grants initial i) →
+pub kept_more : (low high : ℕ) (initial old new : List ℕ) (i kept : ℕ) → grants old kept ≡ without_run low high (grants initial i) →
     ((k : ℕ) → k ≢ kept → grant_at new k ≡ grant_at old k) → grant_at new kept ≡ up_to low (grant_at initial i) → begins_in low high (grant_at initial i) ≡ false →
-    grants new (kept + 1) ≡ without low high (grants initial (i + 1))
+    grants new (kept + 1) ≡ without_run low high (grants initial (i + 1))
 kept_more low high initial old new i kept before others here stays =
-    let front : grants new kept ≡ without low high (grants initial i) = grants_same old new kept (λ k less. others k (λ same. omega (arith, less, same))) ∙ before in
-    let last : without low high (grants initial (i + 1)) ≡ without low high (grants initial i) ++ up_to low (grant_at initial i) ∷ [] =
-    ap (without low high) (grants_more initial i) ∙ (without_more low high (grants initial i) (grant_at initial i)
-    ∙ ap (λ (b : Bool). if b then without low high (grants initial i) else without low high (grants initial i) ++ up_to low (grant_at initial i) ∷ []) stays) in
-    grants_more new kept ∙ (ap (λ (rs : List Grant). rs ++ grant_at new kept ∷ []) front ∙ (ap (λ (g : Grant). without low high (grants initial i) ++ g ∷ []) here ∙ sym last))
+    let front : grants new kept ≡ without_run low high (grants initial i) = grants_same old new kept (λ k less. others k (λ same. omega (arith, less, same))) ∙ before in
+    let last : without_run low high (grants initial (i + 1)) ≡ without_run low high (grants initial i) ++ up_to low (grant_at initial i) ∷ [] =
+    ap (without_run low high) (grants_more initial i) ∙ (without_more low high (grants initial i) (grant_at initial i)
+    ∙ ap (λ (b : Bool). if b then without_run low high (grants initial i) else without_run low high (grants initial i) ++ up_to low (grant_at initial i) ∷ []) stays) in
+    grants_more new kept ∙ (ap (λ (rs : List Grant). rs ++ grant_at new kept ∷ []) front ∙ (ap (λ (g : Grant). without_run low high (grants initial i) ++ g ∷ []) here ∙ sym last))
 
-pub left_more : (low high : ℕ) (initial : List ℕ) (i : ℕ) → begins_in low high (grant_at initial i) ≡ true → without low high (grants initial (i + 1)) ≡ without low high (grants initial i)
+pub left_more : (low high : ℕ) (initial : List ℕ) (i : ℕ) → begins_in low high (grant_at initial i) ≡ true → without_run low high (grants initial (i + 1)) ≡ without_run low high (grants initial i)
 left_more low high initial i leaves =
-    ap (without low high) (grants_more initial i) ∙ (without_more low high (grants initial i) (grant_at initial i)
-    ∙ ap (λ (b : Bool). if b then without low high (grants initial i) else without low high (grants initial i) ++ up_to low (grant_at initial i) ∷ []) leaves)
+    ap (without_run low high) (grants_more initial i) ∙ (without_more low high (grants initial i) (grant_at initial i)
+    ∙ ap (λ (b : Bool). if b then without_run low high (grants initial i) else without_run low high (grants initial i) ++ up_to low (grant_at initial i) ∷ []) leaves)
 
 -- ---- grants between two addresses
 
@@ -100,7 +100,7 @@ run_within base top low high regions between run = (granted_between base top reg
 
 -- what is given back up to the end leaves grants up to where it begins, and else up to the same address
 pub between_without : (base top low high end : ℕ) (regions : List Grant) → IsTrue (are_whole regions) → IsTrue (are_between base top regions) → ((low ≤ end) × (top ≤ high)) ⊎ (end ≡ top) →
-    IsTrue (are_between base end (without low high regions))
+    IsTrue (are_between base end (without_run low high regions))
 between_without base top low high end [] whole between how = refl
 between_without base top low high end (region ∷ regions) whole between (inl reaches) = grind (arith, nat_tests, between_without base top low high end regions)
 between_without base top low high end (region ∷ regions) whole between (inr same) = grind (arith, nat_tests, between_without base top low high end regions)

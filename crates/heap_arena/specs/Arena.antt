@@ -6,7 +6,7 @@ use Rattle.heap_memory.specs.declared.grant.GrantFault.TheVariants.{NoSpace}
 use Rattle.heap_memory.specs.Allocator.{IsFixed}
 use Rattle.heap_memory.specs.Events.{Event, Granted, Refused, Released}
 use Rattle.heap_memory.specs.Regions.{is_granted}
-use Rattle.heap_memory.specs.Runs.{without}
+use Rattle.heap_memory.specs.Runs.{without_run}
 use Rattle.heap_memory.specs.Words.{IsBeside}
 use Rattle.heap_arena.specs.Grants.{grants}
 use Rattle.heap_arena.specs.declared.arena.Arena.{Arena}
@@ -51,7 +51,7 @@ pub record IsArenaAfter (old : Arena) (events : List Event) (new : Arena) : Type
 -- The bytes from an address on and below another one, the end of a run, came back. Where they reach the top, it is where they
 -- begin, or at the first word.
 pub record IsTakenBack (low high : ℕ) (old new : Arena) : Type 0 where
-  pub regions : regions_of new ≡ without low high (regions_of old)
+  pub regions : regions_of new ≡ without_run low high (regions_of old)
   pub words : new.words.now ≡ old.words.now
   pub base : new.base ≡ old.base
   pub table : length new.table.words.now ≡ length old.table.words.now

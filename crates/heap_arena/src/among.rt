@@ -3,7 +3,7 @@ ghost use Rattle.std.specs.Prelude.{◌≡◌, ◌+◌, ◌%◌, ◌<◌, ◌≤
 ghost use Rattle.std.specs.List.{AllByRecursion, AllZip, list_any};
 ghost use Rattle.heap_memory.specs.Events.{Granted};
 ghost use Rattle.heap_memory.specs.Regions.{IsWordOf, IsApart, IsGoodGrant, with_grant};
-ghost use Rattle.heap_memory.specs.Runs.{without};
+ghost use Rattle.heap_memory.specs.Runs.{without_run};
 ghost use Rattle.heap_memory.specs.Words.{IsStored};
 ghost use Rattle.heap_arena.specs.Arena.{IsSameArena, IsTakenBack};
 ghost use Rattle.heap_arena.specs.Arenas.{are_in_order, regions_of_all, word_among, place_for, overlaps, AreAfter, AreUnwritten, IsGrantedByOne, IsOnlyWritten, IsDeniedByAll};
@@ -77,7 +77,7 @@ pub(crate) fn alloc_among<'a>(arenas: &mut [Arena<'a>], size: u64) -> Result<Gra
 pub(crate) fn take_back_among<'a>(arenas: &mut [Arena<'a>], low: u64, high: u64)
     requires { low % 16 ≡ 0 }
     ensures taken { AllZip (λ x y. IsTakenBack low high x y) arenas.old arenas.new }
-    ensures regions { regions_of_all arenas.new ≡ without low high (regions_of_all arenas.old) }
+    ensures regions { regions_of_all arenas.new ≡ without_run low high (regions_of_all arenas.old) }
 {
     if !arenas.is_empty() {
         arenas[0].take_back(low, high);

@@ -4,7 +4,7 @@ ghost use Rattle.std.specs.Int.{is_power_of_two};
 ghost use Rattle.std.specs.List.{AllByRecursion};
 ghost use Rattle.heap_memory.specs.Events.{Granted, Refused, Released};
 ghost use Rattle.heap_memory.specs.Regions.{IsWordOf, IsApart, IsGoodGrant, with_grant};
-ghost use Rattle.heap_memory.specs.Runs.{IsRun, is_in_units, without};
+ghost use Rattle.heap_memory.specs.Runs.{IsRun, is_in_units, without_run};
 
 use crate::arena::Arena;
 use heap_memory::{Allocator, Grant, GrantFault};
@@ -73,7 +73,7 @@ impl<'a> Allocator for Arena<'a> {
         requires within { new_size ≤ old_size }
         requires whole { new_size % 16 ≡ 0 }
         ensures answer { result ≡ is_in_units 1 new_size }
-        ensures regions { regions_of self.new ≡ without (at + new_size) (at + old_size) (regions_of self.old) }
+        ensures regions { regions_of self.new ≡ without_run (at + new_size) (at + old_size) (regions_of self.old) }
         ensures words { (k : ℕ) → IsWordOf (regions_of self.new) k → word_of self.new k ≡ word_of self.old k }
         ensures all_words { self.new.words.now ≡ self.old.words.now }
         ensures follows { IsArenaAfter self.old (Released at old_size new_size ∷ []) self.new }
@@ -89,7 +89,7 @@ impl<'a> Allocator for Arena<'a> {
     fn free(&mut self, at: u64, size: u64) -> bool
         requires { IsRun (regions_of self.old) at (at + size) }
         ensures answer { result ≡ true }
-        ensures regions { regions_of self.new ≡ without at (at + size) (regions_of self.old) }
+        ensures regions { regions_of self.new ≡ without_run at (at + size) (regions_of self.old) }
         ensures words { (k : ℕ) → IsWordOf (regions_of self.new) k → word_of self.new k ≡ word_of self.old k }
         ensures all_words { self.new.words.now ≡ self.old.words.now }
         ensures follows { IsArenaAfter self.old (Released at size 0 ∷ []) self.new }

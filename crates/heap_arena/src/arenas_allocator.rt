@@ -4,7 +4,7 @@ ghost use Rattle.std.specs.Int.{is_power_of_two};
 ghost use Rattle.std.specs.List.{AllByRecursion, AllZip};
 ghost use Rattle.heap_memory.specs.Events.{Granted, Refused, Released};
 ghost use Rattle.heap_memory.specs.Regions.{IsWordOf, IsApart, IsGoodGrant, with_grant};
-ghost use Rattle.heap_memory.specs.Runs.{IsRun, is_in_units, without};
+ghost use Rattle.heap_memory.specs.Runs.{IsRun, is_in_units, without_run};
 
 use crate::among::{alloc_among, take_back_among};
 use crate::arenas::Arenas;
@@ -63,7 +63,7 @@ impl<'a, const N: usize> Allocator for Arenas<'a, N> {
         requires within { new_size ≤ old_size }
         requires whole { new_size % 16 ≡ 0 }
         ensures answer { result ≡ is_in_units 1 new_size }
-        ensures regions { regions_of_all self.new.arenas.items ≡ without (at + new_size) (at + old_size) (regions_of_all self.old.arenas.items) }
+        ensures regions { regions_of_all self.new.arenas.items ≡ without_run (at + new_size) (at + old_size) (regions_of_all self.old.arenas.items) }
         ensures words { (k : ℕ) → IsWordOf (regions_of_all self.new.arenas.items) k → word_among self.new.arenas.items k ≡ word_among self.old.arenas.items k }
         ensures taken { AllZip (λ x y. IsTakenBack (at + new_size) (at + old_size) x y) self.old.arenas.items self.new.arenas.items }
         ensures follows { AreAfter self.old.arenas.items (Released at old_size new_size ∷ []) self.new.arenas.items }
@@ -77,7 +77,7 @@ impl<'a, const N: usize> Allocator for Arenas<'a, N> {
     fn free(&mut self, at: u64, size: u64) -> bool
         requires { IsRun (regions_of_all self.old.arenas.items) at (at + size) }
         ensures answer { result ≡ true }
-        ensures regions { regions_of_all self.new.arenas.items ≡ without at (at + size) (regions_of_all self.old.arenas.items) }
+        ensures regions { regions_of_all self.new.arenas.items ≡ without_run at (at + size) (regions_of_all self.old.arenas.items) }
         ensures words { (k : ℕ) → IsWordOf (regions_of_all self.new.arenas.items) k → word_among self.new.arenas.items k ≡ word_among self.old.arenas.items k }
         ensures taken { AllZip (λ x y. IsTakenBack at (at + size) x y) self.old.arenas.items self.new.arenas.items }
         ensures follows { AreAfter self.old.arenas.items (Released at size 0 ∷ []) self.new.arenas.items }

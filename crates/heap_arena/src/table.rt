@@ -13,7 +13,7 @@ pub(crate) struct Table<'a> {
 }
 
 impl<'a> Table<'a> {
-    ghost use Rattle.heap_memory.specs.Runs.{without};
+    ghost use Rattle.heap_memory.specs.Runs.{without_run};
     ghost use Rattle.heap_arena.specs.Grants.{grant_at, grants};
 
     /// A table of no grants.
@@ -71,7 +71,7 @@ impl<'a> Table<'a> {
 
     /// Takes the bytes from `low` on and below `high`, the end of a run, out of the grants.
     pub fn give_back(&mut self, low: u64, high: u64)
-        ensures grants { grants self.new.words.now self.new.count ≡ without low high (grants self.old.words.now self.old.count) }
+        ensures grants { grants self.new.words.now self.new.count ≡ without_run low high (grants self.old.words.now self.old.count) }
         ensures len { length self.new.words.now ≡ length self.old.words.now }
     {
         let mut kept = 0;

@@ -13,7 +13,7 @@ use Rattle.heap_memory.specs.declared.flat_script.FlatStep.{FlatStep}
 use Rattle.heap_memory.specs.declared.flat_script.FlatStep.TheVariants.{Give, Refuse}
 use Rattle.heap_memory.specs.Regions.{is_granted, with_grant, IsApart, is_whole}
 use Rattle.heap_memory.specs.RegionLaws.{granted_split}
-use Rattle.heap_memory.specs.Runs.{without}
+use Rattle.heap_memory.specs.Runs.{without_run}
 use Rattle.heap_memory.specs.FlatScript.{gives, overlaps, is_given, next_answer, is_promised}
 
 -- a byte of a grant that no step overlaps is given by none
@@ -54,7 +54,7 @@ some_with grant [] some all = grind (arith, nat_tests)
 some_with grant (region ∷ regions) some all = grind (arith, nat_tests, some_with grant regions some)
 
 pub some_without : (low high : ℕ) (regions : List Grant) → IsTrue (list_all (λ region. nat_lt 0 region.size) regions) →
-    IsTrue (list_all (λ region. nat_lt 0 region.size) (without low high regions))
+    IsTrue (list_all (λ region. nat_lt 0 region.size) (without_run low high regions))
 some_without low high [] all = refl
 some_without low high (region ∷ regions) all = grind (arith, nat_tests, some_without low high regions)
 

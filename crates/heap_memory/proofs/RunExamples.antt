@@ -2,7 +2,7 @@
 use Rattle.std.proofs.Common.{◌≡◌, ℕ, List, [], ◌∷◌, true, false, refl, inl, inr, arith}
 use Rattle.std.proofs.lemmas.Bool.Decides.{nat_tests}
 use Rattle.heap_memory.specs.declared.grant.Grant.{Grant}
-use Rattle.heap_memory.specs.Runs.{IsRun, without, is_in_units}
+use Rattle.heap_memory.specs.Runs.{IsRun, without_run, is_in_units}
 
 abbrev granted : ℕ → ℕ → ℕ → Grant
 granted base size flags = record { base = base; size = size; flags = flags }
@@ -19,23 +19,23 @@ first_two = record {
 }
 
 -- given back whole
-none_left : without 0x1000 0x4000 three ≡ granted 0x8000 0x1000 0 ∷ []
+none_left : without_run 0x1000 0x4000 three ≡ granted 0x8000 0x1000 0 ∷ []
 none_left = refl
 
 -- but for 0x2800 bytes: the second is cut, and keeps its flags
-half_left : without 0x3800 0x4000 three ≡ granted 0x1000 0x1000 0 ∷ granted 0x2000 0x1800 2 ∷ granted 0x8000 0x1000 0 ∷ []
+half_left : without_run 0x3800 0x4000 three ≡ granted 0x1000 0x1000 0 ∷ granted 0x2000 0x1800 2 ∷ granted 0x8000 0x1000 0 ∷ []
 half_left = refl
 
 -- but for 16 bytes: the second leaves, and the first is cut
-least_left : without 0x1010 0x4000 three ≡ granted 0x1000 0x10 0 ∷ granted 0x8000 0x1000 0 ∷ []
+least_left : without_run 0x1010 0x4000 three ≡ granted 0x1000 0x10 0 ∷ granted 0x8000 0x1000 0 ∷ []
 least_left = refl
 
 -- but for the first: what ends where the cut begins is as it was
-first_left : without 0x2000 0x4000 three ≡ granted 0x1000 0x1000 0 ∷ granted 0x8000 0x1000 0 ∷ []
+first_left : without_run 0x2000 0x4000 three ≡ granted 0x1000 0x1000 0 ∷ granted 0x8000 0x1000 0 ∷ []
 first_left = refl
 
 -- of no byte: nothing is cut
-all_left : without 0x4000 0x4000 three ≡ three
+all_left : without_run 0x4000 0x4000 three ≡ three
 all_left = refl
 
 -- parts of whole pages alone, of any size, and of none

@@ -45,12 +45,12 @@ same_fixed x y same = record {
 }
 
 -- what stays where a request was refused: all but the place in the script
-pub record IsRefused (old new : FlatSystem) : Type 0 where
+pub record IsStepRefused (old new : FlatSystem) : Type 0 where
   pub regions : regions_of new ≡ regions_of old
   pub words : (at : ℕ) → word_of new at ≡ word_of old at
   pub kind : IsSameKind old new
 
-pub refused_none : (system : FlatSystem) → IsRefused system system
+pub refused_none : (system : FlatSystem) → IsStepRefused system system
 refused_none system = record { regions = refl; words = λ at. refl; kind = same_none system }
 
 -- a request for so many bytes is denied with the fault that the next step answers

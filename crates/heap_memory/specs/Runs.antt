@@ -25,8 +25,8 @@ up_to place region =
 
 -- The regions after the bytes from low on and below high were given back, high being the end of a run: those that begin
 -- there leave, and one that reaches there from before ends where they begin.
-abbrev pub without : ℕ → ℕ → List Grant → List Grant
-without low high regions = map (λ region. up_to low region) (filter (λ region. not (begins_in low high region)) regions)
+abbrev pub without_run : ℕ → ℕ → List Grant → List Grant
+without_run low high regions = map (λ region. up_to low region) (filter (λ region. not (begins_in low high region)) regions)
 
 -- whether a size is made of units of so many bytes; of units of 0 bytes nothing is
 abbrev pub is_in_units : ℕ → ℕ → Bool

@@ -3,7 +3,7 @@ ghost use Rattle.std.specs.List.{AllByRecursion};
 ghost use Rattle.std.specs.Int.{is_power_of_two};
 ghost use Rattle.heap_memory.specs.Events.{Granted, Refused, Released};
 ghost use Rattle.heap_memory.specs.Regions.{IsWordOf, IsApart, IsGoodGrant, with_grant};
-ghost use Rattle.heap_memory.specs.Runs.{IsRun, without, is_in_units};
+ghost use Rattle.heap_memory.specs.Runs.{IsRun, without_run, is_in_units};
 ghost use Rattle.heap_memory.specs.Allocator.{IsFixed};
 
 use crate::{Grant, GrantFault, Links};
@@ -67,7 +67,7 @@ pub trait Allocator: Links {
         requires within { new_size ≤ old_size }
         requires whole { new_size % 16 ≡ 0 }
         ensures answer { result ≡ is_in_units (unit self.old) new_size }
-        ensures regions { result ≡ true → Self.regions self.new ≡ without (at + new_size) (at + old_size) (Self.regions self.old) }
+        ensures regions { result ≡ true → Self.regions self.new ≡ without_run (at + new_size) (at + old_size) (Self.regions self.old) }
         ensures words { (k : ℕ) → IsWordOf (Self.regions self.new) k → Self.word self.new k ≡ Self.word self.old k }
         ensures follows { result ≡ true → Self.follows self.old (Released at old_size new_size ∷ []) self.new }
         ensures same { result ≡ false → self.new ≡ self.old };
@@ -76,7 +76,7 @@ pub trait Allocator: Links {
     fn free(&mut self, at: u64, size: u64) -> bool
         requires { IsRun (Self.regions self.old) at (at + size) }
         ensures answer { result ≡ frees self.old }
-        ensures regions { result ≡ true → Self.regions self.new ≡ without at (at + size) (Self.regions self.old) }
+        ensures regions { result ≡ true → Self.regions self.new ≡ without_run at (at + size) (Self.regions self.old) }
         ensures words { (k : ℕ) → IsWordOf (Self.regions self.new) k → Self.word self.new k ≡ Self.word self.old k }
         ensures follows { result ≡ true → Self.follows self.old (Released at size 0 ∷ []) self.new }
         ensures same { result ≡ false → self.new ≡ self.old };

@@ -1,6 +1,6 @@
 // What a flat system takes back.
 ghost use Rattle.std.specs.Prelude.{◌≡◌, ◌≤◌, ◌%◌, true, vec_len, vec_capacity};
-ghost use Rattle.heap_memory.specs.Runs.{begins_in, up_to, without};
+ghost use Rattle.heap_memory.specs.Runs.{begins_in, up_to, without_run};
 
 use crate::flat_system::FlatSystem;
 use crate::grant::Grant;
@@ -30,7 +30,7 @@ impl Grant {
 
 /// Takes the bytes from `low` on and below `high`, the end of a run, out of the regions.
 pub(crate) fn give_back(regions: &mut Vec<Grant>, low: u64, high: u64)
-    ensures items { regions.new.items ≡ without low high regions.old.items }
+    ensures items { regions.new.items ≡ without_run low high regions.old.items }
     ensures len { vec_len regions.new ≤ vec_len regions.old }
     ensures capacity { vec_capacity regions.new ≡ vec_capacity regions.old }
 {

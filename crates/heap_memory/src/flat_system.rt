@@ -6,7 +6,7 @@ ghost use Rattle.heap_memory.specs.Regions.{is_granted, with_grant, are_ordered,
 ghost use Rattle.heap_memory.specs.FlatScript.{gives, is_promised};
 ghost use Rattle.heap_memory.specs.Script.{taken_of, left_of};
 ghost use Rattle.heap_memory.specs.FlatWords.{is_held, word_in, are_aligned};
-ghost use Rattle.heap_memory.specs.Runs.{without};
+ghost use Rattle.heap_memory.specs.Runs.{without_run};
 
 use crate::flat_release::give_back;
 use crate::flat_script::{FlatStep, Script};
@@ -109,7 +109,7 @@ impl FlatSystem {
     fn release(&mut self, low: u64, high: u64) -> bool
         requires { low % 16 ≡ 0 }
         ensures answer { result ≡ self.old.frees }
-        ensures regions { result ≡ true → regions_of self.new ≡ without low high (regions_of self.old) }
+        ensures regions { result ≡ true → regions_of self.new ≡ without_run low high (regions_of self.old) }
         ensures words { self.new.words ≡ self.old.words }
         ensures script { self.new.script ≡ self.old.script }
         ensures kind { IsSameKind self.old self.new }
@@ -225,7 +225,7 @@ impl Allocator for FlatSystem {
     ghost use Rattle.heap_memory.specs.Events.{Granted, Refused};
     ghost use Rattle.heap_memory.specs.FlatScript.{next_answer};
     ghost use Rattle.heap_memory.specs.Regions.{IsWordOf, IsApart, IsGoodGrant};
-    ghost use Rattle.heap_memory.specs.FlatSystem.{IsSameKind, IsAfter, IsRefused, refused_none, unit_of, same_fixed};
+    ghost use Rattle.heap_memory.specs.FlatSystem.{IsSameKind, IsAfter, IsStepRefused, refused_none, unit_of, same_fixed};
     ghost use Rattle.heap_memory.specs.Runs.{IsRun, is_in_units};
 
     ghost denies = { λ system size fault. DeniesNext system size fault };
@@ -238,7 +238,7 @@ impl Allocator for FlatSystem {
 
     ghost parts = { λ system. system.parts };
 
-    ghost refuses = { λ old new. IsRefused old new };
+    ghost refuses = { λ old new. IsStepRefused old new };
 
     ghost refuses_none = { λ system. refused_none system };
 
@@ -278,7 +278,7 @@ impl Allocator for FlatSystem {
         requires whole { new_size % 16 ≡ 0 }
         ensures answer { result ≡ is_in_units (unit_of self.old) new_size }
         ensures frees { result ≡ self.old.frees }
-        ensures regions { result ≡ true → regions_of self.new ≡ without (at + new_size) (at + old_size) (regions_of self.old) }
+        ensures regions { result ≡ true → regions_of self.new ≡ without_run (at + new_size) (at + old_size) (regions_of self.old) }
         ensures words { (k : ℕ) → word_of self.new k ≡ word_of self.old k }
         ensures script { self.new.script ≡ self.old.script }
         ensures kind { IsSameKind self.old self.new }
@@ -291,7 +291,7 @@ impl Allocator for FlatSystem {
     fn free(&mut self, at: u64, size: u64) -> bool
         requires { IsRun (regions_of self.old) at (at + size) }
         ensures answer { result ≡ self.old.frees }
-        ensures regions { result ≡ true → regions_of self.new ≡ without at (at + size) (regions_of self.old) }
+        ensures regions { result ≡ true → regions_of self.new ≡ without_run at (at + size) (regions_of self.old) }
         ensures words { (k : ℕ) → word_of self.new k ≡ word_of self.old k }
         ensures script { self.new.script ≡ self.old.script }
         ensures kind { IsSameKind self.old self.new }

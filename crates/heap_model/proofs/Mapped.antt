@@ -18,7 +18,7 @@ use Rattle.heap_model.specs.declared.answer.Reply.TheVariants.{Done}
 use Rattle.heap_model.specs.State.{State, Known, is_within, end_of, total_pages, region_at, Block, block_at, cell_at, cover}
 use Rattle.heap_model.specs.Tables.{has_table, missing, with_tables, used_frames, free_frames}
 use Rattle.heap_model.specs.Slots.{listed_slots, IsSlot, slot_number, slot_prefix, has_whole, is_whole_in, is_part_in, has_slot, AreAscending, IsSlotOf}
-use Rattle.heap_model.specs.Place.{meets, meets_any, with_region, is_at, without, all_regions}
+use Rattle.heap_model.specs.Place.{meets, meets_any, with_region, is_at, without_region, all_regions}
 use Rattle.heap_model.specs.Room.{user_region}
 use Rattle.heap_model.specs.Refusal.{is_page_range, must_refuse}
 use Rattle.heap_model.specs.Answer.{settled, after}
@@ -135,14 +135,14 @@ reached_walk words root address byte is = go (walk_of words root (address / 4096
 
 -- the state with one region less of the user; the slots that it had whole are large no more
 abbrev pub without_user : State → ℕ → ℕ → State
-without_user s start pages = settled (record s { users = without start pages s.users })
+without_user s start pages = settled (record s { users = without_region start pages s.users })
 
 -- its regions
 abbrev regions_left : State → ℕ → ℕ → List Region
-regions_left s start pages = all_regions (record s { users = without start pages s.users })
+regions_left s start pages = all_regions (record s { users = without_region start pages s.users })
 
 -- the region that leaves meets no other one
-none_met : (start pages : ℕ) (list : List Region) → AreInOrder list → list_any (is_at start pages) list ≡ true → meets_any start pages (without start pages list) ≡ false
+none_met : (start pages : ℕ) (list : List Region) → AreInOrder list → list_any (is_at start pages) list ≡ true → meets_any start pages (without_region start pages list) ≡ false
 none_met start pages [] order there = absurd (let no : false ≡ true = there in cc)
 none_met start pages (region ∷ rest) order there = go (is_at start pages region) refl (none_met start pages rest order.1)
   where
@@ -153,7 +153,7 @@ none_met start pages (region ∷ rest) order there = go (is_at start pages regio
         let here : meets start pages one ≡ false = grind (arith, nat_tests) in
         rw here (later at more behind all.1)
 
-    go : (b : Bool) → is_at start pages region ≡ b → (list_any (is_at start pages) rest ≡ true → meets_any start pages (without start pages rest) ≡ false) → meets_any start pages (without start pages (region ∷ rest)) ≡ false
+    go : (b : Bool) → is_at start pages region ≡ b → (list_any (is_at start pages) rest ≡ true → meets_any start pages (without_region start pages rest) ≡ false) → meets_any start pages (without_region start pages (region ∷ rest)) ≡ false
     go true is more =
         let same : region.start ≡ start = grind (arith, nat_tests) in
         let long : region.pages ≡ pages = grind (arith, nat_tests) in
@@ -166,18 +166,18 @@ none_met start pages (region ∷ rest) order there = go (is_at start pages regio
 
 -- what passes passes with one less, or at the one that leaves
 passes_left : (test : Region → Bool) (start pages : ℕ) (list : List Region) → list_any test list ≡ true →
-    (list_any test (without start pages list) ≡ true) ⊎ ((region : Region) × (is_at start pages region ≡ true) × (test region ≡ true))
+    (list_any test (without_region start pages list) ≡ true) ⊎ ((region : Region) × (is_at start pages region ≡ true) × (test region ≡ true))
 passes_left test start pages [] is = absurd (let no : false ≡ true = is in cc)
 passes_left test start pages (region ∷ rest) is = go (is_at start pages region) refl (or_cases (test region) (list_any test rest) is) (passes_left test start pages rest)
   where
     go : (b : Bool) → is_at start pages region ≡ b → (test region ≡ true) ⊎ (list_any test rest ≡ true) →
-        (list_any test rest ≡ true → (list_any test (without start pages rest) ≡ true) ⊎ ((one : Region) × (is_at start pages one ≡ true) × (test one ≡ true))) →
-        (list_any test (without start pages (region ∷ rest)) ≡ true) ⊎ ((one : Region) × (is_at start pages one ≡ true) × (test one ≡ true))
+        (list_any test rest ≡ true → (list_any test (without_region start pages rest) ≡ true) ⊎ ((one : Region) × (is_at start pages one ≡ true) × (test one ≡ true))) →
+        (list_any test (without_region start pages (region ∷ rest)) ≡ true) ⊎ ((one : Region) × (is_at start pages one ≡ true) × (test one ≡ true))
     go true at (inl here) more = inr (region, at, here)
     go true at (inr later) more = inl (rw at later)
-    go false at (inl here) more = inl (rw at (or_left (test region) (list_any test (without start pages rest)) here))
+    go false at (inl here) more = inl (rw at (or_left (test region) (list_any test (without_region start pages rest)) here))
     go false at (inr later) more = elim (more later) [
-      | inl left ↦ inl (rw at (or_right (test region) (list_any test (without start pages rest)) left))
+      | inl left ↦ inl (rw at (or_right (test region) (list_any test (without_region start pages rest)) left))
       | inr leaves ↦ inr leaves
     ]
 
@@ -192,9 +192,9 @@ at_pages start pages region is = grind (arith, nat_tests)
 slot_left : (s : State) (start pages slot : ℕ) → is_whole_in (all_regions s) slot ≡ true →
     (is_whole_in (regions_left s start pages) slot ≡ true) ⊎ ((start ≤ slot) × (slot + 2 ^ 21 ≤ start + 4096 * pages))
 slot_left s start pages slot is = elim (or_cases (is_whole_in s.heap slot) (is_whole_in s.users slot) (sym (any_all (has_whole slot) s.heap s.users) ∙ is)) [
-  | inl heap ↦ inl (any_all (has_whole slot) s.heap (without start pages s.users) ∙ or_left (is_whole_in s.heap slot) (is_whole_in (without start pages s.users) slot) heap)
+  | inl heap ↦ inl (any_all (has_whole slot) s.heap (without_region start pages s.users) ∙ or_left (is_whole_in s.heap slot) (is_whole_in (without_region start pages s.users) slot) heap)
   | inr users ↦ elim (passes_left (has_whole slot) start pages s.users users) [
-    | inl left ↦ inl (any_all (has_whole slot) s.heap (without start pages s.users) ∙ or_right (is_whole_in s.heap slot) (is_whole_in (without start pages s.users) slot) left)
+    | inl left ↦ inl (any_all (has_whole slot) s.heap (without_region start pages s.users) ∙ or_right (is_whole_in s.heap slot) (is_whole_in (without_region start pages s.users) slot) left)
     | inr leaves ↦ (
         let same : leaves.0.start ≡ start = at_start start pages leaves.0 leaves.1 in
         let long : leaves.0.pages ≡ pages = at_pages start pages leaves.0 leaves.1 in
@@ -220,7 +220,7 @@ apart_pages start pages slot (region ∷ rest) from to clear =
 -- no region that is left meets the pages that leave
 clear_left : (s : State) (start pages : ℕ) → IsGood s → list_any (is_at start pages) s.users ≡ true → meets_any start pages (regions_left s start pages) ≡ false
 clear_left s start pages good there =
-    any_all (meets start pages) s.heap (without start pages s.users)
+    any_all (meets start pages) s.heap (without_region start pages s.users)
     ∙ (let heap = (user_beside s start pages good there).1 in let users = none_met start pages s.users good.user_order there in rw (heap, users) refl)
 
 -- so no slot is left in part
@@ -251,7 +251,7 @@ tables_left s start pages good there = ap (λ gone. s.tables ++ map slot_prefix 
 
 pub good_unmapped : (s : State) (start pages : ℕ) → IsGood s → list_any (is_at start pages) s.users ≡ true → IsGood (without_user s start pages)
 good_unmapped s start pages good there =
-    let total : total_pages (without start pages s.users) + pages ≡ total_pages s.users = pages_without start pages s.users there in
+    let total : total_pages (without_region start pages s.users) + pages ≡ total_pages s.users = pages_without start pages s.users there in
     let old : used_frames s ≤ s.frames = good.frames in
     let tables = ap length (tables_left s start pages good there) in
     record {
@@ -276,11 +276,11 @@ module _ (m : Seen) (new : Paged) (s : State) (start pages : ℕ) (good : IsGood
   -- no region has an address of the pages
   none_there : (at : ℕ) → start ≤ at → at < start + 4096 * pages → region_at (without_user s start pages) at ≡ None
   none_there at above below =
-      find_behind (is_within at) s.heap (without start pages s.users) (none_within start pages at s.heap above below known_start.1)
-      ∙ find_none (is_within at) (without start pages s.users) (none_left start pages at s.users good.user_order there above below)
+      find_behind (is_within at) s.heap (without_region start pages s.users) (none_within start pages at s.heap above below known_start.1)
+      ∙ find_none (is_within at) (without_region start pages s.users) (none_left start pages at s.users good.user_order there above below)
 
   as_before : (at : ℕ) → (at < start) ⊎ (start + 4096 * pages ≤ at) → region_at (without_user s start pages) at ≡ region_at s at
-  as_before at beside = find_same (is_within at) s.heap s.users (without start pages s.users)
+  as_before at beside = find_same (is_within at) s.heap s.users (without_region start pages s.users)
       (find_left (is_within at) start pages s.users (λ region is.
       let same : region.start ≡ start = at_start start pages region is in
       let long : region.pages ≡ pages = at_pages start pages region is in
@@ -329,11 +329,11 @@ module _ (m : Seen) (new : Paged) (s : State) (start pages : ℕ) (good : IsGood
     ]
   ]
 
-  beside_users : (at : ℕ) → list_any (is_within at) (without start pages s.users) ≡ true → (at < start) ⊎ (start + 4096 * pages ≤ at)
+  beside_users : (at : ℕ) → list_any (is_within at) (without_region start pages s.users) ≡ true → (at < start) ⊎ (start + 4096 * pages ≤ at)
   beside_users at inside = elim (dec_lt at start) [
     | yes before ↦ inl before
     | no above ↦ elim (dec_lt at (start + 4096 * pages)) [
-      | yes below ↦ (let no : list_any (is_within at) (without start pages s.users) ≡ false = none_left start pages at s.users good.user_order there (omega arith) below in absurd (cc))
+      | yes below ↦ (let no : list_any (is_within at) (without_region start pages s.users) ≡ false = none_left start pages at s.users good.user_order there (omega arith) below in absurd (cc))
       | no behind ↦ inr (omega arith)
     ]
   ]
@@ -347,7 +347,7 @@ module _ (m : Seen) (new : Paged) (s : State) (start pages : ℕ) (good : IsGood
       kept (block.address + k) byte (beside_heap (block.address + k) held) (within_canonical (IsHeapRegion s) (λ region h. h.0) (block.address + k) s.heap good.heap held)
       (stands.bytes.known number k byte block is cell)
 
-  user_byte : (at : ℕ) → list_any (is_within at) (without start pages s.users) ≡ true → reached new.words new.root at ≡ Some 0
+  user_byte : (at : ℕ) → list_any (is_within at) (without_region start pages s.users) ≡ true → reached new.words new.root at ≡ Some 0
   user_byte at inside =
       let held : list_any (is_within at) s.users ≡ true = any_left (is_within at) start pages s.users inside in
       kept at 0 (beside_users at inside) (within_canonical (IsUserRegion s.heap) (λ region u. u.1) at s.users good.users held) (stands.zeros at held)
@@ -415,7 +415,7 @@ module _ (m : Seen) (new : Paged) (s : State) (start pages : ℕ) (good : IsGood
   stands_unmapped =
       let was = stands.free_frames in
       let all = good.frames in
-      let total : total_pages (without start pages s.users) + pages ≡ total_pages s.users = pages_without start pages s.users there in
+      let total : total_pages (without_region start pages s.users) + pages ≡ total_pages s.users = pages_without start pages s.users there in
       let tables = ap length (tables_left s start pages good there) in
       let none : cut_tables m.paged.words m.paged.root (start / 4096) ≡ 0 = rw uncut refl in
       let count = left.gone.count in

@@ -5,7 +5,7 @@ use Rattle.std.specs.List.{list_any, AllByRecursion}
 use Rattle.paging_core.specs.Address.{is_canonical, IsCanonicalRange}
 use Rattle.heap_model.specs.declared.region.Region.{Region}
 use Rattle.heap_model.specs.State.{end_of, is_within, total_pages}
-use Rattle.heap_model.specs.Place.{meets, meets_any, with_region, is_at, without}
+use Rattle.heap_model.specs.Place.{meets, meets_any, with_region, is_at, without_region}
 use Rattle.heap_model.specs.Run.{AreInOrder, IsWhole}
 use Rattle.heap_model.proofs.Booleans.{or_false, or_left, or_right, or_cases, or_swap, neither_or}
 
@@ -176,52 +176,52 @@ find_none test (region ∷ rest) none =
 -- ---- a list with one less
 
 -- what holds of all holds with one less
-pub all_without : (P : Region → Type 0) (start pages : ℕ) (list : List Region) → AllByRecursion P list → AllByRecursion P (without start pages list)
+pub all_without : (P : Region → Type 0) (start pages : ℕ) (list : List Region) → AllByRecursion P list → AllByRecursion P (without_region start pages list)
 all_without P start pages [] all = tt
 all_without P start pages (region ∷ rest) all = go (is_at start pages region) (all_without P start pages rest all.1)
   where
-    go : (b : Bool) → AllByRecursion P (without start pages rest) → AllByRecursion P (cond b rest (region ∷ without start pages rest))
+    go : (b : Bool) → AllByRecursion P (without_region start pages rest) → AllByRecursion P (cond b rest (region ∷ without_region start pages rest))
     go true later = all.1
     go false later = (all.0, later)
 
 -- its pages are taken off
-pub pages_without : (start pages : ℕ) (list : List Region) → list_any (is_at start pages) list ≡ true → total_pages (without start pages list) + pages ≡ total_pages list
+pub pages_without : (start pages : ℕ) (list : List Region) → list_any (is_at start pages) list ≡ true → total_pages (without_region start pages list) + pages ≡ total_pages list
 pages_without start pages [] there = let no : false ≡ true = there in absurd (cc)
 pages_without start pages (region ∷ rest) there = go (is_at start pages region) refl (pages_without start pages rest)
   where
-    go : (b : Bool) → is_at start pages region ≡ b → (list_any (is_at start pages) rest ≡ true → total_pages (without start pages rest) + pages ≡ total_pages rest) →
-        total_pages (without start pages (region ∷ rest)) + pages ≡ total_pages (region ∷ rest)
+    go : (b : Bool) → is_at start pages region ≡ b → (list_any (is_at start pages) rest ≡ true → total_pages (without_region start pages rest) + pages ≡ total_pages rest) →
+        total_pages (without_region start pages (region ∷ rest)) + pages ≡ total_pages (region ∷ rest)
     go true is later = let same : region.pages ≡ pages = grind (arith, nat_tests) in rw is (omega arith)
     go false is later = let more = later (rw is at there) in rw is (omega arith)
 
 -- the list stays sorted
-pub in_order_without : (start pages : ℕ) (list : List Region) → AreInOrder list → AreInOrder (without start pages list)
+pub in_order_without : (start pages : ℕ) (list : List Region) → AreInOrder list → AreInOrder (without_region start pages list)
 in_order_without start pages [] order = tt
 in_order_without start pages (region ∷ rest) order = go (is_at start pages region) (in_order_without start pages rest order.1)
   where
-    go : (b : Bool) → AreInOrder (without start pages rest) → AreInOrder (cond b rest (region ∷ without start pages rest))
+    go : (b : Bool) → AreInOrder (without_region start pages rest) → AreInOrder (cond b rest (region ∷ without_region start pages rest))
     go true later = order.1
     go false later = (all_without (λ later. end_of region ≤ later.start) start pages rest order.0, later)
 
 -- what fails for the one that leaves is found as before
 pub find_left : (test : Region → Bool) (start pages : ℕ) (list : List Region) → ((region : Region) → is_at start pages region ≡ true → test region ≡ false) →
-    find test (without start pages list) ≡ find test list
+    find test (without_region start pages list) ≡ find test list
 find_left test start pages [] fails = refl
 find_left test start pages (region ∷ rest) fails = go (is_at start pages region) refl (find_left test start pages rest fails)
   where
-    go : (b : Bool) → is_at start pages region ≡ b → find test (without start pages rest) ≡ find test rest → find test (without start pages (region ∷ rest)) ≡ find test (region ∷ rest)
+    go : (b : Bool) → is_at start pages region ≡ b → find test (without_region start pages rest) ≡ find test rest → find test (without_region start pages (region ∷ rest)) ≡ find test (region ∷ rest)
     go true is later = let no = fails region is in rw (is, no) refl
     go false is later = rw is (ap (λ o. cond (test region) (Some region) o) later)
 
 -- what passes with one less passes
-pub any_left : (test : Region → Bool) (start pages : ℕ) (list : List Region) → list_any test (without start pages list) ≡ true → list_any test list ≡ true
+pub any_left : (test : Region → Bool) (start pages : ℕ) (list : List Region) → list_any test (without_region start pages list) ≡ true → list_any test list ≡ true
 any_left test start pages [] is = is
 any_left test start pages (region ∷ rest) is = go (is_at start pages region) is (any_left test start pages rest)
   where
-    go : (b : Bool) → list_any test (cond b rest (region ∷ without start pages rest)) ≡ true → (list_any test (without start pages rest) ≡ true → list_any test rest ≡ true) →
+    go : (b : Bool) → list_any test (cond b rest (region ∷ without_region start pages rest)) ≡ true → (list_any test (without_region start pages rest) ≡ true → list_any test rest ≡ true) →
         (test region || list_any test rest) ≡ true
     go true is later = or_right (test region) (list_any test rest) is
-    go false is later = elim (or_cases (test region) (list_any test (without start pages rest)) is) [
+    go false is later = elim (or_cases (test region) (list_any test (without_region start pages rest)) is) [
       | inl here ↦ or_left (test region) (list_any test rest) here
       | inr there ↦ or_right (test region) (list_any test rest) (later there)
     ]
@@ -241,12 +241,12 @@ none_behind at from (region ∷ rest) less all = let here = not_within at region
 
 -- an address of the one that leaves lies in no other
 pub none_left : (start pages at : ℕ) (list : List Region) → AreInOrder list → list_any (is_at start pages) list ≡ true → start ≤ at → at < start + 4096 * pages →
-    list_any (is_within at) (without start pages list) ≡ false
+    list_any (is_within at) (without_region start pages list) ≡ false
 none_left start pages at [] order there above below = let no : false ≡ true = there in absurd (cc)
 none_left start pages at (region ∷ rest) order there above below = go (is_at start pages region) refl (λ t. none_left start pages at rest order.1 t above below)
   where
-    go : (b : Bool) → is_at start pages region ≡ b → (list_any (is_at start pages) rest ≡ true → list_any (is_within at) (without start pages rest) ≡ false) →
-        list_any (is_within at) (without start pages (region ∷ rest)) ≡ false
+    go : (b : Bool) → is_at start pages region ≡ b → (list_any (is_at start pages) rest ≡ true → list_any (is_within at) (without_region start pages rest) ≡ false) →
+        list_any (is_within at) (without_region start pages (region ∷ rest)) ≡ false
     go true is later =
         let same : region.start ≡ start = grind (arith, nat_tests) in
         let long : region.pages ≡ pages = grind (arith, nat_tests) in

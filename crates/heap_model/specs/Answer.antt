@@ -13,7 +13,7 @@ use Rattle.heap_model.specs.Request.{pages_for}
 use Rattle.heap_model.specs.State.{State, Cell, Fresh, Known, Block, block_at, cell_at, with_bytes, total_pages}
 use Rattle.heap_model.specs.Tables.{has_table, with_tables}
 use Rattle.heap_model.specs.Slots.{slot_prefix, is_whole_in, is_part_in, AreAscending, IsSlotOf}
-use Rattle.heap_model.specs.Place.{with_region, without, all_regions}
+use Rattle.heap_model.specs.Place.{with_region, without_region, all_regions}
 use Rattle.heap_model.specs.Cut.{AreCut}
 use Rattle.heap_model.specs.Room.{user_region, IsGrowth, IsGrowthCut}
 use Rattle.heap_model.specs.Extents.{IsTiling}
@@ -69,7 +69,7 @@ changed s (Free number) Done = record s { blocks = without_block s.blocks number
 changed s (Write number offset bytes) Done = record s { blocks = with_block s.blocks number (known_block offset bytes) }
 changed s (Read number offset count) (Bytes bytes) = record s { blocks = with_block s.blocks number (known_block offset bytes) }
 changed s (Map start pages rights) Done = record s { users = with_region (user_region start pages rights) s.users }
-changed s (Unmap start pages) Done = settled (record s { users = without start pages s.users })
+changed s (Unmap start pages) Done = settled (record s { users = without_region start pages s.users })
 changed s (Probe at access user) (Byte byte) = record s { blocks = map (option_map (seen_block at byte)) s.blocks }
 changed s (SetGranularity granularity) (Accepted true) = record s { granularity = granularity }
 changed s Reset (Released bytes) = record s { blocks = all_ended s.blocks }

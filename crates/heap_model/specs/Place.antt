@@ -43,9 +43,9 @@ abbrev pub is_at : ℕ → ℕ → Region → Bool
 is_at start pages region = (region.start == start) && (region.pages == pages)
 
 -- the regions without the one of so many pages at an address
-abbrev pub without : ℕ → ℕ → List Region → List Region
-without start pages [] = []
-without start pages (region ∷ rest) = if is_at start pages region then rest else region ∷ without start pages rest
+abbrev pub without_region : ℕ → ℕ → List Region → List Region
+without_region start pages [] = []
+without_region start pages (region ∷ rest) = if is_at start pages region then rest else region ∷ without_region start pages rest
 
 -- all regions by address
 abbrev pub all_regions : State → List Region

@@ -64,11 +64,11 @@ next s (Some call) None = s
 next s None answer = s
 
 -- one answer an item, each allowed in the state that the answers before it determine
-abbrev pub IsRun : State → List (Option Call) → List (Option Answer) → Type 0
-IsRun s [] [] = ⊤
-IsRun s (item ∷ items) (answer ∷ answers) = IsItem s item answer × IsRun (next s item answer) items answers
-IsRun s [] (answer ∷ answers) = ⊥
-IsRun s (item ∷ items) [] = ⊥
+abbrev pub IsAllowedRun : State → List (Option Call) → List (Option Answer) → Type 0
+IsAllowedRun s [] [] = ⊤
+IsAllowedRun s (item ∷ items) (answer ∷ answers) = IsItem s item answer × IsAllowedRun (next s item answer) items answers
+IsAllowedRun s [] (answer ∷ answers) = ⊥
+IsAllowedRun s (item ∷ items) [] = ⊥
 
 -- the state at its end
 abbrev pub last_state : State → List (Option Call) → List (Option Answer) → State
@@ -78,5 +78,5 @@ last_state s (item ∷ items) [] = s
 
 -- a run over the items from the state s ends in the state e
 pub record RunsTo (s : State) (items : List (Option Call)) (answers : List (Option Answer)) (e : State) : Type 0 where
-  pub run : IsRun s items answers
+  pub run : IsAllowedRun s items answers
   pub last : e ≡ last_state s items answers

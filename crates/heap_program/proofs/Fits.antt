@@ -26,7 +26,7 @@ use Rattle.heap_model.specs.Probe.{rights_at, fault_code}
 use Rattle.heap_model.specs.Answer.{AreBytes, all_ended, seen_block, IsReply, IsResizing, changed, new_block, with_block, resized_block, NewPages, new_pages, with_regions, slots_of, AreNewSlots, after}
 use Rattle.heap_model.specs.Refusal.{own_align, least_align}
 use Rattle.heap_model.specs.Slots.{IsSlotOf}
-use Rattle.heap_model.specs.Run.{IsGood, IsHeapRegion, IsItem, next, IsRun, last_state}
+use Rattle.heap_model.specs.Run.{IsGood, IsHeapRegion, IsItem, next, IsAllowedRun, last_state}
 use Rattle.heap_model.proofs.Booleans.{or_left, or_right, or_cases}
 use Rattle.heap_model.proofs.Regions.{within, within_bounds}
 use Rattle.heap_model.proofs.Resized.{replaced_here}
@@ -285,7 +285,7 @@ next_blocks s (Some call) (Some answer) =
 next_blocks s (Some call) None = omega arith
 next_blocks s None answer = omega arith
 
-pub run_fits : (s : State) (items : List (Option Call)) (answers : List (Option Answer)) → length s.blocks + length items ≤ 2 ^ 64 → IsRun s items answers → AllByRecursion AnswerFits answers
+pub run_fits : (s : State) (items : List (Option Call)) (answers : List (Option Answer)) → length s.blocks + length items ≤ 2 ^ 64 → IsAllowedRun s items answers → AllByRecursion AnswerFits answers
 run_fits s [] [] few run = tt
 run_fits s (item ∷ items) (answer ∷ answers) few run = (
   item_fits s item answer (omega arith) run.0,
@@ -294,7 +294,7 @@ run_fits s (item ∷ items) (answer ∷ answers) few run = (
 run_fits s [] (answer ∷ answers) few run = absurd run
 run_fits s (item ∷ items) [] few run = absurd run
 
-run_length : (s : State) (items : List (Option Call)) (answers : List (Option Answer)) → IsRun s items answers → length answers ≡ length items
+run_length : (s : State) (items : List (Option Call)) (answers : List (Option Answer)) → IsAllowedRun s items answers → length answers ≡ length items
 run_length s [] [] run = refl
 run_length s (item ∷ items) (answer ∷ answers) run = ap suc (run_length (next s item answer) items answers run.1)
 run_length s [] (answer ∷ answers) run = absurd run

@@ -20,7 +20,7 @@ use Rattle.heap_program.specs.Lines.{items_of, IsOneLine}
 use Rattle.heap_model.specs.Run.{RunsTo}
 use Rattle.heap_program.specs.Progress.{texts_of, IsAt, IsEnd}
 use Rattle.heap_program.specs.Responses.{Responded, IsFrontOf, HasCaughtUp, HasHeld}
-use Rattle.heap_program.specs.Stop.{IsFresh, HasRead, HasClosed, HasPart, HasStopped}
+use Rattle.heap_program.specs.Stop.{IsFreshSession, HasRead, HasClosed, HasPart, HasStopped}
 use Rattle.heap_program.specs.Text.{line_text, end_text_of}
 use Rattle.heap_program.proofs.Fits.{run_fits, length-items}
 use Rattle.heap_program.proofs.Known.{appends_nothing, appends_more, consumes_nothing, consumes_more, consumes_keeps}
@@ -71,7 +71,7 @@ module _ {R : Type 0} (responds : R → List (Option Call) → List ℕ → R �
   }
 
   -- before the first piece
-  pub read_none : (session : Session R) (left taken : Option (List ℕ)) → IsFresh session → responds session.responder [] [] session.responder → HasRead responds session.responder session.responder session.line left left taken taken 0
+  pub read_none : (session : Session R) (left taken : Option (List ℕ)) → IsFreshSession session → responds session.responder [] [] session.responder → HasRead responds session.responder session.responder session.line left left taken taken 0
   read_none session left taken fresh none = record {
     bytes = [];
     told = [];

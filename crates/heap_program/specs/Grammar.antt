@@ -83,9 +83,9 @@ three_rights (Some write) (Some user) (Some fetch) = Some (record { write = writ
 three_rights write user fetch = None
 
 -- the letter `r`, and then `w`, `u` and `x`, or `-` in the place of each
-abbrev pub rights_of : List ℕ → Option Rights
-rights_of (read ∷ write ∷ user ∷ fetch ∷ []) = if read == 114 then three_rights (right_of 119 write) (right_of 117 user) (right_of 120 fetch) else None
-rights_of word = None
+abbrev pub rights_of_letters : List ℕ → Option Rights
+rights_of_letters (read ∷ write ∷ user ∷ fetch ∷ []) = if read == 114 then three_rights (right_of 119 write) (right_of 117 user) (right_of 120 fetch) else None
+rights_of_letters word = None
 
 abbrev pub map_call : Option ℕ → Option ℕ → Option Rights → Option Call
 map_call (Some start) (Some pages) (Some rights) = Some (Map start pages rights)
@@ -93,7 +93,7 @@ map_call start pages rights = None
 
 -- `map ADDR PAGES RIGHTS`, with what stands behind the name
 abbrev pub map_of : List (List ℕ) → Option Call
-map_of (start ∷ pages ∷ rights ∷ []) = map_call (number_of start) (number_of pages) (rights_of rights)
+map_of (start ∷ pages ∷ rights ∷ []) = map_call (number_of start) (number_of pages) (rights_of_letters rights)
 map_of words = None
 
 -- `unmap ADDR PAGES`, with what stands behind the name

@@ -1,7 +1,7 @@
 -- The statuses.
 use Rattle.std.specs.Prelude.{◌≡◌, ◌≤◌, ◌⊎◌, ◌↔◌, ℕ, List, [], ◌∷◌, codes, slice_index_or}
 use Rattle.heap_model.specs.declared.config.Config.{Config}
-use Rattle.kernel_heap.specs.Config.{IsGoodConfig, IsRefused}
+use Rattle.kernel_heap.specs.Config.{IsGoodConfig, IsConfigRefused}
 use Rattle.kernel_heap.specs.declared.run_error.RunError.{RunError}
 use Rattle.kernel_heap.specs.declared.run_error.RunError.TheVariants.{BadWindow, BadGranularity, TooFewFrames, OutOfMemory}
 
@@ -14,9 +14,9 @@ refusal_status OutOfMemory = 5
 
 -- statuses 2 to 4 come exactly where no machine can be made from the configuration, and tell why
 pub record TellsRefusal (config : Config) (status : ℕ) : Type 0 where
-  pub window : status ≡ 2 ↔ IsRefused config BadWindow
-  pub granularity : status ≡ 3 ↔ IsRefused config BadGranularity
-  pub frames : status ≡ 4 ↔ IsRefused config TooFewFrames
+  pub window : status ≡ 2 ↔ IsConfigRefused config BadWindow
+  pub granularity : status ≡ 3 ↔ IsConfigRefused config BadGranularity
+  pub frames : status ≡ 4 ↔ IsConfigRefused config TooFewFrames
   pub good : (status ≡ 0) ⊎ (5 ≤ status) → IsGoodConfig config
 
 -- the texts of the statuses from 0 on

@@ -26,7 +26,7 @@ status_of WriteFault = 7
 status_of TooLong = 8
 
 -- nothing came yet
-pub record IsFresh {R : Type 0} (session : Session R) : Type 0 where
+pub record IsFreshSession {R : Type 0} (session : Session R) : Type 0 where
   pub line : session.line ≡ []
   pub output : string_bytes session.output ≡ []
 

@@ -1,6 +1,6 @@
 // The call that a line asks for.
 ghost use Rattle.std.specs.Prelude.{◌≡◌, IfOk, MatchOption, Some, None};
-ghost use Rattle.heap_program.specs.Grammar.{one_number, two_numbers, request_of, malloc_of, calloc_of, realloc_of, c_realloc_of, free_of, bytes_of, write_call, write_of, read_of, right_of, rights_of, map_of, unmap_of, access_of, user_of, probe_of, trim_of, rate_of, granularity_of, alone, call_of, item_of};
+ghost use Rattle.heap_program.specs.Grammar.{one_number, two_numbers, request_of, malloc_of, calloc_of, realloc_of, c_realloc_of, free_of, bytes_of, write_call, write_of, read_of, right_of, rights_of_letters, map_of, unmap_of, access_of, user_of, probe_of, trim_of, rate_of, granularity_of, alone, call_of, item_of};
 ghost use Rattle.heap_program.specs.Words.{words_of};
 
 use crate::number::number;
@@ -162,7 +162,7 @@ fn right(code: u8, letter: u8) -> Option<bool>
 
 // The rights that a word writes.
 fn rights(word: &[u8]) -> Option<Rights>
-    ensures { result ≡ rights_of word.now }
+    ensures { result ≡ rights_of_letters word.now }
 {
     let [read, write, user, fetch] = word else {
         return None;

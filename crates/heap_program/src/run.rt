@@ -5,7 +5,7 @@ ghost use Rattle.heap_model.specs.State.{State};
 ghost use Rattle.heap_program.specs.Faults.{HasRisen};
 ghost use Rattle.heap_program.specs.Flushed.{IsAllFlushed, IsUpToDate};
 ghost use Rattle.heap_program.specs.Progress.{IsAt};
-ghost use Rattle.heap_program.specs.Stop.{stop_of, IsFresh, HasRead, HasClosed, HasPart, HasStopped};
+ghost use Rattle.heap_program.specs.Stop.{stop_of, IsFreshSession, HasRead, HasClosed, HasPart, HasStopped};
 ghost use Rattle.heap_program.specs.Headline.{IsAnswered, IsInterrupted, IsStopped};
 ghost use Rattle.heap_program.specs.declared.run.Stop.TheVariants.{Memory, ReadFault, WriteFault, TooLong};
 
@@ -113,7 +113,7 @@ pub fn read_all<R: Respond + Drop, S: Source, K: Sink>(
     source: &mut S,
     sink: &mut K,
 ) -> Result<u64, Stop>
-    requires { IsFresh session.old }
+    requires { IsFreshSession session.old }
     ensures ok { IfOk result (λ count.
         HasRead R.responds session.old.responder session.new.responder session.new.line (S.left source.old) (S.left source.new) (K.taken sink.old) (K.taken sink.new) count) }
     ensures short { IfOk result (λ count. count ≤ 2 ^ 30) }

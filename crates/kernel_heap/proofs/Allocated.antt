@@ -11,7 +11,7 @@ use Rattle.heap_model.specs.Request.{pages_in}
 use Rattle.heap_model.specs.Room.{heap_region, heap_rights}
 use Rattle.heap_model.specs.Machine.{Paged, OnlyHeapBytesChange}
 use Rattle.kernel_heap.specs.Follows.{Follows, still_none}
-use Rattle.kernel_heap.specs.Layout.{IsKept, IsGrantedFor, LacksPlaceOrFrames}
+use Rattle.kernel_heap.specs.Layout.{IsPagedKept, IsGrantedFor, LacksPlaceOrFrames}
 use Rattle.kernel_heap.specs.Words.{heap_regions, grant_of, grants_of}
 use Rattle.mapped_regions.specs.Mapped.{word_reached}
 use Rattle.kernel_heap.proofs.HeapRegions.{apart_from, heap_joined, grants_joined}
@@ -19,7 +19,7 @@ use Rattle.kernel_heap.proofs.Pages.{pages_hold}
 use Rattle.kernel_heap.proofs.Still.{word_at_place}
 use Rattle.kernel_heap.proofs.WordsStay.{words_added}
 
-module _ (old new : Paged) (asked : ℕ) (grant : Grant) (kept : IsKept old) (is : IsGrantedFor old new asked grant) where
+module _ (old new : Paged) (asked : ℕ) (grant : Grant) (kept : IsPagedKept old) (is : IsGrantedFor old new asked grant) where
   -- the grant is the region
   grant_is : grant ≡ grant_of (heap_region grant.base (pages_in asked))
   grant_is i = record { base = grant.base; size = is.size i; flags = is.flags i }

@@ -7,7 +7,7 @@ use Rattle.paging_core.specs.Walk.{reached}
 use Rattle.heap_memory.specs.Regions.{IsWordOf}
 use Rattle.heap_memory.specs.Words.{IsStored}
 use Rattle.heap_model.specs.Machine.{Paged, OnlyHeapBytesChange}
-use Rattle.kernel_heap.specs.Layout.{IsKept}
+use Rattle.kernel_heap.specs.Layout.{IsPagedKept}
 use Rattle.kernel_heap.specs.Words.{grants_of}
 use Rattle.mapped_regions.specs.Mapped.{word_reached}
 use Rattle.kernel_heap.specs.Written.{AreInside, AreRead, IsWritten}
@@ -21,7 +21,7 @@ still_inside old new address count still there =
     subst (λ q. AreInside q address count) (sym still.others) there
 
 -- a word stands at a multiple of 8 that lies inside
-pub word_there : (p : Paged) (at : ℕ) → IsKept p → AreInside p at 1 → at % 8 ≡ 0 → IsWordOf (grants_of p) at
+pub word_there : (p : Paged) (at : ℕ) → IsPagedKept p → AreInside p at 1 → at % 8 ≡ 0 → IsWordOf (grants_of p) at
 word_there p at kept there whole = let same : at - at % 8 ≡ at = omega arith in subst (IsWordOf (grants_of p)) same (word_of p at kept there)
 
 -- the bytes of the word of eight bytes
@@ -96,7 +96,7 @@ written_parts old mid new address n bytes first last there is_first is_last fron
     (λ k less. ap (λ xs. get_or xs k 0) is_last ∙ get_or-drop n bytes k 0))
 
 -- a stored word is its eight bytes
-pub word_written : (p new : Paged) (at value : ℕ) → IsKept p → AreInside p at 8 → at % 8 ≡ 0 → OnlyHeapBytesChange p new → IsStored (grants_of p) (word_reached p) at value (word_reached new) →
+pub word_written : (p new : Paged) (at value : ℕ) → IsPagedKept p → AreInside p at 8 → at % 8 ≡ 0 → OnlyHeapBytesChange p new → IsStored (grants_of p) (word_reached p) at value (word_reached new) →
     IsWritten p new at (to_le_bytes w64 value) 8
 word_written p new at value kept there whole still stored = record {
   still = still;
@@ -117,7 +117,7 @@ word_written p new at value kept there whole still stored = record {
 -- ---- what is read
 
 -- a whole word was read
-pub word_read : (p : Paged) (address n : ℕ) (bytes : List ℕ) (word : ℕ) → IsKept p → AreInside p address (n + 8) → (address + n) % 8 ≡ 0 → AreRead p address n bytes →
+pub word_read : (p : Paged) (address n : ℕ) (bytes : List ℕ) (word : ℕ) → IsPagedKept p → AreInside p address (n + 8) → (address + n) % 8 ≡ 0 → AreRead p address n bytes →
     word ≡ word_reached p (address + n) → AreRead p address (n + 8) (bytes ++ to_le_bytes w64 word)
 word_read p address n bytes word kept there whole before is = record {
   many = length-append bytes (to_le_bytes w64 word) ∙ (let m = before.many in omega arith);

@@ -12,7 +12,7 @@ use Rattle.heap_memory.specs.Regions.{is_granted, IsWordOf}
 use Rattle.heap_memory.specs.Words.{IsStored, with_byte}
 use Rattle.heap_model.specs.Machine.{Paged, OnlyHeapBytesChange}
 use Rattle.heap_model.proofs.Booleans.{or_cases}
-use Rattle.kernel_heap.specs.Layout.{IsKept}
+use Rattle.kernel_heap.specs.Layout.{IsPagedKept}
 use Rattle.kernel_heap.specs.Words.{heap_regions, grants_of}
 use Rattle.mapped_regions.specs.Mapped.{word_reached}
 use Rattle.mapped_regions.proofs.Looked.{le_byte}
@@ -65,7 +65,7 @@ first_granted : (p : Paged) (address : ℕ) → AreInside p address 1 → IsTrue
 first_granted p address there = there address (omega arith) (omega arith)
 
 -- its address is a u64
-pub inside_below : (p : Paged) (address : ℕ) → IsKept p → AreInside p address 1 → address < 2 ^ 64
+pub inside_below : (p : Paged) (address : ℕ) → IsPagedKept p → AreInside p address 1 → address < 2 ^ 64
 inside_below p address kept there =
     elim (or_cases (nat_eq (address / 2 ^ 47) 0) (nat_eq (address / 2 ^ 47) (2 ^ 17 - 1)) (granted_canonical p address kept (first_granted p address there))) [
       | inl low ↦ (let half : address / 2 ^ 47 ≡ 0 = grind (arith, nat_tests) in omega arith)
@@ -73,7 +73,7 @@ inside_below p address kept there =
     ]
 
 -- the word of a byte of the regions is granted
-pub word_of : (p : Paged) (address : ℕ) → IsKept p → AreInside p address 1 → IsWordOf (grants_of p) (address - address % 8)
+pub word_of : (p : Paged) (address : ℕ) → IsPagedKept p → AreInside p address 1 → IsWordOf (grants_of p) (address - address % 8)
 word_of p address kept there = record {
   granted = granted_same (heap_regions p.regions) (address - address % 8)
       ∙ same_page 0 (2 ^ 64) address (address - address % 8) p.regions kept.laid (omega arith) (granted_within p address (first_granted p address there));
@@ -81,7 +81,7 @@ word_of p address kept there = record {
 }
 
 -- the byte that the walk reaches is a byte of its word
-pub reached_byte : (p : Paged) (address : ℕ) → IsKept p → AreInside p address 1 →
+pub reached_byte : (p : Paged) (address : ℕ) → IsPagedKept p → AreInside p address 1 →
     reached p.words p.root address ≡ Some (slice_index (to_le_bytes w64 (word_reached p (address - address % 8))) (address % 8))
 reached_byte p address kept there =
     let place = place_at p address (granted_mapped p address address kept (first_granted p address there) refl) in
@@ -93,13 +93,13 @@ reached_byte p address kept there =
     ∙ ap Some (sym (le_byte (word_at p.words place.0.frame (address % 4096 / 8)) (address % 8) (omega arith)) ∙ ap (λ w. slice_index (to_le_bytes w64 w) (address % 8)) (sym word))
 
 -- it is 0 where its word is
-pub zero_reached : (p : Paged) (address : ℕ) → IsKept p → AreInside p address 1 → word_reached p (address - address % 8) ≡ 0 → reached p.words p.root address ≡ Some 0
+pub zero_reached : (p : Paged) (address : ℕ) → IsPagedKept p → AreInside p address 1 → word_reached p (address - address % 8) ≡ 0 → reached p.words p.root address ≡ Some 0
 zero_reached p address kept there is =
     let none : byte_of 0 (address % 8) ≡ 0 = omega arith in
     reached_byte p address kept there ∙ ap Some (ap (λ w. slice_index (to_le_bytes w64 w) (address % 8)) is ∙ (le_byte 0 (address % 8) (omega arith) ∙ none))
 
 -- what a store of a byte does to the bytes
-module _ (p new : Paged) (at byte : ℕ) (kept : IsKept p) (still : OnlyHeapBytesChange p new) (here : AreInside p at 1) (small : byte < 256)
+module _ (p new : Paged) (at byte : ℕ) (kept : IsPagedKept p) (still : OnlyHeapBytesChange p new) (here : AreInside p at 1) (small : byte < 256)
     (stored : IsStored (grants_of p) (word_reached p) (at - at % 8) (with_byte (word_reached p (at - at % 8)) (at % 8) byte) (word_reached new)) where
   moved : (other : ℕ) → AreInside p other 1 → AreInside new other 1
   moved other there = subst (λ q. AreInside q other 1) (sym still.others) there
@@ -128,7 +128,7 @@ module _ (p new : Paged) (at byte : ℕ) (kept : IsKept p) (still : OnlyHeapByte
       ∙ (ap Some (same_bytes other apart (same_or_other (other - other % 8) (at - at % 8)) there) ∙ sym (reached_byte p other kept there))
 
 -- one more byte was put
-pub written_more : (old mid new : Paged) (address : ℕ) (bytes : List ℕ) (n : ℕ) → IsKept old → AreInside old address (n + 1) → IsWritten old mid address bytes n →
+pub written_more : (old mid new : Paged) (address : ℕ) (bytes : List ℕ) (n : ℕ) → IsPagedKept old → AreInside old address (n + 1) → IsWritten old mid address bytes n →
     slice_index bytes n < 256 → OnlyHeapBytesChange mid new →
     IsStored (grants_of mid) (word_reached mid) (address + n - (address + n) % 8) (with_byte (word_reached mid (address + n - (address + n) % 8)) ((address + n) % 8) (slice_index bytes n)) (word_reached new) →
     IsWritten old new address bytes (n + 1)
@@ -149,7 +149,7 @@ written_more old mid new address bytes n kept there before small still stored = 
       ∙ before.words k word (elim beside [ inl below ↦ inl below | inr above ↦ inr (omega arith) ]));
 }
   where
-    kept_mid : IsKept mid
+    kept_mid : IsPagedKept mid
     kept_mid = kept_still old mid kept before.still
 
     mid_in : (a : ℕ) → AreInside old a 1 → AreInside mid a 1
@@ -163,7 +163,7 @@ written_more old mid new address bytes n kept there before small still stored = 
     differs other (inr above) e = absurd (omega arith)
 
 -- one more byte was read
-pub read_more : (p : Paged) (address n : ℕ) (bytes : List ℕ) (byte : ℕ) → IsKept p → AreInside p address (n + 1) → AreRead p address n bytes →
+pub read_more : (p : Paged) (address n : ℕ) (bytes : List ℕ) (byte : ℕ) → IsPagedKept p → AreInside p address (n + 1) → AreRead p address n bytes →
     byte ≡ slice_index (to_le_bytes w64 (word_reached p (address + n - (address + n) % 8))) ((address + n) % 8) → AreRead p address (n + 1) (bytes ++ byte ∷ [])
 read_more p address n bytes byte kept there before is = record {
   many = length-append bytes (byte ∷ []) ∙ (let m = before.many in omega arith);

@@ -4,34 +4,34 @@ use Rattle.heap_model.specs.declared.region.Region.{Region}
 use Rattle.heap_model.specs.Room.{heap_region}
 use Rattle.heap_model.specs.Machine.{Paged}
 use Rattle.region_tree.specs.Regions.{AreLaid}
-use Rattle.mapped_regions.specs.Mapped.{IsMapped, IsRegion, CanMap, IsJoined, IsLeft}
+use Rattle.mapped_regions.specs.Mapped.{IsMapped, IsRegion, CanMap, IsRegionJoined, IsLeft}
 use Rattle.region_tree.proofs.Laying.{laid_with, laid_without}
 use Rattle.mapped_regions.proofs.Mapped.{range_ends_at}
 use Rattle.kernel_heap.specs.Config.{IsGoodWindow}
-use Rattle.kernel_heap.specs.Layout.{IsKept, CanGrant, IsGranted}
+use Rattle.kernel_heap.specs.Layout.{IsPagedKept, CanGrant, IsGranted}
 use Rattle.kernel_heap.proofs.Places.{range_within}
 
 -- what a system keeps, it keeps where a region joined, or nothing was done
-pub kept_joined : {A B : Type 0} (answer : Result A B) (old new : Paged) (region : Region) → OnOk answer (IsJoined old new region) → OnOk answer (CanMap old region.start region.pages) → OnErr answer (new ≡ old) → IsKept old → IsMapped new → IsKept new
+pub kept_joined : {A B : Type 0} (answer : Result A B) (old new : Paged) (region : Region) → OnOk answer (IsRegionJoined old new region) → OnOk answer (CanMap old region.start region.pages) → OnErr answer (new ≡ old) → IsPagedKept old → IsMapped new → IsPagedKept new
 kept_joined (Ok a) old new region ok can err kept mapped = record {
   window = subst (λ b. IsGoodWindow b new.pages) (sym ok.added.base) (subst (IsGoodWindow old.base) (sym ok.added.pages_is) kept.window);
   mapped = mapped;
   laid = subst (λ regions. AreLaid 0 regions (2 ^ 64)) (sym ok.regions)
       (laid_with region 0 (2 ^ 64) old.regions can.range.0 can.range.1.some (omega arith) (range_ends_at region.start region.pages can.range) can.clear kept.laid);
 }
-kept_joined (Err e) old new region ok can err kept mapped = subst IsKept (sym err) kept
+kept_joined (Err e) old new region ok can err kept mapped = subst IsPagedKept (sym err) kept
 
 -- and where one left
-pub kept_left : {A B : Type 0} (answer : Result A B) (old new : Paged) (start pages : ℕ) → OnOk answer (IsLeft old new start pages) → OnErr answer (new ≡ old) → IsKept old → IsMapped new → IsKept new
+pub kept_left : {A B : Type 0} (answer : Result A B) (old new : Paged) (start pages : ℕ) → OnOk answer (IsLeft old new start pages) → OnErr answer (new ≡ old) → IsPagedKept old → IsMapped new → IsPagedKept new
 kept_left (Ok a) old new start pages ok err kept mapped = record {
   window = subst (λ b. IsGoodWindow b new.pages) (sym ok.gone.base) (subst (IsGoodWindow old.base) (sym ok.gone.pages_is) kept.window);
   mapped = mapped;
   laid = subst (λ regions. AreLaid 0 regions (2 ^ 64)) (sym ok.regions) (laid_without start pages 0 (2 ^ 64) old.regions kept.laid);
 }
-kept_left (Err e) old new start pages ok err kept mapped = subst IsKept (sym err) kept
+kept_left (Err e) old new start pages ok err kept mapped = subst IsPagedKept (sym err) kept
 
 -- the region of a grant is one of the heap in the window, and it can be mapped
-pub granted_region : (p : Paged) (pages address : ℕ) → IsKept p → CanGrant p pages address → IsRegion p.base p.pages (heap_region address pages)
+pub granted_region : (p : Paged) (pages address : ℕ) → IsPagedKept p → CanGrant p pages address → IsRegion p.base p.pages (heap_region address pages)
 granted_region p pages address kept can = record {
   range = (can.place.fit.aligned, range_within p pages address kept.window can.some can.place.fit);
   from = λ heap. can.place.fit.from;
@@ -39,7 +39,7 @@ granted_region p pages address kept can = record {
   rights = λ heap. refl;
 }
 
-pub can_map : (p : Paged) (pages address : ℕ) → IsKept p → CanGrant p pages address → CanMap p address pages
+pub can_map : (p : Paged) (pages address : ℕ) → IsPagedKept p → CanGrant p pages address → CanMap p address pages
 can_map p pages address kept can = record {
   range = (can.place.fit.aligned, range_within p pages address kept.window can.some can.place.fit);
   clear = can.place.fit.clear;
@@ -47,9 +47,9 @@ can_map p pages address kept can = record {
 }
 
 -- where it joined, the pages were granted
-pub granted_joined : (old new : Paged) (region : Region) (pages address : ℕ) → region ≡ heap_region address pages → IsJoined old new region → IsGranted old new pages address
+pub granted_joined : (old new : Paged) (region : Region) (pages address : ℕ) → region ≡ heap_region address pages → IsRegionJoined old new region → IsGranted old new pages address
 granted_joined old new region pages address is joined =
-    let j = subst (IsJoined old new) is joined in
+    let j = subst (IsRegionJoined old new) is joined in
     record {
       grant = j.added;
       runs = j.runs;

@@ -13,7 +13,7 @@ use Rattle.heap_model.specs.Run.{IsGood, IsHeapRegion, IsUserRegion}
 use Rattle.heap_model.specs.Machine.{is_of_user}
 use Rattle.heap_model.proofs.Booleans.{or_left, or_right, or_cases, neither_or}
 use Rattle.heap_model.proofs.Regions.{within, within_bounds, beside}
-use Rattle.region_tree.specs.Regions.{AreLaid, is_at, kind_at, without}
+use Rattle.region_tree.specs.Regions.{AreLaid, is_at, kind_at, without_region}
 use Rattle.region_tree.proofs.AllRegions.{joined_all}
 use Rattle.mapped_regions.specs.Mapped.{IsPageRange, IsRegion}
 use Rattle.kernel_heap.specs.Words.{heap_regions, grant_of}
@@ -210,7 +210,7 @@ user_from start pages from to (first ∷ rest) laid there = elim (or_cases (not 
     at_start false is = grind (arith, nat_tests)
 
 -- it leaves nothing for the heap
-pub heap_left : (start pages from to : ℕ) (list : List Region) → AreLaid from list to → list_any (λ region. not region.heap && is_at start pages region) list ≡ true → heap_regions (without start pages list) ≡ heap_regions list
+pub heap_left : (start pages from to : ℕ) (list : List Region) → AreLaid from list to → list_any (λ region. not region.heap && is_at start pages region) list ≡ true → heap_regions (without_region start pages list) ≡ heap_regions list
 heap_left start pages from to [] laid there = absurd (cc)
 heap_left start pages from to (first ∷ rest) laid there = go (is_at start pages first) refl first.heap refl (heap_left start pages (end_of first) to rest laid.3)
   where
@@ -225,8 +225,8 @@ heap_left start pages from to (first ∷ rest) laid there = go (is_at start page
     neither false = refl
 
     go : (t : Bool) → is_at start pages first ≡ t → (h : Bool) → first.heap ≡ h →
-        (list_any (λ region. not region.heap && is_at start pages region) rest ≡ true → heap_regions (without start pages rest) ≡ heap_regions rest) →
-        heap_regions (cond t rest (first ∷ without start pages rest)) ≡ heap_regions (first ∷ rest)
+        (list_any (λ region. not region.heap && is_at start pages region) rest ≡ true → heap_regions (without_region start pages rest) ≡ heap_regions rest) →
+        heap_regions (cond t rest (first ∷ without_region start pages rest)) ≡ heap_regions (first ∷ rest)
     go true is false user rest_left = sym (user_first first rest user)
     go true is true heap rest_left =
         let later = later_there (ap (λ b. not b && is_at start pages first) heap) in

@@ -7,7 +7,7 @@ use Rattle.dlmalloc_chunks.specs.Request.{round_up, padded, enlarged, wanted, li
 use Rattle.dlmalloc_chunks.proofs.PowersOfTwo.{power_from_test}
 use Rattle.dlmalloc_chunks.proofs.Wanted.{wanted_few, wanted_many}
 use Rattle.dlmalloc.specs.Requested.{asked}
-use Rattle.dlmalloc.specs.Served.{IsDenied, IsRefused, IsRefusedWith}
+use Rattle.dlmalloc.specs.Served.{IsDenied, IsMallocRefused, IsRefusedWith}
 use Rattle.dlmalloc.specs.declared.malloc_error.MallocError.{MallocError}
 use Rattle.dlmalloc.specs.declared.malloc_error.MallocError.TheVariants.{TooLarge as MallocTooLarge, System}
 use Rattle.dlmalloc.specs.declared.heap.Dlmalloc.{Dlmalloc}
@@ -198,7 +198,7 @@ step_denied {top = top} heap new blocks laid s good stands call asked n same lar
     subst (λ (m : Seen). IsStep s call answer m) (sym (seen_denied heap new blocks asked error denied top))
     (subst (λ (a : Answer). IsStep s call a (seen_of top heap blocks)) (sym given.2) (go error given.0 given.1 denied.refused))
   where
-    go : (error : MallocError) (refusal : Refusal) → refusal_of error ≡ Some refusal → IsRefused denies heap.system (heap_state heap) asked error → IsStep s call (refused_with refusal) (seen_of top heap blocks)
+    go : (error : MallocError) (refusal : Refusal) → refusal_of error ≡ Some refusal → IsMallocRefused denies heap.system (heap_state heap) asked error → IsStep s call (refused_with refusal) (seen_of top heap blocks)
     go MallocTooLarge refusal is most =
         let one : TooLarge ≡ refusal = cc in
         subst (λ r. IsStep s call (refused_with r) (seen_of top heap blocks)) one (step_refused (seen_of top heap blocks) s call TooLarge (large (subst (λ g. limit g ≤ asked) stands.granularity most)) good stands)

@@ -28,7 +28,7 @@ use Rattle.region_tree.specs.Regions.{AreLaid, cut_of}
 use Rattle.region_tree.proofs.Laying.{laid_cut}
 use Rattle.mapped_regions.specs.Mapped.{AreGone}
 use Rattle.mapped_regions.proofs.Looked.{first_canonical}
-use Rattle.kernel_heap.specs.Layout.{IsKept}
+use Rattle.kernel_heap.specs.Layout.{IsPagedKept}
 use Rattle.kernel_heap.specs.Released.{IsReleasedFor}
 use Rattle.kernel_heap.specs.Follows.{Follows, still_none}
 use Rattle.kernel_heap.specs.Words.{heap_regions, grant_of, grants_of}
@@ -260,7 +260,7 @@ shortened_on x y z (Some one) first second = shortened_before x y z one first se
 abbrev pub slot_cut : Paged → ℕ → Option ℕ
 slot_cut p page = if is_cut p.words p.root page then Some (page / 512 * 2 ^ 21) else None
 
-module _ (old new : Paged) (at size left : ℕ) (kept : IsKept old) (is : IsReleasedFor old new at size left) (less : left < size) where
+module _ (old new : Paged) (at size left : ℕ) (kept : IsPagedKept old) (is : IsReleasedFor old new at size left) (less : left < size) where
   laid : AreLaid 0 old.regions (2 ^ 64)
   laid = kept.laid
 
@@ -448,7 +448,7 @@ none_whole low high slot from to (region ∷ rest) laid some after before beside
         later (subst (λ (b : Bool). AllByRecursion (λ grant. IsApart low high grant ⊎ IsWithin low high grant) (map grant_of (cond b (region ∷ heap_regions rest) (heap_regions rest)))) user beside) at all
 
 -- a whole run cuts no slot
-whole_run : (old : Paged) (at size : ℕ) → IsKept old → IsRun (grants_of old) at (at + size) → 0 < size → IsTrue (is_canonical (at / 4096 * 4096)) → at % 4096 ≡ 0 → slot_cut old (at / 4096) ≡ None
+whole_run : (old : Paged) (at size : ℕ) → IsPagedKept old → IsRun (grants_of old) at (at + size) → 0 < size → IsTrue (is_canonical (at / 4096 * 4096)) → at % 4096 ≡ 0 → slot_cut old (at / 4096) ≡ None
 whole_run old at size kept run some canonical page = elim (cut_or_not old.words old.root (at / 4096)) [
   | inr none ↦ rw none refl
   | inl cut ↦ absurd (
@@ -467,7 +467,7 @@ whole_run old at size kept run some canonical page = elim (cut_or_not old.words 
 abbrev pub slot_of_event : Paged → ℕ → ℕ → ℕ → Option ℕ
 slot_of_event p at size left = if nat_lt left size then slot_cut p ((at + left) / 4096) else None
 
-pub released_shortened : (old new : Paged) (at size left : ℕ) → IsKept old → IsReleasedFor old new at size left → AreShortened old new (slot_of_event old at size left)
+pub released_shortened : (old new : Paged) (at size left : ℕ) → IsPagedKept old → IsReleasedFor old new at size left → AreShortened old new (slot_of_event old at size left)
 released_shortened old new at size left kept is = elim (cases_lt left size) [
   | inr more ↦ (let test : nat_lt left size ≡ false = not_less left size more in
       rw test (subst (λ (p : Paged). AreShortened old p None) (sym (is.none (let w = is.within in omega arith))) (shortened_still old old kept.laid (still_none old))))
@@ -475,7 +475,7 @@ released_shortened old new at size left kept is = elim (cases_lt left size) [
 ]
 
 -- a whole run, which cuts no slot
-pub whole_shortened : (old new : Paged) (at size : ℕ) → IsKept old → IsReleasedFor old new at size 0 → AreShortened old new None
+pub whole_shortened : (old new : Paged) (at size : ℕ) → IsPagedKept old → IsReleasedFor old new at size 0 → AreShortened old new None
 whole_shortened old new at size kept is = subst (AreShortened old new) (none (cases_lt 0 size)) (released_shortened old new at size 0 kept is)
   where
     none : (0 < size) ⊎ (size ≤ 0) → slot_of_event old at size 0 ≡ None
@@ -504,23 +504,23 @@ AreReleases (Refused asked fault ∷ events) = ⊥
 AreReleases (Released at size left ∷ events) = AreWholeReleases events
 
 -- what a system keeps, it keeps where a run was given back
-pub kept_released : (old new : Paged) (at size left : ℕ) → IsKept old → IsReleasedFor old new at size left → IsKept new
+pub kept_released : (old new : Paged) (at size left : ℕ) → IsPagedKept old → IsReleasedFor old new at size left → IsPagedKept new
 kept_released old new at size left kept is = elim (cases_lt left size) [
-  | inr more ↦ subst IsKept (sym (is.none (let w = is.within in omega arith))) kept
+  | inr more ↦ subst IsPagedKept (sym (is.none (let w = is.within in omega arith))) kept
   | inl less ↦ (
       let begin = begins 0 (2 ^ 64) at size left old.regions kept.laid is.run less is.in_pages in
       let whole = is.in_pages in
       kept_cut old new (at + left) ((size - left) / 4096) (omega arith) (is.gone less) kept is.mapped)
 ]
 
-pub follows_whole : (old new : Paged) (events : List Event) → IsKept old → AreWholeReleases events → Follows old events new → AreShortened old new None
+pub follows_whole : (old new : Paged) (events : List Event) → IsPagedKept old → AreWholeReleases events → Follows old events new → AreShortened old new None
 follows_whole old new [] kept all still = shortened_still old new kept.laid still
 follows_whole old new (Granted asked grant ∷ events) kept all follows = absurd all.0
 follows_whole old new (Refused asked fault ∷ events) kept all follows = absurd all.0
 follows_whole old new (Released at size left ∷ events) kept all follows =
     let before : Paged = follows.0 in
     let later : Paged = follows.1 in
-    let kept_before : IsKept before = kept_still old before kept follows.2 in
+    let kept_before : IsPagedKept before = kept_still old before kept follows.2 in
     let one = shortened_still old before kept.laid follows.2 in
     let two = whole_shortened before later at size kept_before (subst (IsReleasedFor before later at size) all.0 follows.3) in
     shortened_on old before new None one (shortened_on before later new None two (follows_whole later new events (kept_released before later at size left kept_before follows.3) all.1 follows.4))
@@ -531,14 +531,14 @@ pub record IsShortenedBy (old new : Paged) (events : List Event) : Type 0 where
   pub short : AreShortened old new slot
   pub cut : (one : ℕ) → slot ≡ Some one → (at : ℕ) × (size : ℕ) × (left : ℕ) × (more : List Event) × (events ≡ Released at size left ∷ more) × (0 < left) × (left < size) × (one < at + left) × (at + left < one + 2 ^ 21)
 
-pub follows_shortened : (old new : Paged) (events : List Event) → IsKept old → AreReleases events → Follows old events new → IsShortenedBy old new events
+pub follows_shortened : (old new : Paged) (events : List Event) → IsPagedKept old → AreReleases events → Follows old events new → IsShortenedBy old new events
 follows_shortened old new [] kept all still = record { slot = None; short = shortened_still old new kept.laid still; cut = λ one is. absurd (cc) }
 follows_shortened old new (Granted asked grant ∷ events) kept all follows = absurd all
 follows_shortened old new (Refused asked fault ∷ events) kept all follows = absurd all
 follows_shortened old new (Released at size left ∷ events) kept all follows =
     let before : Paged = follows.0 in
     let later : Paged = follows.1 in
-    let kept_before : IsKept before = kept_still old before kept follows.2 in
+    let kept_before : IsPagedKept before = kept_still old before kept follows.2 in
     let one = shortened_still old before kept.laid follows.2 in
     let rest = follows_whole later new events (kept_released before later at size left kept_before follows.3) all follows.4 in
     elim (cases_lt 0 left) [
@@ -555,7 +555,7 @@ follows_shortened old new (Released at size left ∷ events) kept all follows =
       }
     ]
   where
-    part_of : (before later : Paged) (at size left : ℕ) (more : List Event) → IsKept before → IsReleasedFor before later at size left → 0 < left → (one : ℕ) → slot_of_event before at size left ≡ Some one →
+    part_of : (before later : Paged) (at size left : ℕ) (more : List Event) → IsPagedKept before → IsReleasedFor before later at size left → 0 < left → (one : ℕ) → slot_of_event before at size left ≡ Some one →
         (at' : ℕ) × (size' : ℕ) × (left' : ℕ) × (more' : List Event) × (Released at size left ∷ more ≡ Released at' size' left' ∷ more') × (0 < left') × (left' < size') × (one < at' + left') × (at' + left' < one + 2 ^ 21)
     part_of before later at size left more kept is some one of = elim (cases_lt left size) [
       | inr more_left ↦ absurd (let test : nat_lt left size ≡ false = not_less left size more_left in let none : None ≡ Some one = rw test at of in cc)

@@ -5,7 +5,7 @@ use Rattle.std.specs.List.{AllByRecursion}
 use Rattle.std.proofs.lemmas.Bool.Decides.{nat_tests}
 use Rattle.heap_memory.specs.declared.grant.Grant.{Grant}
 use Rattle.heap_memory.specs.Regions.{is_granted, IsWordOf, IsApart}
-use Rattle.heap_memory.specs.Runs.{IsRun, IsWithin, begins_in, without}
+use Rattle.heap_memory.specs.Runs.{IsRun, IsWithin, begins_in, without_run}
 use Rattle.heap_memory.specs.RunLaws.{granted_without, granted_before}
 use Rattle.paging_core.specs.Address.{is_canonical}
 use Rattle.paging_core.specs.Memory.{word_at}
@@ -19,7 +19,7 @@ use Rattle.region_tree.proofs.Laying.{laid_cut}
 use Rattle.mapped_regions.specs.Mapped.{IsPageRange, IsMapped, AreGone, word_in, word_reached}
 use Rattle.mapped_regions.proofs.Looked.{first_canonical}
 use Rattle.kernel_heap.specs.Config.{IsGoodWindow}
-use Rattle.kernel_heap.specs.Layout.{IsKept}
+use Rattle.kernel_heap.specs.Layout.{IsPagedKept}
 use Rattle.kernel_heap.specs.Words.{grants_of}
 use Rattle.kernel_heap.proofs.Numbers.{is_outside}
 use Rattle.kernel_heap.proofs.Releasing.{heap_grants}
@@ -27,7 +27,7 @@ use Rattle.kernel_heap.proofs.RunPages.{begins, count_is, held, boundary, grants
 use Rattle.kernel_heap.proofs.Still.{granted_canonical, granted_mapped}
 
 -- granted bytes lie in the window
-granted_bounds : (p : Paged) (address : ℕ) → IsKept p → IsTrue (is_granted (grants_of p) address) → (p.base ≤ address) × (address < p.base + 4096 * p.pages)
+granted_bounds : (p : Paged) (address : ℕ) → IsPagedKept p → IsTrue (is_granted (grants_of p) address) → (p.base ≤ address) × (address < p.base + 4096 * p.pages)
 granted_bounds p address kept granted = own_bounds p.base p.pages address p.regions kept.mapped.regions (sym (own_granted address p.regions) ∙ granted)
 
 module _ (old new : List ℕ) (free free' : List Bool) (root first pages : ℕ) (some : 0 < pages) (tree : IsTree old root free) (gone : AreUnmapped old new free free' root first pages) where
@@ -37,7 +37,7 @@ module _ (old new : List ℕ) (free free' : List Bool) (root first pages : ℕ) 
   word_stays page index place less found = unmapped_words old new free free' root first pages some tree gone (page % 2 ^ 36) index place less found
 
 -- What is behind the first `left` bytes of a run: pages of the window, which regions have.
-module _ (p : Paged) (at size left : ℕ) (kept : IsKept p) (run : IsRun (grants_of p) at (at + size)) (less : left < size) (in_pages : left % 4096 ≡ 0) where
+module _ (p : Paged) (at size left : ℕ) (kept : IsPagedKept p) (run : IsRun (grants_of p) at (at + size)) (less : left < size) (in_pages : left % 4096 ≡ 0) where
   end_is : at + left + 4096 * ((size - left) / 4096) ≡ at + size
   end_is = count_is 0 (2 ^ 64) at size left p.regions kept.laid run less in_pages
 
@@ -67,7 +67,7 @@ module _ (p : Paged) (at size left : ℕ) (kept : IsKept p) (run : IsRun (grants
   cut_ends = subst (λ (high : ℕ). IsBoundary high p.regions) (sym end_is) (boundary 0 (2 ^ 64) at size left p.regions kept.laid run less in_pages)
 
 -- where nothing is behind them, all stays
-pub none_behind : (start high : ℕ) (regions : List Grant) → start ≤ high → AllByRecursion (λ region. IsApart start high region ⊎ IsWithin start high region) regions → without high high regions ≡ regions
+pub none_behind : (start high : ℕ) (regions : List Grant) → start ≤ high → AllByRecursion (λ region. IsApart start high region ⊎ IsWithin start high region) regions → without_run high high regions ≡ regions
 none_behind start high [] after whole = refl
 none_behind start high (region ∷ rest) after whole =
     let more = none_behind start high rest after whole.1 in
@@ -79,20 +79,20 @@ none_behind start high (region ∷ rest) after whole =
     ] in
     rw (in_none) (rw over_none (ap (λ gs. region ∷ gs) more))
 
-module _ (old new : Paged) (at size left : ℕ) (kept : IsKept old) (run : IsRun (grants_of old) at (at + size)) (less : left < size) (in_pages : left % 4096 ≡ 0) (gone : AreGone old new (at + left) ((size - left) / 4096)) where
+module _ (old new : Paged) (at size left : ℕ) (kept : IsPagedKept old) (run : IsRun (grants_of old) at (at + size)) (less : left < size) (in_pages : left % 4096 ≡ 0) (gone : AreGone old new (at + left) ((size - left) / 4096)) where
   low_page : (at + left) % 4096 ≡ 0
   low_page = let a = begins 0 (2 ^ 64) at size left old.regions kept.laid run less in_pages in omega arith
 
   high_is : at + left + 4096 * ((size - left) / 4096) ≡ at + size
   high_is = count_is 0 (2 ^ 64) at size left old.regions kept.laid run less in_pages
 
-  pub released_regions : grants_of new ≡ without (at + left) (at + size) (grants_of old)
+  pub released_regions : grants_of new ≡ without_run (at + left) (at + size) (grants_of old)
   released_regions = ap heap_grants gone.regions ∙ grants_left 0 (2 ^ 64) at size left old.regions kept.laid run less in_pages
 
   -- every word that stays granted is as it was
   pub released_words : (k : ℕ) → IsWordOf (grants_of new) k → word_reached new k ≡ word_reached old k
   released_words k word =
-      let stays : IsTrue (is_granted (without (at + left) (at + size) (grants_of old)) k) = subst (λ gs. IsTrue (is_granted gs k)) released_regions word.granted in
+      let stays : IsTrue (is_granted (without_run (at + left) (at + size) (grants_of old)) k) = subst (λ gs. IsTrue (is_granted gs k)) released_regions word.granted in
       let was : IsTrue (is_granted (grants_of old) k) = granted_before (at + left) (at + size) (grants_of old) k stays in
       let exact = granted_without at (at + left) (at + size) (grants_of old) k run.whole (omega arith) (omega arith) in
       let out : (nat_le (at + left) k && nat_lt k (at + size)) ≡ false = kept_out (is_granted (grants_of old) k) (nat_le (at + left) k && nat_lt k (at + size)) (sym exact ∙ stays) in
@@ -122,7 +122,7 @@ module _ (old new : Paged) (at size left : ℕ) (kept : IsKept old) (run : IsRun
           ∙ sym (ap (word_in old.words k) found))
 
 -- what a system keeps, it keeps then
-pub kept_cut : (old new : Paged) (start pages : ℕ) → start % 4096 ≡ 0 → AreGone old new start pages → IsKept old → IsMapped new → IsKept new
+pub kept_cut : (old new : Paged) (start pages : ℕ) → start % 4096 ≡ 0 → AreGone old new start pages → IsPagedKept old → IsMapped new → IsPagedKept new
 kept_cut old new start pages whole gone kept mapped = record {
   window = subst (λ b. IsGoodWindow b new.pages) (sym gone.gone.base) (subst (IsGoodWindow old.base) (sym gone.gone.pages_is) kept.window);
   mapped = mapped;

@@ -6,7 +6,7 @@ use Rattle.std.proofs.lemmas.Bool.{cases_lt}
 use Rattle.std.proofs.lemmas.Bool.Decides.{nat_tests}
 use Rattle.heap_memory.specs.declared.grant.Grant.{Grant}
 use Rattle.heap_memory.specs.Regions.{IsApart}
-use Rattle.heap_memory.specs.Runs.{IsWithin, begins_in, up_to, without}
+use Rattle.heap_memory.specs.Runs.{IsWithin, begins_in, up_to, without_run}
 use Rattle.heap_model.specs.declared.region.Region.{Region}
 use Rattle.heap_model.specs.State.{end_of}
 use Rattle.heap_model.specs.Place.{meets}
@@ -64,7 +64,7 @@ module _ (start low pages : ℕ) (aligned : low % 4096 ≡ 0) (some : 0 < pages)
   -- what a heap sees of the regions after a cut
   pub cut_grants : (from to : ℕ) (regions : List Region) → AreLaid from regions to →
       AllByRecursion (λ grant. IsApart start (low + 4096 * pages) grant ⊎ IsWithin start (low + 4096 * pages) grant) (heap_grants regions) →
-      heap_grants (cut_of low pages regions) ≡ without low (low + 4096 * pages) (heap_grants regions)
+      heap_grants (cut_of low pages regions) ≡ without_run low (low + 4096 * pages) (heap_grants regions)
   cut_grants from to [] laid whole = refl
   cut_grants from to (region ∷ rest) laid whole = go region.heap refl (cut_grants (end_of region) to rest laid.3)
     where
@@ -76,13 +76,13 @@ module _ (start low pages : ℕ) (aligned : low % 4096 ≡ 0) (some : 0 < pages)
       unseen b true false user is = refl
       unseen b false before user is = rw user refl
 
-      go : (heap : Bool) → region.heap ≡ heap → (AllByRecursion (λ grant. IsApart start (low + 4096 * pages) grant ⊎ IsWithin start (low + 4096 * pages) grant) (heap_grants rest) → heap_grants (cut_of low pages rest) ≡ without low (low + 4096 * pages) (heap_grants rest)) →
-          heap_grants (cut_of low pages (region ∷ rest)) ≡ without low (low + 4096 * pages) (heap_grants (region ∷ rest))
+      go : (heap : Bool) → region.heap ≡ heap → (AllByRecursion (λ grant. IsApart start (low + 4096 * pages) grant ⊎ IsWithin start (low + 4096 * pages) grant) (heap_grants rest) → heap_grants (cut_of low pages rest) ≡ without_run low (low + 4096 * pages) (heap_grants rest)) →
+          heap_grants (cut_of low pages (region ∷ rest)) ≡ without_run low (low + 4096 * pages) (heap_grants (region ∷ rest))
       go false user others =
           let rest_whole : AllByRecursion (λ grant. IsApart start (low + 4096 * pages) grant ⊎ IsWithin start (low + 4096 * pages) grant) (heap_grants rest) =
           subst (λ (b : Bool). AllByRecursion (λ grant. IsApart start (low + 4096 * pages) grant ⊎ IsWithin start (low + 4096 * pages) grant) (map grant_of (cond b (region ∷ heap_regions rest) (heap_regions rest)))) user whole in
           unseen (meets low pages region) (meets low pages region) (nat_lt region.start low) user refl
-          ∙ (others rest_whole ∙ sym (ap (λ (b : Bool). without low (low + 4096 * pages) (map grant_of (cond b (region ∷ heap_regions rest) (heap_regions rest)))) user))
+          ∙ (others rest_whole ∙ sym (ap (λ (b : Bool). without_run low (low + 4096 * pages) (map grant_of (cond b (region ∷ heap_regions rest) (heap_regions rest)))) user))
       go true own others =
           let all : AllByRecursion (λ grant. IsApart start (low + 4096 * pages) grant ⊎ IsWithin start (low + 4096 * pages) grant) (grant_of region ∷ heap_grants rest) =
           subst (λ (b : Bool). AllByRecursion (λ grant. IsApart start (low + 4096 * pages) grant ⊎ IsWithin start (low + 4096 * pages) grant) (map grant_of (cond b (region ∷ heap_regions rest) (heap_regions rest)))) own whole in

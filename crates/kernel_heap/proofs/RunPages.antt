@@ -4,7 +4,7 @@ use Rattle.std.specs.List.{AllByRecursion, list_any}
 use Rattle.std.proofs.lemmas.Bool.{cases_lt}
 use Rattle.std.proofs.lemmas.Bool.Decides.{nat_tests}
 use Rattle.heap_memory.specs.Regions.{is_granted, IsApart}
-use Rattle.heap_memory.specs.Runs.{IsRun, IsWithin, without}
+use Rattle.heap_memory.specs.Runs.{IsRun, IsWithin, without_run}
 use Rattle.heap_model.specs.declared.region.Region.{Region}
 use Rattle.heap_model.specs.State.{end_of, is_within}
 use Rattle.heap_model.proofs.Booleans.{or_cases}
@@ -162,9 +162,9 @@ module _ (from to at size left : ℕ) (regions : List Region) (laid : AreLaid fr
   pub held : AreHeld (at + left) (at + size) regions
   held address low high = own_within address regions (run_own address (omega arith) high)
 
-  pub grants_left : heap_grants (cut_of (at + left) ((size - left) / 4096) regions) ≡ without (at + left) (at + size) (heap_grants regions)
+  pub grants_left : heap_grants (cut_of (at + left) ((size - left) / 4096) regions) ≡ without_run (at + left) (at + size) (heap_grants regions)
   grants_left =
       let b = begins in let e = ends in
       let all : AreBeside at (at + left + 4096 * ((size - left) / 4096)) regions = subst (λ (high : ℕ). AreBeside at high regions) (sym count_is) run.whole in
       cut_grants at (at + left) ((size - left) / 4096) (omega arith) (omega arith) (omega arith) from to regions laid all
-      ∙ ap (λ (high : ℕ). without (at + left) high (heap_grants regions)) count_is
+      ∙ ap (λ (high : ℕ). without_run (at + left) high (heap_grants regions)) count_is

@@ -4,7 +4,7 @@ use Rattle.std.specs.Prelude.{nat_le}
 use Rattle.std.specs.List.{list_any, AllByRecursion, filter}
 use Rattle.std.proofs.lemmas.Bool.Decides.{nat_tests}
 use Rattle.heap_memory.specs.declared.grant.Grant.{Grant}
-use Rattle.heap_memory.specs.Runs.{begins_in, up_to, without}
+use Rattle.heap_memory.specs.Runs.{begins_in, up_to, without_run}
 use Rattle.dlmalloc.specs.State.{HeapState, Segment}
 use Rattle.dlmalloc.specs.Freed.{freed_in, freed}
 use Rattle.dlmalloc.specs.Released.{may_leave, handed_out, staying, taken_back, regions_without, passed, is_counted, counted, left_by_count}
@@ -67,7 +67,7 @@ one_left gone others region is out = (
 
 pub have_without : (gone others : List Segment) (regions : List Grant) → HaveAll (gone ++ others) regions → HaveAll others (regions_without gone regions)
 have_without [] others regions have = have
-have_without (segment ∷ gone) others regions have = have_without gone others (without segment.base (segment.base + segment.size) regions)
+have_without (segment ∷ gone) others regions have = have_without gone others (without_run segment.base (segment.base + segment.size) regions)
     (all_without segment.base (segment.base + segment.size) (Has (segment ∷ (gone ++ others))) (Has (gone ++ others)) (one_left segment (gone ++ others)) regions have)
 
 any_behind : (test : Segment → Bool) (first second : List Segment) → list_any test second ≡ true → list_any test (first ++ second) ≡ true

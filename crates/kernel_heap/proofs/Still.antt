@@ -11,7 +11,7 @@ use Rattle.heap_memory.specs.Regions.{IsWordOf, is_granted}
 use Rattle.heap_memory.specs.Words.{IsStored}
 use Rattle.heap_model.specs.State.{is_within}
 use Rattle.heap_model.specs.Machine.{Paged, OnlyHeapBytesChange, is_of_user}
-use Rattle.kernel_heap.specs.Layout.{IsKept}
+use Rattle.kernel_heap.specs.Layout.{IsPagedKept}
 use Rattle.kernel_heap.specs.Words.{heap_regions, grants_of}
 use Rattle.mapped_regions.specs.Mapped.{IsMappedWord, word_in, word_reached}
 use Rattle.mapped_regions.proofs.Looked.{mapped_at}
@@ -23,16 +23,16 @@ pub granted_within : (p : Paged) (address : ℕ) → IsTrue (is_granted (grants_
 granted_within p address granted = sym (granted_same (heap_regions p.regions) address) ∙ granted
 
 -- its address is canonical, and its page is mapped
-pub granted_canonical : (p : Paged) (address : ℕ) → IsKept p → IsTrue (is_granted (grants_of p) address) → IsTrue (is_canonical address)
+pub granted_canonical : (p : Paged) (address : ℕ) → IsPagedKept p → IsTrue (is_granted (grants_of p) address) → IsTrue (is_canonical address)
 granted_canonical p address kept granted =
     within_canonical p.base p.pages address p.regions kept.mapped.regions (heap_any (is_within address) p.regions (granted_within p address granted))
 
-pub granted_mapped : (p : Paged) (address a : ℕ) → IsKept p → IsTrue (is_granted (grants_of p) address) → a ≡ address → IsSome (walk_of p.words p.root (a / 4096))
+pub granted_mapped : (p : Paged) (address a : ℕ) → IsPagedKept p → IsTrue (is_granted (grants_of p) address) → a ≡ address → IsSome (walk_of p.words p.root (a / 4096))
 granted_mapped p address a kept granted same =
     subst (λ b. IsSome (walk_of p.words p.root (b / 4096))) (sym same)
     (mapped_at p address kept.mapped (granted_canonical p address kept granted) (kind_some address p.regions (heap_any (is_within address) p.regions (granted_within p address granted))))
 
-pub mapped_word : (p : Paged) (at : ℕ) → IsKept p → IsWordOf (grants_of p) at → IsMappedWord p at
+pub mapped_word : (p : Paged) (at : ℕ) → IsPagedKept p → IsWordOf (grants_of p) at → IsMappedWord p at
 mapped_word p at kept word = record {
   aligned = word.aligned;
   canonical = granted_canonical p at kept word.granted;
@@ -40,8 +40,8 @@ mapped_word p at kept word = record {
 }
 
 -- what a system keeps, it keeps while nothing is granted
-pub kept_still : (old new : Paged) → IsKept old → OnlyHeapBytesChange old new → IsKept new
-kept_still old new kept still = subst IsKept (sym still.others) (record {
+pub kept_still : (old new : Paged) → IsPagedKept old → OnlyHeapBytesChange old new → IsPagedKept new
+kept_still old new kept still = subst IsPagedKept (sym still.others) (record {
   window = kept.window;
   mapped = stored_mapped old new.words kept.mapped still.size (still.tree kept.mapped.tree) still.walks still.larges;
   laid = kept.laid;
@@ -60,7 +60,7 @@ place_at p at some = go (walk_of p.words p.root (at / 4096)) some
     go (Some place) some = (place, refl)
 
 -- words of one page of the regions were put, and no other: that page is no table
-pub still_beside : (p : Paged) (words : List ℕ) (at : ℕ) (place : Place) → IsKept p → walk_of p.words p.root (at / 4096) ≡ Some place → length words ≡ length p.words →
+pub still_beside : (p : Paged) (words : List ℕ) (at : ℕ) (place : Place) → IsPagedKept p → walk_of p.words p.root (at / 4096) ≡ Some place → length words ≡ length p.words →
     ((free : List Bool) → IsTree p.words p.root free → (level number : ℕ) → level ≤ 4 → reach words p.root level number ≡ reach p.words p.root level number) →
     ((free : List Bool) → IsTree p.words p.root free → (number : ℕ) → large_of words p.root number ≡ large_of p.words p.root number) →
     ((free : List Bool) → IsTree p.words p.root free → IsTree words p.root free) →
@@ -83,7 +83,7 @@ still_beside p words at place kept found size walks larges tree others users = r
 
 -- A word was stored in a page of the regions, at the address that a is.
 module _ (p : Paged) (words : List ℕ) (at value a : ℕ)
-    (kept : IsKept p) (word : IsWordOf (grants_of p) at) (at_is : a ≡ at)
+    (kept : IsPagedKept p) (word : IsWordOf (grants_of p) at) (at_is : a ≡ at)
     (size : length words ≡ length p.words)
     (set : IfSome (walk_of p.words p.root (a / 4096)) (λ place. words ≡ slice_set p.words (512 * place.frame + a % 4096 / 8) value))
     (walks : (free : List Bool) → IsTree p.words p.root free → (level number : ℕ) → level ≤ 4 → reach words p.root level number ≡ reach p.words p.root level number)
@@ -108,7 +108,7 @@ module _ (p : Paged) (words : List ℕ) (at value a : ℕ)
       users address user = bytes p.free tree_is address (within_canonical p.base p.pages address p.regions kept.mapped.regions (user_any address p.regions user))
           (λ same. not_of_user 0 (2 ^ 64) at address p.regions kept.laid (omega (arith, same, at_is)) (granted_within p at word.granted) user)
 
-  pub kept_stored : IsKept (record p { words = words })
+  pub kept_stored : IsPagedKept (record p { words = words })
   kept_stored = kept_still p (record p { words = words }) kept still_stored
 
   -- the place of a page of the regions, before and after

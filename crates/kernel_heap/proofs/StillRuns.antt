@@ -9,7 +9,7 @@ use Rattle.paging_core.specs.Tree.{IsTree}
 use Rattle.heap_memory.specs.Regions.{is_granted, IsWordOf}
 use Rattle.heap_memory.specs.Words.{IsBeside, AreWordsOf}
 use Rattle.heap_model.specs.Machine.{Paged, OnlyHeapBytesChange, is_of_user}
-use Rattle.kernel_heap.specs.Layout.{IsKept}
+use Rattle.kernel_heap.specs.Layout.{IsPagedKept}
 use Rattle.kernel_heap.specs.Words.{grants_of}
 use Rattle.kernel_heap.specs.Written.{AreInPage, ArePut}
 use Rattle.mapped_regions.specs.Mapped.{IsMappedWord, word_reached}
@@ -35,7 +35,7 @@ first_word p at count there = record {
   aligned = there.words.aligned;
 }
 
-pub first_mapped : (p : Paged) (at count : ℕ) → IsKept p → AreInPage p at count → IsMappedWord p at
+pub first_mapped : (p : Paged) (at count : ℕ) → IsPagedKept p → AreInPage p at count → IsMappedWord p at
 first_mapped p at count kept there = mapped_word p at kept (first_word p at count there)
 
 -- canonical addresses are told apart by the indices of their walks
@@ -43,7 +43,7 @@ same_page : (a b : ℕ) → IsTrue (is_canonical a) → IsTrue (is_canonical b) 
 same_page a b one two same = grind (arith, nat_tests)
 
 -- Words were put into a page of the regions.
-module _ (p : Paged) (words run : List ℕ) (at : ℕ) (kept : IsKept p) (there : AreInPage p at (length run))
+module _ (p : Paged) (words run : List ℕ) (at : ℕ) (kept : IsPagedKept p) (there : AreInPage p at (length run))
     (size : length words ≡ length p.words)
     (set : IfSome (walk_of p.words p.root (at / 4096)) (λ place. AreWordsWritten p.words words place.frame (at % 4096 / 8) run))
     (walks : (free : List Bool) → IsTree p.words p.root free → (level number : ℕ) → level ≤ 4 → reach words p.root level number ≡ reach p.words p.root level number)
@@ -85,7 +85,7 @@ module _ (p : Paged) (words run : List ℕ) (at : ℕ) (kept : IsKept p) (there 
       users : (address : ℕ) → IsTrue (is_of_user p.regions address) → reached words p.root address ≡ reached p.words p.root address
       users address user = bytes p.free tree_is address (within_canonical p.base p.pages address p.regions kept.mapped.regions (user_any address p.regions user)) (beside address user)
 
-  pub kept_put : IsKept (record p { words = words })
+  pub kept_put : IsPagedKept (record p { words = words })
   kept_put = kept_still p (record p { words = words }) kept still_put
 
   here : (k : ℕ) → k < length run → word_reached (record p { words = words }) (at + 8 * k) ≡ get_or run k 0

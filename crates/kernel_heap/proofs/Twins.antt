@@ -8,7 +8,7 @@ use Rattle.heap_memory.specs.Regions.{is_granted, IsWordOf, IsApart, with_grant}
 use Rattle.heap_memory.specs.RegionLaws.{granted_split}
 use Rattle.heap_memory.specs.Words.{IsStored, AreWordsOf, AreFilled, AreCopied, IsBeside}
 use Rattle.heap_memory.specs.Events.{Released}
-use Rattle.heap_memory.specs.Runs.{without, is_in_units}
+use Rattle.heap_memory.specs.Runs.{without_run, is_in_units}
 use Rattle.heap_memory.specs.RunLaws.{granted_before}
 use Rattle.heap_model.specs.declared.region.Region.{Region}
 use Rattle.heap_model.specs.Place.{IsPlace}
@@ -18,7 +18,7 @@ use Rattle.mapped_regions.specs.Mapped.{word_reached}
 use Rattle.kernel_heap.specs.declared.flat_window.FlatWindow.{FlatWindow}
 use Rattle.kernel_heap.specs.FlatWindow.{IsCovered, flat_word, IsLonger, ArePutAt}
 use Rattle.kernel_heap.specs.Follows.{Follows}
-use Rattle.kernel_heap.specs.Layout.{IsKept, CanGrant, IsGrantedFor}
+use Rattle.kernel_heap.specs.Layout.{IsPagedKept, CanGrant, IsGrantedFor}
 use Rattle.kernel_heap.specs.Released.{IsReleasedFor}
 use Rattle.kernel_heap.specs.Twin.{IsTwin}
 use Rattle.kernel_heap.specs.Words.{grants_of}
@@ -188,7 +188,7 @@ follows_base old new at size left f =
     still_base f.1 new f.4 ∙ (released_base f.0 f.1 at size left f.3 ∙ still_base old f.0 f.2)
 
 pub twin_released : (old new : Paged) (flat : FlatWindow) (at size left low high : ℕ) → IsTwin old flat → Follows old (Released at size left ∷ []) new →
-    grants_of new ≡ without low high (grants_of old) → ((k : ℕ) → IsWordOf (grants_of new) k → word_reached new k ≡ word_reached old k) → IsTwin new flat
+    grants_of new ≡ without_run low high (grants_of old) → ((k : ℕ) → IsWordOf (grants_of new) k → word_reached new k ≡ word_reached old k) → IsTwin new flat
 twin_released old new flat at size left low high twin f regions words =
     twin_less old new flat twin (follows_base old new at size left f)
     (λ k word. record {
@@ -223,7 +223,7 @@ covered_grant old new flat flat' pages size place grant twin is can granted cove
     let from = granted.can.place.fit.from in
     covered k (omega arith) (omega arith)
 
-pub twin_grown : (old new : Paged) (size : ℕ) (grant : Grant) (flat flat' : FlatWindow) → IsTwin old flat → IsKept old → IsGrantedFor old new size grant →
+pub twin_grown : (old new : Paged) (size : ℕ) (grant : Grant) (flat flat' : FlatWindow) → IsTwin old flat → IsPagedKept old → IsGrantedFor old new size grant →
     ((at : ℕ) → grant.base ≤ at → at < grant.base + grant.size → IsCovered flat at) →
     ArePutAt flat flat' grant.base (grant.size / 8) (λ k. 0) → IsTwin new flat'
 twin_grown old new size grant flat flat' twin kept is covered cleared =

@@ -12,7 +12,7 @@ use Rattle.heap_model.specs.declared.live.Live.{Live}
 use Rattle.heap_model.specs.declared.answer.Reply.TheVariants.{Done}
 use Rattle.heap_model.specs.State.{State, end_of}
 use Rattle.heap_model.specs.Tables.{missing, free_frames}
-use Rattle.heap_model.specs.Place.{meets, meets_any, is_at, without, with_region, all_regions}
+use Rattle.heap_model.specs.Place.{meets, meets_any, is_at, without_region, with_region, all_regions}
 use Rattle.heap_model.specs.Room.{user_region}
 use Rattle.heap_model.specs.Refusal.{is_page_range, must_refuse}
 use Rattle.heap_model.specs.Run.{IsGood, IsHeapRegion, IsUserRegion, AreInOrder}
@@ -28,7 +28,7 @@ use Rattle.mapped_regions.specs.declared.map_fault.MapFault.{MapFault}
 use Rattle.mapped_regions.specs.declared.map_fault.MapFault.TheVariants as Mapping
 use Rattle.mapped_regions.specs.declared.map_fault.UnmapFault.{UnmapFault}
 use Rattle.mapped_regions.specs.declared.map_fault.UnmapFault.TheVariants as Unmapping
-use Rattle.mapped_regions.specs.Mapped.{IsPageRange, HasFrames, CanMap, IsJoined, IsLeft}
+use Rattle.mapped_regions.specs.Mapped.{IsPageRange, HasFrames, CanMap, IsRegionJoined, IsLeft}
 use Rattle.mapped_regions.specs.UserRegions.{meets_any_heap, has_user_region, IsMapRefused, IsUnmapRefused, CanUnmap}
 use Rattle.dlmalloc.specs.declared.heap.Dlmalloc.{Dlmalloc}
 use Rattle.dlmalloc.specs.Served.{RestsOutside}
@@ -141,7 +141,7 @@ module _ (m : Seen) (s : State) (start pages : ℕ) (good : IsGood s) (stands : 
 
   -- ---- the steps
 
-  pub step_map : (rights : Rights) (new : Paged) → CanMap m.paged start pages → IsJoined m.paged new (user_region start pages rights) →
+  pub step_map : (rights : Rights) (new : Paged) → CanMap m.paged start pages → IsRegionJoined m.paged new (user_region start pages rights) →
       IsStep s (Map start pages rights) (record { reply = Done; regions = None; large = listed_slots new.slots }) (record m { paged = new })
   step_map rights new can joined =
       let both = clear can.clear in
@@ -163,7 +163,7 @@ module _ (m : Seen) (s : State) (start pages : ℕ) (good : IsGood s) (stands : 
       let there : list_any (is_at start pages) s.users ≡ true = sym listed_same ∙ can.there in
       let beside : meets_any start pages s.heap ≡ false = (user_beside s start pages good there).1 in
       let regions : new.regions ≡ all_regions (without_user s start pages) =
-      left.regions ∙ (ap (without start pages) stands.regions
+      left.regions ∙ (ap (without_region start pages) stands.regions
       ∙ sym (left_users start pages s.heap s.users can.range.1.some (sorted s.heap good.heap_order) (none_just start pages s.heap can.range.1.some beside) good.user_order)) in
       step_unmapped m new s start pages good there (stands_unmapped m new s start pages good stands there left.gone left.whole regions)
 

@@ -5,7 +5,7 @@ use Rattle.heap_memory.specs.declared.grant.GrantFault.TheVariants.{NoSpace, NoF
 use Rattle.dlmalloc_chunks.specs.Request.{padded}
 use Rattle.dlmalloc.specs.Requested.{asked}
 use Rattle.dlmalloc.specs.Resized.{in_place}
-use Rattle.dlmalloc.specs.Served.{IsRefused, IsRefusedWith}
+use Rattle.dlmalloc.specs.Served.{IsMallocRefused, IsRefusedWith}
 use Rattle.dlmalloc.specs.declared.heap.Dlmalloc.{Dlmalloc}
 use Rattle.dlmalloc.specs.declared.malloc_error.MallocError.{MallocError}
 use Rattle.dlmalloc.specs.declared.malloc_error.MallocError.TheVariants.{TooLarge, System}
@@ -29,13 +29,13 @@ not_for_room : (refusal : Refusal) → refusal_of TooLarge ≡ Some refusal → 
 not_for_room refusal is = (let one : IsTooLarge ≡ refusal = cc in subst (λ (r : Refusal). is_for_room r ≡ false) one refl)
 
 module _ (heap : Dlmalloc PagedSystem) (size align : ℕ) where
-  pub none_for : (error : MallocError) (refusal : Refusal) → refusal_of error ≡ Some refusal → IsRefused denies heap.system (heap_state heap) (asked size align) error → HasNoneFor (heap_state heap) size align refusal
+  pub none_for : (error : MallocError) (refusal : Refusal) → refusal_of error ≡ Some refusal → IsMallocRefused denies heap.system (heap_state heap) (asked size align) error → HasNoneFor (heap_state heap) size align refusal
   none_for TooLarge refusal is why room = (let no = not_for_room refusal is in absurd (cc))
   none_for (System NoSpace) refusal is why room = why.1.none_chosen
   none_for (System NoFrames) refusal is why room = why.1.none_chosen
   none_for (System OutOfMemory) refusal is why room = absurd (cc)
 
-  pub none_beside : (from : ℕ) (error : MallocError) (refusal : Refusal) → refusal_of error ≡ Some refusal → IsRefused denies heap.system (heap_state heap) (asked size align) error →
+  pub none_beside : (from : ℕ) (error : MallocError) (refusal : Refusal) → refusal_of error ≡ Some refusal → IsMallocRefused denies heap.system (heap_state heap) (asked size align) error →
       (error ≢ TooLarge → align ≤ 16 → in_place (heap_state heap) (from - 16) (padded size) ≡ None) → HasNoneBeside (heap_state heap) from size align refusal
   none_beside from error refusal is why tried = (none_for error refusal is why, beside error is tried)
     where

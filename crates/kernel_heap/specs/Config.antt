@@ -21,8 +21,8 @@ pub record IsGoodConfig (config : Config) : Type 0 where
 
 -- Why no machine is made from a configuration, the causes in their order; memory may be wanting where there is none
 -- of them.
-abbrev pub IsRefused : Config → RunError → Type 0
-IsRefused config BadWindow = ¬ (IsGoodWindow config.base config.pages)
-IsRefused config BadGranularity = IsGoodWindow config.base config.pages × ¬ (IsGranularity config.granularity)
-IsRefused config TooFewFrames = IsGoodWindow config.base config.pages × IsGranularity config.granularity × (config.frames ≡ 0)
-IsRefused config OutOfMemory = IsGoodConfig config
+abbrev pub IsConfigRefused : Config → RunError → Type 0
+IsConfigRefused config BadWindow = ¬ (IsGoodWindow config.base config.pages)
+IsConfigRefused config BadGranularity = IsGoodWindow config.base config.pages × ¬ (IsGranularity config.granularity)
+IsConfigRefused config TooFewFrames = IsGoodWindow config.base config.pages × IsGranularity config.granularity × (config.frames ≡ 0)
+IsConfigRefused config OutOfMemory = IsGoodConfig config

@@ -19,14 +19,14 @@ use Rattle.std.proofs.Props.{props}
 use Rattle.kernel_heap.specs.Config.{IsGoodWindow}
 
 -- The window is good; the walk finds the pages of the regions, and no others; and the regions lie by ascending address.
-pub record IsKept (p : Paged) : Type 0 where
+pub record IsPagedKept (p : Paged) : Type 0 where
   pub window : IsGoodWindow p.base p.pages
   pub mapped : IsMapped p
   pub laid : AreLaid 0 p.regions (2 ^ 64)
 
 -- The system is new: nothing is mapped, and all frames but that of the root are free.
 pub record IsNew (p : Paged) (base pages frames : ℕ) : Type 0 where
-  pub kept : IsKept p
+  pub kept : IsPagedKept p
   pub base_is : p.base ≡ base
   pub pages_is : p.pages ≡ pages
   pub regions_is : p.regions ≡ []
@@ -71,5 +71,5 @@ AreLaid-prop : (from : ℕ) (list : List Region) (to : ℕ) → IsProp (AreLaid 
 AreLaid-prop from [] to = hlevel props
 AreLaid-prop from (region ∷ rest) to = hlevel (props, AreLaid-prop (end_of region) rest to)
 
-pub IsKept-prop : (p : Paged) → IsProp (IsKept p)
-IsKept-prop p = hlevel (props, IsMapped-prop p, AreLaid-prop 0 p.regions (2 ^ 64))
+pub IsPagedKept-prop : (p : Paged) → IsProp (IsPagedKept p)
+IsPagedKept-prop p = hlevel (props, IsMapped-prop p, AreLaid-prop 0 p.regions (2 ^ 64))

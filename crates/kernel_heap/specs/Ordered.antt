@@ -10,7 +10,7 @@ use Rattle.heap_model.specs.State.{end_of}
 use Rattle.heap_model.specs.Machine.{Paged}
 use Rattle.region_tree.specs.Regions.{AreLaid}
 use Rattle.mapped_regions.specs.Mapped.{IsRegion}
-use Rattle.kernel_heap.specs.Layout.{IsKept}
+use Rattle.kernel_heap.specs.Layout.{IsPagedKept}
 use Rattle.kernel_heap.specs.Words.{grant_of, heap_regions, grants_of}
 
 all_behind : (end from to : ℕ) (list : List Region) → end ≤ from → AreLaid from list to → list_all (λ (later : Grant). nat_le end later.base) (map grant_of (heap_regions list)) ≡ true
@@ -33,7 +33,7 @@ ordered from to (first ∷ rest) all = go first.heap (all_behind (end_of first) 
     go true behind later = rw behind later
     go false behind later = later
 
-pub regions_ordered : (p : Paged) → IsKept p → IsTrue (are_ordered (grants_of p))
+pub regions_ordered : (p : Paged) → IsPagedKept p → IsTrue (are_ordered (grants_of p))
 regions_ordered p kept = ordered 0 (2 ^ 64) p.regions kept.laid
 
 -- and each is made of whole pages of the window
@@ -54,7 +54,7 @@ whole base window (first ∷ rest) low high all = go first.heap refl (whole base
         rw (is_whole_region first.start first.pages (omega (arith, all.0.from heap)) (omega arith) some (omega (arith, all.0.within heap))) later
     go false heap later = later
 
-pub regions_whole : (p : Paged) → IsKept p → IsTrue (are_whole (grants_of p))
+pub regions_whole : (p : Paged) → IsPagedKept p → IsTrue (are_whole (grants_of p))
 regions_whole p kept =
     let low = kept.window.after_first in
     let last = kept.window.before_last in

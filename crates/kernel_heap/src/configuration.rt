@@ -1,6 +1,6 @@
 // Whether a machine can be made from a configuration.
 ghost use Rattle.std.specs.Prelude.{◌≡◌, ◌↔◌, IsTrue, IfErr, OnOk};
-ghost use Rattle.kernel_heap.specs.Config.{IsGoodWindow, IsGoodConfig, IsRefused};
+ghost use Rattle.kernel_heap.specs.Config.{IsGoodWindow, IsGoodConfig, IsConfigRefused};
 
 use crate::run_error::RunError;
 use dlmalloc::is_granularity;
@@ -32,7 +32,7 @@ fn is_good_window(base: u64, pages: u64) -> bool
 /// Finds out why no machine can be made from the configuration. It takes no memory.
 pub(crate) fn check(config: &Config) -> Result<(), RunError>
     ensures good { OnOk result (IsGoodConfig config.now) }
-    ensures refused { IfErr result (λ error. IsRefused config.now error) }
+    ensures refused { IfErr result (λ error. IsConfigRefused config.now error) }
 {
     if !is_good_window(config.base, config.pages) {
         return Err(RunError::BadWindow);

@@ -5,7 +5,7 @@ ghost use Rattle.heap_model.specs.State.{State, start};
 ghost use Rattle.heap_model.specs.Run.{IsGood};
 ghost use Rattle.heap_model.specs.Machine.{Stands, IsStep};
 ghost use Rattle.x86_registers.specs.Cr3.{root_of};
-ghost use Rattle.kernel_heap.specs.Config.{IsGoodConfig, IsRefused};
+ghost use Rattle.kernel_heap.specs.Config.{IsGoodConfig, IsConfigRefused};
 ghost use Rattle.kernel_heap.specs.Registers.{machine_cpu, cpu_after};
 
 use crate::configuration::check;
@@ -91,7 +91,7 @@ impl Machine {
         ensures registers { IfOk result (λ machine. machine.cpu ≡ machine_cpu (paged (system_of machine.heap)).root) }
         ensures good { OnOk result (IsGood (start config.now)) }
         ensures accepted { OnOk result (IsGoodConfig config.now) }
-        ensures refused { IfErr result (λ error. IsRefused config.now error) }
+        ensures refused { IfErr result (λ error. IsConfigRefused config.now error) }
     {
         check(config)?;
         let system = PagedSystem::new(alloc, config.base, config.pages, config.frames)?;

@@ -9,7 +9,7 @@ ghost use Rattle.heap_model.specs.Room.{heap_region as granted_region, heap_righ
 ghost use Rattle.kernel_heap.specs.Config.{IsGoodWindow};
 ghost use Rattle.heap_memory.specs.declared.grant.GrantFault.TheVariants.{OutOfMemory};
 ghost use Rattle.heap_model.specs.Request.{pages_in};
-ghost use Rattle.kernel_heap.specs.Layout.{IsKept, IsKept-prop};
+ghost use Rattle.kernel_heap.specs.Layout.{IsPagedKept, IsPagedKept-prop};
 ghost use Rattle.mapped_regions.specs.Shown.{shown};
 
 use heap_memory::{Grant, GrantFault};
@@ -53,7 +53,7 @@ fn heap_region(start: u64, pages: u64) -> Region
 #[derive(Drop)]
 pub struct PagedSystem {
     pub(crate) regions: MappedRegions,
-    ghost kept: { IsKept (shown regions) } by { IsKept-prop (shown regions) },
+    ghost kept: { IsPagedKept (shown regions) } by { IsPagedKept-prop (shown regions) },
 }
 
 impl PagedSystem {
@@ -62,7 +62,7 @@ impl PagedSystem {
     ghost use Rattle.kernel_heap.specs.Words.{heap_regions, grants_of};
     ghost use Rattle.mapped_regions.specs.Mapped.{word_reached};
     ghost use Rattle.heap_memory.specs.Regions.{IsWordOf};
-    ghost use Rattle.heap_memory.specs.Runs.{IsRun, without};
+    ghost use Rattle.heap_memory.specs.Runs.{IsRun, without_run};
     ghost use Rattle.kernel_heap.specs.Released.{IsReleasedFor};
     ghost use Rattle.heap_memory.specs.Words.{IsStored};
     ghost use Rattle.heap_model.specs.Machine.{OnlyHeapBytesChange};
@@ -206,7 +206,7 @@ impl PagedSystem {
         requires within { left ≤ size }
         requires in_pages { left % 4096 ≡ 0 }
         ensures released { IsReleasedFor (paged self.old) (paged self.new) at size left }
-        ensures regions { grants_of (paged self.new) ≡ without (at + left) (at + size) (grants_of (paged self.old)) }
+        ensures regions { grants_of (paged self.new) ≡ without_run (at + left) (at + size) (grants_of (paged self.old)) }
         ensures words { (k : ℕ) → IsWordOf (grants_of (paged self.new)) k → word_reached (paged self.new) k ≡ word_reached (paged self.old) k }
     {
         if left == size {

@@ -1,7 +1,7 @@
 // Calls as values, served one after the other.
 ghost use Rattle.std.specs.Prelude.{IfOk, IfErr, OnOk};
 ghost use Rattle.heap_model.specs.State.{start};
-ghost use Rattle.kernel_heap.specs.Config.{IsGoodConfig, IsRefused};
+ghost use Rattle.kernel_heap.specs.Config.{IsGoodConfig, IsConfigRefused};
 ghost use Rattle.kernel_heap.specs.Runs.{AreServed};
 
 use crate::machine::Machine;
@@ -21,7 +21,7 @@ pub struct Run {
 pub fn run_calls(alloc: Global, config: &Config, calls: &CallList) -> Result<Run, RunError>
     ensures served { IfOk result (λ run. AreServed (start config.now) calls.now run.answers run.machine) }
     ensures accepted { OnOk result (IsGoodConfig config.now) }
-    ensures refused { IfErr result (λ error. IsRefused config.now error) }
+    ensures refused { IfErr result (λ error. IsConfigRefused config.now error) }
 {
     let mut machine = Machine::new(alloc, config)?;
     let mut answers = AnswerList::new(alloc);

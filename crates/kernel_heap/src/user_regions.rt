@@ -1,7 +1,7 @@
 // Regions of the user beside the heap: pages that are mapped and unmapped at an address that the caller names.
 ghost use Rattle.std.specs.Prelude.{◌≡◌, [], IfErr, OnOk, OnErr};
 ghost use Rattle.heap_model.specs.Slots.{listed_slots};
-ghost use Rattle.mapped_regions.specs.Mapped.{CanMap, IsJoined, IsLeft};
+ghost use Rattle.mapped_regions.specs.Mapped.{CanMap, IsRegionJoined, IsLeft};
 ghost use Rattle.mapped_regions.specs.UserRegions.{user_region, IsMapRefused, IsUnmapRefused, CanUnmap};
 ghost use Rattle.kernel_heap.specs.System.{paged};
 ghost use Rattle.kernel_heap.specs.Beside.{IsBeside};
@@ -25,7 +25,7 @@ impl PagedSystem {
     /// frame. Slots of 2 MiB that lie whole among them and have no table are mapped by one entry each, as long as a run of
     /// frames is free. A refused call changes nothing, and either leaves the regions of the heap and every word of them (own).
     pub fn map(&mut self, start: u64, pages: u64, rights: Rights) -> Result<(), MapFault>
-        ensures ok { OnOk result (IsJoined (paged self.old) (paged self.new) (user_region start pages rights)) }
+        ensures ok { OnOk result (IsRegionJoined (paged self.old) (paged self.new) (user_region start pages rights)) }
         ensures can { OnOk result (CanMap (paged self.old) start pages) }
         ensures err { OnErr result (paged self.new ≡ paged self.old) }
         ensures refused { IfErr result (λ fault. IsMapRefused (paged self.old) start pages fault) }

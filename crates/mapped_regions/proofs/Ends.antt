@@ -15,7 +15,7 @@ use Rattle.heap_model.specs.Machine.{Paged}
 use Rattle.heap_model.proofs.Booleans.{or_cases, or_left, or_right}
 use Rattle.heap_model.proofs.Regions.{page_canonical}
 use Rattle.heap_model.proofs.Slots.{page_slot, page_number, whole_true, whole_bounds}
-use Rattle.region_tree.specs.Regions.{AreLaid, IsBoundary, is_at, without, cut_of}
+use Rattle.region_tree.specs.Regions.{AreLaid, IsBoundary, is_at, without_region, cut_of}
 use Rattle.mapped_regions.specs.Mapped.{IsPageRange, IsRegion, IsMapped}
 
 -- ---- regions that are laid end where one begins, and where one ends
@@ -91,21 +91,21 @@ no_cut p start pages m range ends = elim (cut_or_not p.words p.root (start / 409
 
 -- a slot that is beside the pages that leave stays whole in its region
 pub whole_without : (start pages slot : ℕ) (list : List Region) → (slot + 2 ^ 21 ≤ start) ⊎ (start + 4096 * pages ≤ slot) → is_whole_in list slot ≡ true →
-    is_whole_in (without start pages list) slot ≡ true
+    is_whole_in (without_region start pages list) slot ≡ true
 whole_without start pages slot [] beside whole = whole
 whole_without start pages slot (first ∷ rest) beside whole =
     go (λ later. whole_without start pages slot rest beside later) (is_at start pages first) refl (or_cases (has_whole slot first) (is_whole_in rest slot) whole)
   where
-    go : (is_whole_in rest slot ≡ true → is_whole_in (without start pages rest) slot ≡ true) → (b : Bool) → is_at start pages first ≡ b → (has_whole slot first ≡ true) ⊎ (is_whole_in rest slot ≡ true) →
-        is_whole_in (if b then rest else first ∷ without start pages rest) slot ≡ true
+    go : (is_whole_in rest slot ≡ true → is_whole_in (without_region start pages rest) slot ≡ true) → (b : Bool) → is_at start pages first ≡ b → (has_whole slot first ≡ true) ⊎ (is_whole_in rest slot ≡ true) →
+        is_whole_in (if b then rest else first ∷ without_region start pages rest) slot ≡ true
     go more true at (inl here) =
         let bounds = whole_bounds slot first here in
         let is : first.start ≡ start = grind (arith, nat_tests) in
         let long : first.pages ≡ pages = grind (arith, nat_tests) in
         elim beside [ inl before ↦ absurd (omega (arith, bounds.0, is, before)) | inr after ↦ absurd (omega (arith, bounds.1, is, long, after)) ]
     go more true at (inr later) = later
-    go more false at (inl here) = or_left (has_whole slot first) (is_whole_in (without start pages rest) slot) here
-    go more false at (inr later) = or_right (has_whole slot first) (is_whole_in (without start pages rest) slot) (more later)
+    go more false at (inl here) = or_left (has_whole slot first) (is_whole_in (without_region start pages rest) slot) here
+    go more false at (inr later) = or_right (has_whole slot first) (is_whole_in (without_region start pages rest) slot) (more later)
 
 pub whole_cut : (base window start pages slot : ℕ) (list : List Region) → AllByRecursion (IsRegion base window) list → start % 4096 ≡ 0 → slot % 2 ^ 21 ≡ 0 → IsBoundary (start + 4096 * pages) list →
     (slot + 2 ^ 21 ≤ start) ⊎ (start + 4096 * pages ≤ slot) → is_whole_in list slot ≡ true → is_whole_in (cut_of start pages list) slot ≡ true

@@ -20,7 +20,7 @@ use Rattle.heap_model.specs.Machine.{Paged, ArePagesGone, rights_of}
 use Rattle.heap_model.proofs.Regions.{within, within_bounds, all_with, pages_with, none_within, find_none, listed, any_with, page_canonical}
 use Rattle.heap_model.proofs.Slots.{same_slot, page_slot, page_number, slot_among, whole_true}
 use Rattle.region_tree.specs.Regions.{kind_at, is_at, AreHeld, IsPutIn, AreTakenOut}
-use Rattle.mapped_regions.specs.Mapped.{IsPageRange, IsRegion, IsMapped, CanMap, IsJoined}
+use Rattle.mapped_regions.specs.Mapped.{IsPageRange, IsRegion, IsMapped, CanMap, IsRegionJoined}
 
 -- ---- regions of a list
 
@@ -94,7 +94,7 @@ none_large words root regions none slot is some = absurd (some_not_none (large_o
 
 -- ---- a region joins
 
-pub joined_mapped : (old new : Paged) (region : Region) → IsMapped old → IsRegion old.base old.pages region → CanMap old region.start region.pages → IsJoined old new region →
+pub joined_mapped : (old new : Paged) (region : Region) → IsMapped old → IsRegion old.base old.pages region → CanMap old region.start region.pages → IsRegionJoined old new region →
     IsPutIn region old.regions new.regions →
     ((other : ℕ) → IsTrue (is_canonical (other * 4096)) → ((k : ℕ) → k < region.pages → other ≡ region.start / 4096 + k → ⊥) → walk_of new.words old.root other ≡ walk_of old.words old.root other) →
     IsMapped new

@@ -17,7 +17,7 @@ use Rattle.heap_model.specs.Room.{heap_rights}
 use Rattle.page_ranges.specs.RangeUnmapping.{is_cut}
 use Rattle.heap_model.specs.Slots.{IsSlot, IsSlotOf, slot_number, is_whole_in}
 use Rattle.heap_model.specs.Machine.{Paged, ArePagesAdded, ArePagesGone, rights_of}
-use Rattle.region_tree.specs.Regions.{kind_at, without, cut_of}
+use Rattle.region_tree.specs.Regions.{kind_at, without_region, cut_of}
 
 -- whole pages from an address on: at least one, and all in one canonical half
 abbrev pub IsPageRange : ℕ → ℕ → Type 0
@@ -79,7 +79,7 @@ AreRunsUsed old new start pages =
 -- A region joined the others. Its pages are mapped with its rights, each at a new frame that reads as 0, with the
 -- tables that they lacked; slots that lie whole in it and had no table are mapped by one entry each, as long as a run of
 -- frames was free; every byte that was mapped stays.
-pub record IsJoined (old new : Paged) (region : Region) : Type 0 where
+pub record IsRegionJoined (old new : Paged) (region : Region) : Type 0 where
   pub regions : new.regions ≡ with_region region old.regions
   pub joins : new.joins ≡ (old.joins + 1) % 2 ^ 64
   pub added : ArePagesAdded old new region.start region.pages region.rights
@@ -90,7 +90,7 @@ pub record IsJoined (old new : Paged) (region : Region) : Type 0 where
 -- The region of so many pages at an address left. Its pages are mapped no more and their frames are free; the tables
 -- stay and none is made, and so does every byte that is still mapped.
 pub record IsLeft (old new : Paged) (start pages : ℕ) : Type 0 where
-  pub regions : new.regions ≡ without start pages old.regions
+  pub regions : new.regions ≡ without_region start pages old.regions
   pub gone : ArePagesGone old new start pages
   pub whole : is_cut old.words old.root (start / 4096) ≡ false
 

@@ -57,7 +57,7 @@ pub struct MappedRegions {
 }
 
 impl MappedRegions {
-    ghost use Rattle.mapped_regions.specs.Mapped.{IsEmpty, IsRegion, HasFrames, CanMap, IsJoined, IsLeft, AreGone, IsMappedWord, word_reached};
+    ghost use Rattle.mapped_regions.specs.Mapped.{IsEmpty, IsRegion, HasFrames, CanMap, IsRegionJoined, IsLeft, AreGone, IsMappedWord, word_reached};
     ghost use Rattle.mapped_regions.specs.Shown.{shown};
 
     /// A memory with `frames` frames, of which one holds the root table, and with a window of `pages` pages from the
@@ -189,7 +189,7 @@ impl MappedRegions {
     pub fn join(&mut self, region: Region) -> Result<(), AllocError>
         requires region { IsRegion (shown self.old).base (shown self.old).pages region }
         requires can { CanMap (shown self.old) region.start region.pages }
-        ensures ok { OnOk result (IsJoined (shown self.old) (shown self.new) region) }
+        ensures ok { OnOk result (IsRegionJoined (shown self.old) (shown self.new) region) }
         ensures err { OnErr result (shown self.new ≡ shown self.old) }
     {
         let free = self.pool.free_count();

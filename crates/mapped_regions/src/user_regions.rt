@@ -1,6 +1,6 @@
 // Regions of the user: pages that are mapped and unmapped at an address that the caller names.
 ghost use Rattle.std.specs.Prelude.{◌≡◌, ◌*◌, ◌/◌, ◌+◌, ◌^◌, ◌≤◌, ◌↔◌, IsTrue, IfErr, OnOk, OnErr};
-ghost use Rattle.mapped_regions.specs.Mapped.{IsPageRange, CanMap, IsJoined, IsLeft};
+ghost use Rattle.mapped_regions.specs.Mapped.{IsPageRange, CanMap, IsRegionJoined, IsLeft};
 ghost use Rattle.mapped_regions.specs.Shown.{shown};
 ghost use Rattle.mapped_regions.specs.UserRegions.{user_region, IsMapRefused, IsUnmapRefused, CanUnmap};
 
@@ -34,7 +34,7 @@ impl MappedRegions {
     /// Maps `pages` pages from the address `start` on as a region of the user with these rights, each at a cleared
     /// frame. A refused call changes nothing.
     pub fn map(&mut self, start: u64, pages: u64, rights: Rights) -> Result<(), MapFault>
-        ensures ok { OnOk result (IsJoined (shown self.old) (shown self.new) (user_region start pages rights)) }
+        ensures ok { OnOk result (IsRegionJoined (shown self.old) (shown self.new) (user_region start pages rights)) }
         ensures can { OnOk result (CanMap (shown self.old) start pages) }
         ensures err { OnErr result (shown self.new ≡ shown self.old) }
         ensures refused { IfErr result (λ fault. IsMapRefused (shown self.old) start pages fault) }

@@ -11,7 +11,7 @@ use Rattle.meminterval.specs.declared.node.Node.{Node}
 use Rattle.meminterval.specs.declared.node.Subtree.{Subtree}
 use Rattle.meminterval.specs.declared.node.Subtree.TheVariants.{Fork}
 use Rattle.meminterval.specs.Entries.{IsOrdered, value_at}
-use Rattle.meminterval.specs.Insertion.{IsAdded, IsPresent, IsRefused}
+use Rattle.meminterval.specs.Insertion.{IsAdded, IsPresent, IsInsertRefused}
 use Rattle.meminterval.specs.Interval.{by_ends}
 use Rattle.meminterval.specs.Subtree.{tree_of, IsRecorded}
 use Rattle.meminterval.specs.Tree.{entries, levels, DifferByAtMost, IsBalanced, IsRestored}
@@ -74,8 +74,8 @@ module _ {T V : Type 0} (cmp : T → T → Ordering) (total : IsTotalOrder cmp) 
   pub present_right : (after : Subtree T V) → by_ends cmp x.0 b.value.interval ≡ Greater → IsSome (value_at (by_ends cmp) x.0 (entries (tree_of b.value.right))) → after ≡ Fork b → IsPresent cmp x (Fork b) after
   present_right after h there same = record { there = rw (value_right (by_ends cmp) (by_ends-total total) _ _ _ s _ h) there; same = same }
 
-  pub refused_left : (below after : Subtree T V) → by_ends cmp x.0 b.value.interval ≡ Less → IsRefused cmp x b.value.left below → after ≡ Fork b → IsRefused cmp x (Fork b) after
+  pub refused_left : (below after : Subtree T V) → by_ends cmp x.0 b.value.interval ≡ Less → IsInsertRefused cmp x b.value.left below → after ≡ Fork b → IsInsertRefused cmp x (Fork b) after
   refused_left below after h a same = record { absent = value_left (by_ends cmp) (by_ends-total total) _ _ _ s _ h ∙ a.absent; same = same }
 
-  pub refused_right : (below after : Subtree T V) → by_ends cmp x.0 b.value.interval ≡ Greater → IsRefused cmp x b.value.right below → after ≡ Fork b → IsRefused cmp x (Fork b) after
+  pub refused_right : (below after : Subtree T V) → by_ends cmp x.0 b.value.interval ≡ Greater → IsInsertRefused cmp x b.value.right below → after ≡ Fork b → IsInsertRefused cmp x (Fork b) after
   refused_right below after h a same = record { absent = value_right (by_ends cmp) (by_ends-total total) _ _ _ s _ h ∙ a.absent; same = same }

@@ -26,11 +26,11 @@ module _ {T V : Type 0} (cmp : T → T → Ordering) (pair : Interval T × V) (b
     pub same : after ≡ before
 
   -- the pair was not there, and the nodes are as they were
-  pub record IsRefused (after : Subtree T V) : Type 0 where
+  pub record IsInsertRefused (after : Subtree T V) : Type 0 where
     pub absent : value_at (by_ends cmp) pair.0 (entries (tree_of before)) ≡ None
     pub same : after ≡ before
 
   abbrev pub IsInsertion : Insertion T V → Type 0
   IsInsertion (Added after) = IsAdded after
   IsInsertion (Present after) = IsPresent after
-  IsInsertion (NoMemory after) = IsRefused after
+  IsInsertion (NoMemory after) = IsInsertRefused after

@@ -18,7 +18,7 @@ use Rattle.dlmalloc.specs.Binned.{IsBinned}
 use Rattle.dlmalloc.specs.declared.heap.Dlmalloc.{Dlmalloc}
 use Rattle.dlmalloc_chunks.specs.Request.{padded}
 use Rattle.object_pool.specs.Bytes.{byte_in, IsWritten}
-use Rattle.object_pool.specs.Pool.{IsKept, KeepsAll, HasServed}
+use Rattle.object_pool.specs.Pool.{IsBlockKept, KeepsAll, HasServed}
 use Rattle.object_pool.proofs.Numbers.{same_or_other}
 
 -- ---- a block and its extent
@@ -101,7 +101,7 @@ module _ {A : Type 0} (regions : A → List Grant) (word : A → ℕ → ℕ) (f
   -- ---- a block less
 
   module _ (frees parts : Bool) (unit : ℕ) (address : ℕ) (placed : ArePlaced (regions old.system) (state_of word old)) (low : 16 ≤ address) (back : IsFreed regions word follows frees parts unit old address new) where
-    pub freed_keeps : (at n : ℕ) → IsBlock (state_of word old) at n → at ≢ address → IsKept word old at n new
+    pub freed_keeps : (at n : ℕ) → IsBlock (state_of word old) at n → at ≢ address → IsBlockKept word old at n new
     freed_keeps at n block apart =
         let place = block_place (state_of word old) at n block in
         let there = back.less.only block.extent block.used (block_there (state_of word old) at n block) (λ e. apart (omega arith)) in
@@ -160,7 +160,7 @@ module _ {A : Type 0} (regions : A → List Grant) (word : A → ℕ → ℕ) (h
 
   -- every other block has the bytes that it had
   pub written_keeps : BlocksAreApart (state_of word heap) → state_of word (record heap { system = system }) ≡ state_of word heap →
-      (other n : ℕ) → IsBlock (state_of word heap) other n → other ≢ address → IsKept word heap other n (record heap { system = system })
+      (other n : ℕ) → IsBlock (state_of word heap) other n → other ≢ address → IsBlockKept word heap other n (record heap { system = system })
   written_keeps apart state other n b differ = record {
     block = subst (λ (h : HeapState). IsBlock h other n) (sym state) b;
     bytes = λ k less. written.elsewhere (other + k) ((placed other n b).granted (other + k) (omega arith) (omega arith))

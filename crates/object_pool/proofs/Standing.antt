@@ -17,7 +17,7 @@ use Rattle.object_pool.specs.Lists.{Lists, empty, index_count, object_of, next_k
 use Rattle.object_pool.specs.Slots.{IsIn, IsNext, IsTaken, IsReleased}
 use Rattle.object_pool.specs.Pooled.{Pooled}
 use Rattle.object_pool.specs.Bytes.{byte_in, bytes_at}
-use Rattle.object_pool.specs.Pool.{place_of, bytes_of, Stands, IsLaidOut, IsNoSlab, KeepsOthers, Keeps, StaysInState, HasServed, IsAdded, HasRoom, IsRefused, IsRefusedBy, TakesSlabIfNeeded}
+use Rattle.object_pool.specs.Pool.{place_of, bytes_of, Stands, IsLaidOut, IsNoSlab, KeepsOthers, Keeps, StaysInState, HasServed, IsAdded, HasRoom, IsPoolRefused, IsRefusedBy, TakesSlabIfNeeded}
 use Rattle.object_pool.specs.declared.pool_fault.PoolFault.{PoolFault}
 use Rattle.object_pool.specs.declared.pool_fault.PoolFault.TheVariants.{Full, Heap, OutOfMemory}
 use Rattle.object_pool.proofs.ByteRuns.{bytes_same}
@@ -96,7 +96,7 @@ module _ {A : Type 0} (word : A → ℕ → ℕ) where
 
     -- why an insert is refused, by the slots and by the lists
     pub refused_lists : (denies : A → ℕ → GrantFault → Type 0) (fault : PoolFault) → (freed ≡ []) × (length slots ≡ 64 * length slabs) → IsRefusedBy word denies (pooled heap size slabs slots freed) fault →
-        IsRefused word denies (pooled heap size slabs slots freed) lists fault
+        IsPoolRefused word denies (pooled heap size slabs slots freed) lists fault
     refused_lists denies Full lacks why = (slots_lacking lacks, stands.holds.indexes ∙ why)
     refused_lists denies (Heap fault) lacks why = (slots_lacking lacks, (let indexes = stands.holds.indexes in let few = why.0 in omega (arith, indexes, few)), why.1)
     refused_lists denies OutOfMemory lacks why = (slots_lacking lacks, (let indexes = stands.holds.indexes in omega (arith, indexes, why)))

@@ -50,17 +50,17 @@ PlacesAreApart slabs size = (i j : ℕ) → i < 64 * length slabs → j < 64 * l
 -- ---- what stays of a heap
 
 -- a block of a heap is one of another, with the bytes that it had
-pub record IsKept {A : Type 0} (word : A → ℕ → ℕ) (old : Dlmalloc A) (address size : ℕ) (new : Dlmalloc A) : Type 0 where
+pub record IsBlockKept {A : Type 0} (word : A → ℕ → ℕ) (old : Dlmalloc A) (address size : ℕ) (new : Dlmalloc A) : Type 0 where
   pub block : IsBlock (state_of word new) address size
   pub bytes : (k : ℕ) → k < size → byte_in (word new.system) (address + k) ≡ byte_in (word old.system) (address + k)
 
 -- so is each block
 abbrev pub KeepsAll : {A : Type 0} → (A → ℕ → ℕ) → Dlmalloc A → Dlmalloc A → Type 0
-KeepsAll word old new = (address size : ℕ) → IsBlock (state_of word old) address size → IsKept word old address size new
+KeepsAll word old new = (address size : ℕ) → IsBlock (state_of word old) address size → IsBlockKept word old address size new
 
 -- so is each block that is no slab
 abbrev pub KeepsOthers : {A : Type 0} → (A → ℕ → ℕ) → List ℕ → Dlmalloc A → Dlmalloc A → Type 0
-KeepsOthers word slabs old new = (address size : ℕ) → IsBlock (state_of word old) address size → IsNoSlab slabs address → IsKept word old address size new
+KeepsOthers word slabs old new = (address size : ℕ) → IsBlock (state_of word old) address size → IsNoSlab slabs address → IsBlockKept word old address size new
 
 -- The heap is in its state, and its system was asked for nothing: at most bytes of blocks were written.
 pub record StaysInState {A : Type 0} (regions : A → List Grant) (word : A → ℕ → ℕ) (follows : A → List Event → A → Type 0) (old new : Dlmalloc A) : Type 0 where
@@ -150,10 +150,10 @@ pub record HasRoom {A : Type 0} (regions : A → List Grant) (word : A → ℕ �
       ⊎ (((old.freed ≡ []) × (length old.slots ≡ 64 * length old.slabs) → ⊥) × (new ≡ old))
 
 -- Why an insert is refused. Want of memory is free.
-abbrev pub IsRefused : {A : Type 0} → (A → ℕ → ℕ) → (A → ℕ → GrantFault → Type 0) → Pooled A → Lists → PoolFault → Type 0
-IsRefused word denies pool lists Full = IsFull lists
-IsRefused word denies pool lists (Heap fault) = LacksSlot lists × (index_count lists.entries < 2 ^ 32 - 64) × IsDenied denies pool.heap.system (state_of word pool.heap) (padded (64 * pool.size)) fault
-IsRefused word denies pool lists OutOfMemory = LacksSlot lists × (index_count lists.entries < 2 ^ 32 - 64)
+abbrev pub IsPoolRefused : {A : Type 0} → (A → ℕ → ℕ) → (A → ℕ → GrantFault → Type 0) → Pooled A → Lists → PoolFault → Type 0
+IsPoolRefused word denies pool lists Full = IsFull lists
+IsPoolRefused word denies pool lists (Heap fault) = LacksSlot lists × (index_count lists.entries < 2 ^ 32 - 64) × IsDenied denies pool.heap.system (state_of word pool.heap) (padded (64 * pool.size)) fault
+IsPoolRefused word denies pool lists OutOfMemory = LacksSlot lists × (index_count lists.entries < 2 ^ 32 - 64)
 
 -- why a slab is refused
 abbrev pub IsRefusedBy : {A : Type 0} → (A → ℕ → ℕ) → (A → ℕ → GrantFault → Type 0) → Pooled A → PoolFault → Type 0

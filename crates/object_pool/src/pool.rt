@@ -56,7 +56,7 @@ impl<A: Allocator + Memory> Model for Pool<A> {
 }
 
 impl<A: Allocator + Memory> Pool<A> {
-    ghost use Rattle.object_pool.specs.Pool.{HasRoom, IsAdded, IsEmptied, IsLaidOut, IsRefused, IsRefusedBy, IsUnchanged, Keeps, KeepsAll, PlacesAreApart, Stands, StaysInState, TakesSlabIfNeeded};
+    ghost use Rattle.object_pool.specs.Pool.{HasRoom, IsAdded, IsEmptied, IsLaidOut, IsPoolRefused, IsRefusedBy, IsUnchanged, Keeps, KeepsAll, PlacesAreApart, Stands, StaysInState, TakesSlabIfNeeded};
 
     /// A pool without objects or slabs, for objects of `size` bytes, over a heap.
     pub fn new(alloc: Global, heap: Dlmalloc<A>, size: u64) -> Pool<A>
@@ -86,7 +86,7 @@ impl<A: Allocator + Memory> Pool<A> {
         ensures key { (lists : Lists) → Stands A.word self.old lists → IfOk result (λ key. key ≡ next_key lists) }
         ensures after { (lists : Lists) → Stands A.word self.old lists → IfOk result (λ key. Stands A.word self.new (inserted bytes.now lists)) }
         ensures slab { (lists : Lists) → Stands A.word self.old lists → IfOk result (λ key. TakesSlabIfNeeded A.regions A.word A.follows self.old lists self.new) }
-        ensures refused { (lists : Lists) → Stands A.word self.old lists → IfErr result (λ fault. IsRefused A.word A.denies self.old lists fault) }
+        ensures refused { (lists : Lists) → Stands A.word self.old lists → IfErr result (λ fault. IsPoolRefused A.word A.denies self.old lists fault) }
         ensures full { (lists : Lists) → Stands A.word self.old lists → IsFull lists → result ≡ Err PoolFault.Full }
         ensures err { IfErr result (λ fault. IsUnchanged A.regions A.word A.follows A.refuses self.old fault self.new) }
         ensures kept { Keeps A.word self.old self.new }

@@ -9,7 +9,7 @@ use Rattle.heap_model.specs.Place.{with_region, meets, meets_any, all_regions}
 use Rattle.heap_model.specs.Run.{AreInOrder}
 use Rattle.heap_model.proofs.Booleans.{or_neither, neither_or}
 use Rattle.heap_model.proofs.Regions.{any_all, any_with, all_with}
-use Rattle.region_tree.specs.Regions.{meets_heap, is_at, without}
+use Rattle.region_tree.specs.Regions.{meets_heap, is_at, without_region}
 
 -- ---- a region that joins the heap of a state joins all of its regions
 
@@ -112,11 +112,11 @@ goes_first : (r : Region) (low : ℕ) (list : List Region) → r.start < low →
 goes_first r low [] h a = refl
 goes_first r low (x ∷ xs) h a = let t : nat_lt r.start x.start ≡ true = grind (arith, nat_tests, h, a.0) in rw t refl
 
-skips : (start pages : ℕ) (r : Region) (list : List Region) → Sorted list → is_at start pages r ≡ false → without start pages (with_region r list) ≡ with_region r (without start pages list)
+skips : (start pages : ℕ) (r : Region) (list : List Region) → Sorted list → is_at start pages r ≡ false → without_region start pages (with_region r list) ≡ with_region r (without_region start pages list)
 skips start pages r [] s other = rw other refl
 skips start pages r (x ∷ xs) s other = go (cases_lt r.start x.start) (is_at start pages x) refl (skips start pages r xs s.1 other) where
-  go : (r.start < x.start) ⊎ (x.start ≤ r.start) → (t : Bool) → is_at start pages x ≡ t → without start pages (with_region r xs) ≡ with_region r (without start pages xs) →
-      without start pages (with_region r (x ∷ xs)) ≡ with_region r (without start pages (x ∷ xs))
+  go : (r.start < x.start) ⊎ (x.start ≤ r.start) → (t : Bool) → is_at start pages x ≡ t → without_region start pages (with_region r xs) ≡ with_region r (without_region start pages xs) →
+      without_region start pages (with_region r (x ∷ xs)) ≡ with_region r (without_region start pages (x ∷ xs))
   go (inl before) true is i =
       let t : nat_lt r.start x.start ≡ true = grind (arith, nat_tests) in
       rw t (rw other (rw is (sym (goes_first r x.start xs before s.0))))
@@ -132,29 +132,29 @@ skips start pages r (x ∷ xs) s other = go (cases_lt r.start x.start) (is_at st
 
 -- a region that is none of the user's leaves all regions as it leaves the heap
 pub left_all : (start pages : ℕ) (heap users : List Region) → Sorted heap → AllByRecursion (λ user. is_at start pages user ≡ false) users →
-    fold (λ list r. with_region r list) (without start pages heap) users ≡ without start pages (fold (λ list r. with_region r list) heap users)
+    fold (λ list r. with_region r list) (without_region start pages heap) users ≡ without_region start pages (fold (λ list r. with_region r list) heap users)
 left_all start pages heap [] s h = refl
 left_all start pages heap (user ∷ users) s h =
     ap (λ list. fold (λ list r. with_region r list) list users) (sym (skips start pages user heap s h.0)) ∙ left_all start pages (with_region user heap) users (sorted_with user heap s) h.1
 
 -- one that was put in is taken out again, where no other is just there
-put_back : (start pages : ℕ) (r : Region) (list : List Region) → is_at start pages r ≡ true → list_any (is_at start pages) list ≡ false → without start pages (with_region r list) ≡ list
+put_back : (start pages : ℕ) (r : Region) (list : List Region) → is_at start pages r ≡ true → list_any (is_at start pages) list ≡ false → without_region start pages (with_region r list) ≡ list
 put_back start pages r [] is none = rw is refl
 put_back start pages r (x ∷ xs) is none = go (nat_lt r.start x.start) (put_back start pages r xs is both.1)
   where
     both : (is_at start pages x ≡ false) × (list_any (is_at start pages) xs ≡ false)
     both = neither_or (is_at start pages x) (list_any (is_at start pages) xs) none
 
-    go : (b : Bool) → without start pages (with_region r xs) ≡ xs → without start pages (cond b (r ∷ x ∷ xs) (x ∷ with_region r xs)) ≡ x ∷ xs
+    go : (b : Bool) → without_region start pages (with_region r xs) ≡ xs → without_region start pages (cond b (r ∷ x ∷ xs) (x ∷ with_region r xs)) ≡ x ∷ xs
     go true later = rw is refl
     go false later = let other : is_at start pages x ≡ false = both.0 in rw other (ap (λ ys. x ∷ ys) later)
 
 -- a region of the user leaves all regions as it leaves the user's, where those stand apart and none of the heap is just there
 pub left_users : (start pages : ℕ) (heap users : List Region) → 0 < pages → Sorted heap → list_any (is_at start pages) heap ≡ false → AreInOrder users →
-    fold (λ list r. with_region r list) heap (without start pages users) ≡ without start pages (fold (λ list r. with_region r list) heap users)
+    fold (λ list r. with_region r list) heap (without_region start pages users) ≡ without_region start pages (fold (λ list r. with_region r list) heap users)
 left_users start pages heap [] some sorted none order = sym (absent start pages heap none)
   where
-    absent : (start pages : ℕ) (list : List Region) → list_any (is_at start pages) list ≡ false → without start pages list ≡ list
+    absent : (start pages : ℕ) (list : List Region) → list_any (is_at start pages) list ≡ false → without_region start pages list ≡ list
     absent start pages [] none = refl
     absent start pages (x ∷ xs) none =
         let both : (is_at start pages x ≡ false) × (list_any (is_at start pages) xs ≡ false) = neither_or (is_at start pages x) (list_any (is_at start pages) xs) none in
@@ -170,8 +170,8 @@ left_users start pages heap (user ∷ users) some sorted none order = go (is_at 
 
     go : (b : Bool) → is_at start pages user ≡ b →
         (list_any (is_at start pages) (with_region user heap) ≡ false → AreInOrder users →
-        fold (λ list r. with_region r list) (with_region user heap) (without start pages users) ≡ without start pages (fold (λ list r. with_region r list) (with_region user heap) users)) →
-        fold (λ list r. with_region r list) heap (without start pages (user ∷ users)) ≡ without start pages (fold (λ list r. with_region r list) heap (user ∷ users))
+        fold (λ list r. with_region r list) (with_region user heap) (without_region start pages users) ≡ without_region start pages (fold (λ list r. with_region r list) (with_region user heap) users)) →
+        fold (λ list r. with_region r list) heap (without_region start pages (user ∷ users)) ≡ without_region start pages (fold (λ list r. with_region r list) heap (user ∷ users))
     go true is later =
         let same : user.start ≡ start = grind (arith, nat_tests) in
         let long : user.pages ≡ pages = grind (arith, nat_tests) in

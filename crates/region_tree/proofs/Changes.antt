@@ -12,7 +12,7 @@ use Rattle.meminterval.specs.Entries.{AllItems, with_entry, without_key}
 use Rattle.meminterval.specs.Interval.{by_ends, with_end, HasOwnStart}
 use Rattle.region_tree.specs.declared.region_tree.Kind.{Kind}
 use Rattle.region_tree.specs.Pairs.{region_of, regions_of, Follow}
-use Rattle.region_tree.specs.Regions.{is_at, without, with_pages}
+use Rattle.region_tree.specs.Regions.{is_at, without_region, with_pages}
 
 pub follow_length : (from : ℕ) (es : List (Interval ℕ × Kind)) (to : ℕ) → Follow from es to → length es + from ≤ to
 follow_length from [] to f = omega (arith, f)
@@ -65,7 +65,7 @@ same_pages i e h s = grind (arith, nat_tests)
 
 pub record IsRemoved (i : Interval ℕ) (from : ℕ) (es : List (Interval ℕ × Kind)) (to : ℕ) : Type 0 where
   pub follow : Follow from (without_key (by_ends nat_cmp) i es) to
-  pub regions : regions_of (without_key (by_ends nat_cmp) i es) ≡ without (4096 * i.start) (i.end - i.start) (regions_of es)
+  pub regions : regions_of (without_key (by_ends nat_cmp) i es) ≡ without_region (4096 * i.start) (i.end - i.start) (regions_of es)
 
 pub removed : (i : Interval ℕ) (from : ℕ) (es : List (Interval ℕ × Kind)) (to : ℕ) → Follow from es to → i.start ≤ i.end → IsRemoved i from es to
 removed i from [] to f h = record { follow = f; regions = refl }

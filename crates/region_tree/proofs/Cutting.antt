@@ -6,7 +6,7 @@ use Rattle.std.specs.List.{list_any}
 use Rattle.heap_model.specs.declared.region.Region.{Region}
 use Rattle.heap_model.specs.State.{end_of}
 use Rattle.heap_model.specs.Place.{meets}
-use Rattle.region_tree.specs.Regions.{AreLaid, is_at, without, with_pages, cut_of}
+use Rattle.region_tree.specs.Regions.{AreLaid, is_at, without_region, with_pages, cut_of}
 
 -- how many regions meet n pages from an address on
 abbrev pub count_met : ℕ → ℕ → List Region → ℕ
@@ -60,10 +60,10 @@ passed : (at n : ℕ) (x : Region) (old new : List Region) → meets at n x ≡ 
 passed at n x old new h s = record { same = rw h (ap (λ rs. x ∷ rs) s.same); fewer = rw h s.fewer }
 
 pub removes :
-    (at n : ℕ) (rs : List Region) (r : Region) → meets at n r ≡ true → find (meets at n) rs ≡ Some r → at ≤ r.start → IsStep at n rs (without r.start r.pages rs)
+    (at n : ℕ) (rs : List Region) (r : Region) → meets at n r ≡ true → find (meets at n) rs ≡ Some r → at ≤ r.start → IsStep at n rs (without_region r.start r.pages rs)
 removes at n [] r m h k = absurd (cc)
 removes at n (x ∷ rs) r m h k = by_test (meets at n x) refl (λ i. removes at n rs r m i k) where
-  by_test : (t : Bool) → meets at n x ≡ t → (find (meets at n) rs ≡ Some r → IsStep at n rs (without r.start r.pages rs)) → IsStep at n (x ∷ rs) (without r.start r.pages (x ∷ rs))
+  by_test : (t : Bool) → meets at n x ≡ t → (find (meets at n) rs ≡ Some r → IsStep at n rs (without_region r.start r.pages rs)) → IsStep at n (x ∷ rs) (without_region r.start r.pages (x ∷ rs))
   by_test true is rest =
       let same : Some x ≡ Some r = rw is at h in
       let is_it : x ≡ r = cc in
@@ -73,7 +73,7 @@ removes at n (x ∷ rs) r m h k = by_test (meets at n x) refl (λ i. removes at 
       rw here (record { same = rw is (rw not_cut refl); fewer = rw is (omega arith) })
   by_test false is rest =
       let there = other at n x r is m in
-      rw there (passed at n x rs (without r.start r.pages rs) is (rest (rw is at h)))
+      rw there (passed at n x rs (without_region r.start r.pages rs) is (rest (rw is at h)))
 
 untouched : (start pages left from : ℕ) (rs : List Region) (to : ℕ) → AreLaid from rs to → start < from → map (with_pages start pages left) rs ≡ rs
 untouched start pages left from [] to l h = refl

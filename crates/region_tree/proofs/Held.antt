@@ -13,7 +13,7 @@ use Rattle.meminterval.specs.Entries.{first}
 use Rattle.meminterval.specs.Interval.{starts_below, starts_from}
 use Rattle.region_tree.specs.declared.region_tree.Kind.{Kind}
 use Rattle.region_tree.specs.Pairs.{region_of, regions_of, Follow}
-use Rattle.region_tree.specs.Regions.{AreHeld, is_at, without, with_pages}
+use Rattle.region_tree.specs.Regions.{AreHeld, is_at, without_region, with_pages}
 
 or_right : (t u : Bool) → u ≡ true → (t || u) ≡ true
 or_right true u k = refl
@@ -36,12 +36,12 @@ held_with a b region rs held address from to = any_with (is_within address) regi
 before_it : (start pages address : ℕ) (x : Region) → is_at start pages x ≡ true → address < start → is_within address x ≡ false
 before_it start pages address x is h = grind (arith, nat_tests)
 
-without_before : (start pages address : ℕ) (rs : List Region) → address < start → list_any (is_within address) rs ≡ true → list_any (is_within address) (without start pages rs) ≡ true
+without_before : (start pages address : ℕ) (rs : List Region) → address < start → list_any (is_within address) rs ≡ true → list_any (is_within address) (without_region start pages rs) ≡ true
 without_before start pages address [] h k = k
 without_before start pages address (x ∷ rs) h k = go (is_at start pages x) (is_within address x) refl refl (without_before start pages address rs h) where
   go :
-      (t u : Bool) → is_at start pages x ≡ t → is_within address x ≡ u → (list_any (is_within address) rs ≡ true → list_any (is_within address) (without start pages rs) ≡ true) →
-      list_any (is_within address) (without start pages (x ∷ rs)) ≡ true
+      (t u : Bool) → is_at start pages x ≡ t → is_within address x ≡ u → (list_any (is_within address) rs ≡ true → list_any (is_within address) (without_region start pages rs) ≡ true) →
+      list_any (is_within address) (without_region start pages (x ∷ rs)) ≡ true
   go true u is w rest = let no = before_it start pages address x is h in rw is (rw no at k)
   go false true is w rest = rw is (rw w refl)
   go false false is w rest = rw is (rw w (rest (rw w at k)))
@@ -67,7 +67,7 @@ shorter_before start pages left address (x ∷ rs) h k = go (is_at start pages x
 -- a hint that was lowered to where pages have become free
 pub held_without :
     (base hint lower start pages : ℕ) (rs : List Region) → AreHeld (4096 * base) (4096 * hint) rs → lower ≤ hint → (base < lower → 4096 * lower ≤ start) →
-    AreHeld (4096 * base) (4096 * lower) (without start pages rs)
+    AreHeld (4096 * base) (4096 * lower) (without_region start pages rs)
 held_without base hint lower start pages rs held less before address from to =
     let b = before (omega (arith, from, to)) in
     without_before start pages address rs (omega (arith, to, b)) (held address from (omega (arith, to, less)))

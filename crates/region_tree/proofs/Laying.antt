@@ -6,7 +6,7 @@ use Rattle.heap_model.specs.State.{end_of}
 use Rattle.heap_model.specs.Place.{meets, meets_any, with_region}
 use Rattle.heap_model.proofs.Booleans.{neither_or}
 use Rattle.heap_model.proofs.Regions.{beside}
-use Rattle.region_tree.specs.Regions.{AreLaid, is_at, without, cut_of}
+use Rattle.region_tree.specs.Regions.{AreLaid, is_at, without_region, cut_of}
 
 pub laid_from : (low from to : ℕ) (list : List Region) → low ≤ from → AreLaid from list to → AreLaid low list to
 laid_from low from to [] less laid = omega (arith, less, laid)
@@ -34,11 +34,11 @@ laid_with region from to (first ∷ rest) whole some above below clear laid =
       rest_laid (elim (beside region.start region.pages first none) [ inl behind ↦ behind | inr before ↦ absurd (omega (arith, before, later refl, some)) ]),
     )
 
-pub laid_without : (start pages from to : ℕ) (list : List Region) → AreLaid from list to → AreLaid from (without start pages list) to
+pub laid_without : (start pages from to : ℕ) (list : List Region) → AreLaid from list to → AreLaid from (without_region start pages list) to
 laid_without start pages from to [] laid = laid
 laid_without start pages from to (first ∷ rest) laid = go (is_at start pages first) (laid_without start pages (end_of first) to rest laid.3)
   where
-    go : (b : Bool) → AreLaid (end_of first) (without start pages rest) to → AreLaid from (cond b rest (first ∷ without start pages rest)) to
+    go : (b : Bool) → AreLaid (end_of first) (without_region start pages rest) to → AreLaid from (cond b rest (first ∷ without_region start pages rest)) to
     go true later = laid_from from (end_of first) to rest (omega (arith, laid.0)) laid.3
     go false later = (laid.0, laid.1, laid.2, later)
 

@@ -6,7 +6,7 @@ use Rattle.std.specs.List.{list_any}
 use Rattle.heap_model.specs.declared.region.Region.{Region}
 use Rattle.heap_model.specs.State.{end_of, is_within}
 use Rattle.heap_model.specs.Place.{meets, meets_any, with_region}
-use Rattle.region_tree.specs.Regions.{AreLaid, IsBoundary, AreTakenOut, IsPutIn, is_at, without, cut_of, kind_at}
+use Rattle.region_tree.specs.Regions.{AreLaid, IsBoundary, AreTakenOut, IsPutIn, is_at, without_region, cut_of, kind_at}
 
 -- a region that the pages miss holds no address of theirs
 outside :
@@ -98,13 +98,13 @@ before_range start pages address h = grind (arith, nat_tests)
 
 pub taken_without :
     (start pages from : ℕ) (rs : List Region) (to : ℕ) → AreLaid from rs to → list_any (is_at start pages) rs ≡ true →
-    AreTakenOut start (start + 4096 * pages) rs (without start pages rs)
+    AreTakenOut start (start + 4096 * pages) rs (without_region start pages rs)
 taken_without start pages from [] to l h address = let no : false ≡ true = h in absurd (cc)
 taken_without start pages from (x ∷ rs) to l h address = go (is_at start pages x) (is_within address x) refl refl (λ k. taken_without start pages (end_of x) rs to l.3 k address) where
   go :
       (t v : Bool) → is_at start pages x ≡ t → is_within address x ≡ v →
-      (list_any (is_at start pages) rs ≡ true → kind_at (without start pages rs) address ≡ cond (nat_le start address && nat_lt address (start + 4096 * pages)) None (kind_at rs address)) →
-      kind_at (without start pages (x ∷ rs)) address ≡ cond (nat_le start address && nat_lt address (start + 4096 * pages)) None (kind_at (x ∷ rs) address)
+      (list_any (is_at start pages) rs ≡ true → kind_at (without_region start pages rs) address ≡ cond (nat_le start address && nat_lt address (start + 4096 * pages)) None (kind_at rs address)) →
+      kind_at (without_region start pages (x ∷ rs)) address ≡ cond (nat_le start address && nat_lt address (start + 4096 * pages)) None (kind_at (x ∷ rs) address)
   go true true is w rest =
       let r = same_range start pages address x is ∙ w in
       let before : address < end_of x = grind (arith, nat_tests, w) in

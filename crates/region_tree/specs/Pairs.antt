@@ -19,7 +19,7 @@ Follow from (e ∷ es) to = (from ≤ e.0.start) × (e.0.start < e.0.end) × Fol
 
 -- What a tree keeps for a window from the page base on: its intervals follow each other, and the pages of the window
 -- before the page hint are in regions.
-pub record IsKept (base hint : ℕ) (es : List (Interval ℕ × Kind)) : Type 0 where
+pub record IsTreeKept (base hint : ℕ) (es : List (Interval ℕ × Kind)) : Type 0 where
   pub follow : Follow 0 es (2 ^ 52)
   pub above : base ≤ hint
   pub held : AreHeld (4096 * base) (4096 * hint) (regions_of es)

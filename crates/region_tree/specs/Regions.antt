@@ -5,7 +5,7 @@ use Rattle.paging_core.specs.declared.page_table.Rights.{Rights}
 use Rattle.heap_model.specs.declared.region.Region.{Region}
 use Rattle.heap_model.specs.State.{end_of, is_within}
 use Rattle.heap_model.specs.Place.{meets}
-pub use Rattle.heap_model.specs.Place.{is_at, without}
+pub use Rattle.heap_model.specs.Place.{is_at, without_region}
 
 -- ---- how regions lie
 

@@ -5,7 +5,7 @@ ghost use Rattle.std.specs.List.{list_any};
 ghost use Rattle.heap_model.specs.Place.{IsPlace, HasNoPlace, meets, meets_any, with_region};
 ghost use Rattle.meminterval.specs.Tree.{entries};
 ghost use Rattle.region_tree.specs.Pairs.{region_of, regions_of, Follow};
-ghost use Rattle.region_tree.specs.Regions.{AreLaid, AreHeld, IsBoundary, AreTakenOut, IsPutIn, is_at, meets_heap, without, with_pages, cut_of};
+ghost use Rattle.region_tree.specs.Regions.{AreLaid, AreHeld, IsBoundary, AreTakenOut, IsPutIn, is_at, meets_heap, without_region, with_pages, cut_of};
 
 use heap_model::{Region, RegionList, Rights};
 use meminterval::{Interval, IntervalTree};
@@ -107,13 +107,13 @@ impl Model for RegionTree {
     ghost use Rattle.std.specs.Prelude.{ℕ, List, ◌^◌};
     ghost use Rattle.heap_model.specs.declared.region.Region.{Region};
     ghost use Rattle.meminterval.specs.Tree.{entries};
-    ghost use Rattle.region_tree.specs.Pairs.{regions_of, IsKept};
+    ghost use Rattle.region_tree.specs.Pairs.{regions_of, IsTreeKept};
 
     ghost Value = { List Region };
 
     ghost view = { λ t. regions_of (entries t.tree) };
 
-    ghost invariant = { λ t. IsKept t.base t.hint (entries t.tree) };
+    ghost invariant = { λ t. IsTreeKept t.base t.hint (entries t.tree) };
 }
 
 impl RegionTree {
@@ -309,7 +309,7 @@ impl RegionTree {
     pub fn remove(&mut self, region: &Region)
         requires at_page { region.now.start % 4096 ≡ 0 }
         requires within { region.now.start + 4096 * region.now.pages ≤ 2 ^ 64 }
-        ensures regions { self.new ≡ without region.now.start region.now.pages self.old }
+        ensures regions { self.new ≡ without_region region.now.start region.now.pages self.old }
 
         // Where it is there, its addresses leave and no others.
         ensures taken { IsTrue (list_any (is_at region.now.start region.now.pages) self.old) → AreTakenOut region.now.start (region.now.start + 4096 * region.now.pages) self.old self.new }

@@ -6,7 +6,7 @@ use Rattle.paging_core.specs.Memory.{frame_count}
 use Rattle.paging_core.specs.Walk.{walk_of, place_of}
 use Rattle.heap_model.specs.declared.region.Region.{Region}
 use Rattle.heap_model.specs.Machine.{Paged}
-use Rattle.mapped_regions.specs.Mapped.{IsJoined, IsLeft}
+use Rattle.mapped_regions.specs.Mapped.{IsRegionJoined, IsLeft}
 use Rattle.x86_instructions.specs.declared.tlb.FlushCommand.{FlushCommand}
 use Rattle.tlb_cache.specs.Cache.{Agrees, IsFound, left_by_all}
 use Rattle.tlb_cache.specs.Cached.{Flushes}
@@ -21,7 +21,7 @@ still words words' root root' entry same size walks found = record {
   frame = subst (λ (n : ℕ). entry.mapped.frame < n / 512) (sym size) found.frame;
 }
 
-pub mapped_agrees : (old new : Paged) (region : Region) (entries : List TlbEntry) → IsJoined old new region → Agrees old.words old.root entries → Agrees new.words new.root entries
+pub mapped_agrees : (old new : Paged) (region : Region) (entries : List TlbEntry) → IsRegionJoined old new region → Agrees old.words old.root entries → Agrees new.words new.root entries
 unfolding walk_of
 mapped_agrees old new region [] joined agrees = tt
 mapped_agrees old new region (entry ∷ entries) joined agrees =
@@ -33,7 +33,7 @@ mapped_agrees old new region (entry ∷ entries) joined agrees =
 
 -- whether a map was served or refused
 pub map_agrees :
-    {E : Type 0} (old new : Paged) (region : Region) (entries : List TlbEntry) (result : Result (Unit {0}) E) → OnOk result (IsJoined old new region) → OnErr result (new ≡ old) →
+    {E : Type 0} (old new : Paged) (region : Region) (entries : List TlbEntry) (result : Result (Unit {0}) E) → OnOk result (IsRegionJoined old new region) → OnErr result (new ≡ old) →
     Agrees old.words old.root entries → Agrees new.words new.root entries
 map_agrees old new region entries (Ok _) joined same agrees = mapped_agrees old new region entries joined agrees
 map_agrees old new region entries (Err _) joined same agrees = subst (λ (p : Paged). Agrees p.words p.root entries) (sym same) agrees

@@ -1,6 +1,6 @@
 ghost use Rattle.std.specs.Prelude.{◌≡◌, ◌+◌, ◌*◌, ◌/◌, ◌%◌, ◌<◌, ◌≤◌, ◌++◌, true, [], IsTrue, IsFalse, IfOk, IfErr, OnOk, OnErr};
 ghost use Rattle.paging_core.specs.Address.{is_canonical};
-ghost use Rattle.mapped_regions.specs.Mapped.{IsPageRange, CanMap, IsJoined, IsLeft};
+ghost use Rattle.mapped_regions.specs.Mapped.{IsPageRange, CanMap, IsRegionJoined, IsLeft};
 ghost use Rattle.mapped_regions.specs.UserRegions.{user_region, IsMapRefused, CanUnmap};
 ghost use Rattle.paging_core.specs.Memory.{frame_count};
 ghost use Rattle.kernel_heap.specs.Config.{IsGoodWindow};
@@ -102,7 +102,7 @@ impl CachedSystem {
 
     /// As `PagedSystem::map`. The entries stay, as every page that was mapped does.
     pub fn map(&mut self, start: u64, pages: u64, rights: Rights) -> Result<(), MapFault>
-        ensures ok { OnOk result (IsJoined (paged self.old.system) (paged self.new.system) (user_region start pages rights)) }
+        ensures ok { OnOk result (IsRegionJoined (paged self.old.system) (paged self.new.system) (user_region start pages rights)) }
         ensures can { OnOk result (CanMap (paged self.old.system) start pages) }
         ensures err { OnErr result (paged self.new.system ≡ paged self.old.system) }
         ensures refused { IfErr result (λ fault. IsMapRefused (paged self.old.system) start pages fault) }

@@ -1,6 +1,6 @@
 -- Chunks go into bins and leave them, and the heap moves.
-use Rattle.dlmalloc.proofs.Names.{◌≡◌, ◌≢◌, ℕ, ◌+◌, ◌<◌, ◌≤◌, ◌⊎◌, inl, inr, List, [], ◌∷◌, Some, IsTrue, refl, sym, ◌∙◌, ap, subst, arith, list_any, AllByRecursion, Grant, IsWordOf, Event, Extent, Free, Record, Bins, IsIn, with_chunk, without_chunk, OnlyLinksChange, IndexStays, extent_at, Segment, extents_in, IsRun, has_byte_in, segments_of, state_of, IsSound, IsFreeAt, HoldsBut, IsBinnedBut, IsBinned, OnlyFreeChange, IsRebinned, FreeMoves, IsMoved, Dlmalloc}
-use Rattle.bins.specs.Linked.{IsLinked, IsFresh}
+use Rattle.dlmalloc.proofs.Names.{◌≡◌, ◌≢◌, ℕ, ◌+◌, ◌<◌, ◌≤◌, ◌⊎◌, inl, inr, List, [], ◌∷◌, Some, IsTrue, refl, sym, ◌∙◌, ap, subst, arith, list_any, AllByRecursion, Grant, IsWordOf, Event, Extent, Free, Record, Bins, IsIn, with_chunk, without_chunk, OnlyLinksChange, IndexStays, extent_at, Segment, extents_in, IsFlaggedRun, has_byte_in, segments_of, state_of, IsSound, IsFreeAt, HoldsBut, IsBinnedBut, IsBinned, OnlyFreeChange, IsRebinned, FreeMoves, IsMoved, Dlmalloc}
+use Rattle.bins.specs.Linked.{IsLinked, IsFreshChunk}
 use Rattle.dlmalloc.proofs.Words.Telling.{IsTelling, sound_told, state_told}
 use Rattle.dlmalloc.proofs.Bins.Held.{AreAccounted, binned_one, unbinned_one, still_free, holds_moved, looser, tighter}
 use Rattle.dlmalloc.proofs.Words.OfLinks.{OthersStay, is_chunk, same_or_beside, free_apart, only_free, kept}
@@ -26,10 +26,10 @@ module _ {A : Type 0} {regions : A → List Grant} {word : A → ℕ → ℕ} (f
       out at size (inr (inl before)) = (let below = tells.1 in inl (omega arith))
       out at size (inr (inr behind)) = (let above = tells.0 in inr (omega arith))
 
-  runs : (segments : List Segment) → AllByRecursion (λ segment. IsRun (regions heap.system) segment.base segment.size segment.flags →
-      IsRun (regions system) segment.base segment.size segment.flags) segments
+  runs : (segments : List Segment) → AllByRecursion (λ segment. IsFlaggedRun (regions heap.system) segment.base segment.size segment.flags →
+      IsFlaggedRun (regions system) segment.base segment.size segment.flags) segments
   runs [] = tt
-  runs (segment ∷ segments) = ((λ run. subst (λ rs. IsRun rs segment.base segment.size segment.flags) (sym same) run), runs segments)
+  runs (segment ∷ segments) = ((λ run. subst (λ rs. IsFlaggedRun rs segment.base segment.size segment.flags) (sym same) run), runs segments)
 
   pub rebinned : IsRebinned regions word follows heap (record heap { system = system; bins = bins })
   rebinned = record {
@@ -47,7 +47,7 @@ module _ {A : Type 0} {regions : A → List Grant} {word : A → ℕ → ℕ} {h
     (free : IsFreeAt (state_of word heap) at size) where
   module _ {loose : List ℕ} (b : IsBinnedBut (at ∷ loose) regions word heap) where
     -- it shares no byte with one of the index
-    pub fresh : IsFresh (regions heap.system) (word heap.system) b.index size at
+    pub fresh : IsFreshChunk (regions heap.system) (word heap.system) b.index size at
     fresh = record {
       is = is_chunk sound free;
       apart = λ n other is. free_apart regions word heap sound free (b.holds.free other n is) (λ same. b.holds.not_loose other n is (inl (sym same)));

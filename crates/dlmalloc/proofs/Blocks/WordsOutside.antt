@@ -1,5 +1,5 @@
 -- A heap rests on the words outside of its blocks alone.
-use Rattle.dlmalloc.proofs.Names.{◌≡◌, ℕ, ◌+◌, ◌<◌, ◌≤◌, ◌⊎◌, inl, inr, Bool, true, false, ◌&&◌, ◌||◌, ◌==◌, nat_le, nat_lt, if◌then◌else◌, List, [], ◌∷◌, Some, IsTrue, refl, sym, ◌∙◌, ap, subst, arith, list_any, AllByRecursion, nat_tests, Grant, is_granted, IsWordOf, IsApart, Extent, Kind, Used, Free, Record, IndexStays, extent_at, Segment, extents_in, is_free_below_top, IsWithin, IsRun, IsSegment, has_byte_in, segments_of, state_of, IsSound, IsFreeAt, HoldsBinned, IsBinned, regions_in, KeepsRegions, OnlyBlocksChange, Dlmalloc}
+use Rattle.dlmalloc.proofs.Names.{◌≡◌, ℕ, ◌+◌, ◌<◌, ◌≤◌, ◌⊎◌, inl, inr, Bool, true, false, ◌&&◌, ◌||◌, ◌==◌, nat_le, nat_lt, if◌then◌else◌, List, [], ◌∷◌, Some, IsTrue, refl, sym, ◌∙◌, ap, subst, arith, list_any, AllByRecursion, nat_tests, Grant, is_granted, IsWordOf, IsApart, Extent, Kind, Used, Free, Record, IndexStays, extent_at, Segment, extents_in, is_free_below_top, IsWithin, IsFlaggedRun, IsSegment, has_byte_in, segments_of, state_of, IsSound, IsFreeAt, HoldsBinned, IsBinned, regions_in, KeepsRegions, OnlyBlocksChange, Dlmalloc}
 use Rattle.dlmalloc.proofs.Extents.Lookup.{nat_is, the_extent}
 use Rattle.dlmalloc.proofs.Segments.Among.{extents_all, any_among, located, of_located, in_part}
 use Rattle.dlmalloc.proofs.Extents.Disjoint.{beside, stands_there}
@@ -48,7 +48,7 @@ others_apart segment (region ∷ regions) all = go (meets segment region) refl a
     go false test all rest = (inl (grind (arith, nat_tests)), rest all)
 
 run_kept : (segment : Segment) {old : List Grant} (new : List Grant) → regions_in segment new ≡ regions_in segment old →
-    IsRun old segment.base segment.size segment.flags → IsRun new segment.base segment.size segment.flags
+    IsFlaggedRun old segment.base segment.size segment.flags → IsFlaggedRun new segment.base segment.size segment.flags
 run_kept segment {old} new same run = record {
   covered = λ k low high. sym (granted_in segment new k low high) ∙ (ap (λ rs. is_granted rs k) same ∙ (granted_in segment old k low high ∙ run.covered k low high));
   whole = others_apart segment new (subst (AllByRecursion (λ region. IsOfRun segment region)) (sym same) (those_in (IsOfRun segment) segment old run.whole));
@@ -86,8 +86,8 @@ module _ {A : Type 0} {regions : A → List Grant} {word : A → ℕ → ℕ} {h
             | inr behind ↦ inl (omega arith)
           ]
 
-  runs : (segments : List Segment) → KeepsRegions segments (regions heap.system) (regions system) → AllByRecursion (λ segment. IsRun
-      (regions heap.system) segment.base segment.size segment.flags → IsRun (regions system) segment.base segment.size segment.flags) segments
+  runs : (segments : List Segment) → KeepsRegions segments (regions heap.system) (regions system) → AllByRecursion (λ segment. IsFlaggedRun
+      (regions heap.system) segment.base segment.size segment.flags → IsFlaggedRun (regions system) segment.base segment.size segment.flags) segments
   runs [] stay = tt
   runs (segment ∷ segments) stay = ((λ run. run_kept segment (regions system) stay.0 run), runs segments stay.1)
 

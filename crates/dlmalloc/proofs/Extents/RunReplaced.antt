@@ -1,5 +1,5 @@
 -- A run of extents of a heap gives way to others.
-use Rattle.dlmalloc.proofs.Names.{◌≡◌, ℕ, ◌+◌, ◌%◌, ◌<◌, ◌≤◌, true, false, List, [], ◌∷◌, ◌++◌, Some, refl, sym, ◌∙◌, ap, subst, arith, append_assoc, Grant, IsWordOf, Extent, Used, Top, Record, ends_segment, extent_at, Tiles, last_kind, Segment, IsMove, IsRunOf, IsRun, IsSegment, AreSegments, AreApart, record_of, segments_of, AreTold, IsSound, Dlmalloc}
+use Rattle.dlmalloc.proofs.Names.{◌≡◌, ℕ, ◌+◌, ◌%◌, ◌<◌, ◌≤◌, true, false, List, [], ◌∷◌, ◌++◌, Some, refl, sym, ◌∙◌, ap, subst, arith, append_assoc, Grant, IsWordOf, Extent, Used, Top, Record, ends_segment, extent_at, Tiles, last_kind, Segment, IsMove, IsRunOf, IsFlaggedRun, IsSegment, AreSegments, AreApart, record_of, segments_of, AreTold, IsSound, Dlmalloc}
 use Rattle.dlmalloc.proofs.Extents.Lookup.{extent, found}
 use Rattle.dlmalloc.proofs.Extents.Tiling.{sized, tiles_append, tiles_split}
 use Rattle.dlmalloc.proofs.Words.Spared.{spared_first, spared_second}
@@ -129,7 +129,7 @@ module _ {A : Type 0} {regions : A → List Grant} {word : A → ℕ → ℕ} {h
   changed = record {
     now = subst (λ rs. IsSegment rs (word new.system) run_now) (sym same) is_now;
     kept = λ k inside spared. move.kept k inside (spared_first more run.last k (spared_second run.first (more ++ run.last) k spared));
-    others = λ other is beyond. (subst (λ rs. IsRun rs other.base other.size other.flags) (sym same) is.run, beyond);
+    others = λ other is beyond. (subst (λ rs. IsFlaggedRun rs other.base other.size other.flags) (sym same) is.run, beyond);
     records = λ at there. (refl, refl, refl, stays at (λ here. tails at (record_of at (run.segment.base + run.segment.size)) here refl) there);
   }
 

@@ -1,5 +1,5 @@
 -- A grant is put before the head segment, or before one that a record tells.
-use Rattle.dlmalloc.proofs.Names.{◌≡◌, ◌≢◌, ℕ, ◌+◌, ◌-◌, ◌%◌, ◌^◌, ◌<◌, ◌≤◌, inl, inr, false, ◌==◌, List, [], ◌∷◌, ◌++◌, Some, refl, sym, ◌∙◌, ap, subst, arith, ⊤, Grant, Event, IsWordOf, Extent, HasHead, extent_at, Segment, put_before, IsFresh, IsPrepended, IsInRecord, IsHeadBehind, IsToldBehind, IsSegment, AreSegments, record_of, AreRecords, state_of, AreTold, IsSound, Dlmalloc}
+use Rattle.dlmalloc.proofs.Names.{◌≡◌, ◌≢◌, ℕ, ◌+◌, ◌-◌, ◌%◌, ◌^◌, ◌<◌, ◌≤◌, inl, inr, false, ◌==◌, List, [], ◌∷◌, ◌++◌, Some, refl, sym, ◌∙◌, ap, subst, arith, ⊤, Grant, Event, IsWordOf, Extent, HasHead, extent_at, Segment, put_before, IsFreshGrant, IsPrepended, IsInRecord, IsHeadBehind, IsToldBehind, IsSegment, AreSegments, record_of, AreRecords, state_of, AreTold, IsSound, Dlmalloc}
 use Rattle.dlmalloc.proofs.Extents.Lookup.{nat_isnt}
 use Rattle.dlmalloc.proofs.Segments.Among.{all_at}
 use Rattle.dlmalloc.proofs.Segments.HeadTop.{top_low}
@@ -9,7 +9,7 @@ use Rattle.dlmalloc.proofs.Grants.PutBefore.{IsInTwo, IsJoining, before_means, f
 use Rattle.dlmalloc.proofs.Grants.SegmentBehind.{told_around}
 
 -- the heads of the two parts of a grant are granted
-pub part_head : {regions : List Grant} {segments : List Segment} {grant : Grant} → IsFresh regions segments grant →
+pub part_head : {regions : List Grant} {segments : List Segment} {grant : Grant} → IsFreshGrant regions segments grant →
     (k : ℕ) → grant.base ≤ k → k + 16 ≤ grant.base + grant.size → k % 16 ≡ 0 → HasHead regions k
 part_head fresh k low high m = record {
   aligned = omega arith;

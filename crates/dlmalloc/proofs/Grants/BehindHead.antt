@@ -1,5 +1,5 @@
 -- A grant at the end of the head segment makes its top longer.
-use Rattle.dlmalloc.proofs.Names.{◌≡◌, ◌≢◌, ℕ, ◌+◌, ◌-◌, ◌<◌, ◌⊎◌, inl, inr, true, List, [], ◌∷◌, ◌++◌, map, Some, refl, sym, ◌∙◌, ap, subst, arith, append_assoc, AllByRecursion, nat_tests, map-append, Grant, IsWordOf, IsWhole, Extent, Used, Free, Top, Foot, extent_at, Tiles, last_kind, Segment, trim_threshold, opened, is_behind, granted, IsFresh, HasSameUsed, OnlyTagsChange, IsRun, IsSegment, AreSegments, IsApartFrom, FreeMoves, segments_of, state_of, IsSound, Dlmalloc, AreChunks, IsRunOf}
+use Rattle.dlmalloc.proofs.Names.{◌≡◌, ◌≢◌, ℕ, ◌+◌, ◌-◌, ◌<◌, ◌⊎◌, inl, inr, true, List, [], ◌∷◌, ◌++◌, map, Some, refl, sym, ◌∙◌, ap, subst, arith, append_assoc, AllByRecursion, nat_tests, map-append, Grant, IsWordOf, IsWhole, Extent, Used, Free, Top, Foot, extent_at, Tiles, last_kind, Segment, trim_threshold, opened, is_behind, granted, IsFreshGrant, HasSameUsed, OnlyTagsChange, IsFlaggedRun, IsSegment, AreSegments, IsApartFrom, FreeMoves, segments_of, state_of, IsSound, Dlmalloc, AreChunks, IsRunOf}
 use Rattle.dlmalloc.specs.Granted.{grown, extended}
 use Rattle.dlmalloc.proofs.Extents.Lookup.{extent, nat_same, found_later}
 use Rattle.dlmalloc.proofs.Segments.HeadTold.{IsHead, bare_head}
@@ -33,7 +33,7 @@ extended_heap heap grant system =
 
 -- What is stored where the head segment gets the bytes of a grant: the heads of the longer top and of its foot.
 pub record IsExtended {A : Type 0} (regions : A → List Grant) (word : A → ℕ → ℕ) (heap : Dlmalloc A) (grant : Grant) (system : A) : Type 0 where
-  pub fresh : IsFresh (regions heap.system) (segments_of word heap) grant
+  pub fresh : IsFreshGrant (regions heap.system) (segments_of word heap) grant
   pub some : 0 < heap.size
   pub behind : is_behind grant (bare_head heap) ≡ true
   pub whole : AllByRecursion IsWhole (regions heap.system)
@@ -91,9 +91,9 @@ module _ {A : Type 0} {regions : A → List Grant} {word : A → ℕ → ℕ} {h
       (top_stands (word system) heap.top length_now old_run.here.1.kind (top_whole sound some) (omega (arith, (top_sizes sound some).0))
       (omega (arith, (top_sizes sound some).1)) (head ∙ ap (λ n. n + 1) (sym length_is)) (ap (word system) place ∙ foot))
 
-  run_now : IsRun (regions system) old_run.segment.base (old_run.segment.size + grant.size) old_run.segment.flags
-  run_now = subst (λ rs. IsRun rs old_run.segment.base (old_run.segment.size + grant.size) old_run.segment.flags) (sym same)
-      (runs_joined (begins ∙ (λ i. was.base i + was.size i)) (top_part sound some).run (subst (λ f. IsRun (regions heap.system) grant.base grant.size f)
+  run_now : IsFlaggedRun (regions system) old_run.segment.base (old_run.segment.size + grant.size) old_run.segment.flags
+  run_now = subst (λ rs. IsFlaggedRun rs old_run.segment.base (old_run.segment.size + grant.size) old_run.segment.flags) (sym same)
+      (runs_joined (begins ∙ (λ i. was.base i + was.size i)) (top_part sound some).run (subst (λ f. IsFlaggedRun (regions heap.system) grant.base grant.size f)
       ((behind_means grant (bare_head heap) behind).1 ∙ was.flags) fresh.run) whole)
 
   is_now : IsSegment (regions system) (word system) now

@@ -1,5 +1,5 @@
 -- A grant becomes the head segment: what was the top is freed, and a record behind it tells the segment that it is in.
-use Rattle.dlmalloc.proofs.Names.{◌≡◌, ◌≢◌, ℕ, ◌+◌, ◌-◌, ◌%◌, ◌<◌, ◌≤◌, ◌⊎◌, inl, inr, Bool, true, false, not, ◌&&◌, ◌==◌, nat_lt, if◌then◌else◌, List, [], ◌∷◌, ◌++◌, Some, refl, sym, ◌∙◌, ap, subst, arith, append_assoc, dec_lt, AllByRecursion, nat_tests, flat_map, list_any, flat_map-append, Grant, IsWordOf, Extent, Used, Free, Top, Record, head_of, extent_at, is_used, Tiles, last_kind, Segment, trim_threshold, opened, is_behind, is_before, is_put_before, granted, IsFresh, HasSameUsed, IsRecordAt, OnlyTagsChange, IsRun, IsSegment, IsApartFrom, record_of, AreRecords, IsFreeAt, FreeMoves, segments_of, state_of, AreTold, IsSound, IsRunOf, Dlmalloc, SegmentRecord}
+use Rattle.dlmalloc.proofs.Names.{◌≡◌, ◌≢◌, ℕ, ◌+◌, ◌-◌, ◌%◌, ◌<◌, ◌≤◌, ◌⊎◌, inl, inr, Bool, true, false, not, ◌&&◌, ◌==◌, nat_lt, if◌then◌else◌, List, [], ◌∷◌, ◌++◌, Some, refl, sym, ◌∙◌, ap, subst, arith, append_assoc, dec_lt, AllByRecursion, nat_tests, flat_map, list_any, flat_map-append, Grant, IsWordOf, Extent, Used, Free, Top, Record, head_of, extent_at, is_used, Tiles, last_kind, Segment, trim_threshold, opened, is_behind, is_before, is_put_before, granted, IsFreshGrant, HasSameUsed, IsRecordAt, OnlyTagsChange, IsFlaggedRun, IsSegment, IsApartFrom, record_of, AreRecords, IsFreeAt, FreeMoves, segments_of, state_of, AreTold, IsSound, IsRunOf, Dlmalloc, SegmentRecord}
 use Rattle.dlmalloc.specs.Granted.{closed, without_top}
 use Rattle.dlmalloc.proofs.Extents.Lookup.{extent, found_here, found_later, nat_same}
 use Rattle.dlmalloc.proofs.Segments.HeadTold.{IsHead, bare_head}
@@ -40,7 +40,7 @@ module _ {A : Type 0} {regions : A → List Grant} {word : A → ℕ → ℕ} {h
       go false is = (omega arith, omega (arith, ends sound some), omega (arith, top_whole sound some, (top_sizes sound some).0))
 
   -- the grant is beside the head segment
-  pub beside_head : (grant : Grant) → IsFresh (regions heap.system) (segments_of word heap) grant → (heap.base + heap.size ≤ grant.base) ⊎ (grant.base + grant.size ≤ heap.base)
+  pub beside_head : (grant : Grant) → IsFreshGrant (regions heap.system) (segments_of word heap) grant → (heap.base + heap.size ≤ grant.base) ⊎ (grant.base + grant.size ≤ heap.base)
   beside_head grant fresh =
       let is = top_segment sound some in
       let apart = (subst (AllByRecursion (λ segment. IsApartFrom segment (opened grant))) (head_first sound some) fresh.apart).0 in
@@ -49,7 +49,7 @@ module _ {A : Type 0} {regions : A → List Grant} {word : A → ℕ → ℕ} {h
 -- What is stored where a grant becomes the head segment: the heads of its top and of its foot, the record that tells the
 -- segment that was the head, and the word behind the chunk that its top was, if that has more than 16 bytes.
 pub record IsNewHead {A : Type 0} (regions : A → List Grant) (word : A → ℕ → ℕ) (heap : Dlmalloc A) (grant : Grant) (system : A) (at : ℕ) : Type 0 where
-  pub fresh : IsFresh (regions heap.system) (segments_of word heap) grant
+  pub fresh : IsFreshGrant (regions heap.system) (segments_of word heap) grant
   pub some : 0 < heap.size
   pub beside : is_behind grant (bare_head heap) ≡ false
   pub no_join : is_put_before grant (segments_of word heap) ≡ false
@@ -126,7 +126,7 @@ module _ {A : Type 0} {regions : A → List Grant} {word : A → ℕ → ℕ} {h
           ∙ (it.here.1.head ∙ (ap (λ k. head_of heap.top_size (is_used k) false) it.here.1.kind ∙ omega arith))
 
   is_now : IsSegment (regions system) (word system) now
-  is_now = head_with sound some (word system) rest (subst (λ rs. IsRun rs it.segment.base it.segment.size it.segment.flags) (sym same) old_part.run)
+  is_now = head_with sound some (word system) rest (subst (λ rs. IsFlaggedRun rs it.segment.base it.segment.size it.segment.flags) (sym same) old_part.run)
       old_part.high old_part.long (λ k above below m. inside_kept k (omega arith) (omega arith) (omega (arith, bounds.0)) m) rest_stand
       (left_tail (last_kind Used it.first) heap.top heap.top_size small)
 

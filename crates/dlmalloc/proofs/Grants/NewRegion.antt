@@ -1,5 +1,5 @@
 -- A region was granted, and is part of no segment yet.
-use Rattle.dlmalloc.proofs.Names.{◌≡◌, ℕ, ◌+◌, ◌<◌, ◌≤◌, inl, inr, Bool, true, false, ◌&&◌, if◌then◌else◌, List, [], ◌∷◌, refl, sym, ◌∙◌, ap, subst, arith, nat_lt, AllByRecursion, nat_tests, Grant, IsWordOf, IsApart, IsGoodGrant, with_grant, Segment, opened, IsFresh, IsRun, AreSegments, IsApartFrom, IndexStays, IsBinned, segments_of, state_of, IsSound, regions_in, KeepsRegions, Dlmalloc}
+use Rattle.dlmalloc.proofs.Names.{◌≡◌, ℕ, ◌+◌, ◌<◌, ◌≤◌, inl, inr, Bool, true, false, ◌&&◌, if◌then◌else◌, List, [], ◌∷◌, refl, sym, ◌∙◌, ap, subst, arith, nat_lt, AllByRecursion, nat_tests, Grant, IsWordOf, IsApart, IsGoodGrant, with_grant, Segment, opened, IsFreshGrant, IsFlaggedRun, AreSegments, IsApartFrom, IndexStays, IsBinned, segments_of, state_of, IsSound, regions_in, KeepsRegions, Dlmalloc}
 use Rattle.dlmalloc.proofs.Segments.RegionsMore.{run_apart, run_alone}
 use Rattle.dlmalloc.proofs.Blocks.WordsOutside.{still_sound, still_state, still_binned}
 
@@ -58,9 +58,9 @@ module _ {A : Type 0} {regions : A → List Grant} {word : A → ℕ → ℕ} {h
   granted_binned = still_binned sound system keeps (λ k inside there outside. words k inside)
 
   -- and the grant can become part of it
-  pub fresh_grant : IsFresh (regions system) (segments_of word (record heap { system = system })) grant
+  pub fresh_grant : IsFreshGrant (regions system) (segments_of word (record heap { system = system })) grant
   fresh_grant = record {
-    run = subst (λ rs. IsRun rs grant.base grant.size grant.flags) (sym with_it) (run_alone (regions heap.system) grant apart);
+    run = subst (λ rs. IsFlaggedRun rs grant.base grant.size grant.flags) (sym with_it) (run_alone (regions heap.system) grant apart);
     apart = subst (AllByRecursion (λ segment. IsApartFrom segment (opened grant))) (λ i. ((sym granted_same) i).segments) segments_apart;
     long = long;
     base_aligned = good.base_aligned;

@@ -1,5 +1,5 @@
 -- A grant as a segment of its own, and the segments that were there before it.
-use Rattle.dlmalloc.proofs.Names.{◌≡◌, ℕ, ◌+◌, ◌-◌, ◌<◌, List, [], ◌∷◌, refl, sym, ◌∙◌, ap, subst, arith, AllByRecursion, Grant, IsWordOf, Used, Top, Foot, Tiles, countdown_from, trim_threshold, opened, granted, IsFresh, HasSameUsed, IsRun, IsSegment, AreSegments, IsApartFrom, AreRecords, FreeMoves, segments_of, state_of, IsSound, Dlmalloc, IsRunOf}
+use Rattle.dlmalloc.proofs.Names.{◌≡◌, ℕ, ◌+◌, ◌-◌, ◌<◌, List, [], ◌∷◌, refl, sym, ◌∙◌, ap, subst, arith, AllByRecursion, Grant, IsWordOf, Used, Top, Foot, Tiles, countdown_from, trim_threshold, opened, granted, IsFreshGrant, HasSameUsed, IsFlaggedRun, IsSegment, AreSegments, IsApartFrom, AreRecords, FreeMoves, segments_of, state_of, IsSound, Dlmalloc, IsRunOf}
 use Rattle.dlmalloc.proofs.Extents.Lookup.{extent, nat_same}
 use Rattle.dlmalloc.proofs.Segments.Among.{extents_all, flip}
 use Rattle.dlmalloc.proofs.Segments.WordsKept.{KeepsIts, IsOutside, parts_stay, records_stay, apart_stay}
@@ -21,7 +21,7 @@ opened_heap heap grant system countdown = record heap {
 }
 
 module _ {A : Type 0} {regions : A → List Grant} {word : A → ℕ → ℕ} {heap : Dlmalloc A} (system : A) (sound : IsSound regions word heap)
-    {grant : Grant} (fresh : IsFresh (regions heap.system) (segments_of word heap) grant) (same : regions system ≡ regions heap.system) where
+    {grant : Grant} (fresh : IsFreshGrant (regions heap.system) (segments_of word heap) grant) (same : regions system ≡ regions heap.system) where
   -- ---- the grant as the head segment
 
   module _ (head : word system (grant.base + 8) ≡ grant.base + grant.size - 80 - grant.base + 1) (foot : word system (grant.base + grant.size - 72) ≡ 80) where
@@ -33,7 +33,7 @@ module _ {A : Type 0} {regions : A → List Grant} {word : A → ℕ → ℕ} {h
 
     pub opened_segment : IsSegment (regions system) (word system) (opened grant)
     opened_segment = record {
-      run = subst (λ rs. IsRun rs grant.base grant.size grant.flags) (sym same) fresh.run;
+      run = subst (λ rs. IsFlaggedRun rs grant.base grant.size grant.flags) (sym same) fresh.run;
       low = fresh.low;
       high = fresh.high;
       long = omega arith;

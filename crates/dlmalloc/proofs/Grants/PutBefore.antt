@@ -1,5 +1,5 @@
 -- A grant is put before a segment, in two parts that are in use.
-use Rattle.dlmalloc.proofs.Names.{◌≡◌, ◌≢◌, ℕ, ◌+◌, ◌-◌, ◌%◌, ◌<◌, ◌≤◌, inl, inr, true, false, ◌==◌, List, [], ◌∷◌, ◌++◌, map, Some, refl, sym, ◌∙◌, ap, subst, arith, AllByRecursion, nat_tests, map-append, Grant, IsWordOf, IsWhole, Event, Extent, Used, head_of, extent_at, Tiles, Segment, extents_in, opened, is_before, put_before, IsFresh, IsPrepended, IsInRecord, IsRun, IsSegment, AreSegments, IsApartFrom, AreApart, segments_of, state_of, AreTold, IsSound, Dlmalloc}
+use Rattle.dlmalloc.proofs.Names.{◌≡◌, ◌≢◌, ℕ, ◌+◌, ◌-◌, ◌%◌, ◌<◌, ◌≤◌, inl, inr, true, false, ◌==◌, List, [], ◌∷◌, ◌++◌, map, Some, refl, sym, ◌∙◌, ap, subst, arith, AllByRecursion, nat_tests, map-append, Grant, IsWordOf, IsWhole, Event, Extent, Used, head_of, extent_at, Tiles, Segment, extents_in, opened, is_before, put_before, IsFreshGrant, IsPrepended, IsInRecord, IsFlaggedRun, IsSegment, AreSegments, IsApartFrom, AreApart, segments_of, state_of, AreTold, IsSound, Dlmalloc}
 use Rattle.dlmalloc.proofs.Extents.Tiling.{plain_chunk}
 use Rattle.dlmalloc.specs.Granted.{joined}
 use Rattle.dlmalloc.proofs.Extents.Lookup.{extent, nat_same, nat_isnt, found_here, of_two}
@@ -21,7 +21,7 @@ parts_around (other ∷ front) back first one last = (first.0, parts_around fron
 -- A grant stands as two chunks in use, of which the first has n bytes.
 pub record IsInTwo {A : Type 0} (regions : A → List Grant) (word : A → ℕ → ℕ) (follows : A → List Event → A → Type 0) (heap : Dlmalloc A) (grant : Grant)
     (n : ℕ) (system : A) : Type 0 where
-  pub fresh : IsFresh (regions heap.system) (segments_of word heap) grant
+  pub fresh : IsFreshGrant (regions heap.system) (segments_of word heap) grant
   pub multiple : n % 16 ≡ 0
   pub least : 32 ≤ n
   pub room : n + 96 ≤ grant.size
@@ -114,8 +114,8 @@ module _ {A : Type 0} {regions : A → List Grant} {word : A → ℕ → ℕ} {f
 
   is_now : IsSegment (regions system) (word system) now
   is_now = record {
-    run = subst (λ rs. IsRun rs grant.base (grant.size + segment.size) segment.flags) (sym same) (runs_joined place
-        (subst (λ f. IsRun (regions heap.system) grant.base grant.size f) (before_means grant segment joins).1 fresh.run) the_part.run whole);
+    run = subst (λ rs. IsFlaggedRun rs grant.base (grant.size + segment.size) segment.flags) (sym same) (runs_joined place
+        (subst (λ f. IsFlaggedRun (regions heap.system) grant.base grant.size f) (before_means grant segment joins).1 fresh.run) the_part.run whole);
     low = fresh.low;
     high = omega (arith, the_part.high, place);
     long = omega (arith, the_part.long);

@@ -1,6 +1,6 @@
 -- A grant becomes part of a heap, and of its bins.
-use Rattle.dlmalloc.proofs.Names.{◌≡◌, ◌≢◌, ℕ, ◌+◌, ◌<◌, ◌≤◌, ◌⊎◌, inl, inr, Bool, true, false, ◌==◌, nat_le, if◌then◌else◌, List, [], ◌∷◌, ◌++◌, Some, refl, sym, ◌∙◌, ap, subst, arith, nat_tests, Grant, IsWordOf, Event, Extent, Kind, Free, Top, IndexStays, extent_at, extents_in, IsBoundary, IsInFree, IsInRecord, HasSameUsed, IsFresh, IsAdmitted, opened, segments_of, state_of, IsSound, IsFreeAt, IsBinned, IsBinnedBut, IsSameBins, IsRebinned, FreeMoves, Dlmalloc}
-use Rattle.dlmalloc.specs.Grown.{BeginsTop, IsJoined}
+use Rattle.dlmalloc.proofs.Names.{◌≡◌, ◌≢◌, ℕ, ◌+◌, ◌<◌, ◌≤◌, ◌⊎◌, inl, inr, Bool, true, false, ◌==◌, nat_le, if◌then◌else◌, List, [], ◌∷◌, ◌++◌, Some, refl, sym, ◌∙◌, ap, subst, arith, nat_tests, Grant, IsWordOf, Event, Extent, Kind, Free, Top, IndexStays, extent_at, extents_in, IsBoundary, IsInFree, IsInRecord, HasSameUsed, IsFreshGrant, IsAdmitted, opened, segments_of, state_of, IsSound, IsFreeAt, IsBinned, IsBinnedBut, IsSameBins, IsRebinned, FreeMoves, Dlmalloc}
+use Rattle.dlmalloc.specs.Grown.{BeginsTop, IsGrantJoined}
 use Rattle.dlmalloc.proofs.Extents.Lookup.{extent, nat_is, the_extent}
 use Rattle.dlmalloc.proofs.Segments.Among.{flip}
 use Rattle.dlmalloc.proofs.Extents.Disjoint.{within}
@@ -12,7 +12,7 @@ use Rattle.dlmalloc.proofs.Cuts.Chosen.{free_low}
 
 module _ {A : Type 0} (regions : A → List Grant) (word : A → ℕ → ℕ) (follows : A → List Event → A → Type 0) (heap : Dlmalloc A) (grant : Grant) where
   -- with no change of bins
-  pub as_joined : {new : Dlmalloc A} → IsAdmitted regions word follows heap grant new → IsJoined regions word follows heap grant new
+  pub as_joined : {new : Dlmalloc A} → IsAdmitted regions word follows heap grant new → IsGrantJoined regions word follows heap grant new
   as_joined j = record {
     state = j.state;
     sound = j.sound;
@@ -81,7 +81,7 @@ module _ (stays : IndexStays) {A : Type 0} {regions : A → List Grant} {word : 
   -- and goes into its bin
   pub joined_binned : {last : Dlmalloc A} → IsRebinned regions word follows new last → last ≡ record new { system = last.system; bins = last.bins } →
       (follows_on : (x y z : A) (a b c : List Event) → follows x a y → follows y b z → a ++ b ≡ c → follows x c z) → ((k : ℕ) →
-      grant.base ≤ k → k < grant.base + grant.size → IsInFree (state_of word new) k → ⊥) → IsJoined regions word follows heap grant last
+      grant.base ≤ k → k < grant.base + grant.size → IsInFree (state_of word new) k → ⊥) → IsGrantJoined regions word follows heap grant last
   joined_binned {last} r fields follows_on none_in = record {
     state = λ n. r.state ∙ j.state n;
     sound = r.sound;
@@ -102,7 +102,7 @@ module _ (stays : IndexStays) {A : Type 0} {regions : A → List Grant} {word : 
 -- ---- no word of the grant is in a free extent
 
 module _ {A : Type 0} {regions : A → List Grant} {word : A → ℕ → ℕ} {heap : Dlmalloc A} (new : Dlmalloc A) (sound : IsSound regions word heap)
-    (some : 0 < heap.size) {grant : Grant} (fresh : IsFresh (regions heap.system) (segments_of word heap) grant)
+    (some : 0 < heap.size) {grant : Grant} (fresh : IsFreshGrant (regions heap.system) (segments_of word heap) grant)
     (moves : FreeMoves (state_of word heap) (state_of word new) [] (if nat_le 32 heap.top_size then heap.top ∷ [] else [])) (many : 32 ≤ heap.top_size)
     (rest : IsFreeAt (state_of word new) heap.top heap.top_size) where
   -- an extent of the heap is beside the grant

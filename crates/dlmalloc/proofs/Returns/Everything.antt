@@ -1,5 +1,5 @@
 -- All segments of a heap go back to its system, one after the other.
-use Rattle.dlmalloc.proofs.Names.{◌≡◌, ◌≢◌, ℕ, ◌+◌, ◌%◌, ◌^◌, ◌<◌, ◌≤◌, Bool, true, false, cond, ◌==◌, List, [], ◌∷◌, ◌++◌, refl, sym, ◌∙◌, ap, subst, arith, append_assoc, length-append, length, filter, AllByRecursion, append-nil, filter-append, Grant, Event, IsWordOf, without, IsWholeRun, Segment, is_own, taken_back, bytes_of, AreGivenBack, told_of, AreSegments, IsApartFrom, AreApart, records_from, AreRecords, segments_of, AreTold, IsSound, Dlmalloc, SegmentRecord}
+use Rattle.dlmalloc.proofs.Names.{◌≡◌, ◌≢◌, ℕ, ◌+◌, ◌%◌, ◌^◌, ◌<◌, ◌≤◌, Bool, true, false, cond, ◌==◌, List, [], ◌∷◌, ◌++◌, refl, sym, ◌∙◌, ap, subst, arith, append_assoc, length-append, length, filter, AllByRecursion, append-nil, filter-append, Grant, Event, IsWordOf, without_run, IsRun, Segment, is_own, taken_back, bytes_of, AreGivenBack, told_of, AreSegments, IsApartFrom, AreApart, records_from, AreRecords, segments_of, AreTold, IsSound, Dlmalloc, SegmentRecord}
 use Rattle.dlmalloc.proofs.Extents.FromWords.{records_read}
 use Rattle.dlmalloc.proofs.Segments.Among.{back_apart}
 use Rattle.dlmalloc.proofs.Moves.OfHeaps.{segments_few}
@@ -61,15 +61,15 @@ pub record IsTold (told segment : Segment) : Type 0 where
 -- the head segment is a run
 pub head_is_run : {A : Type 0} {regions : A → List Grant} {word : A → ℕ → ℕ} {heap : Dlmalloc A} → IsSound regions word heap → heap.size ≢ 0 →
     {told : SegmentRecord} → told ≡ record { base = heap.base; size = heap.size; next = heap.next; flags = heap.flags } →
-    IsWholeRun (regions heap.system) told.base (told.base + told.size)
+    IsRun (regions heap.system) told.base (told.base + told.size)
 head_is_run {regions} {word} {heap} sound some read =
-    subst (λ t. IsWholeRun (regions heap.system) t.base (t.base + t.size)) (sym read) (go (segments_of word heap) sound.segments sound.told)
+    subst (λ t. IsRun (regions heap.system) t.base (t.base + t.size)) (sym read) (go (segments_of word heap) sound.segments sound.told)
   where
     go : (segments : List Segment) → AreSegments (regions heap.system) (word heap.system) segments → AreTold (word heap.system) heap segments →
-        IsWholeRun (regions heap.system) heap.base (heap.base + heap.size)
+        IsRun (regions heap.system) heap.base (heap.base + heap.size)
     go [] parts h = absurd (some h)
     go (segment ∷ segments) parts h =
-        subst (λ base. IsWholeRun (regions heap.system) base (base + heap.size)) (sym h.1) (subst (λ size. IsWholeRun (regions heap.system) segment.base
+        subst (λ base. IsRun (regions heap.system) base (base + heap.size)) (sym h.1) (subst (λ size. IsRun (regions heap.system) segment.base
         (segment.base + size)) (sym h.2) (whole_run (let long = parts.0.long in omega arith) parts.0.run))
 
 module _ {A : Type 0} {regions : A → List Grant} {word : A → ℕ → ℕ} {follows : A → List Event → A → Type 0} {takes : Bool} {heap : Dlmalloc A}
@@ -109,9 +109,9 @@ module _ {A : Type 0} {regions : A → List Grant} {word : A → ℕ → ℕ} {f
           own = ap (λ t. t.flags % 2 == 0) read ∙ parity a.told.3;
         }
 
-        pub is_run : IsWholeRun (regions old) told.base (told.base + told.size)
+        pub is_run : IsRun (regions old) told.base (told.base + told.size)
         is_run =
-            subst (λ base. IsWholeRun (regions old) base (base + told.size)) (sym is_told.base) (subst (λ size. IsWholeRun (regions old) a.segment.base
+            subst (λ base. IsRun (regions old) base (base + told.size)) (sym is_told.base) (subst (λ size. IsRun (regions old) a.segment.base
             (a.segment.base + size)) (sym is_told.size) (whole_run (let long = parts_are.0.long in omega arith) parts_are.0.run))
 
 module _ {A : Type 0} {regions : A → List Grant} {word : A → ℕ → ℕ} {follows : A → List Event → A → Type 0}
@@ -146,7 +146,7 @@ module _ {A : Type 0} {regions : A → List Grant} {word : A → ℕ → ℕ} {f
       go true true given =
           let some : 0 < segment.size = (let l = parts.0.long in omega arith) in
           let run = parts.0.run in
-          let gone : regions new ≡ without segment.base (segment.base + segment.size) (regions old) = given.regions_are in
+          let gone : regions new ≡ without_run segment.base (segment.base + segment.size) (regions old) = given.regions_are in
           let keeps = apart_keeps segment run some (word old) (word new) (λ k inside. given.words k (subst (λ rs. IsWordOf rs k) (sym gone) inside)) others parts.1 apart in
           (subst (λ rs. AreSegments rs (word new) others) (sym gone) (apart_segments segment run some (word old) (word new) others parts.1 apart keeps), keeps)
       go true false given = kept given.regions_are given.words

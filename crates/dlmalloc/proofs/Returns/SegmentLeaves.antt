@@ -1,5 +1,5 @@
 -- A segment behind the head leaves the heap: the record before it tells the next one, and the rest stays.
-use Rattle.dlmalloc.proofs.Names.{◌≡◌, ◌≢◌, ℕ, ◌+◌, ◌-◌, ◌%◌, ◌^◌, ◌<◌, ◌≤◌, ◌⊎◌, inl, inr, Bool, true, false, ◌==◌, if◌then◌else◌, List, [], ◌∷◌, ◌++◌, Some, refl, sym, ◌∙◌, ap, subst, arith, append_assoc, AllByRecursion, nat_tests, flat_map-append, Grant, Event, Released, IsWordOf, without, Extent, Used, Free, Record, extent_at, Segment, extents_in, IsInRecord, is_unused, IsSegment, AreSegments, IsApartFrom, AreApart, record_of, AreRecords, payload_behind, state_of, IsSound, FreeMoves, IsLinked, IsChained, IsVisited, Dlmalloc, SegmentRecord}
+use Rattle.dlmalloc.proofs.Names.{◌≡◌, ◌≢◌, ℕ, ◌+◌, ◌-◌, ◌%◌, ◌^◌, ◌<◌, ◌≤◌, ◌⊎◌, inl, inr, Bool, true, false, ◌==◌, if◌then◌else◌, List, [], ◌∷◌, ◌++◌, Some, refl, sym, ◌∙◌, ap, subst, arith, append_assoc, AllByRecursion, nat_tests, flat_map-append, Grant, Event, Released, IsWordOf, without_run, Extent, Used, Free, Record, extent_at, Segment, extents_in, IsInRecord, is_unused, IsSegment, AreSegments, IsApartFrom, AreApart, record_of, AreRecords, payload_behind, state_of, IsSound, FreeMoves, IsLinked, IsChained, IsVisited, Dlmalloc, SegmentRecord}
 use Rattle.dlmalloc.specs.Chained.{IsToldByLast}
 use Rattle.dlmalloc.proofs.Extents.Lookup.{extent, nat_same, found_here}
 use Rattle.dlmalloc.proofs.Moves.OfFreeExtents.{IsThere}
@@ -104,22 +104,22 @@ module _ {A : Type 0} {regions : A → List Grant} {word : A → ℕ → ℕ} {h
       go (inl h) = omega arith
       go (inr l) = omega (arith, high_is l, (last_part l).high)
 
-  pub link_granted : {rest : List Grant} → rest ≡ without told.base (told.base + told.size) granted → before ≢ 0 → IsWordOf rest (before + 16)
+  pub link_granted : {rest : List Grant} → rest ≡ without_run told.base (told.base + told.size) granted → before ≢ 0 → IsWordOf rest (before + 16)
   link_granted {rest} gone more = go c.linked
     where
-      gone_is : rest ≡ without c.segment.base (c.segment.base + c.segment.size) granted
-      gone_is = gone ∙ (λ i. without (base_is sound c i) (base_is sound c i + size_is sound c i) granted)
+      gone_is : rest ≡ without_run c.segment.base (c.segment.base + c.segment.size) granted
+      gone_is = gone ∙ (λ i. without_run (base_is sound c i) (base_is sound c i + size_is sound c i) granted)
 
       go : IsLinked words heap.next before c.payload c.front → IsWordOf rest (before + 16)
       go (inl h) = absurd (more h.1)
       go (inr l) = subst (λ rs. IsWordOf rs (before + 16)) (sym gone_is)
           (word_stays c.segment it.part.run it.sized (link_word l) (beside_gone l (before + 16) (omega (arith, low_is l)) (omega (arith, high_is l))))
 
-  module _ (system : A) (told_gone : regions system ≡ without told.base (told.base + told.size) granted)
+  module _ (system : A) (told_gone : regions system ≡ without_run told.base (told.base + told.size) granted)
       (kept : (k : ℕ) → IsWordOf (regions system) k → (before ≢ 0 → k ≢ before + 16) → word system k ≡ words k)
       (here : before ≢ 0 → word system (before + 16) ≡ told.next) where
-    gone : regions system ≡ without c.segment.base (c.segment.base + c.segment.size) granted
-    gone = told_gone ∙ (λ i. without (base_is sound c i) (base_is sound c i + size_is sound c i) granted)
+    gone : regions system ≡ without_run c.segment.base (c.segment.base + c.segment.size) granted
+    gone = told_gone ∙ (λ i. without_run (base_is sound c i) (base_is sound c i + size_is sound c i) granted)
 
     -- where the next record is told for the head
     abbrev next : ℕ
@@ -209,7 +209,7 @@ module _ {A : Type 0} {regions : A → List Grant} {word : A → ℕ → ℕ} {h
         stored k low high m other = kept_outside k (payload_word (last_part l) before (last_told l).0 (last_told l).4 k low high m)
             (beside_gone l k (omega (arith, low_is l)) (omega (arith, high_is l))) (λ more. other)
 
-        last_now : IsSegment (without c.segment.base (c.segment.base + c.segment.size) granted) (word system) l.last
+        last_now : IsSegment (without_run c.segment.base (c.segment.base + c.segment.size) granted) (word system) l.last
         last_now =
             let is = recorded_stays (last_part l) before (last_told l).0 (last_told l).4 (word system)
             (λ k low high m out. kept_outside k (record { granted = (last_part l).run.covered k (omega arith) high; aligned = m })

@@ -1,5 +1,5 @@
 -- A segment behind the head is visited: what a look at it wants, and that it may stay.
-use Rattle.dlmalloc.proofs.Names.{◌≡◌, ◌≢◌, ℕ, ◌+◌, ◌-◌, ◌%◌, ◌<◌, inl, inr, Bool, true, false, ◌&&◌, ◌==◌, if◌then◌else◌, List, [], ◌∷◌, ◌++◌, Some, refl, sym, ◌∙◌, ap, subst, arith, AllByRecursion, Grant, Event, IsWholeRun, Free, HasHead, size_of, free_of, extent_at, Segment, is_own, is_unused, may_leave, IsSegment, AreSegments, IsApartFrom, AreApart, record_of, AreRecords, payload_behind, segments_of, state_of, AreTold, IsSound, IsFreeAt, FreeMoves, IsLinked, IsChained, IsVisited, Dlmalloc, SegmentRecord}
+use Rattle.dlmalloc.proofs.Names.{◌≡◌, ◌≢◌, ℕ, ◌+◌, ◌-◌, ◌%◌, ◌<◌, inl, inr, Bool, true, false, ◌&&◌, ◌==◌, if◌then◌else◌, List, [], ◌∷◌, ◌++◌, Some, refl, sym, ◌∙◌, ap, subst, arith, AllByRecursion, Grant, Event, IsRun, Free, HasHead, size_of, free_of, extent_at, Segment, is_own, is_unused, may_leave, IsSegment, AreSegments, IsApartFrom, AreApart, record_of, AreRecords, payload_behind, segments_of, state_of, AreTold, IsSound, IsFreeAt, FreeMoves, IsLinked, IsChained, IsVisited, Dlmalloc, SegmentRecord}
 use Rattle.dlmalloc.proofs.Extents.Lookup.{extent, found_here}
 use Rattle.dlmalloc.proofs.Segments.Among.{extents_all, all_at, all_front, all_back, front_apart, back_apart, among_all}
 use Rattle.dlmalloc.proofs.Grants.PutBefore.{flip}
@@ -82,9 +82,9 @@ module _ {A : Type 0} {regions : A → List Grant} {word : A → ℕ → ℕ} {h
   pub long_told : 96 < told.size
   long_told = omega (arith, size_is, around.part.long)
 
-  pub run_told : IsWholeRun granted told.base (told.base + told.size)
-  run_told = subst (λ base. IsWholeRun granted base (base + told.size)) (sym base_is)
-      (subst (λ size. IsWholeRun granted c.segment.base (c.segment.base + size)) (sym size_is) (whole_run around.sized around.part.run))
+  pub run_told : IsRun granted told.base (told.base + told.size)
+  run_told = subst (λ base. IsRun granted base (base + told.size)) (sym base_is)
+      (subst (λ size. IsRun granted c.segment.base (c.segment.base + size)) (sym size_is) (whole_run around.sized around.part.run))
 
   pub test_is : (takes : Bool) → (told.flags % 2 == 0 && (takes && (free_of (words (told.base + 8)) && size_of (words (told.base + 8)) == told.size - 80))) ≡ may_leave takes c.segment
   test_is takes = λ i. own_is i && (takes && unused i)

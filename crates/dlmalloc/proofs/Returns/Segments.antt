@@ -1,5 +1,5 @@
 -- Segments go back to the system, and those that are apart from them stay as they were.
-use Rattle.dlmalloc.proofs.Names.{◌≡◌, ℕ, zero, suc, ◌+◌, ◌-◌, ◌^◌, ◌<◌, ◌≤◌, ◌⊎◌, inl, inr, Bool, true, false, cond, not, ◌&&◌, if◌then◌else◌, List, [], ◌∷◌, ◌++◌, map, IsTrue, refl, sym, ◌∙◌, ap, subst, arith, dec_lt, nat_le, nat_lt, filter, AllByRecursion, nat_tests, map-append, Grant, Event, Released, IsWordOf, IsApart, is_granted, begins_in, up_to, without, IsWholeRun, granted_before, granted_without, Segment, releases, regions_without, bytes_of, taken_back, AreGivenBack, IsWithin, IsRun, AreSegments, IsApartFrom, AreApart}
+use Rattle.dlmalloc.proofs.Names.{◌≡◌, ℕ, zero, suc, ◌+◌, ◌-◌, ◌^◌, ◌<◌, ◌≤◌, ◌⊎◌, inl, inr, Bool, true, false, cond, not, ◌&&◌, if◌then◌else◌, List, [], ◌∷◌, ◌++◌, map, IsTrue, refl, sym, ◌∙◌, ap, subst, arith, dec_lt, nat_le, nat_lt, filter, AllByRecursion, nat_tests, map-append, Grant, Event, Released, IsWordOf, IsApart, is_granted, begins_in, up_to, without_run, IsRun, granted_before, granted_without, Segment, releases, regions_without, bytes_of, taken_back, AreGivenBack, IsWithin, IsFlaggedRun, AreSegments, IsApartFrom, AreApart}
 use Rattle.heap_memory.specs.Runs.{IsWithin as IsWholeWithin}
 use Rattle.dlmalloc.proofs.Segments.WordsKept.{KeepsIts, IsOutside, one_stays}
 
@@ -9,14 +9,14 @@ use Rattle.dlmalloc.proofs.Segments.WordsKept.{KeepsIts, IsOutside, one_stays}
 pub still_granted : (segments : List Segment) (regions : List Grant) (k : ℕ) → IsTrue (is_granted (regions_without segments regions) k) → IsTrue (is_granted regions k)
 still_granted [] regions k granted = granted
 still_granted (segment ∷ segments) regions k granted =
-    granted_before segment.base (segment.base + segment.size) regions k (still_granted segments (without segment.base (segment.base + segment.size) regions) k granted)
+    granted_before segment.base (segment.base + segment.size) regions k (still_granted segments (without_run segment.base (segment.base + segment.size) regions) k granted)
 
 pub without_append : (front back : List Segment) (regions : List Grant) → regions_without (front ++ back) regions ≡ regions_without back (regions_without front regions)
 without_append [] back regions = refl
-without_append (segment ∷ front) back regions = without_append front back (without segment.base (segment.base + segment.size) regions)
+without_append (segment ∷ front) back regions = without_append front back (without_run segment.base (segment.base + segment.size) regions)
 
 -- the bytes of a segment are a run of whole regions
-pub whole_run : {regions : List Grant} {base size flags : ℕ} → 0 < size → IsRun regions base size flags → IsWholeRun regions base (base + size)
+pub whole_run : {regions : List Grant} {base size flags : ℕ} → 0 < size → IsFlaggedRun regions base size flags → IsRun regions base (base + size)
 whole_run {regions} {base} {size} {flags} some run = record { some = omega arith; granted = run.covered; whole = go regions run.whole }
   where
     go : (regions : List Grant) → AllByRecursion (λ region. IsApart base (base + size) region ⊎ IsWithin base (base + size) flags region) regions →
@@ -43,11 +43,11 @@ module _ (low high : ℕ) where
           ]
 
   all_shorter : (base end flags : ℕ) (regions : List Grant) → AllByRecursion (λ region. IsApart base end region ⊎ IsWithin base end flags region)
-      regions → AllByRecursion (λ region. IsApart base end region ⊎ IsWithin base end flags region) (without low high regions)
+      regions → AllByRecursion (λ region. IsApart base end region ⊎ IsWithin base end flags region) (without_run low high regions)
   all_shorter base end flags [] all = tt
   all_shorter base end flags (region ∷ regions) all = go (begins_in low high region) (all_shorter base end flags regions all.1)
     where
-      go : (b : Bool) → AllByRecursion (λ region. IsApart base end region ⊎ IsWithin base end flags region) (without low high regions) →
+      go : (b : Bool) → AllByRecursion (λ region. IsApart base end region ⊎ IsWithin base end flags region) (without_run low high regions) →
           AllByRecursion (λ region. IsApart base end region ⊎ IsWithin base end flags region) (map (λ r. up_to low r)
           (cond (not b) (region ∷ filter (λ r. not (begins_in low high r)) regions) (filter (λ r. not (begins_in low high r)) regions)))
       go true rest = rest
@@ -55,9 +55,9 @@ module _ (low high : ℕ) where
 
 -- ---- one segment goes back
 
-module _ {regions : List Grant} (gone : Segment) (run : IsRun regions gone.base gone.size gone.flags) (some : 0 < gone.size) where
+module _ {regions : List Grant} (gone : Segment) (run : IsFlaggedRun regions gone.base gone.size gone.flags) (some : 0 < gone.size) where
   abbrev pub after : List Grant
-  after = without gone.base (gone.base + gone.size) regions
+  after = without_run gone.base (gone.base + gone.size) regions
 
   outside_same : (k : ℕ) → IsOutside gone k → is_granted after k ≡ is_granted regions k
   outside_same k out =
@@ -75,7 +75,7 @@ module _ {regions : List Grant} (gone : Segment) (run : IsRun regions gone.base 
   word_stays {k} inside out = record { granted = subst IsTrue (sym (outside_same k out)) inside.granted; aligned = inside.aligned }
 
   -- a run that is apart stays one
-  pub run_stays : (segment : Segment) → IsApartFrom gone segment → IsRun regions segment.base segment.size segment.flags → IsRun after segment.base segment.size segment.flags
+  pub run_stays : (segment : Segment) → IsApartFrom gone segment → IsFlaggedRun regions segment.base segment.size segment.flags → IsFlaggedRun after segment.base segment.size segment.flags
   run_stays segment apart other = record {
     covered = λ k low high. subst IsTrue (sym (outside_same k (elim apart [ inl before ↦ inr (omega arith) | inr behind ↦ inl (omega arith) ]))) (other.covered k low high);
     whole = all_shorter gone.base (gone.base + gone.size) segment.base (segment.base + segment.size) segment.flags regions other.whole;
@@ -231,6 +231,6 @@ module _ {A : Type 0} (regions : A → List Grant) (word : A → ℕ → ℕ) (f
   given_same told segment true old new base size given = record {
     bytes_are = given.bytes_are ∙ (λ i. size i + 0);
     words = given.words;
-    regions_are = given.regions_are ∙ (λ i. without (base i) (base i + size i) (regions old));
+    regions_are = given.regions_are ∙ (λ i. without_run (base i) (base i + size i) (regions old));
     followed = subst (λ events. follows old events new) (λ i. Released (base i) (size i) 0 ∷ []) given.followed;
   }

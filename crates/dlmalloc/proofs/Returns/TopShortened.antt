@@ -1,5 +1,5 @@
 -- The end of the head segment goes back to the system: the heap stays sound, and its top is shorter.
-use Rattle.dlmalloc.proofs.Names.{◌≡◌, ◌≢◌, ℕ, ◌+◌, ◌-◌, ◌%◌, ◌<◌, ◌≤◌, ◌⊎◌, inl, inr, List, [], ◌∷◌, ◌++◌, map, Some, IsTrue, refl, sym, ◌∙◌, ap, subst, arith, append_assoc, AllByRecursion, map-append, Grant, Event, Released, IsWordOf, IsWhole, IsGivenRun, without, Extent, Used, Free, Top, Foot, extent_at, Tiles, last_kind, Segment, extents_in, trim_threshold, cut_top, IsShortened, KeepsBlocks, OnlyBoundariesChange, HasSameUsed, IsRunOf, AreChunks, IsRun, IsSegment, AreSegments, IsApartFrom, AreApart, segments_of, state_of, IsSound, Dlmalloc}
+use Rattle.dlmalloc.proofs.Names.{◌≡◌, ◌≢◌, ℕ, ◌+◌, ◌-◌, ◌%◌, ◌<◌, ◌≤◌, ◌⊎◌, inl, inr, List, [], ◌∷◌, ◌++◌, map, Some, IsTrue, refl, sym, ◌∙◌, ap, subst, arith, append_assoc, AllByRecursion, map-append, Grant, Event, Released, IsWordOf, IsWhole, IsRun, without_run, Extent, Used, Free, Top, Foot, extent_at, Tiles, last_kind, Segment, extents_in, trim_threshold, cut_top, IsShortened, KeepsBlocks, OnlyBoundariesChange, HasSameUsed, IsRunOf, AreChunks, IsFlaggedRun, IsSegment, AreSegments, IsApartFrom, AreApart, segments_of, state_of, IsSound, Dlmalloc}
 use Rattle.heap_memory.specs.Regions.{are_whole}
 use Rattle.heap_memory.specs.RunLaws.{run_aligned}
 use Rattle.dlmalloc.specs.Trimmed.{shrunk, shortened}
@@ -35,11 +35,11 @@ module _ {A : Type 0} {regions : A → List Grant} {word : A → ℕ → ℕ} {h
   low : heap.base ≤ heap.top
   low = top_low sound some
 
-  head_run : IsRun (regions heap.system) heap.base heap.size heap.flags
-  head_run = subst (λ f. IsRun (regions heap.system) heap.base heap.size f) (sym was.flags) (subst (λ n. IsRun (regions heap.system) heap.base n run.segment.flags) (sym was.size) (subst (λ b. IsRun (regions heap.system) b run.segment.size run.segment.flags) (sym was.base) (top_part sound some).run))
+  head_run : IsFlaggedRun (regions heap.system) heap.base heap.size heap.flags
+  head_run = subst (λ f. IsFlaggedRun (regions heap.system) heap.base heap.size f) (sym was.flags) (subst (λ n. IsFlaggedRun (regions heap.system) heap.base n run.segment.flags) (sym was.size) (subst (λ b. IsFlaggedRun (regions heap.system) b run.segment.size run.segment.flags) (sym was.base) (top_part sound some).run))
 
   -- its bytes can be given back
-  pub head_given : IsGivenRun (regions heap.system) heap.base (heap.base + heap.size)
+  pub head_given : IsRun (regions heap.system) heap.base (heap.base + heap.size)
   head_given = given_run head_run some
 
   module _ (less : ℕ) (units : less % 16 ≡ 0) (room : less + 80 < heap.top_size) where
@@ -56,9 +56,9 @@ module _ {A : Type 0} {regions : A → List Grant} {word : A → ℕ → ℕ} {h
     -- ---- when they are given back
 
     module _ (all : AllByRecursion IsWhole (regions heap.system)) (system : A)
-        (gone : regions system ≡ without (heap.base + (heap.size - less)) (heap.base + heap.size) (regions heap.system)) where
-      rest_run : IsRun (regions system) heap.base (heap.size - less) heap.flags
-      rest_run = subst (λ rs. IsRun rs heap.base (heap.size - less) heap.flags) (sym gone) (run_shortened head_run less within all)
+        (gone : regions system ≡ without_run (heap.base + (heap.size - less)) (heap.base + heap.size) (regions heap.system)) where
+      rest_run : IsFlaggedRun (regions system) heap.base (heap.size - less) heap.flags
+      rest_run = subst (λ rs. IsFlaggedRun rs heap.base (heap.size - less) heap.flags) (sym gone) (run_shortened head_run less within all)
 
       -- a word of what is left
       pub still_word : (k : ℕ) → heap.base ≤ k → k < heap.base + (heap.size - less) → k % 8 ≡ 0 → IsWordOf (regions system) k
@@ -90,9 +90,9 @@ module _ {A : Type 0} {regions : A → List Grant} {word : A → ℕ → ℕ} {h
         now_end : heap.top + length_now + 80 ≡ run.segment.base + (run.segment.size - less)
         now_end = omega (arith, (top_last sound some).1, was.base, was.size, closes, low)
 
-        now_run : IsRun (regions system) run.segment.base (run.segment.size - less) run.segment.flags
-        now_run = subst (λ f. IsRun (regions system) run.segment.base (run.segment.size - less) f) was.flags (subst (λ n. IsRun (regions system)
-            run.segment.base (n - less) heap.flags) was.size (subst (λ b. IsRun (regions system) b (heap.size - less) heap.flags) was.base rest_run))
+        now_run : IsFlaggedRun (regions system) run.segment.base (run.segment.size - less) run.segment.flags
+        now_run = subst (λ f. IsFlaggedRun (regions system) run.segment.base (run.segment.size - less) f) was.flags (subst (λ n. IsFlaggedRun (regions system)
+            run.segment.base (n - less) heap.flags) was.size (subst (λ b. IsFlaggedRun (regions system) b (heap.size - less) heap.flags) was.base rest_run))
 
         -- words of other segments stay
         outside_kept : (k : ℕ) → IsWordOf (regions system) k → IsOutside run.segment k → IsOutside run.segment k → word system k ≡ word heap.system k

@@ -1,5 +1,5 @@
 -- What a trim cuts off the top of a sound heap.
-use Rattle.dlmalloc.proofs.Names.{◌≡◌, ℕ, ◌+◌, ◌-◌, ◌*◌, ◌/◌, ◌%◌, ◌<◌, ◌≤◌, Bool, true, false, ◌&&◌, ◌==◌, if◌then◌else◌, List, [], ◌∷◌, refl, sym, ◌∙◌, ap, subst, arith, nat_lt, nat_tests, Grant, Event, Released, without, cut_of, cut_top, is_cut, without_end, IsShortened, IsCutBack, IndexStays, IsBinned, segments_of, state_of, IsSound, Dlmalloc}
+use Rattle.dlmalloc.proofs.Names.{◌≡◌, ℕ, ◌+◌, ◌-◌, ◌*◌, ◌/◌, ◌%◌, ◌<◌, ◌≤◌, Bool, true, false, ◌&&◌, ◌==◌, if◌then◌else◌, List, [], ◌∷◌, refl, sym, ◌∙◌, ap, subst, arith, nat_lt, nat_tests, Grant, Event, Released, without_run, cut_of, cut_top, is_cut, without_end, IsShortened, IsCutBack, IndexStays, IsBinned, segments_of, state_of, IsSound, Dlmalloc}
 use Rattle.dlmalloc.proofs.Segments.HeadTold.{bare_head}
 use Rattle.std.proofs.Math.Nat.{div-mul-le_self}
 use Rattle.heap_memory.specs.Runs.{is_in_units}
@@ -87,7 +87,7 @@ module _ {A : Type 0} {regions : A → List Grant} {word : A → ℕ → ℕ} {f
       there : (heap.size == 0) ≡ false
       there = grind (arith, nat_tests)
 
-      head_end : (less : ℕ) (rs : List Grant) → without_end less (segments_of word heap) rs ≡ without (heap.base + (heap.size - less)) (heap.base + heap.size) rs
+      head_end : (less : ℕ) (rs : List Grant) → without_end less (segments_of word heap) rs ≡ without_run (heap.base + (heap.size - less)) (heap.base + heap.size) rs
       head_end less rs = rw there refl
 
       head_event : (less : ℕ) → end_released less (segments_of word heap) ≡ Released heap.base heap.size (heap.size - less) ∷ []

@@ -1,5 +1,5 @@
 -- The head segment ends with the top and its foot.
-use Rattle.dlmalloc.proofs.Names.{◌≡◌, ℕ, ◌+◌, ◌-◌, ◌%◌, ◌^◌, ◌<◌, ◌≤◌, inr, true, false, ◌&&◌, ◌==◌, List, [], ◌∷◌, ◌++◌, Some, None, refl, sym, ◌∙◌, ap, subst, arith, append_assoc, dec_lt, AllByRecursion, nat_tests, Grant, IsWordOf, Extent, Kind, Used, Top, Foot, head_of, ends_segment, extent_at, is_used, is_behind, is_before, Tiles, last_kind, extents_in, IsRun, IsSegment, AreSegments, IsApartFrom, AreApart, AreRecords, segments_of, state_of, AreTold, IsSound, AreChunks, Dlmalloc, IsRunOf}
+use Rattle.dlmalloc.proofs.Names.{◌≡◌, ℕ, ◌+◌, ◌-◌, ◌%◌, ◌^◌, ◌<◌, ◌≤◌, inr, true, false, ◌&&◌, ◌==◌, List, [], ◌∷◌, ◌++◌, Some, None, refl, sym, ◌∙◌, ap, subst, arith, append_assoc, dec_lt, AllByRecursion, nat_tests, Grant, IsWordOf, Extent, Kind, Used, Top, Foot, head_of, ends_segment, extent_at, is_used, is_behind, is_before, Tiles, last_kind, extents_in, IsFlaggedRun, IsSegment, AreSegments, IsApartFrom, AreApart, AreRecords, segments_of, state_of, AreTold, IsSound, AreChunks, Dlmalloc, IsRunOf}
 use Rattle.dlmalloc.proofs.Extents.Lookup.{extent, found_here, found_later}
 use Rattle.dlmalloc.proofs.Extents.Tiling.{sized, tiles_le, plain_chunk, tiles_kept, tiles_append}
 use Rattle.dlmalloc.proofs.Moves.OfLists.{last_append}
@@ -107,7 +107,7 @@ module _ {A : Type 0} {regions : A → List Grant} {word : A → ℕ → ℕ} {h
 
   -- with other extents from the top on it is a segment, where the words before them stay
   pub head_with : {others : List Grant} (new : ℕ → ℕ) {size : ℕ} (more : List Extent) →
-      IsRun others top_run.segment.base size top_run.segment.flags → top_run.segment.base + size < 2 ^ 64 → 96 < size →
+      IsFlaggedRun others top_run.segment.base size top_run.segment.flags → top_run.segment.base + size < 2 ^ 64 → 96 < size →
       ((k : ℕ) → top_run.segment.base < k → k ≤ heap.top → k % 8 ≡ 0 → new k ≡ word heap.system k) →
       Tiles new (last_kind Used top_run.first) heap.top more (top_run.segment.base + size) →
       ends_segment (last_kind (last_kind Used top_run.first) more) ≡ true →

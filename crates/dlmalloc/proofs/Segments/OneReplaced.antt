@@ -1,5 +1,5 @@
 -- One segment of a heap gives way to another, and the regions may grow.
-use Rattle.dlmalloc.proofs.Names.{◌≡◌, ℕ, ◌+◌, ◌-◌, ◌%◌, ◌<◌, inl, inr, List, [], ◌∷◌, ◌++◌, Some, refl, sym, ◌∙◌, arith, AllByRecursion, Grant, IsWordOf, Extent, Used, extent_at, HeapState, Segment, extents_in, IsBoundary, AllSpare, IsRun, IsSegment, AreSegments, IsApartFrom, AreApart, record_of, AreRecords}
+use Rattle.dlmalloc.proofs.Names.{◌≡◌, ℕ, ◌+◌, ◌-◌, ◌%◌, ◌<◌, inl, inr, List, [], ◌∷◌, ◌++◌, Some, refl, sym, ◌∙◌, arith, AllByRecursion, Grant, IsWordOf, Extent, Used, extent_at, HeapState, Segment, extents_in, IsBoundary, AllSpare, IsFlaggedRun, IsSegment, AreSegments, IsApartFrom, AreApart, record_of, AreRecords}
 use Rattle.dlmalloc.proofs.Extents.Lookup.{found_here}
 use Rattle.dlmalloc.proofs.Words.Spared.{spared, spared_before, spared_behind, inner_spared}
 use Rattle.dlmalloc.proofs.Words.OfRecords.{payload_in, record_stays}
@@ -12,7 +12,7 @@ use Rattle.dlmalloc.proofs.Segments.WordsKept.{KeepsIts, segment_kept}
 pub record IsChanged (regions regions' : List Grant) (old new : ℕ → ℕ) (segment segment' : Segment) : Type 0 where
   pub now : IsSegment regions' new segment'
   pub kept : (k : ℕ) → IsWordOf regions k → AllSpare segment'.extents k → new k ≡ old k
-  pub others : (other : Segment) → IsSegment regions old other → IsApartFrom other segment → IsRun regions' other.base other.size other.flags × IsApartFrom other segment'
+  pub others : (other : Segment) → IsSegment regions old other → IsApartFrom other segment → IsFlaggedRun regions' other.base other.size other.flags × IsApartFrom other segment'
   pub records : (at : ℕ) → extent_at at segment.extents ≡ Some (record_of at (segment.base + segment.size)) →
       (segment'.base ≡ segment.base) × (segment'.size ≡ segment.size) × (segment'.flags ≡ segment.flags)
       × (extent_at at segment'.extents ≡ Some (record_of at (segment.base + segment.size)))

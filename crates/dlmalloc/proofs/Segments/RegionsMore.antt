@@ -1,5 +1,5 @@
 -- Regions with a further grant.
-use Rattle.dlmalloc.proofs.Names.{◌≡◌, ℕ, ◌+◌, ◌%◌, ◌<◌, ◌≤◌, ◌⊎◌, inl, inr, Bool, true, false, if◌then◌else◌, List, [], ◌∷◌, IsTrue, refl, sym, ap, subst, arith, dec_lt, length, nat_lt, AllByRecursion, nat_tests, Grant, IsWordOf, IsApart, IsWhole, is_granted, with_grant, IsWithin, IsRun}
+use Rattle.dlmalloc.proofs.Names.{◌≡◌, ℕ, ◌+◌, ◌%◌, ◌<◌, ◌≤◌, ◌⊎◌, inl, inr, Bool, true, false, if◌then◌else◌, List, [], ◌∷◌, IsTrue, refl, sym, ap, subst, arith, dec_lt, length, nat_lt, AllByRecursion, nat_tests, Grant, IsWordOf, IsApart, IsWhole, is_granted, with_grant, IsWithin, IsFlaggedRun}
 use Rattle.heap_memory.specs.RegionLaws.{granted_kept, granted_new, granted_split, all_with}
 
 -- a word that was granted still is
@@ -64,7 +64,7 @@ none_granted low high (region ∷ regions) apart k above below granted =
     none_granted low high regions apart.1 k above below (elim apart.0 [ inl before ↦ grind (arith, nat_tests) | inr behind ↦ grind (arith, nat_tests) ])
 
 -- so a run of regions is apart from a grant that is apart from all of them
-pub run_apart : {regions : List Grant} {base size flags : ℕ} → IsRun regions base size flags → 0 < size → (grant : Grant) → 0 < grant.size →
+pub run_apart : {regions : List Grant} {base size flags : ℕ} → IsFlaggedRun regions base size flags → 0 < size → (grant : Grant) → 0 < grant.size →
     AllByRecursion (IsApart grant.base (grant.base + grant.size)) regions → (grant.base + grant.size ≤ base) ⊎ (base + size ≤ grant.base)
 run_apart {regions} {base} {size} run some grant more apart =
     elim (dec_lt base (grant.base + grant.size)) [
@@ -79,8 +79,8 @@ run_apart {regions} {base} {size} run some grant more apart =
     ]
 
 -- two runs of the same flags, one at the end of the other, are one
-pub runs_joined : {regions : List Grant} {base one next two flags : ℕ} → next ≡ base + one → IsRun regions base one flags →
-    IsRun regions next two flags → AllByRecursion IsWhole regions → IsRun regions base (one + two) flags
+pub runs_joined : {regions : List Grant} {base one next two flags : ℕ} → next ≡ base + one → IsFlaggedRun regions base one flags →
+    IsFlaggedRun regions next two flags → AllByRecursion IsWhole regions → IsFlaggedRun regions base (one + two) flags
 runs_joined {regions} {base} {one} {next} {two} {flags} place first second whole = record {
   covered = λ k low high. elim (dec_lt k next) [
     | yes below ↦ first.covered k low (omega arith)
@@ -105,7 +105,7 @@ runs_joined {regions} {base} {one} {next} {two} {flags} place first second whole
 
 -- a grant is one
 pub run_alone : (regions : List Grant) (grant : Grant) → AllByRecursion (IsApart grant.base (grant.base + grant.size)) regions →
-    IsRun (with_grant grant regions) grant.base grant.size grant.flags
+    IsFlaggedRun (with_grant grant regions) grant.base grant.size grant.flags
 run_alone regions grant apart = record {
   covered = λ k low high. granted_new grant regions k low high;
   whole = all_with (λ region. IsApart grant.base (grant.base + grant.size) region ⊎ IsWithin grant.base (grant.base + grant.size) grant.flags region) grant

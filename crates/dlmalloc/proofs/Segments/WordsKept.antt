@@ -1,5 +1,5 @@
 -- Segments whose words stay are segments still, and records tell them as before.
-use Rattle.dlmalloc.proofs.Names.{◌≡◌, ℕ, ◌+◌, ◌%◌, ◌<◌, ◌≤◌, ◌⊎◌, inl, inr, List, [], ◌∷◌, IsTrue, arith, dec_lt, AllByRecursion, Grant, IsWordOf, Used, last_kind, Segment, is_free_below_top, IsRun, IsSegment, AreSegments, IsApartFrom, AreRecords}
+use Rattle.dlmalloc.proofs.Names.{◌≡◌, ℕ, ◌+◌, ◌%◌, ◌<◌, ◌≤◌, ◌⊎◌, inl, inr, List, [], ◌∷◌, IsTrue, arith, dec_lt, AllByRecursion, Grant, IsWordOf, Used, last_kind, Segment, is_free_below_top, IsFlaggedRun, IsSegment, AreSegments, IsApartFrom, AreRecords}
 use Rattle.dlmalloc.proofs.Extents.Tiling.{tiles_kept}
 use Rattle.dlmalloc.proofs.Moves.OfLists.{no_plain}
 use Rattle.dlmalloc.proofs.Words.OfRecords.{payload_in, record_stays}
@@ -14,7 +14,7 @@ IsOutside segment k = (k < segment.base) ⊎ (segment.base + segment.size ≤ k)
 
 -- it is one in other regions, where it is a run of them
 pub segment_kept : {regions regions' : List Grant} (old new : ℕ → ℕ) {segment : Segment} → IsSegment regions old segment →
-    IsRun regions' segment.base segment.size segment.flags → KeepsIts old new segment → IsSegment regions' new segment
+    IsFlaggedRun regions' segment.base segment.size segment.flags → KeepsIts old new segment → IsSegment regions' new segment
 segment_kept old new {segment} part run same = record {
   run = run;
   low = part.low;

@@ -1,5 +1,5 @@
 -- A heap rests on the words that tell its extents, and on the payloads of its records alone.
-use Rattle.dlmalloc.proofs.Names.{◌≡◌, ℕ, ◌+◌, ◌-◌, ◌%◌, ◌<◌, ◌≤◌, ◌⊎◌, inl, inr, true, false, nat_le, nat_lt, List, [], ◌∷◌, ◌++◌, Some, IsTrue, refl, sym, ◌∙◌, ap, subst, arith, append_assoc, dec_lt, list_any, AllByRecursion, nat_tests, Grant, IsWordOf, Extent, Kind, Used, Record, Foot, ends_segment, Bins, extent_at, HasChunk, Tiles, Segment, extents_in, is_free_below_top, IsRun, IsSegment, has_byte_in, AreSegments, AreApart, record_of, AreRecords, segments_of, state_of, AreTold, IsSound, Dlmalloc}
+use Rattle.dlmalloc.proofs.Names.{◌≡◌, ℕ, ◌+◌, ◌-◌, ◌%◌, ◌<◌, ◌≤◌, ◌⊎◌, inl, inr, true, false, nat_le, nat_lt, List, [], ◌∷◌, ◌++◌, Some, IsTrue, refl, sym, ◌∙◌, ap, subst, arith, append_assoc, dec_lt, list_any, AllByRecursion, nat_tests, Grant, IsWordOf, Extent, Kind, Used, Record, Foot, ends_segment, Bins, extent_at, HasChunk, Tiles, Segment, extents_in, is_free_below_top, IsFlaggedRun, IsSegment, has_byte_in, AreSegments, AreApart, record_of, AreRecords, segments_of, state_of, AreTold, IsSound, Dlmalloc}
 use Rattle.dlmalloc.proofs.Extents.Lookup.{found_here}
 use Rattle.dlmalloc.proofs.Extents.Tiling.{sized}
 use Rattle.dlmalloc.proofs.Extents.OneMoreUsed.{AreDistinct, tiles_distinct}
@@ -45,7 +45,7 @@ has_its segment k low high =
 
 -- Each segment is a run still, and the words that tell the extents stay. The bins do not matter.
 module _ {A : Type 0} {regions : A → List Grant} {word : A → ℕ → ℕ} {heap : Dlmalloc A} (sound : IsSound regions word heap) (system : A) (bins : Bins)
-    (stay : AllByRecursion (λ (segment : Segment). IsRun (regions heap.system) segment.base segment.size segment.flags → IsRun (regions system) segment.base segment.size segment.flags) (segments_of word heap))
+    (stay : AllByRecursion (λ (segment : Segment). IsFlaggedRun (regions heap.system) segment.base segment.size segment.flags → IsFlaggedRun (regions system) segment.base segment.size segment.flags) (segments_of word heap))
     (same : (one : Extent) → extent_at one.at (extents_in (state_of word heap)) ≡ Some one → (k : ℕ) → IsTelling k one → IsWordOf (regions heap.system) k → IsTrue (list_any (has_byte_in k) (segments_of word heap)) → word system k ≡ word heap.system k) where
   abbrev words : ℕ → ℕ
   words = word heap.system
@@ -83,8 +83,8 @@ module _ {A : Type 0} {regions : A → List Grant} {word : A → ℕ → ℕ} {h
 
   -- each segment is one still
   still_in : (front segments : List Segment) → segments_of word heap ≡ front ++ segments → AreSegments (regions heap.system) words segments →
-      AllByRecursion (λ segment. IsRun (regions heap.system) segment.base segment.size segment.flags →
-      IsRun (regions system) segment.base segment.size segment.flags) segments → AreSegments (regions system) now segments
+      AllByRecursion (λ segment. IsFlaggedRun (regions heap.system) segment.base segment.size segment.flags →
+      IsFlaggedRun (regions system) segment.base segment.size segment.flags) segments → AreSegments (regions system) now segments
   still_in front [] is parts runs = tt
   still_in front (segment ∷ segments) is parts runs = (
     record {

@@ -2,7 +2,7 @@ use Rattle.std.proofs.Common.{◌≡◌, ℕ, List, ap, subst}
 use Rattle.meminterval.specs.Tree.{entries}
 use Rattle.meminterval.specs.declared.interval.Interval.{Interval}
 use Rattle.paging_core.specs.declared.page_table.Rights.{Rights}
-use Rattle.address_space.specs.Joining.{IsJoined}
+use Rattle.address_space.specs.Joining.{AreRunsJoined}
 use Rattle.address_space.proofs.OneRun.{run_follow, run_apart, start_apart}
 use Rattle.address_space.proofs.Setting.{set_added, rejoined}
 use Rattle.address_space.proofs.run_changes.set_rights.Goals as goal
@@ -27,4 +27,4 @@ pub returns-in-Err-clause-err : goal.returns-in-Err-clause-err
 returns-in-Err-clause-err c =
     let same : entries c.set_from.new.runs ≡ entries c.part.new.runs = ap entries c.in-Err.ensures.err in
     rejoined (entries c.args.runs.now) (entries c.part.new.runs) (entries c.join-in-Err.new.runs) c.args.end c.requires.follow c.requires.longest c.in_ok-part.ensures.ok
-    (subst (λ (es : List (Interval ℕ × Rights)). IsJoined es (entries c.join-in-Err.new.runs) c.args.end) same c.join-in-Err.ensures)
+    (subst (λ (es : List (Interval ℕ × Rights)). AreRunsJoined es (entries c.join-in-Err.new.runs) c.args.end) same c.join-in-Err.ensures)

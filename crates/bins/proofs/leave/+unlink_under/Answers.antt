@@ -1,5 +1,5 @@
 use Rattle.std.proofs.Common.{◌^◌, ◌≡◌, ◌-◌, ◌<◌, ◌∙◌, true, sym, rules, arith}
-use Rattle.bins.specs.Index.{without}
+use Rattle.bins.specs.Index.{without_size}
 use Rattle.bins.specs.Tries.{low_at}
 use Rattle.bins.proofs.Taking.{t_levels, t_slot}
 use Rattle.bins.proofs.Scaled.{half_scaled, next_is}
@@ -14,7 +14,7 @@ load_counted-child-requires g t c = let r = c.requires.held in rw c.slot_of-plac
 
 pub size-below-requires : goal.size-below-requires
 size-below-requires g t c = let r = c.requires.held in let real : 0 < c.load_counted-child.result = b_real (g.M.Links.regions c.args.memory.now) (g.M.Links.word c.args.memory.now) r.0 c.args.bin r.1.0 c.args.low c.args.levels c.args.at c.args.size c.args.chunk c.requires.some r.1.1.0 r.1.1.1 c.requires.other c.is_in_upper-is_upper.result c.half_width-half.result c.slot_of-place.result c.load_counted-child.result c.half_width-half.ensures c.slot_of-place.ensures c.load_counted-child.ensures.value c.is_in_upper-is_upper.ensures.above c.is_in_upper-is_upper.ensures.below in
-    record { head = b_head (g.M.Links.regions c.args.memory.now) (g.M.Links.word c.args.memory.now) (without (q (g.M.Links.regions c.args.memory.now) (g.M.Links.word c.args.memory.now) r.0 c.args.bin r.1.0 c.args.low c.args.levels c.args.at c.args.size c.args.chunk c.requires.some r.1.1.0 r.1.1.1).node.size r.0) c.args.bin c.args.at (low_at c.is_in_upper-is_upper.result c.args.low c.half_width-half.result) (c.args.levels - 1) c.load_counted-child.result c.args.size c.args.chunk real (b_held (g.M.Links.regions c.args.memory.now) (g.M.Links.word c.args.memory.now) r.0 c.args.bin r.1.0 c.args.low c.args.levels c.args.at c.args.size c.args.chunk c.requires.some r.1.1.0 r.1.1.1 c.requires.other c.is_in_upper-is_upper.result c.half_width-half.result c.slot_of-place.result c.load_counted-child.result c.half_width-half.ensures c.slot_of-place.ensures c.load_counted-child.ensures.value c.is_in_upper-is_upper.ensures.above c.is_in_upper-is_upper.ensures.below) (b_in (g.M.Links.regions c.args.memory.now) (g.M.Links.word c.args.memory.now) r.0 c.args.bin r.1.0 c.args.low c.args.levels c.args.at c.args.size c.args.chunk c.requires.some r.1.1.0 r.1.1.1 c.requires.other c.is_in_upper-is_upper.result c.half_width-half.result c.slot_of-place.result c.load_counted-child.result c.half_width-half.ensures c.slot_of-place.ensures c.load_counted-child.ensures.value c.is_in_upper-is_upper.ensures.above c.is_in_upper-is_upper.ensures.below) }
+    record { head = b_head (g.M.Links.regions c.args.memory.now) (g.M.Links.word c.args.memory.now) (without_size (q (g.M.Links.regions c.args.memory.now) (g.M.Links.word c.args.memory.now) r.0 c.args.bin r.1.0 c.args.low c.args.levels c.args.at c.args.size c.args.chunk c.requires.some r.1.1.0 r.1.1.1).node.size r.0) c.args.bin c.args.at (low_at c.is_in_upper-is_upper.result c.args.low c.half_width-half.result) (c.args.levels - 1) c.load_counted-child.result c.args.size c.args.chunk real (b_held (g.M.Links.regions c.args.memory.now) (g.M.Links.word c.args.memory.now) r.0 c.args.bin r.1.0 c.args.low c.args.levels c.args.at c.args.size c.args.chunk c.requires.some r.1.1.0 r.1.1.1 c.requires.other c.is_in_upper-is_upper.result c.half_width-half.result c.slot_of-place.result c.load_counted-child.result c.half_width-half.ensures c.slot_of-place.ensures c.load_counted-child.ensures.value c.is_in_upper-is_upper.ensures.above c.is_in_upper-is_upper.ensures.below) (b_in (g.M.Links.regions c.args.memory.now) (g.M.Links.word c.args.memory.now) r.0 c.args.bin r.1.0 c.args.low c.args.levels c.args.at c.args.size c.args.chunk c.requires.some r.1.1.0 r.1.1.1 c.requires.other c.is_in_upper-is_upper.result c.half_width-half.result c.slot_of-place.result c.load_counted-child.result c.half_width-half.ensures c.slot_of-place.ensures c.load_counted-child.ensures.value c.is_in_upper-is_upper.ensures.above c.is_in_upper-is_upper.ensures.below) }
 
 pub unlink_under-requires : goal.unlink_under-requires
 unlink_under-requires g t c κs within =
@@ -28,7 +28,7 @@ unlink_under-requires g t c κs within =
     let below = c.is_in_upper-is_upper.ensures.below in
     let low = c.low_of-child_low.ensures in
     let half = c.half_width-half.ensures in
-    (omega (arith, c.decreases, levels), (search rules, (search rules, (real, (omega arith, (rw low above, (omega (arith, low, below, half), (bits, (omega (arith, low, fits, c.requires.fits), ((λ e. c.if-below-size.true (c.size-below.ensures.value ∙ e)), ((without (q (g.M.Links.regions c.args.memory.now) (g.M.Links.word c.args.memory.now) r.0 c.args.bin r.1.0 c.args.low c.args.levels c.args.at c.args.size c.args.chunk c.requires.some r.1.1.0 r.1.1.1).node.size r.0), (c.args.at, (rw low held, b_in (g.M.Links.regions c.args.memory.now) (g.M.Links.word c.args.memory.now) r.0 c.args.bin r.1.0 c.args.low c.args.levels c.args.at c.args.size c.args.chunk c.requires.some r.1.1.0 r.1.1.1 c.requires.other c.is_in_upper-is_upper.result c.half_width-half.result c.slot_of-place.result c.load_counted-child.result c.half_width-half.ensures c.slot_of-place.ensures c.load_counted-child.ensures.value c.is_in_upper-is_upper.ensures.above c.is_in_upper-is_upper.ensures.below)))))))))))))
+    (omega (arith, c.decreases, levels), (search rules, (search rules, (real, (omega arith, (rw low above, (omega (arith, low, below, half), (bits, (omega (arith, low, fits, c.requires.fits), ((λ e. c.if-below-size.true (c.size-below.ensures.value ∙ e)), ((without_size (q (g.M.Links.regions c.args.memory.now) (g.M.Links.word c.args.memory.now) r.0 c.args.bin r.1.0 c.args.low c.args.levels c.args.at c.args.size c.args.chunk c.requires.some r.1.1.0 r.1.1.1).node.size r.0), (c.args.at, (rw low held, b_in (g.M.Links.regions c.args.memory.now) (g.M.Links.word c.args.memory.now) r.0 c.args.bin r.1.0 c.args.low c.args.levels c.args.at c.args.size c.args.chunk c.requires.some r.1.1.0 r.1.1.1 c.requires.other c.is_in_upper-is_upper.result c.half_width-half.result c.slot_of-place.result c.load_counted-child.result c.half_width-half.ensures c.slot_of-place.ensures c.load_counted-child.ensures.value c.is_in_upper-is_upper.ensures.above c.is_in_upper-is_upper.ensures.below)))))))))))))
 
 pub returns-then-below-size-clause-trie : goal.returns-then-below-size-clause-trie
 returns-then-below-size-clause-trie g t c = λ index parent held chunk_in.
@@ -45,7 +45,7 @@ unlink_here-left-requires-clause-some g t c = let r = c.requires.held in b_real 
 
 pub unlink_here-left-requires-clause-held : goal.unlink_here-left-requires-clause-held
 unlink_here-left-requires-clause-held g t c = let r = c.requires.held in let real : 0 < c.load_counted-child.result = b_real (g.M.Links.regions c.args.memory.now) (g.M.Links.word c.args.memory.now) r.0 c.args.bin r.1.0 c.args.low c.args.levels c.args.at c.args.size c.args.chunk c.requires.some r.1.1.0 r.1.1.1 c.requires.other c.is_in_upper-is_upper.result c.half_width-half.result c.slot_of-place.result c.load_counted-child.result c.half_width-half.ensures c.slot_of-place.ensures c.load_counted-child.ensures.value c.is_in_upper-is_upper.ensures.above c.is_in_upper-is_upper.ensures.below in let below_is : c.size-below.result ≡ c.args.size = omega (arith, c.if-below-size.false) in
-    ((without (q (g.M.Links.regions c.args.memory.now) (g.M.Links.word c.args.memory.now) r.0 c.args.bin r.1.0 c.args.low c.args.levels c.args.at c.args.size c.args.chunk c.requires.some r.1.1.0 r.1.1.1).node.size r.0), ((low_at c.is_in_upper-is_upper.result c.args.low c.half_width-half.result), (c.args.size, (b_held (g.M.Links.regions c.args.memory.now) (g.M.Links.word c.args.memory.now) r.0 c.args.bin r.1.0 c.args.low c.args.levels c.args.at c.args.size c.args.chunk c.requires.some r.1.1.0 r.1.1.1 c.requires.other c.is_in_upper-is_upper.result c.half_width-half.result c.slot_of-place.result c.load_counted-child.result c.half_width-half.ensures c.slot_of-place.ensures c.load_counted-child.ensures.value c.is_in_upper-is_upper.ensures.above c.is_in_upper-is_upper.ensures.below, (b_here (g.M.Links.regions c.args.memory.now) (g.M.Links.word c.args.memory.now) (without (q (g.M.Links.regions c.args.memory.now) (g.M.Links.word c.args.memory.now) r.0 c.args.bin r.1.0 c.args.low c.args.levels c.args.at c.args.size c.args.chunk c.requires.some r.1.1.0 r.1.1.1).node.size r.0) c.args.bin c.args.at (low_at c.is_in_upper-is_upper.result c.args.low c.half_width-half.result) (c.args.levels - 1) c.load_counted-child.result c.args.size c.args.chunk real (b_held (g.M.Links.regions c.args.memory.now) (g.M.Links.word c.args.memory.now) r.0 c.args.bin r.1.0 c.args.low c.args.levels c.args.at c.args.size c.args.chunk c.requires.some r.1.1.0 r.1.1.1 c.requires.other c.is_in_upper-is_upper.result c.half_width-half.result c.slot_of-place.result c.load_counted-child.result c.half_width-half.ensures c.slot_of-place.ensures c.load_counted-child.ensures.value c.is_in_upper-is_upper.ensures.above c.is_in_upper-is_upper.ensures.below) (b_in (g.M.Links.regions c.args.memory.now) (g.M.Links.word c.args.memory.now) r.0 c.args.bin r.1.0 c.args.low c.args.levels c.args.at c.args.size c.args.chunk c.requires.some r.1.1.0 r.1.1.1 c.requires.other c.is_in_upper-is_upper.result c.half_width-half.result c.slot_of-place.result c.load_counted-child.result c.half_width-half.ensures c.slot_of-place.ensures c.load_counted-child.ensures.value c.is_in_upper-is_upper.ensures.above c.is_in_upper-is_upper.ensures.below) (sym c.size-below.ensures.value ∙ below_is), b_in (g.M.Links.regions c.args.memory.now) (g.M.Links.word c.args.memory.now) r.0 c.args.bin r.1.0 c.args.low c.args.levels c.args.at c.args.size c.args.chunk c.requires.some r.1.1.0 r.1.1.1 c.requires.other c.is_in_upper-is_upper.result c.half_width-half.result c.slot_of-place.result c.load_counted-child.result c.half_width-half.ensures c.slot_of-place.ensures c.load_counted-child.ensures.value c.is_in_upper-is_upper.ensures.above c.is_in_upper-is_upper.ensures.below)))))
+    ((without_size (q (g.M.Links.regions c.args.memory.now) (g.M.Links.word c.args.memory.now) r.0 c.args.bin r.1.0 c.args.low c.args.levels c.args.at c.args.size c.args.chunk c.requires.some r.1.1.0 r.1.1.1).node.size r.0), ((low_at c.is_in_upper-is_upper.result c.args.low c.half_width-half.result), (c.args.size, (b_held (g.M.Links.regions c.args.memory.now) (g.M.Links.word c.args.memory.now) r.0 c.args.bin r.1.0 c.args.low c.args.levels c.args.at c.args.size c.args.chunk c.requires.some r.1.1.0 r.1.1.1 c.requires.other c.is_in_upper-is_upper.result c.half_width-half.result c.slot_of-place.result c.load_counted-child.result c.half_width-half.ensures c.slot_of-place.ensures c.load_counted-child.ensures.value c.is_in_upper-is_upper.ensures.above c.is_in_upper-is_upper.ensures.below, (b_here (g.M.Links.regions c.args.memory.now) (g.M.Links.word c.args.memory.now) (without_size (q (g.M.Links.regions c.args.memory.now) (g.M.Links.word c.args.memory.now) r.0 c.args.bin r.1.0 c.args.low c.args.levels c.args.at c.args.size c.args.chunk c.requires.some r.1.1.0 r.1.1.1).node.size r.0) c.args.bin c.args.at (low_at c.is_in_upper-is_upper.result c.args.low c.half_width-half.result) (c.args.levels - 1) c.load_counted-child.result c.args.size c.args.chunk real (b_held (g.M.Links.regions c.args.memory.now) (g.M.Links.word c.args.memory.now) r.0 c.args.bin r.1.0 c.args.low c.args.levels c.args.at c.args.size c.args.chunk c.requires.some r.1.1.0 r.1.1.1 c.requires.other c.is_in_upper-is_upper.result c.half_width-half.result c.slot_of-place.result c.load_counted-child.result c.half_width-half.ensures c.slot_of-place.ensures c.load_counted-child.ensures.value c.is_in_upper-is_upper.ensures.above c.is_in_upper-is_upper.ensures.below) (b_in (g.M.Links.regions c.args.memory.now) (g.M.Links.word c.args.memory.now) r.0 c.args.bin r.1.0 c.args.low c.args.levels c.args.at c.args.size c.args.chunk c.requires.some r.1.1.0 r.1.1.1 c.requires.other c.is_in_upper-is_upper.result c.half_width-half.result c.slot_of-place.result c.load_counted-child.result c.half_width-half.ensures c.slot_of-place.ensures c.load_counted-child.ensures.value c.is_in_upper-is_upper.ensures.above c.is_in_upper-is_upper.ensures.below) (sym c.size-below.ensures.value ∙ below_is), b_in (g.M.Links.regions c.args.memory.now) (g.M.Links.word c.args.memory.now) r.0 c.args.bin r.1.0 c.args.low c.args.levels c.args.at c.args.size c.args.chunk c.requires.some r.1.1.0 r.1.1.1 c.requires.other c.is_in_upper-is_upper.result c.half_width-half.result c.slot_of-place.result c.load_counted-child.result c.half_width-half.ensures c.slot_of-place.ensures c.load_counted-child.ensures.value c.is_in_upper-is_upper.ensures.above c.is_in_upper-is_upper.ensures.below)))))
 
 pub store_counted-requires : goal.store_counted-requires
 store_counted-requires g t c = let r = c.requires.held in rw (c.unlink_here-left.ensures.regions, c.slot_of-place.ensures) ((t_slot (g.M.Links.regions c.args.memory.now) (g.M.Links.word c.args.memory.now) r.0 c.args.bin r.1.0 c.args.low c.args.levels c.args.at c.requires.some r.1.1.0 c.is_in_upper-is_upper.result).word)

@@ -1,5 +1,5 @@
 use Rattle.std.proofs.Common.{◌-◌, ◌∙◌, true, not, ap, arith}
-use Rattle.bins.specs.Index.{without}
+use Rattle.bins.specs.Index.{without_size}
 use Rattle.bins.specs.Tries.{low_at, width}
 use Rattle.bins.proofs.Taking.{o, t_slot, sub_held}
 use Rattle.bins.proofs.LeafGiven.{g_own, g_place, g_apart, g_two, g_trie, g_words}
@@ -12,7 +12,7 @@ pub load_counted-other-requires : goal.load_counted-other-requires
 load_counted-other-requires g c = let r = c.requires.held in rw c.slot_of.ensures ((t_slot (g.M.Links.regions c.args.memory.now) (g.M.Links.word c.args.memory.now) r.0 c.args.bin c.args.parent r.1.0 r.1.1.0 c.args.at c.requires.some r.1.1.1.1 (not c.args.is_upper)).word)
 
 pub take_leaf-leaf-requires-clause-held : goal.take_leaf-leaf-requires-clause-held
-take_leaf-leaf-requires-clause-held g c = let r = c.requires.held in (without (o (g.M.Links.regions c.args.memory.now) (g.M.Links.word c.args.memory.now) r.0 c.args.bin c.args.parent r.1.0 r.1.1.0 c.args.at c.requires.some r.1.1.1.1).node.size r.0, (c.args.bin, (c.args.at, (low_at c.args.is_upper r.1.0 (width (r.1.1.0 - 1)), (r.1.1.0 - 1, (let less = r.1.1.1.0 in omega arith, sub_held (g.M.Links.regions c.args.memory.now) (g.M.Links.word c.args.memory.now) r.0 c.args.bin c.args.parent r.1.0 r.1.1.0 c.args.at c.requires.some r.1.1.1.1 c.args.is_upper c.args.child c.requires.child c.requires.real))))))
+take_leaf-leaf-requires-clause-held g c = let r = c.requires.held in (without_size (o (g.M.Links.regions c.args.memory.now) (g.M.Links.word c.args.memory.now) r.0 c.args.bin c.args.parent r.1.0 r.1.1.0 c.args.at c.requires.some r.1.1.1.1).node.size r.0, (c.args.bin, (c.args.at, (low_at c.args.is_upper r.1.0 (width (r.1.1.0 - 1)), (r.1.1.0 - 1, (let less = r.1.1.1.0 in omega arith, sub_held (g.M.Links.regions c.args.memory.now) (g.M.Links.word c.args.memory.now) r.0 c.args.bin c.args.parent r.1.0 r.1.1.0 c.args.at c.requires.some r.1.1.1.1 c.args.is_upper c.args.child c.requires.child c.requires.real))))))
 
 pub place_node-requires-clause-own : goal.place_node-requires-clause-own
 place_node-requires-clause-own g c = let r = c.requires.held in

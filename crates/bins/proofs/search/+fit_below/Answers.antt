@@ -1,5 +1,5 @@
 use Rattle.std.proofs.Common.{◌-◌, ◌^◌, ◌<◌, ◌∙◌, inl, inr, true, refl, sym, ap, rules, arith}
-use Rattle.bins.specs.Index.{without}
+use Rattle.bins.specs.Index.{without_size}
 use Rattle.bins.proofs.Opened.{none_in}
 use Rattle.bins.proofs.Searching.{s_levels, q, s_head, s_slot, s_child, s_high, high_fits}
 use Rattle.bins.proofs.Scaled.{half_scaled, next_is}
@@ -57,7 +57,7 @@ fit_below-requires g t c κs within = let r = c.requires.readable in let real : 
                   bits,
                   (
                     omega (arith, low, half, high, high_fits c.is_in_upper-is_upper.result c.args.low c.half_width-half.result, c.requires.fits),
-                    (c.or_less-lesser.ensures.enough c.requires.known, (next.0, ((without (q (g.M.Links.regions c.args.memory.now) (g.M.Links.word c.args.memory.now) r.0 c.args.low c.args.levels c.args.at real r.1).node.size r.0, rw low (s_child (g.M.Links.regions c.args.memory.now) (g.M.Links.word c.args.memory.now) r.0 c.args.low c.args.levels c.args.at real r.1 c.is_in_upper-is_upper.result _ c.half_width-half.result (c.load_counted-child.ensures.value ∙ ap (g.M.Links.word c.args.memory.now) c.slot_of.ensures) c.half_width-half.ensures)), next.1.1))),
+                    (c.or_less-lesser.ensures.enough c.requires.known, (next.0, ((without_size (q (g.M.Links.regions c.args.memory.now) (g.M.Links.word c.args.memory.now) r.0 c.args.low c.args.levels c.args.at real r.1).node.size r.0, rw low (s_child (g.M.Links.regions c.args.memory.now) (g.M.Links.word c.args.memory.now) r.0 c.args.low c.args.levels c.args.at real r.1 c.is_in_upper-is_upper.result _ c.half_width-half.result (c.load_counted-child.ensures.value ∙ ap (g.M.Links.word c.args.memory.now) c.slot_of.ensures) c.half_width-half.ensures)), next.1.1))),
                   ),
                 ),
               ),

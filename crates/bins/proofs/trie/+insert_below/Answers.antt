@@ -1,6 +1,6 @@
 use Rattle.std.proofs.Common.{◌-◌, ◌^◌, ◌<◌, ◌∙◌, sym, subst, rules, arith}
-use Rattle.bins.specs.Index.{without}
-use Rattle.bins.specs.Stores.{IsPlace}
+use Rattle.bins.specs.Index.{without_size}
+use Rattle.bins.specs.Stores.{IsWordPlace}
 use Rattle.bins.proofs.TrieEntry.{o, has_levels, e_head, e_at, e_slots, e_last, e_apart, e_slot, e_slot_own, e_joined, e_joined_words, e_leaf, e_leaf_words, e_fits, e_held, e_fresh, e_child, e_child_words}
 use Rattle.bins.proofs.Scaled.{half_scaled, next_is}
 use Rattle.bins.proofs.trie.+insert_below.Goals as goal
@@ -37,7 +37,7 @@ slot_of-place-requires g t c = let r = c.requires.held in
 
 pub load_counted-child-requires : goal.load_counted-child-requires
 load_counted-child-requires g t c = let r = c.requires.held in
-    (subst (λ p. IsPlace (g.M.Links.regions c.args.memory.now) p) (sym c.slot_of-place.ensures)
+    (subst (λ p. IsWordPlace (g.M.Links.regions c.args.memory.now) p) (sym c.slot_of-place.ensures)
     (e_slot (g.M.Links.regions c.args.memory.now) (g.M.Links.word c.args.memory.now) r.0 _ _ _ _ _ _ _ c.requires.some r.1.1.0 r.1.1.1 c.requires.large c.is_in_upper-is_upper.result)).word
 
 pub make_leaf-requires-clause-named : goal.make_leaf-requires-clause-named
@@ -81,7 +81,7 @@ insert_below-requires g t c κs within =
                       omega (arith, low, fits, c.requires.fits),
                       (
                         c.requires.large,
-                        (without node.size r.0, (c.args.at, (rw low held, fresh))),
+                        (without_size node.size r.0, (c.args.at, (rw low held, fresh))),
                       ),
                     ),
                   ),

@@ -1,7 +1,7 @@
 use Rattle.std.proofs.Common.{◌≡◌, ◌<◌, ◌^◌, length, refl, sym, subst, ◌∙◌, rules, arith}
 use Rattle.meminterval.specs.declared.node.Subtree.TheVariants.{Fork}
 use Rattle.meminterval.specs.Entries.{IsOrdered}
-use Rattle.meminterval.specs.Insertion.{IsPresent, IsRefused}
+use Rattle.meminterval.specs.Insertion.{IsPresent, IsInsertRefused}
 use Rattle.meminterval.specs.Interval.{by_ends}
 use Rattle.meminterval.specs.Tree.{entries}
 use Rattle.meminterval.specs.Subtree.{tree_of}
@@ -68,7 +68,7 @@ returns-in-NoMemory g t c =
     let h = rw c.deref.ensures at (sym c.cmp.ensures ∙ c.in-Less.is) in
     let a = rw (c.replace-left.ensures.value, c.deref_mut.ensures.value) at c.in-NoMemory.ensures in
     let same = a.same in
-    rw c.in-Fork.is (subst (λ u. IsRefused g.T.Ord.cmp (c.args.interval, c.args.value) (Fork c.in-Fork.node) u) (search (rules, same)) (refused_left g.T.Ord.cmp g.met.T.Ord.total (c.args.interval, c.args.value) c.in-Fork.node s c.in-NoMemory.left (Fork c.in-Fork.node) h a refl))
+    rw c.in-Fork.is (subst (λ u. IsInsertRefused g.T.Ord.cmp (c.args.interval, c.args.value) (Fork c.in-Fork.node) u) (search (rules, same)) (refused_left g.T.Ord.cmp g.met.T.Ord.total (c.args.interval, c.args.value) c.in-Fork.node s c.in-NoMemory.left (Fork c.in-Fork.node) h a refl))
 
 pub returns-in-Equal : goal.returns-in-Equal
 returns-in-Equal g t c =
@@ -98,4 +98,4 @@ returns-in-NoMemory-insert_below g t c =
     let h = rw c.deref.ensures at (sym c.cmp.ensures ∙ c.in-Greater.is) in
     let a = rw (c.replace-right.ensures.value, c.deref_mut-in-Greater.ensures.value) at c.in-NoMemory-insert_below.ensures in
     let same = a.same in
-    rw c.in-Fork.is (subst (λ u. IsRefused g.T.Ord.cmp (c.args.interval, c.args.value) (Fork c.in-Fork.node) u) (search (rules, same)) (refused_right g.T.Ord.cmp g.met.T.Ord.total (c.args.interval, c.args.value) c.in-Fork.node s c.in-NoMemory-insert_below.right (Fork c.in-Fork.node) h a refl))
+    rw c.in-Fork.is (subst (λ u. IsInsertRefused g.T.Ord.cmp (c.args.interval, c.args.value) (Fork c.in-Fork.node) u) (search (rules, same)) (refused_right g.T.Ord.cmp g.met.T.Ord.total (c.args.interval, c.args.value) c.in-Fork.node s c.in-NoMemory-insert_below.right (Fork c.in-Fork.node) h a refl))

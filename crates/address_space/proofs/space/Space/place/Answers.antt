@@ -1,5 +1,5 @@
 use Rattle.std.proofs.Common.{◌≡◌, ◌∙◌, ℕ, ◌<◌, ◌*◌, ◌/◌, sym, subst, ap, arith}
-use Rattle.address_space.specs.PageMap.{HasNoPlace}
+use Rattle.address_space.specs.PageMap.{HasNoPagePlace}
 use Rattle.address_space.specs.Space.{map_of}
 use Rattle.address_space.specs.Seen.{tables_of}
 use Rattle.address_space.specs.Mapping.{IsMapped}
@@ -11,7 +11,7 @@ returns-in_default-lowest_place-clause-causes c =
     let some : 0 < c.args.pages = omega (arith, zero) in (
       c.in-Some.ensures.good,
       some,
-      subst (λ (n : ℕ). HasNoPlace (map_of (tables_of c.args.self.now)).rights n (c.args.high / 4096) c.args.pages) c.in-Some.ensures.first c.in_default-lowest_place.ensures.none,
+      subst (λ (n : ℕ). HasNoPagePlace (map_of (tables_of c.args.self.now)).rights n (c.args.high / 4096) c.args.pages) c.in-Some.ensures.first c.in_default-lowest_place.ensures.none,
     )
 
 whole : (n : ℕ) → n * 4096 / 4096 ≡ n

@@ -1,4 +1,4 @@
-use Rattle.dlmalloc.proofs.Names.{◌≡◌, ℕ, ◌+◌, ◌≤◌, ◌∙◌, false, List, [], ◌∷◌, refl, ap, subst, arith, unwrap_or, Event, Granted, is_put_before, granted, HasSameUsed, segments_of, state_of, IsSound, IsFresh, IsBinned, IsCutOut, IsInFree}
+use Rattle.dlmalloc.proofs.Names.{◌≡◌, ℕ, ◌+◌, ◌≤◌, ◌∙◌, false, List, [], ◌∷◌, refl, ap, subst, arith, unwrap_or, Event, Granted, is_put_before, granted, HasSameUsed, segments_of, state_of, IsSound, IsFreshGrant, IsBinned, IsCutOut, IsInFree}
 use Rattle.heap_memory.specs.Events.{Refused}
 use Rattle.heap_memory.specs.declared.grant.GrantFault.{GrantFault}
 use Rattle.dlmalloc.proofs.Segments.RegionsMore.{word_kept, word_new}
@@ -41,7 +41,7 @@ binned g c =
     granted_binned c.requires.sound c.alloc.new.self (long g c) given.good given.apart given.regions given.words c.index_stays.ensures
 
 fresh : (g : _) (c : In_ok-grant g) →
-    IsFresh (g.A.Links.regions c.alloc.new.self) (segments_of g.A.Links.word (record c.args.self.now { system = c.alloc.new.self })) c.in_ok-grant.grant
+    IsFreshGrant (g.A.Links.regions c.alloc.new.self) (segments_of g.A.Links.word (record c.args.self.now { system = c.alloc.new.self })) c.in_ok-grant.grant
 fresh g c =
     let given = c.in_ok-grant.ensures in
     fresh_grant c.requires.sound c.alloc.new.self (long g c) given.good given.apart given.regions given.words

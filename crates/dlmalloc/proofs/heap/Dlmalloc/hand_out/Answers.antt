@@ -1,4 +1,4 @@
-use Rattle.dlmalloc.proofs.Names.{◌≡◌, ◌≢◌, ℕ, ◌+◌, true, false, ◌==◌, if◌then◌else◌, [], ◌∷◌, refl, sym, ◌∙◌, ap, subst, Released, IsWordOf, without, is_own, is_unused, FreeMoves, state_of, IsVisited, Dlmalloc}
+use Rattle.dlmalloc.proofs.Names.{◌≡◌, ◌≢◌, ℕ, ◌+◌, true, false, ◌==◌, if◌then◌else◌, [], ◌∷◌, refl, sym, ◌∙◌, ap, subst, Released, IsWordOf, without_run, is_own, is_unused, FreeMoves, state_of, IsVisited, Dlmalloc}
 use Rattle.heap_memory.specs.Runs.{IsRun}
 use Rattle.dlmalloc.proofs.Returns.SegmentLeaves.{link_small, link_granted, left_words, left_heap, left_free, leaves}
 use Rattle.dlmalloc.proofs.Returns.SegmentVisited.{last_test, run_told, stays_handed, free_kept}
@@ -30,17 +30,17 @@ set_next-requires-clause-high g c = link_small c.requires.sound c.requires.chain
 pub set_next-requires-clause-word : goal.set_next-requires-clause-word
 set_next-requires-clause-word g c =
     link_granted c.requires.sound c.requires.chained (c.free.ensures.regions c.if-not-free.false
-    ∙ ap (λ heap. without c.args.told.now.base (c.args.told.now.base + c.args.told.now.size) (g.A.Links.regions heap.system)) c.forget.ensures)
+    ∙ ap (λ heap. without_run c.args.told.now.base (c.args.told.now.base + c.args.told.now.size) (g.A.Links.regions heap.system)) c.forget.ensures)
 
 -- ---- the segment was taken
 
 -- its regions are granted no more, and the words of all others stay but the link to it
 gone : (g : _) (c : After-set_next g) → g.A.Links.regions c.set_next.new.self.system
-    ≡ without c.args.told.now.base (c.args.told.now.base + c.args.told.now.size) (g.A.Links.regions c.args.self.now.system)
+    ≡ without_run c.args.told.now.base (c.args.told.now.base + c.args.told.now.size) (g.A.Links.regions c.args.self.now.system)
 gone g c =
     let told = c.args.told.now in
     c.set_next.ensures.regions ∙ (c.free.ensures.regions c.if-not-free.false
-    ∙ ap (λ now. without told.base (told.base + told.size) (g.A.Links.regions now.system)) c.forget.ensures)
+    ∙ ap (λ now. without_run told.base (told.base + told.size) (g.A.Links.regions now.system)) c.forget.ensures)
 
 kept : (g : _) (c : After-set_next g) → (k : ℕ) → IsWordOf (g.A.Links.regions c.set_next.new.self.system) k →
     (c.args.before ≢ 0 → k ≢ c.args.before + 16) → g.A.Links.word c.set_next.new.self.system k ≡ g.A.Links.word c.args.self.now.system k

@@ -1,6 +1,6 @@
 use Rattle.std.proofs.Common.{rules, ◌≡◌, ◌∙◌, ap, sym, true, false, arith}
 use Rattle.heap_memory.specs.declared.grant.Grant.{Grant}
-use Rattle.heap_memory.specs.Runs.{begins_in, up_to, without}
+use Rattle.heap_memory.specs.Runs.{begins_in, up_to, without_run}
 use Rattle.heap_arena.specs.Grants.{grant_at}
 use Rattle.heap_arena.proofs.GrantLemmas.{grants_none, kept_more, left_more}
 use Rattle.heap_arena.proofs.table.Table.give_back.Goals as goal
@@ -11,7 +11,7 @@ loop-i-init c = record {
   kept = search rules;
   count = search rules;
   len = search rules;
-  looked = grants_none c.args.self.now.words.now ∙ sym (ap (without c.args.low c.args.high) (grants_none c.args.self.now.words.now));
+  looked = grants_none c.args.self.now.words.now ∙ sym (ap (without_run c.args.low c.args.high) (grants_none c.args.self.now.words.now));
   ahead = λ k less. search rules;
 }
 

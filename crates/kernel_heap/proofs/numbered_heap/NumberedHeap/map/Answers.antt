@@ -5,7 +5,7 @@ use Rattle.heap_model.specs.declared.answer.Reply.TheVariants.{Done}
 use Rattle.heap_model.specs.declared.region.Region.{Region}
 use Rattle.heap_model.specs.Room.{user_region}
 use Rattle.heap_model.specs.Machine.{Paged, IsStep}
-use Rattle.mapped_regions.specs.Mapped.{CanMap, IsJoined}
+use Rattle.mapped_regions.specs.Mapped.{CanMap, IsRegionJoined}
 use Rattle.mapped_regions.specs.UserRegions.{IsMapRefused}
 use Rattle.kernel_heap.specs.Beside.{IsBeside}
 use Rattle.kernel_heap.specs.System.{paged}
@@ -23,7 +23,7 @@ abbrev with_system : NumberedHeap → PagedSystem → NumberedHeap
 with_system numbered system = record numbered { heap = record numbered.heap { system = system } }
 
 -- a region joined since the mark
-joined_since : (old new : Paged) (region : Region) (mark : ℕ) → IsJoined old new region → mark ≡ old.joins → new.joins ≡ mark → ⊥
+joined_since : (old new : Paged) (region : Region) (mark : ℕ) → IsRegionJoined old new region → mark ≡ old.joins → new.joins ≡ mark → ⊥
 joined_since old new region mark joined is same = (let more = joined.joins in omega arith)
 
 pub new_slots-requires : goal.new_slots-requires
@@ -38,7 +38,7 @@ returns-in-Ok-clause-sound c = c.new_slots.ensures.sound
 pub returns-in-Ok-clause-ok : goal.returns-in-Ok-clause-ok
 returns-in-Ok-clause-ok c = λ top s good stands.
     let same_system = c.allocator_mut.ensures.value in
-    let joined = subst (λ system. IsJoined (paged system) (paged c.map.new.self) (user_region c.args.start c.args.pages c.args.rights)) same_system c.in-Ok.ensures.ok in
+    let joined = subst (λ system. IsRegionJoined (paged system) (paged c.map.new.self) (user_region c.args.start c.args.pages c.args.rights)) same_system c.in-Ok.ensures.ok in
     let told : AreTold (with_system c.args.self.now c.map.new.self) c.new_slots.new.self c.marks-before.result.joins = record {
       none = λ same. (c.new_slots.ensures.none same).1;
       taken = c.new_slots.ensures.paged;
@@ -56,7 +56,7 @@ returns-in-Ok-clause-ok c = λ top s good stands.
 pub returns-in-Ok-clause-runs : goal.returns-in-Ok-clause-runs
 returns-in-Ok-clause-runs c = λ top s good stands.
     let same_system = c.allocator_mut.ensures.value in
-    let joined = subst (λ system. IsJoined (paged system) (paged c.map.new.self) (user_region c.args.start c.args.pages c.args.rights)) same_system c.in-Ok.ensures.ok in
+    let joined = subst (λ system. IsRegionJoined (paged system) (paged c.map.new.self) (user_region c.args.start c.args.pages c.args.rights)) same_system c.in-Ok.ensures.ok in
     let told : AreTold (with_system c.args.self.now c.map.new.self) c.new_slots.new.self c.marks-before.result.joins = record {
       none = λ same. (c.new_slots.ensures.none same).1;
       taken = c.new_slots.ensures.paged;

@@ -4,7 +4,7 @@ use Rattle.heap_memory.specs.declared.grant.Grant.{Grant}
 use Rattle.heap_memory.specs.declared.grant.GrantFault.{GrantFault}
 use Rattle.heap_memory.specs.Regions.{IsWordOf}
 use Rattle.heap_model.specs.Machine.{Paged}
-use Rattle.kernel_heap.specs.Layout.{IsKept, IsGrantedFor}
+use Rattle.kernel_heap.specs.Layout.{IsPagedKept, IsGrantedFor}
 use Rattle.kernel_heap.specs.System.{paged}
 use Rattle.kernel_heap.specs.Words.{grants_of}
 use Rattle.mapped_regions.specs.Mapped.{word_reached}
@@ -24,7 +24,7 @@ pub returns-clause-zeros : goal.returns-clause-zeros
 returns-clause-zeros c = IfOk-weaker c.grant_bytes.result _ _ (λ grant is. zeros (paged c.args.self.now) (paged c.grant_bytes.new.self) c.args.size grant c.args.self.now.kept is) c.grant_bytes.ensures.ok
 
 -- the words stay whatever is answered
-words_stay : (old new : Paged) (size : ℕ) (answer : Result Grant GrantFault) → IsKept old → IfOk answer (λ grant. IsGrantedFor old new size grant) → OnErr answer (new ≡ old) →
+words_stay : (old new : Paged) (size : ℕ) (answer : Result Grant GrantFault) → IsPagedKept old → IfOk answer (λ grant. IsGrantedFor old new size grant) → OnErr answer (new ≡ old) →
     (at : ℕ) → IsWordOf (grants_of old) at → word_reached new at ≡ word_reached old at
 words_stay old new size (Ok grant) kept ok err at word = words old new size grant kept ok at word
 words_stay old new size (Err fault) kept ok err at word = ap (λ p. word_reached p at) err

@@ -1,5 +1,5 @@
 use Rattle.std.proofs.Common.{◌≡◌, ℕ, ◌+◌, subst, arith}
-use Rattle.heap_memory.specs.Runs.{without}
+use Rattle.heap_memory.specs.Runs.{without_run}
 use Rattle.kernel_heap.specs.System.{paged}
 use Rattle.kernel_heap.specs.Words.{grants_of}
 use Rattle.kernel_heap.proofs.paged_allocator.PagedSystemAllocator.free.Goals as goal
@@ -9,4 +9,4 @@ start_is at = omega arith
 
 pub returns-clause-regions : goal.returns-clause-regions
 returns-clause-regions c = λ taken.
-    subst (λ (from : ℕ). grants_of (paged c.release.new.self) ≡ without from (c.args.at + c.args.size) (grants_of (paged c.args.self.now))) (start_is c.args.at) c.release.ensures.regions
+    subst (λ (from : ℕ). grants_of (paged c.release.new.self) ≡ without_run from (c.args.at + c.args.size) (grants_of (paged c.args.self.now))) (start_is c.args.at) c.release.ensures.regions

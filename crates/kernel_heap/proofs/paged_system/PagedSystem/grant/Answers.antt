@@ -1,6 +1,6 @@
 use Rattle.std.proofs.Common.{Result, Ok, Err, OnOk, subst, sym}
 use Rattle.heap_model.specs.declared.region.Region.{Region}
-use Rattle.mapped_regions.specs.Mapped.{IsRegion, CanMap, IsJoined}
+use Rattle.mapped_regions.specs.Mapped.{IsRegion, CanMap, IsRegionJoined}
 use Rattle.mapped_regions.specs.Shown.{shown}
 use Rattle.kernel_heap.specs.System.{paged}
 use Rattle.kernel_heap.proofs.Granted.{kept_joined, granted_region, can_map, granted_joined}
@@ -32,5 +32,5 @@ invariant_of-self c = record {
 }
 
 pub returns-clause-ok : goal.returns-clause-ok
-returns-clause-ok c = if_ok c.join.result (IsJoined (paged c.args.self.now) (shown c.join.new.self) c.heap_region.result) _ c.join.ensures.ok
+returns-clause-ok c = if_ok c.join.result (IsRegionJoined (paged c.args.self.now) (shown c.join.new.self) c.heap_region.result) _ c.join.ensures.ok
     (λ joined. granted_joined (paged c.args.self.now) (shown c.join.new.self) c.heap_region.result c.args.pages c.args.place c.heap_region.ensures joined)

@@ -1,6 +1,6 @@
 use Rattle.std.proofs.Common.{◌≡◌, ℕ, ◌+◌, ◌-◌, ◌/◌, ◌<◌, ◌≤◌, inl, inr, sym, subst, arith}
 use Rattle.std.proofs.lemmas.Bool.{cases_lt}
-use Rattle.heap_memory.specs.Runs.{without}
+use Rattle.heap_memory.specs.Runs.{without_run}
 use Rattle.heap_memory.specs.RunLaws.{run_bounded}
 use Rattle.mapped_regions.specs.Shown.{shown}
 use Rattle.kernel_heap.specs.Ordered.{regions_whole}
@@ -14,7 +14,7 @@ below left size within other = elim (cases_lt left size) [ inl less ↦ less | i
 
 pub returns-then-left-size-clause-regions : goal.returns-then-left-size-clause-regions
 returns-then-left-size-clause-regions c =
-    subst (λ (left : ℕ). grants_of (paged c.args.self.now) ≡ without (c.args.at + left) (c.args.at + c.args.size) (grants_of (paged c.args.self.now))) (sym c.if-left-size.true)
+    subst (λ (left : ℕ). grants_of (paged c.args.self.now) ≡ without_run (c.args.at + left) (c.args.at + c.args.size) (grants_of (paged c.args.self.now))) (sym c.if-left-size.true)
     (sym (none_behind c.args.at (c.args.at + c.args.size) (grants_of (paged c.args.self.now)) (omega arith) c.requires.run.whole))
 
 pub overflow_add-at : goal.overflow_add-at

@@ -2,7 +2,7 @@ use Rattle.std.proofs.Common.{refl, sym, subst}
 use Rattle.heap_memory.specs.Words.{IsStored}
 use Rattle.heap_model.specs.Machine.{Paged, OnlyHeapBytesChange}
 use Rattle.mapped_regions.specs.Shown.{shown}
-use Rattle.kernel_heap.specs.Layout.{IsKept}
+use Rattle.kernel_heap.specs.Layout.{IsPagedKept}
 use Rattle.kernel_heap.specs.System.{paged}
 use Rattle.kernel_heap.specs.Words.{grants_of}
 use Rattle.mapped_regions.specs.Mapped.{word_reached}
@@ -14,7 +14,7 @@ set_word-requires c = record { word = mapped_word (paged c.args.self.now) c.args
 
 pub invariant_of-self : goal.invariant_of-self
 invariant_of-self c = record {
-  kept = subst IsKept (sym c.set_word.ensures.others) (kept_stored (paged c.args.self.now) (shown c.set_word.new.self).words c.args.at c.args.value c.args.at c.args.self.now.kept c.requires refl
+  kept = subst IsPagedKept (sym c.set_word.ensures.others) (kept_stored (paged c.args.self.now) (shown c.set_word.new.self).words c.args.at c.args.value c.args.at c.args.self.now.kept c.requires refl
       c.set_word.ensures.size c.set_word.ensures.set c.set_word.ensures.walks c.set_word.ensures.larges c.set_word.ensures.tree c.set_word.ensures.stored c.set_word.ensures.other_words c.set_word.ensures.bytes);
 }
 

@@ -2,7 +2,7 @@ use Rattle.std.proofs.Common.{length, sym, subst}
 use Rattle.heap_model.specs.Machine.{Paged, OnlyHeapBytesChange}
 use Rattle.mapped_regions.specs.Shown.{shown}
 use Rattle.mapped_regions.specs.Mapped.{word_reached}
-use Rattle.kernel_heap.specs.Layout.{IsKept}
+use Rattle.kernel_heap.specs.Layout.{IsPagedKept}
 use Rattle.kernel_heap.specs.System.{paged}
 use Rattle.kernel_heap.specs.Words.{grants_of}
 use Rattle.kernel_heap.specs.Written.{ArePut}
@@ -14,7 +14,7 @@ set_words-requires c = record { word = first_mapped (paged c.args.self.now) c.ar
 
 pub invariant_of-self : goal.invariant_of-self
 invariant_of-self c = record {
-  kept = subst IsKept (sym c.set_words.ensures.others) (kept_put (paged c.args.self.now) (shown c.set_words.new.self).words c.args.words.now c.args.at c.args.self.now.kept c.requires
+  kept = subst IsPagedKept (sym c.set_words.ensures.others) (kept_put (paged c.args.self.now) (shown c.set_words.new.self).words c.args.words.now c.args.at c.args.self.now.kept c.requires
       c.set_words.ensures.size c.set_words.ensures.set c.set_words.ensures.walks c.set_words.ensures.larges c.set_words.ensures.tree c.set_words.ensures.other_bytes);
 }
 

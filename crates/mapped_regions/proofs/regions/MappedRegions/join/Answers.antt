@@ -2,7 +2,7 @@ use Rattle.std.proofs.Common.{◌≡◌, ◌+◌, ◌-◌, ◌/◌, ◌%◌, ◌
 use Rattle.paging_core.specs.Walk.{walk_of}
 use Rattle.heap_model.specs.Machine.{Paged}
 use Rattle.heap_model.proofs.Regions.{within_bounds}
-use Rattle.mapped_regions.specs.Mapped.{IsJoined}
+use Rattle.mapped_regions.specs.Mapped.{IsRegionJoined}
 use Rattle.mapped_regions.specs.Shown.{shown}
 use Rattle.mapped_regions.proofs.MetSlots.{met_stay}
 use Rattle.mapped_regions.proofs.FewerMissing.{missing_fewer}
@@ -46,7 +46,7 @@ after c = record {
   slots = c.list_large.new.slots.items;
 }
 
-joined : (c : After-list_large) → IsJoined (shown c.args.self.now) (after c) c.args.region
+joined : (c : After-list_large) → IsRegionJoined (shown c.args.self.now) (after c) c.args.region
 joined c =
     let a = by_address c.args.self.now.frames c.map_pages-stop.new.frames c.args.self.now.pool c.map_pages-stop.new.pool c.args.self.now.root c.containing_address.result c.args.region.start c.args.region.pages c.map_pages-stop.result c.args.region.rights
     (c.containing_address.ensures ∙ ap (λ a. a / 4096) c.new.ensures) c.map_pages-stop.ensures.mapped in

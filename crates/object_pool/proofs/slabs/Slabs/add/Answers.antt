@@ -2,7 +2,7 @@ use Rattle.std.proofs.Common.{◌*◌, ap, arith, sym, subst, slice_index}
 use Rattle.dlmalloc_chunks.specs.Request.{limit}
 use Rattle.dlmalloc.specs.Blocks.{IsBlock}
 use Rattle.dlmalloc.specs.Heap.{state_of}
-use Rattle.dlmalloc.specs.Served.{IsRefused}
+use Rattle.dlmalloc.specs.Served.{IsMallocRefused}
 use Rattle.object_pool.specs.Pool.{IsLaidOut}
 use Rattle.object_pool.proofs.HeapBlocks.{handed_keeps, handed_fresh, handed_only, served_once, refused_keeps}
 use Rattle.object_pool.proofs.SlabPlaces.{added_laid}
@@ -12,7 +12,7 @@ pub unreachable-requires : goal.unreachable-requires
 unreachable-requires g c =
     let small = c.slabs_are_small.ensures in
     let same = ap limit c.granularity.ensures in
-    let large = (subst (λ error. IsRefused g.A.Allocator.denies c.args.self.now.heap.system (state_of g.A.Links.word c.args.self.now.heap) (64 * c.args.self.now.size) error) c.in-Err-TooLarge.field-0-is (c.in-Err-TooLarge.ensures).err.refused) in
+    let large = (subst (λ error. IsMallocRefused g.A.Allocator.denies c.args.self.now.heap.system (state_of g.A.Links.word c.args.self.now.heap) (64 * c.args.self.now.size) error) c.in-Err-TooLarge.field-0-is (c.in-Err-TooLarge.ensures).err.refused) in
     omega (arith, small, large, same)
 
 pub returns-in-Ok-clause-laid : goal.returns-in-Ok-clause-laid

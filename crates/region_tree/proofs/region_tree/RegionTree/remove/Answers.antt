@@ -4,7 +4,7 @@ use Rattle.meminterval.specs.Tree.{entries}
 use Rattle.region_tree.specs.declared.region_tree.Kind.{Kind}
 use Rattle.region_tree.specs.Pairs.{regions_of, Follow}
 use Rattle.heap_model.specs.declared.region.Region.{Region}
-use Rattle.region_tree.specs.Regions.{AreHeld, AreLaid, AreTakenOut, without}
+use Rattle.region_tree.specs.Regions.{AreHeld, AreLaid, AreTakenOut, without_region}
 use Rattle.region_tree.proofs.Listing.{laid}
 use Rattle.region_tree.proofs.Taken.{taken_without}
 use Rattle.region_tree.proofs.Held.{held_without}
@@ -35,9 +35,9 @@ returns-clause-regions c =
     let r = removed i 0 es (2 ^ 52) c.self.invariant.follow (omega (arith, p.pages)) in
     let n : i.end - i.start ≡ c.args.region.now.pages = omega (arith, p.pages) in
     ap regions_of c.delete.ensures ∙ (r.regions
-    ∙ (ap (λ (s : ℕ). without s (i.end - i.start) (regions_of es)) p.start
-    ∙ (ap (λ (m : ℕ). without c.args.region.now.start m (regions_of es)) n
-    ∙ ap (without c.args.region.now.start c.args.region.now.pages) c.self.view_is)))
+    ∙ (ap (λ (s : ℕ). without_region s (i.end - i.start) (regions_of es)) p.start
+    ∙ (ap (λ (m : ℕ). without_region c.args.region.now.start m (regions_of es)) n
+    ∙ ap (without_region c.args.region.now.start c.args.region.now.pages) c.self.view_is)))
 
 pub returns-clause-taken : goal.returns-clause-taken
 returns-clause-taken c = λ there.
