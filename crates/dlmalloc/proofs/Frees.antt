@@ -3,7 +3,7 @@ pub mod Joined
 pub mod StateAfter
 pub mod FreeBeside
 pub mod Behind
-pub mod OfRun
+pub mod JoinedNeighbours
 pub mod OfChunk
 pub mod OfChunkAndBins
 pub mod BeforeTop

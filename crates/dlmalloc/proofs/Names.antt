@@ -12,10 +12,8 @@ pub use Rattle.std.specs.List.{All, AllByRecursion, flat_map, list_any}
 pub use Rattle.std.specs.Option.{option_or}
 pub use Rattle.std.specs.Prelude.{find, position, unwrap_or, ⊤}
 pub use native.Mathlib.Decide.{dec_lt}
-unfoldable pub use lib.Count.{ones}
 pub use Rattle.heap_memory.specs.Allocator.{IsFixed}
 pub use Rattle.heap_memory.specs.Events.{Event, Granted, Released}
-pub use Rattle.heap_memory.specs.FlatSystem.{regions_of, word_of}
 pub use Rattle.heap_memory.specs.RegionLaws.{whole_each}
 pub use Rattle.heap_memory.specs.Regions.{IsApart, IsGoodGrant, IsWhole, IsWordOf, is_granted, with_grant}
 pub use Rattle.heap_memory.specs.RunLaws.{granted_before, granted_without}

@@ -7,7 +7,7 @@ pub mod ReleasePass
 pub mod VisitWithBins
 pub mod Unused
 pub mod Idle
-pub mod TrimCut
+pub mod TrimmedBytes
 pub mod Trim
 pub mod TopShortened
 pub mod PassOrder

@@ -15,8 +15,8 @@ use Rattle.dlmalloc.proofs.Frees.Joined.{join_top}
 use Rattle.dlmalloc.proofs.Frees.FreeBeside.{IsFrom, IsTo, Left, Right, one_is}
 use Rattle.dlmalloc.proofs.Cuts.FoundByTest.{none_has}
 use Rattle.dlmalloc.proofs.Frees.WhatCallsWant.{left_one, from_low, touches}
-use Rattle.dlmalloc.proofs.Frees.OfRun.{IsFree, IsJoined, freed_as}
-use Rattle.dlmalloc.proofs.Frees.OfRun as joined
+use Rattle.dlmalloc.proofs.Frees.JoinedNeighbours.{IsFree, IsJoined, freed_as}
+use Rattle.dlmalloc.proofs.Frees.JoinedNeighbours as joined
 use Rattle.dlmalloc.proofs.Moves.OfHeaps.{IsStep, stays_sound}
 
 module _ {A : Type 0} {regions : A → List Grant} {word : A → ℕ → ℕ} {heap : Dlmalloc A} (sound : IsSound regions word heap) {at size : ℕ}

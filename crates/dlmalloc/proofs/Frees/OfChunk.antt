@@ -8,8 +8,8 @@ use Rattle.dlmalloc.proofs.Frees.Joined.{join}
 use Rattle.dlmalloc.proofs.Extents.RunReplaced.{run_part, step_beside}
 use Rattle.dlmalloc.proofs.Frees.FreeBeside.{IsFrom, IsTo, Left, left_at, Right, RightChunk, right_of}
 use Rattle.dlmalloc.proofs.Frees.Behind.{run_one, no_top}
-use Rattle.dlmalloc.proofs.Frees.OfRun.{IsFree, IsJoined, freed_as}
-use Rattle.dlmalloc.proofs.Frees.OfRun as joined
+use Rattle.dlmalloc.proofs.Frees.JoinedNeighbours.{IsFree, IsJoined, freed_as}
+use Rattle.dlmalloc.proofs.Frees.JoinedNeighbours as joined
 use Rattle.dlmalloc.proofs.Extents.Top.{the_top, top_among}
 use Rattle.dlmalloc.proofs.Extents.Victim.{has_in}
 use Rattle.dlmalloc.proofs.Moves.OfHeaps.{IsStep, segments_now, apart_now, found_again, some_there}

@@ -1,4 +1,4 @@
--- A release pass visits the segments behind the head one after the other.
+-- A release pass: what it leaves, as it visits the segments behind the head one after the other.
 use Rattle.dlmalloc.proofs.Names.{◌≡◌, ◌≢◌, ℕ, ◌+◌, ◌/◌, ◌%◌, ◌^◌, ◌<◌, ◌≤◌, inl, Bool, true, false, cond, not, ◌&&◌, ◌||◌, ◌==◌, if◌then◌else◌, List, [], ◌∷◌, ◌++◌, Some, IsTrue, refl, sym, ◌∙◌, ap, subst, arith, append_assoc, length-append, length, filter, max, list_any, append-nil, map-append, filter-append, list_any-append, Grant, Event, Released, IsWordOf, is_granted, Extent, Used, Free, extent_at, Segment, extents_in, countdown_from, KeepsBlocks, may_leave, handed_out, staying, releases, regions_without, bytes_of, taken_back, IsSegment, AreSegments, AreRecords, segments_of, state_of, AreTold, IsSound, IsLinked, IsChained, HaveLeft, IsVisited, IsPassed, IsReindexed, after_visit, after_visits, after_pass, Dlmalloc, SegmentRecord}
 use Rattle.dlmalloc.specs.Released.{visited}
 use Rattle.dlmalloc.proofs.Returns.PassOrder.{visit_same, visits_on}

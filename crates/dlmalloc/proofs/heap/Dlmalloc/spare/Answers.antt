@@ -1,5 +1,5 @@
 use Rattle.dlmalloc.proofs.Names.{◌≡◌, ◌+◌, ◌-◌, ◌*◌, ◌/◌, sym, ◌∙◌, ap, arith}
-use Rattle.dlmalloc.proofs.Returns.TrimCut.{cut_is, cut_whole, cut_room}
+use Rattle.dlmalloc.proofs.Returns.TrimmedBytes.{cut_is, cut_whole, cut_room}
 use Rattle.dlmalloc.proofs.heap.Dlmalloc.spare.Goals as goal
 
 pub returns : goal.returns

@@ -1,5 +1,5 @@
 use Rattle.dlmalloc.proofs.Names.{sym, ◌∙◌, refl, subst, IsShortened}
-use Rattle.dlmalloc.proofs.Returns.TrimCut.{cut_answer, cut_back, binned_but_top}
+use Rattle.dlmalloc.proofs.Returns.TrimmedBytes.{cut_answer, cut_back, binned_but_top}
 use Rattle.dlmalloc.proofs.heap.Dlmalloc.trim_top.Goals as goal
 
 pub returns-then-may_cut-clause-answer : goal.returns-then-may_cut-clause-answer
