@@ -1,5 +1,5 @@
 -- A new space: the root alone is a table, and the other frames are free.
-use Rattle.std.proofs.Common.{◌≡◌, ◌≢◌, ◌∙◌, ap, sym, refl, ℕ, ◌*◌, ◌^◌, ◌<◌, Bool, true, false, Some, None, option_map, List, [], length, set, replicate, subst, arith}
+use Rattle.std.proofs.Common.{◌≡◌, ◌≢◌, ◌∙◌, ap, sym, ℕ, ◌*◌, ◌^◌, ◌<◌, Bool, true, false, Some, None, option_map, List, [], length, set, replicate, subst, arith}
 use Rattle.std.specs.Prelude.{IsSome, IsTrue}
 use Rattle.std.proofs.lemmas.List.{get_or-replicate, get_or-set_other}
 use Rattle.paging_core.specs.Address.{is_canonical}

@@ -3,8 +3,7 @@ use Rattle.std.proofs.Common.{◌≡◌, ◌≢◌, ℕ, zero, suc, ◌+◌, ◌
 use Rattle.std.specs.Prelude.{slice_index, nat_le}
 use Rattle.std.proofs.lemmas.Bool.{cases_lt}
 use Rattle.std.proofs.lemmas.Bool.Decides.{nat_tests}
-use Rattle.std.proofs.lemmas.Nat.{pow-add}
-use Rattle.std.proofs.Math.Nat.{mul-le-mul_right, add-mul}
+use Rattle.std.proofs.Math.Nat.{add-mul}
 use Rattle.heap_memory.specs.declared.grant.Grant.{Grant}
 use Rattle.dlmalloc_chunks.specs.Bins.{least_size, IsTreeIndex}
 use Rattle.bins.specs.declared.bins.Bins.{Bins}
@@ -14,9 +13,8 @@ use Rattle.bins.specs.Linked.{IsLinked, low_of, levels_of}
 use Rattle.bins.specs.Laws.{sides_of, node_at, shift_of}
 use Rattle.bins.proofs.Chunks.{same_or_not}
 use Rattle.bins.proofs.Lists.{without_other}
-use Rattle.bins.proofs.Widths.{width_is}
 use Rattle.bins.proofs.Scaled.{scaled_below, range_scaled, word_is}
-use Rattle.bins.proofs.TreeRanges.{low_normal, low_last, levels_normal, levels_last, levels_few, low_scaled, bin_low, bin_end, from_same}
+use Rattle.bins.proofs.TreeRanges.{levels_normal, levels_last, levels_few, low_scaled, bin_low, bin_end, from_same}
 
 -- The half of a range that has a number, and the number in it. The range is scaled to that of 64-bit words: then the top
 -- bit tells the half, and the other bits, shifted by one, are the number in it.

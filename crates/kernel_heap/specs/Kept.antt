@@ -10,7 +10,6 @@ use Rattle.heap_model.specs.State.{State}
 use Rattle.heap_model.specs.Answer.{NewPages, new_pages}
 use Rattle.heap_model.specs.Machine.{Paged}
 use Rattle.mapped_regions.specs.Mapped.{AreRunsUsed}
-use Rattle.kernel_heap.specs.Heap.{regions}
 use Rattle.kernel_heap.specs.declared.numbered_heap.NumberedHeap.{NumberedHeap}
 use Rattle.kernel_heap.specs.Machine.{seen_with}
 

@@ -16,7 +16,6 @@ use Rattle.mapped_regions.specs.declared.map_fault.MapFault.{MapFault}
 use Rattle.mapped_regions.specs.declared.map_fault.MapFault.TheVariants as Mapping
 use Rattle.mapped_regions.specs.declared.map_fault.UnmapFault.{UnmapFault}
 use Rattle.mapped_regions.specs.declared.map_fault.UnmapFault.TheVariants as Unmapping
-use Rattle.kernel_heap.specs.Heap.{regions}
 
 -- the refusal that the heap gives; want of memory is none
 abbrev pub refusal_of : MallocError → Option Refusal

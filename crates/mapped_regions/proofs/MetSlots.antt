@@ -1,10 +1,7 @@
 -- The steps of a walk that finds a page, one by one, and what stays of slots that walks met.
-use Rattle.std.proofs.Common.{◌≡◌, ℕ, suc, ◌+◌, ◌*◌, ◌/◌, ◌%◌, ◌^◌, ◌<◌, ◌⊎◌, inl, inr, cond, eqb, Bool, true, false, not, ◌&&◌, List, length, set, Option, Some, None, refl, sym, ap, subst, ◌∙◌, get_or, unwrap_or, arith}
-use Rattle.std.proofs.lemmas.Bool.{cases_eq}
-use Rattle.std.proofs.lemmas.List.{get_or-set_same, get_or-set_other}
+use Rattle.std.proofs.Common.{◌≡◌, ℕ, suc, ◌+◌, ◌*◌, ◌/◌, ◌%◌, ◌^◌, ◌<◌, ◌⊎◌, inl, inr, cond, eqb, Bool, true, false, not, ◌&&◌, List, set, Option, Some, None, refl, sym, ap, subst, ◌∙◌, get_or, unwrap_or, arith}
 use Rattle.std.specs.Prelude.{IsTrue, IsSome}
 use Rattle.std.specs.Option.{option_map}
-use Rattle.std.specs.List.{All}
 use Rattle.paging_core.specs.Address.{is_canonical}
 use Rattle.paging_core.specs.Entry.{frame_of, has_bit}
 use Rattle.paging_core.specs.Prefix.{prefix_of}

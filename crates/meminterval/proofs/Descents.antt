@@ -1,5 +1,5 @@
 -- A long way down is two shorter ways, with a turn between them.
-use Rattle.std.proofs.Common.{◌≡◌, ℕ, zero, suc, ◌+◌, ◌-◌, ◌<◌, ◌≤◌, List, [], ◌∷◌, Option, Some, None, length, length-append, refl, ap, subst, arith, inl, inr}
+use Rattle.std.proofs.Common.{◌≡◌, ℕ, zero, suc, ◌+◌, ◌-◌, ◌<◌, ◌≤◌, List, [], ◌∷◌, Some, None, length, length-append, refl, ap, subst, arith, inl, inr}
 use base.Fml.{GName}
 use borrow.Follows.Closed.{read_of}
 use mathlib.Core.Logic.{◌⊎◌}

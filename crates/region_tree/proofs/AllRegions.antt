@@ -1,5 +1,5 @@
 -- The regions of a state, those of the heap and of the user together, when one joins or leaves.
-use Rattle.std.proofs.Common.{◌≢◌, fold, [], ◌∷◌, ◌≡◌, ◌∙◌, ap, sym, refl, ℕ, ◌*◌, ◌<◌, ◌≤◌, Bool, true, false, cond, not, ◌&&◌, ◌||◌, ◌⊎◌, inl, inr, nat_lt, List, arith, find, is_some}
+use Rattle.std.proofs.Common.{◌≢◌, fold, [], ◌∷◌, ◌≡◌, ◌∙◌, ap, sym, refl, ℕ, ◌<◌, ◌≤◌, Bool, true, false, cond, not, ◌&&◌, ◌||◌, ◌⊎◌, inl, inr, nat_lt, List, arith, find, is_some}
 use Rattle.std.proofs.lemmas.Bool.{cases_lt}
 use Rattle.std.proofs.lemmas.Bool.Decides.{nat_tests}
 use Rattle.std.specs.List.{AllByRecursion, list_any}

@@ -1,4 +1,4 @@
-use Rattle.std.proofs.Common.{◌+◌, ◌-◌, ◌*◌, ◌%◌, sym, refl, take, drop, arith}
+use Rattle.std.proofs.Common.{◌+◌, ◌-◌, sym, refl, take, drop, arith}
 use Rattle.address_space.proofs.Written.{none_written, written_on, part_length, part_byte}
 use Rattle.address_space.proofs.bytes.write_bytes.Goals as goal
 

@@ -1,4 +1,4 @@
-use Rattle.std.proofs.Common.{◌≡◌, ◌∙◌, ℕ, ◌+◌, ◌-◌, ◌*◌, ◌/◌, ◌%◌, ◌^◌, ◌<◌, ◌≤◌, ◌==◌, ◌||◌, length, option_map, Some, ap, sym, refl, subst, arith}
+use Rattle.std.proofs.Common.{◌≡◌, ◌∙◌, ℕ, ◌+◌, ◌-◌, ◌*◌, ◌/◌, ◌%◌, ◌^◌, ◌<◌, ◌≤◌, ◌==◌, ◌||◌, length, option_map, ap, sym, refl, subst, arith}
 use Rattle.std.specs.Prelude.{IsSome, IsTrue}
 use Rattle.paging_core.specs.Address.{is_canonical}
 use Rattle.paging_core.specs.Walk.{walk_of, place_of}

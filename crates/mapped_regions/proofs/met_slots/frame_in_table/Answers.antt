@@ -1,4 +1,4 @@
-use Rattle.std.proofs.Common.{◌%◌, ◌<◌, ◌∙◌, ap, subst, sym}
+use Rattle.std.proofs.Common.{◌<◌, ◌∙◌, ap, subst, sym}
 use Rattle.paging_core.specs.Entry.{frame_of}
 use Rattle.paging_core.specs.Memory.{frame_count, word_at}
 use Rattle.mapped_regions.proofs.MetSlots.{passed, by_table}

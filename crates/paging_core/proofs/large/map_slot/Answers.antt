@@ -1,7 +1,6 @@
 use Rattle.std.proofs.Common.{◌∙◌, ℕ, ◌+◌, ◌*◌, arith, subst}
-use Rattle.paging_core.specs.Large.{missing_above, AreFramesCleared}
-use Rattle.paging_core.proofs.RunTaken.{run_larges, run_in, run_known, run_tree, run_walk, run_empty, run_missing, run_missing_of, run_used, run_unmet, slot_bytes, slot_zeros}
-use Rattle.paging_core.specs.Walk.{granted}
+use Rattle.paging_core.specs.Large.{AreFramesCleared}
+use Rattle.paging_core.proofs.RunTaken.{run_in, run_known, run_tree, run_walk, run_empty, run_missing, run_missing_of, run_used, run_unmet, slot_bytes, slot_zeros}
 use Rattle.paging_core.proofs.large.map_slot.Goals as goal
 
 pub clear_frames-requires-clause-inside : goal.clear_frames-requires-clause-inside

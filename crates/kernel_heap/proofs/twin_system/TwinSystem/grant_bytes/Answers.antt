@@ -1,10 +1,9 @@
-use Rattle.std.proofs.Common.{◌≡◌, ◌<◌, ◌+◌, ◌*◌, ◌/◌, ℕ, Result, Ok, Err, IfErr, subst, sym, arith}
+use Rattle.std.proofs.Common.{◌≡◌, ◌<◌, Result, Ok, Err, IfErr, subst, sym, arith}
 use Rattle.std.specs.Result.{IsErrAnd}
 use Rattle.heap_memory.specs.declared.grant.GrantFault.{GrantFault}
 use Rattle.heap_model.specs.Request.{pages_in}
 use Rattle.kernel_heap.specs.Layout.{LacksPlaceOrFrames}
 use Rattle.heap_model.specs.Machine.{Paged}
-use Rattle.kernel_heap.specs.FlatWindow.{IsCovered}
 use Rattle.kernel_heap.specs.System.{paged}
 use Rattle.kernel_heap.specs.Twin.{IsTwin}
 use Rattle.kernel_heap.proofs.Pages.{pages_some}

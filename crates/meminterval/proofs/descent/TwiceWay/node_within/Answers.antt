@@ -1,4 +1,4 @@
-use Rattle.std.proofs.Common.{◌≡◌, suc, ◌-◌, ◌+◌, ◌/◌, sym, ◌∙◌, refl, arith, inl}
+use Rattle.std.proofs.Common.{◌≡◌, suc, ◌-◌, ◌/◌, sym, ◌∙◌, refl, arith, inl}
 use Rattle.meminterval.proofs.Descents.{ends, further, nothing, put_back, read_same, recorded_at, recorded_turn, turn_back}
 use Rattle.meminterval.proofs.descent.TwiceWay.node_within.Goals as goal
 

@@ -1,8 +1,8 @@
-use Rattle.std.proofs.Common.{◌≡◌, ◌∙◌, ℕ, ◌+◌, ◌-◌, ◌*◌, ◌^◌, ◌<◌, ◌≤◌, arith, Result, Ok, Err, OnOk, OnErr, sym, ap, subst, false, List}
+use Rattle.std.proofs.Common.{◌≡◌, ◌∙◌, ℕ, ◌+◌, ◌-◌, ◌*◌, ◌^◌, ◌<◌, ◌≤◌, arith, sym, ap, subst, false, List}
 use Rattle.heap_model.specs.declared.region.Region.{Region}
 use Rattle.heap_model.specs.Place.{meets_any, with_region}
 use Rattle.meminterval.specs.declared.interval.Interval.{Interval}
-use Rattle.meminterval.specs.Tree.{Tree, entries}
+use Rattle.meminterval.specs.Tree.{entries}
 use Rattle.region_tree.specs.declared.region_tree.Kind.{Kind}
 use Rattle.region_tree.specs.Pairs.{region_of, regions_of, Follow}
 use Rattle.region_tree.specs.Regions.{IsPutIn}
