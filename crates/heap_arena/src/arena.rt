@@ -70,7 +70,7 @@ impl<'a> Arena<'a> {
         ((self.top - self.base) / 8) as usize
     }
 
-    /// How many words from the front were ever in use: those behind them were never touched, by loads neither.
+    /// How many words from the front were ever in use: those behind them are as they were when the arena began.
     pub fn touched(&self) -> usize
         ensures { self.now.base + 8 * result ≡ self.now.peak }
     {

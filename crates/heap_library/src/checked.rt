@@ -361,7 +361,7 @@ impl<'a> CheckedHeap<'a> {
         self.heap.system().used()
     }
 
-    /// How many words of the arena from its front were ever in use: those behind them were never touched, by loads neither.
+    /// How many words of the arena from its front were ever in use: those behind them are as they were when the heap began.
     pub fn touched(&self) -> usize
         ensures { self.now.system.base + 8 * result ≡ self.now.system.peak }
     {
