@@ -10,6 +10,7 @@ pub mod Dr6Flags
 pub mod Dr7Flags
 pub mod EferFlags
 pub mod MxCsr
+pub mod PageFaultErrorCode
 pub mod PriorityClass
 pub mod PrivilegeLevel
 pub mod RFlags

@@ -1,4 +1,4 @@
-//! The flags of the x86-64 registers, and the small values that their fields hold.
+//! The flags of the x86-64 registers and of the code of a page fault, and the small values that their fields hold.
 #![tactic(auto)]
 
 /// The rows of a table of flags: the name and the value of each constant that is named. It is called among
@@ -24,6 +24,7 @@ mod dr7_value;
 mod efer_flags;
 mod laws;
 mod mxcsr;
+mod page_fault_error_code;
 mod pcid;
 mod priority_class;
 mod privilege_level;
@@ -48,6 +49,7 @@ pub use crate::laws::{
     number_of_size,
 };
 pub use crate::mxcsr::MxCsr;
+pub use crate::page_fault_error_code::PageFaultErrorCode;
 pub use crate::pcid::{Pcid, PcidTooBig};
 pub use crate::priority_class::PriorityClass;
 pub use crate::privilege_level::PrivilegeLevel;

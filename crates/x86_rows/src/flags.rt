@@ -5,8 +5,8 @@ use bitflags::Flags;
 use std::test::Fail;
 use x86_flags::{
     ApicBaseFlags, BreakpointCondition, BreakpointSize, CetFlags, Cr0Flags, Cr3Flags, Cr4Flags,
-    DebugAddressRegisterNumber, Dr6Flags, Dr7Flags, Dr7Value, EferFlags, MxCsr, Pcid, PcidTooBig,
-    PriorityClass, PrivilegeLevel, RFlags, SegmentSelector, XCr0Flags,
+    DebugAddressRegisterNumber, Dr6Flags, Dr7Flags, Dr7Value, EferFlags, MxCsr, PageFaultErrorCode,
+    Pcid, PcidTooBig, PriorityClass, PrivilegeLevel, RFlags, SegmentSelector, XCr0Flags,
 };
 
 #[test]
@@ -22,6 +22,7 @@ fn all_flags_of_each_register(rt: HostRuntime) {
     same(&rt, u64::from(MxCsr::all().bits()), 0xFFFF);
     same(&rt, RFlags::all().bits(), 0x3F_7FD5);
     same(&rt, XCr0Flags::all().bits(), 0x4000_0000_0000_02FF);
+    same(&rt, PageFaultErrorCode::all().bits(), 0x8000_80FF);
 }
 
 #[test]
@@ -43,6 +44,7 @@ fn some_named_flags(rt: HostRuntime) {
     same(&rt, RFlags::INTERRUPT_FLAG.bits(), 0x200);
     same(&rt, RFlags::ID.bits(), 0x20_0000);
     same(&rt, XCr0Flags::LWP.bits(), 0x4000_0000_0000_0000);
+    same(&rt, PageFaultErrorCode::INSTRUCTION_FETCH.bits(), 0x10);
 }
 
 #[test]

@@ -458,7 +458,6 @@ fn error_codes(rt: HostRuntime) -> Result<(), Fail> {
         assert!(rt; !code.external());
     }
     assert!(rt; SelectorErrorCode::new_truncate(0x10000).is_null());
-    same(&rt, PageFaultErrorCode::all().bits(), 0x8000_80ff);
     let write = PageFaultErrorCode::CAUSED_BY_WRITE | PageFaultErrorCode::USER_MODE;
     same(&rt, write.bits(), 6);
     Ok(())

@@ -7,7 +7,6 @@ pub mod InterruptDescriptorTable
 pub mod Gates
 pub mod IoMap
 pub mod MemEncrypt
-pub mod PageFaultErrorCode
 pub mod SelectorErrorCode
 pub mod StackFrame
 pub mod TaskStateSegment

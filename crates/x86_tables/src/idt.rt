@@ -6,7 +6,6 @@ mod exception_vector;
 mod gates;
 mod handler;
 mod interrupt_descriptor_table;
-mod page_fault_error_code;
 mod selector_error_code;
 mod stack_frame;
 
@@ -18,6 +17,6 @@ pub use handler::{
     PageFaultHandlerFunc,
 };
 pub use interrupt_descriptor_table::InterruptDescriptorTable;
-pub use page_fault_error_code::PageFaultErrorCode;
 pub use selector_error_code::{DescriptorTable, SelectorErrorCode};
 pub use stack_frame::{InterruptStackFrame, InterruptStackFrameValue};
+pub use x86_flags::PageFaultErrorCode;

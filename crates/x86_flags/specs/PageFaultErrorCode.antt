@@ -1,7 +1,7 @@
 -- The error code of a page fault (AMD64 manual, volume 2, section 8.4.2; HLAT and SGX are Intel's).
 use Rattle.std.specs.Prelude.{ℕ, ◌^◌, List, [], ◌∷◌, codes}
 use Rattle.bitflags.specs.Sets.{Row}
-use Rattle.x86_tables.specs.declared.idt.page_fault_error_code.PageFaultErrorCode.{PageFaultErrorCode}
+use Rattle.x86_flags.specs.declared.page_fault_error_code.PageFaultErrorCode.{PageFaultErrorCode}
 
 -- the bits of a value, as a number
 abbrev pub page_fault_bits : PageFaultErrorCode → ℕ

@@ -2,11 +2,10 @@
 
 ghost use Rattle.std.specs.Prelude.{◌≡◌, ⊤, [], ◌∷◌, codes};
 ghost use Rattle.std.specs.Int.RustNames.{bit_or};
-ghost use Rattle.x86_tables.specs.PageFaultErrorCode.{page_fault_bits, page_fault_flags};
+ghost use Rattle.x86_flags.specs.PageFaultErrorCode.{page_fault_bits, page_fault_flags};
 
 use bitflags::{Flag, Flags};
 use std::ops::BitOr;
-use x86_flags::flag_rows;
 
 /// Why an access raised a page fault.
 ///
